@@ -1,16 +1,19 @@
 //! What is wrong with a later record of a script.
 
-use crate::fields::{Field, look};
+use crate::fields::Field;
 use crate::records::{Record, record_at};
 use crate::start_words::{field_of, is_version};
 use cell_types::{Call, Machine, Pose, Zone};
 use std::alloc::{AllocError, Global};
 
+/// What is said where nothing else is known.
+const NO_CALL: &str = "it is no call";
+
 /// The most fields of a call.
 const MOST_FIELDS: usize = 3;
 
 /// What stands after a verb.
-#[derive(Clone, Copy, PartialEq, Eq)]
+#[derive(Clone, Copy)]
 enum Object {
     Nothing,
     Zone,
@@ -63,11 +66,21 @@ pub fn push_bad_row(
     script: &[u8],
     number: u32,
 ) -> Result<(), AllocError> {
-    let Some(record) = record_at(alloc, script, number)? else {
-        return words.push_str("it is no call");
-    };
-    let Some(machine) = field_of(&record, 0) else {
-        return words.push_str("it is no call");
+    match record_at(alloc, script, number)? {
+        Some(record) => push_bad_record(alloc, words, script, &record),
+        None => words.push_str(NO_CALL),
+    }
+}
+
+/// Adds why a record is no call.
+fn push_bad_record(
+    alloc: Global,
+    words: &mut String,
+    script: &[u8],
+    record: &Record,
+) -> Result<(), AllocError> {
+    let Some(machine) = field_of(record, 0) else {
+        return words.push_str(NO_CALL);
     };
     if machine.bytes.starts_with(b"#".as_slice()) {
         return machine.push_comment(words);
@@ -80,7 +93,7 @@ pub fn push_bad_row(
         return machine.push_unknown(alloc, words, "machine", &machines);
     }
     let is_first = is_first_version(alloc, script)?;
-    push_bad_call(alloc, words, &record, is_first)
+    push_bad_call(alloc, words, record, is_first)
 }
 
 /// Whether a script can't stop the cell.
@@ -126,28 +139,29 @@ fn push_bad_object(
     wanted: Object,
     found: Option<Field<'_>>,
 ) -> Result<(), AllocError> {
-    match (wanted, found) {
-        (Object::Nothing, Some(more)) => {
-            more.push_place(words)?;
-            words.push_str(look(more.bytes))?;
-            words.push_str("; no field follows this verb")
-        }
-        (Object::Zone, Some(zone)) => {
+    let Some(field) = found else {
+        return push_no_object(words, verb, wanted);
+    };
+    match wanted {
+        Object::Nothing => field.push_wrong(words, "; no field follows this verb"),
+        Object::Zone => {
             let zones = Zone::ALL.map(|zone| zone.word());
-            zone.push_unknown(alloc, words, "zone", &zones)
+            field.push_unknown(alloc, words, "zone", &zones)
         }
-        (Object::Pose, Some(pose)) => {
+        Object::Pose => {
             let poses = Pose::ALL.map(|pose| pose.word());
-            pose.push_unknown(alloc, words, "pose", &poses)
+            field.push_unknown(alloc, words, "pose", &poses)
         }
-        (Object::Zone, None) => {
-            verb.push_place(words)?;
-            words.push_str(" needs a zone after it, z1 to z6")
-        }
-        (Object::Pose, None) => {
-            verb.push_place(words)?;
-            words.push_str(" needs a pose after it, such as middle")
-        }
-        (Object::Nothing, None) => words.push_str("it is no call"),
     }
+}
+
+/// Adds that a verb needs an object.
+fn push_no_object(words: &mut String, verb: Field<'_>, wanted: Object) -> Result<(), AllocError> {
+    let needs = match wanted {
+        Object::Nothing => return words.push_str(NO_CALL),
+        Object::Zone => " needs a zone after it, z1 to z6",
+        Object::Pose => " needs a pose after it, such as middle",
+    };
+    verb.push_place(words)?;
+    words.push_str(needs)
 }

@@ -138,22 +138,28 @@ fn push_wrong_kind(
     source: Source<'_>,
     table: &Table,
 ) -> Result<(), AllocError> {
-    if has_value(table, "start") && text_at(table, "start").is_none() {
-        source.push_line(words, &["start"])?;
-        return words.push_str(START_TAKES);
-    }
-    if has_value(table, "stamp") && number_at(table, "stamp").is_none() {
-        source.push_line(words, &["stamp"])?;
-        return words.push_str(STAMP_TAKES);
-    }
-    if has_value(table, "schedule") && text_at(table, "schedule").is_none() {
-        source.push_line(words, &["schedule"])?;
-        return words.push_str(SCHEDULE_TAKES);
+    if let Some((key, takes)) = key_of_wrong_kind(table) {
+        source.push_line(words, &[key])?;
+        return words.push_str(takes);
     }
     match check_sections(table) {
         Err((section, fault)) => push_refused_section(words, source, section, fault),
         Ok(()) => words.push_str("a value isn't of its key's kind"),
     }
+}
+
+/// The first key outside of sections whose value has another kind, and what it takes.
+fn key_of_wrong_kind(table: &Table) -> Option<(&'static str, &'static str)> {
+    if has_value(table, "start") && text_at(table, "start").is_none() {
+        return Some(("start", START_TAKES));
+    }
+    if has_value(table, "stamp") && number_at(table, "stamp").is_none() {
+        return Some(("stamp", STAMP_TAKES));
+    }
+    if has_value(table, "schedule") && text_at(table, "schedule").is_none() {
+        return Some(("schedule", SCHEDULE_TAKES));
+    }
+    None
 }
 
 /// Adds the first key whose value is out of range.
@@ -162,12 +168,11 @@ fn push_wrong_range(
     source: Source<'_>,
     table: &Table,
 ) -> Result<(), AllocError> {
-    let last = i64::from(LAST_STAMP);
-    if number_at(table, "stamp").is_some_and(|stamp| !(0..=last).contains(&stamp)) {
+    if has_wrong_stamp(table) {
         source.push_line(words, &["stamp"])?;
-        return write!(words, "stamp is out of range: it takes 0 to {last}");
+        return write!(words, "stamp is out of range: it takes 0 to {LAST_STAMP}");
     }
-    if text_at(table, "schedule").is_some_and(|text| text.chars().count() > MOST_LETTERS) {
+    if has_long_schedule(table) {
         source.push_line(words, &["schedule"])?;
         return write!(
             words,
@@ -177,6 +182,22 @@ fn push_wrong_range(
     match check_sections(table) {
         Err((section, fault)) => push_refused_section(words, source, section, fault),
         Ok(()) => words.push_str("a value is out of range"),
+    }
+}
+
+/// Whether the stamp is out of range.
+fn has_wrong_stamp(table: &Table) -> bool {
+    match number_at(table, "stamp") {
+        Some(stamp) => stamp < 0 || stamp > i64::from(LAST_STAMP),
+        None => false,
+    }
+}
+
+/// Whether the schedule is too long.
+fn has_long_schedule(table: &Table) -> bool {
+    match text_at(table, "schedule") {
+        Some(text) => text.chars().count() > MOST_LETTERS,
+        None => false,
     }
 }
 
@@ -222,21 +243,34 @@ fn push_wrong_letter(
     source: Source<'_>,
     table: &Table,
 ) -> Result<(), AllocError> {
-    if let Some(place) = source.place_of(&["schedule"]) {
-        let value = source.bytes.get(place.value..).unwrap_or(&[]);
-        let letters = letters_before(value);
-        source.push_line_at(words, place.value.saturating_add(letters))?;
+    if let Some(before) = bytes_before_letter(source) {
+        source.push_line_at(words, before)?;
     }
     let text = text_at(table, "schedule").unwrap_or("");
+    let Some((i, letter)) = first_wrong_letter(text) else {
+        return words.push_str("the schedule has a wrong letter");
+    };
+    let number = i.saturating_add(1);
+    write!(words, "character {number} of the schedule, ")?;
+    push_quoted_char(words, letter)?;
+    words.push_str(", is no letter: known are f t r p d c w and their capitals")
+}
+
+/// How many bytes are before the first character of the schedule that is no letter, if the schedule is found.
+fn bytes_before_letter(source: Source<'_>) -> Option<usize> {
+    let place = source.place_of(&["schedule"])?;
+    let value = source.bytes.get(place.value..).unwrap_or(&[]);
+    Some(place.value.saturating_add(letters_before(value)))
+}
+
+/// The first character of a schedule that is no letter, and how many are before it.
+fn first_wrong_letter(text: &str) -> Option<(usize, char)> {
     for (i, letter) in text.chars().enumerate() {
         if !is_letter(letter) {
-            let number = i.saturating_add(1);
-            write!(words, "character {number} of the schedule, ")?;
-            push_quoted_char(words, letter)?;
-            return words.push_str(", is no letter: known are f t r p d c w and their capitals");
+            return Some((i, letter));
         }
     }
-    words.push_str("the schedule has a wrong letter")
+    None
 }
 
 /// Whether a character is a letter of a schedule.

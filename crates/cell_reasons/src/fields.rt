@@ -50,7 +50,7 @@ impl Field<'_> {
 }
 
 /// What catches the eye in a field; empty if nothing does.
-pub fn look(field: &[u8]) -> &'static str {
+fn look(field: &[u8]) -> &'static str {
     if field.is_empty() {
         return ": it is empty; a comma too many makes an empty field";
     }

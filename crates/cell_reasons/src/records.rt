@@ -15,25 +15,47 @@ pub struct Record {
 
 /// The record with this number, if there is one.
 pub fn record_at(alloc: Global, script: &[u8], number: u32) -> Result<Option<Record>, AllocError> {
+    let mut row = ByteRecord::new(alloc);
+    if !read_row(alloc, script, number, &mut row)? {
+        return Ok(None);
+    }
+    let line = line_of(script, &row);
+    Ok(Some(Record { row, line }))
+}
+
+/// Reads the record with this number. Returns whether there is one.
+fn read_row(
+    alloc: Global,
+    script: &[u8],
+    number: u32,
+    row: &mut ByteRecord,
+) -> Result<bool, AllocError> {
     let mut reader = ReaderBuilder::new()
         .has_headers(false)
         .flexible(true)
         .from_reader(alloc, script);
-    let mut row = ByteRecord::new(alloc);
+    read_to(&mut reader, number, row)
+}
+
+fn read_to(
+    reader: &mut Reader<&[u8]>,
+    number: u32,
+    row: &mut ByteRecord,
+) -> Result<bool, AllocError> {
     for _ in 0..number {
-        if !read_next(&mut reader, &mut row)? {
-            return Ok(None);
+        if !read_next(reader, row)? {
+            return Ok(false);
         }
     }
-    if !read_next(&mut reader, &mut row)? {
-        return Ok(None);
+    read_next(reader, row)
+}
+
+/// The line on which a record that was read begins.
+fn line_of(script: &[u8], row: &ByteRecord) -> usize {
+    match row.position() {
+        Some(position) => line_after(script, position.byte() as usize),
+        None => line_after(script, 0),
     }
-    let before = match row.position() {
-        Some(position) => position.byte() as usize,
-        None => 0,
-    };
-    let line = line_after(script, before);
-    Ok(Some(Record { row, line }))
 }
 
 /// Reads the next record. Returns whether there is one. Memory alone can run out: a slice is always

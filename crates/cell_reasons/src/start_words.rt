@@ -28,10 +28,20 @@ pub fn push_no_start(alloc: Global, words: &mut String, script: &[u8]) -> Result
     if is_utf16(script) {
         return words.push_str("line 1: the script seems to be UTF-16; save it as UTF-8");
     }
-    let Some(record) = record_at(alloc, script, 0)? else {
-        return write!(words, "line 1: there is none; {EXAMPLE}");
-    };
-    let Some(first) = field_of(&record, 0) else {
+    match record_at(alloc, script, 0)? {
+        Some(record) => push_no_start_in(alloc, words, script, &record),
+        None => write!(words, "line 1: there is none; {EXAMPLE}"),
+    }
+}
+
+/// Adds why a script's record 0 has no word that begins a script.
+fn push_no_start_in(
+    alloc: Global,
+    words: &mut String,
+    script: &[u8],
+    record: &Record,
+) -> Result<(), AllocError> {
+    let Some(first) = field_of(record, 0) else {
         return words.push_str(EXAMPLE);
     };
     if first.bytes.starts_with(b"#".as_slice()) {
@@ -39,14 +49,15 @@ pub fn push_no_start(alloc: Global, words: &mut String, script: &[u8]) -> Result
     }
     if Machine::read(first.bytes).is_some() {
         first.push_place(words)?;
-        return write!(words, " begins a call, but {EXAMPLE}");
-    }
-    if is_header(alloc, script)? {
+        words.push_str(" begins a call, but ")?;
+    } else if is_header(alloc, script)? {
         first.push_place(words)?;
         return words.push_str(": a script has no header; delete the line");
+    } else {
+        first.push_unknown(alloc, words, "word that begins a script", &VERSIONS)?;
+        words.push_str("; ")?;
     }
-    first.push_unknown(alloc, words, "word that begins a script", &VERSIONS)?;
-    write!(words, "; {EXAMPLE}")
+    words.push_str(EXAMPLE)
 }
 
 /// Whether a text seems to be UTF-16.
@@ -90,61 +101,73 @@ pub fn field_of(record: &Record, index: usize) -> Option<Field<'_>> {
 
 /// Adds why record 0 is no start.
 pub fn push_bad_start(alloc: Global, words: &mut String, script: &[u8]) -> Result<(), AllocError> {
-    let Some(record) = record_at(alloc, script, 0)? else {
-        return words.push_str(EXAMPLE);
-    };
-    let line = record.line;
+    match record_at(alloc, script, 0)? {
+        Some(record) => push_bad_record(words, &record),
+        None => words.push_str(EXAMPLE),
+    }
+}
+
+fn push_bad_record(words: &mut String, record: &Record) -> Result<(), AllocError> {
     if record.row.len() > MOST_FIELDS {
-        return match field_of(&record, MOST_FIELDS) {
+        return match field_of(record, MOST_FIELDS) {
             Some(field) => field.push_wrong(words, "; a start has at most three fields"),
             None => words.push_str(EXAMPLE),
         };
     }
-    match (field_of(&record, 1), field_of(&record, 2)) {
-        (None, _) => write!(
+    let line = record.line;
+    match field_of(record, 1) {
+        Some(places) => push_bad_fields(words, places, field_of(record, 2)),
+        None => write!(
             words,
             "line {line}: the places are missing: ten digits 0 or 1, one for each of p1 to p10"
         ),
-        (Some(places), stamp) => {
-            if read_places(places.bytes).is_none() {
-                return push_places(words, places);
-            }
-            match stamp {
-                Some(stamp) if !is_stamp(stamp.bytes) => push_stamp(words, stamp),
-                _ => push_plates(words, places),
-            }
-        }
+    }
+}
+
+/// Adds why places, and a stamp if there is one, make no start.
+fn push_bad_fields(
+    words: &mut String,
+    places: Field<'_>,
+    stamp: Option<Field<'_>>,
+) -> Result<(), AllocError> {
+    if read_places(places.bytes).is_none() {
+        return push_places(words, places);
+    }
+    match stamp {
+        Some(stamp) if !is_stamp(stamp.bytes) => push_stamp(words, stamp),
+        _ => push_plates(words, places),
     }
 }
 
 /// Adds why a field isn't ten digits.
 fn push_places(words: &mut String, places: Field<'_>) -> Result<(), AllocError> {
     let count = places.bytes.len();
-    let are_digits = places.bytes.iter().all(|byte| byte.is_ascii_digit());
-    if are_digits && count < 10 && count > 0 {
-        places.push_place(words)?;
+    if count == 0 || count == 10 || !are_digits(places.bytes) {
+        return places.push_wrong(
+            words,
+            "; the places are ten digits 0 or 1, one for each of p1 to p10",
+        );
+    }
+    places.push_place(words)?;
+    if count < 10 {
         return write!(
             words,
             " has {count} of ten digits; a spreadsheet drops zeros at the front, so make the field a text"
         );
     }
-    if are_digits && count > 10 {
-        places.push_place(words)?;
-        return write!(
-            words,
-            " has {count} digits; there are ten places, p1 to p10"
-        );
-    }
-    places.push_wrong(
+    write!(
         words,
-        "; the places are ten digits 0 or 1, one for each of p1 to p10",
+        " has {count} digits; there are ten places, p1 to p10"
     )
+}
+
+fn are_digits(field: &[u8]) -> bool {
+    field.iter().all(|byte| byte.is_ascii_digit())
 }
 
 /// Whether a field is a stamp within its limit: one to seven digits, of which the first may be 0.
 fn is_stamp(field: &[u8]) -> bool {
-    let are_digits = field.iter().all(|byte| byte.is_ascii_digit());
-    if !are_digits || field.is_empty() || field.len() > MOST_DIGITS {
+    if !are_digits(field) || field.is_empty() || field.len() > MOST_DIGITS {
         return false;
     }
     let mut stamp = 0u32;

@@ -25,25 +25,42 @@ pub fn push_unknown(
     table: &Table,
 ) -> Result<(), AllocError> {
     for place in source.places {
-        let Some(key) = place.names.first() else {
-            continue;
-        };
-        let key = key.as_str();
-        if !KEYS.contains(&key) {
+        if is_unknown(&place.names, table) {
             source.push_line_at(words, place.key)?;
-            return push_unknown_key(alloc, words, key);
-        }
-        if !PLAIN_KEYS.contains(&key) && is_table(table, key) {
-            if let Some(inner) = place.names.get(1) {
-                let inner = inner.as_str();
-                if !INNER_KEYS.contains(&inner) {
-                    source.push_line_at(words, place.key)?;
-                    return push_unknown_inner_key(alloc, words, key, inner);
-                }
-            }
+            return push_unknown_names(alloc, words, &place.names);
         }
     }
     words.push_str("a key is unknown")
+}
+
+/// Whether a key's names have an unknown one.
+fn is_unknown(names: &[String], table: &Table) -> bool {
+    match names {
+        [key] => !KEYS.contains(&key.as_str()),
+        [key, inner, ..] => {
+            let key = key.as_str();
+            !KEYS.contains(&key)
+                || !PLAIN_KEYS.contains(&key)
+                    && is_table(table, key)
+                    && !INNER_KEYS.contains(&inner.as_str())
+        }
+        [] => false,
+    }
+}
+
+/// Adds which name is unknown.
+fn push_unknown_names(
+    alloc: Global,
+    words: &mut String,
+    names: &[String],
+) -> Result<(), AllocError> {
+    match names {
+        [key, inner, ..] if KEYS.contains(&key.as_str()) => {
+            push_unknown_inner_key(alloc, words, key.as_str(), inner.as_str())
+        }
+        [key, ..] => push_unknown_key(alloc, words, key.as_str()),
+        [] => Ok(()),
+    }
 }
 
 /// Whether a key at the top has a table. What isn't one has no keys that are looked at.
@@ -62,9 +79,19 @@ fn push_unknown_key(alloc: Global, words: &mut String, key: &str) -> Result<(), 
             "{key} is a key of a section; move it below a section's head, such as [arm1]"
         );
     }
+    push_no_key(alloc, words, key, &KEYS)
+}
+
+/// Adds that a key is none of these.
+fn push_no_key(
+    alloc: Global,
+    words: &mut String,
+    key: &str,
+    known: &[&'static str],
+) -> Result<(), AllocError> {
     push_quoted(words, key.as_bytes())?;
     words.push_str(" is no key here")?;
-    push_suggestion(alloc, words, key.as_bytes(), &KEYS)
+    push_suggestion(alloc, words, key.as_bytes(), known)
 }
 
 /// Adds that a key in a section is unknown there.
@@ -74,19 +101,12 @@ fn push_unknown_inner_key(
     section: &str,
     key: &str,
 ) -> Result<(), AllocError> {
-    if PLAIN_KEYS.contains(&key) {
-        return write!(
-            words,
-            "{key} stands in the section {section}; move it above the first section"
-        );
-    }
     if KEYS.contains(&key) {
-        return write!(
-            words,
-            "{key} stands in the section {section}; its own head is [{key}]"
-        );
+        write!(words, "{key} stands in the section {section}; ")?;
+        if PLAIN_KEYS.contains(&key) {
+            return words.push_str("move it above the first section");
+        }
+        return write!(words, "its own head is [{key}]");
     }
-    push_quoted(words, key.as_bytes())?;
-    words.push_str(" is no key here")?;
-    push_suggestion(alloc, words, key.as_bytes(), &INNER_KEYS)
+    push_no_key(alloc, words, key, &INNER_KEYS)
 }
