@@ -22,7 +22,7 @@ around {t = t} {pairs = pairs} {i = i} {raw = raw} same curve near left right =
       right_near = curve.near (i + 1) (omega (arith, near.within));
       rising = curve.rising i near.within;
       low = near.from;
-      high = near.to;
+      high = omega (arith, near.to);
     } in
     rw (same, left, right) here
 
