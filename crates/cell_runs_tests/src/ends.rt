@@ -1,11 +1,11 @@
 //! Ends of runs: what each machine did, the interlock, and the axes. They were worked out by hand
 //! from the programs of the controllers and the numbers of the plant.
 
-use crate::gauges::GAUGES;
-use crate::simulated_cells::{Gauges, places_of, run};
+use crate::gauges::all_gauges;
+use crate::simulated_cells::{Gauges, full_places, places_of, run};
 use cell_plant::{Counts, RunRecord, Status, Turn};
 use cell_rules::State;
-use cell_types::{Entry, Machine, Place, Posture, Zone};
+use cell_types::{Entry, Machine, Posture, Zone};
 use std::alloc::Global;
 use std::process::Abort;
 use std::test::Fail;
@@ -14,6 +14,7 @@ use std::test::Fail;
 type Group = (Machine, bool, usize);
 
 // A run and its end. Machines, zones and axes that aren't named may be anything.
+#[derive(Clone, Copy)]
 struct Row {
     start: &'static [u8; 10],
     start_stamp: u32,
@@ -35,29 +36,36 @@ struct Row {
 
 const FINE: [Status; 7] = [Status::Fine; 7];
 
-const ROWS: &[Row] = &[
-    // a plate is on the feed belt's end, and goes on to the table
-    Row {
-        start: b"0100000000",
-        start_stamp: 0,
-        schedule: &[
-            (Machine::Table, false, 6),
-            (Machine::Feed, false, 11),
-            (Machine::Table, false, 1),
-        ],
-        did: &[(0, [11, 5, 0, 0, 0]), (1, [7, 6, 0, 0, 0])],
-        status: FINE,
-        zones: &[
-            (Zone::Z1, Some(Machine::Table), false, Posture::OpenIn),
-            (Zone::Z6, Some(Machine::Feed), false, Posture::Closed),
-        ],
-        places: b"0010000000",
-        plates: 1,
-        stamp: 11,
-        axes: &[],
-        press_noted: 0,
-        stays: false,
-    },
+// A plate is on the feed belt's end, and goes on to the table.
+const FIRST: Row = Row {
+    start: b"0100000000",
+    start_stamp: 0,
+    schedule: &[
+        (Machine::Table, false, 6),
+        (Machine::Feed, false, 11),
+        (Machine::Table, false, 1),
+    ],
+    did: &[(0, [11, 5, 0, 0, 0]), (1, [7, 6, 0, 0, 0])],
+    status: FINE,
+    zones: &[
+        (Zone::Z1, Some(Machine::Table), false, Posture::OpenIn),
+        (Zone::Z6, Some(Machine::Feed), false, Posture::Closed),
+    ],
+    places: b"0010000000",
+    plates: 1,
+    stamp: 11,
+    axes: &[],
+    press_noted: 0,
+    stays: false,
+};
+
+// A plate is carried.
+fn carried() -> &'static [Row] {
+    CARRIED
+}
+
+const CARRIED: &[Row] = &[
+    FIRST,
     // the robot loads the press with the plate of its first arm
     Row {
         start: b"0001000000",
@@ -96,6 +104,14 @@ const ROWS: &[Row] = &[
         press_noted: 0,
         stays: false,
     },
+];
+
+// A machine waits, gets Busy, or is worn.
+fn waiting() -> &'static [Row] {
+    WAITING
+}
+
+const WAITING: &[Row] = &[
     // the press comes to its middle, and waits for a plate
     Row {
         start: b"0000000000",
@@ -212,6 +228,14 @@ const ROWS: &[Row] = &[
         press_noted: 0,
         stays: true,
     },
+];
+
+// The watch stops the cell.
+fn stopped() -> &'static [Row] {
+    STOPPED
+}
+
+const STOPPED: &[Row] = &[
     // the watch stops the cell and resumes it, and changes nothing else
     Row {
         start: b"0010000000",
@@ -355,24 +379,34 @@ fn starts_so(row: &Row, record: &RunRecord) -> bool {
 
 // Whether the machines did what their row says.
 fn has_done(row: &Row, record: &RunRecord) -> bool {
-    let of_machines = |(machine, counts): &(usize, [u64; 5])| record.counts.get(*machine)
-        == Some(&did(counts));
-    let of_axes = |(axis, position): &(usize, i32)| record.axes.get(*axis) == Some(position);
-    row.did.iter().all(of_machines)
-        && row.axes.iter().all(of_axes)
-        && record.status == row.status
-        && record.journals.press.len() == row.press_noted
+    for (machine, counts) in row.did {
+        if record.counts.get(*machine) != Some(&did(counts)) {
+            return false;
+        }
+    }
+    stand_so(row.axes, record)
+        && (record.status, record.journals.press.len()) == (row.status, row.press_noted)
+}
+
+/// Whether these axes ended at these positions.
+pub fn stand_so(axes: &[(usize, i32)], record: &RunRecord) -> bool {
+    for (axis, position) in axes {
+        if record.axes.get(*axis) != Some(position) {
+            return false;
+        }
+    }
+    true
 }
 
 // Whether the interlock ended as its row says.
 fn ends_so(row: &Row, end: &State) -> bool {
-    let of_zones = |(zone, owner, flag, posture): &(Zone, Option<Machine>, bool, Posture)| {
-        end.owner(*zone) == *owner && end.flag(*zone) == *flag && end.posture(*zone) == *posture
-    };
-    row.zones.iter().all(of_zones)
-        && end.stamp() == row.stamp
-        && end.plates() == row.plates
-        && Place::ALL.map(|place| end.is_full(place)) == places_of(row.places)
+    for (zone, owner, flag, posture) in row.zones {
+        if (end.owner(*zone), end.flag(*zone), end.posture(*zone)) != (*owner, *flag, *posture) {
+            return false;
+        }
+    }
+    (end.stamp(), end.plates()) == (row.stamp, row.plates)
+        && full_places(end) == places_of(row.places)
 }
 
 fn journals_of(record: &RunRecord) -> [&[Entry]; 7] {
@@ -413,16 +447,35 @@ fn run_of(
     )??)
 }
 
+// Whether a record is as its row says.
+fn is_record_of(row: &Row, record: &RunRecord) -> bool {
+    match record.end {
+        Some(end) => starts_so(row, record) && has_done(row, record) && ends_so(row, &end),
+        None => false,
+    }
+}
+
+// Whether a run is as its row says by all gauges, and the same as on lines.
+fn is_met(alloc: Global, row: &Row) -> Result<bool, Fail> {
+    let on_lines = run_of(alloc, row, Gauges::Lines, None)?;
+    for gauges in all_gauges() {
+        if !is_met_by(alloc, row, gauges, &on_lines)? {
+            return Ok(false);
+        }
+    }
+    Ok(true)
+}
+
+fn is_met_by(alloc: Global, row: &Row, gauges: Gauges, on_lines: &RunRecord) -> Result<bool, Fail> {
+    let record = run_of(alloc, row, gauges, None)?;
+    Ok(is_record_of(row, &record) && are_same(&record, on_lines))
+}
+
 #[test]
 fn runs_end_so(rt: HostRuntime) -> Result<(), Fail> {
-    for row in ROWS {
-        let on_lines = run_of(rt.alloc(), row, Gauges::Lines, None)?;
-        for gauges in GAUGES {
-            let record = run_of(rt.alloc(), row, gauges, None)?;
-            assert!(rt; starts_so(row, &record));
-            assert!(rt; has_done(row, &record));
-            assert!(rt; record.end.is_some_and(|end| ends_so(row, &end)));
-            assert!(rt; are_same(&record, &on_lines));
+    for rows in [carried(), waiting(), stopped()] {
+        for row in rows {
+            assert!(rt; is_met(rt.alloc(), row)?);
         }
     }
     Ok(())
@@ -432,7 +485,7 @@ fn runs_end_so(rt: HostRuntime) -> Result<(), Fail> {
 #[test]
 fn busy_turns_stop_nobody(rt: HostRuntime) -> Result<(), Fail> {
     for busy in 6..17 {
-        let record = run_of(rt.alloc(), &ROWS[0], Gauges::Lines, Some(busy))?;
+        let record = run_of(rt.alloc(), &FIRST, Gauges::Lines, Some(busy))?;
         assert!(rt; record.status == FINE);
     }
     Ok(())
@@ -462,71 +515,62 @@ const ASKED: [(u64, u64); 7] = [(2, 0), (2, 0), (0, 1), (2, 0), (2, 0), (0, 0), 
 // Whether each machine that is fine has asked all that it should, and each other machine stopped
 // for memory. If the watch had no memory to resume, the others may be refused.
 fn lacks_but_memory(record: &RunRecord) -> bool {
-    let stays_stopped = record.end.is_some_and(|end| end.stopped());
-    ASKED.iter().enumerate().all(|(machine, wanted)| {
-        let Counts {
-            done,
-            read,
-            refused,
-            ..
-        } = record.counts[machine];
-        let answered = if stays_stopped {
-            done.saturating_add(refused)
+    let stays_stopped = match record.end {
+        Some(end) => end.stopped(),
+        None => false,
+    };
+    for machine in 0..7usize {
+        let counts = record.counts[machine];
+        let refused = if stays_stopped { counts.refused } else { 0 };
+        let answered = counts.done.saturating_add(refused);
+        let wanted = if (answered, counts.read) == ASKED[machine] {
+            Status::Fine
         } else {
-            done
+            Status::Memory
         };
-        let has_all = (answered, read) == *wanted;
-        record.status[machine]
-            == (if has_all {
-                Status::Fine
-            } else {
-                Status::Memory
-            })
-    })
+        if record.status[machine] != wanted {
+            return false;
+        }
+    }
+    true
+}
+
+fn turn_of(machine: Machine) -> Turn {
+    Turn {
+        machine,
+        busy: false,
+    }
 }
 
 // The first run's turns; `turns_of` makes them too, but takes memory.
 fn first_turns() -> [Turn; 18] {
-    let turn_of = |machine| Turn {
-        machine,
-        busy: false,
-    };
     let mut turns = [turn_of(Machine::Feed); 18];
     turns[..6].fill(turn_of(Machine::Table));
     turns[17] = turn_of(Machine::Table);
     turns
 }
 
-// Whether the record is the row's, or no machine stopped but for memory, and one did.
-fn ends_or_lacks(row: &Row, record: &RunRecord) -> bool {
+// Whether the record is the first row's, or no machine stopped but for memory, and one did.
+fn ends_or_lacks(record: &RunRecord) -> bool {
     if record.status == FINE {
-        return starts_so(row, record)
-            && has_done(row, record)
-            && record.end.is_some_and(|end| ends_so(row, &end));
+        return is_record_of(&FIRST, record);
     }
-    record
-        .status
-        .iter()
-        .all(|status| [Status::Fine, Status::Memory].contains(status))
+    for status in record.status {
+        if !matches!(status, Status::Fine | Status::Memory) {
+            return false;
+        }
+    }
+    true
 }
 
 // Whichever allocation fails, each run has a record, or the fault says why not.
 #[test]
 fn a_run_without_memory(rt: HostRuntime) -> Result<(), Fail> {
-    let row = &ROWS[0];
-    if let Ok(record) = run(
-        rt.alloc(),
-        Gauges::Lines,
-        places_of(row.start),
-        0,
-        &first_turns(),
-    )? {
-        assert!(rt; ends_or_lacks(row, &record));
+    let places = places_of(FIRST.start);
+    if let Ok(record) = run(rt.alloc(), Gauges::Lines, places, 0, &first_turns())? {
+        assert!(rt; ends_or_lacks(&record));
     }
-    let turns = TWICE.map(|machine| Turn {
-        machine,
-        busy: false,
-    });
+    let turns = TWICE.map(turn_of);
     if let Ok(record) = run(rt.alloc(), Gauges::Lines, [false; 10], 0, &turns)? {
         assert!(rt; lacks_but_memory(&record));
     }

@@ -72,11 +72,13 @@ pub const GRIPPER_ASTRAY: Gauges = Gauges::Curves(Pairs {
 });
 
 /// By each of these a run on default scales is the same.
-pub const GAUGES: [Gauges; 6] = [
-    Gauges::Lines,
-    Gauges::CurvesOfLines,
-    Gauges::Curves(ENDS),
-    Gauges::Curves(THREE),
-    Gauges::Curves(FIVE),
-    Gauges::Curves(MEASURED),
-];
+pub fn all_gauges() -> [Gauges; 6] {
+    [
+        Gauges::Lines,
+        Gauges::CurvesOfLines,
+        Gauges::Curves(ENDS),
+        Gauges::Curves(THREE),
+        Gauges::Curves(FIVE),
+        Gauges::Curves(MEASURED),
+    ]
+}

@@ -1,10 +1,10 @@
 //! Long runs: plates that go round through all six machines, and a cell that comes to a standstill.
 //! The numbers come from another program, which was written from the tables of the cell alone.
 
-use crate::gauges::GAUGES;
-use crate::simulated_cells::{Gauges, places_of, run};
+use crate::gauges::all_gauges;
+use crate::simulated_cells::{Gauges, full_places, places_of, run};
 use cell_plant::{RunRecord, Status, Turn};
-use cell_types::{Machine, Place};
+use cell_types::Machine;
 use std::alloc::Global;
 use std::process::Abort;
 use std::test::Fail;
@@ -306,16 +306,22 @@ const RESTS: [Rest; 6] = [
     ),
 ];
 
+// A round's turns.
+fn turns_of(alloc: Global, round: &Round) -> Result<Vec<Turn>, Fail> {
+    let turns = match round.order {
+        Order::InTurn => in_turn(alloc, round.count),
+        Order::OfSix(seed) => by_chance(alloc, seed, round.count, false),
+        Order::OfSeven(seed) => by_chance(alloc, seed, round.count, true),
+    }?;
+    match round.pause {
+        Some(pause) => with_stops(alloc, turns.as_slice(), pause),
+        None => Ok(turns),
+    }
+}
+
 // Runs a round.
 fn run_of(alloc: Global, round: &Round, gauges: Gauges) -> Result<RunRecord, Fail> {
-    let mut turns = match round.order {
-        Order::InTurn => in_turn(alloc, round.count)?,
-        Order::OfSix(seed) => by_chance(alloc, seed, round.count, false)?,
-        Order::OfSeven(seed) => by_chance(alloc, seed, round.count, true)?,
-    };
-    if let Some(pause) = round.pause {
-        turns = with_stops(alloc, turns.as_slice(), pause)?;
-    }
+    let turns = turns_of(alloc, round)?;
     Ok(run(alloc, gauges, places_of(round.start), 0, turns.as_slice())??)
 }
 
@@ -327,7 +333,7 @@ fn ends_so(round: &Round, record: &RunRecord) -> bool {
     let done = record.counts.map(|counts| counts.done);
     record.status == [Status::Fine; 7]
         && end.stamp() == round.stamp
-        && Place::ALL.map(|place| end.is_full(place)) == places_of(round.places)
+        && full_places(&end) == places_of(round.places)
         && round.done.unwrap_or(done) == done
         && round.axes.unwrap_or(record.axes) == record.axes
 }
@@ -335,7 +341,7 @@ fn ends_so(round: &Round, record: &RunRecord) -> bool {
 #[test]
 fn rounds_end_so(rt: HostRuntime) -> Result<(), Fail> {
     for round in ROUNDS {
-        for gauges in GAUGES {
+        for gauges in all_gauges() {
             let record = run_of(rt.alloc(), round, gauges)?;
             assert!(rt; ends_so(round, &record), "{}", round.count);
         }
@@ -402,26 +408,36 @@ fn with_one_stop(alloc: Global, before: usize, after: usize) -> Result<Vec<Turn>
     Ok(turns)
 }
 
+// Whether a cell is at rest after this number of turns.
+fn rests_so(alloc: Global, rest: Rest, after: usize) -> Result<bool, Fail> {
+    let (before, places, stamp, done, axes) = rest;
+    let round = Round {
+        start: b"1010100001",
+        order: Order::InTurn,
+        count: before,
+        pause: None,
+        places,
+        stamp,
+        done: Some(done),
+        axes: Some(axes),
+    };
+    let turns = with_one_stop(alloc, before, after)?;
+    let start = places_of(round.start);
+    let record = run(alloc, Gauges::Lines, start, 0, turns.as_slice())??;
+    Ok(ends_so(&round, &record))
+}
+
 // In a cell that is stopped and never resumed each machine comes to rest. From the 1200th turn on
 // axes, places and stamp stay as they are. No machine is stopped for good.
 #[test]
 fn a_stopped_cell_comes_to_rest(rt: HostRuntime) -> Result<(), Fail> {
-    for (before, places, stamp, done, axes) in RESTS {
+    for rest in RESTS {
         for after in [1200, 1201, 2400, 3600] {
-            let round = Round {
-                start: b"1010100001",
-                order: Order::InTurn,
-                count: before,
-                pause: None,
-                places,
-                stamp,
-                done: Some(done),
-                axes: Some(axes),
-            };
-            let turns = with_one_stop(rt.alloc(), before, after)?;
-            let start = places_of(round.start);
-            let record = run(rt.alloc(), Gauges::Lines, start, 0, turns.as_slice())??;
-            assert!(rt; ends_so(&round, &record), "{before} and {after}");
+            assert!(rt;
+                rests_so(rt.alloc(), rest, after)?,
+                "{} and {after}",
+                rest.0
+            );
         }
     }
     Ok(())

@@ -1,10 +1,11 @@
 //! Runs on scales with no whole number of raw values for a position. The raw value is rounded down;
 //! if it were rounded up, axes would stop elsewhere.
 
+use crate::ends::stand_so;
 use crate::gauges::GRIPPER_ASTRAY;
 use crate::simulated_cells::{Gauges, Scales, places_of, run_with, scale_to, scales_with};
 use cell_calib::PointsFault;
-use cell_plant::{RunRecord, Status, Turn};
+use cell_plant::{Status, Turn};
 use cell_types::Machine;
 use std::alloc::Global;
 use std::process::Abort;
@@ -73,10 +74,6 @@ fn turns_of(alloc: Global, schedule: &[(Machine, usize)]) -> Result<Vec<Turn>, F
         }
     }
     Ok(turns)
-}
-
-fn stand_so(axes: &[(usize, i32)], record: &RunRecord) -> bool {
-    axes.iter().all(|(axis, position)| record.axes.get(*axis) == Some(position))
 }
 
 #[test]

@@ -6,6 +6,7 @@ ghost use Rattle.cell_rules.specs.Start.{IsStartState};
 use cell_calib::{Calibration, Curve, CurveFault, Gauge, Points, PointsFault, line_at};
 use cell_plant::{Cell, RunRecord, SimFault, Turn, simulate};
 use cell_rules::State;
+use cell_types::Place;
 use std::alloc::Global;
 use std::test::Fail;
 
@@ -219,6 +220,15 @@ pub fn run(
     turns: &[Turn],
 ) -> Result<Simulated, Fail> {
     run_with(alloc, gauges, scales_with(5)?, places, stamp, turns)
+}
+
+/// The places that have a plate in a state.
+pub fn full_places(state: &State) -> [bool; 10] {
+    let mut full = [false; 10];
+    for at in 0..10usize {
+        full[at] = state.is_full(Place::ALL[at]);
+    }
+    full
 }
 
 /// The places that have a plate, by their digits.

@@ -260,28 +260,34 @@ fn has_gone_on<S, A>(outcome: &WiredOutcome<Recorder<S, A>>, turns: u32) -> bool
         && outcome.status == Status::Fine
 }
 
+// Whether the machines other than the press have gone on.
+fn have_others_gone_on(run: &SixOutcomes, turns: u32) -> bool {
+    let six = &run.outcomes;
+    has_gone_on(&six.feed, turns)
+        && has_gone_on(&six.table, turns)
+        && has_gone_on(&six.robot, turns)
+        && has_gone_on(&six.deposit, turns)
+        && has_gone_on(&six.crane, turns)
+}
+
 // Whether the press ends so, and its devices were neither read nor set after its last cycle. The
 // others go on.
 fn ends_so<R: Threads + Wait + Sync>(rt: &R, alloc: Global, row: &Row) -> Result<bool, Fail> {
     let (good, then, limit, (turns, missed, status, motor, fault)) = *row;
     let run = run_until(rt, alloc, good, then, limit)??;
     let cycles = turns.saturating_add(missed);
-    let six = &run.outcomes;
-    let press = &six.press;
+    let press = &run.outcomes.press;
     let devices = &press.devices;
-    let is_told = devices
-        .last
-        .is_some_and(|told| told.act.press == motor && told.fault == fault);
+    let is_told = match devices.last {
+        Some(told) => (told.act.press, told.fault) == (motor, fault),
+        None => false,
+    };
     Ok(
         is_told
             && (press.turns, press.missed, devices.reads, devices.sets)
                 == (turns, missed, cycles, cycles)
             && press.status == status
-            && has_gone_on(&six.feed, limit)
-            && has_gone_on(&six.table, limit)
-            && has_gone_on(&six.robot, limit)
-            && has_gone_on(&six.deposit, limit)
-            && has_gone_on(&six.crane, limit),
+            && have_others_gone_on(&run, limit),
     )
 }
 

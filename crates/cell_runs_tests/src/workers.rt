@@ -57,9 +57,12 @@ const ZONES_THEN: [(Zone, Option<Machine>, Posture); 6] = [
 ];
 
 fn ends_so(end: &State) -> bool {
-    ZONES_THEN.iter().all(|(zone, owner, posture)| end.owner(*zone) == *owner
-        && end.posture(*zone) == *posture)
-        && (end.stamp(), end.plates(), end.stopped()) == (11, 0, false)
+    for (zone, owner, posture) in ZONES_THEN {
+        if (end.owner(zone), end.posture(zone)) != (owner, posture) {
+            return false;
+        }
+    }
+    (end.stamp(), end.plates(), end.stopped()) == (11, 0, false)
 }
 
 fn is_first_steps(record: &RunRecord) -> bool {
