@@ -56,11 +56,39 @@ fn answers_by(alloc: Global, run: &RunRecord, events: &[Event]) -> Result<String
 
 // How many plates the crane has given to the feed belt.
 fn rounds(journals: &Journals) -> usize {
-    journals
-        .crane
-        .iter()
-        .filter(|entry| entry.call == Call::Give(Zone::Z6) && entry.answer == Answer::Done)
-        .count()
+    let mut count = 0usize;
+    for entry in journals.crane.as_slice() {
+        if (entry.call, entry.answer) == (Call::Give(Zone::Z6), Answer::Done) {
+            count = count.saturating_add(1);
+        }
+    }
+    count
+}
+
+// The record of a run at one pace.
+fn run_of<T>(rt: &T, alloc: Global, text: &str, turns: u32) -> Result<RunRecord, Fail>
+where
+    T: std::thread::Threads + std::sync::Wait + Sync,
+{
+    let config = read_config(alloc, &mut text.as_bytes())?;
+    Ok(run_configured(rt, alloc, &config, turns, 8, &PacedGate::new(rt))?)
+}
+
+// Whether a replay of a script is clean and answers so.
+fn is_replayed(alloc: Global, script: &[u8], wanted: &str) -> bool {
+    let mut reader = script;
+    let mut answers = Vec::new(alloc);
+    let outcome = replay(alloc, &mut reader, &mut answers);
+    matches!(outcome, Ok(Outcome::Clean)) && answers.as_slice() == wanted.as_bytes()
+}
+
+// Whether a replay of a run's script answers as the run's journals say.
+fn is_answered_alike(alloc: Global, run: &RunRecord) -> Result<bool, Fail> {
+    let events = audit(alloc, &run.journals, &run.start, run.end.as_ref())?;
+    let wanted = answers_by(alloc, run, events.as_slice())?;
+    let mut script = Vec::new(alloc);
+    let exit = tell(alloc, run, &mut script);
+    Ok(exit == Exit::Well && is_replayed(alloc, script.as_slice(), wanted.as_str()))
 }
 
 // Whether a run's machines are fine, plates got round, and a replay of its script answers as its
@@ -70,21 +98,9 @@ where
     T: std::thread::Threads + std::sync::Wait + Sync,
 {
     let (text, turns, least) = *row;
-    let config = read_config(alloc, &mut text.as_bytes())?;
-    let run = run_configured(rt, alloc, &config, turns, 8, &PacedGate::new(rt))?;
-    let events = audit(alloc, &run.journals, &run.start, run.end.as_ref())?;
-    let mut script = Vec::new(alloc);
-    let exit = tell(alloc, &run, &mut script);
-    let mut answers = Vec::new(alloc);
-    let outcome = replay(alloc, &mut script.as_slice(), &mut answers)?;
-    let wanted = answers_by(alloc, &run, &events)?;
-    Ok(
-        exit == Exit::Well
-            && outcome == Outcome::Clean
-            && answers.as_slice() == wanted.as_bytes()
-            && run.status == [Status::Fine; 7]
-            && rounds(&run.journals) >= least,
-    )
+    let run = run_of(rt, alloc, text, turns)?;
+    let is_fine = run.status == [Status::Fine; 7] && rounds(&run.journals) >= least;
+    Ok(is_fine && is_answered_alike(alloc, &run)?)
 }
 
 #[test]
