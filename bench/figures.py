@@ -130,9 +130,13 @@ def records(count):
     return given(f"records_{count}.csv", "\n".join(["start,0100000000", *calls, ""]))
 
 
-def entries(exponent, are_audited):
-    """What the programs that audit read: by how many entries 10 is raised to, and whether they audit."""
-    return given(f"entries_{exponent}_{are_audited:d}", f"{exponent}{are_audited:d}")
+# How the programs that audit do so: not at all, giving the events, or only looking for a fault.
+NO_AUDIT, EVENTS, FAULT = range(3)
+
+
+def entries(exponent, audit):
+    """What the programs that audit read: the exponent of the number of entries, and how they audit."""
+    return given(f"entries_{exponent}_{audit}", f"{exponent}{audit}")
 
 
 # Runs
@@ -183,7 +187,7 @@ def times(count, runs, processors=None):
 
 
 def audits(count, programs, source):
-    """The nanoseconds of so many runs of each of these programs that audit. They have to find the same events."""
+    """The nanoseconds of so many runs of each of these programs that audit. They have to accept the same entries."""
     found = in_turn(count, *(lambda words=words: numbers(words, source) for words in programs))
     events = {(events, last) for runs in found for _, events, last in runs}
     if len(events) > 1 or not min(events)[0]:

@@ -13,6 +13,27 @@ pub struct Entry {
 /// Checks that the journals are those of one history from the start to the end. The error has the
 /// words of the fault.
 pub fn audit(journals: &[(Machine, &[Entry])], start: &State, end: &State) -> Result<(), String> {
+    audit_by(journals, start, end, |_, _| ())
+}
+
+/// The events of that history, in their order.
+pub fn events(
+    journals: &[(Machine, &[Entry])],
+    start: &State,
+    end: &State,
+) -> Result<Vec<(Machine, Call, Answer)>, String> {
+    let mut events = Vec::with_capacity(journals.iter().map(|(_, journal)| journal.len()).sum());
+    audit_by(journals, start, end, |machine, entry| events.push((machine, entry.call, entry.answer)))?;
+    Ok(events)
+}
+
+/// Checks the journals, and gives each entry of the history to `keep`.
+fn audit_by(
+    journals: &[(Machine, &[Entry])],
+    start: &State,
+    end: &State,
+    mut keep: impl FnMut(Machine, &Entry),
+) -> Result<(), String> {
     let mut order = Vec::with_capacity(journals.iter().map(|(_, journal)| journal.len()).sum());
     for (number, (_, journal)) in journals.iter().enumerate() {
         for (index, entry) in journal.iter().enumerate() {
@@ -39,6 +60,7 @@ pub fn audit(journals: &[(Machine, &[Entry])], start: &State, end: &State) -> Re
         if !is_next || state.apply(machine, entry.call) != entry.answer || state.stamp != stamp {
             return Err(format!("differs {stamp}"));
         }
+        keep(machine, &entry);
     }
     if state == *end { Ok(()) } else { Err("end".to_string()) }
 }

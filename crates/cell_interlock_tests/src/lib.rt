@@ -2,8 +2,5 @@
 //! audited.
 #![tactic(auto)]
 
-pub mod callers;
-pub mod letters;
-pub mod ring;
 #[cfg(test)]
 mod tests;

@@ -2,6 +2,7 @@
 //! from the rules of the cell.
 #![tactic(auto)]
 
-pub mod doubles;
+#[cfg(test)]
+mod doubles;
 #[cfg(test)]
 mod tests;

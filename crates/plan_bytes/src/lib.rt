@@ -4,8 +4,6 @@
 pub mod laws;
 mod read;
 mod rows;
-#[cfg(test)]
-mod tests;
 mod write;
 
 pub use read::read_tables;

@@ -5,8 +5,6 @@ pub mod laws;
 mod numbers;
 mod plan;
 mod state;
-#[cfg(test)]
-mod walks;
 
 pub use numbers::{
     machine_number, place_number, plan_call, plan_posture, pose_number, zone_number,

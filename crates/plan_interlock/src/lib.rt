@@ -4,8 +4,6 @@
 pub mod examples;
 pub mod laws;
 pub mod rules;
-#[cfg(test)]
-mod tests;
 
 pub use rules::PlanRules;
 

@@ -4,10 +4,10 @@ ghost use Rattle.cell_interlock.specs.Ends.{ArePassesOf};
 
 use super::played::{Taken, state_left};
 use super::steps::{ABANDONED, ABANDONED_LATE, ALONE, OVERTAKEN, PRESS_CLAIMS, TABLE_LOOKS};
-use crate::callers::{Outcome, Step};
 use cell_interlock::{Interlock, Passes};
 use cell_rules::{Places, State, ZoneState, Zones};
 use cell_types::{Answer, Call, Machine, Posture, Refusal, Reply, Zone};
+use test_callers::callers::{Outcome, Step};
 
 pub(super) type Owned = (Zone, Machine);
 

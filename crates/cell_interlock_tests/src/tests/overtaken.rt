@@ -1,9 +1,9 @@
 //! Claims of the table that calls of others overtake, in every number of places.
 
 use super::played::{Taken, is_played};
-use crate::callers::{Outcome, Step};
 use cell_types::{Answer, Call, Machine, Refusal, Zone};
 use std::alloc::{AllocError, Global};
+use test_callers::callers::{Outcome, Step};
 
 const LAST: u32 = 1_048_575;
 

@@ -1,12 +1,12 @@
 //! Plays steps on a new interlock. Each outcome has to be the wanted one. It also has to be one
 //! that the calls before it give cause for, by what the test itself has noted of them.
-ghost use Rattle.cell_interlock_tests.specs.Held.{AreHeldAt};
+ghost use Rattle.test_callers.specs.Held.{AreHeldAt};
 
-use crate::callers::{Callers, Outcome, Step};
 use cell_interlock::Interlock;
 use cell_rules::State;
 use cell_types::{Answer, Machine};
 use std::alloc::Global;
+use test_callers::callers::{Callers, Outcome, Step};
 
 /// A step that a machine has taken, and its outcome.
 pub type Taken = (Machine, Step, Outcome);

@@ -6,8 +6,6 @@ ghost use Rattle.cell_rules.specs.Seen.{event};
 ghost use Rattle.cell_interlock.specs.Ends.{ArePassesOf};
 
 use super::closing::{PRESS_3, state_of};
-use crate::letters::{News, two_threads};
-use crate::ring::{OfTable, three_threads};
 use cell_interlock::{Interlock, Pass, Passes};
 use cell_rules::State;
 use cell_types::{Answer, Call, Machine, Refusal, Reply, Zone};
@@ -15,6 +13,8 @@ use std::alloc::Global;
 use std::marker::Brand;
 use std::sync::Wait;
 use std::thread::Threads;
+use test_callers::letters::{News, two_threads};
+use test_callers::ring::{OfTable, three_threads};
 
 const PRESS_HAS_IT: Reply = Reply::Settled(Answer::Refused(Refusal::Held(Machine::Press)), 1);
 

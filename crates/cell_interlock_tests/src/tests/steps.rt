@@ -2,8 +2,8 @@
 
 use super::overtaken::are_right_from;
 use super::played::{Taken, is_played};
-use crate::callers::{Outcome, Step};
 use cell_types::{Answer, Call, Machine, Pose, Posture, Refusal, Zone};
+use test_callers::callers::{Outcome, Step};
 
 const CLAIM_1: Call = Call::Claim(Zone::Z1);
 

@@ -1,4 +1,4 @@
-use Rattle.cell_interlock_tests.specs.Held.{AreHeldAt}
+use Rattle.test_callers.specs.Held.{AreHeldAt}
 use Rattle.cell_interlock_tests.proofs.tests.played.take_steps.Given as goal
 
 abbrev pub invariant-loop-machine : goal.invariant-loop-machine

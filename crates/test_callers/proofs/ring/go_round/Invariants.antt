@@ -1,5 +1,5 @@
 use Rattle.std.proofs.Common.{◌≡◌}
-use Rattle.cell_interlock_tests.proofs.ring.go_round.Given as goal
+use Rattle.test_callers.proofs.ring.go_round.Given as goal
 
 abbrev pub invariant-loop-round : goal.invariant-loop-round
 invariant-loop-round g l = l.pass.table ≡ l.interlock.table

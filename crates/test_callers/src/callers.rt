@@ -2,7 +2,7 @@
 ghost use Rattle.std.specs.Prelude.{◌≡◌, IfSome};
 ghost use Rattle.cell_interlock.specs.Ends.{ArePassesOf, IsPassOf};
 ghost use Rattle.cell_interlock.specs.Fresh.{AreFresh};
-ghost use Rattle.cell_interlock_tests.specs.Held.{
+ghost use Rattle.test_callers.specs.Held.{
   IsHeldAt,
   AreHeldAt,
   AreTwoPassesOf,

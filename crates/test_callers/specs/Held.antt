@@ -4,9 +4,9 @@ use Rattle.cell_interlock.specs.Ends.{IsPassOf}
 use Rattle.cell_interlock.specs.Views.{InterlockView, PassView}
 use Rattle.cell_types.specs.declared.machine.Machine.{Machine}
 use Rattle.cell_types.specs.declared.machine.Machine.TheVariants.{Feed, Table, Robot, Press, Deposit, Crane, Watch}
-use Rattle.cell_interlock_tests.specs.declared.callers.Callers.{Callers}
-use Rattle.cell_interlock_tests.specs.declared.callers.Held.{Held}
-use Rattle.cell_interlock_tests.specs.declared.callers.Held.TheVariants.{Idle, Trying, Nothing}
+use Rattle.test_callers.specs.declared.callers.Callers.{Callers}
+use Rattle.test_callers.specs.declared.callers.Held.{Held}
+use Rattle.test_callers.specs.declared.callers.Held.TheVariants.{Idle, Trying, Nothing}
 
 -- the pass is the interlock's
 abbrev pub IsHeldAt : InterlockView → Held → Type 0

@@ -1,4 +1,6 @@
-use crate::{read_tables, write_tables};
+//! A plan's tables as bytes, and back.
+
+use plan_bytes::{read_tables, write_tables};
 use plan_types::examples;
 use std::test::Fail;
 

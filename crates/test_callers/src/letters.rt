@@ -3,7 +3,7 @@ ghost use Rattle.std.specs.Prelude.{◌≡◌, IfOk, IfSome};
 ghost use Rattle.cell_types.specs.declared.answer.Answer.TheVariants.{Done};
 ghost use Rattle.cell_rules.specs.Seen.{event};
 ghost use Rattle.cell_interlock.specs.Calls.{IfSettled};
-ghost use Rattle.cell_interlock_tests.specs.Letters.{ComesLater};
+ghost use Rattle.test_callers.specs.Letters.{ComesLater};
 
 use cell_interlock::{Interlock, Pass, Receipt};
 use cell_types::{Answer, Call, Reply};
@@ -53,7 +53,7 @@ pub struct Letter<N: News> {
 impl<N: News> Model for Letter<N> {
     ghost use Rattle.std.specs.Prelude.{◌≡◌};
     ghost use Rattle.cell_interlock.specs.Views.{ReceiptView};
-    ghost use Rattle.cell_interlock_tests.specs.Letters.{HasEvent};
+    ghost use Rattle.test_callers.specs.Letters.{HasEvent};
 
     ghost Value = { ReceiptView };
 

@@ -1,8 +1,8 @@
-//! Random walks of the cell beside its plan, and the program of the README.
+//! Random walks of the cell beside its plan, and the program of its README.
 
-use crate::{cell_tables, machine_number, plan_call, plan_state};
 use cell_rules::{State, apply};
 use cell_types::{Answer, Call, Machine, Pose, Zone};
+use plan_cell::{cell_tables, machine_number, plan_call, plan_state};
 use plan_rules::apply as plan_apply;
 use plan_types::{Answer as PlanAnswer, Plan};
 

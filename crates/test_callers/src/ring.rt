@@ -49,7 +49,7 @@ pub struct StampedLetter<N: OfTable> {
 
 impl<N: OfTable> Model for StampedLetter<N> {
     ghost use Rattle.std.specs.Prelude.{◌≡◌};
-    ghost use Rattle.cell_interlock_tests.specs.Letters.{StampedView, HasItsStamp};
+    ghost use Rattle.test_callers.specs.Letters.{StampedView, HasItsStamp};
 
     ghost Value = { StampedView };
 

@@ -1,5 +1,6 @@
-//! Calls of two machines at a press.
-use crate::examples;
+//! Calls of two machines at a press on one atomic word.
+
+use plan_interlock::examples;
 use plan_types::{Answer, Call, Refusal};
 use word_interlock::Reply;
 
