@@ -27,6 +27,16 @@ with_machine b Watch v = record b { watch = v }
 abbrev pub each_machine : {T : Type 0} → T → ByMachine T
 each_machine v = record { feed = v; table = v; robot = v; press = v; deposit = v; crane = v; watch = v }
 
+-- each value is made of the same machine's
+pub record IsMadeOf {T U : Type 0} (made : T → U → Type 0) (b : ByMachine T) (c : ByMachine U) : Type 0 where
+  pub feed : made b.feed c.feed
+  pub table : made b.table c.table
+  pub robot : made b.robot c.robot
+  pub press : made b.press c.press
+  pub deposit : made b.deposit c.deposit
+  pub crane : made b.crane c.crane
+  pub watch : made b.watch c.watch
+
 -- of each value, something
 abbrev pub map_machines : {T U : Type 0} → (T → U) → ByMachine T → ByMachine U
 map_machines f b =

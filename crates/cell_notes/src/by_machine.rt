@@ -1,6 +1,6 @@
 //! A value for each machine.
 ghost use Rattle.std.specs.Prelude.{◌≡◌};
-ghost use Rattle.cell_notes.specs.ByMachine.{PutIsFound, at_machine, each_machine, with_machine};
+ghost use Rattle.cell_notes.specs.ByMachine.{IsMadeOf, PutIsFound, at_machine, each_machine, with_machine};
 
 use cell_types::Machine;
 
@@ -51,6 +51,22 @@ impl<T: Drop> ByMachine<T> {
             Machine::Deposit => self.deposit = value,
             Machine::Crane => self.crane = value,
             Machine::Watch => self.watch = value,
+        }
+    }
+
+    /// What a closure makes of each machine's value.
+    pub fn map<U: Drop, F: Fn(T) -> U>(self, make: F) -> ByMachine<U>
+        requires { F.IsAlwaysCallable make }
+        ensures { IsMadeOf (F.post make) self result }
+    {
+        ByMachine {
+            feed: make(self.feed),
+            table: make(self.table),
+            robot: make(self.robot),
+            press: make(self.press),
+            deposit: make(self.deposit),
+            crane: make(self.crane),
+            watch: make(self.watch),
         }
     }
 }

@@ -18,15 +18,7 @@ pub(crate) type Notebooks = ByMachine<Notebook>;
 pub(crate) fn empty_notebooks(alloc: Global) -> Notebooks
     ensures { all_notes result ≡ first_notes }
 {
-    ByMachine {
-        feed: Notebook::new(alloc),
-        table: Notebook::new(alloc),
-        robot: Notebook::new(alloc),
-        press: Notebook::new(alloc),
-        deposit: Notebook::new(alloc),
-        crane: Notebook::new(alloc),
-        watch: Notebook::new(alloc),
-    }
+    ByMachine::each(alloc).map(Notebook::new)
 }
 
 /// The counts of each machine, in the order of `Machine::ALL`.
