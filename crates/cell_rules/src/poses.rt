@@ -155,9 +155,10 @@ impl State {
     pub(crate) fn pose_refusal(&self, machine: Machine, pose: Pose) -> Option<Refusal>
         ensures { result ≡ refusals.pose_refusal self.now machine pose }
     {
-        (!has_pose(machine, pose))
-            .then_some(Refusal::NoPose)
-            .or(self.moves_while_stopped(pose))
+        if !has_pose(machine, pose) {
+            return Some(Refusal::NoPose);
+        }
+        self.moves_while_stopped(pose)
             .or(self.any_unowned_by_pose(machine, pose))
             .or(self.any_plate_under_pose(machine, pose))
             .or(self.jump(machine, pose))
