@@ -14,8 +14,8 @@ from crates import PROGRAM, ROOT
 KIT = os.path.dirname(os.path.dirname(os.path.realpath(shutil.which("rattle") or ".")))
 # Where in out/ a crate's library is, with the stamp of what it was made from.
 BUILT = "built"
-# The most memory that a crate takes with one job, in bytes. A crate has a second job only where a processor would idle,
-# as near the end, when each crate waits for the one before: each job reads again what its crate uses.
+# The most memory that a crate takes with one job, in bytes. A crate has a second job only if all others wait for it, or where
+# a processor would idle, since each job reads again what its crate uses.
 MEMORY = 3_000_000_000
 
 
@@ -82,10 +82,10 @@ class Building:
         words += ["--antt-project", f"{KIT}/rattle/logic/antt-project.json", "--logic-built", f"{KIT}/logic_built"]
         return [*words, "--links", f"{self.name}="]
 
-    def words(self, side_by_side):
+    def words(self, side_by_side, is_first):
         how = ["--toolchain", f"{KIT}/toolchain"] if self.is_program else ["--statements"]
         # (a program has next to nothing to prove)
-        jobs = 2 if not self.is_program and side_by_side < at_once() else 1
+        jobs = 2 if not self.is_program and (is_first or side_by_side < at_once()) else 1
         return ["rattle", "build", *self.reading(), *how, "--jobs", str(jobs), "-o", self.made]
 
     def leave(self, proved=False):

@@ -16,6 +16,8 @@ ROOMS = "rooms"
 KEPT = "incremental"
 # What of a crate's folder no check reads, or is made by checks.
 BESIDE = ("out", "must-fail", "attacks")
+# The processor seconds of a crate's proof where nothing is written down.
+USUAL = 60
 STOPS = (signal.SIGINT, signal.SIGTERM, signal.SIGHUP)
 # The most memory that the check of a crate takes, in bytes, and the processors that it is given at least where there are several.
 MEMORY = 7_000_000_000
@@ -213,7 +215,7 @@ class Place:
         return False
 
     @staticmethod
-    def words(side_by_side):
+    def words(side_by_side, _is_first):
         # a crate that runs alone gets the jobs that rt chooses
         return ["rt", "lib", *(["--jobs", str(max(1, processors() // side_by_side))] if side_by_side > 1 else [])]
 
@@ -266,15 +268,10 @@ def sources(folder):
     return sorted(f"{at}/{it}" for part in ("src", "specs", "proofs") for at, _, files in os.walk(f"{folder}/{part}") for it in files)
 
 
-def size(folder):
-    """The bytes of a crate's files: a measure of how long it takes."""
-    return sum(map(os.path.getsize, sources(folder)))
-
-
-def ahead(root, crates, order, name):
-    """How much is to be read, this crate included, on the longest way from it up to a crate that none of these uses."""
-    above = [ahead(root, crates, order, it) for it in order if name in crates[it]]
-    return size(f"{root}/crates/{name}") + max(above, default=0)
+def ahead(crates, order, name, spent):
+    """The seconds, this crate's included, on the longest way from it up to a crate that none of these uses."""
+    above = [ahead(crates, order, it, spent) for it in order if name in crates[it]]
+    return spent.get(name, USUAL) + max(above, default=0)
 
 
 def costs():
@@ -319,7 +316,7 @@ class Progress:
         return f"{seconds:.0f} s" if seconds < 90 else f"{seconds / 60:.0f} min"
 
     def weight(self, name):
-        return self.weights.get(name, 60)
+        return self.weights.get(name, USUAL)
 
     def to_go(self, plan, done, since, now):
         """The seconds that are left, if each crate takes as long, by its weight, as those did that have ended."""
@@ -340,10 +337,10 @@ def prove(root, names, folder, place_of=Place, limit=None, watch=lambda plan, do
     """Proves these crates and all below them, each in a place of its own, and answers None, or the crate that failed and the file of
     what was said of it. Where cores and memory allow, or at most by the limit, crates are worked at side by side. Those with the
     longest way above them come first, and get processors before others. Each second `watch` is called, as Progress.watch has it."""
-    crates, order = listed(root), []
+    crates, order, spent = listed(root), [], costs()
     for name in names:
         order += [it for it in [*below(crates, name), name] if it not in order]
-    urgent, done, waits = sorted(order, key=lambda it: -ahead(root, crates, order, it)), set(), False
+    urgent, done, waits = sorted(order, key=lambda it: -ahead(crates, order, it, spent)), set(), False
     for name in order:
         if done >= {*crates[name]} and place_of(root, crates, name, f"{folder}/{name}").is_done():
             done.add(name)
@@ -366,7 +363,8 @@ def prove(root, names, folder, place_of=Place, limit=None, watch=lambda plan, do
                     waits = True
                     continue
                 left.remove(name)
-                running.start(name, places[name].words(side_by_side), places[name].crate, f"{folder}/{name}/log", urgent.index(name) // 2)
+                is_first = name == next(it for it in urgent if it not in done)
+                running.start(name, places[name].words(side_by_side, is_first), places[name].crate, f"{folder}/{name}/log", urgent.index(name) // 2)
                 begun[name] = time.monotonic()
             watch(plan, done, begun)
             for name, status in running.ended(1).items():
