@@ -4,9 +4,9 @@ use Rattle.cell_rules.specs.Types.{Machine, Feed, Table, Robot, Press, Deposit, 
 use Rattle.cell_rules.specs.Types.{journal_of}
 use Rattle.cell_rules.specs.Names.{ModelState, after, noted, Waits, LawfulThroughout, IsAudited}
 use Rattle.cell_interlock.specs.Views.{PassView, InterlockView}
-use Rattle.cell_interlock.specs.Fresh.{fresh_pass}
+use Rattle.cell_interlock.specs.Fresh.{IsFresh, fresh_pass}
 use Rattle.cell_workers.specs.Workers.{GateOf, IsGivenBack}
-use Rattle.cell_workers.specs.Promises.{GiveBack, GivesOf}
+use Rattle.cell_workers.specs.Promises.{AreAllFresh, AreReady, GiveBack, GivesOf, SixPasses}
 use Rattle.cell_workers.specs.Results.{SixResults, journal_in, outcomes_in, seen_in}
 use Rattle.cell_workers.specs.Six.{six_fresh}
 use Rattle.cell_workers.specs.declared.per_machine.PerMachine.{PerMachine}
@@ -22,6 +22,25 @@ pub record HasWatched {H : Type 0} (watches : WatchesOf H) (tries : ℕ) (watch 
     (back : WorkerResult H) : Type 0 where
   pub given : IsGivenBack got back.pass back.journal.items
   pub does : watches watch got tries back.pass back.outcome
+
+-- what the six and the watch need to begin over an interlock: each has a fresh pass of its machine, and the six are
+-- ready
+pub record MayBegin {W1 W2 W3 W4 W5 W6 : Type 0} (ready1 : W1 → PassView → Type 0) (ready2 : W2 → PassView → Type 0)
+    (ready3 : W3 → PassView → Type 0) (ready4 : W4 → PassView → Type 0) (ready5 : W5 → PassView → Type 0)
+    (ready6 : W6 → PassView → Type 0) (i : InterlockView) (workers : PerMachine W1 W2 W3 W4 W5 W6) (passes : SixPasses)
+    (pass : PassView) : Type 0 where
+  pub fresh : AreAllFresh i passes
+  pub ready : AreReady ready1 ready2 ready3 ready4 ready5 ready6 workers passes
+  pub fresh_watch : IsFresh i Watch pass
+
+-- the six have kept their promises, and the watch has watched
+pub record HaveWorked {W1 W2 W3 W4 W5 W6 A B C D E F H : Type 0} (gives1 : GivesOf W1 A) (gives2 : GivesOf W2 B)
+    (gives3 : GivesOf W3 C) (gives4 : GivesOf W4 D) (gives5 : GivesOf W5 E) (gives6 : GivesOf W6 F)
+    (watches : WatchesOf H) (workers : PerMachine W1 W2 W3 W4 W5 W6) (watch : H) (passes : SixPasses) (pass : PassView)
+    (tries : ℕ) (gate : Machine → GateOf) (turns : ℕ) (results : SixResults A B C D E F) (watched : WorkerResult H)
+    : Type 0 where
+  pub given : GiveBack gives1 gives2 gives3 gives4 gives5 gives6 workers passes tries gate turns results
+  pub watched_so : HasWatched watches tries watch pass watched
 
 module _ {A B C D E F : Type 0} where
   -- the journals of the seven, and what each pass has seen

@@ -8,7 +8,7 @@ use cell_types::Machine;
 use std::sync::{Condvar, Mutex, Wait};
 
 /// How far a machine has come.
-#[derive(Clone, Copy, Debug, PartialEq, Eq)]
+#[derive(Clone, Copy)]
 pub(crate) enum Pace {
     /// It has had this number of turns.
     Had(u32),
@@ -29,7 +29,7 @@ impl Pace {
 }
 
 /// How far each of the six machines has come.
-#[derive(Clone, Copy, Debug, PartialEq, Eq)]
+#[derive(Clone, Copy)]
 pub(crate) struct Paces {
     feed: Pace,
     table: Pace,

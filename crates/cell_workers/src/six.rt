@@ -3,8 +3,8 @@ ghost use Rattle.std.specs.Prelude.{◌≡◌, ◌<◌, ◌⊎◌, ◌↔◌, If
 ghost use Rattle.cell_types.specs.declared.machine.Machine.TheVariants.{Watch};
 ghost use Rattle.cell_interlock.specs.Fresh.{AreFresh, fresh_pass};
 ghost use Rattle.cell_workers.specs.Six.{AreReadyAt, TellsSix, six_fresh};
-ghost use Rattle.cell_workers.specs.Promises.{AreReady, GiveBack};
-ghost use Rattle.cell_workers.specs.Watching.{HasWatched, TellsWatched};
+ghost use Rattle.cell_workers.specs.Promises.{AreReady};
+ghost use Rattle.cell_workers.specs.Watching.{HaveWorked, TellsWatched};
 
 use crate::fault::RunFault;
 use crate::gate::Gate;
@@ -171,7 +171,7 @@ fn work<R, W1, W2, W3, W4, W5, W6, H, G>(
     ),
 >
 where
-    R: Threads + Wait + Sync,
+    R: Threads + Wait,
     W1: Worker + Send,
     W2: Worker + Send,
     W3: Worker + Send,
@@ -189,11 +189,10 @@ where
     requires fresh { AreFresh context.now.interlock.now passes }
     requires ready { AreReady W1.is_ready W2.is_ready W3.is_ready W4.is_ready W5.is_ready W6.is_ready workers
         (six_fresh context.now.interlock.now) }
-    ensures worked { IfSome result (λ back. GiveBack W1.gives_back W2.gives_back W3.gives_back W4.gives_back
-        W5.gives_back W6.gives_back workers (six_fresh context.now.interlock.now) context.now.interlock.now.tries
-        (G.may_answer context.now.gate.now) context.now.turns back.0) }
-    ensures watched { IfSome result (λ back. HasWatched H.watches context.now.interlock.now.tries watch
-        (fresh_pass context.now.interlock.now Watch) back.1) }
+    ensures { IfSome result (λ back. HaveWorked W1.gives_back W2.gives_back W3.gives_back W4.gives_back W5.gives_back
+        W6.gives_back H.watches workers watch (six_fresh context.now.interlock.now)
+        (fresh_pass context.now.interlock.now Watch) context.now.interlock.now.tries
+        (G.may_answer context.now.gate.now) context.now.turns back.0 back.1) }
 {
     let Passes {
         feed,

@@ -12,7 +12,7 @@ use cell_rules::Line;
 use cell_unit::{MachineUnit, status_of};
 
 /// How a worker ended.
-#[derive(Clone, Copy, Debug, PartialEq, Eq)]
+#[derive(Clone, Copy)]
 pub(crate) struct Ending {
     /// Its counts of turns and replies.
     pub counts: Counts,

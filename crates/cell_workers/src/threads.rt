@@ -1,9 +1,7 @@
 //! Six workers in threads, and their watch.
 ghost use Rattle.std.specs.Prelude.{IfSome};
-ghost use Rattle.cell_types.specs.declared.machine.Machine.TheVariants.{Watch};
-ghost use Rattle.cell_interlock.specs.Fresh.{IsFresh};
-ghost use Rattle.cell_workers.specs.Promises.{AreAllFresh, AreKept, ArePromised, AreReady, AreStartedInTurn, GiveBack};
-ghost use Rattle.cell_workers.specs.Watching.{HasWatched};
+ghost use Rattle.cell_workers.specs.Promises.{AreAllFresh, AreKept, ArePromised, AreReady, AreStartedInTurn};
+ghost use Rattle.cell_workers.specs.Watching.{HaveWorked, MayBegin};
 
 use crate::gate::Gate;
 use crate::per_machine::{PerMachine, SixPasses, SixResults, all_six};
@@ -36,7 +34,7 @@ pub(crate) fn run_in_threads<R, W1, W2, W3, W4, W5, W6, H, G>(
     ),
 >
 where
-    R: Threads + Wait + Sync,
+    R: Threads + Wait,
     W1: Worker + Send,
     W2: Worker + Send,
     W3: Worker + Send,
@@ -51,13 +49,11 @@ where
     W6::Outcome: Send,
     H: Watching,
     G: Gate + Sync,
-    requires fresh { AreAllFresh context.now.interlock.now passes }
-    requires ready { AreReady W1.is_ready W2.is_ready W3.is_ready W4.is_ready W5.is_ready W6.is_ready workers passes }
-    requires fresh_watch { IsFresh context.now.interlock.now Watch pass }
-    ensures given { IfSome result (λ back. GiveBack W1.gives_back W2.gives_back W3.gives_back W4.gives_back
-        W5.gives_back W6.gives_back workers passes context.now.interlock.now.tries
-        (G.may_answer context.now.gate.now) context.now.turns back.0) }
-    ensures watched { IfSome result (λ back. HasWatched H.watches context.now.interlock.now.tries watch pass back.1) }
+    requires begins { MayBegin W1.is_ready W2.is_ready W3.is_ready W4.is_ready W5.is_ready W6.is_ready
+        context.now.interlock.now workers passes pass }
+    ensures { IfSome result (λ back. HaveWorked W1.gives_back W2.gives_back W3.gives_back W4.gives_back W5.gives_back
+        W6.gives_back H.watches workers watch passes pass context.now.interlock.now.tries
+        (G.may_answer context.now.gate.now) context.now.turns back.0 back.1) }
 {
     thread::scope(
         thread::scope_env(),
@@ -75,18 +71,15 @@ where
                 WorkerResult<H>,
             ),
         >
-            requires { AreAllFresh context.now.interlock.now passes
-                × AreReady W1.is_ready W2.is_ready W3.is_ready W4.is_ready W5.is_ready W6.is_ready workers passes
-                × IsFresh context.now.interlock.now Watch pass }
-            ensures { IfSome result (λ back. GiveBack W1.gives_back W2.gives_back W3.gives_back W4.gives_back
-                W5.gives_back W6.gives_back workers passes context.entry.now.interlock.now.tries
-                (G.may_answer context.entry.now.gate.now) context.entry.now.turns back.0
-                × HasWatched H.watches context.entry.now.interlock.now.tries watch pass back.1) }
+            requires { MayBegin W1.is_ready W2.is_ready W3.is_ready W4.is_ready W5.is_ready W6.is_ready
+                context.now.interlock.now workers passes pass }
+            ensures { IfSome result (λ back. HaveWorked W1.gives_back W2.gives_back W3.gives_back W4.gives_back
+                W5.gives_back W6.gives_back H.watches workers watch passes pass context.entry.now.interlock.now.tries
+                (G.may_answer context.entry.now.gate.now) context.entry.now.turns back.0 back.1) }
         {
             let started = start_six(scope, context, passes, workers);
             let watched = watch.watch(context.alloc, context.interlock, pass);
-            let results = join_six(rt, started)?;
-            Some((results, watched))
+            join_six(rt, started).zip(Some(watched))
         },
     )
 }

@@ -15,7 +15,7 @@ close-ended-requires g c =
       own =
           subst (λ (p : Passes). ArePassesOf i p) (sym c.into_parts-journals.ensures.passes)
           (own_passes g.W1.Worker.gives_back g.W2.Worker.gives_back g.W3.Worker.gives_back g.W4.Worker.gives_back g.W5.Worker.gives_back g.W6.Worker.gives_back g.H.Watching.watches c.args.workers c.args.watch i c.args.turns
-          (g.G.Gate.may_answer c.args.gate.now) back.results back.ensures.worked back.watched back.ensures.watched);
+          (g.G.Gate.may_answer c.args.gate.now) back.results back.ensures.given back.watched back.ensures.watched_so);
     }
 
 pub returns-clause-work : goal.returns-clause-work
@@ -27,6 +27,6 @@ returns-clause-work g c =
     let parts = c.into_parts-journals in
     let end = c.close-ended.result.state in
     let closed = subst (λ (p : Passes). IsEnd i.opening p end) parts.ensures.passes c.close-ended.ensures.end in
-    tells_watched g.W1.Worker.gives_back g.W2.Worker.gives_back g.W3.Worker.gives_back g.W4.Worker.gives_back g.W5.Worker.gives_back g.W6.Worker.gives_back g.H.Watching.watches c.args.workers c.args.watch i c.args.turns gate back.results back.ensures.worked back.watched back.ensures.watched
+    tells_watched g.W1.Worker.gives_back g.W2.Worker.gives_back g.W3.Worker.gives_back g.W4.Worker.gives_back g.W5.Worker.gives_back g.W6.Worker.gives_back g.H.Watching.watches c.args.workers c.args.watch i c.args.turns gate back.results back.ensures.given back.watched back.ensures.watched_so
     (record { start = c.args.opening; journals = parts.result.0; end = end; outcomes = parts.result.2 }) closed parts.ensures.journals
     c.args.opening c.args.tries new.opening new.limit refl parts.ensures.outcomes
