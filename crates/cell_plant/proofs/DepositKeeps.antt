@@ -1,8 +1,9 @@
 -- The invariant of the deposit belt's side: it holds in every state of a run.
-use Rattle.cell_plant.proofs.Names.{◌≡◌, true, false, IsTrue, is_some, [], ◌∷◌, Some, refl, sym, ◌∙◌, Deposit, Z4, Z5, DepEntry, DepEnd, Posture, Moving, OpenIn, OpenOut, Call, Claim, Give, Take, Release, SetPose, Advance, Done}
+use Rattle.cell_plant.proofs.Names.{◌≡◌, true, false, IsTrue, is_some, [], ◌∷◌, Some, refl, sym, ◌∙◌, subst, Deposit, Z4, Z5, DepEntry, DepEnd, Posture, Moving, OpenIn, OpenOut, Call, Give, Take, Advance, Done}
 use Rattle.cell_plant.proofs.Names.{transfer_of, PlaceSet, has, ModelState, is_full, IsSound, is_received_by, posture_at, given_by, reply, changed, emptied, filled, Finds, deposit_start, deposit_steps, DepositStep, TakePlate, MoveOn}
 use Rattle.cell_plant.proofs.Names.{GivePlate, DepositProgress, DepositKnows, deposit-knowing, drives_at, Keeping, Demanding, WhileOn, demanding_while_on, deposit_at_start, set_belt, deposit_rig, Belt, deposit_called}
 use Rattle.cell_haul.specs.DepositProgram.{row_at}
+use Rattle.cell_haul.specs.declared.deposit.DepositStep.TheVariants.{RunIn, RunOut}
 use Rattle.cell_plant.proofs.BeltPlates.{PlatesStand, plate_stands, as_full, plates_foreign, plates_set, plates_moved, still_runs, plate_taken, plate_given, plate_worked}
 
 -- what its step knows of the interlock; a plate is on it if and only if its place is full
@@ -24,24 +25,36 @@ emptied_end full OpenOut e = (refl, refl)
 emptied_end full _ e = cc
 
 -- after each of its calls the plates on it are those of its places
-done_plates : (s : DepositStep) (p : DepositProgress) (c : Call) (z : ModelState) (b : Belt) → (row_at s p).call ≡ Some c → reply z Deposit c ≡ Done → IsSound z → PlatesStand z DepEntry DepEnd b → PlatesStand (changed z Deposit c) DepEntry DepEnd (set_belt (deposit_called b c) false)
-done_plates TakePlate p (Take Z4) z b e d sound k =
-    let on = filled_entry z.full (posture_at z Z4) (plate_taken z Deposit Z4 sound d) in
-    record { entry = (λ h. on.0, λ h. refl); end = as_full b.last _ _ on.1 k.end }
-done_plates MoveOn p Advance z b e d sound k = record { entry = (λ h. cc, λ h. cc); end = (λ h. refl, λ h. k.entry.1 (plate_worked z Deposit DepEntry DepEnd d refl)) }
-done_plates GivePlate p (Give Z5) z b e d sound k =
-    let off = emptied_end z.full (posture_at z Z5) (plate_given z Deposit Z5 d) in
-    record { entry = as_full b.entry _ _ off.1 k.entry; end = (λ h. cc, λ h. let none = off.0 in cc) }
-done_plates s p (Claim y) z b e d sound k = record { entry = k.entry; end = k.end }
-done_plates s p (Release y) z b e d sound k = record { entry = k.entry; end = k.end }
-done_plates s p (SetPose pose) z b e d sound k = record { entry = k.entry; end = k.end }
-done_plates s p c z b e d sound k = cc
+abbrev StandAfter : ModelState → Belt → Call → Type 0
+StandAfter z b c = reply z Deposit c ≡ Done → PlatesStand (changed z Deposit c) DepEntry DepEnd (set_belt (deposit_called b c) false)
+
+the_call : (a c : Call) → Some a ≡ Some c → a ≡ c
+the_call a c e = cc
+
+by_call : (a c : Call) (z : ModelState) (b : Belt) → Some a ≡ Some c → StandAfter z b a → StandAfter z b c
+by_call a c z b e k = subst (StandAfter z b) (the_call a c e) k
+
+done_plates : (s : DepositStep) (p : DepositProgress) (c : Call) (z : ModelState) (b : Belt) → (row_at s p).call ≡ Some c → IsSound z → PlatesStand z DepEntry DepEnd b → StandAfter z b c
+done_plates TakePlate p c z b e sound k =
+    by_call (Take Z4) c z b e
+    (λ d. let on = filled_entry z.full (posture_at z Z4) (plate_taken z Deposit Z4 sound d) in
+    record { entry = (λ h. on.0, λ h. refl); end = as_full b.last _ _ on.1 k.end })
+done_plates MoveOn p c z b e sound k =
+    by_call Advance c z b e
+    (λ d. record { entry = (λ h. cc, λ h. cc); end = (λ h. refl, λ h. k.entry.1 (plate_worked z Deposit DepEntry DepEnd d refl)) })
+done_plates GivePlate p c z b e sound k =
+    by_call (Give Z5) c z b e
+    (λ d. let off = emptied_end z.full (posture_at z Z5) (plate_given z Deposit Z5 d) in
+    record { entry = as_full b.entry _ _ off.1 k.entry; end = (λ h. cc, λ h. let none = off.0 in cc) })
+done_plates RunIn p c z b e sound k = cc
+done_plates RunOut p c z b e sound k = cc
+done_plates s p c z b e sound k = by_call _ c z b e (λ d. record { entry = k.entry; end = k.end })
 
 pub deposit-keeping : Keeping deposit_steps deposit_rig DepositInv DepositInv
 deposit-keeping = record {
   foreign = λ z p b n c apart sound i. record { knows = deposit-knowing.foreign p z n c apart sound i.knows; plates = plates_foreign z n c DepEntry DepEnd b sound apart apart i.plates };
   rests = λ z p b i. record { knows = i.knows; plates = plates_set z DepEntry DepEnd b false i.plates };
-  after_done = λ z p b c e d sound i. record { knows = deposit-knowing.after_done p z c e d sound i.knows; plates = done_plates p.step p c z b e d sound i.plates };
+  after_done = λ z p b c e d sound i. record { knows = deposit-knowing.after_done p z c e d sound i.knows; plates = done_plates p.step p c z b e sound i.plates d };
   after_inquiry = λ z p b c owner flag posture e d sound i. record { knows = i.knows; plates = plates_set z DepEntry DepEnd b false i.plates };
   after_drive = λ z p b s reading act e shows senses drives i. record { knows = deposit-knowing.after_drive p reading act z e drives i.knows; plates = plates_set z DepEntry DepEnd b act.belt i.plates };
   told = λ z p b i. i;

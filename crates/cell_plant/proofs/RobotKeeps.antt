@@ -300,12 +300,22 @@ stands_in a k (inr on) = on k.1
 arm1_has : (s : RobotStep) (z : ModelState) (r : RobotPlant) → AreSo Robot z (facts_at s) → StandsAt (arm1_at s) r.arm1 → StandsAt (rotation_at s) r.rotation → IsOut r.arm1 ⊎ IsOn r.arm1
     → (IsArm1AtTable r × HoldsIn OpenOut z Robot Z2) ⊎ (IsArm1InPress r × HoldsIn OpenIn z Robot Z3)
 arm1_has ReachTable z r k arm at out = search (inl, arith, ints)
-arm1_has s z r k arm at out = search (inl, inr, arith, ints, stands_in)
+arm1_has GripPlate z r k arm at out = search (inl, arith, ints)
+arm1_has LeaveTable z r k arm at out = search (inl, arith, ints)
+arm1_has ReachToLoad z r k arm at out = search (inr, arith, ints)
+arm1_has DropInPress z r k arm at out = search (inr, arith, ints)
+arm1_has LeaveLoaded z r k arm at out = search (inr, arith, ints)
+arm1_has s z r k arm at out = absurd (stands_in r.arm1 arm out)
 
 arm2_has : (s : RobotStep) (z : ModelState) (r : RobotPlant) → AreSo Robot z (facts_at s) → StandsAt (arm2_at s) r.arm2 → StandsAt (rotation_at s) r.rotation → IsOut r.arm2 ⊎ IsOn r.arm2
     → (IsArm2InPress r × HoldsIn OpenOut z Robot Z3) ⊎ (IsArm2AtDeposit r × HoldsIn OpenIn z Robot Z4)
 arm2_has ReachToUnload z r k arm at out = search (inl, arith, ints)
-arm2_has s z r k arm at out = search (inl, inr, arith, ints, stands_in)
+arm2_has GripForged z r k arm at out = search (inl, arith, ints)
+arm2_has LeaveUnloaded z r k arm at out = search (inl, arith, ints)
+arm2_has ReachDeposit z r k arm at out = search (inr, arith, ints)
+arm2_has DropOnDeposit z r k arm at out = search (inr, arith, ints)
+arm2_has LeaveDeposit z r k arm at out = search (inr, arith, ints)
+arm2_has s z r k arm at out = absurd (stands_in r.arm2 arm out)
 
 -- it rotates only with both arms in
 turns_in : (s : RobotStep) → turns s ≡ true → (arm1_at s ≡ Some RETRACTED) × (arm2_at s ≡ Some RETRACTED)

@@ -2,6 +2,7 @@
 use Rattle.cell_plant.proofs.Names.{◌≡◌, ◌≢◌, ◌∙◌, ◌-◌, ◌<◌, ℕ, List, [], ◌∷◌, ◌++◌, drop, length, Some, None, Result, Ok, refl, sym, ap, subst, arith, length-drop, ModelState, IsStartState, TurnCall, RunRecord, Turn, CellScales, CellState}
 use Rattle.cell_plant.proofs.Names.{cell_at_start, SeesRun, SeesBeginning, IsShown, frame_of, frames_of, frames_after, RunMoment, StepsOn, Keeps, first_moment, state_at, CellGauges, Step, IsRunBy, Frame, SeenFault, IsCut, result_of}
 use Rattle.cell_parts.specs.Axes.{AreCellScales}
+use Rattle.cell_plant.specs.declared.watcher.SeenFault.TheVariants.{Memory}
 use Rattle.cell_plant.proofs.RunSoFar.{RunSoFar, at_start, next_by, next_steps, tells, told_steps}
 
 -- some turns are left
@@ -10,6 +11,10 @@ left_none n i l e = omega arith
 
 pub some_left : (i : ℕ) (ts : List Turn) → i < length ts → drop i ts ≢ []
 some_left i ts l e = left_none (length ts) i l (sym (length-drop i ts) ∙ ap (λ (xs : List Turn). length xs) e)
+
+no_rest : (taken rest : List Turn) → [] ≡ taken ++ rest → rest ≡ []
+no_rest [] rest e = sym e
+no_rest (t ∷ ts) rest e = cc
 
 -- the frames of a run with one more turn
 frames_push : (c : CellScales) (gives : CellGauges) (w : CellState) (ts : List Turn) (ss : List Step) (t : Turn) (s : Step) → IsRunBy c gives w ts ss → frames_after (ts ++ t ∷ []) (ss ++ s ∷ []) ≡ frames_after ts ss ++ frame_of (Some t) s.asked s.moved ∷ []
@@ -28,8 +33,10 @@ module _ {W E G : Type 0} (sees : W → Frame → Result (Unit {0}) E → W → 
     pub run : RunSoFar gives turns m
     pub seen : IsShown sees w (frames_of m.opening turns run.steps) result v
 
-  pub starts_watched : (c : CellScales) (five : G) (opening : ModelState) (w v : W) (result : Result (Unit {0}) E) → sees w (frame_of None None (cell_at_start opening)) result v → Watched w v [] result (first_moment c five opening)
-  starts_watched c five opening w v result k = record { run = at_start gives c five opening; seen = k }
+  pub starts_watched : (opening : ModelState) (m : RunMoment G) (w v : W) (result : Result (Unit {0}) E) → m ≡ first_moment m.scales m.gauges opening → sees w (frame_of None None (state_at m)) result v → Watched w v [] result m
+  starts_watched opening m w v result begins k =
+      subst (Watched w v [] result) (sym begins)
+      (record { run = at_start gives m.scales m.gauges opening; seen = subst (λ (x : RunMoment G). sees w (frame_of None None (state_at x)) result v) begins k })
 
   module _ (turns : List Turn) (t : Turn) (before now : RunMoment G) (asked : TurnCall) (w u v : W) (result : Result (Unit {0}) E) (g : Watched w u turns (Ok tt) before) (o : StepsOn gives t before now asked)
       (k : sees u (frame_of (Some t) asked (state_at now)) result v) where
@@ -75,3 +82,7 @@ module _ {W E G : Type 0} (sees : W → Frame → Result (Unit {0}) E → W → 
       (subst (λ x. SeesBeginning sees c (gives x) m.opening all w v fault) fits
       (subst (λ x. SeesBeginning sees x (gives m.gauges) m.opening all w v fault) f
       (record { taken = turns; rest = rest; begins = e; cut = cut; steps = g.run.steps; run = g.run.run; seen = g.seen })))
+
+  -- memory doesn't run out in a run of no turn
+  pub none_cut : (c : CellScales) (given : CellGauges) (opening : ModelState) (turns : List Turn) (w v : W) → turns ≡ [] → SeesBeginning sees c given opening turns w v Memory → ⊥
+  none_cut c given opening turns w v none k = k.cut (no_rest k.taken k.rest (sym none ∙ k.begins))

@@ -28,6 +28,7 @@ use cell_types::Machine;
 use cell_unit::{SimFault, status_of, take_bench_turn};
 use std::alloc::Global;
 use std::marker::Model;
+use std::mem;
 
 /// Runs a schedule on a cell that was made for a start, over a bench that opens with this start. In
 /// a turn the controller of the turn's machine takes a step, and then its part moves for a tick;
@@ -82,18 +83,7 @@ pub fn simulate_seen<F1: Gauge, F2: Gauge, F3: Gauge, F4: Gauge, F5: Gauge, W: W
         (cell_gauges cell) opening turns.now watcher.old watcher.new) }
 {
     let mut simulation = Simulation::new(alloc, cell, opening);
-    if let Err(fault) = simulation.show(None, None, watcher) {
-        return Err(SeenFault::Watcher(fault));
-    }
-    'turns: for turn in turns {
-        let Ok(asked) = simulation.turn(*turn) else {
-            return Err(SeenFault::Memory);
-        };
-        if let Err(fault) = simulation.show(Some(*turn), asked, watcher) {
-            return Err(SeenFault::Watcher(fault));
-        }
-    }
-    Ok(simulation.into_record(opening))
+    simulation.run(alloc, opening, turns, watcher)
 }
 
 // A cell that runs over a bench under its watch, and what the machines note. As a value it is a
@@ -133,6 +123,40 @@ impl<F1: Gauge, F2: Gauge, F3: Gauge, F4: Gauge, F5: Gauge> Simulation<F1, F2, F
             bench: Bench::new(alloc, opening),
             notebooks: empty_notebooks(alloc),
         }
+    }
+
+    // Takes the turns of a schedule before a watcher, which sees the start first. Returns the record
+    // of the run.
+    #[inline(always)]
+    fn run<W: Watcher>(
+        &mut self,
+        alloc: Global,
+        opening: State,
+        turns: &[Turn],
+        watcher: &mut W,
+    ) -> Result<RunRecord, SeenFault<W::Fault>>
+        requires begins { self.old ≡ first_moment self.old.scales self.old.gauges opening }
+        requires start { IsStartState opening }
+        requires scales { AreCellScales self.old.scales }
+        ensures run { IfOk result (SeesRun W.sees self.old.scales (given_by
+            (record { arm1 = F1.gives; arm2 = F2.gives; rotation = F3.gives; turn = F4.gives; gripper = F5.gives })
+            self.old.gauges) opening turns.now watcher.old watcher.new) }
+        ensures ended { IfErr result (SeesBeginning W.sees self.old.scales (given_by
+            (record { arm1 = F1.gives; arm2 = F2.gives; rotation = F3.gives; turn = F4.gives; gripper = F5.gives })
+            self.old.gauges) opening turns.now watcher.old watcher.new) }
+    {
+        if let Err(fault) = self.show(None, None, watcher) {
+            return Err(SeenFault::Watcher(fault));
+        }
+        'turns: for turn in turns {
+            let Ok(asked) = self.turn(*turn) else {
+                return Err(SeenFault::Memory);
+            };
+            if let Err(fault) = self.show(Some(*turn), asked, watcher) {
+                return Err(SeenFault::Watcher(fault));
+            }
+        }
+        Ok(self.take_record(alloc, opening))
     }
 
     // One turn of the schedule: what was asked. It is called in one loop, and inlined there.
@@ -242,20 +266,21 @@ impl<F1: Gauge, F2: Gauge, F3: Gauge, F4: Gauge, F5: Gauge> Simulation<F1, F2, F
         }
     }
 
-    // The record of the run so far.
-    fn into_record(self, start: State) -> RunRecord
-        ensures { Keeps self start result }
+    // The record of the run so far. It takes the journals: no notebook has one after that.
+    fn take_record(&mut self, alloc: Global, start: State) -> RunRecord
+        ensures { Keeps self.old start result }
     {
         let status = self.status();
         let axes = self.axes();
         let counts = counts_in(&self.notebooks);
+        let notebooks = mem::replace(&mut self.notebooks, empty_notebooks(alloc));
         RunRecord {
             start,
             counts,
             status,
             end: Some(self.bench.state()),
             axes,
-            journals: journals_of(self.notebooks),
+            journals: journals_of(notebooks),
         }
     }
 

@@ -25,43 +25,141 @@ pub take_bench_turn-requires-in-Watch-clause-room : goal.take_bench_turn-require
 take_bench_turn-requires-in-Watch-clause-room g c = subst (λ (m : RunMoment _). HasRoom (at_machine m.notes Watch).counts) (sym c.self.view_is) (c.requires.room Watch)
 
 pub invariant_of-self : goal.invariant_of-self
-invariant_of-self g c = search (stays_ready, grows c.take_bench_turn.result _ _ _ _ _ _ _ _ _ c.take_bench_turn.ensures.turn c.take_bench_turn.ensures.failed)
+invariant_of-self g c =
+    let old = c.self.invariant in
+    let fitted = old.fitted in
+    let done = c.take_bench_turn.ensures in
+    let k = grows c.take_bench_turn.result _ _ _ _ _ _ _ _ _ done.turn done.failed in
+    record {
+      fitted = record { arm1 = fitted.arm1; arm2 = fitted.arm2; rotation = fitted.rotation; turn = fitted.turn; gripper = fitted.gripper };
+      feed = done.ready;
+      table = stays_ready _ _ _ _ k _ _ refl old.table;
+      robot = stays_ready _ _ _ _ k _ _ refl old.robot;
+      press = stays_ready _ _ _ _ k _ _ refl old.press;
+      deposit = stays_ready _ _ _ _ k _ _ refl old.deposit;
+      crane = stays_ready _ _ _ _ k _ _ refl old.crane;
+      watch = stays_ready _ _ _ _ k _ _ refl old.watch;
+    }
 
 pub invariant_of-self-in-Table : goal.invariant_of-self-in-Table
 invariant_of-self-in-Table g c =
-    let old = c.self.invariant.fitted in
+    let old = c.self.invariant in
+    let fitted = old.fitted in
     let done = c.take_bench_turn-in-Table.ensures in
     let k = grows c.take_bench_turn-in-Table.result _ _ _ _ _ _ _ _ _ done.turn done.failed in
-    search (stays_ready, k, done.make ∙ old.turn ∙ sym (ap (λ p. p.turn.points) done.program))
+    record {
+      fitted = record {
+        arm1 = fitted.arm1;
+        arm2 = fitted.arm2;
+        rotation = fitted.rotation;
+        turn = done.make ∙ fitted.turn ∙ sym (ap (λ p. p.turn.points) done.program);
+        gripper = fitted.gripper;
+      };
+      feed = stays_ready _ _ _ _ k _ _ refl old.feed;
+      table = done.ready;
+      robot = stays_ready _ _ _ _ k _ _ refl old.robot;
+      press = stays_ready _ _ _ _ k _ _ refl old.press;
+      deposit = stays_ready _ _ _ _ k _ _ refl old.deposit;
+      crane = stays_ready _ _ _ _ k _ _ refl old.crane;
+      watch = stays_ready _ _ _ _ k _ _ refl old.watch;
+    }
 
 pub invariant_of-self-in-Robot : goal.invariant_of-self-in-Robot
 invariant_of-self-in-Robot g c =
-    let old = c.self.invariant.fitted in
+    let old = c.self.invariant in
+    let fitted = old.fitted in
     let done = c.take_bench_turn-in-Robot.ensures in
     let k = grows c.take_bench_turn-in-Robot.result _ _ _ _ _ _ _ _ _ done.turn done.failed in
-    search (
-      stays_ready,
-      k,
-      ap (λ s. s.arm1) done.make ∙ old.arm1 ∙ sym (ap (λ p. p.arm1.points) done.program),
-      ap (λ s. s.arm2) done.make ∙ old.arm2 ∙ sym (ap (λ p. p.arm2.points) done.program),
-      ap (λ s. s.rotation) done.make ∙ old.rotation ∙ sym (ap (λ p. p.rotation.points) done.program),
-    )
+    record {
+      fitted = record {
+        arm1 = ap (λ s. s.arm1) done.make ∙ fitted.arm1 ∙ sym (ap (λ p. p.arm1.points) done.program);
+        arm2 = ap (λ s. s.arm2) done.make ∙ fitted.arm2 ∙ sym (ap (λ p. p.arm2.points) done.program);
+        rotation = ap (λ s. s.rotation) done.make ∙ fitted.rotation ∙ sym (ap (λ p. p.rotation.points) done.program);
+        turn = fitted.turn;
+        gripper = fitted.gripper;
+      };
+      feed = stays_ready _ _ _ _ k _ _ refl old.feed;
+      table = stays_ready _ _ _ _ k _ _ refl old.table;
+      robot = done.ready;
+      press = stays_ready _ _ _ _ k _ _ refl old.press;
+      deposit = stays_ready _ _ _ _ k _ _ refl old.deposit;
+      crane = stays_ready _ _ _ _ k _ _ refl old.crane;
+      watch = stays_ready _ _ _ _ k _ _ refl old.watch;
+    }
 
 pub invariant_of-self-in-Press : goal.invariant_of-self-in-Press
-invariant_of-self-in-Press g c = search (stays_ready, grows c.take_bench_turn-in-Press.result _ _ _ _ _ _ _ _ _ c.take_bench_turn-in-Press.ensures.turn c.take_bench_turn-in-Press.ensures.failed)
+invariant_of-self-in-Press g c =
+    let old = c.self.invariant in
+    let fitted = old.fitted in
+    let done = c.take_bench_turn-in-Press.ensures in
+    let k = grows c.take_bench_turn-in-Press.result _ _ _ _ _ _ _ _ _ done.turn done.failed in
+    record {
+      fitted = record { arm1 = fitted.arm1; arm2 = fitted.arm2; rotation = fitted.rotation; turn = fitted.turn; gripper = fitted.gripper };
+      feed = stays_ready _ _ _ _ k _ _ refl old.feed;
+      table = stays_ready _ _ _ _ k _ _ refl old.table;
+      robot = stays_ready _ _ _ _ k _ _ refl old.robot;
+      press = done.ready;
+      deposit = stays_ready _ _ _ _ k _ _ refl old.deposit;
+      crane = stays_ready _ _ _ _ k _ _ refl old.crane;
+      watch = stays_ready _ _ _ _ k _ _ refl old.watch;
+    }
 
 pub invariant_of-self-in-Deposit : goal.invariant_of-self-in-Deposit
-invariant_of-self-in-Deposit g c = search (stays_ready, grows c.take_bench_turn-in-Deposit.result _ _ _ _ _ _ _ _ _ c.take_bench_turn-in-Deposit.ensures.turn c.take_bench_turn-in-Deposit.ensures.failed)
+invariant_of-self-in-Deposit g c =
+    let old = c.self.invariant in
+    let fitted = old.fitted in
+    let done = c.take_bench_turn-in-Deposit.ensures in
+    let k = grows c.take_bench_turn-in-Deposit.result _ _ _ _ _ _ _ _ _ done.turn done.failed in
+    record {
+      fitted = record { arm1 = fitted.arm1; arm2 = fitted.arm2; rotation = fitted.rotation; turn = fitted.turn; gripper = fitted.gripper };
+      feed = stays_ready _ _ _ _ k _ _ refl old.feed;
+      table = stays_ready _ _ _ _ k _ _ refl old.table;
+      robot = stays_ready _ _ _ _ k _ _ refl old.robot;
+      press = stays_ready _ _ _ _ k _ _ refl old.press;
+      deposit = done.ready;
+      crane = stays_ready _ _ _ _ k _ _ refl old.crane;
+      watch = stays_ready _ _ _ _ k _ _ refl old.watch;
+    }
 
 pub invariant_of-self-in-Crane : goal.invariant_of-self-in-Crane
 invariant_of-self-in-Crane g c =
-    let old = c.self.invariant.fitted in
+    let old = c.self.invariant in
+    let fitted = old.fitted in
     let done = c.take_bench_turn-in-Crane.ensures in
     let k = grows c.take_bench_turn-in-Crane.result _ _ _ _ _ _ _ _ _ done.turn done.failed in
-    search (stays_ready, k, done.make ∙ old.gripper ∙ sym (ap (λ p. p.gripper.points) done.program))
+    record {
+      fitted = record {
+        arm1 = fitted.arm1;
+        arm2 = fitted.arm2;
+        rotation = fitted.rotation;
+        turn = fitted.turn;
+        gripper = done.make ∙ fitted.gripper ∙ sym (ap (λ p. p.gripper.points) done.program);
+      };
+      feed = stays_ready _ _ _ _ k _ _ refl old.feed;
+      table = stays_ready _ _ _ _ k _ _ refl old.table;
+      robot = stays_ready _ _ _ _ k _ _ refl old.robot;
+      press = stays_ready _ _ _ _ k _ _ refl old.press;
+      deposit = stays_ready _ _ _ _ k _ _ refl old.deposit;
+      crane = done.ready;
+      watch = stays_ready _ _ _ _ k _ _ refl old.watch;
+    }
 
 pub invariant_of-self-in-Watch : goal.invariant_of-self-in-Watch
-invariant_of-self-in-Watch g c = search (stays_ready, grows c.take_bench_turn-in-Watch.result _ _ _ _ _ _ _ _ _ c.take_bench_turn-in-Watch.ensures.turn c.take_bench_turn-in-Watch.ensures.failed)
+invariant_of-self-in-Watch g c =
+    let old = c.self.invariant in
+    let fitted = old.fitted in
+    let done = c.take_bench_turn-in-Watch.ensures in
+    let k = grows c.take_bench_turn-in-Watch.result _ _ _ _ _ _ _ _ _ done.turn done.failed in
+    record {
+      fitted = record { arm1 = fitted.arm1; arm2 = fitted.arm2; rotation = fitted.rotation; turn = fitted.turn; gripper = fitted.gripper };
+      feed = stays_ready _ _ _ _ k _ _ refl old.feed;
+      table = stays_ready _ _ _ _ k _ _ refl old.table;
+      robot = stays_ready _ _ _ _ k _ _ refl old.robot;
+      press = stays_ready _ _ _ _ k _ _ refl old.press;
+      deposit = stays_ready _ _ _ _ k _ _ refl old.deposit;
+      crane = stays_ready _ _ _ _ k _ _ refl old.crane;
+      watch = done.ready;
+    }
 
 pub returns-in-Feed : goal.returns-in-Feed
 returns-in-Feed g c = rw (sym c.self.view_is) (unit_on _ Feed c.args.turn _ _ c.take_bench_turn.result _ _ _ _ c.in-Feed.is (feed_others _ _ _ _) refl refl c.take_bench_turn.ensures.turn)
