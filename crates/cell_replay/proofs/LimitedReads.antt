@@ -1,8 +1,9 @@
 -- What a read does to a limited reader.
-use Rattle.std.proofs.Common.{ℕ, zero, suc, ◌≡◌, ◌<◌, ◌≤◌, ◌+◌, ◌-◌, List, [], length, take, drop, nat_lt, option_map, Option, Some, None, refl, sym, ◌∙◌, ap, arith, length-append, length-take, length-drop, append-nil, Bool}
+use Rattle.std.proofs.Common.{ℕ, zero, suc, ◌≡◌, ◌<◌, ◌≤◌, ◌+◌, ◌-◌, List, [], length, take, drop, nat_lt, option_map, Option, Some, None, refl, sym, ◌∙◌, ap, arith, length-append, length-take, length-drop, append-nil, Bool, false}
 use Rattle.std.proofs.Math.Seq.{drop-append_seam, take-append-add}
 use Rattle.std.proofs.lemmas.List.{drop-drop, take_all}
 use Rattle.std.proofs.lemmas.Option.{same_Some}
+use Rattle.std.proofs.lemmas.Bool.{le-ltb}
 use Rattle.std.proofs.lemmas.Bool.Decides.{nat_tests}
 use Rattle.std.proofs.lemmas.List.{take-append-drop}
 use Rattle.cell_text.specs.Input.{TakesAtMost}
@@ -57,6 +58,16 @@ noted-beyond known old new t n part full size taken read end is_cut e bytes is =
     written : (n size : ℕ) → (n ≡ 0 → size ≤ byte_limit) → (0 < n → byte_limit < size) → nat_lt 0 n ≡ nat_lt byte_limit size
     written zero size few_then more_then = let few = few_then refl in grind (arith, nat_tests)
     written (suc n) size few_then more_then = let more = more_then (omega arith) in grind (arith, nat_tests)
+
+-- at the end of the bytes that are used there are no more
+pub noted-end : (known old new : Option (List ℕ)) (t : ℕ) (part : List ℕ) → t ≤ byte_limit → length part ≡ 0 → IsTaken known old t → Consumes old new part → IsAtEnd new → IsNoted known (Some false)
+noted-end known old new t part within size taken read end is_cut e bytes is =
+    let b = taken bytes is in
+    let s = rest-consumed (drop t bytes) part new (rw b.1 at read) in
+    let none = none-at_end (drop (length part) (drop t bytes)) new s.1 end in
+    let rest = length-drop (length part) (drop t bytes) in
+    let room = length-drop t bytes in
+    sym (same_Some _ _ e) ∙ sym (le-ltb byte_limit (length bytes) (omega (arith, none, rest, room, size, within)))
 
 -- what a limited reader has left at first
 pub all-left : (known left : Option (List ℕ)) (written : Option Bool) (t : ℕ) (bytes : List ℕ) → written ≡ None → t ≡ 0 → IsTaken known left t → known ≡ Some bytes

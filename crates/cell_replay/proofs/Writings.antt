@@ -26,7 +26,7 @@ use Rattle.cell_replay.specs.declared.script.ReplayFault.TheVariants.{Read, Writ
 use Rattle.cell_replay.specs.Faults.{Leaves, WrotePrefix, WroteLines, replay_fault_of}
 use Rattle.cell_text.specs.declared.input.InputFault.{InputFault}
 use Rattle.cell_text.specs.declared.input.InputFault.TheVariants as input
-use Rattle.cell_replay.specs.Writing.{Writes, WritesEnd, WritesNext, WritesScript, lines_after, lines_left, outcome_left}
+use Rattle.cell_replay.specs.Writing.{Writes, WritesEnd, WritesLine, WritesNext, WritesScript, lines_after, lines_left, outcome_left}
 use Rattle.cell_replay.proofs.Lines.{event_lines-after, length-history_of, lines_after-more, lines_after-none, requests_in-bad, requests_in-more, requests_in-none}
 
 -- The records that are left.
@@ -221,11 +221,18 @@ rows-started is_cut row left rest s line old mid new r is good line_made wrote h
     let same : outcome_left s.version is_cut 0 rest ≡ rows_outcome is_cut left = outcome-started is_cut (start_in row) s rest good ∙ sym (ap (rows_outcome is_cut) is) in
     writes-through (start_line s ∷ []) (lines_left s.version 0 s.state rest) (rows_lines is_cut left) (outcome_left s.version is_cut 0 rest) (rows_outcome is_cut left) old mid new r (subst (Appends old mid) one wrote) whole same h
 
-pub rows-unwritten : (is_cut : Bool) (row : Row) (left rest : List Row) (s : Start) (line : List ℕ) (old new : Option (List ℕ)) → left ≡ row ∷ rest → start_in row ≡ Ok s → line ≡ start_line s → WrotePrefix old new line
+rows-unwritten : (is_cut : Bool) (row : Row) (left rest : List Row) (s : Start) (line : List ℕ) (old new : Option (List ℕ)) → left ≡ row ∷ rest → start_in row ≡ Ok s → line ≡ start_line s → WrotePrefix old new line
     → WrotePrefix old new (concat (rows_lines is_cut left))
 rows-unwritten is_cut row left rest s line old new is good line_made h =
     let whole : rows_lines is_cut left ≡ start_line s ∷ lines_left s.version 0 s.state rest = ap (rows_lines is_cut) is ∙ lines-started (start_in row) s rest good in
     prefix-more line (concat (lines_left s.version 0 s.state rest)) (concat (rows_lines is_cut left)) old new (ap concat whole ∙ ap (λ l. l ++ concat (lines_left s.version 0 s.state rest)) (sym line_made)) h
+
+-- or the line of record 0 couldn't be written
+pub rows-unstarted : (is_cut : Bool) (row : Row) (left rest : List Row) (s : Start) (old new : Option (List ℕ)) (fault : ReplayFault) → left ≡ row ∷ rest → start_in row ≡ Ok s → WritesLine (start_line s) old new (Err fault)
+    → Writes (rows_lines is_cut left) (rows_outcome is_cut left) old new (Err fault)
+rows-unstarted is_cut row left rest s old new Read is good h = absurd h
+rows-unstarted is_cut row left rest s old new Memory is good h = (0, kept-none old new h)
+rows-unstarted is_cut row left rest s old new Write is good h = rows-unwritten is_cut row left rest s (start_line s) old new is good refl h
 
 pub writes-residual : (r : Result Outcome ReplayFault) (fault : InputFault) (lines : List (List ℕ)) (end : Outcome) (old : Option (List ℕ)) → IsErrAnd r (λ given. given ≡ replay_fault_of fault) → Writes lines end old old r
 writes-residual (Ok o) fault lines end old h = absurd h

@@ -56,6 +56,13 @@ Writes lines outcome old new (Err Read) = WroteLines old new lines
 Writes lines outcome old new (Err Memory) = WroteLines old new lines
 Writes lines outcome old new (Err Write) = WrotePrefix old new (concat lines)
 
+-- a line is written; or out of memory; or a prefix of it is written
+abbrev pub WritesLine : List ℕ → Option (List ℕ) → Option (List ℕ) → Result (Unit {0}) ReplayFault → Type 0
+WritesLine line old new (Ok done) = Appends old new line
+WritesLine line old new (Err Read) = ⊥
+WritesLine line old new (Err Memory) = Keeps old new
+WritesLine line old new (Err Write) = WrotePrefix old new line
+
 -- the last line of a refused script is written; or out of memory; or a prefix of it is written
 abbrev pub WritesEnd : Outcome → Option (List ℕ) → Option (List ℕ) → Result Outcome ReplayFault → Type 0
 WritesEnd outcome old new (Ok o) = (o ≡ outcome) × Appends old new (end_text outcome)

@@ -7,7 +7,7 @@ ghost use Rattle.csv_rows.specs.Rows.{IsPlain};
 ghost use Rattle.cell_replay.specs.Script as script;
 ghost use Rattle.cell_replay.specs.Script.{is_cut_of, line_of, max_records, start_line};
 ghost use Rattle.cell_replay.specs.ScriptRecords.{ForLeft, HasLeft, WritesLater, WritesRows};
-ghost use Rattle.cell_replay.specs.Writing.{WritesNext};
+ghost use Rattle.cell_replay.specs.Writing.{WritesLine, WritesNext};
 
 use crate::lent::{LentReader, Origin};
 use crate::records::Records;
@@ -43,15 +43,23 @@ pub fn answer_rows<L: LentReader, K: Origin, W: Write>(
         }));
     }
     match read_start(records.row()) {
-        Ok(start) => {
-            let mut line = String::new(alloc);
-            push_start(&mut line, &start)?;
-            match write_bytes(writer, line.as_str().as_bytes()) {
-                Ok(()) => answer_later(alloc, records, start, writer),
-                Err(_) => Err(ReplayFault::Write),
-            }
-        }
+        Ok(start) => match write_start(alloc, &start, writer) {
+            Ok(()) => answer_later(alloc, records, start, writer),
+            Err(fault) => Err(fault),
+        },
         Err(fault) => Ok(Outcome::Refused(fault)),
+    }
+}
+
+/// Writes the line of record 0.
+fn write_start<W: Write>(alloc: Global, start: &Start, writer: &mut W) -> Result<(), ReplayFault>
+    ensures written { WritesLine (start_line start.now) (W.contents writer.old) (W.contents writer.new) result }
+{
+    let mut text = String::new(alloc);
+    push_start(&mut text, start)?;
+    match write_bytes(writer, text.as_str().as_bytes()) {
+        Ok(()) => Ok(()),
+        Err(_) => Err(ReplayFault::Write),
     }
 }
 
