@@ -3,7 +3,7 @@ use Rattle.cell_rules.proofs.Names.{◌≡◌, pos, Bool, true, false, ◌&&◌,
 use Rattle.cell_rules.proofs.Names.{DepEnd, Posture, Closed, Moving, OpenIn, Pose, Running, Call, Claim, Give, Yield, Take, Release, SetPose, Advance, Done, Event, PlaceFull, InUse, host_of, transfer_of, posture_of, same_machine, same_zone}
 use Rattle.cell_rules.proofs.Names.{same_posture, same_pose, one_posture, PlaceSet, has, ModelState, zone_at, is_full, one_if, implies, is_party, owns, owner_of, posture_at, transfer_given, given_by, give_refusal, yield_refusal}
 use Rattle.cell_rules.proofs.Names.{release_refusal, pose_refusal, reply, changed, next, emptied, filled, is_belt_of, after, posture_given, plates_at, OneHolder, PlatesAreKept, PostureByEvents, RunsClear, BeltsRunClear}
-use Rattle.cell_rules.proofs.Tables.{implied, all_machines, all_poses, all_postures, machines, poses, postures, holds3}
+use Rattle.cell_rules.proofs.Tables.{never, and_both, implied, all_machines, all_poses, all_postures, machines, poses, postures, holds3}
 use Rattle.cell_rules.proofs.Done.{none_then, give_done}
 use Rattle.cell_rules.proofs.Plates.{fourth, emptied_fewer}
 use Rattle.cell_rules.proofs.Soundness.{done_none, next_cases}
@@ -15,8 +15,10 @@ use Rattle.cell_rules.proofs.Accepted.{yield_out_of_use, release_out_of_use, pos
 
 -- unless z1 is in use, feed doesn't leave it while running with a plate at its end
 unless_in_use : (feed : Bool) (belt : Posture) (at_end any : Bool) → (feed && same_zone Z1 Z1 && same_posture belt Moving && at_end) ≡ false → feed ≡ true → belt ≡ Moving → at_end ≡ true → any ≡ true
-unless_in_use true Moving true any none is_feed moving full = cc
-unless_in_use _ _ _ any none is_feed moving full = cc
+unless_in_use feed belt at_end any none is_feed moving full =
+    let in_use : (feed && same_zone Z1 Z1 && same_posture belt Moving && at_end) ≡ true =
+    and_both (feed && same_zone Z1 Z1 && same_posture belt Moving) at_end (and_both (feed && same_zone Z1 Z1) (same_posture belt Moving) (and_both feed (same_zone Z1 Z1) is_feed refl) (ap (λ q. same_posture q Moving) moving)) full in
+    absurd (never (sym in_use ∙ none))
 
 -- ---- places
 
@@ -29,7 +31,8 @@ unfilled full _ _ = (refl, refl)
 -- what is given through z1 comes from the feed belt's end
 gone : (full : PlaceSet) (q : Posture) (m : Machine) → is_some (given_by m (transfer_of Z1 q)) ≡ true → has (emptied full (given_by m (transfer_of Z1 q))) FeedEnd ≡ false
 gone full OpenIn Feed e = refl
-gone full _ _ e = cc
+gone full OpenIn m e = absurd (never (sym e))
+gone full _ m e = absurd (never (sym e))
 
 -- ---- a belt starts
 
@@ -63,11 +66,11 @@ was_full : (s : ModelState) (m : Machine) (z : Zone) (p : Place) → is_full (ch
 was_full s m z p e = implied (is_full (changed s m (Give z)) p) (is_full s p) (emptied_fewer s.full (transfer_given s m z) p) e
 
 feed_clear : (s : ModelState) (m : Machine) (c : Call) → RunsClear s → reply s m c ≡ Done → posture_given m c Z6 (posture_at s Z6) ≡ Moving → is_full (changed s m c) FeedEnd ≡ true → owns (changed s m c) Feed Z1 ≡ true
-feed_clear s m (Claim Z1) r e moving full = let own = r.feed moving full in let free = claim_unowned s m Z1 e Feed in cc
+feed_clear s m (Claim Z1) r e moving full = absurd (never (sym (r.feed moving full) ∙ claim_unowned s m Z1 e Feed))
 feed_clear s m (Give Z1) r e moving full =
     let may = (give_done s m Z1 (done_none (give_refusal s m Z1) e)).0 in
     let empty = gone s.full (posture_at s Z1) m (fourth (is_party m Z1) (owns s m Z1) (not (zone_at s Z1).flag) (is_some (transfer_given s m Z1)) may) in
-    cc
+    absurd (never (sym full ∙ empty))
 feed_clear s m (Give z) r e moving full = r.feed moving (was_full s m z FeedEnd full)
 feed_clear s m (Yield Z1) r e moving full =
     let is_feed = sym (owned_as (owner_of s Z1) m Feed (yield_owned s m Z1 e)) ∙ r.feed moving full in
@@ -82,7 +85,7 @@ feed_clear s m (SetPose p) r e moving full =
       | inl moved ↦ r.feed moved full
       | inr runs ↦ feed_starts (same_pose p Running) (same_machine m Deposit && is_full s DepEnd) (same_machine m Feed) (is_full s FeedEnd) (owns s Feed Z1) (none_then _ PlaceFull (pose_fits s m p (done_none (pose_refusal s m p) e)).2) runs full
     ]
-feed_clear s Feed Advance r e moving full = cc
+feed_clear s Feed Advance r e moving full = absurd (never (sym (ap (λ q. same_posture q Moving) moving)))
 feed_clear s m _ r e moving full = r.feed moving full
 
 -- while a zone of the deposit belt moves, the belt's end is empty

@@ -1,5 +1,5 @@
 -- What holds if a call isn't refused.
-use Rattle.cell_rules.proofs.Names.{◌≡◌, ◌<◌, ℕ, zero, suc, Bool, true, false, ◌&&◌, not, nat_lt, Option, Some, None, List, [], ◌∷◌, refl, is_none, is_some, ltb-true, then_some, Machine, Watch, Zone, Z1, Z2, Z3, Z4, Z5, Z6, Place, Pose}
+use Rattle.cell_rules.proofs.Names.{◌≡◌, ◌+◌, ◌<◌, ◌≤◌, ℕ, zero, suc, Bool, true, false, ◌&&◌, not, nat_lt, Option, Some, None, List, [], ◌∷◌, refl, is_none, is_some, arith, ltb-true, then_some, Machine, Watch, Zone, Z1, Z2, Z3, Z4, Z5, Z6, Place, Pose}
 use Rattle.cell_rules.proofs.Names.{Transfer, Moving, Refusal, Held, NoPose, guest_of, transfer_of, same_machine, same_posture, own_move_of, ModelState, zone_at, is_open, is_party, is_owned_by, ZoneState}
 use Rattle.cell_rules.specs.Refusals
 use Rattle.cell_rules.proofs.Tables.{and_both}
@@ -28,6 +28,9 @@ free (Some o) m e h = let p : same_machine o m ≡ true = none_then_not (same_ma
 
 pub fresh : (s : ModelState) → Refusals.worn s ≡ None → s.stamp < 1048575
 fresh s e = let h : nat_lt s.stamp 1048575 ≡ true = none_then_not _ _ e in ltb-true _ _ h
+
+pub one_more : (n : ℕ) → n < 1048575 → n + 1 ≤ 1048575
+one_more n small = omega arith
 
 -- what holds of the zone, for each call
 abbrev pub may_claim : ZoneState → Machine → Zone → Bool

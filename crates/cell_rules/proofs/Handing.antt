@@ -1,7 +1,8 @@
 -- Jumps, handovers, refusals and changes along a history.
-use Rattle.cell_rules.proofs.Names.{◌≡◌, ◌≢◌, ℕ, ◌+◌, Bool, true, false, cond, ◌&&◌, not, None, List, [], ◌∷◌, ◌++◌, refl, sym, ap, arith, subst, and-true, and-false, sum_by-cons, Machine, Press, Table, Zone, Z1, Z2, Z3, Moving, Pose}
+use Rattle.cell_rules.proofs.Names.{◌≡◌, ◌≢◌, ℕ, ◌+◌, Bool, true, false, cond, ◌&&◌, not, None, is_some, List, [], ◌∷◌, ◌++◌, refl, sym, ap, arith, subst, and-true, and-false, sum_by-cons, Machine, Press, Table, Zone, Z1, Z2, Z3, Moving, Pose}
 use Rattle.cell_rules.proofs.Names.{Turning, Loading, Unloading, Travelling, Middle, Low, Top, Call, Give, Yield, Take, Release, SetPose, Event, same_machine, Done, ModelState, IsSound, reply, owns, owner_of, posture_at, pose_refusal}
 use Rattle.cell_rules.proofs.Names.{after, IsLegal, own_events, is_done, done_count, changes_by_others, Throughout, HandoverByHolder, done, NoJump, HasZone, ChangesAreCounted, RefusalsTellAlong, refused}
+use Rattle.cell_rules.proofs.Tables.{never}
 use Rattle.cell_rules.proofs.Soundness.{done_none}
 use Rattle.cell_rules.proofs.Histories.{sound-after}
 use Rattle.cell_rules.proofs.Holders.{owner_is, give_owned, yield_owned, take_owned, release_owned}
@@ -14,14 +15,14 @@ table_moves : (s : ModelState) (p : Pose) → pose_refusal s Table p ≡ None �
 table_moves s Turning e other = absurd (other refl)
 table_moves s Loading e other = (no_jump s Table Loading e refl refl Z1 refl, no_jump s Table Loading e refl refl Z2 refl)
 table_moves s Unloading e other = (no_jump s Table Unloading e refl refl Z1 refl, no_jump s Table Unloading e refl refl Z2 refl)
-table_moves s _ e other = cc
+table_moves s _ e other = absurd (never (ap is_some e))
 
 press_moves : (s : ModelState) (p : Pose) → pose_refusal s Press p ≡ None → p ≢ Travelling → posture_at s Z3 ≡ Moving
 press_moves s Travelling e other = absurd (other refl)
 press_moves s Middle e other = no_jump s Press Middle e refl refl Z3 refl
 press_moves s Low e other = no_jump s Press Low e refl refl Z3 refl
 press_moves s Top e other = no_jump s Press Top e refl refl Z3 refl
-press_moves s _ e other = cc
+press_moves s _ e other = absurd (never (ap is_some e))
 
 pub no_jump_along : (s : ModelState) (h : List Event) → IsLegal s h → NoJump s h
 no_jump_along s h l = record {

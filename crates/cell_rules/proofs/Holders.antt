@@ -1,20 +1,17 @@
 -- A machine that holds a zone, by the test of each event, owns it in the state after.
 use Rattle.cell_rules.proofs.Names.{◌≡◌, Bool, true, false, ◌&&◌, ◌||◌, not, Option, Some, None, is_none, List, [], ◌∷◌, refl, sym, ap, ◌∙◌, subst, if◌then◌else◌, and-true, and-false, Machine, Zone, Closed, Call, Claim, Give, Yield, Take}
-use Rattle.cell_rules.proofs.Names.{Release, SetPose, Advance, Inquire, Done, Event, same_machine, same_zone, one_machine, zone_in, put_zone, ModelState, zone_at, is_owned_by, is_party, owns, owner_of, claim_refusal, give_refusal}
+use Rattle.cell_rules.proofs.Names.{Release, SetPose, Advance, Inquire, Done, Event, same_machine, same_zone, zone_in, put_zone, ModelState, zone_at, is_owned_by, is_party, owns, owner_of, claim_refusal, give_refusal}
 use Rattle.cell_rules.proofs.Names.{yield_refusal, take_refusal, release_refusal, reply, next, changed, other_party, posed, halted, is_belt_of, after, IsLegal, is_gain, is_loss, ZoneState, gains, loses}
 use Rattle.cell_rules.proofs.Tables.{and_left, and_right, from_machines}
 use Rattle.cell_rules.proofs.Puts.{each_zone, zone_in-map, zone_in-kept, put_cases}
 use Rattle.cell_rules.proofs.Done.{claim_done, give_done, yield_done, take_done, release_done}
+pub use Rattle.cell_rules.proofs.Lawful.{owner_is}
 use Rattle.cell_rules.proofs.Kept.{claimed, yielded, released}
 use Rattle.cell_rules.proofs.Plates.{given, taken}
 use Rattle.cell_rules.proofs.Soundness.{done_none, event_cases}
 use Rattle.cell_rules.proofs.Held.{holds_since, holds}
 
 -- ---- the owner of a zone
-
-pub owner_is : (o : Option Machine) (m : Machine) → is_owned_by o m ≡ true → o ≡ Some m
-owner_is None m e = cc
-owner_is (Some n) m e = ap (λ x. Some x) (one_machine n m e)
 
 -- what one machine owns another owns if the two are one
 pub owned_as : (o : Option Machine) (n m : Machine) → is_owned_by o n ≡ true → is_owned_by o m ≡ same_machine n m

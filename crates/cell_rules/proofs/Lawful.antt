@@ -1,6 +1,6 @@
 -- What soundness says of one zone, as one test.
-use Rattle.cell_rules.proofs.Names.{◌≡◌, ◌≤◌, Bool, true, false, ◌&&◌, not, is_none, refl, sym, ◌∙◌, beq, Zone, Z3, PressIn, PressOut, Posture, Closed, Moving, OpenIn, OpenOut, transfer_of, same_posture, PlaceSet, has, ModelState, zone_at}
-use Rattle.cell_rules.proofs.Names.{IsSound, implies, has_lawful_owner, is_onto_full, is_lawful_plate, is_open_to_guest, moves_by_host, is_of_some_pose, ZoneState}
+use Rattle.cell_rules.proofs.Names.{◌≡◌, ◌≤◌, Bool, true, false, ◌&&◌, not, is_none, Option, Some, None, refl, sym, ap, ◌∙◌, beq, Machine, Zone, Z3, PressIn, PressOut, Posture, Closed, Moving, OpenIn, OpenOut, transfer_of, same_posture, PlaceSet, has, ModelState, zone_at}
+use Rattle.cell_rules.proofs.Names.{IsSound, host_of, one_machine, is_owned_by, implies, has_lawful_owner, is_onto_full, is_lawful_plate, is_open_to_guest, moves_by_host, is_of_some_pose, ZoneState}
 use Rattle.cell_rules.proofs.Puts.{each_zone}
 use Rattle.cell_rules.proofs.Tables.{and_both, zones, postures, holds2}
 
@@ -20,9 +20,12 @@ beq_same _ _ e = cc
 pub of_some_pose : (z : Zone) (q : Posture) → is_of_some_pose z q ≡ can_be_in z q
 of_some_pose z q = beq_same _ _ (holds2 zones postures (λ z q. beq (is_of_some_pose z q) (can_be_in z q)) refl z q)
 
+abbrev pub press_suits : Bool → Bool → Zone → Posture → Bool
+press_suits in_full out_full Z3 q = not (in_full && out_full) && implies (same_posture q OpenIn) (not out_full)
+press_suits in_full out_full _ q = true
+
 abbrev pub press_is_lawful : Bool → Bool → Zone → ZoneState → Bool
-press_is_lawful in_full out_full Z3 v = not (in_full && out_full) && implies (same_posture v.posture OpenIn) (not out_full)
-press_is_lawful in_full out_full _ v = true
+press_is_lawful in_full out_full z v = press_suits in_full out_full z v.posture
 
 -- first whether the place where the zone's plate would go is full, then whether the press's two places are
 abbrev pub is_lawful : Bool → Bool → Bool → Zone → ZoneState → Bool
@@ -38,6 +41,34 @@ and_six a b c d e f ha hb hc hd he hf = and_both a _ ha (and_both b _ hb (and_bo
 six : (a b c d e f : Bool) → (a && (b && (c && (d && (e && f))))) ≡ true → (a ≡ true) × (b ≡ true) × (c ≡ true) × (d ≡ true) × (e ≡ true) × (f ≡ true)
 six true true true true true true h = (refl, refl, refl, refl, refl, refl)
 six _ _ _ _ _ _ h = cc
+
+pub record Parts (onto in_full out_full : Bool) (z : Zone) (v : ZoneState) : Type 0 where
+  pub owner : has_lawful_owner z v ≡ true
+  pub plate : is_lawful_plate onto z v ≡ true
+  pub guest : is_open_to_guest z v ≡ true
+  pub host : moves_by_host z v ≡ true
+  pub posture : can_be_in z v.posture ≡ true
+  pub press : press_is_lawful in_full out_full z v ≡ true
+
+pub parts_of : (onto in_full out_full : Bool) (z : Zone) (v : ZoneState) → is_lawful onto in_full out_full z v ≡ true → Parts onto in_full out_full z v
+parts_of onto in_full out_full z v h =
+    let parts = six (has_lawful_owner z v) (is_lawful_plate onto z v) (is_open_to_guest z v) (moves_by_host z v) (can_be_in z v.posture) (press_is_lawful in_full out_full z v) h in
+    record { owner = parts.0; plate = parts.1; guest = parts.2; host = parts.3; posture = parts.4; press = parts.5 }
+
+pub lawful_of : (onto in_full out_full : Bool) (z : Zone) (v : ZoneState) → Parts onto in_full out_full z v → is_lawful onto in_full out_full z v ≡ true
+lawful_of onto in_full out_full z v p =
+    and_six (has_lawful_owner z v) (is_lawful_plate onto z v) (is_open_to_guest z v) (moves_by_host z v) (can_be_in z v.posture) (press_is_lawful in_full out_full z v) p.owner p.plate p.guest p.host p.posture p.press
+
+pub owner_is : (o : Option Machine) (m : Machine) → is_owned_by o m ≡ true → o ≡ Some m
+owner_is None m e = cc
+owner_is (Some n) m e = ap (λ x. Some x) (one_machine n m e)
+
+-- a zone that its host owns, with no plate in it
+abbrev pub of_host : Zone → Posture → ZoneState
+of_host z q = record { owner = Some (host_of z); flag = false; posture = q }
+
+pub put_by_host : (v : ZoneState) (z : Zone) (q : Posture) → is_owned_by v.owner (host_of z) ≡ true → v.flag ≡ false → record v { posture = q } ≡ of_host z q
+put_by_host v z q o f = let own : v.owner ≡ Some (host_of z) = owner_is v.owner (host_of z) o in λ i. record { owner = own i; flag = f i; posture = q }
 
 pub lawful_from : (s : ModelState) → IsSound s → (z : Zone) → lawful_in s.full z (zone_at s z) ≡ true
 lawful_from s h =

@@ -1,12 +1,11 @@
 -- A call that moves a plate keeps a sound state sound.
-use Rattle.cell_rules.proofs.Names.{◌≡◌, ◌+◌, ◌≤◌, Bool, true, false, ◌&&◌, ◌||◌, not, cond, Option, Some, None, is_some, if◌then◌else◌, refl, sym, ap, ◌∙◌, subst, arith, Machine, Zone, Place, PressIn, PressOut, Transfer, Posture}
-use Rattle.cell_rules.proofs.Names.{PlaceFull, Give, Take, transfer_of, same_place, same_zone, same_machine, PlaceSet, has, ModelState, zone_at, IsSound, implies, is_onto_full, is_party, is_owned_by, give_refusal, take_refusal}
+use Rattle.cell_rules.proofs.Names.{◌≡◌, Bool, true, false, ◌&&◌, ◌||◌, not, cond, Option, Some, None, is_some, if◌then◌else◌, refl, sym, ap, ◌∙◌, subst, Machine, Zone, Z3, Place, PressIn, PressOut, Transfer, Posture, OpenIn}
+use Rattle.cell_rules.proofs.Names.{PlaceFull, Give, Take, transfer_of, same_place, same_zone, same_machine, same_posture, PlaceSet, has, ModelState, zone_at, IsSound, implies, is_onto_full, is_lawful_plate, is_received_by, is_party, is_owned_by, give_refusal, take_refusal}
 use Rattle.cell_rules.proofs.Names.{transfer_given, given_by, changed, other_party, emptied, filled, ZoneState, no_room}
-use Rattle.cell_rules.proofs.Tables.{all_bools, from_bools, all_zones, all_states, bools, zones, states, postures, holds3, holds4, implied, and_both}
+use Rattle.cell_rules.proofs.Tables.{all_bools, from_bools, bools, machines, zones, states, postures, zone_state, holds2, holds3, holds4, implied, and_both, and_left, and_right}
 use Rattle.cell_rules.proofs.Puts.{zone_in-kept, put_cases, has-put}
-use Rattle.cell_rules.proofs.Lawful.{is_lawful, lawful_in, lawful_from, sound_from}
-use Rattle.cell_rules.proofs.Done.{may_give, may_take, give_done, take_done, none_then, not_true}
-use Rattle.cell_rules.proofs.Kept.{All, from_all}
+use Rattle.cell_rules.proofs.Lawful.{can_be_in, press_suits, press_is_lawful, is_lawful, lawful_in, parts_of, lawful_of, lawful_from, sound_from}
+use Rattle.cell_rules.proofs.Done.{give_done, take_done, none_then, not_true, one_more}
 
 -- ---- fewer full places keep a zone lawful
 
@@ -14,15 +13,30 @@ use Rattle.cell_rules.proofs.Kept.{All, from_all}
 abbrev pub fewer : Bool → Bool → Bool
 fewer b c = implies b c
 
-abbrev less_test : Bool → Bool → Bool → Bool → Bool → Bool → Zone → ZoneState → Bool
-less_test b c i j o p z v = implies (fewer b c && (fewer i j && (fewer o p && is_lawful c j p z v))) (is_lawful b i o z v)
+abbrev plate_test : Bool → Bool → Bool → Bool → Bool
+plate_test flag received b c = implies (fewer b c && implies flag (received && not c)) (implies flag (received && not b))
+
+pub plate_fewer : (b c : Bool) (z : Zone) (v : ZoneState) → fewer b c ≡ true → is_lawful_plate c z v ≡ true → is_lawful_plate b z v ≡ true
+plate_fewer b c z v less h =
+    let received = is_received_by v.owner (transfer_of z v.posture) in
+    implied (fewer b c && implies v.flag (received && not c)) (implies v.flag (received && not b)) (holds4 bools bools bools bools plate_test refl v.flag received b c) (and_both (fewer b c) (implies v.flag (received && not c)) less h)
+
+abbrev press_test : Bool → Bool → Bool → Bool → Bool → Bool
+press_test inward i j o p = implies (fewer i j && (fewer o p && (not (j && p) && implies inward (not p)))) (not (i && o) && implies inward (not o))
+
+press_fewer : (i j o p : Bool) (z : Zone) (v : ZoneState) → fewer i j ≡ true → fewer o p ≡ true → press_is_lawful j p z v ≡ true → press_is_lawful i o z v ≡ true
+press_fewer i j o p Z3 v hi ho h =
+    let inward = same_posture v.posture OpenIn in
+    let before = not (j && p) && implies inward (not p) in
+    implied (fewer i j && (fewer o p && before)) (not (i && o) && implies inward (not o))
+    (holds4 bools bools bools bools (press_test inward) (from_bools (λ inward. all_bools (λ i. all_bools (λ j. all_bools (λ o. all_bools (press_test inward i j o))))) refl inward) i j o p)
+    (and_both (fewer i j) (fewer o p && before) hi (and_both (fewer o p) before ho h))
+press_fewer i j o p _ v hi ho h = refl
 
 pub lawful_less : (b c i j o p : Bool) (z : Zone) (v : ZoneState) → fewer b c ≡ true → fewer i j ≡ true → fewer o p ≡ true → is_lawful c j p z v ≡ true → is_lawful b i o z v ≡ true
 lawful_less b c i j o p z v hb hi ho h =
-    implied (fewer b c && (fewer i j && (fewer o p && is_lawful c j p z v))) (is_lawful b i o z v)
-    (holds4 zones states bools bools (λ z v b c. less_test b c i j o p z v)
-    (holds4 bools bools bools bools (λ i j o p. all_zones (λ z. all_states (λ v. all_bools (λ b. all_bools (λ c. less_test b c i j o p z v))))) refl i j o p) z v b c)
-    (and_both (fewer b c) _ hb (and_both (fewer i j) _ hi (and_both (fewer o p) _ ho h)))
+    let parts = parts_of c j p z v h in
+    lawful_of b i o z v (record { owner = parts.owner; plate = plate_fewer b c z v hb parts.plate; guest = parts.guest; host = parts.host; posture = parts.posture; press = press_fewer i j o p z v hi ho parts.press })
 
 fewer_same : (b c : Bool) → b ≡ c → fewer b c ≡ true
 fewer_same true c e = sym e
@@ -49,8 +63,21 @@ onto_emptied full row (Some t) = emptied_fewer full row t.to
 abbrev pub given : ZoneState → Machine → Zone → ZoneState
 given v m z = record v { owner = Some (other_party m z); flag = true }
 
-abbrev give_test : Bool → Bool → Bool → Machine → Zone → ZoneState → Bool
-give_test b i o m z v = implies (is_lawful b i o z v && (may_give v m z && not b)) (is_lawful b i o z (given v m z))
+abbrev give_test : Machine → Zone → Posture → Bool → Bool → Bool
+give_test m z q i o =
+    implies (is_party m z && (is_some (given_by m (transfer_of z q)) && (can_be_in z q && press_suits i o z q))) (is_lawful false i o z (zone_state (Some (other_party m z)) true q))
+
+given_right : (m : Machine) (z : Zone) (q : Posture) (i o : Bool) → give_test m z q i o ≡ true
+given_right m z q i o = holds2 bools bools (give_test m z q) (holds3 machines zones postures (λ m z q. all_bools (λ i. all_bools (give_test m z q i))) refl m z q) i o
+
+-- a zone stays lawful that a plate is given into, if there is room where the plate goes
+given_stays : (b i o : Bool) (m : Machine) (z : Zone) (v : ZoneState) → can_be_in z v.posture ≡ true → press_suits i o z v.posture ≡ true → is_party m z ≡ true → is_some (given_by m (transfer_of z v.posture)) ≡ true
+    → b ≡ false → is_lawful b i o z (given v m z) ≡ true
+given_stays b i o m z v posture press party some room =
+    let rest = can_be_in z v.posture && press_suits i o z v.posture in
+    subst (λ b. is_lawful b i o z (given v m z) ≡ true) (sym room)
+    (implied (is_party m z && (is_some (given_by m (transfer_of z v.posture)) && rest)) (is_lawful false i o z (given v m z)) (given_right m z v.posture i o)
+    (and_both (is_party m z) _ party (and_both (is_some (given_by m (transfer_of z v.posture))) rest some (and_both (can_be_in z v.posture) (press_suits i o z v.posture) posture press))))
 
 pub false_by : (t b : Bool) → b ≡ false → cond t false b ≡ false
 false_by true b e = refl
@@ -77,20 +104,19 @@ fourth _ _ _ d e = cc
 pub give_keeps : (s : ModelState) (m : Machine) (z : Zone) → IsSound s → give_refusal s m z ≡ None → IsSound (changed s m (Give z))
 give_keeps s m z h e =
     let may = give_done s m z e in
-    let small : s.stamp + 1 ≤ 1048575 = omega arith in
     let v = zone_at s z in
     let row = transfer_given s m z in
     let full = emptied s.full row in
     let after : (y : Zone) → lawful_in full y (zone_at s y) ≡ true = λ y.
     lawful_less (is_onto_full full (transfer_of y (zone_at s y).posture)) (is_onto_full s.full (transfer_of y (zone_at s y).posture)) (has full PressIn) (has s.full PressIn) (has full PressOut) (has s.full PressOut) y (zone_at s y)
     (onto_emptied s.full row (transfer_of y (zone_at s y).posture)) (emptied_fewer s.full row PressIn) (emptied_fewer s.full row PressOut) (lawful_from s h y) in
-    let b = is_onto_full full (transfer_of z v.posture) in
+    let some : is_some row ≡ true = fourth (is_party m z) (is_owned_by v.owner m) (not v.flag) (is_some row) may.0 in
+    let onto = is_onto_full full (transfer_of z v.posture) in
     let i = has full PressIn in
     let o = has full PressOut in
-    let some : is_some row ≡ true = fourth (is_party m z) (is_owned_by v.owner m) (not v.flag) (is_some row) may.0 in
-    let room : not b ≡ true = not_true b (room_of s m (transfer_of z v.posture) some may.1) in
-    sound_from (changed s m (Give z)) small (zone_in-kept (λ y v. lawful_in full y v ≡ true) s.zones (given v m z) after z
-    (implied (is_lawful b i o z v && (may_give v m z && not b)) (is_lawful b i o z (given v m z)) (from_all give_test refl b i o m z v) (and_both (is_lawful b i o z v) (may_give v m z && not b) (after z) (and_both (may_give v m z) (not b) may.0 room))))
+    let parts = parts_of onto i o z v (after z) in
+    let here = given_stays onto i o m z v parts.posture parts.press (and_left (is_party m z) _ may.0) some (room_of s m (transfer_of z v.posture) some may.1) in
+    sound_from (changed s m (Give z)) (one_more s.stamp may.2) (zone_in-kept (λ y v. lawful_in full y v ≡ true) s.zones (given v m z) after z here)
 
 -- ---- take
 
@@ -123,32 +149,47 @@ apart z p y q e = not_from (same_zone z y) (same_to (transfer_of z p) (transfer_
 abbrev pub taken : ZoneState → Machine → Zone → ZoneState
 taken v m z = record v { flag = false }
 
-abbrev take_test : Bool → Bool → Bool → Bool → Machine → Zone → ZoneState → Bool
-take_test c b i o m z v =
-    implies (is_lawful b i o z v && may_take v m z) (is_lawful c (cond (leads_to (transfer_of z v.posture) PressIn) true i) (cond (leads_to (transfer_of z v.posture) PressOut) true o) z (taken v m z))
+-- the press with the place filled where a plate goes
+abbrev press_filled : Zone → Posture → Bool → Bool → Zone → Posture → Bool
+press_filled z p i o y q = press_suits (cond (leads_to (transfer_of z p) PressIn) true i) (cond (leads_to (transfer_of z p) PressOut) true o) y q
 
-take_here : (c b i o : Bool) (m : Machine) (z : Zone) (v : ZoneState) → is_lawful b i o z v ≡ true → may_take v m z ≡ true
+-- a plate that is in a zone may come to its place
+abbrev take_test : Bool → Bool → Bool → Zone → ZoneState → Bool
+take_test b i o z v = implies (is_lawful b i o z v && v.flag) (press_filled z v.posture i o z v.posture)
+
+press_taken : (b i o : Bool) (z : Zone) (v : ZoneState) → is_lawful b i o z v ≡ true → v.flag ≡ true → press_filled z v.posture i o z v.posture ≡ true
+press_taken b i o z v h flag =
+    implied (is_lawful b i o z v && v.flag) (press_filled z v.posture i o z v.posture)
+    (holds3 bools bools bools (λ b i o. take_test b i o z v) (holds2 zones states (λ z v. all_bools (λ b. all_bools (λ i. all_bools (λ o. take_test b i o z v)))) refl z v) b i o)
+    (and_both (is_lawful b i o z v) v.flag h flag)
+
+take_here : (c b i o : Bool) (m : Machine) (z : Zone) (v : ZoneState) → is_lawful b i o z v ≡ true → v.flag ≡ true
     → is_lawful c (cond (leads_to (transfer_of z v.posture) PressIn) true i) (cond (leads_to (transfer_of z v.posture) PressOut) true o) z (taken v m z) ≡ true
-take_here c b i o m z v h k =
-    implied (is_lawful b i o z v && may_take v m z) (is_lawful c (cond (leads_to (transfer_of z v.posture) PressIn) true i) (cond (leads_to (transfer_of z v.posture) PressOut) true o) z (taken v m z))
-    (from_all (take_test c) (from_bools (λ c. All (take_test c)) refl c) b i o m z v) (and_both (is_lawful b i o z v) (may_take v m z) h k)
+take_here c b i o m z v h flag =
+    let parts = parts_of b i o z v h in
+    lawful_of c (cond (leads_to (transfer_of z v.posture) PressIn) true i) (cond (leads_to (transfer_of z v.posture) PressOut) true o) z (taken v m z)
+    (record { owner = parts.owner; plate = refl; guest = parts.guest; host = parts.host; posture = parts.posture; press = press_taken b i o z v h flag })
 
 -- at another zone: the press is filled through z3 alone
-abbrev else_test : Zone → Posture → Zone → ZoneState → Bool → Bool → Bool → Bool
-else_test z p y u b i o =
-    implies (is_lawful b i o y u && not (same_zone z y)) (is_lawful b (cond (leads_to (transfer_of z p) PressIn) true i) (cond (leads_to (transfer_of z p) PressOut) true o) y u)
+abbrev else_test : Zone → Posture → Zone → Posture → Bool → Bool → Bool
+else_test z p y q i o = implies (not (same_zone z y) && press_suits i o y q) (press_filled z p i o y q)
+
+press_else : (z : Zone) (p : Posture) (y : Zone) (q : Posture) (i o : Bool) → same_zone z y ≡ false → press_suits i o y q ≡ true → press_filled z p i o y q ≡ true
+press_else z p y q i o e h =
+    implied (not (same_zone z y) && press_suits i o y q) (press_filled z p i o y q)
+    (holds2 bools bools (else_test z p y q) (holds4 zones postures zones postures (λ z p y q. all_bools (λ i. all_bools (else_test z p y q i))) refl z p y q) i o)
+    (and_both (not (same_zone z y)) (press_suits i o y q) (not_true (same_zone z y) e) h)
 
 take_else : (z : Zone) (p : Posture) (y : Zone) (u : ZoneState) (b i o : Bool) → same_zone z y ≡ false → is_lawful b i o y u ≡ true
     → is_lawful b (cond (leads_to (transfer_of z p) PressIn) true i) (cond (leads_to (transfer_of z p) PressOut) true o) y u ≡ true
 take_else z p y u b i o e h =
-    implied (is_lawful b i o y u && not (same_zone z y)) (is_lawful b (cond (leads_to (transfer_of z p) PressIn) true i) (cond (leads_to (transfer_of z p) PressOut) true o) y u)
-    (holds3 bools bools bools (else_test z p y u) (holds4 zones postures zones states (λ z p y u. all_bools (λ b. all_bools (λ i. all_bools (else_test z p y u b i)))) refl z p y u) b i o)
-    (and_both (is_lawful b i o y u) (not (same_zone z y)) h (not_true (same_zone z y) e))
+    let parts = parts_of b i o y u h in
+    lawful_of b (cond (leads_to (transfer_of z p) PressIn) true i) (cond (leads_to (transfer_of z p) PressOut) true o) y u
+    (record { owner = parts.owner; plate = parts.plate; guest = parts.guest; host = parts.host; posture = parts.posture; press = press_else z p y u.posture i o e parts.press })
 
 pub take_keeps : (s : ModelState) (m : Machine) (z : Zone) → IsSound s → take_refusal s m z ≡ None → IsSound (changed s m (Take z))
 take_keeps s m z h e =
     let may = take_done s m z e in
-    let small : s.stamp + 1 ≤ 1048575 = omega arith in
     let v = zone_at s z in
     let row = transfer_of z v.posture in
     let full = filled s.full row in
@@ -159,11 +200,11 @@ take_keeps s m z h e =
     subst F (sym (has-filled s.full row PressIn)) (subst G (sym (has-filled s.full row PressOut)) k) in
     let own : lawful_in full z (taken v m z) ≡ true =
     with_press (is_onto_full full row) z (taken v m z)
-    (take_here (is_onto_full full row) (is_onto_full s.full row) (has s.full PressIn) (has s.full PressOut) m z v (lawful_from s h z) may.0) in
+    (take_here (is_onto_full full row) (is_onto_full s.full row) (has s.full PressIn) (has s.full PressOut) m z v (lawful_from s h z) (and_right (is_owned_by v.owner m) v.flag (and_right (is_party m z) _ may.0))) in
     let others : (y : Zone) → same_zone z y ≡ false → lawful_in full y (zone_at s y) ≡ true = λ y apart_from.
     let u = zone_at s y in
     let t = transfer_of y u.posture in
     let H : Bool → Type 0 = λ b. is_lawful b (has full PressIn) (has full PressOut) y u ≡ true in
     subst H (sym (onto-filled s.full row t (apart z v.posture y u.posture apart_from)))
     (with_press (is_onto_full s.full t) y u (take_else z v.posture y u (is_onto_full s.full t) (has s.full PressIn) (has s.full PressOut) apart_from (lawful_from s h y))) in
-    sound_from (changed s m (Take z)) small (put_cases (λ y u. lawful_in full y u ≡ true) s.zones (taken v m z) z own others)
+    sound_from (changed s m (Take z)) (one_more s.stamp may.1) (put_cases (λ y u. lawful_in full y u ≡ true) s.zones (taken v m z) z own others)

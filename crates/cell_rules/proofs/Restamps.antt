@@ -1,11 +1,11 @@
 -- What a state with another stamp answers.
-use Rattle.cell_rules.proofs.Names.{◌≡◌, ◌≢◌, ◌≤◌, ◌<◌, ℕ, Bool, true, false, not, ◌&&◌, nat_lt, nat_eq, List, [], ◌∷◌, ◌++◌, Option, None, refl, sym, subst, ap, ◌∙◌, lt-ltb, arith, then_some, list_all, Machine, Zone, Posture, all_zones}
+use Rattle.cell_rules.proofs.Names.{◌≡◌, ◌≢◌, ◌≤◌, ◌<◌, ℕ, Bool, true, false, not, ◌&&◌, nat_lt, nat_eq, List, [], ◌∷◌, ◌++◌, ◌↔◌, Option, None, refl, sym, subst, ap, ◌∙◌, lt-ltb, arith, then_some, list_all, Machine, Zone, Posture, all_zones}
 use Rattle.cell_rules.proofs.Names.{all_places, host_of, keeper_of, same_machine, same_posture, one_machine, one_posture, Call, Claim, Inquire, Refusal, Worn, Answer, Done, Refused, ModelState, zone_at, is_full, last_stamp, IsSound}
 use Rattle.cell_rules.proofs.Names.{is_owned_by, implies, owns, posture_at, after, IsLegal, own_events, reply, next, next_by, changed, done_unless, is_cause, restamped, IsSameFor, same_flag, ZoneState, is_worn, StampsOnlyWear, EndsAreSame}
 use Rattle.cell_rules.proofs.Names.{is_same_zone, is_same_place}
 use Rattle.std.specs.Prelude.{IsTrue}
 use Rattle.cell_rules.specs.Refusals
-use Rattle.cell_rules.proofs.Tables.{and_left, and_right, and_both, implied, all_pass, from_zones, from_places}
+use Rattle.cell_rules.proofs.Tables.{never, and_left, and_right, and_both, implied, all_pass, from_zones, from_places}
 use Rattle.cell_rules.proofs.Histories.{legal-left}
 use Rattle.cell_rules.proofs.HoldsLemmas.{holds_iff_owns}
 use Rattle.cell_rules.proofs.Postures.{posture-after}
@@ -131,3 +131,10 @@ test_of_same m s t k = (
       (λ p. implied_by (same_machine (keeper_of p) m) _ (λ e. own_flag _ _ (k.places p (one_machine (keeper_of p) m e))))
       all_places,
 )
+
+-- by the tests of all zones and all places
+pub same_if_places : (m : Machine) (s t : ModelState) (zs ps : Bool) → zs ≡ list_all (is_same_zone m s t) all_zones → ps ≡ list_all (is_same_place m s t) all_places → zs ≡ true → (ps ≡ true) ↔ IsSameFor m s t
+same_if_places m s t zs ps of_zones of_places e = (λ f. same_by_test m s t (sym of_zones ∙ e) (sym of_places ∙ f), λ k. of_places ∙ (test_of_same m s t k).1)
+
+pub not_same : (m : Machine) (s t : ModelState) (zs : Bool) → zs ≡ list_all (is_same_zone m s t) all_zones → zs ≡ false → (zs ≡ true) ↔ IsSameFor m s t
+not_same m s t zs of_zones e = (λ f. absurd (never (sym f ∙ e)), λ k. of_zones ∙ (test_of_same m s t k).0)

@@ -1,7 +1,7 @@
 -- Each call keeps a sound state sound.
-use Rattle.cell_rules.proofs.Names.{◌≡◌, ℕ, ◌≤◌, Bool, true, false, Option, None, refl, sym, subst, arith, Machine, Call, Claim, Give, Yield, Take, Release, SetPose, Advance, Inquire, Stop, Resume, Refusal, Answer, Done, Event, ModelState}
+use Rattle.cell_rules.proofs.Names.{◌≡◌, ℕ, ◌+◌, ◌≤◌, Bool, true, false, Option, None, refl, sym, subst, arith, Machine, Call, Claim, Give, Yield, Take, Release, SetPose, Advance, Inquire, Stop, Resume, Refusal, Answer, Done, Event, ModelState}
 use Rattle.cell_rules.proofs.Names.{IsSound, claim_refusal, give_refusal, yield_refusal, take_refusal, release_refusal, pose_refusal, advance_refusal, stop_refusal, resume_refusal, reply, changed, next, next_by, done_unless, is_done_answer}
-use Rattle.cell_rules.proofs.Names.{is_done}
+use Rattle.cell_rules.proofs.Names.{is_done, ZoneMap, PlaceSet, model_state, zones_after, places_after, stopped_after}
 use Rattle.cell_rules.proofs.Done.{stop_done, resume_done}
 use Rattle.cell_rules.proofs.Kept.{claim_keeps, yield_keeps, release_keeps}
 use Rattle.cell_rules.proofs.Plates.{give_keeps, take_keeps}
@@ -27,6 +27,13 @@ changed_keeps s m Advance h e = advance_keeps s m h (done_none (advance_refusal 
 changed_keeps s m (Inquire z) h e = cc
 changed_keeps s m Stop h e = let less = (stop_done s m (done_none (stop_refusal s m) e)).2 in stamped s _ _ h (omega arith)
 changed_keeps s m Resume h e = let less = (resume_done s m (done_none (resume_refusal s m) e)).2 in stamped s _ _ h (omega arith)
+
+-- also with its parts computed one by one
+pub changed_stays : (s : ModelState) (m : Machine) (c : Call) (zones : ZoneMap) (full : PlaceSet) (stamp : ℕ) (stopped : Bool) → IsSound s → reply s m c ≡ Done → zones ≡ zones_after s m c → full ≡ places_after s m c → stamp ≡ s.stamp → stopped ≡ stopped_after s c
+    → IsSound (model_state zones full (stamp + 1) stopped)
+changed_stays s m c zones full stamp stopped h e of_zones of_full of_stamp of_stopped =
+    let same : model_state zones full (stamp + 1) stopped ≡ changed s m c = λ i. model_state (of_zones i) (of_full i) (of_stamp i + 1) (of_stopped i) in
+    subst IsSound (sym same) (changed_keeps s m c h e)
 
 -- what holds after a call, by whether it is Done
 pub next_cases : (P : Bool → ModelState → Type 0) (s : ModelState) (m : Machine) (c : Call) (a : Answer) → (a ≡ Done → P true (changed s m c)) → P false s → P (is_done_answer a) (next_by a s m c)

@@ -2,6 +2,9 @@
 use Rattle.cell_rules.proofs.Names.{◌≡◌, Bool, true, false, ◌&&◌, Option, Some, None, List, [], ◌∷◌, refl, list_all, Machine, Feed, Zone, Z1, Posture, Closed, Pose, Turning, Place, FeedEntry, implies, ZoneState}
 use Rattle.cell_types.specs.Everything as everything
 
+pub never : true ≡ false → ⊥
+never e = cc
+
 pub and_left : (a b : Bool) → (a && b) ≡ true → a ≡ true
 and_left true b e = refl
 and_left false b e = e

@@ -1,7 +1,7 @@
 -- The cause of each condition of a call.
-use Rattle.cell_rules.proofs.Names.{◌≡◌, ◌≤◌, ℕ, Bool, true, false, ◌&&◌, not, nat_eq, nat_lt, Option, Some, None, is_some, refl, sym, ap, ◌∙◌, arith, then_some, option_eq, same_Some, Machine, Zone, Posture, Closed, Moving, OpenIn, OpenOut}
-use Rattle.cell_rules.proofs.Names.{Refusal, NotParty, Held, Shut, NotOwner, PlateInZone, number_of, same_machine, same_zone, same_posture, one_machine, one_posture, is_open, is_shut, held_by}
-use Rattle.cell_rules.proofs.Tables.{and_left, and_right, and_both}
+use Rattle.cell_rules.proofs.Names.{◌≡◌, ◌≤◌, ℕ, Bool, true, false, ◌&&◌, ◌||◌, not, nat_eq, nat_lt, Option, Some, None, is_some, get_or, List, [], ◌∷◌, refl, sym, ap, ◌∙◌, arith, then_some, option_eq, same_Some, Machine, Zone, Posture, Closed, Moving, OpenIn, OpenOut}
+use Rattle.cell_rules.proofs.Names.{Refusal, NotParty, Held, AlreadyMine, Shut, NotOwner, PlateInZone, NoPlate, PlaceFull, WrongWay, Jump, NotAtWork, NoPose, Worn, Stopped, NotStopped, InUse, number_of, same_machine, same_zone, same_posture, one_machine, one_posture, is_open, is_shut, held_by}
+use Rattle.cell_rules.proofs.Tables.{never, and_left, and_right, and_both}
 use Rattle.cell_rules.proofs.Holders.{same_machine-self, same_zone-self}
 use Rattle.cell_rules.proofs.Chains.{Tells}
 
@@ -22,10 +22,27 @@ is_plain (NotOwner _) = false
 is_plain (PlateInZone _) = false
 is_plain _ = true
 
+abbrev is_plain_number : ℕ → Bool
+is_plain_number n = not (nat_eq n 2 || nat_eq n 4 || nat_eq n 5 || nat_eq n 6)
+
+plain_by_number : (r : Refusal) → is_plain r ≡ is_plain_number (number_of r)
+plain_by_number NotParty = refl
+plain_by_number _ = refl
+
+-- the plain refusals by their numbers, with another for each number that isn't one of theirs
+abbrev plains : List Refusal
+plains =
+    Worn ∷ NotParty ∷ Worn ∷ AlreadyMine ∷ Worn ∷ Worn ∷ Worn ∷ NoPlate ∷ PlaceFull ∷ WrongWay ∷ Jump ∷ NotAtWork ∷ NoPose ∷ Worn ∷ Stopped ∷ NotStopped ∷ InUse ∷ []
+
+plain_at : (r : Refusal) → is_plain r ≡ true → get_or plains (number_of r) Worn ≡ r
+plain_at (Held o) p = absurd (never (sym p))
+plain_at (Shut q) p = absurd (never (sym p))
+plain_at (NotOwner o) p = absurd (never (sym p))
+plain_at (PlateInZone z) p = absurd (never (sym p))
+plain_at _ p = refl
+
 alone : (a b : Refusal) → is_plain a ≡ true → number_of b ≡ number_of a → a ≡ b
-alone NotParty NotParty p e = refl
-alone _ NotParty p e = cc
-alone _ _ p e = cc
+alone a b p e = sym (plain_at a p) ∙ ap (λ n. get_or plains n Worn) (sym e) ∙ plain_at b (plain_by_number b ∙ ap is_plain_number e ∙ sym (plain_by_number a) ∙ p)
 
 pub plain : (cause : Refusal → Bool) (a : Refusal) (b : Bool) → is_plain a ≡ true → cause a ≡ b → Tells cause (number_of a, then_some b a)
 plain cause a b p same = record {
@@ -44,7 +61,7 @@ is_mine o m = option_eq same_machine o (Some m)
 
 found_owner : (cause : Refusal → Bool) (own : Option Machine) (b : Bool) → ((o : Option Machine) → cause (NotOwner o) ≡ (b && option_eq same_machine own o)) → (r : Refusal) → number_of r ≡ 5 → cause r ≡ true → b ≡ true
 found_owner cause own b same (NotOwner o) n k = and_left b (option_eq same_machine own o) (sym (same o) ∙ k)
-found_owner cause own b same _ n k = cc
+found_owner cause own b same _ n k = absurd (never (sym (ap (λ i. nat_eq i 5) n)))
 
 pub names_owner : (cause : Refusal → Bool) (own : Option Machine) (b : Bool) → ((o : Option Machine) → cause (NotOwner o) ≡ (b && option_eq same_machine own o)) → Tells cause (5, then_some b (NotOwner own))
 names_owner cause own b same = record {
@@ -54,7 +71,7 @@ names_owner cause own b same = record {
 
 found_plate : (cause : Refusal → Bool) (z : Zone) (b : Bool) → ((y : Zone) → cause (PlateInZone y) ≡ (same_zone y z && b)) → (r : Refusal) → number_of r ≡ 6 → cause r ≡ true → b ≡ true
 found_plate cause z b same (PlateInZone y) n k = and_right (same_zone y z) b (sym (same y) ∙ k)
-found_plate cause z b same _ n k = cc
+found_plate cause z b same _ n k = absurd (never (sym (ap (λ i. nat_eq i 6) n)))
 
 pub names_zone : (cause : Refusal → Bool) (z : Zone) (b : Bool) → ((y : Zone) → cause (PlateInZone y) ≡ (same_zone y z && b)) → Tells cause (6, then_some b (PlateInZone z))
 names_zone cause z b same = record {
@@ -76,7 +93,7 @@ found_held : (cause : Refusal → Bool) (own : Option Machine) (m : Machine) →
 found_held cause own m same (Held o) n k =
     let both = sym (same o) ∙ k in
     held_other own o m (and_left (is_mine own o) (not (same_machine o m)) both) (and_right (is_mine own o) (not (same_machine o m)) both)
-found_held cause own m same _ n k = cc
+found_held cause own m same _ n k = absurd (never (sym (ap (λ i. nat_eq i 2) n)))
 
 pub names_holder : (cause : Refusal → Bool) (own : Option Machine) (m : Machine) → ((o : Machine) → cause (Held o) ≡ (is_mine own o && not (same_machine o m))) → Tells cause (2, held_by own m)
 names_holder cause own m same = record { told = told_held cause own m same; found = found_held cause own m same }
@@ -95,7 +112,7 @@ found_shut cause q b same (Shut p) n k =
     let front = and_left (b && same_posture q p) (is_shut p) all in
     and_both b (not (is_open q)) (and_left b (same_posture q p) front)
     (ap (λ x. not (is_open x)) (one_posture q p (and_right b (same_posture q p) front)) ∙ sym (shut_is p) ∙ and_right (b && same_posture q p) (is_shut p) all)
-found_shut cause q b same _ n k = cc
+found_shut cause q b same _ n k = absurd (never (sym (ap (λ i. nat_eq i 4) n)))
 
 pub names_posture : (cause : Refusal → Bool) (q : Posture) (b : Bool) → ((p : Posture) → cause (Shut p) ≡ (b && same_posture q p && is_shut p)) → Tells cause (4, then_some (b && not (is_open q)) (Shut q))
 names_posture cause q b same = record {
@@ -109,13 +126,16 @@ names_posture cause q b same = record {
 
 -- only a zone that moves
 found_moving : (cause : Refusal → Bool) (b : Bool) → cause (Shut Moving) ≡ b → (cause (Shut Closed) ≡ false) × (cause (Shut OpenIn) ≡ false) × (cause (Shut OpenOut) ≡ false) → (r : Refusal) → number_of r ≡ 4 → cause r ≡ true → b ≡ true
-found_moving cause b same never (Shut Moving) n k = sym same ∙ k
-found_moving cause b same never _ n k = cc
+found_moving cause b same others (Shut Moving) n k = sym same ∙ k
+found_moving cause b same others (Shut Closed) n k = absurd (never (sym k ∙ others.0))
+found_moving cause b same others (Shut OpenIn) n k = absurd (never (sym k ∙ others.1))
+found_moving cause b same others (Shut OpenOut) n k = absurd (never (sym k ∙ others.2))
+found_moving cause b same others _ n k = absurd (never (sym (ap (λ i. nat_eq i 4) n)))
 
 pub names_moving : (cause : Refusal → Bool) (b : Bool) → cause (Shut Moving) ≡ b → (cause (Shut Closed) ≡ false) × (cause (Shut OpenIn) ≡ false) × (cause (Shut OpenOut) ≡ false) → Tells cause (4, then_some b (Shut Moving))
-names_moving cause b same never = record {
+names_moving cause b same others = record {
   told = λ r e. let h = passed_then b (Shut Moving) r e in (ap number_of (sym h.1), ap cause (sym h.1) ∙ same ∙ h.0);
-  found = λ r n k. some_then b (Shut Moving) (found_moving cause b same never r n k);
+  found = λ r n k. some_then b (Shut Moving) (found_moving cause b same others r n k);
 }
 
 -- ---- the last stamp

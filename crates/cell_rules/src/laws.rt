@@ -82,7 +82,6 @@ pub fn starts_run_clear(opening: &State)
 
 /// While other machines make the events, a machine keeps each zone that it holds, with posture and
 /// flag, its own places, and the postures of the zones that it hosts.
-#[tactic(auto, using(crate::proofs::Keepers::right_lasts))]
 pub fn right_lasts(opening: &State, before: &[Event], more: &[Event])
     requires { IsLegal opening.now (before.now ++ more.now) }
     ensures { law.RightLasts opening.now before.now more.now }
@@ -138,14 +137,12 @@ pub fn stopped_until_resumed(opening: &State, history: &[Event])
 
 /// While the cell isn't stopped, every call but stop and resume has the reply of the interlock that
 /// couldn't be stopped, and leaves its state.
-#[tactic(auto, using(crate::proofs::FirstVersion::first_version))]
 pub fn first_version_stays()
     ensures { FirstVersionStays }
 {}
 
 /// A call that isn't barred is answered as if the cell weren't stopped. So what moves may stop: a
 /// standing pose, a take, a release, a yield and an advance are never refused as stopped.
-#[tactic(auto, using(crate::proofs::Unbarred::what_moves_may_stop))]
 pub fn what_moves_may_stop()
     ensures { WhatMovesMayStop }
 {}
@@ -168,7 +165,6 @@ pub fn refusals_tell_along(opening: &State, history: &[Event])
 /// On every sound state each refusal has its cause: its meaning in the table of refusals holds of
 /// the state, with whatever the refusal names. And if a cause holds, the call isn't Done: it is
 /// refused for this cause, or for one that comes before it in the call's order.
-#[tactic(auto, using(crate::proofs::Refusing::refusals_tell))]
 pub fn refusals_tell_causes()
     ensures { RefusalsTell }
 {}
@@ -201,7 +197,6 @@ pub fn lawful_throughout(opening: &State, history: &[Event])
 
 /// All that a stamp does is to wear: with another stamp a state is as sound, and answers each call
 /// that isn't worn alike.
-#[tactic(auto, using(crate::proofs::Restamps::stamps_only_wear))]
 pub fn stamps_only_wear()
     ensures { (s : ModelState) → StampsOnlyWear s }
 {}

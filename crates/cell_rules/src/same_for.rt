@@ -11,7 +11,6 @@ use cell_types::{Machine, Place, Zone, host, keeper};
 impl State {
     /// Whether what a machine knows of this state is so in another one: of each zone that it owns
     /// here, owner, flag and posture; the postures of the zones that it hosts; its own places.
-    #[tactic(auto, using(crate::proofs::Restamps::same_by_test, crate::proofs::Restamps::test_of_same))]
     pub fn is_same_for(&self, machine: Machine, other: &State) -> bool
         ensures { (result ≡ true) ↔ IsSameFor machine self.now other.now }
     {
@@ -30,11 +29,9 @@ impl State {
         ensures { result ≡ tests.is_same_zone machine self.now other.now zone }
     {
         let is_same_posture = other.posture(zone) == self.posture(zone);
-        (self.owner(zone) != Some(machine)
-            || (other.owner(zone) == Some(machine)
-                && same_flag(other.flag(zone), self.flag(zone))
-                && is_same_posture))
-            && (host(zone) != machine || is_same_posture)
+        let is_same_plate = same_flag(other.flag(zone), self.flag(zone));
+        let is_kept = other.owns(machine, zone) && is_same_plate && is_same_posture;
+        (!self.owns(machine, zone) || is_kept) && (host(zone) != machine || is_same_posture)
     }
 
     fn has_same_places(&self, machine: Machine, other: &State) -> bool

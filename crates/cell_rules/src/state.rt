@@ -211,7 +211,6 @@ impl State {
     }
 
     /// The state after a call that is Done.
-    #[tactic(auto, using(crate::proofs::Soundness::changed_keeps))]
     pub(crate) fn after_call(&self, machine: Machine, call: Call) -> State
         requires { replies.reply self.now machine call ≡ Done }
         ensures { result ≡ replies.changed self.now machine call }
