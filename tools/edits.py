@@ -68,15 +68,18 @@ def standing_on(crate, module):
     return answered
 
 
-def named(crate, said):
-    """The functions that the prover's first line may speak of, and the clause if it names one."""
+def named(crate, said, texts):
+    """The functions that the prover's first line may speak of, and the clause if it names one. `texts` are those of the files that an
+    edit has changed."""
     place, clause = PLACE.search(said), CLAUSE.search(said)
     if not place:
         return set(), None
     kind, path, number = place.groups()
     if kind == "src":
-        with open(f"{crate}/src/{path}", encoding="utf-8") as it:
-            lines = it.read().split("\n")
+        if f"src/{path}" not in texts:
+            with open(f"{crate}/src/{path}", encoding="utf-8") as it:
+                texts = {f"src/{path}": it.read()}
+        lines = texts[f"src/{path}"].split("\n")
         # the goal of a whole function is at its first line, which may be an attribute, any other inside it
         first = next((i for i, it in enumerate(lines[int(number) - 1 :], int(number)) if not it.lstrip().startswith(("#[", "///"))), int(number))
         above = [*map(FUNCTION.match, lines[:first])]
@@ -90,5 +93,5 @@ def is_named(crate, edit, said):
     wanted = refused_by(edit)
     if wanted is None:
         return None
-    functions, clause = named(crate, said)
+    functions, clause = named(crate, said, edited(crate, edit)[0])
     return any(name in functions and (not clauses or clause is None or clause in clauses) for name, clauses in wanted)
