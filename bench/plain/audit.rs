@@ -16,19 +16,8 @@ pub fn audit(journals: &[(Machine, &[Entry])], start: &State, end: &State) -> Re
     audit_by(journals, start, end, |_, _| ())
 }
 
-/// The events of that history, in their order.
-pub fn events(
-    journals: &[(Machine, &[Entry])],
-    start: &State,
-    end: &State,
-) -> Result<Vec<(Machine, Call, Answer)>, String> {
-    let mut events = Vec::with_capacity(journals.iter().map(|(_, journal)| journal.len()).sum());
-    audit_by(journals, start, end, |machine, entry| events.push((machine, entry.call, entry.answer)))?;
-    Ok(events)
-}
-
 /// Checks the journals, and gives each entry of the history to `keep`.
-fn audit_by(
+pub fn audit_by(
     journals: &[(Machine, &[Entry])],
     start: &State,
     end: &State,

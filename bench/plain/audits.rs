@@ -5,8 +5,8 @@ mod audit;
 #[allow(dead_code, reason = "each program uses a part of it")]
 mod interlock;
 
-use audit::{Entry, audit, events};
-use interlock::{Call, Machine, Pose, State, Zone};
+use audit::{Entry, audit, audit_by};
+use interlock::{Answer, Call, Machine, Pose, State, Zone};
 use std::io::Read;
 use std::time::Instant;
 
@@ -49,6 +49,17 @@ fn run(start: &State, calls: u32) -> ([Vec<Entry>; 7], State) {
         journals[number].push(Entry { call, answer, stamp: state.stamp });
     }
     (journals, state)
+}
+
+/// The events of the history that the journals are of, in their order.
+fn events(
+    journals: &[(Machine, &[Entry])],
+    start: &State,
+    end: &State,
+) -> Result<Vec<(Machine, Call, Answer)>, String> {
+    let mut events = Vec::with_capacity(journals.iter().map(|(_, journal)| journal.len()).sum());
+    audit_by(journals, start, end, |machine, entry| events.push((machine, entry.call, entry.answer)))?;
+    Ok(events)
 }
 
 fn main() -> std::io::Result<()> {
