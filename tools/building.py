@@ -14,14 +14,14 @@ from crates import PROGRAM, ROOT
 KIT = os.path.dirname(os.path.dirname(os.path.realpath(shutil.which("rattle") or ".")))
 # Where in out/ a crate's library is, with the stamp of what it was made from.
 BUILT = "built"
-# The most memory that a crate takes with one job, in bytes. A crate has a second job only if all others wait for it, or where
-# a processor would idle, since each job reads again what its crate uses.
+# The most memory that a crate takes with one job, in bytes.
 MEMORY = 3_000_000_000
 
 
 def at_once():
-    """How many crates are proved at the same time: one for each processor, if there is memory for that."""
-    return max(1, min(crates.processors(), crates.memory() // MEMORY))
+    """How many crates are proved at the same time, if there is memory for them. They are two more than there are processors, so that
+    none is idle when one crate ends; those for which most others wait get the processors first."""
+    return max(1, min(crates.processors() + 2, crates.memory() // MEMORY))
 
 
 def text_of(path):
@@ -84,8 +84,10 @@ class Building:
 
     def words(self, side_by_side, is_first):
         how = ["--toolchain", f"{KIT}/toolchain"] if self.is_program else ["--statements"]
-        # (a program has next to nothing to prove)
-        jobs = 2 if not self.is_program and (is_first or side_by_side < at_once()) else 1
+        # Each further job reads again what the crate uses. So only the crate for which all others wait has the processors that would be
+        # idle otherwise. (A program has next to nothing to prove.)
+        idle = crates.processors() - side_by_side
+        jobs = max(1, min(1 + idle, crates.memory() // MEMORY)) if is_first and not self.is_program else 1
         return ["rattle", "build", *self.reading(), *how, "--jobs", str(jobs), "-o", self.made]
 
     def leave(self, proved=False):

@@ -130,13 +130,20 @@ class Running:
     def __init__(self):
         self.commands = {}
 
+    @staticmethod
+    def stand_back(niceness):
+        """Lets other sessions go first. Where the kernel shares out processors by session, the session has a niceness of its own."""
+        os.nice(niceness)
+        with contextlib.suppress(OSError), open("/proc/self/autogroup", "w", encoding="ascii") as it:
+            it.write(str(niceness))
+
     def start(self, key, words, folder, log, niceness=0):
         """Starts a command in this folder, with this niceness. What it writes goes into the log, and its temporary files beside that."""
         scratch = f"{os.path.dirname(log)}/scratch"
         os.makedirs(scratch, exist_ok=True)
         with open(log, "wb") as to, whole():
             # (a command begins with no signal held back)
-            begin = lambda: (os.nice(niceness), signal.pthread_sigmask(signal.SIG_UNBLOCK, STOPS))
+            begin = lambda: (self.stand_back(niceness), signal.pthread_sigmask(signal.SIG_UNBLOCK, STOPS))
             how = {"preexec_fn": begin, "start_new_session": True}
             how |= {"cwd": folder, "stdin": subprocess.DEVNULL, "stdout": to, "stderr": to, "env": {**os.environ, "TMPDIR": scratch}}
             self.commands[key] = subprocess.Popen(words, **how)
@@ -364,7 +371,7 @@ def prove(root, names, folder, place_of=Place, limit=None, watch=lambda plan, do
                     continue
                 left.remove(name)
                 is_first = name == next(it for it in urgent if it not in done)
-                running.start(name, places[name].words(side_by_side, is_first), places[name].crate, f"{folder}/{name}/log", urgent.index(name) // 2)
+                running.start(name, places[name].words(side_by_side, is_first), places[name].crate, f"{folder}/{name}/log", min(urgent.index(name), 19))
                 begun[name] = time.monotonic()
             watch(plan, done, begun)
             for name, status in running.ended(1).items():

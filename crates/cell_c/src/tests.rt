@@ -1,3 +1,5 @@
+//! Tests of the exported functions, on words.
+
 use crate::exports::{
     bagunjoki_is_full, bagunjoki_is_state, bagunjoki_is_stopped, bagunjoki_restamp,
     bagunjoki_stamp, bagunjoki_start, bagunjoki_step,

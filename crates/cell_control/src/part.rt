@@ -1,3 +1,5 @@
+//! What a controller moves: a part of the plant with its sensors.
+
 use cell_types::Event;
 
 /// The part of the plant that a machine's controller moves, with its sensors.

@@ -1,3 +1,5 @@
+//! A step's row in a program's table: what it asks or drives, the step after it, and what it waits for.
+
 ghost use Rattle.std.specs.Prelude.{◌≡◌};
 ghost use Rattle.cell_control.specs.Row.{waits_on, row_that_asks, row_that_drives, with_waits};
 

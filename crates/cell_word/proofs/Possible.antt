@@ -5,7 +5,6 @@ use Rattle.cell_word.proofs.Names.{own_move_of, put_zone, map_zones, PlaceSet, e
 use Rattle.cell_word.proofs.Names.{passed, all_zones, from_zones, all_poses, from_poses, machines, holds2, sound_by_test, stamp_bit, bits_of, IsOffStamp, row_given, written, received_by, Pattern}
 use Rattle.std.specs.Prelude.{List, [], ◌∷◌}
 use Rattle.cell_rules.specs.Names.{everywhere, free_zone}
-use Rattle.cell_word.proofs.Changing.{done_written}
 
 -- ---- a test of all calls
 abbrev each : (Call → Bool) → (Zone → Call) → Bool
@@ -125,6 +124,3 @@ pub written_low : (m : Machine) (c : Call) → IsTrue (has_call c) → ((written
 written_low m c old =
     let low = and_parts (nat_lt (written m c).mask 0x10000000000) (nat_lt (written m c).wanted 0x10000000000) (implied (has_call c) _ (holds2 machines calls low_test refl m c) old) in
     (ltb-true (written m c).mask 0x10000000000 low.0, ltb-true (written m c).wanted 0x10000000000 low.1)
-
--- what the masks of a call are for a call that is Done, and for one that never is
-pub ruleset masks_written = (done_written, never_written, written_off, written_low)

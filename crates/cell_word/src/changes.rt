@@ -144,7 +144,6 @@ fn written_by(machine: Machine, call: Call) -> Pattern
 
 /// The bits of a word that a machine's Done call clears, and those that it sets; besides, the call
 /// adds one to the stamp. Both are zero for a call that is never Done, such as an inquiry.
-#[tactic(auto, using(crate::proofs::Possible::masks_written))]
 pub fn masks(machine: Machine, call: Call) -> (u64, u64)
     ensures change { (state : ModelState) → IsSound state → reply state machine call ≡ Done
         → packed (next state machine call)

@@ -1,3 +1,5 @@
+//! Tests of the exported functions, on a plan's words.
+
 use crate::calls::call_with;
 use crate::exports::{
     bagunjoki_plan_restamp, bagunjoki_plan_stamp, bagunjoki_plan_start, bagunjoki_plan_step,

@@ -1,3 +1,5 @@
+//! Why the run by six workers ends.
+
 use cell_calib::PointsFault;
 use cell_renewal::RenewalFault;
 use cell_report::AuditFault;

@@ -1,3 +1,5 @@
+//! Why the program ends.
+
 use cell_interlock::MakeFault;
 use cell_rules::StartFault;
 use std::io;

@@ -6,19 +6,19 @@ use Rattle.cell_configured.proofs.Shown.{sees_beginning, sees_run}
 use Rattle.cell_configured.proofs.simulation.simulate_shown.Goals as goal
 
 pub show_with_gauges-requires-clause-arm1 : goal.show_with_gauges-requires-clause-arm1
-show_with_gauges-requires-clause-arm1 g c = keeps_curve c.points.ensures (λ raw low high. search rules) (λ raw v k. search rules)
+show_with_gauges-requires-clause-arm1 g c = keeps_curve c.points.ensures (λ raw low high _ _ _ _ _. (low, high)) (λ raw v k. search rules)
 
 pub show_with_gauges-requires-clause-arm2 : goal.show_with_gauges-requires-clause-arm2
-show_with_gauges-requires-clause-arm2 g c = keeps_curve c.points-2.ensures (λ raw low high. search rules) (λ raw v k. search rules)
+show_with_gauges-requires-clause-arm2 g c = keeps_curve c.points-2.ensures (λ raw low high _ _ _ _ _. (low, high)) (λ raw v k. search rules)
 
 pub show_with_gauges-requires-clause-rotation : goal.show_with_gauges-requires-clause-rotation
-show_with_gauges-requires-clause-rotation g c = keeps_curve c.points-3.ensures (λ raw low high. search rules) (λ raw v k. search rules)
+show_with_gauges-requires-clause-rotation g c = keeps_curve c.points-3.ensures (λ raw low high _ _ _ _ _. (low, high)) (λ raw v k. search rules)
 
 pub show_with_gauges-requires-clause-turn : goal.show_with_gauges-requires-clause-turn
-show_with_gauges-requires-clause-turn g c = keeps_curve c.points-4.ensures (λ raw low high. search rules) (λ raw v k. search rules)
+show_with_gauges-requires-clause-turn g c = keeps_curve c.points-4.ensures (λ raw low high _ _ _ _ _. (low, high)) (λ raw v k. search rules)
 
 pub show_with_gauges-requires-clause-gripper : goal.show_with_gauges-requires-clause-gripper
-show_with_gauges-requires-clause-gripper g c = keeps_curve c.points-5.ensures (λ raw low high. search rules) (λ raw v k. search rules)
+show_with_gauges-requires-clause-gripper g c = keeps_curve c.points-5.ensures (λ raw low high _ _ _ _ _. (low, high)) (λ raw v k. search rules)
 
 pub show_with_gauges-requires-clause-scales : goal.show_with_gauges-requires-clause-scales
 show_with_gauges-requires-clause-scales g c =

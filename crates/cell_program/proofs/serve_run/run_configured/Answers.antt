@@ -4,19 +4,19 @@ use Rattle.cell_program.proofs.PlaceLemmas.{worked_so}
 use Rattle.cell_program.proofs.serve_run.run_configured.Goals as goal
 
 pub run_with_gauges-requires-clause-arm1 : goal.run_with_gauges-requires-clause-arm1
-run_with_gauges-requires-clause-arm1 g c κs within = keeps_curve c.gauges_on-points.ensures (λ raw low high. search rules) (λ raw v k. search rules)
+run_with_gauges-requires-clause-arm1 g c κs within = keeps_curve c.gauges_on-points.ensures (λ raw low high _ _ _ _ _. (low, high)) (λ raw v k. search rules)
 
 pub run_with_gauges-requires-clause-arm2 : goal.run_with_gauges-requires-clause-arm2
-run_with_gauges-requires-clause-arm2 g c κs within = keeps_curve c.gauges_on-points-2.ensures (λ raw low high. search rules) (λ raw v k. search rules)
+run_with_gauges-requires-clause-arm2 g c κs within = keeps_curve c.gauges_on-points-2.ensures (λ raw low high _ _ _ _ _. (low, high)) (λ raw v k. search rules)
 
 pub run_with_gauges-requires-clause-rotation : goal.run_with_gauges-requires-clause-rotation
-run_with_gauges-requires-clause-rotation g c κs within = keeps_curve c.gauges_on-points-3.ensures (λ raw low high. search rules) (λ raw v k. search rules)
+run_with_gauges-requires-clause-rotation g c κs within = keeps_curve c.gauges_on-points-3.ensures (λ raw low high _ _ _ _ _. (low, high)) (λ raw v k. search rules)
 
 pub run_with_gauges-requires-clause-turn : goal.run_with_gauges-requires-clause-turn
-run_with_gauges-requires-clause-turn g c κs within = keeps_curve c.gauges_on-points-4.ensures (λ raw low high. search rules) (λ raw v k. search rules)
+run_with_gauges-requires-clause-turn g c κs within = keeps_curve c.gauges_on-points-4.ensures (λ raw low high _ _ _ _ _. (low, high)) (λ raw v k. search rules)
 
 pub run_with_gauges-requires-clause-gripper : goal.run_with_gauges-requires-clause-gripper
-run_with_gauges-requires-clause-gripper g c κs within = keeps_curve c.gauges_on-points-5.ensures (λ raw low high. search rules) (λ raw v k. search rules)
+run_with_gauges-requires-clause-gripper g c κs within = keeps_curve c.gauges_on-points-5.ensures (λ raw low high _ _ _ _ _. (low, high)) (λ raw v k. search rules)
 
 pub run_with_gauges-requires-clause-scales : goal.run_with_gauges-requires-clause-scales
 run_with_gauges-requires-clause-scales g c κs within =
