@@ -3,8 +3,7 @@ use Rattle.std.proofs.Common.{◌≡◌, Option, Some, None, Result, Ok, Err, re
 use Rattle.cell_rules.specs.Types.{Call, Answer, Done, Shown, Refused, Reply, Settled, Busy}
 use Rattle.cell_calib.specs.declared.sense.SensorFault.{SensorFault}
 use Rattle.cell_rules.specs.declared.heard.LineFault.{LineFault}
-use Rattle.cell_control.specs.Names.{Steps, after_answer, outcome, with_senses, Performed, PerformsCall}
-use Rattle.cell_control.specs.Names.{PerformsSensed, Turned, Turns, at_rest}
+use Rattle.cell_control.specs.Names.{Steps, after_answer, outcome, with_senses, Performed, PerformsCall, PerformsSensed, Turned, Turns, at_rest}
 use Rattle.cell_control.specs.declared.fault.CtlFault.{CtlFault}
 
 module _ {S Sense Reading Act : Type 0} (t : Steps S Sense Reading Act) (senses : Sense → Result Reading SensorFault → Type 0) (f : (s : Sense) (r : Result Reading SensorFault) → t.senses s r → senses s r) where

@@ -1,13 +1,10 @@
 -- What a turn of any program keeps: that its step is reached, and what its steps know of the state.
 use Rattle.std.proofs.Common.{◌≡◌, ℕ, zero, suc, Bool, true, false, if◌then◌else◌, List, [], Option, Some, None, Result, Ok, Err, refl, sym, subst}
-use Rattle.cell_rules.specs.Types.{Machine, Posture, Call, Answer, Done, Shown, Refused, Event, Reply, Settled, Busy}
-use Rattle.cell_rules.specs.Types.{same_machine}
-use Rattle.cell_rules.specs.Names.{ModelState, IsSound, reply, next, next_by, changed, after, IsLegal, own_events}
-use Rattle.cell_rules.specs.Names.{SeenAfter, Reached, IsSameFor}
+use Rattle.cell_rules.specs.Types.{Machine, Posture, Call, Answer, Done, Shown, Refused, Event, Reply, Settled, Busy, same_machine}
+use Rattle.cell_rules.specs.Names.{ModelState, IsSound, reply, next, next_by, changed, after, IsLegal, own_events, SeenAfter, Reached, IsSameFor}
 use Rattle.cell_rules.specs.declared.heard.LineFault.{LineFault}
 use Rattle.cell_rules.proofs.ProgramLemmas.{Keeps, reached-settles, reached-waits, reached-moves, reached-knows}
-use Rattle.cell_control.specs.Names.{fault_of, Steps, waits_out, after_answer, outcome, program_of, InStepAfter}
-use Rattle.cell_control.specs.Names.{IsReached}
+use Rattle.cell_control.specs.Names.{fault_of, Steps, waits_out, after_answer, outcome, program_of, InStepAfter, IsReached}
 use Rattle.cell_control.specs.declared.fault.CtlFault.{CtlFault}
 use Rattle.cell_control.specs.Steps.{Drives, ComesFrom, GoesOn}
 

@@ -8,9 +8,7 @@ use Rattle.cell_rules.specs.Names.{Hears, MovesIn, Reached, ModelState}
 use Rattle.cell_rules.specs.declared.heard.LineFault.{LineFault}
 use Rattle.cell_rules.specs.declared.heard.Heard.{Heard}
 use Rattle.cell_control.specs.declared.fault.CtlFault.TheVariants as fault
-use Rattle.cell_control.specs.Names.{fault_of, InStepAfter, Steps, is_while_stopped, waits_out, after_answer, outcome}
-use Rattle.cell_control.specs.Names.{program_of, Performed, PerformsCall, PerformsSensed, Turned, Turns, at_rest}
-use Rattle.cell_control.specs.Names.{turned, Says, stops_with, waits_on}
+use Rattle.cell_control.specs.Names.{fault_of, InStepAfter, Steps, is_while_stopped, waits_out, after_answer, outcome, program_of, Performed, PerformsCall, PerformsSensed, Turned, Turns, at_rest, turned, Says, stops_with, waits_on}
 use Rattle.cell_control.proofs.StepLemmas.{reached_first, reached_carried}
 use Rattle.cell_control.specs.Turns.{asked_at}
 use Rattle.cell_control.specs.TurnRows.{Answered, AnswerRows, SilentRows, HeardRows, AsksAlways, ReachedRows, TurnRows}

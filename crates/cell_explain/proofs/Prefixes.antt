@@ -28,16 +28,3 @@ settings_of-prefix bytes =
       | inl long ↦ (text_limits (take config_bytes_read bytes)).too_long (omega (arith, length-take config_bytes_read bytes)) ∙ sym ((text_limits bytes).too_long long)
       | inr short ↦ ap settings_of (take_all config_bytes_read bytes (omega arith))
     ]
-
--- a fault that the bytes have is their first one
-pub first_fault : (bytes : List ℕ) (fault : ConfigFault) → fault ≢ Read → fault ≢ Memory → Refuses bytes fault → settings_of bytes ≡ Err fault
-first_fault bytes Read other more h = absurd (other refl)
-first_fault bytes Memory other more h = absurd (more refl)
-first_fault bytes Long other more h = h
-first_fault bytes Text other more h = h
-first_fault bytes Unknown other more h = h
-first_fault bytes Missing other more h = h
-first_fault bytes Kind other more h = h
-first_fault bytes Start other more h = h
-first_fault bytes Range other more h = h
-first_fault bytes Letter other more h = h

@@ -2,9 +2,7 @@
 use Rattle.std.proofs.Common.{◌≡◌, ℕ, ℤ, pos, negsuc, Bool, true, false, List, [], ◌∷◌, ◌++◌, codes, cond, suc, Option, Some, None, Result, Ok, Err, nat_lt, refl}
 use Rattle.std.specs.Fmt.{decimal, signed_decimal}
 use Rattle.std.specs.Str.{bytes_eq}
-use Rattle.cell_rules.specs.Types.{answer_text, flag_word, owner_word, refusal_word, call_text, machine_word}
-use Rattle.cell_rules.specs.Types.{pose_word, posture_word, zone_word, Answer, Refusal, Call, Machine, Pose, Posture}
-use Rattle.cell_rules.specs.Types.{Reply, Settled, Busy, Zone}
+use Rattle.cell_rules.specs.Types.{answer_text, flag_word, owner_word, refusal_word, call_text, machine_word, pose_word, posture_word, zone_word, Answer, Refusal, Call, Machine, Pose, Posture, Reply, Settled, Busy, Zone}
 use Rattle.cell_types.specs.declared.answer.Answer.TheVariants as answer
 use Rattle.cell_types.specs.declared.answer.Refusal.TheVariants as refusal
 use Rattle.cell_types.specs.declared.call.Call.TheVariants as call

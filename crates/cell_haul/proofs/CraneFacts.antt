@@ -1,21 +1,15 @@
 -- What the crane knows of the state at each step of its program.
 use Rattle.std.proofs.Common.{◌≡◌, ℕ, ℤ, Bool, true, false, if◌then◌else◌, List, [], ◌∷◌, Option, Some, None, refl, ap}
-use Rattle.cell_rules.specs.Types.{Machine, Crane, Z5, Z6, Posture, OpenIn, OpenOut, Call, Claim}
-use Rattle.cell_rules.specs.Types.{Give, Take, Release, Inquire, Done, Shown, Event, transfer_of}
+use Rattle.cell_rules.specs.Types.{Machine, Crane, Z5, Z6, Posture, OpenIn, OpenOut, Call, Claim, Give, Take, Release, Inquire, Done, Shown, Event, transfer_of}
 use Rattle.cell_calib.specs.Scale.{Scale}
-use Rattle.cell_rules.specs.Names.{ModelState, is_full, IsSound, is_owned_by, is_open, is_received_by}
-use Rattle.cell_rules.specs.Names.{is_of_some_pose, posture_at, reply, changed, after, IsLegal}
+use Rattle.cell_rules.specs.Names.{ModelState, is_full, IsSound, is_owned_by, is_open, is_received_by, is_of_some_pose, posture_at, reply, changed, after, IsLegal}
 use Rattle.cell_types.specs.declared.place.Place.TheVariants.{Crane as OnCrane}
 use Rattle.cell_control.specs.Names.{IsReached, HoldsIn}
 use Rattle.cell_control.proofs.StepLemmas.{Knowing, reached_knows}
 use Rattle.cell_control.proofs.Facts.{Fact, Finds, AreSo, are_foreign, are_same, found, Stands, stands, handed, entered, posed}
-use Rattle.cell_haul.specs.Names.{row_at, row_of, step_after_inquiry, first_step, crane_start, after_done, is_done}
-use Rattle.cell_haul.specs.Names.{gripper_zone, crane_steps}
+use Rattle.cell_haul.specs.Names.{row_at, row_of, step_after_inquiry, first_step, crane_start, after_done, is_done, gripper_zone, crane_steps}
 use Rattle.cell_haul.specs.declared.crane.CraneStep.{CraneStep}
-use Rattle.cell_haul.specs.declared.crane.CraneStep.TheVariants.{RaiseToFetch, AwaitPlate}
-use Rattle.cell_haul.specs.declared.crane.CraneStep.TheVariants.{LowerToPlate, GripPlate, RaiseWithPlate}
-use Rattle.cell_haul.specs.declared.crane.CraneStep.TheVariants.{ReleaseDeposit, ClaimFeed, LowerToFeed}
-use Rattle.cell_haul.specs.declared.crane.CraneStep.TheVariants.{DropPlate, RaiseFromFeed}
+use Rattle.cell_haul.specs.declared.crane.CraneStep.TheVariants.{RaiseToFetch, AwaitPlate, LowerToPlate, GripPlate, RaiseWithPlate, ReleaseDeposit, ClaimFeed, LowerToFeed, DropPlate, RaiseFromFeed}
 use Rattle.cell_haul.specs.declared.crane.CraneProgress.{CraneProgress}
 use Rattle.cell_haul.specs.declared.crane.CraneStep.TheVariants.{TakePlate, GivePlate}
 

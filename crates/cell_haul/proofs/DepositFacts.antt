@@ -1,7 +1,6 @@
 -- What the deposit belt knows of the state at each step of its program.
 use Rattle.std.proofs.Common.{◌≡◌, Bool, true, false, if◌then◌else◌, List, [], ◌∷◌, Some, None, refl}
-use Rattle.cell_rules.specs.Types.{Deposit, Z4, Z5, Closed, Moving, OpenIn, OpenOut, Landing, Running, Offering, Call}
-use Rattle.cell_rules.specs.Types.{Claim, Give, Take, Release, SetPose, Advance, Done, Event}
+use Rattle.cell_rules.specs.Types.{Deposit, Z4, Z5, Closed, Moving, OpenIn, OpenOut, Landing, Running, Offering, Call, Claim, Give, Take, Release, SetPose, Advance, Done, Event}
 use Rattle.cell_rules.specs.Names.{ModelState, IsSound, owns, posture_at, reply, changed, after, IsLegal}
 use Rattle.cell_rules.proofs.Holders.{take_owned}
 use Rattle.cell_control.specs.Steps.{IsReached}
@@ -9,9 +8,7 @@ use Rattle.cell_control.proofs.StepLemmas.{Knowing, reached_knows}
 use Rattle.cell_control.proofs.Facts.{Fact, Owns, Hosts, AreSo, are_foreign, are_same, seen_held, seen_in}
 use Rattle.cell_haul.specs.Names.{with_plates, by_plates, deposit_steps}
 use Rattle.cell_haul.specs.declared.deposit.DepositStep.{DepositStep}
-use Rattle.cell_haul.specs.declared.deposit.DepositStep.TheVariants.{ClaimEntry, PoseLanding, ReleaseEntry, TakePlate}
-use Rattle.cell_haul.specs.declared.deposit.DepositStep.TheVariants.{StartRun, RunIn, RunOut, MoveOn, PoseOffering}
-use Rattle.cell_haul.specs.declared.deposit.DepositStep.TheVariants.{GivePlate, ClaimBack}
+use Rattle.cell_haul.specs.declared.deposit.DepositStep.TheVariants.{ClaimEntry, PoseLanding, ReleaseEntry, TakePlate, StartRun, RunIn, RunOut, MoveOn, PoseOffering, GivePlate, ClaimBack}
 use Rattle.cell_haul.specs.declared.deposit.DepositProgress.{DepositProgress}
 use Rattle.cell_haul.specs.declared.deposit.DepositStep.TheVariants.{ClaimExit}
 use Rattle.cell_haul.specs.DepositProgram.{row_at, row_of, after_done, HoldsForRun}

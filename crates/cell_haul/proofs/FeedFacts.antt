@@ -1,10 +1,7 @@
 -- What the feed belt knows of the state at each step of its program.
 use Rattle.std.proofs.Common.{◌≡◌, pos, Bool, true, false, ◌&&◌, not, if◌then◌else◌, List, [], ◌∷◌, Some, None, refl, sym, ap, ◌∙◌, arith}
-use Rattle.cell_rules.specs.Types.{Feed, Z1, Z6, FeedEntry, FeedEnd, Posture, Closed, Moving, OpenIn}
-use Rattle.cell_rules.specs.Types.{Landing, Running, Halted, Call, Claim, Give, Take, Release, SetPose, Advance, Done}
-use Rattle.cell_rules.specs.Types.{Event, transfer_of}
-use Rattle.cell_rules.specs.Names.{has, ModelState, is_full, one_if, IsSound, is_open, is_of_some_pose, owns}
-use Rattle.cell_rules.specs.Names.{posture_at, given_by, reply, changed, filled, emptied, after, IsLegal, plates_at}
+use Rattle.cell_rules.specs.Types.{Feed, Z1, Z6, FeedEntry, FeedEnd, Posture, Closed, Moving, OpenIn, Landing, Running, Halted, Call, Claim, Give, Take, Release, SetPose, Advance, Done, Event, transfer_of}
+use Rattle.cell_rules.specs.Names.{has, ModelState, is_full, one_if, IsSound, is_open, is_of_some_pose, owns, posture_at, given_by, reply, changed, filled, emptied, after, IsLegal, plates_at}
 use Rattle.cell_rules.proofs.Holders.{take_owned}
 use Rattle.cell_rules.proofs.Tables.{and_right}
 use Rattle.cell_rules.proofs.Conserved.{plates-kept}

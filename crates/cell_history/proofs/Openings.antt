@@ -10,8 +10,7 @@ use Rattle.std.proofs.lemmas.Fmt.{decimal_nonempty, digits_decimal, digits_value
 use Rattle.std.proofs.lemmas.Str.Parse.{FoldsDigits, IsDigitsTest, IsNumeralModel, numerals_by_fold}
 use Rattle.csv.specs.Writing.{default_writer, needs_byte}
 use Rattle.cell_rules.specs.Types.{all_places, Event, PressIn, PressOut}
-use Rattle.cell_rules.specs.Names.{ModelState, last_stamp, size_of, PlaceSet, has, IsStart, IsStartState, is_flag}
-use Rattle.cell_rules.specs.Names.{is_start, places_in}
+use Rattle.cell_rules.specs.Names.{ModelState, last_stamp, size_of, PlaceSet, has, IsStart, IsStartState, is_flag, is_start, places_in}
 use Rattle.cell_replay.specs.Script.{number_in, read_on, start_in, start_of}
 use Rattle.cell_replay.specs.Versions.{version_of, version_word}
 use Rattle.cell_replay.specs.declared.version.Version.{Version}

@@ -8,11 +8,7 @@ use Rattle.csv.specs.Reading.{default_config, records_from}
 use Rattle.csv.specs.Writing.{default_writer, fields_text, is_blank, needs_byte, row_text}
 use Rattle.csv.specs.declared.parser.State.TheVariants as st
 use Rattle.csv.proofs.RoundTrip.{read-write}
-use Rattle.cell_rules.specs.Types.{Machine, Feed, Table, Robot, Press, Deposit, Crane, Watch, Zone, Z1, Z2, Z3, Z4}
-use Rattle.cell_rules.specs.Types.{Z5, Z6, Pose, Turning, Loading, Unloading, Travelling, Middle, Low, Top, Running}
-use Rattle.cell_rules.specs.Types.{Landing, Halted, Offering, Standing, Call, Claim, Give, Yield, Take, Release}
-use Rattle.cell_rules.specs.Types.{SetPose, Advance, Inquire, Stop, Resume, Event, machine_word, pose_word, zone_word}
-use Rattle.cell_rules.specs.Types.{call_fields, verb_of}
+use Rattle.cell_rules.specs.Types.{Machine, Feed, Table, Robot, Press, Deposit, Crane, Watch, Zone, Z1, Z2, Z3, Z4, Z5, Z6, Pose, Turning, Loading, Unloading, Travelling, Middle, Low, Top, Running, Landing, Halted, Offering, Standing, Call, Claim, Give, Yield, Take, Release, SetPose, Advance, Inquire, Stop, Resume, Event, machine_word, pose_word, zone_word, call_fields, verb_of}
 use Rattle.csv_rows.specs.Rows.{Row}
 use Rattle.cell_history.specs.Scripts.{after_comma, event_row, line_of_row}
 
@@ -89,18 +85,6 @@ pose-plain Landing = refl
 pose-plain Halted = refl
 pose-plain Offering = refl
 pose-plain Standing = refl
-
-verb-plain : (call : Call) → IsPlain (verb_of call)
-verb-plain (Claim z) = refl
-verb-plain (Give z) = refl
-verb-plain (Yield z) = refl
-verb-plain (Take z) = refl
-verb-plain (Release z) = refl
-verb-plain (SetPose p) = refl
-verb-plain Advance = refl
-verb-plain (Inquire z) = refl
-verb-plain Stop = refl
-verb-plain Resume = refl
 
 call-reads : (word : List ℕ) (call : Call) → IsPlain word → Reads (word ∷ call_fields call)
 call-reads word (Claim z) p = reads-plain word (verb_of (Claim z)) _ (p, (refl, (zone-plain z, tt)))

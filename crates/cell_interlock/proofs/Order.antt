@@ -29,10 +29,6 @@ reply_to (Busy lost stamp) = EngineBusy lost stamp
 before_here : (seen : List Event) (e last : Event) (h : List Event) → engine_order.StandsBefore cell_book seen e last h → StandsBefore seen e last h
 before_here seen e last h f = record { point = f.point; between = f.between; is = f.is; begins = f.begins; new = f.new }
 
-pub stamped_here : (told : ℕ) (r : EngineReply Answer) → engine_calls.IsStampedAfter cell_book told r → IsStampedAfter told (reply_from r)
-stamped_here told (EngineSettled a stamp) f = (f.0, λ done. f.1 (ap is_done_answer done))
-stamped_here told (EngineBusy lost stamp) f = f
-
 stamped_to : (told : ℕ) (r : Reply) → engine_calls.IsStampedAfter cell_book told (reply_to r) → IsStampedAfter told r
 stamped_to told (Settled a stamp) f = (f.0, λ done. f.1 (ap is_done_answer done))
 stamped_to told (Busy lost stamp) f = f
@@ -66,15 +62,3 @@ receipts_raise_stamps o m n c d x y seen answered receipt accepted heard now fir
     subst (λ (s : ℕ). IsStampedAfter s y) (stamp_to x) (stamped_to _ y
     (engine.receipts_raise_stamps cell_book cell_is_rule_book o m n c d (reply_to x) (reply_to y) seen answered receipt accepted heard now
     (seen_there m c x o seen answered first) took took_in later (seen_there n d y o heard now second) (legal_there o now legal)))
-
--- two calls in order
-pub in_order_here : (m n : Machine) (c d : Call) (x y : EngineReply Answer) (seen now : List Event)
-    → engine_calls.IfSettled x (λ a. engine_calls.IfSettled y (λ b. engine_order.StandsBefore cell_book seen (event m c a) (event n d b) now))
-    → IfSettled (reply_from x) (λ a. IfSettled (reply_from y) (λ b. StandsBefore seen (event m c a) (event n d b) now))
-in_order_here m n c d (EngineSettled a s) (EngineSettled b t) seen now f = before_here seen (event m c a) (event n d b) now f
-in_order_here m n c d (EngineSettled a s) (EngineBusy l t) seen now f = tt
-in_order_here m n c d (EngineBusy l s) y seen now f = tt
-
-pub stamps_here : (x y : EngineReply Answer) → engine_calls.IsStampedAfter cell_book (engine_calls.stamp_in x) y → IsStampedAfter (stamp_in (reply_from x)) (reply_from y)
-stamps_here (EngineSettled a s) y f = stamped_here s y f
-stamps_here (EngineBusy l s) y f = stamped_here s y f

@@ -1,8 +1,7 @@
 -- No count is above the number of turns.
 use Rattle.std.proofs.Common.{ℕ, ◌+◌, ◌<◌, Bool, true, false, arith}
 use Rattle.cell_rules.specs.ModelState.{one_if}
-use Rattle.cell_notes.specs.Names.{TurnCall, came_back, is_done_reply, is_read_reply, is_refused_reply, is_busy_reply}
-use Rattle.cell_notes.specs.Names.{no_counts, counts_with, AreBelow}
+use Rattle.cell_notes.specs.Names.{TurnCall, came_back, is_done_reply, is_read_reply, is_refused_reply, is_busy_reply, no_counts, counts_with, AreBelow}
 use Rattle.cell_notes.specs.declared.counts.Counts.{Counts}
 
 pub none_below : AreBelow 1 no_counts

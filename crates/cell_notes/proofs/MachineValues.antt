@@ -27,12 +27,3 @@ module _ {T : Type 0} (b : ByMachine T) where
 
   pub put-is-found : PutIsFound b
   put-is-found = record { found = put_found; others_stay = put_others }
-
-  pub mapped_at : {U : Type 0} (f : T → U) (m : Machine) → at_machine (map_machines f b) m ≡ f (at_machine b m)
-  mapped_at f Feed = refl
-  mapped_at f Table = refl
-  mapped_at f Robot = refl
-  mapped_at f Press = refl
-  mapped_at f Deposit = refl
-  mapped_at f Crane = refl
-  mapped_at f Watch = refl

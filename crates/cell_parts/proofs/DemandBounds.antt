@@ -1,8 +1,7 @@
 -- What positions and motors demand, in numbers.
 use Rattle.std.proofs.Common.{rules, ◌≡◌, ◌≢◌, ◌↔◌, ◌∙◌, sym, ap, cond, ℕ, ◌<◌, ◌≤◌, false, Some, ◌⊎◌, inl, inr, refl, arith}
 use Rattle.std.proofs.lemmas.Bool.{false_from_ne_true}
-use Rattle.cell_rules.specs.Types.{Machine, Feed, Table, Robot, Press, Deposit, Crane, Watch, Zone, Z1, Z2, Z3, Z4}
-use Rattle.cell_rules.specs.Types.{Z5, Z6, Posture, Closed, OpenIn, OpenOut, same_zone, one_zone}
+use Rattle.cell_rules.specs.Types.{Machine, Feed, Table, Robot, Press, Deposit, Crane, Watch, Zone, Z1, Z2, Z3, Z4, Z5, Z6, Posture, Closed, OpenIn, OpenOut, same_zone, one_zone}
 use Rattle.cell_types.specs.declared.place.Place.TheVariants as place
 use Rattle.cell_rules.specs.Names.{ModelState, zone_at, is_owned_by, owns, owner_of}
 use Rattle.cell_rules.specs.declared.zones.ZoneState.{ZoneState}
@@ -13,12 +12,6 @@ use Rattle.cell_parts.specs.Examples.{with_feed, with_deposit, zone_of}
 use Rattle.cell_parts.specs.DemandExamples.{AsksFor, WorksAt, Arm1WorksAt, Arm2WorksAt, GripperWorksAt, EndPlateStands, PositionDemandBounds, feed_end_full, MotorDemandBounds, DrivingBounds, RestingBounds, EachDemand}
 use Rattle.cell_parts.proofs.Contrasts.{neither, false_true}
 use Rattle.cell_parts.proofs.Figures.{same, always, never, both, either, due, given, order, past, below, not_past, clash, inside, driven, some}
-
-closed_in : ¬ (Closed ≡ OpenIn)
-closed_in e = cc
-
-closed_out : ¬ (Closed ≡ OpenOut)
-closed_out e = cc
 
 in_out : ¬ (OpenIn ≡ OpenOut)
 in_out e = cc

@@ -2,17 +2,13 @@
 use Rattle.std.proofs.Common.{◌≡◌, ◌≢◌, ◌<ℤ◌, Bool, true, false, ◌⊎◌, inl, inr, IsTrue, refl, arith}
 use Rattle.std.proofs.lemmas.Int.{ints}
 use Rattle.std.proofs.lemmas.Bool.{false_from_ne_true}
-use Rattle.cell_rules.specs.Types.{Machine, Feed, Table, Robot, Press, Deposit, Crane, Zone, Z1, Z2, Z3, Z4, Z5, Z6}
-use Rattle.cell_rules.specs.Types.{Posture, Closed, Moving, OpenIn, OpenOut, host_of}
+use Rattle.cell_rules.specs.Types.{Machine, Feed, Table, Robot, Press, Deposit, Crane, Zone, Z1, Z2, Z3, Z4, Z5, Z6, Posture, Closed, Moving, OpenIn, OpenOut, host_of}
 use Rattle.cell_devices.specs.declared.motor.Motor.{Motor}
 use Rattle.cell_devices.specs.declared.motor.Motor.TheVariants.{Off}
-use Rattle.cell_rules.specs.Names.{ModelState, IsSound, is_open, is_of_some_pose, owns, owner_of, posture_at}
-use Rattle.cell_rules.specs.Names.{RunsClear}
+use Rattle.cell_rules.specs.Names.{ModelState, IsSound, is_open, is_of_some_pose, owns, owner_of, posture_at, RunsClear}
 use Rattle.cell_rules.proofs.Tables.{implied}
 use Rattle.cell_rules.proofs.Holders.{owner_is}
-use Rattle.cell_parts.specs.Names.{loads_to, IsOn, TableMoves, IsOut}
-use Rattle.cell_parts.specs.Names.{RestsAtLoading, PositionDemands, GripperErrand, AtDeposit, AtFeed}
-use Rattle.cell_parts.specs.Names.{ErrandDemands, MotorDemands, RotatesRetracted, Rests}
+use Rattle.cell_parts.specs.Names.{loads_to, IsOn, TableMoves, IsOut, RestsAtLoading, PositionDemands, GripperErrand, AtDeposit, AtFeed, ErrandDemands, MotorDemands, RotatesRetracted, Rests}
 use Rattle.cell_parts.specs.declared.plant.RobotPlant.{RobotPlant}
 use Rattle.cell_parts.specs.declared.plant.PlantState.{PlantState}
 use Rattle.cell_parts.specs.Shows.{IsTableBottom}

@@ -37,7 +37,3 @@ raw_at_end s along rise q k rises whole part =
 -- zero length gives zero raw width
 pub raw_at_start : (s : Scale) (along rise q : ℕ) → along ≡ 0 → q ≡ along * (s.raw_hi - s.raw_lo) / rise → s.raw_lo + q ≡ s.raw_lo
 raw_at_start s along rise q nothing part = let none : q ≡ 0 = rw (part, nothing) (grind arith) in omega arith
-
--- for a scale of this axis the raw value is always the position's
-pub raw_of_axis : (end position : ℤ) (s : Scale) (raw : ℕ) → IsAxisScale end s → IsWithin end position → ShowsRaw s position raw → IsRawAt s position raw
-raw_of_axis end position s raw axis within shows = shows.between (rw axis.from within.first) (rw axis.to within.last)

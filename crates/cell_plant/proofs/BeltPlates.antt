@@ -1,8 +1,6 @@
 -- A plate is on a belt if and only if its place is full: the entry's and the end's.
-use Rattle.cell_plant.proofs.Names.{◌≡◌, ℤ, Bool, true, false, not, IsSome, IsTrue, ◌↔◌, Option, Some, None, is_some, refl, sym, subst, if◌then◌else◌, Machine, Zone, Place, Call, Give, Take, Advance, Done, transfer_of, same_machine}
-use Rattle.cell_plant.proofs.Names.{keeper_of, own_move_of, ModelState, zone_at, is_full, IsSound, is_party, is_received_by, owns, owner_of, posture_at, transfer_given, given_by, advance_refusal, give_refusal, take_refusal, reply, next}
-use Rattle.cell_plant.proofs.Names.{has_no_work, press_unowned, not_at_work, nothing_to_work, no_room_for_work, worn, ◌or◌, and_left, and_right, none_or, none_then_not, take_done, give_done, done_none, fourth, owner_is, full-foreign}
-use Rattle.cell_plant.proofs.Names.{handed, set_belt, Belt, plate_if, moved_plate, moved_belt}
+use Rattle.cell_plant.proofs.Names.{◌≡◌, ℤ, Bool, true, false, not, IsSome, IsTrue, ◌↔◌, Option, Some, None, is_some, refl, sym, subst, if◌then◌else◌, Machine, Zone, Place, Call, Give, Take, Advance, Done, transfer_of, same_machine, keeper_of, own_move_of, ModelState, zone_at, is_full, IsSound, is_party, is_received_by, owns, owner_of, posture_at, transfer_given, given_by, advance_refusal, give_refusal, take_refusal, reply, next}
+use Rattle.cell_plant.proofs.Names.{has_no_work, press_unowned, not_at_work, nothing_to_work, no_room_for_work, worn, ◌or◌, and_left, and_right, none_or, none_then_not, take_done, give_done, done_none, fourth, owner_is, full-foreign, handed, set_belt, Belt, plate_if, moved_plate, moved_belt}
 
 abbrev pub StandsIf : Option ℤ → Bool → Type 0
 StandsIf plate full = IsSome plate ↔ IsTrue full

@@ -1,10 +1,7 @@
 -- The invariant of the crane's side: it holds in every state of a run.
-use Rattle.cell_plant.proofs.Names.{◌≡◌, ℤ, pos, ◌<ℤ◌, ◌≤ℤ◌, Bool, true, false, not, ◌&&◌, ◌||◌, ◌⊎◌, inl, inr, Option, Some, None, Result, Ok, refl, sym, ap, ◌∙◌, if◌then◌else◌, arith, ⊤, ints, clamps, Machine, Crane, Call, Reply, Scale}
-use Rattle.cell_plant.proofs.Names.{IsNear, IsReading, CraneSense, DrivesTo, Motor, Off, Plus, Minus, CraneAct, ModelState, is_full, changed, LineFault, Turned, Turns, CtlFault, AreSo, row_at, row_of, step_after_inquiry, after_done}
-use Rattle.cell_plant.proofs.Names.{first_step, crane_start, is_done, gripper_stop, Senses, Acts, crane_steps, CraneStep, RaiseToFetch, TravelToDeposit, AwaitPlate, LowerToPlate, GripPlate, RaiseWithPlate, TravelToFeed, ClaimFeed}
-use Rattle.cell_plant.proofs.Names.{LowerToFeed, DropPlate, RaiseFromFeed, CraneProgress, CraneReading, is_off, travels, travel_for, facts_at, CraneKnows, crane_begins, crane-knowing, act_or_rest, Keeping, turn_tells, IsAxisScale, IsWithin}
-use Rattle.cell_plant.proofs.Names.{crane_end, gripper_end, crane_at_start, moved_to, moved_axis, set_axis, set_crane, crane_rig, IsOn, IsGripperDown, IsOverDeposit, IsOverFeed, LetsGo, CraneMayLetGo, DrivesPast, ErrandDemands, Axis}
-use Rattle.cell_plant.proofs.Names.{CranePlant, gripper_start, CraneShows, TravelsHigh, CraneHasDeposit, CraneHasFeed}
+use Rattle.cell_plant.proofs.Names.{◌≡◌, ℤ, pos, ◌<ℤ◌, ◌≤ℤ◌, Bool, true, false, not, ◌&&◌, ◌||◌, ◌⊎◌, inl, inr, Option, Some, None, Result, Ok, refl, sym, ap, ◌∙◌, if◌then◌else◌, arith, ⊤, ints, clamps, Machine, Crane, Call, Reply, Scale, IsNear, IsReading, CraneSense, DrivesTo, Motor, Off, Plus, Minus, CraneAct, ModelState, is_full, changed, LineFault, Turned, Turns, CtlFault, AreSo, row_at, row_of, step_after_inquiry, after_done}
+use Rattle.cell_plant.proofs.Names.{first_step, crane_start, is_done, gripper_stop, Senses, Acts, crane_steps, CraneStep, RaiseToFetch, TravelToDeposit, AwaitPlate, LowerToPlate, GripPlate, RaiseWithPlate, TravelToFeed, ClaimFeed, LowerToFeed, DropPlate, RaiseFromFeed, CraneProgress, CraneReading, is_off, travels, travel_for, facts_at, CraneKnows, crane_begins, crane-knowing, act_or_rest, Keeping, turn_tells, IsAxisScale, IsWithin}
+use Rattle.cell_plant.proofs.Names.{crane_end, gripper_end, crane_at_start, moved_to, moved_axis, set_axis, set_crane, crane_rig, IsOn, IsGripperDown, IsOverDeposit, IsOverFeed, LetsGo, CraneMayLetGo, DrivesPast, ErrandDemands, Axis, CranePlant, gripper_start, CraneShows, TravelsHigh, CraneHasDeposit, CraneHasFeed}
 use Rattle.cell_types.specs.declared.place.Place.TheVariants.{Crane as OnCrane}
 use Rattle.cell_plant.specs.Errands.{errand_of}
 use Rattle.cell_plant.proofs.Magnets.{still_on}

@@ -1,6 +1,5 @@
 -- Facts that are decided by computing. `so` and `not_so` turn a computed answer into a proof.
-use Rattle.cell_plant.proofs.Names.{◌≡◌, ◌≢◌, ℕ, ◌==◌, ℤ, ◌≤ℤ◌, ◌<ℤ◌, Bool, true, false, ◌⊎◌, inl, inr, refl, sym, subst, T, Decides-eqb, Decides-int_eq, le_z, lt_z, le_z_yes, lt_z_yes, int_eq, Posture, Closed, same_posture, one_posture}
-use Rattle.cell_plant.proofs.Names.{Motor, Off, Plus, Minus}
+use Rattle.cell_plant.proofs.Names.{◌≡◌, ◌≢◌, ℕ, ◌==◌, ℤ, ◌≤ℤ◌, ◌<ℤ◌, Bool, true, false, ◌⊎◌, inl, inr, refl, sym, subst, T, Decides-eqb, Decides-int_eq, le_z, lt_z, le_z_yes, lt_z_yes, int_eq, Posture, Closed, same_posture, one_posture, Motor, Off, Plus, Minus}
 use Rattle.std.specs.Prelude.{◌↔◌}
 
 abbrev pub is_yes : {A : Type 0} → Dec A → Bool

@@ -1,6 +1,5 @@
 -- The invariant of the deposit belt's side: it holds in every state of a run.
-use Rattle.cell_plant.proofs.Names.{◌≡◌, true, false, IsTrue, is_some, [], ◌∷◌, Some, refl, sym, ◌∙◌, subst, Deposit, Z4, Z5, DepEntry, DepEnd, Posture, Moving, OpenIn, OpenOut, Call, Give, Take, Advance, Done}
-use Rattle.cell_plant.proofs.Names.{transfer_of, PlaceSet, has, ModelState, is_full, IsSound, is_received_by, posture_at, given_by, reply, changed, emptied, filled, Finds, deposit_start, deposit_steps, DepositStep, TakePlate, MoveOn}
+use Rattle.cell_plant.proofs.Names.{◌≡◌, true, false, IsTrue, is_some, [], ◌∷◌, Some, refl, sym, ◌∙◌, subst, Deposit, Z4, Z5, DepEntry, DepEnd, Posture, Moving, OpenIn, OpenOut, Call, Give, Take, Advance, Done, transfer_of, PlaceSet, has, ModelState, is_full, IsSound, is_received_by, posture_at, given_by, reply, changed, emptied, filled, Finds, deposit_start, deposit_steps, DepositStep, TakePlate, MoveOn}
 use Rattle.cell_plant.proofs.Names.{GivePlate, DepositProgress, DepositKnows, deposit-knowing, drives_at, Keeping, Demanding, WhileOn, demanding_while_on, deposit_at_start, set_belt, deposit_rig, Belt, deposit_called}
 use Rattle.cell_haul.specs.DepositProgram.{row_at}
 use Rattle.cell_haul.specs.declared.deposit.DepositStep.TheVariants.{RunIn, RunOut}

@@ -1,9 +1,6 @@
 -- The turns of the examples, each by its machine's program, and two literal runs of them.
-use Rattle.cell_plant.proofs.Names.{◌≡◌, List, [], ◌∷◌, Bool, true, false, inr, Some, None, Result, Ok, refl, sym, subst, Machine, Feed, Press, Watch, Call, Stop, Done, Reply, Settled, same_machine, FeedSense, PressSense, Minus, ModelState}
-use Rattle.cell_plant.proofs.Names.{LineFault, Rig, Steps, outcome, Performed, PerformsCall, at_rest, turned, FeedProgress, PressProgress, Side, side_of, side_set, side_moved, Answers, Takes, at, driven_at, feed_at_start, PressShows, Axis}
-use Rattle.cell_plant.proofs.Names.{Belt, FeedShows, steps_of, rig_of, CellState, Sides, side_in, sides_at_start, Step, TakesTurn, IsRun, asks, turn_of, schedule, steps, opening, at_first, at_entered, at_press_stopped, at_last}
-use Rattle.cell_plant.proofs.Names.{watch_noting, WatchProgress, IsPassedOver, cell_of, claims_entry, finds_busy, is_refused, finds_no_room, stops_cell, resumes_cell, watch_finds_busy, passes, press_falls, falls, falls_to, belt_waits}
-use Rattle.cell_plant.proofs.Names.{waits}
+use Rattle.cell_plant.proofs.Names.{◌≡◌, List, [], ◌∷◌, Bool, true, false, inr, Some, None, Result, Ok, refl, sym, subst, Machine, Feed, Press, Watch, Call, Stop, Done, Reply, Settled, same_machine, FeedSense, PressSense, Minus, ModelState, LineFault, Rig, Steps, outcome, Performed, PerformsCall, at_rest, turned, FeedProgress, PressProgress, Side, side_of, side_set, side_moved, Answers, Takes, at, driven_at, feed_at_start, PressShows, Axis}
+use Rattle.cell_plant.proofs.Names.{Belt, FeedShows, steps_of, rig_of, CellState, Sides, side_in, sides_at_start, Step, TakesTurn, IsRun, asks, turn_of, schedule, steps, opening, at_first, at_entered, at_press_stopped, at_last, watch_noting, WatchProgress, IsPassedOver, cell_of, claims_entry, finds_busy, is_refused, finds_no_room, stops_cell, resumes_cell, watch_finds_busy, passes, press_falls, falls, falls_to, belt_waits, waits}
 use Rattle.cell_notes.specs.Asks.{TurnCall}
 use Rattle.cell_parts.specs.Names.{CellScales}
 use Rattle.cell_plant.proofs.Deciding.{so, both, same_truth, at_most, is_true}

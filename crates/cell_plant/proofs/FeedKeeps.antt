@@ -1,6 +1,5 @@
 -- The invariant of the feed belt's side: it holds in every state of a run.
-use Rattle.cell_plant.proofs.Names.{◌≡◌, true, false, IsTrue, is_some, [], ◌∷◌, Some, refl, sym, ◌∙◌, subst, Feed, Z1, Z6, FeedEntry, FeedEnd, Posture, Moving, OpenIn, Call, Give, Take, Advance, Done, transfer_of}
-use Rattle.cell_plant.proofs.Names.{PlaceSet, has, ModelState, is_full, IsSound, is_received_by, posture_at, given_by, reply, changed, emptied, filled, Finds, feed_start, feed_steps, FeedStep, FeedProgress, FeedKnows, feed_begins}
+use Rattle.cell_plant.proofs.Names.{◌≡◌, true, false, IsTrue, is_some, [], ◌∷◌, Some, refl, sym, ◌∙◌, subst, Feed, Z1, Z6, FeedEntry, FeedEnd, Posture, Moving, OpenIn, Call, Give, Take, Advance, Done, transfer_of, PlaceSet, has, ModelState, is_full, IsSound, is_received_by, posture_at, given_by, reply, changed, emptied, filled, Finds, feed_start, feed_steps, FeedStep, FeedProgress, FeedKnows, feed_begins}
 use Rattle.cell_plant.proofs.Names.{feed-knowing, Keeping, Demanding, WhileOn, demanding_while_on, feed_at_start, set_belt, feed_rig, Belt, feed_called}
 use Rattle.cell_haul.specs.declared.feed.FeedStep.TheVariants.{TakePlate, RunIn, MoveOn, RunOut, GivePlate}
 use Rattle.cell_haul.specs.FeedProgram.{row_at}

@@ -1,7 +1,5 @@
 -- In a run at whose end no machine is stopped, no call was out of memory.
-use Rattle.cell_plant.proofs.Names.{◌≡◌, Bool, true, false, List, [], ◌∷◌, Option, Some, None, is_none, Result, Ok, Err, refl, sym, ap, ◌∙◌, subst, Machine, Call, Reply, same_machine, one_machine, SensorFault, LineFault, Steps, outcome}
-use Rattle.cell_plant.proofs.Names.{Performed, PerformsCall, PerformsSensed, Turned, Turns, at_rest, turned, CtlFault, Memory, TurnCall, Turn, CellScales, CellState, CellGauges, steps_by, HadMemory, Step, TakesTurnBy, LeadsIfBy, goes_on}
-use Rattle.cell_plant.proofs.Names.{IsRunBy, end_of}
+use Rattle.cell_plant.proofs.Names.{◌≡◌, Bool, true, false, List, [], ◌∷◌, Option, Some, None, is_none, Result, Ok, Err, refl, sym, ap, ◌∙◌, subst, Machine, Call, Reply, same_machine, one_machine, SensorFault, LineFault, Steps, outcome, Performed, PerformsCall, PerformsSensed, Turned, Turns, at_rest, turned, CtlFault, Memory, TurnCall, Turn, CellScales, CellState, CellGauges, steps_by, HadMemory, Step, TakesTurnBy, LeadsIfBy, goes_on, IsRunBy, end_of}
 
 none_some : {A B : Type 0} → (o : Option A) (x : A) → o ≡ None → o ≡ Some x → B
 none_some o x e f = let lie : None ≡ Some x = sym e ∙ f in cc

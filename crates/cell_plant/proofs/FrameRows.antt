@@ -1,6 +1,5 @@
 -- The examples of frames, and of films that are wrong.
-use Rattle.cell_plant.proofs.Names.{◌≡◌, ◌≢◌, pos, Bool, true, false, List, [], ◌∷◌, ◌++◌, append-nil, append_assoc, length, Option, Some, None, is_some, Result, Ok, Err, refl, sym, ap, ◌∙◌, subst, FeedStep, ClaimExit, came_back}
-use Rattle.cell_plant.proofs.Names.{is_busy_reply, Turn, PlantState, starts, IsShown, Frame, FrameExamples, WrongFilms, ShownExamples, Fails}
+use Rattle.cell_plant.proofs.Names.{◌≡◌, ◌≢◌, pos, Bool, true, false, List, [], ◌∷◌, ◌++◌, append-nil, append_assoc, length, Option, Some, None, is_some, Result, Ok, Err, refl, sym, ap, ◌∙◌, subst, FeedStep, ClaimExit, came_back, is_busy_reply, Turn, PlantState, starts, IsShown, Frame, FrameExamples, WrongFilms, ShownExamples, Fails}
 use Rattle.cell_plant.specs.FrameExamples.{Keeps}
 use Rattle.cell_plant.proofs.Deciding.{not_so, same_number, equals, true_false, false_true}
 

@@ -1,7 +1,6 @@
 -- A run by what gauges may give is one by what others may give that give as much. So it is a run by readings near the
 -- lines.
-use Rattle.cell_plant.proofs.Names.{ℕ, ℤ, Bool, true, false, List, [], ◌∷◌, Result, Ok, Err, Machine, Table, Robot, Crane, Scale, IsReading, CraneSense, RobotSense, SensorFault, Clash, TableSense, crane_steps, CraneReading, RobotGauges}
-use Rattle.cell_plant.proofs.Names.{RobotScales, robot_steps, RobotReading, table_steps, TableReading, TurnCall, RunRecord, Turn, acts_still, table_rig, robot_rig, crane_rig, TellsRun, CellGauges, any_near, robot_axes, robot_gauges}
+use Rattle.cell_plant.proofs.Names.{ℕ, ℤ, Bool, true, false, List, [], ◌∷◌, Result, Ok, Err, Machine, Table, Robot, Crane, Scale, IsReading, CraneSense, RobotSense, SensorFault, Clash, TableSense, crane_steps, CraneReading, RobotGauges, RobotScales, robot_steps, RobotReading, table_steps, TableReading, TurnCall, RunRecord, Turn, acts_still, table_rig, robot_rig, crane_rig, TellsRun, CellGauges, any_near, robot_axes, robot_gauges}
 use Rattle.cell_plant.proofs.Names.{robot_points, steps_by, rig_of, SideOf, CellState, cell_at_start, SeesRun, SeesBeginning, Step, TakesTurnBy, LeadsIfBy, goes_on, IsRun, IsRunBy, Frame, SeenFault, RunsAreByGauges}
 use Rattle.cell_haul.specs.CraneProgram.{Senses as CraneSenses}
 use Rattle.cell_robot.specs.RobotProgram.{Senses as RobotSenses}

@@ -1,7 +1,5 @@
 -- A run with one more turn: its end, its length, its events and its counts.
-use Rattle.cell_plant.proofs.Names.{◌≡◌, suc, ◌+◌, Bool, true, false, ◌&&◌, cond, List, [], ◌∷◌, ◌++◌, append-nil, append_assoc, length, count_by, add-zero, refl, sym, ap, ◌∙◌, if◌then◌else◌, arith, sum_by-append, sum_by-cons, one_if}
-use Rattle.cell_plant.proofs.Names.{TurnCall, is_done_reply, is_read_reply, is_refused_reply, is_busy_reply, came_back, settled_in, counts_with, Counts, Turn, CellScales, CellGauges, CellState, Step, LeadsBy, IsRunBy, end_of, is_turn_of}
-use Rattle.cell_plant.proofs.Names.{is_told, counts_in, events_in}
+use Rattle.cell_plant.proofs.Names.{◌≡◌, suc, ◌+◌, Bool, true, false, ◌&&◌, cond, List, [], ◌∷◌, ◌++◌, append-nil, append_assoc, length, count_by, add-zero, refl, sym, ap, ◌∙◌, if◌then◌else◌, arith, sum_by-append, sum_by-cons, one_if, TurnCall, is_done_reply, is_read_reply, is_refused_reply, is_busy_reply, came_back, settled_in, counts_with, Counts, Turn, CellScales, CellGauges, CellState, Step, LeadsBy, IsRunBy, end_of, is_turn_of, is_told, counts_in, events_in}
 use Rattle.cell_types.specs.declared.machine.Machine.{Machine}
 
 -- a run is extended by a turn

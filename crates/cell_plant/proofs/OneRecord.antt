@@ -1,6 +1,5 @@
 -- Records of runs of one schedule from one opening, in which no machine was stopped, say the same.
-use Rattle.cell_plant.proofs.Names.{◌≡◌, List, map, Option, Some, None, refl, sym, ap, ◌∙◌, subst, arith, Machine, Feed, Table, Robot, Press, Deposit, Crane, Watch, all_machines, noted, ModelState, CtlFault, RunRecord, Turn, Status, Fine}
-use Rattle.cell_plant.proofs.Names.{status_of, CellScales, TellsRun, CellState, cell_at_start, plant_of, HadMemory, SayTheSame, CellGauges, counts_in, events_in, positions_in, Step, end_of, SaysOneThing}
+use Rattle.cell_plant.proofs.Names.{◌≡◌, List, map, Option, Some, None, refl, sym, ap, ◌∙◌, subst, arith, Machine, Feed, Table, Robot, Press, Deposit, Crane, Watch, all_machines, noted, ModelState, CtlFault, RunRecord, Turn, Status, Fine, status_of, CellScales, TellsRun, CellState, cell_at_start, plant_of, HadMemory, SayTheSame, CellGauges, counts_in, events_in, positions_in, Step, end_of, SaysOneThing}
 use Rattle.std.proofs.Common.{All}
 use Rattle.cell_control.specs.declared.fault.CtlFault.TheVariants as cause
 use Rattle.cell_plant.proofs.FineRuns.{had_memory}

@@ -1,6 +1,5 @@
 -- By gauges that give one position, a schedule has one run from a state.
-use Rattle.cell_plant.proofs.Names.{◌≡◌, Bool, true, false, List, [], ◌∷◌, refl, sym, ap, ◌∙◌, subst, Machine, same_machine, one_machine, Turn, CellScales, CellState, CellGauges, steps_by, rig_of, GiveOne, HadMemory, Step, TakesTurnBy}
-use Rattle.cell_plant.proofs.Names.{LeadsIfBy, goes_on, IsRunBy, HasOneRun}
+use Rattle.cell_plant.proofs.Names.{◌≡◌, Bool, true, false, List, [], ◌∷◌, refl, sym, ap, ◌∙◌, subst, Machine, same_machine, one_machine, Turn, CellScales, CellState, CellGauges, steps_by, rig_of, GiveOne, HadMemory, Step, TakesTurnBy, LeadsIfBy, goes_on, IsRunBy, HasOneRun}
 use Rattle.cell_unit.specs.Sides.{side_moved}
 use Rattle.cell_parts.specs.Axes.{AreCellScales}
 use Rattle.cell_plant.proofs.OneTurn.{GotMemory, SameAsk, one_take}

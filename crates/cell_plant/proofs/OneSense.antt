@@ -1,7 +1,6 @@
 -- The sensors of each machine show one thing, their check says one thing by gauges that give one position, and a drive has
 -- one command.
-use Rattle.cell_plant.proofs.Names.{◌≡◌, ℕ, ◌≤◌, ℤ, ◌+ℤ◌, ◌≤ℤ◌, ◌↔◌, IsTrue, Bool, Result, Ok, Err, refl, sym, ap, ◌∙◌, subst, arith, by_lt_z, Scale, IsScale, SensorFault, CraneSense, RobotSense, TableSense, one_raw_at, travel_from}
-use Rattle.cell_plant.proofs.Names.{drives_one, acts_one, crane_steps, CraneReading, RobotGauges, RobotScales, arm1_stop, arm2_stop, robot_steps, turns_to, RobotReading, FirstFails, IsRaw, rotation_stop, table_steps, TableReading}
+use Rattle.cell_plant.proofs.Names.{◌≡◌, ℕ, ◌≤◌, ℤ, ◌+ℤ◌, ◌≤ℤ◌, ◌↔◌, IsTrue, Bool, Result, Ok, Err, refl, sym, ap, ◌∙◌, subst, arith, by_lt_z, Scale, IsScale, SensorFault, CraneSense, RobotSense, TableSense, one_raw_at, travel_from, drives_one, acts_one, crane_steps, CraneReading, RobotGauges, RobotScales, arm1_stop, arm2_stop, robot_steps, turns_to, RobotReading, FirstFails, IsRaw, rotation_stop, table_steps, TableReading}
 use Rattle.cell_plant.proofs.Names.{AreCellScales, table_rig, robot_rig, crane_rig, ShowsRaw, CellGauges, robot_axes, robot_gauges, robot_points, steps_by, rig_of, GiveOne, GivesOne}
 use Rattle.cell_haul.specs.CraneProgram.{Senses as CraneSenses}
 use Rattle.cell_robot.specs.RobotProgram.{Fails, Senses as RobotSenses}

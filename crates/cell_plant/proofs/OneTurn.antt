@@ -1,6 +1,5 @@
 -- A machine has one turn, if its sensors show one thing, their check says one thing, and a drive has one command.
-use Rattle.cell_plant.proofs.Names.{◌≡◌, ◌≢◌, ℕ, Bool, Option, Some, None, Result, Ok, Err, refl, sym, ap, ◌∙◌, subst, Machine, Call, Answer, Reply, Settled, Busy, SensorFault, ModelState, LineFault, Rig, Steps, outcome, Performed}
-use Rattle.cell_plant.proofs.Names.{PerformsCall, PerformsSensed, Turned, Turns, at_rest, turned, CtlFault, Side, side_set, Answers, Takes}
+use Rattle.cell_plant.proofs.Names.{◌≡◌, ◌≢◌, ℕ, Bool, Option, Some, None, Result, Ok, Err, refl, sym, ap, ◌∙◌, subst, Machine, Call, Answer, Reply, Settled, Busy, SensorFault, ModelState, LineFault, Rig, Steps, outcome, Performed, PerformsCall, PerformsSensed, Turned, Turns, at_rest, turned, CtlFault, Side, side_set, Answers, Takes}
 use Rattle.cell_notes.specs.Asks.{TurnCall}
 
 abbrev pub GotMemory : TurnCall → Type 0

@@ -1,6 +1,5 @@
 -- The figures of the records of literal runs, and records that are wrong in one thing.
-use Rattle.cell_plant.proofs.Names.{◌≡◌, ◌≢◌, ℕ, ℤ, pos, List, [], ◌∷◌, length, get_or, Some, None, refl, sym, ap, ◌∙◌, Machine, Feed, Watch, Done, Refused, Shut, Closed, Entry, Journals, ModelState, noted, no_counts, Counts, RunRecord}
-use Rattle.cell_plant.proofs.Names.{Status, Fine, IsRecordOf, events_in, end_of, opening, at_first, steps, IsOfLiteralRun, IsOfOneStop, counts_of, IsOfApart, WrongRecords, IsRecord, AreJournals, journal_by, done_entry, refused_entry}
+use Rattle.cell_plant.proofs.Names.{◌≡◌, ◌≢◌, ℕ, ℤ, pos, List, [], ◌∷◌, length, get_or, Some, None, refl, sym, ap, ◌∙◌, Machine, Feed, Watch, Done, Refused, Shut, Closed, Entry, Journals, ModelState, noted, no_counts, Counts, RunRecord, Status, Fine, IsRecordOf, events_in, end_of, opening, at_first, steps, IsOfLiteralRun, IsOfOneStop, counts_of, IsOfApart, WrongRecords, IsRecord, AreJournals, journal_by, done_entry, refused_entry}
 use Rattle.cell_plant.proofs.Names.{stop_entry, first_stop, steps_apart, last_apart, journals_apart, with_feed_counts}
 use Rattle.cell_notes.specs.declared.status.Status.TheVariants.{Memory}
 use Rattle.cell_plant.proofs.Deciding.{not_so, equals, same_number}

@@ -1,8 +1,6 @@
 -- The examples of records: of runs of a schedule, and of no such run.
-use Rattle.cell_plant.proofs.Names.{◌≡◌, ◌≢◌, ◌+◌, Bool, true, false, ◌&&◌, cond, List, [], ◌∷◌, map, Some, Result, Ok, Err, refl, sym, ap, ◌∙◌, arith, Machine, Feed, Table, Robot, Press, Deposit, Crane, Watch, Call, Reply, all_machines}
-use Rattle.cell_plant.proofs.Names.{same_machine, IsReading, CraneSense, SensorFault, CraneAct, ModelState, IsLegal, after, LineFault, Performed, PerformsSensed, Turned, turned, Senses, CraneProgress, CraneReading, RunRecord, Fine, Sensor}
-use Rattle.cell_plant.proofs.Names.{Turn, status_of, CellScales, steps_of, SideOf, CellState, cell_at_start, IsRecordOf, is_turn_of, counts_in, events_in, Step, TakesTurn, IsRun, end_of, IsSafeState, IsSafeRun, opening, at_first, schedule}
-use Rattle.cell_plant.proofs.Names.{steps, turn_of, asks, IsOfLiteralRun, IsOfOneStop, counts_of, IsOfLegalHistory, RecordExamples, IsOfNoTurn, IsUnread, Tells, counts_by, open_too_early}
+use Rattle.cell_plant.proofs.Names.{◌≡◌, ◌≢◌, ◌+◌, Bool, true, false, ◌&&◌, cond, List, [], ◌∷◌, map, Some, Result, Ok, Err, refl, sym, ap, ◌∙◌, arith, Machine, Feed, Table, Robot, Press, Deposit, Crane, Watch, Call, Reply, all_machines, same_machine, IsReading, CraneSense, SensorFault, CraneAct, ModelState, IsLegal, after, LineFault, Performed, PerformsSensed, Turned, turned, Senses, CraneProgress, CraneReading, RunRecord, Fine, Sensor}
+use Rattle.cell_plant.proofs.Names.{Turn, status_of, CellScales, steps_of, SideOf, CellState, cell_at_start, IsRecordOf, is_turn_of, counts_in, events_in, Step, TakesTurn, IsRun, end_of, IsSafeState, IsSafeRun, opening, at_first, schedule, steps, turn_of, asks, IsOfLiteralRun, IsOfOneStop, counts_of, IsOfLegalHistory, RecordExamples, IsOfNoTurn, IsUnread, Tells, counts_by, open_too_early}
 use Rattle.cell_control.specs.declared.fault.CtlFault.TheVariants.{Sensor as BySensor}
 use Rattle.cell_plant.proofs.Deciding.{so, not_so, same_number}
 use Rattle.cell_plant.proofs.ExampleTurns.{one_stop, literal_run, one_stop_run}

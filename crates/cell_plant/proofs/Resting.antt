@@ -1,6 +1,5 @@
 -- A turn that an error ends sets the actuators to rest.
-use Rattle.cell_plant.proofs.Names.{◌≡◌, Option, Some, None, Result, Ok, Err, refl, sym, ap, ◌∙◌, subst, Machine, Feed, Call, Reply, LineFault, Rig, Steps, Performed, Turned, Turns, turned, CtlFault, done_in, ActsAndMoves, act_or_rest}
-use Rattle.cell_plant.proofs.Names.{noting, part_set, CellScales, SideOf, ProgressOf, PartOf, steps_of, rig_of, IsAtRest, StoppedMachinesRest}
+use Rattle.cell_plant.proofs.Names.{◌≡◌, Option, Some, None, Result, Ok, Err, refl, sym, ap, ◌∙◌, subst, Machine, Feed, Call, Reply, LineFault, Rig, Steps, Performed, Turned, Turns, turned, CtlFault, done_in, ActsAndMoves, act_or_rest, noting, part_set, CellScales, SideOf, ProgressOf, PartOf, steps_of, rig_of, IsAtRest, StoppedMachinesRest}
 use Rattle.cell_notes.specs.Asks.{TurnCall}
 use Rattle.cell_unit.specs.Sides.{Side, Acts}
 

@@ -1,14 +1,10 @@
 -- The invariant of the robot's side: it holds in every state of a run.
-use Rattle.cell_plant.proofs.Names.{◌≡◌, ℤ, pos, ◌≤ℤ◌, Bool, true, false, not, ◌&&◌, ◌||◌, ◌⊎◌, inl, inr, Option, Some, None, Result, Ok, refl, sym, ap, ◌∙◌, subst, if◌then◌else◌, arith, ⊤, ints, Machine, Robot, Call, Reply, Posture}
-use Rattle.cell_plant.proofs.Names.{OpenIn, OpenOut, Z2, Z3, Z4, IsNear, RobotSense, DrivesTo, Motor, Off, RobotAct, RETRACTED, ARM1_PRESS, ARM2_DEPOSIT, ROTATION_ARM1_TABLE, ROTATION_ARM1_PRESS, ROTATION_ARM2_PRESS, ROTATION_ARM2_DEPOSIT}
-use Rattle.cell_plant.proofs.Names.{ModelState, changed, LineFault, Turned, Turns, CtlFault, AreSo, choice, notes_at, robot_start, RobotScales, near_lines, turns_to, arm1_stop, arm2_stop, robot_rest, robot_steps, RobotStep, TurnToTable}
-use Rattle.cell_plant.proofs.Names.{ReachTable, LeaveTable, TurnToLoad, ClaimPress, InspectPress, ReleasePress, ReachToLoad, DropInPress, LeaveLoaded, TurnToUnload, AwaitForged, ReachToUnload, GripForged, LeaveUnloaded, TurnToDeposit}
-use Rattle.cell_plant.proofs.Names.{ClaimDeposit, ReachDeposit, DropOnDeposit, LeaveDeposit, RobotNotes, RobotProgress, RobotReading, turns, RobotKnows, at_choice, robot-knowing, act_or_rest, Keeping, turn_tells, IsAxisScale, IsWithin}
-use Rattle.cell_plant.proofs.Names.{IsIn, arm_end, rotation_end, robot_at_start, moved_axis, set_axis, set_robot, robot_rig, IsOn, IsOut, IsArm1AtTable, IsArm1InPress, IsArm2InPress, IsArm2AtDeposit, LetsGo, Arm1MayLetGo, Arm2MayLetGo}
+use Rattle.cell_plant.proofs.Names.{◌≡◌, ℤ, pos, ◌≤ℤ◌, Bool, true, false, not, ◌&&◌, ◌||◌, ◌⊎◌, inl, inr, Option, Some, None, Result, Ok, refl, sym, ap, ◌∙◌, subst, if◌then◌else◌, arith, ⊤, ints, Machine, Robot, Call, Reply, Posture, OpenIn, OpenOut, Z2, Z3, Z4, IsNear, RobotSense, DrivesTo, Motor, Off, RobotAct, RETRACTED, ARM1_PRESS, ARM2_DEPOSIT, ROTATION_ARM1_TABLE, ROTATION_ARM1_PRESS, ROTATION_ARM2_PRESS, ROTATION_ARM2_DEPOSIT}
+use Rattle.cell_plant.proofs.Names.{ModelState, changed, LineFault, Turned, Turns, CtlFault, AreSo, choice, notes_at, robot_start, RobotScales, near_lines, turns_to, arm1_stop, arm2_stop, robot_rest, robot_steps, RobotStep, TurnToTable, ReachTable, LeaveTable, TurnToLoad, ClaimPress, InspectPress, ReleasePress, ReachToLoad, DropInPress, LeaveLoaded, TurnToUnload, AwaitForged, ReachToUnload, GripForged, LeaveUnloaded, TurnToDeposit}
+use Rattle.cell_plant.proofs.Names.{ClaimDeposit, ReachDeposit, DropOnDeposit, LeaveDeposit, RobotNotes, RobotProgress, RobotReading, turns, RobotKnows, at_choice, robot-knowing, act_or_rest, Keeping, turn_tells, IsAxisScale, IsWithin, IsIn, arm_end, rotation_end, robot_at_start, moved_axis, set_axis, set_robot, robot_rig, IsOn, IsOut, IsArm1AtTable, IsArm1InPress, IsArm2InPress, IsArm2AtDeposit, LetsGo, Arm1MayLetGo, Arm2MayLetGo}
 use Rattle.cell_plant.proofs.Names.{DrivesPast, RotatesRetracted, HoldsIn, Axis, RobotPlant, RobotShows}
 use Rattle.cell_devices.specs.declared.stops.Stop.{Stop}
-use Rattle.cell_robot.specs.Names.{row_at, row_of, step_after_inquiry, after_done}
-use Rattle.cell_robot.specs.Names.{Senses, Acts, is_done}
+use Rattle.cell_robot.specs.Names.{row_at, row_of, step_after_inquiry, after_done, Senses, Acts, is_done}
 use Rattle.cell_robot.specs.declared.robot.RobotStep.TheVariants.{AwaitPlate, GripPlate}
 use Rattle.cell_robot.specs.RobotProgram.{rotation_stop, is_off}
 use Rattle.cell_robot.proofs.RobotFacts.{facts_at}

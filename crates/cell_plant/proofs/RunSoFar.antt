@@ -1,8 +1,6 @@
 -- The progress of a simulation: the run so far, and what was noted of it.
-use Rattle.cell_plant.proofs.Names.{◌≡◌, ℕ, ◌<◌, ◌≤◌, Bool, true, false, ◌&&◌, cond, List, [], ◌∷◌, ◌++◌, append-nil, length, take, map, count_by, Some, None, Result, Ok, Err, refl, sym, ap, ◌∙◌, subst, if◌then◌else◌, arith, length-take-le}
-use Rattle.cell_plant.proofs.Names.{count_by-le-length, Machine, Feed, Table, Robot, Press, Deposit, Crane, Watch, Call, Answer, Event, Entry, Reply, Settled, Busy, all_machines, same_machine, ModelState, noted, entry_of, after, IsLegal}
-use Rattle.cell_plant.proofs.Names.{IsStartState, LineFault, after-append, noted-append, legal-append, turn_either, TurnCall, is_done_reply, is_read_reply, is_refused_reply, is_busy_reply, settled_in, Notes, no_notes, HasRoom, counts_with}
-use Rattle.cell_plant.proofs.Names.{notes_with, at_machine, Counts, RunRecord, Turn, entries_in, Answers, CellScales, CellGauges, steps_by, CellState, plant_of, cell_at_start, Step, TakesTurnBy, LeadsIfBy, LeadsBy, goes_on, IsRunBy, end_of}
+use Rattle.cell_plant.proofs.Names.{◌≡◌, ℕ, ◌<◌, ◌≤◌, Bool, true, false, ◌&&◌, cond, List, [], ◌∷◌, ◌++◌, append-nil, length, take, map, count_by, Some, None, Result, Ok, Err, refl, sym, ap, ◌∙◌, subst, if◌then◌else◌, arith, length-take-le, count_by-le-length, Machine, Feed, Table, Robot, Press, Deposit, Crane, Watch, Call, Answer, Event, Entry, Reply, Settled, Busy, all_machines, same_machine, ModelState, noted, entry_of, after, IsLegal}
+use Rattle.cell_plant.proofs.Names.{IsStartState, LineFault, after-append, noted-append, legal-append, turn_either, TurnCall, is_done_reply, is_read_reply, is_refused_reply, is_busy_reply, settled_in, Notes, no_notes, HasRoom, counts_with, notes_with, at_machine, Counts, RunRecord, Turn, entries_in, Answers, CellScales, CellGauges, steps_by, CellState, plant_of, cell_at_start, Step, TakesTurnBy, LeadsIfBy, LeadsBy, goes_on, IsRunBy, end_of}
 use Rattle.cell_plant.proofs.Names.{is_turn_of, is_told, counts_in, events_in, positions_in, TellsRun, RunMoment, StepsOn, Keeps, first_moment, state_at}
 use Rattle.cell_unit.specs.Names.{status_of}
 use Rattle.cell_parts.specs.Axes.{AreCellScales}

@@ -1,10 +1,7 @@
 -- Decides by computing whether a state, a step and a run are safe.
-use Rattle.cell_plant.proofs.Names.{ℕ, ◌+◌, ℤ, pos, ◌+ℤ◌, ◌-ℤ◌, Bool, ◌⊎◌, List, [], ◌∷◌, is_some, Machine, Feed, Table, Robot, Press, Deposit, Crane, Watch, Zone, Z1, Z2, Z3, Z4, Z5, Z6, FeedEnd, DepEnd, Posture, Moving, OpenIn, OpenOut}
-use Rattle.cell_plant.proofs.Names.{retracted_to, ROTATION_ARM1_PRESS, ROTATION_ARM2_DEPOSIT, ARM1_PRESS, ARM2_DEPOSIT, GRIPPER_FEED, ModelState, is_full, owns, posture_at, press_end, arm_end, rotation_end, lift_end, turn_end, crane_end}
-use Rattle.cell_plant.proofs.Names.{gripper_end, Span, IsIn, IsWithin, IsOn, IsOut, IsGripperDown, IsOverDeposit, IsOverFeed, RestsAtMiddle, RestsAtBottom, TableMoves, LetsGo, PlateFalls, DrivesPast, DrivesPastEnd, NothingCollides}
-use Rattle.cell_plant.proofs.Names.{NothingCollidesWhenSet, arm1_at_table, arm2_in_press, arm1_in_press, arm2_at_deposit, over_deposit_to, over_feed_from, loads_to, GripperErrand, ForTravel, AtDeposit, AtFeed, ErrandDemands, MotorDemands}
-use Rattle.cell_plant.proofs.Names.{StaysWithin, HoldsIn, RestsAtLoading, PositionDemands, at, Axis, TablePlant, CranePlant, PlantState, IsAt, Arm1HasTable, Arm1HasPress, Arm2HasPress, Arm2HasDeposit, press_middle, press_bottom_to}
-use Rattle.cell_plant.proofs.Names.{table_bottom_to, crane_feed_from, CellState, plant_of, errand_of, Step, IsSafeState, IsSafelySet, IsSafeRun, IsClear, IsWithinEnds, HasPositions, HasMotors, OnlyCollides, OnlyPastEnd, OnlyPositionUnmet}
+use Rattle.cell_plant.proofs.Names.{ℕ, ◌+◌, ℤ, pos, ◌+ℤ◌, ◌-ℤ◌, Bool, ◌⊎◌, List, [], ◌∷◌, is_some, Machine, Feed, Table, Robot, Press, Deposit, Crane, Watch, Zone, Z1, Z2, Z3, Z4, Z5, Z6, FeedEnd, DepEnd, Posture, Moving, OpenIn, OpenOut, retracted_to, ROTATION_ARM1_PRESS, ROTATION_ARM2_DEPOSIT, ARM1_PRESS, ARM2_DEPOSIT, GRIPPER_FEED, ModelState, is_full, owns, posture_at, press_end, arm_end, rotation_end, lift_end, turn_end, crane_end}
+use Rattle.cell_plant.proofs.Names.{gripper_end, Span, IsIn, IsWithin, IsOn, IsOut, IsGripperDown, IsOverDeposit, IsOverFeed, RestsAtMiddle, RestsAtBottom, TableMoves, LetsGo, PlateFalls, DrivesPast, DrivesPastEnd, NothingCollides, NothingCollidesWhenSet, arm1_at_table, arm2_in_press, arm1_in_press, arm2_at_deposit, over_deposit_to, over_feed_from, loads_to, GripperErrand, ForTravel, AtDeposit, AtFeed, ErrandDemands, MotorDemands}
+use Rattle.cell_plant.proofs.Names.{StaysWithin, HoldsIn, RestsAtLoading, PositionDemands, at, Axis, TablePlant, CranePlant, PlantState, IsAt, Arm1HasTable, Arm1HasPress, Arm2HasPress, Arm2HasDeposit, press_middle, press_bottom_to, table_bottom_to, crane_feed_from, CellState, plant_of, errand_of, Step, IsSafeState, IsSafelySet, IsSafeRun, IsClear, IsWithinEnds, HasPositions, HasMotors, OnlyCollides, OnlyPastEnd, OnlyPositionUnmet}
 use Rattle.cell_plant.proofs.Names.{OnlyMotorUnmet, StandsWithin, OnlySetIsUnsafe, OnlyStepIsUnsafe, cell_with, before_first}
 use Rattle.cell_devices.specs.Names.{travel_from}
 use Rattle.cell_devices.specs.declared.stops.Stop.{Stop}

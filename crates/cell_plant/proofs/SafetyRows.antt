@@ -1,6 +1,5 @@
 -- The examples of safe and unsafe states, steps and runs: each is decided by computing.
-use Rattle.cell_plant.proofs.Names.{◌≡◌, ℕ, true, false, [], ◌∷◌, refl, ModelState, Axis, PlantState, CellState, Step, IsSafeState, IsSafelySet, SafeRuns, SafetyExamples, quiet, danger, loaded, through, drops, OnlyCollides}
-use Rattle.cell_plant.proofs.Names.{OnlyPositionUnmet, OnlyMotorUnmet, StandsWithin, OnlySetIsUnsafe, OnlyStepIsUnsafe}
+use Rattle.cell_plant.proofs.Names.{◌≡◌, ℕ, true, false, [], ◌∷◌, refl, ModelState, Axis, PlantState, CellState, Step, IsSafeState, IsSafelySet, SafeRuns, SafetyExamples, quiet, danger, loaded, through, drops, OnlyCollides, OnlyPositionUnmet, OnlyMotorUnmet, StandsWithin, OnlySetIsUnsafe, OnlyStepIsUnsafe}
 use Rattle.cell_plant.proofs.Deciding.{is_yes, so, not_so}
 use Rattle.cell_plant.proofs.SafetyDecided.{is_safe, only_collides, only_position_unmet, only_motor_unmet, stands_within, is_safely_set, only_set_is_unsafe, only_step_is_unsafe, is_safe_run}
 

@@ -1,6 +1,5 @@
 -- Machines that stand at steps of their programs, over one history: no refusal has stopped one.
-use Rattle.cell_plant.proofs.Names.{◌≡◌, false, List, Option, Some, refl, Machine, Feed, Table, Robot, Press, Deposit, Crane, Watch, Refusal, Event, same_machine, ModelState, IsStartState, IsLegal, CtlFault, CellScales, Team, programs_of}
-use Rattle.cell_plant.proofs.Names.{HaveCome, AreUnstopped, IsUnstopped, none-stopped, stands_still, Stands}
+use Rattle.cell_plant.proofs.Names.{◌≡◌, false, List, Option, Some, refl, Machine, Feed, Table, Robot, Press, Deposit, Crane, Watch, Refusal, Event, same_machine, ModelState, IsStartState, IsLegal, CtlFault, CellScales, Team, programs_of, HaveCome, AreUnstopped, IsUnstopped, none-stopped, stands_still, Stands}
 use Rattle.cell_calib.specs.Line.{IsReading}
 use Rattle.cell_control.specs.declared.fault.CtlFault.TheVariants as fault
 use Rattle.cell_haul.specs.CraneProgram.{Senses as CraneSenses, crane_steps}

@@ -1,7 +1,6 @@
 -- An axis that is driven to stops by its potentiometer: the reading is near the position, the axis is at the stop once
 -- its motor is off there, and it isn't driven on past an end.
-use Rattle.cell_plant.proofs.Names.{◌≡◌, ◌≢◌, ℕ, ℤ, pos, ◌+ℤ◌, ◌-ℤ◌, ◌<ℤ◌, ◌≤ℤ◌, Bool, true, inl, inr, Option, Some, None, refl, arith, ⊤, ints, Scale, raw_width, IsNear, IsReading, near_position_lem, DrivesTo, Motor, Off, IsAxisScale}
-use Rattle.cell_plant.proofs.Names.{IsWithin, Span, IsIn, set_axis, ShowsRaw, DrivesPast, Axis}
+use Rattle.cell_plant.proofs.Names.{◌≡◌, ◌≢◌, ℕ, ℤ, pos, ◌+ℤ◌, ◌-ℤ◌, ◌<ℤ◌, ◌≤ℤ◌, Bool, true, inl, inr, Option, Some, None, refl, arith, ⊤, ints, Scale, raw_width, IsNear, IsReading, near_position_lem, DrivesTo, Motor, Off, IsAxisScale, IsWithin, Span, IsIn, set_axis, ShowsRaw, DrivesPast, Axis}
 use Rattle.cell_devices.specs.declared.stops.Stop.{Stop}
 
 -- a reading is within the tolerance of the axis's position

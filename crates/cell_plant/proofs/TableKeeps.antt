@@ -1,12 +1,8 @@
 -- The invariant of the table's side: it holds in every state of a run.
-use Rattle.cell_plant.proofs.Names.{◌≡◌, pos, Bool, true, ◌&&◌, ◌⊎◌, inl, inr, [], ◌∷◌, Option, Some, None, Result, Ok, refl, sym, ap, ◌∙◌, subst, if◌then◌else◌, arith, ints, Z1, Z2, Posture, Moving, OpenIn, Call, Done, Reply, Scale}
-use Rattle.cell_plant.proofs.Names.{IsNear, IsReading, TableSense, Motor, Off, Plus, Minus, TableAct, ModelState, IsStartState, IsSound, posture_at, reply, changed, next, posture_given, LineFault, posture-foreign, posture-changed}
-use Rattle.cell_plant.proofs.Names.{with_plate, by_plate, after_act, rotation_stop, table_start, table_steps, TableStep, MoveToLoading, PoseLoading, TableProgress, TableReading, IsAxisScale, IsWithin, lift_end, turn_end, table_at_start}
-use Rattle.cell_plant.proofs.Names.{set_axis, TableMoves, DrivesPast, RestsAtLoading, table_rig, TablePlant, set_table, moved_table, Turned, Turns, CtlFault, height_for, Finds, TableKnows, table-knowing, act_or_rest, Keeping, turn_tells}
-use Rattle.cell_plant.proofs.Names.{Demanding, WhileOn, demanding_while_on, TableShows}
+use Rattle.cell_plant.proofs.Names.{◌≡◌, pos, Bool, true, ◌&&◌, ◌⊎◌, inl, inr, [], ◌∷◌, Option, Some, None, Result, Ok, refl, sym, ap, ◌∙◌, subst, if◌then◌else◌, arith, ints, Z1, Z2, Posture, Moving, OpenIn, Call, Done, Reply, Scale, IsNear, IsReading, TableSense, Motor, Off, Plus, Minus, TableAct, ModelState, IsStartState, IsSound, posture_at, reply, changed, next, posture_given, LineFault, posture-foreign, posture-changed}
+use Rattle.cell_plant.proofs.Names.{with_plate, by_plate, after_act, rotation_stop, table_start, table_steps, TableStep, MoveToLoading, PoseLoading, TableProgress, TableReading, IsAxisScale, IsWithin, lift_end, turn_end, table_at_start, set_axis, TableMoves, DrivesPast, RestsAtLoading, table_rig, TablePlant, set_table, moved_table, Turned, Turns, CtlFault, height_for, Finds, TableKnows, table-knowing, act_or_rest, Keeping, turn_tells, Demanding, WhileOn, demanding_while_on, TableShows}
 use Rattle.cell_types.specs.declared.machine.Machine.TheVariants.{Table as TableMachine}
-use Rattle.cell_stations.specs.Names.{row_of, after_done, is_off}
-use Rattle.cell_stations.specs.Names.{Senses, Acts}
+use Rattle.cell_stations.specs.Names.{row_of, after_done, is_off, Senses, Acts}
 use Rattle.cell_stations.specs.declared.table.TableStep.TheVariants.{ClaimExit}
 use Rattle.cell_stations.specs.TableProgram.{row_at}
 use Rattle.cell_stations.proofs.TableFacts.{drives_at}

@@ -1,6 +1,5 @@
 -- The examples of turns, and of what isn't one.
-use Rattle.cell_plant.proofs.Names.{◌≡◌, ◌≢◌, ℕ, Bool, true, false, Some, None, Result, Ok, refl, sym, ap, ◌∙◌, subst, Machine, Feed, Table, Press, Watch, Call, Stop, Resume, Done, Refused, Shut, Closed, Reply, Settled, ModelState}
-use Rattle.cell_plant.proofs.Names.{LineFault, outcome, Turned, at_rest, turned, turn_either, asked_own, FeedProgress, TableProgress, PressProgress, Side, Answers, Axis, Belt, TablePlant, steps_of, CellState, Step, TakesTurn, at_first}
+use Rattle.cell_plant.proofs.Names.{◌≡◌, ◌≢◌, ℕ, Bool, true, false, Some, None, Result, Ok, refl, sym, ap, ◌∙◌, subst, Machine, Feed, Table, Press, Watch, Call, Stop, Resume, Done, Refused, Shut, Closed, Reply, Settled, ModelState, LineFault, outcome, Turned, at_rest, turned, turn_either, asked_own, FeedProgress, TableProgress, PressProgress, Side, Answers, Axis, Belt, TablePlant, steps_of, CellState, Step, TakesTurn, at_first}
 use Rattle.cell_plant.proofs.Names.{at_entered, at_press_stopped, at_last, watch_noting, watch_steps, WatchProgress, TurnExamples, PassExamples, stops_again, resumes_at_first, resumes_unnoted, stopped, resumed}
 use Rattle.cell_notes.specs.Asks.{TurnCall}
 use Rattle.cell_parts.specs.Names.{CellScales}

@@ -1,6 +1,5 @@
 -- What the watch keeps: its note is the mark of the interlock.
-use Rattle.cell_plant.proofs.Names.{◌≡◌, Bool, true, false, not, if◌then◌else◌, Some, refl, sym, ◌∙◌, Machine, Watch, Call, Stop, Resume, Answer, Done, same_machine, ModelState, stop_refusal, resume_refusal, reply, next, next_by}
-use Rattle.cell_plant.proofs.Names.{stopped_after, stop_done, resume_done, done_none, Keeping, watch_steps, watch_rig, WatchProgress}
+use Rattle.cell_plant.proofs.Names.{◌≡◌, Bool, true, false, not, if◌then◌else◌, Some, refl, sym, ◌∙◌, Machine, Watch, Call, Stop, Resume, Answer, Done, same_machine, ModelState, stop_refusal, resume_refusal, reply, next, next_by, stopped_after, stop_done, resume_done, done_none, Keeping, watch_steps, watch_rig, WatchProgress}
 
 abbrev pub WatchInv : ModelState → WatchProgress → Unit {0} → Type 0
 WatchInv z p b = p.has_stopped ≡ z.stopped

@@ -1,7 +1,6 @@
 -- By curves, a simulation that goes well has one text.
 use Rattle.std.proofs.Common.{◌≡◌, ℕ, zero, suc, ◌+◌, ℤ, List, [], ◌∷◌, inl, inr, Option, None, refl, sym, ap, ◌∙◌, subst, arith}
-use Rattle.cell_calib.specs.Names.{Scale, IsScale, IsLineRoundedDown, Pair, AreNeighbours, IsCurve, IsOnCurve}
-use Rattle.cell_calib.specs.Names.{ends_of, line_through, pair_at}
+use Rattle.cell_calib.specs.Names.{Scale, IsScale, IsLineRoundedDown, Pair, AreNeighbours, IsCurve, IsOnCurve, ends_of, line_through, pair_at}
 use Rattle.cell_calib.proofs.LineLemmas.{one_line_at}
 use Rattle.cell_notes.specs.declared.run_record.RunRecord.{RunRecord}
 use Rattle.cell_parts.specs.Axes.{AreCellScales, CellScales}

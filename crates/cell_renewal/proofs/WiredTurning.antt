@@ -16,8 +16,3 @@ module _ {P S Sense Reading Act D : Type 0} (steps : P → Steps S Sense Reading
   wired_comes_by m n p q e f first before now k turn =
       comes_on (TakesCycle n (steps q) shows sets gate) first before now k
       (subst (λ x. TakesCycle n (steps x) shows sets gate before now) f (subst (λ x. TakesCycle x (steps p) shows sets gate before now) e turn))
-
--- after all its cycles a worker ends by what has stopped its machine
-pub ends_after_all : (gate : GateOf) (limit cycles : ℕ) (stopped : Option CtlFault) (s : Status) → cycles ≡ limit → s ≡ status_of stopped → Ends gate limit stopped cycles s
-ends_after_all gate limit cycles None s all e = inl (e, all)
-ends_after_all gate limit cycles (Some fault) s all e = (e, omega (arith, all))

@@ -8,11 +8,7 @@ use Rattle.std.proofs.lemmas.Bool.{and_parts, cases_Bool}
 use Rattle.std.proofs.lemmas.Option.{same_Some}
 use Rattle.std.proofs.lemmas.Slice.Eq.{bytes_eq-Decides, slice_eq-Decides}
 use Rattle.csv.specs.Records.{field_at}
-use Rattle.cell_rules.specs.Types.{Machine, Feed, Table, Robot, Press, Deposit, Crane, Watch, Zone, Z1, Z2, Z3, Z4}
-use Rattle.cell_rules.specs.Types.{Z5, Z6, Pose, Turning, Loading, Unloading, Travelling, Middle, Low, Top, Running}
-use Rattle.cell_rules.specs.Types.{Landing, Halted, Offering, Standing, Call, Claim, Give, Yield, Take, Release}
-use Rattle.cell_rules.specs.Types.{SetPose, Advance, Inquire, Stop, Resume, machine_word, call_fields, verb_of}
-use Rattle.cell_rules.specs.Types.{all_machines}
+use Rattle.cell_rules.specs.Types.{Machine, Feed, Table, Robot, Press, Deposit, Crane, Watch, Zone, Z1, Z2, Z3, Z4, Z5, Z6, Pose, Turning, Loading, Unloading, Travelling, Middle, Low, Top, Running, Landing, Halted, Offering, Standing, Call, Claim, Give, Yield, Take, Release, SetPose, Advance, Inquire, Stop, Resume, machine_word, call_fields, verb_of, all_machines}
 use Rattle.cell_types.specs.CallWords.{object_of, with_object}
 use Rattle.cell_replay.specs.Versions.{has_call}
 use Rattle.csv_rows.specs.Rows.{Row}

@@ -7,8 +7,7 @@ use Rattle.std.proofs.lemmas.Bool.Decides.{nat_tests}
 use Rattle.std.proofs.lemmas.List.{length-take, length-map}
 use Rattle.std.proofs.lemmas.List.FromFn.{length-enumerate_from}
 use Rattle.cell_rules.specs.Types.{Event, PressIn, PressOut}
-use Rattle.cell_rules.specs.Names.{ModelState, last_stamp, size_of, PlaceSet, has, IsLegal, IsStartState, IsStart}
-use Rattle.cell_rules.specs.Names.{places_of, start_state, is_start, places_in}
+use Rattle.cell_rules.specs.Names.{ModelState, last_stamp, size_of, PlaceSet, has, IsLegal, IsStartState, IsStart, places_of, start_state, is_start, places_in}
 use Rattle.csv_rows.specs.Rows.{Row}
 use Rattle.cell_replay.specs.Versions.{version_of}
 use Rattle.cell_replay.specs.declared.version.Version.{Version}

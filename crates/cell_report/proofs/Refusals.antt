@@ -2,8 +2,7 @@
 use Rattle.std.proofs.Common.{◌≡◌, ◌≢◌, ℕ, ◌<◌, ◌≤◌, max, inl, inr, List, ◌∷◌, ◌++◌, [], map, Option, Some, None, Result, Ok, Err, IfErr, IfSome, refl, ap, ◌∙◌, subst, arith, true}
 use Rattle.std.proofs.lemmas.Bool.{cases_lt}
 use Rattle.cell_rules.specs.Types.{Machine, Event, Entry}
-use Rattle.cell_rules.specs.Names.{ModelState, next, after, IsLegal, is_done_answer, noted, IsAudited, EndsIn}
-use Rattle.cell_rules.specs.Names.{HasNoHistory}
+use Rattle.cell_rules.specs.Names.{ModelState, next, after, IsLegal, is_done_answer, noted, IsAudited, EndsIn, HasNoHistory}
 use Rattle.cell_report.specs.declared.ordered.Noted.{Noted}
 use Rattle.cell_report.specs.declared.audit_faults.AuditFault.{AuditFault}
 use Rattle.cell_report.specs.declared.audit_faults.AuditFault.TheVariants.{Twice, Gap, Differs, End, Memory}

@@ -1,9 +1,7 @@
 -- The states of a legal history, and at which point each entry was noted.
 use Rattle.std.proofs.Common.{◌≡◌, ◌+◌, ◌*◌, ◌≤◌, Bool, true, false, cond, ◌⊎◌, inl, inr, List, [], ◌∷◌, ◌++◌, refl, sym, ap, ◌∙◌, subst, arith}
-use Rattle.cell_rules.specs.Types.{Machine, Call, Answer, Done, Shown, Refused, Event, same_machine, one_machine}
-use Rattle.cell_rules.specs.Types.{Entry}
-use Rattle.cell_rules.specs.Names.{ModelState, reply, next, next_by, after, IsLegal, is_done_answer, noted, entry_of}
-use Rattle.cell_rules.specs.Names.{state_left}
+use Rattle.cell_rules.specs.Types.{Machine, Call, Answer, Done, Shown, Refused, Event, same_machine, one_machine, Entry}
+use Rattle.cell_rules.specs.Names.{ModelState, reply, next, next_by, after, IsLegal, is_done_answer, noted, entry_of, state_left}
 use Rattle.cell_report.specs.declared.ordered.Noted.{Noted}
 use Rattle.cell_report.specs.Order.{noted_from, rank}
 use Rattle.cell_report.proofs.Members.{In}

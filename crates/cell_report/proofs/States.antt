@@ -4,8 +4,7 @@ use Rattle.std.specs.List.{AllWithin, HoldsAt}
 use Rattle.std.proofs.lemmas.Bool.{false≢true}
 use Rattle.cell_rules.specs.Types.{Z1, all_zones, all_places}
 use Rattle.cell_types.specs.declared.place.Place.TheVariants.{Table}
-use Rattle.cell_rules.specs.Names.{ZoneMap, zone_map, zone_in, PlaceSet, place_set, has, ModelState, model_state}
-use Rattle.cell_rules.specs.Names.{zone_at, is_full}
+use Rattle.cell_rules.specs.Names.{ZoneMap, zone_map, zone_in, PlaceSet, place_set, has, ModelState, model_state, zone_at, is_full}
 use Rattle.cell_rules.specs.declared.zones.ZoneState.{ZoneState}
 
 -- what a test of each element answers, if there is an element

@@ -8,29 +8,22 @@ use Rattle.cell_devices.specs.declared.stops.Stop.{Stop}
 use Rattle.cell_devices.specs.declared.motor.Motor.{Motor}
 use Rattle.cell_devices.specs.Names.{DrivesTo, StopsAt}
 use Rattle.cell_devices.specs.declared.motor.Motor.TheVariants.{Off, Minus, Plus}
-use Rattle.cell_devices.specs.declared.stops.TheConstants.{ROTATION_ARM1_TABLE, ROTATION_ARM2_PRESS}
-use Rattle.cell_devices.specs.declared.stops.TheConstants.{ROTATION_ARM1_PRESS, ROTATION_ARM2_DEPOSIT, ARM1_TABLE}
-use Rattle.cell_devices.specs.declared.stops.TheConstants.{ARM1_PRESS, ARM2_PRESS, ARM2_DEPOSIT, RETRACTED}
+use Rattle.cell_devices.specs.declared.stops.TheConstants.{ROTATION_ARM1_TABLE, ROTATION_ARM2_PRESS, ROTATION_ARM1_PRESS, ROTATION_ARM2_DEPOSIT, ARM1_TABLE, ARM1_PRESS, ARM2_PRESS, ARM2_DEPOSIT, RETRACTED}
 use Rattle.cell_devices.specs.declared.act.RobotAct.{RobotAct}
 use Rattle.cell_devices.proofs.DriveLemmas.{drives_one, stops_there, goes_plus, goes_minus}
 use Rattle.cell_rules.specs.ModelState.{ModelState}
 use Rattle.cell_control.specs.declared.row.Row.{Row}
 use Rattle.cell_control.specs.Names.{waits_on, DriveRow, is_inquiry, row_that_drives}
 use Rattle.cell_control.proofs.WaitLemmas.{stays_never, stays_until_free_and_open}
-use Rattle.cell_robot.specs.Names.{RobotScales, row_at, row_of, step_after_inquiry, arm1_stop, arm2_stop, turns_to}
-use Rattle.cell_robot.specs.Names.{Acts, after_done}
+use Rattle.cell_robot.specs.Names.{RobotScales, row_at, row_of, step_after_inquiry, arm1_stop, arm2_stop, turns_to, Acts, after_done}
 use Rattle.cell_robot.specs.declared.robot.RobotStep.{RobotStep}
-use Rattle.cell_robot.specs.declared.robot.RobotStep.TheVariants.{AwaitPlate, ReachTable, ReleaseTable, InspectPress}
-use Rattle.cell_robot.specs.declared.robot.RobotStep.TheVariants.{ReleasePress, ReachToLoad, AwaitForged, ReachToUnload}
-use Rattle.cell_robot.specs.declared.robot.RobotStep.TheVariants.{ReleaseUnloaded}
+use Rattle.cell_robot.specs.declared.robot.RobotStep.TheVariants.{AwaitPlate, ReachTable, ReleaseTable, InspectPress, ReleasePress, ReachToLoad, AwaitForged, ReachToUnload, ReleaseUnloaded}
 use Rattle.cell_robot.specs.declared.robot.RobotNotes.{RobotNotes}
 use Rattle.cell_robot.specs.declared.robot.RobotMagnets.{RobotMagnets}
 use Rattle.cell_robot.specs.declared.robot.RobotProgress.{RobotProgress}
 use Rattle.cell_robot.specs.declared.robot.RobotReading.{RobotReading}
 use Rattle.cell_robot.specs.RobotProgram.{is_off, rotation_stop, turns}
-use Rattle.cell_robot.specs.RobotExamples.{noted, magnets, at, told, rows_by, begins_with, for_plate, for_room, EndRows}
-use Rattle.cell_robot.specs.RobotExamples.{RobotAsks, scales, TurnRows, Arm1Rows, Arm2Rows, Arm1BackRows, Arm2BackRows}
-use Rattle.cell_robot.specs.RobotExamples.{RobotDrives, RobotChecks, RobotDemandRows, RobotRowsAreMet, reads}
+use Rattle.cell_robot.specs.RobotExamples.{noted, magnets, at, told, rows_by, begins_with, for_plate, for_room, EndRows, RobotAsks, scales, TurnRows, Arm1Rows, Arm2Rows, Arm1BackRows, Arm2BackRows, RobotDrives, RobotChecks, RobotDemandRows, RobotRowsAreMet, reads}
 
 begins : (points : RobotScales) (s : ModelState) (arm1 press_in press_out arm2 : Bool)
     → (rows_by points).start (record s { full = record s.full { arm1 = arm1; press_in = press_in; press_out = press_out; arm2 = arm2 } }) ≡ begins_with arm1 press_in press_out arm2

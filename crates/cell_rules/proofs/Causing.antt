@@ -1,8 +1,6 @@
 -- Each call is refused by the first of its conditions, and these give its causes.
-use Rattle.cell_rules.proofs.Names.{◌≡◌, ◌≤◌, ℕ, Bool, true, false, ◌&&◌, not, nat_lt, Option, Some, None, option_map, is_none, List, [], ◌∷◌, refl, ap, ◌∙◌, option_eq, Machine, Feed, Watch, Zone, Z1, Z6, Transfer, Place, FeedEnd, Posture}
-use Rattle.cell_rules.proofs.Names.{Moving, Refusal, NotParty, AlreadyMine, NoPlate, PlaceFull, WrongWay, Worn, Stopped, NotStopped, InUse, number_of, guest_of, transfer_of, same_machine, same_zone, same_place, same_posture, one_place}
-use Rattle.cell_rules.proofs.Names.{NoPose, Call, Claim, Give, Yield, Take, Release, SetPose, Advance, Stop, Resume, way_of, ModelState, zone_at, is_full, has, is_party, owner_of, posture_at, owns, given_by, transfer_given, is_shut}
-use Rattle.cell_rules.proofs.Names.{parties_of, gift_of, is_stranger, is_in_use, on_way, claim_cause, give_cause, yield_cause, take_cause, release_cause, stop_cause, resume_cause, order_of}
+use Rattle.cell_rules.proofs.Names.{◌≡◌, ◌≤◌, ℕ, Bool, true, false, ◌&&◌, not, nat_lt, Option, Some, None, option_map, is_none, List, [], ◌∷◌, refl, ap, ◌∙◌, option_eq, Machine, Feed, Watch, Zone, Z1, Z6, Transfer, Place, FeedEnd, Posture, Moving, Refusal, NotParty, AlreadyMine, NoPlate, PlaceFull, WrongWay, Worn, Stopped, NotStopped, InUse, number_of, guest_of, transfer_of, same_machine, same_zone, same_place, same_posture, one_place}
+use Rattle.cell_rules.proofs.Names.{NoPose, Call, Claim, Give, Yield, Take, Release, SetPose, Advance, Stop, Resume, way_of, ModelState, zone_at, is_full, has, is_party, owner_of, posture_at, owns, given_by, transfer_given, is_shut, parties_of, gift_of, is_stranger, is_in_use, on_way, claim_cause, give_cause, yield_cause, take_cause, release_cause, stop_cause, resume_cause, order_of}
 use Rattle.cell_rules.specs.Refusals
 use Rattle.cell_rules.specs.Causes.{is_cause}
 use Rattle.cell_rules.proofs.Tables.{and_left, and_right, machines, zones, postures, holds3}

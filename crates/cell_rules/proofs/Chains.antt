@@ -1,6 +1,5 @@
 -- The first of a call's conditions that applies, and the causes that the conditions give.
-use Rattle.cell_rules.proofs.Names.{◌≡◌, ℕ, Bool, true, false, cond, ◌||◌, nat_eq, Option, Some, None, is_some, List, [], ◌∷◌, refl, sym, ap, ◌∙◌, subst, list_any, false_from_ne_true, eqb-true, eq-eqb, or_right, Refusal, number_of, ◌or◌}
-use Rattle.cell_rules.proofs.Names.{is_no_later, from_on}
+use Rattle.cell_rules.proofs.Names.{◌≡◌, ℕ, Bool, true, false, cond, ◌||◌, nat_eq, Option, Some, None, is_some, List, [], ◌∷◌, refl, sym, ap, ◌∙◌, subst, list_any, false_from_ne_true, eqb-true, eq-eqb, or_right, Refusal, number_of, ◌or◌, is_no_later, from_on}
 
 -- ---- conditions with their numbers, in order
 

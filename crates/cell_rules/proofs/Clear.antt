@@ -1,8 +1,6 @@
 -- The belts run clear: each call keeps this, so by the events it holds after a history.
-use Rattle.cell_rules.proofs.Names.{◌≡◌, pos, Bool, true, false, ◌&&◌, ◌||◌, not, is_some, unwrap_or, List, [], ◌∷◌, ◌⊎◌, inl, inr, refl, sym, ap, ◌∙◌, if◌then◌else◌, or_cases, Machine, Feed, Deposit, Zone, Z1, Z4, Z5, Z6, Place, FeedEnd}
-use Rattle.cell_rules.proofs.Names.{DepEnd, Posture, Closed, Moving, OpenIn, Pose, Running, Call, Claim, Give, Yield, Take, Release, SetPose, Advance, Done, Event, PlaceFull, InUse, host_of, transfer_of, posture_of, same_machine, same_zone}
-use Rattle.cell_rules.proofs.Names.{same_posture, same_pose, one_posture, PlaceSet, has, ModelState, zone_at, is_full, one_if, implies, is_party, owns, owner_of, posture_at, transfer_given, given_by, give_refusal, yield_refusal}
-use Rattle.cell_rules.proofs.Names.{release_refusal, pose_refusal, reply, changed, next, emptied, filled, is_belt_of, after, posture_given, plates_at, OneHolder, PlatesAreKept, PostureByEvents, RunsClear, BeltsRunClear}
+use Rattle.cell_rules.proofs.Names.{◌≡◌, pos, Bool, true, false, ◌&&◌, ◌||◌, not, is_some, unwrap_or, List, [], ◌∷◌, ◌⊎◌, inl, inr, refl, sym, ap, ◌∙◌, if◌then◌else◌, or_cases, Machine, Feed, Deposit, Zone, Z1, Z4, Z5, Z6, Place, FeedEnd, DepEnd, Posture, Closed, Moving, OpenIn, Pose, Running, Call, Claim, Give, Yield, Take, Release, SetPose, Advance, Done, Event, PlaceFull, InUse, host_of, transfer_of, posture_of, same_machine, same_zone}
+use Rattle.cell_rules.proofs.Names.{same_posture, same_pose, one_posture, PlaceSet, has, ModelState, zone_at, is_full, one_if, implies, is_party, owns, owner_of, posture_at, transfer_given, given_by, give_refusal, yield_refusal, release_refusal, pose_refusal, reply, changed, next, emptied, filled, is_belt_of, after, posture_given, plates_at, OneHolder, PlatesAreKept, PostureByEvents, RunsClear, BeltsRunClear}
 use Rattle.cell_rules.proofs.Tables.{never, and_both, implied, all_machines, all_poses, all_postures, machines, poses, postures, holds3}
 use Rattle.cell_rules.proofs.Done.{none_then, give_done}
 use Rattle.cell_rules.proofs.Plates.{fourth, emptied_fewer}

@@ -1,6 +1,5 @@
 -- The number of plates never changes, and the events determine where they are.
-use Rattle.cell_rules.proofs.Names.{◌≡◌, ℕ, ◌+◌, pos, ◌-ℤ◌, Bool, true, false, List, refl, sym, ap, ◌∙◌, arith, ints, Machine, Zone, Z1, Z2, Z3, Z4, Z5, Z6, Place, FeedEntry, Call, Claim, Give, Yield, Take, Release, Advance, Inquire, Done}
-use Rattle.cell_rules.proofs.Names.{Event, ZoneMap, zone_in, put_zone, map_zones, PlaceSet, has, put_place, ModelState, zone_at, size_of, plates_of, one_if, IsSound, give_refusal, take_refusal, advance_refusal, reply, changed, emptied}
+use Rattle.cell_rules.proofs.Names.{◌≡◌, ℕ, ◌+◌, pos, ◌-ℤ◌, Bool, true, false, List, refl, sym, ap, ◌∙◌, arith, ints, Machine, Zone, Z1, Z2, Z3, Z4, Z5, Z6, Place, FeedEntry, Call, Claim, Give, Yield, Take, Release, Advance, Inquire, Done, Event, ZoneMap, zone_in, put_zone, map_zones, PlaceSet, has, put_place, ModelState, zone_at, size_of, plates_of, one_if, IsSound, give_refusal, take_refusal, advance_refusal, reply, changed, emptied}
 use Rattle.cell_rules.proofs.Names.{filled, worked, halted, is_belt_of, IsLegal, PlatesAreKept, ZoneState, flags_of}
 use Rattle.cell_rules.proofs.Kept.{claimed, yielded, released}
 use Rattle.cell_rules.proofs.Plates.{given, taken}

@@ -1,7 +1,6 @@
 -- What is counted along a history: a place has a plate as often as it had one at first and got one, minus how often it
 -- lost one.
-use Rattle.cell_rules.proofs.Names.{◌≡◌, ℕ, ◌+◌, Bool, true, false, cond, ◌&&◌, Option, Some, None, option_map, List, [], ◌∷◌, refl, sym, ap, ◌∙◌, subst, arith, option_eq, count_by, sum_by-cons, Machine, Zone, Place, Transfer, Posture}
-use Rattle.cell_rules.proofs.Names.{Call, Give, Take, Advance, Inquire, Done, Event, transfer_of, same_machine, same_place, one_place, PlaceSet, has, put_place, ModelState, is_full, one_if, IsSound, implies, give_refusal, take_refusal}
+use Rattle.cell_rules.proofs.Names.{◌≡◌, ℕ, ◌+◌, Bool, true, false, cond, ◌&&◌, Option, Some, None, option_map, List, [], ◌∷◌, refl, sym, ap, ◌∙◌, subst, arith, option_eq, count_by, sum_by-cons, Machine, Zone, Place, Transfer, Posture, Call, Give, Take, Advance, Inquire, Done, Event, transfer_of, same_machine, same_place, one_place, PlaceSet, has, put_place, ModelState, is_full, one_if, IsSound, implies, give_refusal, take_refusal}
 use Rattle.cell_rules.proofs.Names.{advance_refusal, posture_at, given_by, reply, next, changed, emptied, filled, worked, after, IsLegal, is_done, fills, empties, given_place, taken_place, is_place, is_filled_by, is_emptied_by}
 use Rattle.cell_rules.proofs.Tables.{machines, zones, postures, holds3, implied}
 use Rattle.cell_rules.proofs.Puts.{has-put}

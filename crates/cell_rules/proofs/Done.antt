@@ -1,6 +1,5 @@
 -- What holds if a call isn't refused.
-use Rattle.cell_rules.proofs.Names.{◌≡◌, ◌+◌, ◌<◌, ◌≤◌, ℕ, zero, suc, Bool, true, false, ◌&&◌, not, nat_lt, Option, Some, None, List, [], ◌∷◌, refl, is_none, is_some, arith, ltb-true, then_some, Machine, Watch, Zone, Z1, Z2, Z3, Z4, Z5, Z6, Place, Pose}
-use Rattle.cell_rules.proofs.Names.{Transfer, Moving, Refusal, Held, NoPose, guest_of, transfer_of, same_machine, same_posture, own_move_of, ModelState, zone_at, is_open, is_party, is_owned_by, ZoneState}
+use Rattle.cell_rules.proofs.Names.{◌≡◌, ◌+◌, ◌<◌, ◌≤◌, ℕ, zero, suc, Bool, true, false, ◌&&◌, not, nat_lt, Option, Some, None, List, [], ◌∷◌, refl, is_none, is_some, arith, ltb-true, then_some, Machine, Watch, Zone, Z1, Z2, Z3, Z4, Z5, Z6, Place, Pose, Transfer, Moving, Refusal, Held, NoPose, guest_of, transfer_of, same_machine, same_posture, own_move_of, ModelState, zone_at, is_open, is_party, is_owned_by, ZoneState}
 use Rattle.cell_rules.specs.Refusals
 use Rattle.cell_rules.proofs.Tables.{and_both}
 use Rattle.cell_rules.proofs.Puts.{each_zone}

@@ -1,6 +1,5 @@
 -- While the cell isn't stopped, no condition that asks for it applies.
-use Rattle.cell_rules.proofs.Names.{◌≡◌, ◌+◌, Bool, true, false, ◌&&◌, Option, None, refl, ap, ◌∙◌, then_some, Machine, Call, Claim, Give, SetPose, Inquire, Stop, Resume, Refusal, Stopped, Answer, Done, ModelState, refusal, reply, next_by}
-use Rattle.cell_rules.proofs.Names.{done_unless, stopped_after, zones_after, places_after}
+use Rattle.cell_rules.proofs.Names.{◌≡◌, ◌+◌, Bool, true, false, ◌&&◌, Option, None, refl, ap, ◌∙◌, then_some, Machine, Call, Claim, Give, SetPose, Inquire, Stop, Resume, Refusal, Stopped, Answer, Done, ModelState, refusal, reply, next_by, done_unless, stopped_after, zones_after, places_after}
 use Rattle.cell_rules.specs.Refusals
 use Rattle.cell_rules.specs.FirstVersion as first
 

@@ -1,6 +1,5 @@
 -- The flag of a zone counts its plates: at first, plus those given into it, minus those taken.
-use Rattle.cell_rules.proofs.Names.{◌≡◌, ◌+◌, Bool, true, false, cond, List, refl, sym, ap, ◌∙◌, if◌then◌else◌, count_by, Machine, Zone, Closed, Call, Claim, Give, Yield, Take, Release, SetPose, Advance, Inquire, Done, Event, same_zone}
-use Rattle.cell_rules.proofs.Names.{zone_in, put_zone, ModelState, zone_at, one_if, IsSound, give_refusal, take_refusal, reply, posed, halted, is_belt_of, after, IsLegal, gives, takes, ZoneState, is_given_into, is_taken_from}
+use Rattle.cell_rules.proofs.Names.{◌≡◌, ◌+◌, Bool, true, false, cond, List, refl, sym, ap, ◌∙◌, if◌then◌else◌, count_by, Machine, Zone, Closed, Call, Claim, Give, Yield, Take, Release, SetPose, Advance, Inquire, Done, Event, same_zone, zone_in, put_zone, ModelState, zone_at, one_if, IsSound, give_refusal, take_refusal, reply, posed, halted, is_belt_of, after, IsLegal, gives, takes, ZoneState, is_given_into, is_taken_from}
 use Rattle.cell_rules.proofs.Puts.{zone_in-map, put_cases}
 use Rattle.cell_rules.proofs.Kept.{claimed, yielded, released}
 use Rattle.cell_rules.proofs.Plates.{given, taken}

@@ -1,6 +1,5 @@
 -- Laws of the holders of zones, for one legal history from a sound opening.
-use Rattle.cell_rules.proofs.Names.{◌≡◌, true, ◌||◌, is_none, List, sym, ap, ◌∙◌, ◌↔◌, IsTrue, subst, Machine, Robot, Press, Zone, Z3, Moving, Event, host_of, guest_of, same_posture, ModelState, IsSound, is_owned_by, is_open, owns}
-use Rattle.cell_rules.proofs.Names.{owner_of, posture_at, after, IsLegal, Holds, Moves, OneHolder, MoverIsHost, GuestOnlyWhileOpen}
+use Rattle.cell_rules.proofs.Names.{◌≡◌, true, ◌||◌, is_none, List, sym, ap, ◌∙◌, ◌↔◌, IsTrue, subst, Machine, Robot, Press, Zone, Z3, Moving, Event, host_of, guest_of, same_posture, ModelState, IsSound, is_owned_by, is_open, owns, owner_of, posture_at, after, IsLegal, Holds, Moves, OneHolder, MoverIsHost, GuestOnlyWhileOpen}
 use Rattle.cell_rules.proofs.Tables.{implied}
 use Rattle.cell_rules.proofs.Histories.{sound-after}
 use Rattle.cell_rules.proofs.Holders.{owner_is}

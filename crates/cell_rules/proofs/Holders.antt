@@ -1,6 +1,5 @@
 -- A machine that holds a zone, by the test of each event, owns it in the state after.
-use Rattle.cell_rules.proofs.Names.{◌≡◌, Bool, true, false, ◌&&◌, ◌||◌, not, Option, Some, None, is_none, List, [], ◌∷◌, refl, sym, ap, ◌∙◌, subst, if◌then◌else◌, and-true, and-false, Machine, Zone, Closed, Call, Claim, Give, Yield, Take}
-use Rattle.cell_rules.proofs.Names.{Release, SetPose, Advance, Inquire, Done, Event, same_machine, same_zone, zone_in, put_zone, ModelState, zone_at, is_owned_by, is_party, owns, owner_of, claim_refusal, give_refusal}
+use Rattle.cell_rules.proofs.Names.{◌≡◌, Bool, true, false, ◌&&◌, ◌||◌, not, Option, Some, None, is_none, List, [], ◌∷◌, refl, sym, ap, ◌∙◌, subst, if◌then◌else◌, and-true, and-false, Machine, Zone, Closed, Call, Claim, Give, Yield, Take, Release, SetPose, Advance, Inquire, Done, Event, same_machine, same_zone, zone_in, put_zone, ModelState, zone_at, is_owned_by, is_party, owns, owner_of, claim_refusal, give_refusal}
 use Rattle.cell_rules.proofs.Names.{yield_refusal, take_refusal, release_refusal, reply, next, changed, other_party, posed, halted, is_belt_of, after, IsLegal, is_gain, is_loss, ZoneState, gains, loses}
 use Rattle.cell_rules.proofs.Tables.{and_left, and_right, from_machines}
 use Rattle.cell_rules.proofs.Puts.{each_zone, zone_in-map, zone_in-kept, put_cases}

@@ -1,7 +1,6 @@
 -- A machine holds a zone by the events exactly if the test of each event says so, and exactly if it owns it in the
 -- state after.
-use Rattle.cell_rules.proofs.Names.{◌≡◌, Bool, true, false, ◌&&◌, ◌||◌, not, List, [], ◌∷◌, ◌++◌, ◌⊎◌, inl, inr, refl, sym, ap, ◌∙◌, ◌↔◌, IsTrue, or_left, or_right, false_from_ne_true, All-nil, All-cons, All-head, All-tail, Machine, Zone}
-use Rattle.cell_rules.proofs.Names.{Event, ModelState, owns, after, IsLegal, is_gain, is_loss, Holds, IsLoss, LosesNothing, GainsAndKeeps}
+use Rattle.cell_rules.proofs.Names.{◌≡◌, Bool, true, false, ◌&&◌, ◌||◌, not, List, [], ◌∷◌, ◌++◌, ◌⊎◌, inl, inr, refl, sym, ap, ◌∙◌, ◌↔◌, IsTrue, or_left, or_right, false_from_ne_true, All-nil, All-cons, All-head, All-tail, Machine, Zone, Event, ModelState, owns, after, IsLegal, is_gain, is_loss, Holds, IsLoss, LosesNothing, GainsAndKeeps}
 use Rattle.cell_rules.proofs.Done.{not_true}
 use Rattle.cell_rules.proofs.Held.{holds_since, holds}
 use Rattle.cell_rules.proofs.Holders.{owns-after}

@@ -1,6 +1,5 @@
 -- A machine's own places stay while it makes no event.
-use Rattle.cell_rules.proofs.Names.{◌≡◌, ◌+◌, Bool, true, false, ◌||◌, ◌&&◌, cond, List, [], ◌∷◌, ◌++◌, refl, ap, ◌∙◌, Machine, Zone, Z1, Place, Call, Give, Take, Advance, Event, same_machine, keeper_of, ModelState, is_full, one_if}
-use Rattle.cell_rules.proofs.Names.{IsSound, implies, reply, next, changed, after, IsLegal, own_events, fills, empties, RightLasts}
+use Rattle.cell_rules.proofs.Names.{◌≡◌, ◌+◌, Bool, true, false, ◌||◌, ◌&&◌, cond, List, [], ◌∷◌, ◌++◌, refl, ap, ◌∙◌, Machine, Zone, Z1, Place, Call, Give, Take, Advance, Event, same_machine, keeper_of, ModelState, is_full, one_if, IsSound, implies, reply, next, changed, after, IsLegal, own_events, fills, empties, RightLasts}
 use Rattle.cell_rules.proofs.Tables.{machines, zones, places, holds3, and_left, and_right}
 use Rattle.cell_rules.proofs.Counted.{place-changed}
 use Rattle.cell_rules.proofs.Histories.{after-append, sound-after}

@@ -1,6 +1,5 @@
 -- A call that is Done keeps a sound state sound.
-use Rattle.cell_rules.proofs.Names.{◌≡◌, Bool, true, ◌&&◌, Option, Some, None, refl, Machine, Zone, Claim, Yield, Release, PressIn, PressOut, transfer_of, PlaceSet, has, ModelState, zone_at, IsSound, implies, is_onto_full}
-use Rattle.cell_rules.proofs.Names.{claim_refusal, yield_refusal, release_refusal, changed, other_party, has_lawful_owner, is_lawful_plate, is_open_to_guest, moves_by_host, ZoneState}
+use Rattle.cell_rules.proofs.Names.{◌≡◌, Bool, true, ◌&&◌, Option, Some, None, refl, Machine, Zone, Claim, Yield, Release, PressIn, PressOut, transfer_of, PlaceSet, has, ModelState, zone_at, IsSound, implies, is_onto_full, claim_refusal, yield_refusal, release_refusal, changed, other_party, has_lawful_owner, is_lawful_plate, is_open_to_guest, moves_by_host, ZoneState}
 use Rattle.cell_rules.proofs.Tables.{all_bools, all_machines, all_zones, all_states, bools, machines, zones, states, holds4, implied, and_both, and_left, and_right}
 use Rattle.cell_rules.proofs.Puts.{zone_in-kept}
 use Rattle.cell_rules.proofs.Lawful.{lawful_in, Parts, parts_of, lawful_of, lawful_from, sound_from}

@@ -1,6 +1,5 @@
 -- std's finite map and set of a function's values at each key, if a list has every key.
-use Rattle.cell_rules.proofs.Names.{◌≡◌, ◌≢◌, Bool, true, false, cond, ◌&&◌, ◌||◌, not, Some, None, List, [], ◌∷◌, refl, sym, ap, subst, ◌∙◌, list_any, any-filter_same, IsTotalOrder, tied_itself, Equal-is, eq_by_cmp, is_eq, Ordering}
-use Rattle.cell_rules.proofs.Names.{IsAntisymmetric}
+use Rattle.cell_rules.proofs.Names.{◌≡◌, ◌≢◌, Bool, true, false, cond, ◌&&◌, ◌||◌, not, Some, None, List, [], ◌∷◌, refl, sym, ap, subst, ◌∙◌, list_any, any-filter_same, IsTotalOrder, tied_itself, Equal-is, eq_by_cmp, is_eq, Ordering, IsAntisymmetric}
 use Rattle.std.proofs.Common.{map as list_map}
 use Rattle.std.specs.List.{filter}
 use Rattle.std.specs.FinMap as map

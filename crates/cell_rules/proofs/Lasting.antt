@@ -1,6 +1,5 @@
 -- What a machine holds lasts while the machine does nothing.
-use Rattle.cell_rules.proofs.Names.{◌≡◌, Bool, true, false, ◌&&◌, not, cond, Option, Some, None, List, [], ◌∷◌, ◌++◌, refl, sym, ap, ◌∙◌, if◌then◌else◌, unwrap_or, false_from_ne_true, not-false, or_parts, Machine, Feed, Deposit, Zone}
-use Rattle.cell_rules.proofs.Names.{Posture, Closed, Moving, Call, Claim, Give, Yield, Take, Release, SetPose, Advance, Inquire, Done, Event, host_of, posture_of, same_machine, same_posture, one_machine, one_posture, zone_in, put_zone}
+use Rattle.cell_rules.proofs.Names.{◌≡◌, Bool, true, false, ◌&&◌, not, cond, Option, Some, None, List, [], ◌∷◌, ◌++◌, refl, sym, ap, ◌∙◌, if◌then◌else◌, unwrap_or, false_from_ne_true, not-false, or_parts, Machine, Feed, Deposit, Zone, Posture, Closed, Moving, Call, Claim, Give, Yield, Take, Release, SetPose, Advance, Inquire, Done, Event, host_of, posture_of, same_machine, same_posture, one_machine, one_posture, zone_in, put_zone}
 use Rattle.cell_rules.proofs.Names.{ModelState, zone_at, IsSound, is_owned_by, owns, owner_of, pose_refusal, advance_refusal, reply, next, changed, posed, halted, is_belt_of, after, IsLegal, Holds, own_events, ZoneState}
 use Rattle.cell_rules.proofs.Tables.{implied}
 use Rattle.cell_rules.proofs.Puts.{zone_in-map, put_cases}

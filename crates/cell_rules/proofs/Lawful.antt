@@ -1,6 +1,5 @@
 -- What soundness says of one zone, as one test.
-use Rattle.cell_rules.proofs.Names.{◌≡◌, ◌≤◌, Bool, true, false, ◌&&◌, not, is_none, Option, Some, None, refl, sym, ap, ◌∙◌, beq, Machine, Zone, Z3, PressIn, PressOut, Posture, Closed, Moving, OpenIn, OpenOut, transfer_of, same_posture, PlaceSet, has, ModelState, zone_at}
-use Rattle.cell_rules.proofs.Names.{IsSound, host_of, one_machine, is_owned_by, implies, has_lawful_owner, is_onto_full, is_lawful_plate, is_open_to_guest, moves_by_host, is_of_some_pose, ZoneState}
+use Rattle.cell_rules.proofs.Names.{◌≡◌, ◌≤◌, Bool, true, false, ◌&&◌, not, is_none, Option, Some, None, refl, sym, ap, ◌∙◌, beq, Machine, Zone, Z3, PressIn, PressOut, Posture, Closed, Moving, OpenIn, OpenOut, transfer_of, same_posture, PlaceSet, has, ModelState, zone_at, IsSound, host_of, one_machine, is_owned_by, implies, has_lawful_owner, is_onto_full, is_lawful_plate, is_open_to_guest, moves_by_host, is_of_some_pose, ZoneState}
 use Rattle.cell_rules.proofs.Puts.{each_zone}
 use Rattle.cell_rules.proofs.Tables.{and_both, zones, postures, holds2}
 

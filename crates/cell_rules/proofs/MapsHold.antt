@@ -1,6 +1,5 @@
 -- The map of the zones and the set of the places keep the laws of maps and of sets.
-use Rattle.cell_rules.proofs.Names.{◌≡◌, ◌≢◌, Bool, true, false, cond, refl, sym, ap, ◌∙◌, list_any, eq_by_cmp, is_eq, IsAntisymmetric, true_same, false_same, Zone, Z1, Z2, Z3, Z4, Z5, Z6, Place, FeedEntry, FeedEnd, Arm1, PressIn, PressOut}
-use Rattle.cell_rules.proofs.Names.{Arm2, DepEntry, DepEnd, all_zones, all_places, one_zone, one_place, Crane, ZoneMap, zone_in, put_zone, everywhere, PlaceSet, has, put_place, insert_place, empty, ZoneState, remove_place, ZonesAreAMap}
+use Rattle.cell_rules.proofs.Names.{◌≡◌, ◌≢◌, Bool, true, false, cond, refl, sym, ap, ◌∙◌, list_any, eq_by_cmp, is_eq, IsAntisymmetric, true_same, false_same, Zone, Z1, Z2, Z3, Z4, Z5, Z6, Place, FeedEntry, FeedEnd, Arm1, PressIn, PressOut, Arm2, DepEntry, DepEnd, all_zones, all_places, one_zone, one_place, Crane, ZoneMap, zone_in, put_zone, everywhere, PlaceSet, has, put_place, insert_place, empty, ZoneState, remove_place, ZonesAreAMap}
 use Rattle.cell_rules.proofs.Names.{PlacesAreASet, zone_cmp, place_cmp, ZonesAreStdMap, PlacesAreStdSet}
 use Rattle.cell_types.specs.declared.place.Place.TheVariants.{Table}
 use Rattle.cell_types.specs.contracts.zone.Zone.{the_type as zone_type}

@@ -1,8 +1,6 @@
 -- A pose and an advance keep a sound state sound.
-use Rattle.cell_rules.proofs.Names.{◌≡◌, ◌+◌, ◌<◌, Bool, true, false, ◌&&◌, ◌||◌, not, cond, Option, Some, None, if◌then◌else◌, refl, sym, ap, ◌∙◌, subst, unwrap_or, not-true, not-false, Machine, Feed, Press, Deposit, Zone, Z1, Z2}
-use Rattle.cell_rules.proofs.Names.{Z3, Z4, Z5, Z6, Place, FeedEntry, FeedEnd, DepEntry, DepEnd, PressIn, PressOut, Transfer, Posture, Closed, Moving, OpenIn, Pose, PlaceFull, NotOwner, PlateInZone, SetPose, Advance, host_of}
-use Rattle.cell_rules.proofs.Names.{transfer_of, posture_of, same_place, same_zone, same_machine, same_posture, one_machine, one_posture, zone_in, map_zones, PlaceSet, has, put_place, ModelState, zone_at, IsSound, implies, is_onto_full, is_owned_by, pose_refusal}
-use Rattle.cell_rules.proofs.Names.{advance_refusal, owner_of, owns, posture_at, is_moving_pose, is_blocked, opens_onto_plate, changed, is_belt_of, halted, posed, ZoneState, is_concerned, unowned_by_pose, plate_under_pose, is_at_work, is_lawful_plate, is_received_by}
+use Rattle.cell_rules.proofs.Names.{◌≡◌, ◌+◌, ◌<◌, Bool, true, false, ◌&&◌, ◌||◌, not, cond, Option, Some, None, if◌then◌else◌, refl, sym, ap, ◌∙◌, subst, unwrap_or, not-true, not-false, Machine, Feed, Press, Deposit, Zone, Z1, Z2, Z3, Z4, Z5, Z6, Place, FeedEntry, FeedEnd, DepEntry, DepEnd, PressIn, PressOut, Transfer, Posture, Closed, Moving, OpenIn, Pose, PlaceFull, NotOwner, PlateInZone, SetPose, Advance, host_of}
+use Rattle.cell_rules.proofs.Names.{transfer_of, posture_of, same_place, same_zone, same_machine, same_posture, one_machine, one_posture, zone_in, map_zones, PlaceSet, has, put_place, ModelState, zone_at, IsSound, implies, is_onto_full, is_owned_by, pose_refusal, advance_refusal, owner_of, owns, posture_at, is_moving_pose, is_blocked, opens_onto_plate, changed, is_belt_of, halted, posed, ZoneState, is_concerned, unowned_by_pose, plate_under_pose, is_at_work, is_lawful_plate, is_received_by}
 use Rattle.cell_rules.specs.Refusals as refusals
 use Rattle.cell_rules.proofs.Tables.{all_bools, all_zones, all_postures, bools, machines, zones, postures, poses, holds2, holds3, holds4, implied, and_both, and_left, and_right}
 use Rattle.cell_rules.proofs.Puts.{each_zone, has-put}

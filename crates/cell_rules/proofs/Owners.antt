@@ -1,7 +1,5 @@
 -- If a machine holds each zone that its call needs, the call isn't refused for the owner of one.
-use Rattle.cell_rules.proofs.Names.{◌≡◌, Bool, true, false, ◌&&◌, not, cond, Option, Some, List, [], ◌∷◌, filter, refl, sym, ap, ◌∙◌, subst, list_all, Machine, Press, Zone, Z3, Posture, Pose, Call, Give, Yield, Take, Release, SetPose}
-use Rattle.cell_rules.proofs.Names.{Advance, NotOwner, Answer, Event, host_of, same_machine, one_machine, ModelState, IsSound, owns, reply, after, IsLegal, is_cause, is_owned_as, is_changed, on_zone, lowest, zones_posed, is_anothers}
-use Rattle.cell_rules.proofs.Names.{KeepsItsOwn, needs, NamesNoOwner, IsNeverDisowned}
+use Rattle.cell_rules.proofs.Names.{◌≡◌, Bool, true, false, ◌&&◌, not, cond, Option, Some, List, [], ◌∷◌, filter, refl, sym, ap, ◌∙◌, subst, list_all, Machine, Press, Zone, Z3, Posture, Pose, Call, Give, Yield, Take, Release, SetPose, Advance, NotOwner, Answer, Event, host_of, same_machine, one_machine, ModelState, IsSound, owns, reply, after, IsLegal, is_cause, is_owned_as, is_changed, on_zone, lowest, zones_posed, is_anothers, KeepsItsOwn, needs, NamesNoOwner, IsNeverDisowned}
 use Rattle.cell_rules.proofs.Tables.{machines, poses, holds2, Passed, passed, and_both}
 use Rattle.cell_rules.proofs.Histories.{sound-after}
 use Rattle.cell_rules.proofs.Holders.{same_zone-self}

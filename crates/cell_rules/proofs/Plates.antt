@@ -1,6 +1,5 @@
 -- A call that moves a plate keeps a sound state sound.
-use Rattle.cell_rules.proofs.Names.{◌≡◌, Bool, true, false, ◌&&◌, ◌||◌, not, cond, Option, Some, None, is_some, if◌then◌else◌, refl, sym, ap, ◌∙◌, subst, Machine, Zone, Z3, Place, PressIn, PressOut, Transfer, Posture, OpenIn}
-use Rattle.cell_rules.proofs.Names.{PlaceFull, Give, Take, transfer_of, same_place, same_zone, same_machine, same_posture, PlaceSet, has, ModelState, zone_at, IsSound, implies, is_onto_full, is_lawful_plate, is_received_by, is_party, is_owned_by, give_refusal, take_refusal}
+use Rattle.cell_rules.proofs.Names.{◌≡◌, Bool, true, false, ◌&&◌, ◌||◌, not, cond, Option, Some, None, is_some, if◌then◌else◌, refl, sym, ap, ◌∙◌, subst, Machine, Zone, Z3, Place, PressIn, PressOut, Transfer, Posture, OpenIn, PlaceFull, Give, Take, transfer_of, same_place, same_zone, same_machine, same_posture, PlaceSet, has, ModelState, zone_at, IsSound, implies, is_onto_full, is_lawful_plate, is_received_by, is_party, is_owned_by, give_refusal, take_refusal}
 use Rattle.cell_rules.proofs.Names.{transfer_given, given_by, changed, other_party, emptied, filled, ZoneState, no_room}
 use Rattle.cell_rules.proofs.Tables.{all_bools, from_bools, bools, machines, zones, states, postures, zone_state, holds2, holds3, holds4, implied, and_both, and_left, and_right}
 use Rattle.cell_rules.proofs.Puts.{zone_in-kept, put_cases, has-put}

@@ -1,8 +1,6 @@
 -- A pose and an advance are refused by the first of their conditions, and these give their causes.
-use Rattle.cell_rules.proofs.Names.{◌≡◌, ◌≤◌, ℕ, Bool, true, false, cond, ◌&&◌, ◌||◌, not, nat_lt, Option, Some, None, option_map, List, [], ◌∷◌, filter, is_none, refl, sym, ap, ◌∙◌, subst, then_some, option_eq, and-true, and-false}
-use Rattle.cell_rules.proofs.Names.{Machine, Feed, Press, Deposit, Zone, Z1, Z2, Z3, Z4, Z5, Z6, Place, FeedEntry, FeedEnd, PressIn, PressOut, DepEntry, DepEnd, Posture, Pose, Turning, Loading, Unloading, Travelling, Middle, Low, Top}
-use Rattle.cell_rules.proofs.Names.{Running, Landing, Halted, Offering, Standing, Refusal, NotOwner, PlateInZone, NoPlate, PlaceFull, Jump, NotAtWork, NoPose, Worn, Stopped, same_machine, same_zone, same_pose, own_move_of, SetPose, Advance}
-use Rattle.cell_rules.proofs.Names.{ModelState, is_full, owner_of, owns, zones_posed, is_changed, is_owned_as, on_zone, lowest, ◌or◌, first_zone, has_plate, jumps, is_moving, lacks_room, pose_cause, advance_cause, order_of}
+use Rattle.cell_rules.proofs.Names.{◌≡◌, ◌≤◌, ℕ, Bool, true, false, cond, ◌&&◌, ◌||◌, not, nat_lt, Option, Some, None, option_map, List, [], ◌∷◌, filter, is_none, refl, sym, ap, ◌∙◌, subst, then_some, option_eq, and-true, and-false, Machine, Feed, Press, Deposit, Zone, Z1, Z2, Z3, Z4, Z5, Z6, Place, FeedEntry, FeedEnd, PressIn, PressOut, DepEntry, DepEnd, Posture, Pose, Turning, Loading, Unloading, Travelling, Middle, Low, Top}
+use Rattle.cell_rules.proofs.Names.{Running, Landing, Halted, Offering, Standing, Refusal, NotOwner, PlateInZone, NoPlate, PlaceFull, Jump, NotAtWork, NoPose, Worn, Stopped, same_machine, same_zone, same_pose, own_move_of, SetPose, Advance, ModelState, is_full, owner_of, owns, zones_posed, is_changed, is_owned_as, on_zone, lowest, ◌or◌, first_zone, has_plate, jumps, is_moving, lacks_room, pose_cause, advance_cause, order_of}
 use Rattle.cell_types.specs.declared.machine.Machine.TheVariants.{Table as TableMachine}
 use Rattle.cell_rules.specs.Refusals
 use Rattle.cell_rules.proofs.Chains.{Line, line, Tells, head_on}

@@ -1,6 +1,5 @@
 -- The posture by the events is the one in the state after.
-use Rattle.cell_rules.proofs.Names.{◌≡◌, Bool, true, false, List, [], ◌∷◌, refl, ap, ◌∙◌, if◌then◌else◌, Machine, Zone, Closed, Call, Claim, Give, Yield, Take, Release, SetPose, Advance, Event, zone_in, put_zone, ModelState, zone_at}
-use Rattle.cell_rules.proofs.Names.{posture_at, next, changed, posed, halted, is_belt_of, after, IsLegal, posture_given, posture_since, posture_by_events, ZoneState}
+use Rattle.cell_rules.proofs.Names.{◌≡◌, Bool, true, false, List, [], ◌∷◌, refl, ap, ◌∙◌, if◌then◌else◌, Machine, Zone, Closed, Call, Claim, Give, Yield, Take, Release, SetPose, Advance, Event, zone_in, put_zone, ModelState, zone_at, posture_at, next, changed, posed, halted, is_belt_of, after, IsLegal, posture_given, posture_since, posture_by_events, ZoneState}
 use Rattle.cell_rules.proofs.Puts.{zone_in-map, zone_in-kept}
 use Rattle.cell_rules.proofs.Kept.{claimed, yielded, released}
 use Rattle.cell_rules.proofs.Plates.{given, taken}

@@ -1,6 +1,5 @@
 -- How a turn goes on from a reached step, and what such a step knows.
-use Rattle.cell_rules.proofs.Names.{◌≡◌, ℕ, zero, suc, Bool, true, false, cond, List, [], ◌∷◌, ◌++◌, Some, refl, sym, ap, ◌∙◌, subst, Machine, Call, Answer, Event, same_machine, one_machine, ModelState, IsSound, reply, next, after, IsLegal}
-use Rattle.cell_rules.proofs.Names.{own_events, event, Settles, Waits, Program, MovesIn, Reached}
+use Rattle.cell_rules.proofs.Names.{◌≡◌, ℕ, zero, suc, Bool, true, false, cond, List, [], ◌∷◌, ◌++◌, Some, refl, sym, ap, ◌∙◌, subst, Machine, Call, Answer, Event, same_machine, one_machine, ModelState, IsSound, reply, next, after, IsLegal, own_events, event, Settles, Waits, Program, MovesIn, Reached}
 use Rattle.cell_rules.proofs.Soundness.{next_keeps}
 
 moves-more : {S : Type 0} → (p : Program S) (n : ℕ) (s t u : S) → MovesIn p n s t → p.moves t u → MovesIn p (suc n) s u

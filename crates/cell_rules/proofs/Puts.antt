@@ -1,6 +1,5 @@
 -- What a map of the zones and a set of places have after a change.
-use Rattle.cell_rules.proofs.Names.{◌≡◌, Bool, true, false, cond, refl, sym, subst, Zone, Z1, Z2, Z3, Z4, Z5, Z6, Place, FeedEntry, FeedEnd, Arm1, PressIn, PressOut, Arm2, DepEntry, DepEnd, same_zone, same_place, one_zone, Crane, ZoneMap}
-use Rattle.cell_rules.proofs.Names.{zone_in, put_zone, map_zones, PlaceSet, has, put_place, ZoneState}
+use Rattle.cell_rules.proofs.Names.{◌≡◌, Bool, true, false, cond, refl, sym, subst, Zone, Z1, Z2, Z3, Z4, Z5, Z6, Place, FeedEntry, FeedEnd, Arm1, PressIn, PressOut, Arm2, DepEntry, DepEnd, same_zone, same_place, one_zone, Crane, ZoneMap, zone_in, put_zone, map_zones, PlaceSet, has, put_place, ZoneState}
 use Rattle.cell_types.specs.declared.place.Place.TheVariants.{Table}
 
 -- a fact of each zone, or of each place, from one proof for each

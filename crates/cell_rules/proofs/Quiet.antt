@@ -1,7 +1,6 @@
 -- What is the same if nothing changes: the state after a call that isn't Done, and after events of others without a
 -- change.
-use Rattle.cell_rules.proofs.Names.{◌≡◌, ℕ, ◌+◌, Bool, true, false, ◌&&◌, not, cond, List, [], ◌∷◌, ◌++◌, refl, sym, ap, ◌∙◌, subst, arith, sum_by-cons, sum_by-append, Machine, Call, Answer, Done, Event, same_machine, ModelState, reply}
-use Rattle.cell_rules.proofs.Names.{next, next_by, after, IsLegal, own_events, is_done, is_done_answer, changes_by_others}
+use Rattle.cell_rules.proofs.Names.{◌≡◌, ℕ, ◌+◌, Bool, true, false, ◌&&◌, not, cond, List, [], ◌∷◌, ◌++◌, refl, sym, ap, ◌∙◌, subst, arith, sum_by-cons, sum_by-append, Machine, Call, Answer, Done, Event, same_machine, ModelState, reply, next, next_by, after, IsLegal, own_events, is_done, is_done_answer, changes_by_others}
 use Rattle.cell_rules.proofs.Lasting.{own_head}
 
 same_by : (a : Answer) (s : ModelState) (m : Machine) (c : Call) → is_done_answer a ≡ false → next_by a s m c ≡ s

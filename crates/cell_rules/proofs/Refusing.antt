@@ -1,9 +1,7 @@
 -- Each refusal has its cause, on every sound state.
-use Rattle.cell_rules.proofs.Names.{◌≡◌, Option, Some, None, ap, Machine, Call, Claim, Give, Yield, Take, Release, SetPose, Advance, Inquire, Stop, Resume, Refusal, Refused, ModelState, IsSound, reply, refusal, done_unless, is_cause}
-use Rattle.cell_rules.proofs.Names.{RefusalsTell}
+use Rattle.cell_rules.proofs.Names.{◌≡◌, Option, Some, None, ap, Machine, Call, Claim, Give, Yield, Take, Release, SetPose, Advance, Inquire, Stop, Resume, Refusal, Refused, ModelState, IsSound, reply, refusal, done_unless, is_cause, RefusalsTell}
 use Rattle.cell_rules.specs.Names.{order_of}
-use Rattle.cell_rules.proofs.Causing.{TellsRight, claim_tells, give_tells, yield_tells, take_tells, release_tells}
-use Rattle.cell_rules.proofs.Causing.{stop_tells, resume_tells}
+use Rattle.cell_rules.proofs.Causing.{TellsRight, claim_tells, give_tells, yield_tells, take_tells, release_tells, stop_tells, resume_tells}
 use Rattle.cell_rules.proofs.Posing.{pose_tells, advance_tells}
 
 call_tells : (s : ModelState) (m : Machine) (c : Call) → IsSound s → TellsRight (is_cause s m c) (order_of c) (refusal s m c)

@@ -1,8 +1,6 @@
 -- What a state with another stamp answers.
-use Rattle.cell_rules.proofs.Names.{◌≡◌, ◌≢◌, ◌≤◌, ◌<◌, ℕ, Bool, true, false, not, ◌&&◌, nat_lt, nat_eq, List, [], ◌∷◌, ◌++◌, ◌↔◌, Option, None, refl, sym, subst, ap, ◌∙◌, lt-ltb, arith, then_some, list_all, Machine, Zone, Posture, all_zones}
-use Rattle.cell_rules.proofs.Names.{all_places, host_of, keeper_of, same_machine, same_posture, one_machine, one_posture, Call, Claim, Inquire, Refusal, Worn, Answer, Done, Refused, ModelState, zone_at, is_full, last_stamp, IsSound}
-use Rattle.cell_rules.proofs.Names.{is_owned_by, implies, owns, posture_at, after, IsLegal, own_events, reply, next, next_by, changed, done_unless, is_cause, restamped, IsSameFor, same_flag, ZoneState, is_worn, StampsOnlyWear, EndsAreSame}
-use Rattle.cell_rules.proofs.Names.{is_same_zone, is_same_place}
+use Rattle.cell_rules.proofs.Names.{◌≡◌, ◌≢◌, ◌≤◌, ◌<◌, ℕ, Bool, true, false, not, ◌&&◌, nat_lt, nat_eq, List, [], ◌∷◌, ◌++◌, ◌↔◌, Option, None, refl, sym, subst, ap, ◌∙◌, lt-ltb, arith, then_some, list_all, Machine, Zone, Posture, all_zones, all_places, host_of, keeper_of, same_machine, same_posture, one_machine, one_posture, Call, Claim, Inquire, Refusal, Worn, Answer, Done, Refused, ModelState, zone_at, is_full, last_stamp, IsSound}
+use Rattle.cell_rules.proofs.Names.{is_owned_by, implies, owns, posture_at, after, IsLegal, own_events, reply, next, next_by, changed, done_unless, is_cause, restamped, IsSameFor, same_flag, ZoneState, is_worn, StampsOnlyWear, EndsAreSame, is_same_zone, is_same_place}
 use Rattle.std.specs.Prelude.{IsTrue}
 use Rattle.cell_rules.specs.Refusals
 use Rattle.cell_rules.proofs.Tables.{never, and_left, and_right, and_both, implied, all_pass, from_zones, from_places}

@@ -1,6 +1,5 @@
 -- What a call adds to a history, and to what its caller has seen.
-use Rattle.cell_rules.proofs.Names.{arith, ◌≡◌, cond, true, ◌-◌, List, [], ◌∷◌, ◌++◌, length, Some, refl, sym, ap, ◌∙◌, append-nil, slice_get, props, ∥∥₁_elim, append_cancel_left, length-append, filter-append, Machine, Call, Answer, Event}
-use Rattle.cell_rules.proofs.Names.{same_machine, ModelState, reply, next, after, IsLegal, own_events, event, Settles, Waits, last_event, IsHistory}
+use Rattle.cell_rules.proofs.Names.{arith, ◌≡◌, cond, true, ◌-◌, List, [], ◌∷◌, ◌++◌, length, Some, refl, sym, ap, ◌∙◌, append-nil, slice_get, props, ∥∥₁_elim, append_cancel_left, length-append, filter-append, Machine, Call, Answer, Event, same_machine, ModelState, reply, next, after, IsLegal, own_events, event, Settles, Waits, last_event, IsHistory}
 use Rattle.cell_rules.proofs.Tables.{from_machines}
 use Rattle.cell_rules.proofs.Histories.{after-append}
 

@@ -1,6 +1,5 @@
 -- Each call keeps a sound state sound.
-use Rattle.cell_rules.proofs.Names.{◌≡◌, ℕ, ◌+◌, ◌≤◌, Bool, true, false, Option, None, refl, sym, subst, arith, Machine, Call, Claim, Give, Yield, Take, Release, SetPose, Advance, Inquire, Stop, Resume, Refusal, Answer, Done, Event, ModelState}
-use Rattle.cell_rules.proofs.Names.{IsSound, claim_refusal, give_refusal, yield_refusal, take_refusal, release_refusal, pose_refusal, advance_refusal, stop_refusal, resume_refusal, reply, changed, next, next_by, done_unless, is_done_answer}
+use Rattle.cell_rules.proofs.Names.{◌≡◌, ℕ, ◌+◌, ◌≤◌, Bool, true, false, Option, None, refl, sym, subst, arith, Machine, Call, Claim, Give, Yield, Take, Release, SetPose, Advance, Inquire, Stop, Resume, Refusal, Answer, Done, Event, ModelState, IsSound, claim_refusal, give_refusal, yield_refusal, take_refusal, release_refusal, pose_refusal, advance_refusal, stop_refusal, resume_refusal, reply, changed, next, next_by, done_unless, is_done_answer}
 use Rattle.cell_rules.proofs.Names.{is_done, ZoneMap, PlaceSet, model_state, zones_after, places_after, stopped_after}
 use Rattle.cell_rules.proofs.Done.{stop_done, resume_done}
 use Rattle.cell_rules.proofs.Kept.{claim_keeps, yield_keeps, release_keeps}

@@ -1,6 +1,5 @@
 -- The cell is stopped by the events exactly where the state after has the mark.
-use Rattle.cell_rules.proofs.Names.{◌≡◌, Bool, true, false, ◌&&◌, ◌||◌, not, List, [], ◌∷◌, ◌++◌, ◌⊎◌, inl, inr, refl, sym, ap, ◌∙◌, ◌↔◌, IsTrue, subst, and-true, and-false, or_left, or_right, false_from_ne_true, All-nil, All-cons}
-use Rattle.cell_rules.proofs.Names.{All-head, All-tail, Machine, Watch, Turning, Travelling, Running, Call, Claim, Give, SetPose, Stop, Resume, Done, Event, one_machine, ModelState, claim_refusal, give_refusal, pose_refusal, stop_refusal}
+use Rattle.cell_rules.proofs.Names.{◌≡◌, Bool, true, false, ◌&&◌, ◌||◌, not, List, [], ◌∷◌, ◌++◌, ◌⊎◌, inl, inr, refl, sym, ap, ◌∙◌, ◌↔◌, IsTrue, subst, and-true, and-false, or_left, or_right, false_from_ne_true, All-nil, All-cons, All-head, All-tail, Machine, Watch, Turning, Travelling, Running, Call, Claim, Give, SetPose, Stop, Resume, Done, Event, one_machine, ModelState, claim_refusal, give_refusal, pose_refusal, stop_refusal}
 use Rattle.cell_rules.proofs.Names.{resume_refusal, reply, next, changed, after, IsLegal, StoppedUntilResumed, is_barred, done, stops, resumes, is_stop, is_resume, NeverResumes, StopsAndStays, IsStopped}
 use Rattle.cell_rules.proofs.Done.{not_true, claim_done, give_done, pose_done, stop_done, resume_done}
 use Rattle.cell_rules.proofs.Soundness.{done_none, event_cases}

@@ -1,6 +1,5 @@
 -- The test of soundness decides soundness.
-use Rattle.cell_rules.proofs.Names.{◌≡◌, Bool, true, ◌&&◌, nat_le, refl, leb-true, le-leb, Zone, Z3, all_zones, ModelState, zone_at, last_stamp, IsSound, has_lawful_owner, is_open_to_guest, moves_by_host, is_of_some_pose, has_one_plate}
-use Rattle.cell_rules.proofs.Names.{is_sound, has_lawful_plate, is_lawful_at, all_lawful}
+use Rattle.cell_rules.proofs.Names.{◌≡◌, Bool, true, ◌&&◌, nat_le, refl, leb-true, le-leb, Zone, Z3, all_zones, ModelState, zone_at, last_stamp, IsSound, has_lawful_owner, is_open_to_guest, moves_by_host, is_of_some_pose, has_one_plate, is_sound, has_lawful_plate, is_lawful_at, all_lawful}
 use Rattle.cell_rules.proofs.Tables.{and_left, and_right, and_both, all_pass, from_zones}
 
 pub five : (a b c d e : Bool) → (a && b && c && d && e) ≡ true → (a ≡ true) × (b ≡ true) × (c ≡ true) × (d ≡ true) × (e ≡ true)

@@ -1,6 +1,5 @@
 -- What a Done give, take or advance finds: the way of the plate, its start full or its end empty.
-use Rattle.cell_rules.proofs.Names.{◌≡◌, Bool, true, false, ◌&&◌, not, Option, Some, None, is_some, refl, subst, Machine, Zone, Transfer, Place, NoPlate, PlaceFull, PlateInZone, transfer_of, same_machine, own_move_of, ModelState, zone_at}
-use Rattle.cell_rules.proofs.Names.{is_full, IsSound, is_party, is_owned_by, is_received_by, is_onto_full}
+use Rattle.cell_rules.proofs.Names.{◌≡◌, Bool, true, false, ◌&&◌, not, Option, Some, None, is_some, refl, subst, Machine, Zone, Transfer, Place, NoPlate, PlaceFull, PlateInZone, transfer_of, same_machine, own_move_of, ModelState, zone_at, is_full, IsSound, is_party, is_owned_by, is_received_by, is_onto_full}
 use Rattle.cell_rules.specs.Refusals
 use Rattle.cell_rules.proofs.Tables.{implied, and_left, and_right}
 use Rattle.cell_rules.proofs.Done.{none_then, none_then_not, some_unless, none_at, give_conditions, take_done, advance_conditions, advance_done}

@@ -1,6 +1,5 @@
 -- A call that isn't barred doesn't ask whether the cell is stopped.
-use Rattle.cell_rules.proofs.Names.{◌≡◌, true, false, ◌&&◌, refl, sym, ap, ◌∙◌, Machine, Pose, Turning, Travelling, Running, Call, Claim, Give, SetPose, Stop, Resume, Stopped}
-use Rattle.cell_rules.proofs.Names.{ModelState, reply, has_call, is_barred, is_cause, is_moving, running, WhatMovesMayStop}
+use Rattle.cell_rules.proofs.Names.{◌≡◌, true, false, ◌&&◌, refl, sym, ap, ◌∙◌, Machine, Pose, Turning, Travelling, Running, Call, Claim, Give, SetPose, Stop, Resume, Stopped, ModelState, reply, has_call, is_barred, is_cause, is_moving, running, WhatMovesMayStop}
 use Rattle.cell_rules.proofs.Refusing.{refusals_tell}
 use Rattle.cell_rules.proofs.Tables.{never}
 

@@ -16,6 +16,3 @@ written_prefix (Err e) old new text a b = b
 pub nothing_written : (old : Option (List ℕ)) → Appends old old []
 nothing_written None = tt
 nothing_written (Some xs) = sym (append-nil xs)
-
-pub no_prefix : (old : Option (List ℕ)) (text : List ℕ) → WrotePrefix old old text
-no_prefix old text = (0, nothing_written old)

@@ -7,8 +7,7 @@ use Rattle.cell_control.specs.Names.{waits_on, is_inquiry}
 use Rattle.cell_control.proofs.WaitLemmas.{stays_never, stays_until_free, stays_until_owner, stays_until_room}
 use Rattle.cell_stations.specs.Names.{row_at, press_steps}
 use Rattle.cell_stations.specs.declared.press.PressStep.{PressStep}
-use Rattle.cell_stations.specs.declared.press.PressStep.TheVariants.{ClaimFirst, MoveToMiddle, MoveToTop}
-use Rattle.cell_stations.specs.declared.press.PressStep.TheVariants.{MoveToBottom}
+use Rattle.cell_stations.specs.declared.press.PressStep.TheVariants.{ClaimFirst, MoveToMiddle, MoveToTop, MoveToBottom}
 use Rattle.cell_stations.specs.declared.press.PressProgress.{PressProgress}
 use Rattle.cell_stations.specs.PressExamples.{begins_with, PressAsks, PressDrives, PressChecks, PressRowsAreMet}
 

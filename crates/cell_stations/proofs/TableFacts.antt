@@ -4,18 +4,14 @@ use Rattle.std.specs.Prelude.{⊤}
 use Rattle.cell_types.specs.declared.machine.Machine.TheVariants.{Table as TableMachine}
 use Rattle.cell_rules.specs.Types.{Z1, Z2, Closed, Moving, OpenIn, OpenOut, Call, Claim, Done, Event}
 use Rattle.cell_calib.specs.Scale.{Scale}
-use Rattle.cell_rules.specs.Names.{ModelState, IsSound, owns, posture_at, reply, changed, after, IsLegal, Holds}
-use Rattle.cell_rules.specs.Names.{Moves}
+use Rattle.cell_rules.specs.Names.{ModelState, IsSound, owns, posture_at, reply, changed, after, IsLegal, Holds, Moves}
 use Rattle.cell_rules.proofs.Holders.{take_owned}
 use Rattle.cell_control.specs.Steps.{IsReached}
 use Rattle.cell_control.proofs.StepLemmas.{Knowing, reached_knows}
 use Rattle.cell_control.proofs.Facts.{Fact, Owns, Hosts, AreSo, are_foreign, are_same, seen_held, seen_in}
 use Rattle.cell_stations.specs.Names.{with_plate, by_plate, row_of, after_done, is_off, table_steps}
 use Rattle.cell_stations.specs.declared.table.TableStep.{TableStep}
-use Rattle.cell_stations.specs.declared.table.TableStep.TheVariants.{ClaimEntry, ClaimExit, LeaveForLoading}
-use Rattle.cell_stations.specs.declared.table.TableStep.TheVariants.{MoveToLoading, PoseLoading, ReleaseEntry}
-use Rattle.cell_stations.specs.declared.table.TableStep.TheVariants.{LeaveForUnloading, MoveToUnloading}
-use Rattle.cell_stations.specs.declared.table.TableStep.TheVariants.{PoseUnloading}
+use Rattle.cell_stations.specs.declared.table.TableStep.TheVariants.{ClaimEntry, ClaimExit, LeaveForLoading, MoveToLoading, PoseLoading, ReleaseEntry, LeaveForUnloading, MoveToUnloading, PoseUnloading}
 use Rattle.cell_stations.specs.declared.table.TableProgress.{TableProgress}
 use Rattle.cell_stations.specs.declared.table.TableStep.TheVariants.{TakePlate, GivePlate, ClaimBack}
 use Rattle.cell_stations.specs.TableProgram.{row_at}

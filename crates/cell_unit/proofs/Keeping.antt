@@ -4,8 +4,7 @@ use Rattle.cell_rules.specs.Types.{Machine, Posture, Call, Done, Shown, Refused,
 use Rattle.cell_calib.specs.declared.sense.SensorFault.{SensorFault}
 use Rattle.cell_rules.specs.Names.{ModelState, IsSound, event, reply, next, next_by, changed}
 use Rattle.cell_rules.specs.declared.heard.LineFault.{LineFault}
-use Rattle.cell_control.specs.Names.{fault_of, Rig, Steps, waits_out, outcome, Performed, PerformsCall}
-use Rattle.cell_control.specs.Names.{PerformsSensed, Turned, Turns, turned, at_rest}
+use Rattle.cell_control.specs.Names.{fault_of, Rig, Steps, waits_out, outcome, Performed, PerformsCall, PerformsSensed, Turned, Turns, turned, at_rest}
 use Rattle.cell_control.specs.declared.fault.CtlFault.{CtlFault}
 use Rattle.cell_control.proofs.TurnMaps.{turn_either}
 use Rattle.cell_notes.specs.Asks.{TurnCall, done_in}

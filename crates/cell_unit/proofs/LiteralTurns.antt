@@ -9,8 +9,7 @@ use Rattle.cell_calib.specs.declared.sense.SensorFault.{SensorFault}
 use Rattle.cell_rules.specs.Names.{ModelState, reply, next, Desk}
 use Rattle.cell_rules.specs.declared.heard.LineFault.{LineFault}
 use Rattle.cell_rules.specs.declared.heard.LineFault.TheVariants as line
-use Rattle.cell_control.specs.Names.{fault_of, Rig, waits_on, Steps, is_while_stopped, waits_out, outcome, Turned}
-use Rattle.cell_control.specs.Names.{Turns, at_rest, turned, stops_with}
+use Rattle.cell_control.specs.Names.{fault_of, Rig, waits_on, Steps, is_while_stopped, waits_out, outcome, Turned, Turns, at_rest, turned, stops_with}
 use Rattle.cell_control.specs.declared.fault.CtlFault.{CtlFault}
 use Rattle.cell_control.specs.declared.fault.CtlFault.TheVariants as fault
 use Rattle.cell_control.proofs.TurnsByAnswers.{asked_own, drive_own, sensor_own}

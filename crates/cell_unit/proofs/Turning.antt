@@ -10,8 +10,7 @@ use Rattle.cell_control.specs.declared.fault.CtlFault.{CtlFault}
 use Rattle.cell_control.proofs.TurnMaps.{turn_map, turn_either}
 use Rattle.cell_control.proofs.Senses.{turns_still}
 use Rattle.cell_notes.specs.Names.{TurnCall, done_in, settled_by, settled_in, Notes, notes_with}
-use Rattle.cell_unit.specs.Names.{Side, Acts, ActsAndMoves, DemandsHold, act_or_rest, noting, part_set, Answers}
-use Rattle.cell_unit.specs.Names.{Leads, UnitTurn}
+use Rattle.cell_unit.specs.Names.{Side, Acts, ActsAndMoves, DemandsHold, act_or_rest, noting, part_set, Answers, Leads, UnitTurn}
 use Rattle.cell_unit.specs.Sides.{TellsByDemands}
 
 -- what the actuators are told, by what came of the turn
@@ -121,14 +120,3 @@ module _ {S Sense Reading Act State : Type 0} (t : Steps S Sense Reading Act) (r
   leads_still : (runs : Bool) (busy : Bool) (z y : _) (before now : Side S State) (asked : TurnCall) → Leads runs t rig busy z before asked y now → Leads runs (with_senses t senses) rig busy z before asked y now
   leads_still true busy z y before now asked k = record { set = k.set; acts = acts_still _ _ before k.set asked k.acts; moved = k.moved }
   leads_still false busy z y before now asked k = k
-
-  pub unit_turn_still : (busy : Bool) (old new : Desk) (before now : Side S State) (notes notes' : Notes) (asked : TurnCall)
-      → UnitTurn t rig busy old new before now notes notes' asked → UnitTurn (with_senses t senses) rig busy old new before now notes notes' asked
-  unit_turn_still busy old new before now notes notes' asked k =
-      record {
-        leads = leads_still (is_none before.stopped) busy old.state new.state before now asked k.leads;
-        opening = k.opening;
-        history = k.history;
-        motor_demands = λ e. let tells = k.motor_demands e in record { act = tells.act; told = tells.told; motor_demands = tells.motor_demands };
-        noted = k.noted;
-      }

@@ -1,6 +1,5 @@
 -- Fields side by side read back from their word.
-use Rattle.cell_word.proofs.Names.{◌≡◌, ℕ, ◌+◌, ◌*◌, ◌/◌, ◌<◌, ◌^◌, List, [], ◌∷◌, sym, ap, ◌∙◌, subst, arith, All, add-mul, add_assoc, mul_assoc, mul_comm, pow-add, mul-add-lt, shr_high, mod_low, sum_by-cons, All-nil, All-cons, All-head}
-use Rattle.cell_word.proofs.Names.{All-tail, Field, term_of, word_of, bits_of, Fits, SideBySide, ReadsBack}
+use Rattle.cell_word.proofs.Names.{◌≡◌, ℕ, ◌+◌, ◌*◌, ◌/◌, ◌<◌, ◌^◌, List, [], ◌∷◌, sym, ap, ◌∙◌, subst, arith, All, add-mul, add_assoc, mul_assoc, mul_comm, pow-add, mul-add-lt, shr_high, mod_low, sum_by-cons, All-nil, All-cons, All-head, All-tail, Field, term_of, word_of, bits_of, Fits, SideBySide, ReadsBack}
 
 -- the fields as one number, from their lowest bit on
 abbrev pub stacked : List Field → ℕ

@@ -1,6 +1,5 @@
 -- On a sound state's word the guards of each machine and call are its refusals, in their order.
-use Rattle.cell_word.proofs.Names.{◌≡◌, Bool, true, refl, Machine, Call, Claim, Give, Yield, Take, Release, SetPose, Advance, Inquire, Stop, Resume, ModelState, IsSound, refusal, order_of, machines, holds2, packed, first_refusal, guards_of}
-use Rattle.cell_word.proofs.Names.{numbers_of, is_ordered}
+use Rattle.cell_word.proofs.Names.{◌≡◌, Bool, true, refl, Machine, Call, Claim, Give, Yield, Take, Release, SetPose, Advance, Inquire, Stop, Resume, ModelState, IsSound, refusal, order_of, machines, holds2, packed, first_refusal, guards_of, numbers_of, is_ordered}
 use Rattle.cell_word.proofs.Possible.{calls}
 use Rattle.cell_word.proofs.ZoneGuards.{claim_holds, give_holds, yield_holds, take_holds, release_holds, stop_holds, resume_holds}
 use Rattle.cell_word.proofs.PoseGuards.{pose_holds, advance_holds}

@@ -1,8 +1,6 @@
 -- The guards of poses and of work are the refusals of these calls.
-use Rattle.cell_word.proofs.Names.{◌≡◌, ℕ, Bool, true, false, ◌||◌, ◌&&◌, not, Option, Some, None, is_none, is_some, option_map, unwrap_or, List, [], ◌∷◌, ◌++◌, refl, sym, ap, ap₂, ◌∙◌, subst, if◌then◌else◌, bit_or, option_or, option_eq}
-use Rattle.cell_word.proofs.Names.{then_some, flat_map, append-nil, Machine, Feed, Robot, Press, Deposit, Watch, Zone, Z1, Z2, Z3, Z4, Z5, Z6, Place, FeedEntry, FeedEnd, PressIn, PressOut, DepEntry, DepEnd, Posture, Closed, Moving, OpenIn}
-use Rattle.cell_word.proofs.Names.{OpenOut, Pose, Running, Refusal, NotOwner, PlateInZone, NoPlate, PlaceFull, Jump, NotAtWork, NoPose, Stopped, host_of, guest_of, posture_of, same_machine, same_posture, same_pose, one_machine, Table}
-use Rattle.cell_word.proofs.Names.{ModelState, zone_at, is_full, IsSound, implies, is_owned_by, ZoneState, and_left, and_right, and_both, implied, all_bools, from_bools, all_zones, all_postures, bools, machines, zones, postures, poses}
+use Rattle.cell_word.proofs.Names.{◌≡◌, ℕ, Bool, true, false, ◌||◌, ◌&&◌, not, Option, Some, None, is_none, is_some, option_map, unwrap_or, List, [], ◌∷◌, ◌++◌, refl, sym, ap, ap₂, ◌∙◌, subst, if◌then◌else◌, bit_or, option_or, option_eq, then_some, flat_map, append-nil, Machine, Feed, Robot, Press, Deposit, Watch, Zone, Z1, Z2, Z3, Z4, Z5, Z6, Place, FeedEntry, FeedEnd, PressIn, PressOut, DepEntry, DepEnd, Posture, Closed, Moving, OpenIn}
+use Rattle.cell_word.proofs.Names.{OpenOut, Pose, Running, Refusal, NotOwner, PlateInZone, NoPlate, PlaceFull, Jump, NotAtWork, NoPose, Stopped, host_of, guest_of, posture_of, same_machine, same_posture, same_pose, one_machine, Table, ModelState, zone_at, is_full, IsSound, implies, is_owned_by, ZoneState, and_left, and_right, and_both, implied, all_bools, from_bools, all_zones, all_postures, bools, machines, zones, postures, poses}
 use Rattle.cell_word.proofs.Names.{states, pairs, holds2, holds3, none_then_not, packed, anything, nothing, when, both, owner_is, place_is, mark_is, guard, first_refusal, Guard}
 use Rattle.cell_types.specs.declared.machine.Machine.TheVariants.{Table as TableMachine, Crane as CraneMachine}
 use Rattle.cell_rules.specs.Refusals

@@ -1,8 +1,6 @@
 -- A call that writes something is Done on some state.
-use Rattle.cell_word.proofs.Names.{◌≡◌, ℕ, Bool, true, false, ◌||◌, ◌&&◌, nat_eq, nat_lt, ◌<◌, ◌^◌, Option, Some, None, is_some, refl, eqb-true, ltb-true, if◌then◌else◌, ◌≢◌, IsTrue, list_all, and_parts, Machine, Press, Zone, Place}
-use Rattle.cell_word.proofs.Names.{Transfer, Posture, Closed, Moving, OpenIn, OpenOut, Call, Claim, Give, Yield, Take, Release, SetPose, Advance, Inquire, Stop, Resume, Answer, Done, Shown, Refused, host_of, transfer_of, same_machine}
-use Rattle.cell_word.proofs.Names.{own_move_of, put_zone, map_zones, PlaceSet, empty, insert_place, ModelState, model_state, IsSound, implies, is_sound, given_by, reply, has_call, ZoneState, and_left, and_right, implied, Finite, Passed}
-use Rattle.cell_word.proofs.Names.{passed, all_zones, from_zones, all_poses, from_poses, machines, holds2, sound_by_test, stamp_bit, bits_of, IsOffStamp, row_given, written, received_by, Pattern}
+use Rattle.cell_word.proofs.Names.{◌≡◌, ℕ, Bool, true, false, ◌||◌, ◌&&◌, nat_eq, nat_lt, ◌<◌, ◌^◌, Option, Some, None, is_some, refl, eqb-true, ltb-true, if◌then◌else◌, ◌≢◌, IsTrue, list_all, and_parts, Machine, Press, Zone, Place, Transfer, Posture, Closed, Moving, OpenIn, OpenOut, Call, Claim, Give, Yield, Take, Release, SetPose, Advance, Inquire, Stop, Resume, Answer, Done, Shown, Refused, host_of, transfer_of, same_machine}
+use Rattle.cell_word.proofs.Names.{own_move_of, put_zone, map_zones, PlaceSet, empty, insert_place, ModelState, model_state, IsSound, implies, is_sound, given_by, reply, has_call, ZoneState, and_left, and_right, implied, Finite, Passed, passed, all_zones, from_zones, all_poses, from_poses, machines, holds2, sound_by_test, stamp_bit, bits_of, IsOffStamp, row_given, written, received_by, Pattern}
 use Rattle.std.specs.Prelude.{List, [], ◌∷◌}
 use Rattle.cell_rules.specs.Names.{everywhere, free_zone}
 

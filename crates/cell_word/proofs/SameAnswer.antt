@@ -1,6 +1,5 @@
 -- Tests whether two refusals, or two rows of transfers, are the same.
-use Rattle.cell_word.proofs.Names.{◌≡◌, Bool, true, false, ◌&&◌, not, Option, Some, None, refl, ap, Machine, Transfer, Refusal, NotParty, Held, AlreadyMine, Shut, NotOwner, PlateInZone, NoPlate, PlaceFull, WrongWay, Jump, NotAtWork, NoPose}
-use Rattle.cell_word.proofs.Names.{Worn, InUse, Stopped, NotStopped, same_machine, same_zone, same_place, same_posture, one_machine, one_zone, one_place, one_posture, and_left, and_right}
+use Rattle.cell_word.proofs.Names.{◌≡◌, Bool, true, false, ◌&&◌, not, Option, Some, None, refl, ap, Machine, Transfer, Refusal, NotParty, Held, AlreadyMine, Shut, NotOwner, PlateInZone, NoPlate, PlaceFull, WrongWay, Jump, NotAtWork, NoPose, Worn, InUse, Stopped, NotStopped, same_machine, same_zone, same_place, same_posture, one_machine, one_zone, one_place, one_posture, and_left, and_right}
 
 abbrev pub same_bool : Bool → Bool → Bool
 same_bool b true = b

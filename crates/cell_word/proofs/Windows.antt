@@ -1,6 +1,5 @@
 -- A row of guards sees only the bits of a word under its masks.
-use Rattle.cell_word.proofs.Names.{◌≡◌, inl, inr, ℕ, zero, suc, ◌+◌, ◌-◌, ◌*◌, ◌/◌, ◌%◌, ◌^◌, ◌<◌, min, max, Bool, true, false, ◌&&◌, cond, nat_eq, Option, Some, option_map, List, [], ◌∷◌, ◌++◌, refl, sym, ap, ◌∙◌, subst, arith, eqb-true}
-use Rattle.cell_word.proofs.Names.{eq-eqb, ne_eqb, bit_and, bit_or, cases_lt, eqb-false, bit_at, option_or, find, list_all, mul_comm, mul-sub, and_assoc, and_mask, mod_below, pow-add, shr-shr, shl-shr, and_high, bit_at_and, bit_at_or}
+use Rattle.cell_word.proofs.Names.{◌≡◌, inl, inr, ℕ, zero, suc, ◌+◌, ◌-◌, ◌*◌, ◌/◌, ◌%◌, ◌^◌, ◌<◌, min, max, Bool, true, false, ◌&&◌, cond, nat_eq, Option, Some, option_map, List, [], ◌∷◌, ◌++◌, refl, sym, ap, ◌∙◌, subst, arith, eqb-true, eq-eqb, ne_eqb, bit_and, bit_or, cases_lt, eqb-false, bit_at, option_or, find, list_all, mul_comm, mul-sub, and_assoc, and_mask, mod_below, pow-add, shr-shr, shl-shr, and_high, bit_at_and, bit_at_or}
 use Rattle.cell_word.proofs.Names.{same_from_bits, and_left, and_right, bits_of, stands, field_is, first_refusal, Pattern, Guard}
 use Rattle.cell_types.specs.declared.answer.Refusal.{Refusal}
 

@@ -9,8 +9,7 @@ use Rattle.cell_calib.specs.declared.sense.SensorFault.TheVariants.{Clash}
 use Rattle.cell_rules.specs.declared.heard.LineFault.{LineFault}
 use Rattle.cell_interlock.specs.Views.{PassView}
 use Rattle.cell_interlock.specs.Lines.{PassAsks}
-use Rattle.cell_control.specs.Names.{Rig, Steps, outcome, Performed, PerformsCall, PerformsSensed, Turned, Turns}
-use Rattle.cell_control.specs.Names.{at_rest, turned}
+use Rattle.cell_control.specs.Names.{Rig, Steps, outcome, Performed, PerformsCall, PerformsSensed, Turned, Turns, at_rest, turned}
 use Rattle.cell_control.specs.declared.fault.CtlFault.{CtlFault}
 use Rattle.cell_control.proofs.TurnMaps.{turn_either}
 use Rattle.cell_control.proofs.TurnsByAnswers.{drive_own}

@@ -10,8 +10,7 @@ use Rattle.cell_interlock.specs.Seen.{IsSamePass}
 use Rattle.cell_interlock.proofs.Journals.{journal_by, journal-settled, journal-busy}
 use Rattle.cell_control.specs.Names.{Rig, Steps}
 use Rattle.cell_control.proofs.TurnMaps.{turn_either}
-use Rattle.cell_notes.specs.Names.{TurnCall, came_back, is_done_reply, is_read_reply, is_refused_reply, no_counts}
-use Rattle.cell_notes.specs.Names.{counts_with}
+use Rattle.cell_notes.specs.Names.{TurnCall, came_back, is_done_reply, is_read_reply, is_refused_reply, no_counts, counts_with}
 use Rattle.cell_notes.specs.declared.counts.Counts.{Counts}
 use Rattle.cell_notes.specs.declared.status.Status.{Status}
 use Rattle.cell_unit.specs.Sides.{Acts}

@@ -1,7 +1,6 @@
 -- What the six workers of a cell gave back, stated for their machines by name; and the record of it.
 use Rattle.std.proofs.Common.{◌≡◌, ℕ, true, List, [], ◌∷◌, Option, Some, None, IfSome, Result, refl, sym, ap, subst, ◌∙◌}
-use Rattle.cell_rules.specs.Types.{Machine, Feed, Table, Robot, Press, Deposit, Crane, Watch, Event, Entry}
-use Rattle.cell_rules.specs.Types.{journal_of}
+use Rattle.cell_rules.specs.Types.{Machine, Feed, Table, Robot, Press, Deposit, Crane, Watch, Event, Entry, journal_of}
 use Rattle.cell_calib.specs.declared.sense.SensorFault.{SensorFault}
 use Rattle.cell_rules.specs.Names.{noted, Waits, ModelState, after, IsAudited, LawfulThroughout}
 use Rattle.cell_interlock.specs.Views.{PassView, InterlockView}
@@ -20,8 +19,7 @@ use Rattle.cell_notes.specs.declared.status.Status.TheVariants.{Fine}
 use Rattle.cell_unit.specs.Sides.{IsReady}
 use Rattle.cell_unit.proofs.Turning.{acts_still}
 use Rattle.cell_parts.specs.Names.{CellScales, table_rig, robot_rig, crane_rig}
-use Rattle.cell_plant.specs.Names.{CellGauges, PartOf, any_near, robot_axes, robot_gauges, robot_points, steps_by}
-use Rattle.cell_plant.specs.Names.{rig_of, SideOf, side_in, sides_at_start, positions_in}
+use Rattle.cell_plant.specs.Names.{CellGauges, PartOf, any_near, robot_axes, robot_gauges, robot_points, steps_by, rig_of, SideOf, side_in, sides_at_start, positions_in}
 use Rattle.cell_plant.proofs.Gauged.{GiveAsMuch, table_as, robot_as, crane_as}
 use Rattle.cell_workers.specs.Lines.{Lines, passes}
 use Rattle.cell_workers.specs.Workers.{WorkerMoment, worker_moment, GateOf, TakesTurn, TakesTurns, HasEnded, IsWorkerResult, AreCountsOf}

@@ -1,8 +1,7 @@
 -- What a record of six workers says.
 use Rattle.std.proofs.Common.{◌≡◌, ℕ, ℤ, pos, true, false, inl, inr, [], ◌∷◌, map, get_or, Option, Some, None, Result, Ok, Err, refl, sym, ap, subst, ◌∙◌, arith}
 use Rattle.std.specs.Prelude.{slice_get}
-use Rattle.cell_rules.specs.Types.{Machine, Feed, Table, Robot, Press, Deposit, Crane, Watch, Z3, Call, Claim, Done}
-use Rattle.cell_rules.specs.Types.{Event, Reply, Settled, Busy, all_machines, journal_of}
+use Rattle.cell_rules.specs.Types.{Machine, Feed, Table, Robot, Press, Deposit, Crane, Watch, Z3, Call, Claim, Done, Event, Reply, Settled, Busy, all_machines, journal_of}
 use Rattle.cell_calib.specs.Names.{Scale, IsReading}
 use Rattle.cell_calib.specs.declared.sense.SensorFault.{SensorFault}
 use Rattle.cell_calib.specs.declared.sense.CraneSense.{CraneSense}

@@ -1,5 +1,4 @@
-use Rattle.cell_rules.proofs.Names.{List, ℕ, Bool, true, ◌≡◌, ◌<◌, ◌≤◌, ◌+◌, ◌==◌, ◌&&◌, ◌∷◌, ◌++◌, [], Some, sym, ◌∙◌, ap, ap₂, arith, drop, get_or, length, map, set, take, length-set, list_all, drop_all, drop_more, map-append, take_all}
-use Rattle.cell_rules.proofs.Names.{take_more, take_more_set, cond_some, flag_in, is_flag, places_in}
+use Rattle.cell_rules.proofs.Names.{List, ℕ, Bool, true, ◌≡◌, ◌<◌, ◌≤◌, ◌+◌, ◌==◌, ◌&&◌, ◌∷◌, ◌++◌, [], Some, sym, ◌∙◌, ap, ap₂, arith, drop, get_or, length, map, set, take, length-set, list_all, drop_all, drop_more, map-append, take_all, take_more, take_more_set, cond_some, flag_in, is_flag, places_in}
 use Rattle.cell_rules.proofs.start_digits.read_places.Goals as goal
 
 -- another digit that is a flag

@@ -1,5 +1,4 @@
-use Rattle.cell_word.proofs.Names.{◌≡◌, Option, Ok, List, [], ◌∷◌, map, sym, ap, ◌∙◌, Result, Some, ℕ, Machine, Zone, Transfer, Give, NoPlate, PlaceFull, Refusal, other_party, guard, first_refusal, unless, checked, went_on, machine_of}
-use Rattle.cell_word.proofs.Names.{opposite, Guard}
+use Rattle.cell_word.proofs.Names.{◌≡◌, Option, Ok, List, [], ◌∷◌, map, sym, ap, ◌∙◌, Result, Some, ℕ, Machine, Zone, Transfer, Give, NoPlate, PlaceFull, Refusal, other_party, guard, first_refusal, unless, checked, went_on, machine_of, opposite, Guard}
 use Rattle.cell_rules.specs.Types.{all_postures}
 use Rattle.cell_word.specs.Changes as changes
 use Rattle.cell_word.specs.Guards as guards

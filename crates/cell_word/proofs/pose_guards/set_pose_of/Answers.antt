@@ -1,5 +1,4 @@
-use Rattle.cell_word.proofs.Names.{◌≡◌, ℕ, Result, Ok, Option, is_none, List, [], ◌∷◌, ◌++◌, refl, sym, ap, ap₂, subst, ◌∙◌, Machine, Zone, Pose, Posture, SetPose, Refusal, NoPose, when, anything, both, guard, first_refusal, unless}
-use Rattle.cell_word.proofs.Names.{Pattern, Guard}
+use Rattle.cell_word.proofs.Names.{◌≡◌, ℕ, Result, Ok, Option, is_none, List, [], ◌∷◌, ◌++◌, refl, sym, ap, ap₂, subst, ◌∙◌, Machine, Zone, Pose, Posture, SetPose, Refusal, NoPose, when, anything, both, guard, first_refusal, unless, Pattern, Guard}
 use Rattle.std.proofs.Common.{append_assoc}
 use Rattle.cell_word.specs.Changes as changes
 use Rattle.cell_word.specs.Guards as guards

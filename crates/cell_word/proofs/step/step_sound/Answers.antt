@@ -1,5 +1,4 @@
-use Rattle.cell_word.proofs.Names.{◌≡◌, ℕ, ◌+◌, ◌^◌, arith, Option, Some, None, ◌∙◌, ap, ap₂, sym, refl, Machine, Zone, Call, Claim, Give, Yield, Take, Release, SetPose, Advance, Inquire, Stop, Resume, Refusal, Answer, Refused, Done}
-use Rattle.cell_word.proofs.Names.{ModelState, IsSound, reply, refusal, done_unless, next, next_by, packed, with_written, written, first_refusal, guards_of, Pattern, next_keeps}
+use Rattle.cell_word.proofs.Names.{◌≡◌, ℕ, ◌+◌, ◌^◌, arith, Option, Some, None, ◌∙◌, ap, ap₂, sym, refl, Machine, Zone, Call, Claim, Give, Yield, Take, Release, SetPose, Advance, Inquire, Stop, Resume, Refusal, Answer, Refused, Done, ModelState, IsSound, reply, refusal, done_unless, next, next_by, packed, with_written, written, first_refusal, guards_of, Pattern, next_keeps}
 use Rattle.cell_word.proofs.RoundTrip.{laid_out}
 use Rattle.cell_word.proofs.Changing.{done_written}
 use Rattle.cell_word.proofs.Trying.{was_refused, was_passed}

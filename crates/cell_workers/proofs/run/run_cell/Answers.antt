@@ -8,8 +8,7 @@ use Rattle.cell_notes.specs.declared.status.Status.TheVariants.{Fine}
 use Rattle.cell_robot.specs.RobotProgram.{gauges_of, robot_steps}
 use Rattle.cell_stations.specs.Names.{press_steps, table_steps}
 use Rattle.cell_parts.specs.Rigs.{table_rig, robot_rig, crane_rig}
-use Rattle.cell_plant.specs.Names.{robot_gauges, robot_points, robot_axes, positions_in, cell_gauges, cell_scales}
-use Rattle.cell_plant.specs.Names.{points_of, sides_of, Sides, sides_at_start}
+use Rattle.cell_plant.specs.Names.{robot_gauges, robot_points, robot_axes, positions_in, cell_gauges, cell_scales, points_of, sides_of, Sides, sides_at_start}
 use Rattle.cell_plant.specs.Watch.{watch_at_start}
 use Rattle.cell_workers.specs.Records.{TellsWork}
 use Rattle.cell_workers.specs.Results.{AreWorkerResults, CellOutcomes, parts_in, seen_in}
