@@ -9,7 +9,7 @@ ghost use Rattle.cell_notes.specs.Notes.{HasRoom};
 ghost use Rattle.cell_parts.specs.Axes.{AreCellScales};
 ghost use Rattle.cell_plant.specs.Cells.{IsMadeFor, TellsRun, cell_gauges, cell_scales, five_gauges};
 ghost use Rattle.cell_plant.specs.CellStates.{side_in, plant_of};
-ghost use Rattle.cell_plant.specs.Frames.{SeesRun, SeesBeginning, frame_of, steps_in};
+ghost use Rattle.cell_plant.specs.Frames.{SeesRun, SeesBeginning, frame_of};
 ghost use Rattle.cell_plant.specs.Moments.{StepsOn, Keeps, first_moment, state_at};
 ghost use Rattle.cell_notes.specs.ByMachine.{at_machine};
 ghost use Rattle.cell_plant.specs.Records.{NoneRefused, positions_in};
@@ -228,27 +228,21 @@ impl<F1: Gauge, F2: Gauge, F3: Gauge, F4: Gauge, F5: Gauge> Simulation<F1, F2, F
     fn frame(&self, turn: Option<Turn>, asked: TurnCall) -> Frame
         ensures { result ≡ frame_of turn asked (state_at self.now) }
     {
+        let cell = &self.cell;
         Frame {
             turn,
             asked,
-            steps: self.steps(),
+            steps: MachineSteps {
+                feed: cell.feed.controller.progress().step,
+                table: cell.table.controller.progress().step,
+                robot: cell.robot.controller.progress().step,
+                press: cell.press.controller.progress().step,
+                deposit: cell.deposit.controller.progress().step,
+                crane: cell.crane.controller.progress().step,
+            },
             status: self.status(),
             state: self.bench.state(),
             plant: self.plant(),
-        }
-    }
-
-    // The step that each machine is at.
-    fn steps(&self) -> MachineSteps
-        ensures { result ≡ steps_in (state_at self.now) }
-    {
-        MachineSteps {
-            feed: self.cell.feed.controller.progress().step,
-            table: self.cell.table.controller.progress().step,
-            robot: self.cell.robot.controller.progress().step,
-            press: self.cell.press.controller.progress().step,
-            deposit: self.cell.deposit.controller.progress().step,
-            crane: self.cell.crane.controller.progress().step,
         }
     }
 
@@ -271,7 +265,7 @@ impl<F1: Gauge, F2: Gauge, F3: Gauge, F4: Gauge, F5: Gauge> Simulation<F1, F2, F
         ensures { Keeps self.old start result }
     {
         let status = self.status();
-        let axes = self.axes();
+        let axes = axes_of(&self.plant());
         let counts = counts_in(&self.notebooks);
         let notebooks = mem::replace(&mut self.notebooks, empty_notebooks(alloc));
         RunRecord {
@@ -298,21 +292,20 @@ impl<F1: Gauge, F2: Gauge, F3: Gauge, F4: Gauge, F5: Gauge> Simulation<F1, F2, F
             status_of(self.watch.controller.stopped()),
         ]
     }
+}
 
-    // The positions of the axes, in the order of reports.
-    fn axes(&self) -> [i32; 8]
-        ensures { result ≡ positions_in (plant_of (state_at self.now)) }
-    {
-        let cell = &self.cell;
-        [
-            cell.press.part.position(),
-            cell.robot.part.arm1(),
-            cell.robot.part.arm2(),
-            cell.robot.part.rotation(),
-            cell.table.part.lift(),
-            cell.table.part.turn(),
-            cell.crane.part.travel(),
-            cell.crane.part.gripper(),
-        ]
-    }
+// The positions of the axes, in the order of reports.
+fn axes_of(plant: &PlantState) -> [i32; 8]
+    ensures { result ≡ positions_in plant.now }
+{
+    [
+        plant.press.position,
+        plant.robot.arm1.position,
+        plant.robot.arm2.position,
+        plant.robot.rotation.position,
+        plant.table.lift.position,
+        plant.table.turn.position,
+        plant.crane.travel.position,
+        plant.crane.gripper.position,
+    ]
 }
