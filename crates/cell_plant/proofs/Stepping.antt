@@ -1,6 +1,10 @@
 -- One turn of a simulation, as a step of a run.
 use Rattle.cell_plant.proofs.Names.{◌≡◌, OnErr, IfOk, Bool, true, false, ◌&&◌, is_none, List, [], ◌++◌, append-nil, Option, None, Result, Ok, Err, refl, sym, ap, ◌∙◌, subst, if◌then◌else◌, Machine, Feed, Table, Robot, Press, Deposit, Crane, Watch, same_machine, one_machine, Event, ModelState, Desk, Steps, Rig, CtlFault, TurnCall, settled_in, Notes, notes_with, at_machine, Turn, Side, UnitTurn, others_ready, Untouched, CellGauges, steps_by}
 use Rattle.cell_plant.proofs.Names.{rig_of, SideOf, CellState, Sides, side_in, sides_at_start, Step, LeadsIfBy, RunMoment, StepsOn, state_at, first_moment, AllNotes, first_notes}
+use Rattle.cell_plant.proofs.Names.{feed_steps, table_steps, robot_steps, gauges_of, points_of, press_steps, deposit_steps, crane_steps, watch_steps}
+use Rattle.cell_plant.specs.Simulations.{AreReady, Gauges}
+use Rattle.cell_plant.specs.declared.simulation.Simulation.TheInside.{Inside}
+use Rattle.cell_calib.specs.declared.gauge.Gauge.{Ghosts}
 use Rattle.cell_calib.specs.Scale.{Scale}
 use Rattle.cell_parts.specs.Names.{CellScales}
 use Rattle.cell_parts.specs.Axes.{RobotScales as PartScales}
@@ -158,6 +162,31 @@ grows (Err e) t rig busy old new before now notes notes' k u = record { asked = 
 pub stays_ready : {S Sense Reading Act : Type 0} → (t : Steps S Sense Reading Act) (m : Machine) (old new : Desk) → Grows m old new → (stopped : Option CtlFault) (p : S) → same_machine m t.machine ≡ false
     → IsReady t old.opening old.history stopped p → IsReady t new.opening new.history stopped p
 stays_ready t m old new k stopped p apart ready = rw k.opening (others_ready t m old.opening old.history new.history k.asked stopped p apart k.history ready)
+
+-- what it is for a machine's controller to be ready in a simulation, at an opening and a history
+module _ {F1 F2 F3 F4 F5 : Type 0} {g1 : Ghosts F1} {g2 : Ghosts F2} {g3 : Ghosts F3} {g4 : Ghosts F4} {g5 : Ghosts F5} (gives : Gauges F1 F2 F3 F4 F5) (s : Inside F1 F2 F3 F4 F5 g1 g2 g3 g4 g5) where
+  abbrev pub ReadyAt : ModelState → List Event → Machine → Type 0
+  ReadyAt opening seen Feed = IsReady feed_steps opening seen s.cell.feed.controller.stopped s.cell.feed.controller.progress
+  ReadyAt opening seen Table = IsReady (table_steps s.cell.table.controller.program.turn.points (gives.turn s.cell.table.controller.program.turn.gauge)) opening seen s.cell.table.controller.stopped s.cell.table.controller.progress
+  ReadyAt opening seen Robot =
+      IsReady (robot_steps (points_of s.cell.robot.controller.program) (gauges_of (gives.arm1 s.cell.robot.controller.program.arm1.gauge) (gives.arm2 s.cell.robot.controller.program.arm2.gauge) (gives.rotation s.cell.robot.controller.program.rotation.gauge)))
+      opening seen s.cell.robot.controller.stopped s.cell.robot.controller.progress
+  ReadyAt opening seen Press = IsReady press_steps opening seen s.cell.press.controller.stopped s.cell.press.controller.progress
+  ReadyAt opening seen Deposit = IsReady deposit_steps opening seen s.cell.deposit.controller.stopped s.cell.deposit.controller.progress
+  ReadyAt opening seen Crane = IsReady (crane_steps s.cell.crane.controller.program.gripper.points (gives.gripper s.cell.crane.controller.program.gripper.gauge)) opening seen s.cell.crane.controller.stopped s.cell.crane.controller.progress
+  ReadyAt opening seen Watch = IsReady watch_steps opening seen s.watch.controller.stopped s.watch.controller.progress
+
+-- after any machine's turn those of the others are ready
+pub others_stay : {F1 F2 F3 F4 F5 : Type 0} {g1 : Ghosts F1} {g2 : Ghosts F2} {g3 : Ghosts F3} {g4 : Ghosts F4} {g5 : Ghosts F5} {gives : Gauges F1 F2 F3 F4 F5} {s : Inside F1 F2 F3 F4 F5 g1 g2 g3 g4 g5} → AreReady gives s
+    → {m : Machine} {old new : Desk} → Grows m old new → old.opening ≡ s.bench.opening → old.history ≡ s.bench.history.items
+    → (n : Machine) → same_machine m n ≡ false → ReadyAt gives s new.opening new.history n
+others_stay r k o h Feed apart = stays_ready _ _ _ _ k _ _ apart (rw (o, h) r.feed)
+others_stay r k o h Table apart = stays_ready _ _ _ _ k _ _ apart (rw (o, h) r.table)
+others_stay r k o h Robot apart = stays_ready _ _ _ _ k _ _ apart (rw (o, h) r.robot)
+others_stay r k o h Press apart = stays_ready _ _ _ _ k _ _ apart (rw (o, h) r.press)
+others_stay r k o h Deposit apart = stays_ready _ _ _ _ k _ _ apart (rw (o, h) r.deposit)
+others_stay r k o h Crane apart = stays_ready _ _ _ _ k _ _ apart (rw (o, h) r.crane)
+others_stay r k o h Watch apart = stays_ready _ _ _ _ k _ _ apart (rw (o, h) r.watch)
 
 -- another scale of the table's rotation, another of the gripper's height, and other scales of the robot
 abbrev pub with_turn : CellScales → Scale → CellScales
