@@ -1,7 +1,6 @@
 -- One turn of a simulation, as a step of a run.
 use Rattle.cell_plant.proofs.Names.{◌≡◌, OnErr, IfOk, Bool, true, false, ◌&&◌, is_none, List, [], ◌++◌, append-nil, Option, None, Result, Ok, Err, refl, sym, ap, ◌∙◌, subst, if◌then◌else◌, Machine, Feed, Table, Robot, Press, Deposit, Crane, Watch, same_machine, one_machine, Event, ModelState, Desk, Steps, Rig, CtlFault, TurnCall, settled_in, Notes, notes_with, at_machine, Turn, Side, UnitTurn, others_ready, Untouched, CellGauges, steps_by}
-use Rattle.cell_plant.proofs.Names.{rig_of, SideOf, CellState, Sides, side_in, sides_at_start, Step, LeadsIfBy, RunMoment, StepsOn, state_at, first_moment, AllNotes, first_notes}
-use Rattle.cell_plant.proofs.Names.{feed_steps, table_steps, robot_steps, gauges_of, points_of, press_steps, deposit_steps, crane_steps, watch_steps}
+use Rattle.cell_plant.proofs.Names.{rig_of, SideOf, CellState, Sides, side_in, sides_at_start, Step, LeadsIfBy, RunMoment, StepsOn, state_at, first_moment, AllNotes, first_notes, feed_steps, table_steps, robot_steps, gauges_of, points_of, press_steps, deposit_steps, crane_steps, watch_steps}
 use Rattle.cell_plant.specs.Simulations.{AreReady, Gauges}
 use Rattle.cell_plant.specs.declared.simulation.Simulation.TheInside.{Inside}
 use Rattle.cell_calib.specs.declared.gauge.Gauge.{Ghosts}

@@ -3,14 +3,11 @@ use Rattle.std.specs.Prelude.{IfErr}
 use Rattle.cell_plant.specs.Names.{given_by}
 use Rattle.cell_plant.proofs.simulation.simulate_seen.Goals as goal
 
-pub run-requires : goal.run-requires
-run-requires g c =
-    let is = sym c.new-simulation.ensures in
-    record {
-      begins = subst (λ (m : RunMoment _). m ≡ first_moment m.scales m.gauges c.args.opening) is refl;
-      start = c.requires.start;
-      scales = subst (λ (m : RunMoment _). AreCellScales m.scales) is c.requires.scales;
-    }
+pub run-requires-clause-begins : goal.run-requires-clause-begins
+run-requires-clause-begins g c = subst (λ (m : RunMoment _). m ≡ first_moment m.scales m.gauges c.args.opening) (sym c.new-simulation.ensures) refl
+
+pub run-requires-clause-scales : goal.run-requires-clause-scales
+run-requires-clause-scales g c = subst (λ (m : RunMoment _). AreCellScales m.scales) (sym c.new-simulation.ensures) c.requires.scales
 
 pub returns-clause-run : goal.returns-clause-run
 returns-clause-run g c =
