@@ -160,7 +160,7 @@ sections_taken start turns ms sections h =
     subst (λ them. AreCalibrated (settings_by start turns them)) {x = one.0 ∷ two.0 ∷ three.0 ∷ four.0 ∷ five.0 ∷ []} same (record {
       points = (
         record { arm1 = one.0.0; arm2 = two.0.0; rotation = three.0.0; turn = four.0.0; gripper = five.0.0 },
-        refl,
+        refl {a = one.0.0 ∷ two.0.0 ∷ three.0.0 ∷ four.0.0 ∷ five.0.0 ∷ []},
         record { arm1 = first.axis; arm2 = second.axis; rotation = third.axis; turn = fourth.axis; gripper = fifth.axis },
       );
       curves = (first.curve, (second.curve, (third.curve, (fourth.curve, (fifth.curve, tt)))));

@@ -41,7 +41,10 @@ fn pair_of(value: &Value) -> Option<(i64, i64)>
 fn raw_of(number: i64) -> Result<u16, ConfigFault>
     ensures { result ≡ settings.number_within 0 65535 number }
 {
-    u16::try_from(number).map_err(|_| ConfigFault::Range)
+    match u16::try_from(number) {
+        Ok(raw) => Ok(raw),
+        Err(_) => Err(ConfigFault::Range),
+    }
 }
 
 /// The raw values at the two ends of an axis. `Range` if one is out of range, or they are closer to
@@ -258,12 +261,11 @@ pub fn curves_at(table: &Table) -> Result<[Curve; 5], ConfigFault>
 pub fn points_of_curves(curves: &[Curve; 5]) -> [Points; 5]
     ensures { result ≡ map (λ c. c.scale) curves.now }
 {
-    let [arm1, arm2, rotation, turn, gripper] = *curves;
     [
-        arm1.points(),
-        arm2.points(),
-        rotation.points(),
-        turn.points(),
-        gripper.points(),
+        curves[0].points(),
+        curves[1].points(),
+        curves[2].points(),
+        curves[3].points(),
+        curves[4].points(),
     ]
 }

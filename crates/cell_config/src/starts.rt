@@ -31,7 +31,10 @@ fn start_of(places: [bool; PLACES], stamp: u32) -> Result<State, ConfigFault>
     ensures value { result ≡ settings.start_of places stamp }
     ensures start { IfOk result IsStartState }
 {
-    State::start(places, stamp).map_err(|_| ConfigFault::Start)
+    match State::start(places, stamp) {
+        Ok(start) => Ok(start),
+        Err(_) => Err(ConfigFault::Start),
+    }
 }
 
 /// The start in a table's keys `start` and `stamp`.
