@@ -1,6 +1,7 @@
 //! The report of a run.
-ghost use Rattle.std.specs.Prelude.{◌≡◌, ◌∷◌, ◌++◌, [], codes, map, IfOk, OnOk, OnErr};
+ghost use Rattle.std.specs.Prelude.{◌≡◌, ◌∷◌, ◌++◌, [], codes, map, OnOk, OnErr};
 ghost use Rattle.std.specs.Io.KnownBytes.{Appends};
+ghost use Rattle.cell_types.specs.Answers.{flag_word};
 ghost use Rattle.cell_types.specs.Everything.{all_zones};
 ghost use Rattle.cell_text.specs.Output.{WrotePrefix};
 ghost use Rattle.cell_report.specs.Report.{audit_line, axes_line, axis_words, end_lines, machine_line};
@@ -14,6 +15,7 @@ use cell_rules::State;
 use cell_text::{Page, WriteFault, write_text};
 use cell_types::{Machine, Place, Zone, owner_word_of};
 use std::fmt;
+use std::fmt::Write as _;
 use std::io::Write;
 
 /// The names of the axes, in the order of a record of a run.
@@ -36,27 +38,24 @@ pub fn write_report<W: Write>(
     ensures failed { OnErr result
         (WrotePrefix (W.contents writer.old) (W.contents writer.new) (report_text run.now audit)) }
 {
-    let page = match report_page(run, audit) {
-        Ok(page) => page,
-        Err(_) => return Err(WriteFault::Write),
-    };
-    write_text(writer, page.as_bytes())
+    let mut page = Page::new();
+    match push_report(&mut page, run, audit) {
+        Ok(()) => write_text(writer, page.as_bytes()),
+        Err(_) => Err(WriteFault::Write),
+    }
 }
 
-/// The text of a report, or an error if a page has no room for it. It is tested, not proved, that
-/// each report has room.
-fn report_page(run: &RunRecord, audit: Option<AuditFault>) -> Result<Page, fmt::Error>
-    ensures { IfOk result (λ page. page ≡ report_text run.now audit) }
+/// Adds the text of a report. It is tested, not proved, that an empty page has room for each report.
+fn push_report(page: &mut Page, run: &RunRecord, audit: Option<AuditFault>) -> fmt::Result
+    ensures { OnOk result (page.old ≡ [] → page.new ≡ report_text run.now audit) }
 {
-    let mut page = Page::new();
-    push_version(&mut page)?;
-    push_start(&mut page, &run.start)?;
-    push_machines(&mut page, &run.counts, &run.status)?;
-    push_end(&mut page, run.end)?;
-    push_axes(&mut page, &run.axes)?;
-    push_stamp(&mut page, run.end)?;
-    push_audit(&mut page, audit)?;
-    Ok(page)
+    push_version(page)?;
+    push_start(page, &run.start)?;
+    push_machines(page, &run.counts, &run.status)?;
+    push_end(page, run.end)?;
+    push_axes(page, &run.axes)?;
+    push_stamp(page, run.end)?;
+    push_audit(page, audit)
 }
 
 /// Adds the line of the report's version.
@@ -71,7 +70,7 @@ fn push_start(page: &mut Page, start: &State) -> fmt::Result
     ensures { OnOk result (page.new ≡ page.old ++ (start_line start.now ++ codes "\n")) }
 {
     let stamp = start.stamp();
-    write!(page, "start ")?;
+    page.write_str("start ")?;
     push_places(page, start)?;
     writeln!(page, " {stamp}")
 }
@@ -81,10 +80,16 @@ fn push_places(page: &mut Page, state: &State) -> fmt::Result
     ensures { OnOk result (page.new ≡ page.old ++ places_word state.now) }
 {
     'places: for place in Place::ALL {
-        let flag = if state.is_full(place) { "1" } else { "0" };
-        write!(page, "{flag}")?;
+        page.write_str(flag_word_of(state.is_full(place)))?;
     }
     Ok(())
+}
+
+/// A flag as a digit: 1 if it is set, else 0.
+fn flag_word_of(flag: bool) -> &'static str
+    ensures { result.now ≡ flag_word flag }
+{
+    if flag { "1" } else { "0" }
 }
 
 /// Adds the line of each machine.
@@ -112,22 +117,27 @@ fn push_machine(page: &mut Page, machine: Machine, counts: &Counts, status: Stat
         busy,
     } = *counts;
     let status = status.word();
-    writeln!(
-        page,
-        "{machine} turns {turns} done {done} read {read} refused {refused} busy {busy} {status}"
-    )
+    write!(page, "{machine} turns {turns} done {done} ")?;
+    writeln!(page, "read {read} refused {refused} busy {busy} {status}")
 }
 
 /// Adds the lines of the zones and of the places at the end, if the end is known.
 fn push_end(page: &mut Page, end: Option<State>) -> fmt::Result
     ensures { OnOk result (page.new ≡ page.old ++ text_of_lines (where_known end end_lines)) }
 {
-    let Some(end) = end else {
-        return Ok(());
-    };
-    push_zones(page, &end)?;
-    write!(page, "places ")?;
-    push_places(page, &end)?;
+    match end {
+        Some(end) => push_end_of(page, &end),
+        None => Ok(()),
+    }
+}
+
+/// Adds the lines of the zones and of the places at the end.
+fn push_end_of(page: &mut Page, end: &State) -> fmt::Result
+    ensures { OnOk result (page.new ≡ page.old ++ text_of_lines (end_lines end.now)) }
+{
+    push_zones(page, end)?;
+    page.write_str("places ")?;
+    push_places(page, end)?;
     writeln!(page)
 }
 
@@ -146,9 +156,10 @@ fn push_zones(page: &mut Page, state: &State) -> fmt::Result
 fn push_zone(page: &mut Page, end: &State, zone: Zone) -> fmt::Result
     ensures { OnOk result (page.new ≡ page.old ++ (zone_line end.now zone ++ codes "\n")) }
 {
-    let owner = owner_word_of(end.owner(zone));
-    let flag = if end.flag(zone) { "1" } else { "0" };
-    let posture = end.posture(zone).word();
+    let state = end.zone(zone);
+    let owner = owner_word_of(state.owner);
+    let flag = flag_word_of(state.flag);
+    let posture = state.posture.word();
     let zone = zone.word();
     writeln!(page, "zone {zone} {owner} {flag} {posture}")
 }
@@ -157,7 +168,7 @@ fn push_zone(page: &mut Page, end: &State, zone: Zone) -> fmt::Result
 fn push_axes(page: &mut Page, axes: &[i32; 8]) -> fmt::Result
     ensures { OnOk result (page.new ≡ page.old ++ (axes_line axes.now ++ codes "\n")) }
 {
-    write!(page, "axes")?;
+    page.write_str("axes")?;
     'axes: for (index, name) in AXIS_NAMES.iter().enumerate() {
         push_axis(page, name, axes[index])?;
     }
@@ -188,7 +199,7 @@ fn push_stamp_of(page: &mut Page, end: &State) -> fmt::Result
 {
     let stamp = end.stamp();
     let plates = end.plates();
-    let stopped = if end.stopped() { "1" } else { "0" };
+    let stopped = flag_word_of(end.stopped());
     writeln!(page, "stamp {stamp} plates {plates} stopped {stopped}")
 }
 

@@ -1,21 +1,16 @@
-use Rattle.std.proofs.Common.{◌≡◌, ◌+◌, ◌++◌, map, drop, refl, sym, ap, ◌∙◌, append_assoc}
+use Rattle.std.proofs.Common.{◌+◌, ◌++◌, map, drop, refl, sym, ap, ◌∙◌, append_assoc}
 use Rattle.std.specs.List.{concat}
 use Rattle.std.proofs.lemmas.List.{drop_more}
 use Rattle.cell_rules.specs.Types.{Place, flag_word, all_places}
 use Rattle.cell_rules.specs.ModelState.{is_full}
 use Rattle.cell_report.proofs.report.push_places.Goals as goal
-use Rattle.cell_report.proofs.report.push_places.Goals.{then-is_full, else-is_full}
 
 pub places-preserved : goal.places-preserved
 places-preserved c =
     let word = λ (p : Place). flag_word (is_full c.args.state.now p) in
-    let left = concat (map word (drop (c.places.place-index + 1) all_places)) in
-    let flag : c.if-is_full.flag.now ≡ flag_word c.is_full.result = elim c.if-is_full.branch [
-      | then-is_full w ↦ ap (λ f. f.now) w.flag-is ∙ ap flag_word (sym w.if-is_full.true)
-      | else-is_full w ↦ ap (λ f. f.now) w.flag-is ∙ ap flag_word (sym w.if-is_full.false)
-    ] in (
+    let left = concat (map word (drop (c.places.place-index + 1) all_places)) in (
       refl,
-      ap (λ page. page ++ left) (c.in_ok-write.ensures ∙ ap (λ w. c.places.page ++ w) (flag ∙ ap flag_word c.is_full.ensures))
+      ap (λ page. page ++ left) (c.in_ok-write_str.ensures.ok refl ∙ ap (λ w. c.places.page ++ w) (c.flag_word_of.ensures ∙ ap flag_word c.is_full.ensures))
           ∙ append_assoc c.places.page _ left
           ∙ sym (ap (λ rest. c.places.page ++ rest) (ap (λ places. concat (map word places)) (drop_more all_places c.places.place-index _ c.places-test.true)))
           ∙ c.places.invariant.1,

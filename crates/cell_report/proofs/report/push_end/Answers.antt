@@ -1,9 +1,0 @@
-use Rattle.std.proofs.Common.{◌∙◌}
-use Rattle.std.proofs.lemmas.Result.{on_ok_weaker}
-use Rattle.cell_report.proofs.Reports.{end_told, one_more}
-use Rattle.cell_report.proofs.report.push_end.Goals as goal
-
-pub returns : goal.returns
-returns c =
-    let places = one_more _ _ _ _ c.in_ok-push_places.ensures (one_more _ _ _ _ c.in_ok-write.ensures c.in_ok-push_zones.ensures) in
-    rw c.in-Some.is (on_ok_weaker c.writeln.result (λ last. one_more _ _ _ _ last places ∙ end_told c.args.page.now c.in-Some.end) c.writeln.ensures)
