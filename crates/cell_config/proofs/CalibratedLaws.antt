@@ -1,5 +1,5 @@
 -- Settings that were read: their scales fit the axes, and their curves are near the lines.
-use Rattle.std.proofs.Common.{◌≡◌, ◌<◌, ◌≤◌, ℕ, nat_le, ℤ, pos, negsuc, ◌-ℤ◌, ◌≤ℤ◌, Bool, true, false, cond, List, [], ◌∷◌, length, map, codes, Option, Some, None, Result, Ok, Err, inl, inr, refl, subst, arith}
+use Rattle.std.proofs.Common.{◌≡◌, ◌≤◌, ℕ, nat_le, ℤ, pos, negsuc, ◌-ℤ◌, ◌≤ℤ◌, Bool, true, false, cond, List, [], ◌∷◌, length, map, codes, Option, Some, None, Result, Ok, Err, inl, inr, refl, subst, arith}
 use Rattle.std.proofs.lemmas.Int.{ints}
 use Rattle.std.proofs.lemmas.Bool.Decides.{nat_tests}
 use Rattle.std.specs.Prelude.{int_lt}
@@ -15,6 +15,7 @@ use Rattle.cell_calib.specs.Names.{Scale, IsCurve, Pair, ends_of, is_curve}
 use Rattle.cell_calib.proofs.CurveTestLemmas.{curve_of_pass}
 use Rattle.cell_notes.specs.declared.schedule.Turn.{Turn}
 use Rattle.cell_parts.specs.Axes.{IsAxisScale, arm_end, rotation_end, turn_end, gripper_end}
+use Rattle.cell_config.proofs.AxisScales.{IsRaw, IsTol, axis_made, default_raw}
 use Rattle.cell_config.specs.ConfigLaws.{AreCalibrated, IsCurveOf}
 use Rattle.cell_config.specs.Keys.{is_known}
 use Rattle.cell_config.specs.Settings.{IsAxisEnd, Section, Settings, axis_scale, byte_limit, curve_of, curve_within, default_section, is_measured, measured_of, number_within, pair_of, pairs_at, pairs_in, raw_at, raw_within, schedule_at, section_at, section_by, section_of, sections_at, settings_in, settings_of, start_at, tol_at, wide_enough}
@@ -53,10 +54,6 @@ number_fits : (least most : ℕ) (z : ℤ) (n : ℕ) → number_within least mos
 number_fits least most (pos k) n h = (grind (arith, nat_tests), grind (arith, nat_tests))
 number_fits least most (negsuc k) n h = absurd (cc)
 
-record IsRaw (end : ℤ) (raw : ℕ × ℕ) : Type 0 where
-  pub fits : raw.1 < 65536
-  pub wide : end ≤ℤ (pos raw.1 -ℤ pos raw.0)
-
 wide_raw : (end : ℤ) (low high : ℕ) (raw : ℕ × ℕ) → high ≤ 65535 → wide_enough end low high ≡ Ok raw → IsRaw end raw
 wide_raw end low high raw fits h =
     let is = unless_chosen (int_lt (pos high -ℤ pos low) end) (low, high) raw Range h in
@@ -69,34 +66,11 @@ pair_raw end (first, last) raw h =
     let two = both_taken (number_within 0 65535 last) (λ high. wide_enough end one.0 high) raw one.1.1 in
     wide_raw end one.0 two.0 raw (number_fits 0 65535 last two.0 two.1.0).1 two.1.1
 
-default_raw : (end : ℤ) → IsAxisEnd end → IsRaw end (0, 4000)
-default_raw end k = let within : end ≤ℤ pos 4000 = k.1 in record { fits = omega arith; wide = omega (arith, ints) }
-
 raw_taken : (end : ℤ) (ms : Members) (raw : ℕ × ℕ) → IsAxisEnd end → raw_at end ms ≡ Ok raw → IsRaw end raw
 raw_taken end ms raw k h = at_key_taken (IsRaw end) (get_member (codes "raw") ms) pair_of (0, 4000) (raw_within end) raw (default_raw end k) (λ pair is. pair_raw end pair raw is) h
 
-abbrev IsTol : ℕ → Type 0
-IsTol tol = (1 ≤ tol) × (tol ≤ 10)
-
 tol_taken : (ms : Members) (tol : ℕ) → tol_at ms ≡ Ok tol → IsTol tol
 tol_taken ms tol h = at_key_taken IsTol (get_member (codes "tol") ms) as_integer 5 (number_within 1 10) tol (omega arith, omega arith) (λ z is. number_fits 1 10 z tol is) h
-
-axis_made : (end : ℤ) (raw : ℕ × ℕ) (tol : ℕ) → IsAxisEnd end → IsRaw end raw → IsTol tol → IsAxisScale end (axis_scale end raw tol)
-axis_made end raw tol k r t =
-    record {
-      scale = record {
-        raws_rise = omega (arith, ints);
-        raws_fit = r.fits;
-        ats_rise = k.0;
-        lowest = omega (arith, ints);
-        highest = omega (arith, ints);
-        finest = omega (arith, ints);
-        coarsest = omega (arith, ints);
-      };
-      from = refl;
-      to = refl;
-      wide = r.wide;
-    }
 
 -- ---- sections
 

@@ -3,6 +3,7 @@ mod LetterLemmas
 mod SettingsLemmas
 mod MeasuredLemmas
 mod CurveChoices
+mod AxisScales
 pub mod SectionOrder
 pub mod ConfigRows
 pub mod LimitLaws

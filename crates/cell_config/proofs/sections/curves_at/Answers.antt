@@ -1,6 +1,10 @@
 use Rattle.std.proofs.Common.{refl}
 use Rattle.cell_config.proofs.sections.curves_at.Goals as goal
 
+pub returns-clause-value : goal.returns-clause-value
+returns-clause-value c =
+    rw (c.in_ok-arm1.ensures.value, c.in_ok-arm2.ensures.value, c.in_ok-rotation.ensures.value, c.in_ok-turn.ensures.value, c.in_ok-gripper.ensures.value) refl
+
 pub returns-clause-axes : goal.returns-clause-axes
 returns-clause-axes c = (
   record {
