@@ -1,6 +1,6 @@
 //! Passes that meet.
-ghost use Rattle.std.specs.Prelude.{◌≡◌, ◌+◌, []};
-ghost use Rattle.word_interlock.specs.Rule.{together};
+ghost use Rattle.std.specs.Prelude.{◌≡◌, ◌+◌, ℕ, []};
+ghost use Rattle.word_interlock.specs.Rule.{together, others_of, first_off, actor_alone, after_load, WordMoment};
 ghost use Rattle.word_interlock.specs.Seen.{HasSeenMore};
 
 use crate::interlock::Interlock;
@@ -22,6 +22,39 @@ impl<R: Rules> Interlock<R> {
         self.table.shared.join_seat::<JoinAll>(seat, other);
     }
 
+    /// Splits the first actor off a seat, and gives it a new one.
+    #[tactic(auto, using(crate::proofs::Keeps::splits))]
+    pub(crate) fn split_first(&self, seat: &mut Seat<(), View<R>>) -> Seat<(), View<R>>
+        requires same_interlock { seat.old.table_id ≡ self.now.table }
+        ensures table { seat.new.table_id ≡ seat.old.table_id }
+        ensures first_table { result.table_id ≡ seat.old.table_id }
+        ensures others { seat.new.me ≡ (others_of seat.old.me.0, seat.old.me.1) }
+        ensures first { result.me ≡ (first_off seat.old.me.0, []) }
+    {
+        self.table.shared.split_seat::<SplitFirst>(seat)
+    }
+
+    // Two seats meet. If each has one actor alone, then both actors have seen the history so far by
+    // one load, and each is alone on its seat again: the first on the first seat.
+    fn meet_seats(&self, seat: &mut Seat<(), View<R>>, other: Seat<(), View<R>>) -> Seat<(), View<R>>
+        requires same_interlock { (seat.old.table_id ≡ self.now.table)
+            × (other.table_id ≡ self.now.table) }
+        requires no_slot { (seat.old.me.1 ≡ []) × (other.me.1 ≡ []) }
+        ensures tables { (seat.new.table_id ≡ seat.old.table_id)
+            × (result.table_id ≡ seat.old.table_id) }
+        ensures met { (p : _) (q : _) → seat.old.me ≡ (actor_alone p, [])
+            → other.me ≡ (actor_alone q, [])
+            → (word : ℕ) × (history : _)
+            × WordMoment (R.book self.now.rules) self.now.rules p word history
+            × WordMoment (R.book self.now.rules) self.now.rules q word history
+            × (seat.new.me ≡ (actor_alone (after_load p history), []))
+            × (result.me ≡ (actor_alone (after_load q history), [])) }
+    {
+        self.join(seat, other);
+        self.sync(seat);
+        self.split_first(seat)
+    }
+
     /// Lets two passes meet: afterwards both have seen the same history, which begins with what
     /// each had seen. No call is made, and no memory is allocated.
     ///
@@ -29,7 +62,6 @@ impl<R: Rules> Interlock<R> {
     /// actor's, and have seen no new event of their own actor (`left`, `right`). Each counts the one
     /// load of the meeting (`left_load`, `right_load`), and no exchange (`left_exchanges`,
     /// `right_exchanges`).
-    #[tactic(auto, using(crate::proofs::Keeps::splits))]
     pub fn meet(&self, left: Pass<R>, right: Pass<R>) -> (Pass<R>, Pass<R>)
         requires same_interlock { (left.table ≡ self.now.table)
             × (right.table ≡ self.now.table) }
@@ -44,9 +76,7 @@ impl<R: Rules> Interlock<R> {
         let left_actor = left.actor();
         let right_actor = right.actor();
         let mut left_seat = left.into_seat();
-        self.join(&mut left_seat, right.into_seat());
-        self.sync(&mut left_seat);
-        let right_seat = self.table.shared.split_seat::<SplitFirst>(&mut left_seat);
+        let right_seat = self.meet_seats(&mut left_seat, right.into_seat());
         (
             Pass::of(left_actor, left_seat),
             Pass::of(right_actor, right_seat),

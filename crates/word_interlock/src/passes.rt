@@ -4,7 +4,7 @@ ghost use Rattle.word_interlock.specs.Views.{view_of};
 
 use crate::interlock::Interlock;
 use crate::pass::Pass;
-use crate::rule::{SplitFirst, View};
+use crate::rule::View;
 use crate::rules::Rules;
 use atomic_table::Seat;
 use std::marker::Model;
@@ -45,7 +45,6 @@ impl<R: Rules> Interlock<R> {
     /// Takes the pass of the first actor out of several. The others stay.
     ///
     /// The passes were made with this interlock, and the first is this actor's.
-    #[tactic(auto, using(crate::proofs::Keeps::splits))]
     pub fn take_pass(&self, passes: &mut Passes<R>, actor: R::Actor) -> Pass<R>
         requires same_interlock { passes.old.table ≡ self.now.table }
         requires next { IsNext actor passes.old.actors }
@@ -53,10 +52,7 @@ impl<R: Rules> Interlock<R> {
         ensures table { result.table ≡ passes.old.table }
         ensures same { passes.new.table ≡ passes.old.table }
     {
-        Pass::of(
-            actor,
-            self.table.shared.split_seat::<SplitFirst>(&mut passes.seat),
-        )
+        Pass::of(actor, self.split_first(&mut passes.seat))
     }
 
     /// Puts a pass before several others.

@@ -34,22 +34,32 @@ impl<R: Rules> Interlock<R> {
     ghost use Rattle.word_interlock.specs.History.{BeginsWith};
     ghost use Rattle.word_interlock.specs.Views.{receipt_of};
     ghost use Rattle.word_interlock.specs.Seen.{HasSeenMore};
+    ghost use Rattle.word_interlock.specs.Rule.{receipts_of};
+    ghost use Rattle.std.specs.Prelude.{[]};
+
+    // Splits a new seat off one, with receipts of all that this has seen. It stays as it is.
+    #[tactic(auto, using(crate::proofs::Keeps::receipts))]
+    fn split_receipts(&self, seat: &mut Seat<(), View<R>>) -> Seat<(), View<R>>
+        requires same_interlock { seat.old.table_id ≡ self.now.table }
+        ensures table { seat.new.table_id ≡ seat.old.table_id }
+        ensures new_table { result.table_id ≡ seat.old.table_id }
+        ensures same { seat.new.me ≡ seat.old.me }
+        ensures receipts { result.me ≡ (receipts_of seat.old.me.0, []) }
+    {
+        self.table.shared.split_seat::<SplitReceipts>(seat)
+    }
 
     /// A receipt of all that a pass has seen. The pass stays as it is: this counts as no load, and
     /// no call is made.
     ///
     /// The pass was made with this interlock.
-    #[tactic(auto, using(crate::proofs::Keeps::receipts))]
     pub fn receipt(&self, pass: &mut Pass<R>) -> Receipt<R>
         requires same_interlock { pass.old.table ≡ self.now.table }
         ensures pass { pass.new ≡ pass.old }
         ensures receipt { result ≡ receipt_of pass.old }
     {
         Receipt {
-            seat: self
-                .table
-                .shared
-                .split_seat::<SplitReceipts>(&mut pass.seat),
+            seat: self.split_receipts(&mut pass.seat),
         }
     }
 
@@ -62,10 +72,7 @@ impl<R: Rules> Interlock<R> {
         ensures copy { result ≡ receipt.old }
     {
         Receipt {
-            seat: self
-                .table
-                .shared
-                .split_seat::<SplitReceipts>(&mut receipt.seat),
+            seat: self.split_receipts(&mut receipt.seat),
         }
     }
 
