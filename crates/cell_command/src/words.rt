@@ -2,7 +2,7 @@
 
 ghost use Rattle.std.specs.Prelude.{◌≡◌, ◌<◌, ◌^◌, [], ◌∷◌, ℕ, List, codes, false, IfErr, IfOk, OnOk};
 ghost use Rattle.clap.specs.Words.{app_of, fault_of, found_of, kind_of, new_app, rows_of, rule_of};
-ghost use Rattle.clap.specs.Words.{subcommand_rows_of, with_subcommand, HasKind};
+ghost use Rattle.clap.specs.Words.{subcommand_rows_of, HasKind};
 ghost use Rattle.clap.specs.declared.builder.command.Command.TheViews.{out-Command as fields_of};
 ghost use Rattle.cell_command.specs.Words as words;
 ghost use Rattle.cell_command.specs.Words.{AreBare, AreTaken, HasNumber, HasNumbers, IsWithin, mode_of};
@@ -66,31 +66,11 @@ pub fn read_words(alloc: Global, words: &[&str]) -> Result<Mode, Error>
 fn command<'a>(alloc: Global) -> Result<Command<'a>, AllocError>
     ensures { IfOk result (λ command. app_of command ≡ program) }
 {
-    let cell = command_with_help(alloc, "cell", help::CELL, help::CELL_DETAILS);
-    let cell = with_word(alloc, cell, "replay", help::REPLAY, help::REPLAY_DETAILS)?;
-    let cell = with_word(alloc, cell, "sim", help::SIM, help::SIM_DETAILS)?;
-    with_run(alloc, cell)
-}
-
-/// A command with another word after its name; the word has no flags.
-fn with_word<'a>(
-    alloc: Global,
-    command: Command<'a>,
-    name: &'a str,
-    before: &'a str,
-    after: &'a str,
-) -> Result<Command<'a>, AllocError>
-    ensures { IfOk result
-        (λ r. app_of r ≡ with_subcommand (app_of command.entry) (new_app name.now).top) }
-{
-    command.subcommand(command_with_help(alloc, name, before, after))
-}
-
-/// A command with the word `run`.
-fn with_run<'a>(alloc: Global, command: Command<'a>) -> Result<Command<'a>, AllocError>
-    ensures { IfOk result (λ r. app_of r ≡ with_subcommand (app_of command.entry) run_command.top) }
-{
-    command.subcommand(run_command(alloc)?)
+    let run = run_command(alloc)?;
+    let replay = command_with_help(alloc, "replay", help::REPLAY, help::REPLAY_DETAILS);
+    let sim = command_with_help(alloc, "sim", help::SIM, help::SIM_DETAILS);
+    let words = vec![in alloc; replay, sim, run]?;
+    command_with_help(alloc, "cell", help::CELL, help::CELL_DETAILS).subcommands(words)
 }
 
 /// The word `run` with its flags.
