@@ -1,4 +1,5 @@
 mod FlagLemmas
 mod NumberLemmas
+mod CommandLemmas
 pub mod Asked
 pub mod WordRows
