@@ -36,7 +36,11 @@ impl<R: Rules> Interlock<R> {
 
     // Two seats meet. If each has one actor alone, then both actors have seen the history so far by
     // one load, and each is alone on its seat again: the first on the first seat.
-    fn meet_seats(&self, seat: &mut Seat<(), View<R>>, other: Seat<(), View<R>>) -> Seat<(), View<R>>
+    fn meet_seats(
+        &self,
+        seat: &mut Seat<(), View<R>>,
+        other: Seat<(), View<R>>,
+    ) -> Seat<(), View<R>>
         requires same_interlock { (seat.old.table_id ≡ self.now.table)
             × (other.table_id ≡ self.now.table) }
         requires no_slot { (seat.old.me.1 ≡ []) × (other.me.1 ≡ []) }
