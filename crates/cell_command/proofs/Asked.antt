@@ -10,22 +10,6 @@ use Rattle.cell_command.specs.Words.{AreTaken, AskForReplay, AskForRun, AskForSi
 use Rattle.cell_command.specs.declared.words.Mode.{Mode}
 use Rattle.cell_command.specs.declared.words.Mode.TheVariants.{Replay, Sim, Run}
 
-pub replay_asked : (words : List Text) → AskForReplay words → mode_of words ≡ Replay
-unfolding clap_on_literals
-replay_asked words (name, inl e) = rw e refl
-replay_asked words (name, inr e) = rw e refl
-
-pub sim_asked : (words : List Text) → AskForSim words → mode_of words ≡ Sim
-unfolding clap_on_literals
-sim_asked words (name, e) = rw e refl
-
--- words that ask for one mode don't ask for another
-pub not_for_sim : {P : Type 0} → (words : List Text) (m n : Mode) → (n ≡ Sim → ⊥) → m ≡ n → m ≡ mode_of words → AskForSim words → P
-not_for_sim words m n other e f k = absurd (other (sym e ∙ (f ∙ sim_asked words k)))
-
-pub not_for_replay : {P : Type 0} → (words : List Text) (m n : Mode) → (n ≡ Replay → ⊥) → m ≡ n → m ≡ mode_of words → AskForReplay words → P
-not_for_replay words m n other e f k = absurd (other (sym e ∙ (f ∙ replay_asked words k)))
-
 -- the words ask for the run that was read
 pub run_asked : (words : List Text) (m : Mode) (turns tries turns' tries' : ℕ) → m ≡ Run turns tries → m ≡ mode_of words → AskForRun turns' tries' words → (turns ≡ turns') × (tries ≡ tries')
 run_asked words m turns tries turns' tries' e f k =

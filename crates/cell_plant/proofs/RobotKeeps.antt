@@ -185,10 +185,6 @@ asks_magnets : (s : RobotStep) (p : RobotProgress) (c : Call) → (row_at s p).c
 asks_magnets AwaitPlate p c e = refl
 asks_magnets s p c e = first_of (assumption, cc)
 
--- what a done step says of its motors
-all_off : (a b c : Motor) → (is_off a && (is_off b && is_off c)) ≡ true → (a ≡ Off) × (b ≡ Off) × (c ≡ Off)
-all_off a b c e = grind arith
-
 done_when : (t retracted : Bool) (a b c : Motor) → ((not t || retracted) && (is_off a && (is_off b && is_off c))) ≡ true → (t ≡ true → retracted ≡ true) × ((a ≡ Off) × (b ≡ Off) × (c ≡ Off))
 done_when t retracted a b c e = grind arith
 

@@ -232,7 +232,3 @@ module _ {R S M C A E : Type 0} (b : RuleBook S M C A E) (law : IsRuleBook b) (r
       let right = (answer_at v w word h (seen_at b c (view_of v) h) _ _ _ c a new m at is who says).0 in
       loses_sees v w c first a old before lost word new h t at miss (is ∙ ap (with_exchange v) (seen_done v c h a right isit)) (ap b.is_done (sym right) ∙ isit)
       (ready_for b m v.actor c a word new (who ∙ ap (λ (y : PassView R S M E). y.actor) is) says isit)
-
-  -- a word that a step found is that of a sound state
-  pub word_is_known : (p : PassView R S M E) (word : ℕ) (h : List E) → WordMoment b rules (view_of p) word h → (s : S) × b.is_sound s × (b.packed s ≡ word)
-  word_is_known p word h at = (after b p.opening h, at.sound, at.found)

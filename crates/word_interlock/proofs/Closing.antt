@@ -36,12 +36,6 @@ module _ {R S M C A E : Type 0} (book : R → RuleBook S M C A E) where
         let e : me ≡ (bunch (but_first old.0.actors), []) = left ∙ ap (λ (x : Me T (SeatView R S M E)). (others_of x.0, x.1)) is.alone in
         subst (IsBunch book) (sym e) record { alone = refl; lawful = rest_lawful old.0.actors is.lawful }
 
-  -- another pass was joined to several
-  pub given_bunch : {T : Type 0} (p : ActorView R S M E) (old other new : Me T (SeatView R S M E)) → IsBunch book old → other ≡ (actor_alone p, []) → IsLawful (book p.rules) p.opening p.seen → new ≡ (together old.0 other.0, old.1) → IsBunch book new × (new.0.actors ≡ p ∷ old.0.actors)
-  given_bunch {T} p old other new is one lawful joined =
-      let e : new ≡ (bunch (p ∷ old.0.actors), []) = joined ∙ (λ i. (together (is.alone i).0 (one i).0, (is.alone i).1)) in
-      (subst (IsBunch book) (sym e) record { alone = refl; lawful = (lawful, is.lawful) }, ap (λ x. x.0.actors) e)
-
   all_new : (rules : R) (o : S) (ms : List M) → (book rules).is_sound o → AllLawful book (map (new_view rules o) ms)
   all_new rules o [] k = tt
   all_new rules o (m ∷ ms) k = (record { opened = k; legal = tt }, all_new rules o ms k)

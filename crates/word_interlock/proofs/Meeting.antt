@@ -67,45 +67,11 @@ module _ {R S M C A E : Type 0} (b : RuleBook S M C A E) (rules : R) where
     pub heard : WordMoment b rules p word told.0
     heard = (subst (λ (x : Me T (SeatView R S M E)). WordMomentOfAll b rules x.0.actors word told.0) handed told.1).0
 
-    pub heard_receipt : Tells p.opening told.0 told_by
-    heard_receipt = (subst (λ (x : Me T (SeatView R S M E)). TellFirst x.0.actors told.0 x.0.receipts) handed told.2).0
-
     pub accepted : j' ≡ (actor_alone (after_load p told.0), [])
     accepted = told.3 ∙ ap (λ (x : Me T (SeatView R S M E)). (after_gathering told.0 x.0, x.1)) handed
-
-  -- a pass that was alone on its seat saw the history
-  module _ {T : Type 0} (p : ActorView R S M E) (me me' : Me T (SeatView R S M E)) (word : ℕ) (is_me : me ≡ (actor_alone p, [])) (told : gathered b rules me word me') where
-    pub looked_at : WordMoment b rules p word told.0
-    looked_at = (subst (λ (x : Me T (SeatView R S M E)). WordMomentOfAll b rules x.0.actors word told.0) is_me told.1).0
-
-    pub looked_seat : me' ≡ (actor_alone (after_load p told.0), [])
-    looked_seat = told.3 ∙ ap (λ (x : Me T (SeatView R S M E)). (after_gathering told.0 x.0, x.1)) is_me
 
 module _ {R S M C A E : Type 0} (book : R → RuleBook S M C A E) where
   -- the seat of a pass that has seen the history so far
   pub seat_at : {T : Type 0} (r : R) (m : M) (p : ActorView R S M E) (me : Me T (SeatView R S M E)) (word : ℕ) (h : List E) → WordMoment (book r) r p word h → me ≡ (actor_alone (after_load p h), []) → p.actor ≡ m → IsSeat (book p.rules) p.rules m (after_load p h) me
   seat_at r m p me word h at alone named =
       record { alone = alone; actor = named; lawful = lawful_at book p.rules r p.opening h at.rules_are record { opened = at.opened; legal = at.legal } }
-
-  pub seat_now : {T : Type 0} (r : R) (m : M) (p : ActorView R S M E) (me : Me T (SeatView R S M E)) (one : HasOne me.0.actors) (word : ℕ) (h : List E) → WordMoment (book r) r p word h → me ≡ (actor_alone (after_load p h), []) → p.actor ≡ m
-      → IsSeat (book (only_of me.0.actors one).rules) (only_of me.0.actors one).rules m (only_of me.0.actors one) me
-  seat_now r m p me one word h at alone named =
-      seat_of book m (after_load p h) me one alone named (lawful_at book p.rules r p.opening h at.rules_are record { opened = at.opened; legal = at.legal })
-
-module _ {R S M E : Type 0} where
-  -- a receipt, by its seat
-  pub receipt_now : {T : Type 0} (u t : TableId) (me : Me T (SeatView R S M E)) (told : HistoryView S E) (one : HasOne me.0.receipts) → me ≡ (receipt_alone told, []) → u ≡ t → receipt_with u (only_of me.0.receipts one) ≡ receipt_with t told
-  receipt_now u t me told one e same = λ i. receipt_with (same i) (only_is me.0.receipts told (ap (λ x. x.0.receipts) e) one i)
-
-  pub has_receipt : {T : Type 0} (me : Me T (SeatView R S M E)) (told : HistoryView S E) → me ≡ (receipt_alone told, []) → HasOne me.0.receipts
-  has_receipt {T} me told e = subst (λ (z : Me T (SeatView R S M E)). HasOne z.0.receipts) (sym e) tt
-
-  pub is_receipt : {T : Type 0} (me : Me T (SeatView R S M E)) (told : HistoryView S E) (one : HasOne me.0.receipts) → me ≡ (receipt_alone told, []) → me ≡ (receipt_alone (only_of me.0.receipts one), [])
-  is_receipt me told one e = e ∙ ap (λ (x : HistoryView S E). (receipt_alone x, [])) (sym (only_is me.0.receipts told (ap (λ x. x.0.receipts) e) one))
-
-  -- what is split off a pass, and off a receipt
-  pub taken_off : {T : Type 0} (p : ActorView R S M E) (me new : Me T (SeatView R S M E)) → me ≡ (actor_alone p, []) → new ≡ (receipts_of me.0, []) → new ≡ (receipt_alone (seen_by_actor p), [])
-  taken_off {T} p me new e is = is ∙ ap (λ (x : Me T (SeatView R S M E)). (receipts_of x.0, [])) e
-
-  pub copied_off : {T : Type 0} (told : HistoryView S E) (me new : Me T (SeatView R S M E)) → me ≡ (receipt_alone told, []) → new ≡ (receipts_of me.0, []) → new ≡ (receipt_alone told, [])
-  copied_off {T} told me new e is = is ∙ ap (λ (x : Me T (SeatView R S M E)). (receipts_of x.0, [])) e

@@ -102,6 +102,3 @@ module _ {R S M C A E : Type 0} (b : RuleBook S M C A E) (law : IsRuleBook b) (w
       let from : v.opening ≡ heard.opening = sym kept ∙ (sym (ap (λ (t : ReceiptView S E). t.opening) is) ∙ (opens ∙ sym more.pass.opening)) in
       subst (λ (s : ℕ). IsStampedAfter b s y) (sym (stamp_seen b law v.actor c x heard.opening v.seen answered.seen (subst (λ (o : S). SeenAfter b v.actor c x o v.seen answered.seen) from first)))
       (stamped_after b law heard.opening heard.actor d y answered.seen heard.seen now (subst (λ (t : ReceiptView S E). BeginsWith heard.seen t.seen) is told) it lawful.legal)
-
-  pub same_pass_after : (u : PassView R S M E) → IsSamePass heard u → IsSamePass w u
-  same_pass_after u is = record { table = is.table ∙ more.pass.table; rules = is.rules ∙ more.pass.rules; opening = is.opening ∙ more.pass.opening; actor = is.actor ∙ more.pass.actor }
