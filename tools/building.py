@@ -16,8 +16,6 @@ KIT = os.path.dirname(os.path.dirname(os.path.realpath(shutil.which("rattle") or
 BUILT = "built"
 # The most memory that a crate takes with one job, in bytes.
 MEMORY = 3_000_000_000
-# The processor seconds of a proof that is worth a second job.
-LONG = 50
 
 
 def at_once():
@@ -89,14 +87,10 @@ class Building:
         return ["rattle", "build", *self.reading(), *how, "--jobs", str(self.jobs(side_by_side, is_first)), "-o", self.made]
 
     def jobs(self, side_by_side, is_first):
-        """How many jobs the crate has. Each further one costs some seconds, since it reads again what the crate uses. So only the crate
-        for which all others wait has them: half of the processors if it is long, and those that would be idle otherwise."""
-        if not is_first or self.is_program:
-            # (a program has next to nothing to prove)
-            return 1
-        half = crates.processors() // 2 if crates.costs().get(self.name, crates.USUAL) > LONG else 1
+        """How many jobs the crate has. Each further one costs some 20 s of processor time, since it reads again what the crate uses. So
+        only the crate for which all others wait has them, and only where several processors would be idle."""
         idle = crates.processors() - side_by_side
-        return max(1, min(max(1 + idle, half), crates.memory() // MEMORY))
+        return max(1, min(1 + idle // 4, crates.memory() // MEMORY)) if is_first and not self.is_program else 1
 
     def leave(self, proved=False):
         if proved:
