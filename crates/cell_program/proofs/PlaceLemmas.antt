@@ -7,7 +7,7 @@ use Rattle.cell_types.specs.declared.machine.Machine.{Machine}
 use Rattle.cell_rules.specs.ModelState.{ModelState}
 use Rattle.cell_notes.specs.declared.run_record.RunRecord.{RunRecord}
 use Rattle.cell_workers.specs.Records.{TellsWork}
-use Rattle.cell_workers.specs.Workers.{GateOf}
+use Rattle.cell_threads.specs.Workers.{GateOf}
 use Rattle.cell_workers.proofs.Recording.{work_as}
 use Rattle.cell_config.specs.Configured.{AreAxisScales, AreCurvesOf, in_order}
 use Rattle.cell_configured.proofs.Places.{AreOnCurvesAt, AreScalesAt, curves_in_order, on_curves_as}

@@ -13,9 +13,9 @@ use Rattle.cell_config.specs.declared.fault.ConfigFault.TheVariants.{Missing}
 use Rattle.cell_replay.specs.Script.{script_outcome, script_text}
 use Rattle.cell_replay.specs.declared.script.Outcome.TheVariants.{Clean}
 use Rattle.cell_report.specs.Report.{report_text}
-use Rattle.cell_workers.specs.Faults.{run_fault_text}
-use Rattle.cell_workers.specs.declared.fault.RunFault.TheVariants.{Spawn}
-use Rattle.cell_workers.specs.Laws.{HadTurns}
+use Rattle.cell_threads.specs.Faults.{run_fault_text}
+use Rattle.cell_threads.specs.declared.fault.RunFault.TheVariants.{Spawn}
+use Rattle.cell_threads.specs.Laws.{HadTurns}
 use Rattle.cell_workers.specs.Records.{has_worker}
 use Rattle.cell_shell.specs.declared.exit.Exit.TheVariants.{Well}
 use Rattle.cell_program.specs.Reported.{ReportTold}

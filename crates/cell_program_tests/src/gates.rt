@@ -1,8 +1,8 @@
 //! A gate that counts: which turns it lets machines begin, and what it notes of them.
 ghost use Rattle.std.specs.Prelude.{◌<◌};
 
+use cell_threads::Gate;
 use cell_types::Machine;
-use cell_workers::Gate;
 use std::sync::atomic::{AtomicU64, Ordering};
 
 /// A machine's asks as the gate notes them: for no turn, for turn 0, for turns 0 and 1, and so on,

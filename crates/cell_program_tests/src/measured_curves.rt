@@ -4,8 +4,8 @@
 use super::six_machines::{Runs, is_reported};
 use cell_config::read_config;
 use cell_program::serve_run::run_configured;
+use cell_threads::Gate;
 use cell_types::Machine;
-use cell_workers::Gate;
 use std::alloc::Global;
 use std::sync::Wait;
 use std::sync::atomic::{AtomicBool, Ordering};

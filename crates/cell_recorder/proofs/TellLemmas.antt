@@ -15,9 +15,9 @@ use Rattle.cell_config.specs.Settings.{settings_of}
 use Rattle.cell_config.specs.ConfigWords.{config_fault_text}
 use Rattle.cell_config.specs.declared.configuration.Config.{Config}
 use Rattle.cell_config.specs.declared.fault.ConfigFault.{ConfigFault}
-use Rattle.cell_workers.specs.Faults.{run_fault_text}
-use Rattle.cell_workers.specs.declared.fault.RunFault.{RunFault}
-use Rattle.cell_workers.specs.declared.fault.RunFault.TheVariants.{Tries, Memory, Spawn}
+use Rattle.cell_threads.specs.Faults.{run_fault_text}
+use Rattle.cell_threads.specs.declared.fault.RunFault.{RunFault}
+use Rattle.cell_threads.specs.declared.fault.RunFault.TheVariants.{Tries, Memory, Spawn}
 use Rattle.cell_shell.specs.declared.exit.Exit.{Exit}
 use Rattle.cell_shell.specs.declared.exit.Exit.TheVariants.{Well, Failed, Refused}
 use Rattle.cell_program.specs.Reported.{AreFine}

@@ -9,7 +9,7 @@ use crate::tell::tell;
 use cell_config::read_config;
 use cell_program::serve_run::run_configured;
 use cell_shell::{Exit, fail};
-use cell_workers::PacedGate;
+use cell_threads::PacedGate;
 use std::alloc::Global;
 use std::io::{Read, Write};
 use std::sync::Wait;

@@ -7,8 +7,8 @@ use cell_recorder::tell::tell;
 use cell_replay::{Outcome, replay};
 use cell_report::audit;
 use cell_shell::Exit;
+use cell_threads::PacedGate;
 use cell_types::{Answer, Call, Entry, Event, Journals, Machine, Zone};
-use cell_workers::PacedGate;
 use std::alloc::Global;
 use std::test::Fail;
 

@@ -18,7 +18,7 @@ use Rattle.cell_control.specs.declared.fault.CtlFault.TheVariants as fault
 use Rattle.cell_team.specs.Names.{DrivesOn, LeadsOrStays, HasComeFrom, program_with_stops, is_worn, IsHeeded}
 use Rattle.cell_team.specs.Names.{IsStoppedBy}
 use Rattle.cell_team.proofs.Turned.{Stands, stands_later}
-use Rattle.cell_workers.specs.Workers.{GateOf, AreTaken, ComesBy}
+use Rattle.cell_threads.specs.Workers.{GateOf, AreTaken, ComesBy}
 use Rattle.cell_renewal.specs.WiredWorkers.{WiredMoment, TakesCycle, wired_moment}
 use Rattle.cell_renewal.proofs.WiredUnrefused.{wired_stands}
 

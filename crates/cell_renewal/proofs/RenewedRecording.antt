@@ -33,11 +33,11 @@ use Rattle.cell_plant.specs.Machines.{CellGauges, ProgressOf, steps_by, steps_of
 use Rattle.cell_team.specs.Names.{Team, programs_of, HaveComeFrom, StandAfter}
 use Rattle.cell_team.proofs.Together.{sound_start}
 use Rattle.cell_team.proofs.Turned.{Stands}
-use Rattle.cell_workers.specs.Results.{SixResults, outcomes_in}
-use Rattle.cell_workers.specs.Watching.{TellsWatched, WatchesOf, seen_with}
-use Rattle.cell_workers.specs.Workers.{GateOf, ComesBy}
-use Rattle.cell_workers.specs.declared.six.SixRecord.{SixRecord}
-use Rattle.cell_workers.proofs.Turning.{all_along}
+use Rattle.cell_threads.specs.Results.{SixResults, outcomes_in}
+use Rattle.cell_threads.specs.Watching.{TellsWatched, WatchesOf, seen_with}
+use Rattle.cell_threads.specs.Workers.{GateOf, ComesBy}
+use Rattle.cell_threads.specs.declared.six.SixRecord.{SixRecord}
+use Rattle.cell_threads.proofs.Turning.{all_along}
 use Rattle.cell_renewal.specs.Going.{GoesOnFrom, GoingLeft, GoingOn}
 use Rattle.cell_renewal.specs.Renewing.{OpensAfter, RoundMoment, TakesRound, RunsRenewed}
 use Rattle.cell_renewal.specs.RenewedRecords.{AllRun, AreAtStart, GoingSix, NoneEnded, NoneIsRefusedThrough, NoneIsWornThrough, Runs, SixLeft, MakesAtMost, by_crane, by_robot, by_table, going_gives, going_on}

@@ -12,10 +12,10 @@ use Rattle.cell_control.specs.declared.fault.CtlFault.TheVariants as fault
 use Rattle.cell_notes.specs.declared.status.Status.{Status}
 use Rattle.cell_notes.specs.declared.status.Status.TheVariants.{Fine, GateLimit, Refused, Sensor, Worn, Memory}
 use Rattle.cell_team.proofs.Turned.{Stands}
-use Rattle.cell_workers.specs.Workers.{GateOf, ComesBy, Ends}
-use Rattle.cell_workers.specs.declared.worker_result.WorkerResult.{WorkerResult}
-use Rattle.cell_workers.proofs.FirstSteps.{within}
-use Rattle.cell_workers.proofs.Unrefused.{ended}
+use Rattle.cell_threads.specs.Workers.{GateOf, ComesBy, Ends}
+use Rattle.cell_threads.specs.declared.worker_result.WorkerResult.{WorkerResult}
+use Rattle.cell_threads.proofs.FirstSteps.{within}
+use Rattle.cell_threads.proofs.FirstSteps.{ended}
 use Rattle.cell_renewal.specs.Going.{GoingLeft, GoingOn}
 use Rattle.cell_renewal.specs.RenewedRecords.{Runs, going_gives}
 use Rattle.cell_renewal.specs.WiredWorkers.{TakesCycle, wired_moment}

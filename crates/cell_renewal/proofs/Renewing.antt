@@ -7,11 +7,11 @@ use Rattle.cell_rules.proofs.Restamps.{same_after}
 use Rattle.cell_interlock.specs.Views.{PassView, InterlockView}
 use Rattle.cell_interlock.specs.Fresh.{fresh_pass}
 use Rattle.cell_interlock.specs.Seen.{IsSamePass}
-use Rattle.cell_workers.specs.Workers.{GateOf}
-use Rattle.cell_workers.specs.Promises.{GivesOf}
-use Rattle.cell_workers.specs.Watching.{TellsWatched, WatchesOf}
-use Rattle.cell_workers.specs.declared.per_machine.PerMachine.{PerMachine}
-use Rattle.cell_workers.specs.declared.six.SixRecord.{SixRecord}
+use Rattle.cell_threads.specs.Workers.{GateOf}
+use Rattle.cell_threads.specs.Promises.{GivesOf}
+use Rattle.cell_threads.specs.Watching.{TellsWatched, WatchesOf}
+use Rattle.cell_threads.specs.declared.per_machine.PerMachine.{PerMachine}
+use Rattle.cell_threads.specs.declared.six.SixRecord.{SixRecord}
 use Rattle.cell_renewal.specs.Renewing.{OpensAfter, Leaves, MayGoOn, MayAllGoOn}
 
 -- whichever stamp it is

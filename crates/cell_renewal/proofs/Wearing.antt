@@ -24,9 +24,9 @@ use Rattle.cell_control.specs.declared.fault.CtlFault.TheVariants as fault
 use Rattle.cell_control.proofs.TurnMaps.{turn_either}
 use Rattle.cell_notes.specs.declared.status.Status.{Status}
 use Rattle.cell_notes.specs.declared.status.Status.TheVariants as status
-use Rattle.cell_workers.specs.Workers.{GateOf, ComesBy, Ends}
-use Rattle.cell_workers.proofs.Turning.{all_along}
-use Rattle.cell_workers.proofs.Passes.{asks_same, unchanged_pass}
+use Rattle.cell_threads.specs.Workers.{GateOf, ComesBy, Ends}
+use Rattle.cell_threads.proofs.Turning.{all_along}
+use Rattle.cell_threads.proofs.Passes.{asks_same, unchanged_pass}
 use Rattle.cell_renewal.specs.WiredWorkers.{WiredMoment, TakesWiredTurn, RestsUnread, TakesCycle}
 use Rattle.cell_renewal.specs.Wearing.{ChangesAreCalls, WearsLast}
 

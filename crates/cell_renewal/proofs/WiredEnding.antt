@@ -10,8 +10,8 @@ use Rattle.cell_control.specs.declared.fault.CtlFault.TheVariants as cause
 use Rattle.cell_notes.specs.declared.status.Status.{Status}
 use Rattle.cell_notes.specs.declared.status.Status.TheVariants.{Fine, GateLimit, Sensor, Refused, Worn, Memory}
 use Rattle.cell_unit.specs.Statuses.{status_of}
-use Rattle.cell_workers.specs.Workers.{GateOf, AreTaken, Ends, last_of}
-use Rattle.cell_workers.proofs.Turning.{all_along}
+use Rattle.cell_threads.specs.Workers.{GateOf, AreTaken, Ends, last_of}
+use Rattle.cell_threads.proofs.Turning.{all_along}
 use Rattle.cell_renewal.specs.WiredWorkers.{WiredMoment, TakesWiredTurn, TakesCycle, IsWiredResult, wired_moment}
 use Rattle.cell_renewal.specs.WiredLaws.{AreToldToRest, WiredWorkerEnds}
 

@@ -16,7 +16,7 @@ use Rattle.cell_devices.specs.declared.act.PressAct.{PressAct}
 use Rattle.cell_devices.specs.declared.motor.Motor.TheVariants.{Off}
 use Rattle.cell_stations.specs.Names.{press_steps, checked}
 use Rattle.cell_stations.specs.declared.press.PressProgress.{PressProgress}
-use Rattle.cell_workers.specs.Workers.{GateOf}
+use Rattle.cell_threads.specs.Workers.{GateOf}
 use Rattle.cell_renewal.specs.WiredWorkers.{WiredMoment, TakesCycle}
 use Rattle.cell_renewal.specs.WiredLaws.{WiredPressTurns, told_clash, told_unread}
 

@@ -20,9 +20,9 @@ use Rattle.cell_notes.specs.declared.status.Status.{Status}
 use Rattle.cell_notes.specs.declared.status.Status.TheVariants.{Fine, Refused}
 use Rattle.cell_parts.specs.Axes.{CellScales}
 use Rattle.cell_plant.specs.Machines.{CellGauges}
-use Rattle.cell_workers.specs.Workers.{GateOf}
-use Rattle.cell_workers.specs.declared.per_machine.PerMachine.{PerMachine}
-use Rattle.cell_workers.specs.declared.worker_result.WorkerResult.{WorkerResult}
+use Rattle.cell_threads.specs.Workers.{GateOf}
+use Rattle.cell_threads.specs.declared.per_machine.PerMachine.{PerMachine}
+use Rattle.cell_threads.specs.declared.worker_result.WorkerResult.{WorkerResult}
 use Rattle.cell_renewal.specs.WiredRecords.{RefusedIsFound, NoneIsRefused, NoneRecordedRefused, TellsWired, WiredRecord, WiredRecordsTell, WiredSix, wired_gives}
 use Rattle.cell_renewal.specs.WiredTeams.{NoneEndsRefused, Sets, Shows, WiredTeam}
 use Rattle.cell_renewal.specs.WiredWorkers.{IsWiredResult, wired_moment}

@@ -5,8 +5,8 @@ use Rattle.cell_control.specs.declared.fault.CtlFault.{CtlFault}
 use Rattle.cell_control.specs.declared.told.Told.{Told}
 use Rattle.cell_notes.specs.declared.status.Status.{Status}
 use Rattle.cell_unit.specs.Statuses.{status_of}
-use Rattle.cell_workers.specs.Workers.{GateOf, ComesBy, Ends}
-use Rattle.cell_workers.proofs.Turning.{comes_on}
+use Rattle.cell_threads.specs.Workers.{GateOf, ComesBy, Ends}
+use Rattle.cell_threads.proofs.Turning.{comes_on}
 use Rattle.cell_renewal.specs.WiredWorkers.{WiredMoment, TakesCycle}
 
 -- a program keeps its calibrations, and a line its tries

@@ -1,7 +1,9 @@
 -- A worker with devices of your own stands at a step of its program after each turn, so none of six ends as refused.
-use Rattle.std.proofs.Common.{◌≡◌, ℕ, ◌+◌, false, inl, inr, Option, None, refl, sym, ap, ◌∙◌, subst}
-use Rattle.cell_rules.specs.Types.{Machine, Feed, Table, Robot, Press, Deposit, Crane, Watch, same_machine}
+use Rattle.std.proofs.Common.{◌≡◌, ℕ, ◌+◌, false, inl, inr, Option, None, Result, Ok, Err, refl, sym, ap, ◌∙◌, subst}
+use Rattle.cell_rules.specs.Types.{Machine, Feed, Table, Robot, Press, Deposit, Crane, Watch, same_machine, Call, Reply}
+use Rattle.cell_rules.specs.declared.heard.LineFault.{LineFault}
 use Rattle.cell_rules.specs.ModelState.{ModelState}
+use Rattle.cell_interlock.specs.Views.{PassView}
 use Rattle.cell_interlock.specs.Lines.{PassAsks}
 use Rattle.cell_interlock.specs.Seen.{IsSamePass}
 use Rattle.cell_control.specs.Names.{Steps, Turned, Turns, answered}
@@ -11,13 +13,18 @@ use Rattle.cell_control.proofs.TurnMaps.{turn_either}
 use Rattle.cell_parts.specs.Axes.{CellScales}
 use Rattle.cell_plant.specs.Machines.{CellGauges, ProgressOf, steps_by}
 use Rattle.cell_plant.proofs.Standing.{none_refused_by}
-use Rattle.cell_team.proofs.Turned.{Stands, stands_on, stands_later}
-use Rattle.cell_workers.specs.Workers.{GateOf, ComesBy}
-use Rattle.cell_workers.proofs.Turning.{all_along}
-use Rattle.cell_workers.proofs.Passes.{asks_same, unchanged_pass}
-use Rattle.cell_workers.proofs.Unrefused.{ended, seen_after}
+use Rattle.cell_team.proofs.Turned.{Stands, Sees, sees_of, stands_on, stands_later}
+use Rattle.cell_threads.specs.Workers.{GateOf, ComesBy}
+use Rattle.cell_threads.proofs.Turning.{all_along}
+use Rattle.cell_threads.proofs.Passes.{asks_same, unchanged_pass}
+use Rattle.cell_threads.proofs.FirstSteps.{ended}
 use Rattle.cell_renewal.specs.WiredWorkers.{WiredMoment, TakesWiredTurn, TakesCycle}
 use Rattle.cell_renewal.specs.WiredTeams.{Shows, Sets, WiredTeam, NoneEndsRefused, NoWiredWorkerIsRefused}
+
+-- what a pass sees of its call
+seen_after : (tries : ℕ) (m : Machine) (v w : PassView) (c : Call) (r : Result Reply LineFault) → v.machine ≡ m → PassAsks tries v c r w → Sees m c r v.seen w.seen
+seen_after tries m v w c (Ok reply) e k = subst (λ n. Sees n c (Ok reply) v.seen w.seen) e (sees_of v.machine c (Ok reply) v.opening v.seen w.seen k.seen)
+seen_after tries m v w c (Err why) e k = ap (λ x. x.seen) k
 
 module _ {S Sense Reading Act D : Type 0} (tries : ℕ) (t : Steps S Sense Reading Act) (shows : D → Option Sense → D → Type 0) (sets : D → Told Act → D → Type 0) (gate : GateOf) (o : ModelState) where
   pub record StandsBy (m : WiredMoment S D) : Type 0 where

@@ -32,10 +32,10 @@ use Rattle.cell_stations.specs.declared.press.PressProgress.{PressProgress}
 use Rattle.cell_stations.specs.declared.table.TableProgram.{TableProgram}
 use Rattle.cell_stations.specs.declared.table.TableProgress.{TableProgress}
 use Rattle.cell_stations.specs.declared.table.TableReading.{TableReading}
-use Rattle.cell_workers.specs.Promises.{GivesOf}
-use Rattle.cell_workers.specs.Watching.{WatchesOf}
-use Rattle.cell_workers.specs.Workers.{GateOf}
-use Rattle.cell_workers.specs.declared.per_machine.PerMachine.{PerMachine}
+use Rattle.cell_threads.specs.Promises.{GivesOf}
+use Rattle.cell_threads.specs.Watching.{WatchesOf}
+use Rattle.cell_threads.specs.Workers.{GateOf}
+use Rattle.cell_threads.specs.declared.per_machine.PerMachine.{PerMachine}
 use Rattle.cell_renewal.specs.Going.{GoesOnFrom, GoingLeft, GoingOn}
 use Rattle.cell_renewal.specs.Renewing.{GoesOnBy, RunsRenewed}
 use Rattle.cell_renewal.specs.WiredTeams.{Shows, Sets}

@@ -5,12 +5,12 @@ use Rattle.cell_rules.specs.Names.{ModelState, after, restamped, IsSameFor}
 use Rattle.cell_interlock.specs.Views.{PassView}
 use Rattle.cell_notes.specs.declared.status.Status.{Status}
 use Rattle.cell_notes.specs.declared.status.Status.TheVariants.{Fine}
-use Rattle.cell_workers.specs.Workers.{GateOf, ComesBy}
-use Rattle.cell_workers.specs.Promises.{GivesOf}
-use Rattle.cell_workers.specs.Six.{AreReadyAt}
-use Rattle.cell_workers.specs.Watching.{TellsWatched, WatchesOf}
-use Rattle.cell_workers.specs.declared.per_machine.PerMachine.{PerMachine}
-use Rattle.cell_workers.specs.declared.six.SixRecord.{SixRecord}
+use Rattle.cell_threads.specs.Workers.{GateOf, ComesBy}
+use Rattle.cell_threads.specs.Promises.{GivesOf}
+use Rattle.cell_threads.specs.Six.{AreReadyAt}
+use Rattle.cell_threads.specs.Watching.{TellsWatched, WatchesOf}
+use Rattle.cell_threads.specs.declared.per_machine.PerMachine.{PerMachine}
+use Rattle.cell_threads.specs.declared.six.SixRecord.{SixRecord}
 use Rattle.cell_renewal.specs.declared.rounds.Round.{Round}
 use Rattle.cell_renewal.specs.declared.rounds.Leave.{Leave}
 use Rattle.cell_renewal.specs.declared.renewed.RoundEnd.{RoundEnd}

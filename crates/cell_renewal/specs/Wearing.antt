@@ -8,7 +8,7 @@ use Rattle.cell_control.specs.declared.fault.CtlFault.{CtlFault}
 use Rattle.cell_control.specs.declared.told.Told.{Told}
 use Rattle.cell_notes.specs.declared.status.Status.{Status}
 use Rattle.cell_notes.specs.declared.status.Status.TheVariants.{Worn}
-use Rattle.cell_workers.specs.Workers.{GateOf}
+use Rattle.cell_threads.specs.Workers.{GateOf}
 use Rattle.cell_renewal.specs.WiredWorkers.{WiredMoment, IsGoingResult}
 
 -- in a history at most as many calls are done as the seven machines have made

@@ -15,7 +15,7 @@ use Rattle.cell_stations.specs.Names.{press_steps}
 use Rattle.cell_stations.specs.declared.press.PressProgress.{PressProgress}
 use Rattle.cell_notes.specs.declared.status.Status.{Status}
 use Rattle.cell_notes.specs.declared.status.Status.TheVariants.{Fine, GateLimit}
-use Rattle.cell_workers.specs.Workers.{GateOf}
+use Rattle.cell_threads.specs.Workers.{GateOf}
 use Rattle.cell_renewal.specs.WiredWorkers.{WiredMoment, TakesWiredTurn, TakesCycle, IsWiredResult, at_rest_by}
 use Rattle.cell_renewal.specs.WiredWorkers.{wired_moment}
 

@@ -21,12 +21,12 @@ use Rattle.cell_stations.specs.Names.{press_steps, table_steps}
 use Rattle.cell_stations.specs.declared.press.PressProgram.{PressProgram}
 use Rattle.cell_stations.specs.declared.table.TableProgram.{TableProgram}
 use Rattle.cell_plant.specs.Names.{CellGauges, steps_by, NoneRefused}
-use Rattle.cell_workers.specs.Promises.{GivesOf}
-use Rattle.cell_workers.specs.Results.{SixResults, outcomes_in, seen_in}
-use Rattle.cell_workers.specs.Six.{TellsSix}
-use Rattle.cell_workers.specs.Workers.{GateOf}
-use Rattle.cell_workers.specs.declared.per_machine.PerMachine.{PerMachine}
-use Rattle.cell_workers.specs.declared.six.SixRecord.{SixRecord}
+use Rattle.cell_threads.specs.Promises.{GivesOf}
+use Rattle.cell_threads.specs.Results.{SixResults, outcomes_in, seen_in}
+use Rattle.cell_threads.specs.Six.{TellsSix}
+use Rattle.cell_threads.specs.Workers.{GateOf}
+use Rattle.cell_threads.specs.declared.per_machine.PerMachine.{PerMachine}
+use Rattle.cell_threads.specs.declared.six.SixRecord.{SixRecord}
 use Rattle.cell_renewal.specs.WiredTeams.{Shows, Sets}
 use Rattle.cell_renewal.specs.WiredWorkers.{IsWiredResult, wired_moment}
 use Rattle.cell_renewal.specs.declared.wired_worker.WiredOutcome.{WiredOutcome}

@@ -9,7 +9,7 @@ use Rattle.cell_notes.specs.declared.status.Status.{Status}
 use Rattle.cell_notes.specs.declared.status.Status.TheVariants.{Refused}
 use Rattle.cell_parts.specs.Axes.{CellScales}
 use Rattle.cell_plant.specs.Machines.{CellGauges, SenseOf, ActOf, steps_by}
-use Rattle.cell_workers.specs.Workers.{GateOf}
+use Rattle.cell_threads.specs.Workers.{GateOf}
 use Rattle.cell_renewal.specs.WiredWorkers.{IsWiredResult, wired_moment}
 
 -- what devices of these types may show, and how they are set

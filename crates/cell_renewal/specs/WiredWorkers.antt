@@ -8,7 +8,7 @@ use Rattle.cell_control.specs.Names.{Steps, Turns, answered}
 use Rattle.cell_control.specs.declared.fault.CtlFault.{CtlFault}
 use Rattle.cell_control.specs.declared.told.Told.{Told}
 use Rattle.cell_notes.specs.declared.status.Status.{Status}
-use Rattle.cell_workers.specs.Workers.{GateOf, ComesBy, Ends}
+use Rattle.cell_threads.specs.Workers.{GateOf, ComesBy, Ends}
 
 -- between two cycles: the pass, the progress in the program, what has stopped the machine, its devices, how many turns
 -- it has had, and how many cycles in which its sensors showed nothing

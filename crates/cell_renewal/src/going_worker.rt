@@ -8,8 +8,8 @@ use cell_control::{Program, Unwired};
 use cell_interlock::{Interlock, Pass, PassLine};
 use cell_notes::Status;
 use cell_rules::State;
+use cell_threads::{Gate, Worker, WorkerResult};
 use cell_types::Machine;
-use cell_workers::{Gate, Worker, WorkerResult};
 use std::alloc::Global;
 use std::marker::Model;
 

@@ -2,7 +2,7 @@
 ghost use Rattle.std.specs.Prelude.{◌≡◌, ◌↔◌, IfOk, IsTrue};
 ghost use Rattle.cell_rules.specs.ModelState.{ModelState};
 ghost use Rattle.cell_notes.specs.declared.status.Status.TheVariants.{Fine};
-ghost use Rattle.cell_workers.specs.Six.{AreReadyAt};
+ghost use Rattle.cell_threads.specs.Six.{AreReadyAt};
 ghost use Rattle.cell_renewal.specs.Renewing.{AreAllFine, EndsRound, GoAllOn};
 ghost use Rattle.cell_renewal.specs.Renewing.{IsTurnedOver, MayAllGoOn, OpensAfter, RunsRenewed};
 
@@ -11,7 +11,7 @@ use crate::rounds::{Leave, Round, RoundSink};
 use cell_notes::Status;
 use cell_rules::State;
 use cell_rules::laws::states_are_sound;
-use cell_workers::{Gate, PerMachine, RunFault, SixRecord, Watching, run_watched};
+use cell_threads::{Gate, PerMachine, RunFault, SixRecord, Watching, run_watched};
 use std::alloc::Global;
 use std::sync::Wait;
 use std::thread::Threads;

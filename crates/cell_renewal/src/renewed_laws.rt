@@ -10,7 +10,7 @@ use cell_devices::{CraneAct, DepositAct, FeedAct, PressAct, RobotAct, TableAct};
 use cell_haul::{CraneProgram, DepositProgram, FeedProgram};
 use cell_robot::RobotProgram;
 use cell_stations::{PressProgram, TableProgram};
-use cell_workers::{Gate, PerMachine, Watching};
+use cell_threads::{Gate, PerMachine, Watching};
 
 /// What `run_renewed` says of six `GoingWorker`s by the six programs, whatever else it says. From a
 /// start none ends as refused, in any round. None ends as worn, if the mark leaves room: for one

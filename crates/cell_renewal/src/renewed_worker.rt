@@ -2,7 +2,7 @@
 
 use cell_notes::Status;
 use cell_rules::State;
-use cell_workers::{Gate, Worker};
+use cell_threads::{Gate, Worker};
 
 /// A worker that leaves its machine so that it can go on, by a worker of the same kind, over the
 /// next interlock.
@@ -14,7 +14,7 @@ pub trait RenewedWorker: Worker {
     ghost use Rattle.cell_interlock.specs.Views.{PassView};
     ghost use Rattle.cell_notes.specs.declared.status.Status.{Status};
     ghost use Rattle.cell_renewal.specs.Renewing.{Leaves};
-    ghost use Rattle.cell_workers.specs.declared.worker_result.WorkerResult.{WorkerResult};
+    ghost use Rattle.cell_threads.specs.declared.worker_result.WorkerResult.{WorkerResult};
 
     // Of what it leaves: the machine, the state that this machine has left, and how it ended.
     ghost machine: { Self.Outcome → Machine };

@@ -2,8 +2,8 @@
 ghost use Rattle.std.specs.Prelude.{◌≡◌};
 
 use cell_rules::State;
+use cell_threads::PerMachine;
 use cell_types::Journals;
-use cell_workers::PerMachine;
 
 /// What six workers and their watch noted over one interlock.
 #[derive(Drop)]

@@ -4,15 +4,15 @@ ghost use Rattle.cell_interlock.specs.Lines.{PassAsks};
 ghost use Rattle.cell_interlock.specs.Seen.{IsSamePass};
 ghost use Rattle.cell_control.specs.Turns.{Turns};
 ghost use Rattle.cell_control.specs.Turns.{answered};
-ghost use Rattle.cell_workers.specs.Workers.{ComesBy, Ends};
+ghost use Rattle.cell_threads.specs.Workers.{ComesBy, Ends};
 ghost use Rattle.cell_renewal.specs.WiredWorkers.{TakesCycle, wired_moment};
 
 use cell_control::{Program, Told, Wired};
 use cell_interlock::{Interlock, Pass, PassLine};
 use cell_notes::Status;
 use cell_rules::{Line, State};
+use cell_threads::{Gate, Worker, WorkerResult};
 use cell_unit::status_of;
-use cell_workers::{Gate, Worker, WorkerResult};
 use std::alloc::Global;
 
 /// The sensors and actuators of a machine.

@@ -14,7 +14,7 @@ use cell_renewal::{Devices, WiredOutcome, WiredWorker};
 use cell_robot::RobotProgram;
 use cell_rules::State;
 use cell_stations::{PressProgram, TableProgram};
-use cell_workers::{OpenGate, PerMachine, RunFault, SixRecord, run_workers};
+use cell_threads::{OpenGate, PerMachine, RunFault, SixRecord, run_workers};
 use std::alloc::Global;
 use std::sync::Wait;
 use std::test::Fail;

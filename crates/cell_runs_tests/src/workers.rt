@@ -4,8 +4,8 @@ use crate::worker_cells::{Limits, work};
 use cell_notes::{Counts, RunRecord, Status};
 use cell_report::audit;
 use cell_rules::{State, apply};
+use cell_threads::RunFault;
 use cell_types::{Machine, Posture, Zone};
-use cell_workers::RunFault;
 use std::alloc::Global;
 use std::test::Fail;
 

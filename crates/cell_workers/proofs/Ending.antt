@@ -5,7 +5,7 @@ use Rattle.cell_rules.specs.Names.{ModelState, empty, start_state, after, own_ev
 use Rattle.cell_rules.proofs.Lasting.{own_head}
 use Rattle.cell_notes.specs.declared.run_record.RunRecord.{RunRecord}
 use Rattle.cell_parts.specs.Axes.{CellScales}
-use Rattle.cell_workers.specs.Workers.{GateOf}
+use Rattle.cell_threads.specs.Workers.{GateOf}
 use Rattle.cell_workers.specs.Records.{TellsAnyWork}
 use Rattle.cell_workers.specs.Laws.{EndsAreReached, by_rule, press_released}
 

@@ -21,9 +21,10 @@ use Rattle.cell_unit.proofs.Turning.{acts_still}
 use Rattle.cell_parts.specs.Names.{CellScales, table_rig, robot_rig, crane_rig}
 use Rattle.cell_plant.specs.Names.{CellGauges, PartOf, any_near, robot_axes, robot_gauges, robot_points, steps_by, rig_of, SideOf, side_in, sides_at_start, positions_in}
 use Rattle.cell_plant.proofs.Gauged.{GiveAsMuch, table_as, robot_as, crane_as}
-use Rattle.cell_workers.specs.Lines.{Lines, passes}
-use Rattle.cell_workers.specs.Workers.{WorkerMoment, worker_moment, GateOf, TakesTurn, TakesTurns, HasEnded, IsWorkerResult, AreCountsOf}
-use Rattle.cell_workers.specs.Results.{CellResults, IsResultOf, AreWorkerResults, journal_in, outcomes_in, parts_in, seen_in}
+use Rattle.cell_threads.specs.Lines.{Lines, passes}
+use Rattle.cell_threads.specs.Workers.{WorkerMoment, worker_moment, GateOf, TakesTurn, TakesTurns, HasEnded, IsWorkerResult, AreCountsOf}
+use Rattle.cell_threads.specs.Results.{journal_in, outcomes_in, seen_in}
+use Rattle.cell_workers.specs.Results.{CellResults, IsResultOf, AreWorkerResults, parts_in}
 use Rattle.cell_workers.specs.Records.{MomentOf, first_moment, TellsAnyWork, TellsWork, has_worker}
 
 -- if less is known of the sensors, a worker has still worked

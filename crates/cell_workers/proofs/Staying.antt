@@ -11,11 +11,11 @@ use Rattle.cell_notes.specs.declared.status.Status.{Status}
 use Rattle.cell_notes.specs.declared.status.Status.TheVariants.{Fine}
 use Rattle.cell_parts.specs.Axes.{CellScales}
 use Rattle.cell_plant.specs.Machines.{steps_of, rig_of}
-use Rattle.cell_workers.specs.Lines.{passes}
-use Rattle.cell_workers.specs.Workers.{HasEnded, Ends, AreCountsOf}
+use Rattle.cell_threads.specs.Lines.{passes}
+use Rattle.cell_threads.specs.Workers.{HasEnded, Ends, AreCountsOf}
 use Rattle.cell_workers.specs.Records.{MomentOf, first_moment, TellsAnyWork, has_worker}
 use Rattle.cell_workers.specs.Laws.{Rule, by_rule, TellsNothingDone}
-use Rattle.cell_workers.proofs.FirstSteps.{stays}
+use Rattle.cell_threads.proofs.FirstSteps.{stays}
 
 module _ (c : CellScales) (opening : ModelState) (tries limit : ℕ) (lets : Rule) (r : RunRecord) (status : Status) where
   -- a worker may end at once, with this status

@@ -28,15 +28,18 @@ use Rattle.cell_notes.specs.declared.status.Status.{Status}
 use Rattle.cell_notes.specs.declared.status.Status.TheVariants.{Fine, GateLimit}
 use Rattle.cell_plant.specs.Names.{SideOf, steps_of, rig_of, positions_in}
 use Rattle.cell_plant.proofs.Resting.{moves_rest}
-use Rattle.cell_workers.specs.Lines.{passes}
-use Rattle.cell_workers.specs.Workers.{GateOf, TakesTurn, HasEnded, AreCountsOf}
+use Rattle.cell_threads.specs.Lines.{passes}
+use Rattle.cell_threads.specs.Workers.{GateOf, TakesTurn, HasEnded, AreCountsOf}
 use Rattle.cell_workers.specs.Records.{MomentOf, first_moment, parts_at_ends, TellsAnyWork, has_worker}
-use Rattle.cell_workers.specs.Laws.{Rule, by_rule, TellsNothingDone, HadTurns, HasAtMost, first_call, TellsFirstTurns, RecordsTellTurns, RecordsKeepTries, WorkersEnd, TurnsAreTaken}
-use Rattle.cell_workers.proofs.Passes.{come_same, come_counts}
+use Rattle.cell_threads.specs.Laws.{HadTurns, HasAtMost}
+use Rattle.cell_workers.specs.Laws.{Rule, by_rule, TellsNothingDone, first_call, TellsFirstTurns, RecordsTellTurns, RecordsKeepTries, WorkersEnd, TurnsAreTaken}
+use Rattle.cell_threads.proofs.Passes.{come_same, come_counts}
 use Rattle.cell_workers.proofs.Ending.{ended_at_opening}
-use Rattle.cell_workers.proofs.Answering.{side_answered, line_unchanged, falls}
+use Rattle.cell_threads.proofs.Answering.{side_answered, line_unchanged}
+use Rattle.cell_workers.proofs.Falling.{falls}
 use Rattle.cell_workers.proofs.Staying.{told}
-use Rattle.cell_workers.proofs.FirstSteps.{within, ends_fine, ends_kept_out, has_status_by, fine_at_once, shut_at_once, ends_begun, answers_along, let_in_along, few_along, still, shut_still, once, own_at_first, noted_at_most, busy_lost, busy_counted}
+use Rattle.cell_threads.proofs.Telling.{no_turn_left as stays_without_turns, never_let_in as stays_if_shut}
+use Rattle.cell_threads.proofs.FirstSteps.{within, ends_fine, ends_kept_out, has_status_by, answers_along, let_in_along, few_along, once, own_at_first, noted_at_most, busy_lost, busy_counted}
 
 -- equal lists of the machines' values have equal values for each machine
 each_same : {A : Type 0} → (f g : Machine → A) → map f all_machines ≡ map g all_machines → (m : Machine) → f m ≡ g m
@@ -125,17 +128,10 @@ module _ (c : CellScales) (opening : ModelState) (tries limit : ℕ) (lets : Rul
 
 module _ (c : CellScales) (tries : ℕ) (m : Machine) where
   no_turn_left : (lets : Rule) (first last : MomentOf m) (s : Status) → first.side.stopped ≡ None → first.counts.turns ≡ 0 → HasEnded (passes tries) (steps_of c m) (rig_of c m) (by_rule lets m) 0 first last s → (last ≡ first) × (s ≡ Fine)
-  no_turn_left lets first last s runs none k =
-      let gate = by_rule lets m in
-      let few = within gate 0 last.side.stopped last.counts.turns s k.ends in
-      let same = still tries (steps_of c m) (rig_of c m) gate first last k.come (omega (arith, few, none)) in
-      (same, fine_at_once gate s (ends_begun tries (steps_of c m) (rig_of c m) gate 0 first last s same runs none k.ends))
+  no_turn_left lets first last s runs none k = stays_without_turns (steps_of c m) (rig_of c m) tries (by_rule lets m) first last s runs none k
 
   never_let_in : (first last : MomentOf m) (s : Status) → first.side.stopped ≡ None → first.counts.turns ≡ 0 → HasEnded (passes tries) (steps_of c m) (rig_of c m) (by_rule (λ n turn. false) m) 5 first last s → (last ≡ first) × (s ≡ GateLimit)
-  never_let_in first last s runs none k =
-      let gate = by_rule (λ n turn. false) m in
-      let same = shut_still tries (steps_of c m) (rig_of c m) gate (λ turn e. cc) first last k.come in
-      (same, shut_at_once gate s (ends_begun tries (steps_of c m) (rig_of c m) gate 5 first last s same runs none k.ends))
+  never_let_in first last s runs none k = stays_if_shut (steps_of c m) (rig_of c m) tries (by_rule (λ n turn. false) m) first last s runs none (λ turn e. cc) k
 
 -- ---- the first turns in a cell without plates
 

@@ -1,8 +1,8 @@
 -- What a record of six workers says, in numbers: the statements.
-use Rattle.std.specs.Prelude.{◌≡◌, ◌≢◌, ℕ, ◌+◌, ◌*◌, ◌<◌, ◌≤◌, ◌↔◌, ◌⊎◌, pos, Bool, true, false, List, [], ◌∷◌, map}
-use Rattle.std.specs.Prelude.{Option, Some, None, Ok, Err, ⊤, slice_get}
-use Rattle.cell_rules.specs.Types.{Machine, Feed, Table, Robot, Press, Deposit, Crane, Watch, Z1, Z3, Z4, Z6, Closed}
-use Rattle.cell_rules.specs.Types.{Call, Claim, Release, Answer, NotParty, Entry, Settled, Busy, all_machines}
+use Rattle.std.specs.Prelude.{◌≡◌, ◌≢◌, ℕ, ◌+◌, ◌*◌, ◌≤◌, ◌↔◌, ◌⊎◌, pos, Bool, true, false, List, [], ◌∷◌, map}
+use Rattle.std.specs.Prelude.{Option, Some, None, Ok, Err, slice_get}
+use Rattle.cell_rules.specs.Types.{Machine, Feed, Table, Robot, Press, Deposit, Crane, Watch, Z1, Z3, Z4, Z6}
+use Rattle.cell_rules.specs.Types.{Call, Claim, Release, Entry, Settled, Busy, all_machines}
 use Rattle.cell_rules.specs.Types.{journal_of}
 use Rattle.cell_types.specs.declared.answer.Answer.TheVariants as answer
 use Rattle.cell_rules.specs.Names.{ModelState, empty, start_state, IsSound, Holds, PressMoves, HasNoHistory}
@@ -24,8 +24,9 @@ use Rattle.cell_notes.specs.declared.status.Status.TheVariants as status
 use Rattle.cell_unit.specs.Sides.{side_of}
 use Rattle.cell_parts.specs.Axes.{CellScales}
 use Rattle.cell_plant.specs.Names.{SideOf, CellGauges, steps_of, rig_of, IsAtRest}
-use Rattle.cell_workers.specs.Lines.{passes}
-use Rattle.cell_workers.specs.Workers.{GateOf, TakesTurn, HasEnded, AreCountsOf}
+use Rattle.cell_threads.specs.Laws.{answers_in, HadTurns, HasAtMost, HasStatusBy, six_entries}
+use Rattle.cell_threads.specs.Lines.{passes}
+use Rattle.cell_threads.specs.Workers.{GateOf, TakesTurn, HasEnded, AreCountsOf}
 use Rattle.cell_workers.specs.Records.{MomentOf, has_worker, first_moment, TellsAnyWork, TellsWork}
 
 -- gates by a rule: which of its turns a machine may begin
@@ -45,24 +46,6 @@ pub record TellsNothingDone (opening : ModelState) (each : Status) (r : RunRecor
   pub end : r.end ≡ Some opening
   pub axes : r.axes ≡ pos 1000 ∷ pos 0 ∷ pos 0 ∷ pos 300 ∷ pos 0 ∷ pos 0 ∷ pos 0 ∷ pos 900 ∷ []
 
--- the number of replies
-abbrev pub answers_in : Counts → ℕ
-answers_in c = c.done + c.read + c.refused + c.busy
-
--- the turns of a machine, by the most that it may have and by those that its gate lets it begin
-pub record HadTurns (limit : ℕ) (lets : ℕ → Bool) (did : Counts) (s : Status) (journal : List Entry) : Type 0 where
-  pub within : did.turns ≤ limit
-  pub let_in : (turn : ℕ) → turn < did.turns → lets turn ≡ true
-  pub fine : s ≡ Fine → did.turns ≡ limit
-  pub kept_out : s ≡ GateLimit → (did.turns < limit) × (lets did.turns ≡ false)
-  pub one_answer_each : answers_in did ≤ did.turns
-  pub counted : AreCountsOf journal did
-
--- a journal has exactly one entry, of this call; or it is empty
-abbrev pub HasAtMost : Option Call → List Entry → Type 0
-HasAtMost call [] = ⊤
-HasAtMost call (e ∷ es) = (call ≡ Some e.call) × (es ≡ [])
-
 -- a machine's call in its first turn in a cell without plates; the robot and the crane drive first
 abbrev pub first_call : Machine → Option Call
 first_call Feed = Some (Claim Z6)
@@ -77,28 +60,6 @@ first_call Watch = None
 pub record TellsFirstTurns (r : RunRecord) : Type 0 where
   pub calls : (m : Machine) → HasAtMost (first_call m) (journal_of r.journals m)
   pub crane : slice_get r.axes 6 ≡ Some (pos 0)
-
--- the status of a worker, by what has stopped its machine
-abbrev pub HasStatusBy : Option CtlFault → Status → Type 0
-HasStatusBy None s = (s ≡ Fine) ⊎ (s ≡ GateLimit)
-HasStatusBy (Some (cause.Sensor _)) s = s ≡ status.Sensor
-HasStatusBy (Some (cause.Refused _)) s = s ≡ status.Refused
-HasStatusBy (Some cause.Worn) s = s ≡ status.Worn
-HasStatusBy (Some cause.Memory) s = s ≡ status.Memory
-HasStatusBy (Some cause.Stopped) s = s ≡ status.Refused
-
--- a journal of one call that was done, two that inquired, and three that were refused
-abbrev pub entry_with : Call → Answer → Entry
-entry_with call a = record { call = call; answer = a; stamp = 0 }
-
-abbrev pub shown : Answer
-shown = answer.Shown None false Closed
-
-abbrev pub refused : Answer
-refused = answer.Refused NotParty
-
-abbrev pub six_entries : Call → List Entry
-six_entries call = map (entry_with call) (answer.Done ∷ shown ∷ shown ∷ refused ∷ refused ∷ refused ∷ [])
 
 -- the press alone noted one entry, that it released its interior
 abbrev pub press_released : Machine → List Entry

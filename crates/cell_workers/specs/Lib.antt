@@ -1,10 +1,3 @@
-pub mod Faults
-pub mod Paces
-pub mod Lines
-pub mod Workers
 pub mod Records
 pub mod Results
-pub mod Promises
-pub mod Six
-pub mod Watching
 pub mod Laws

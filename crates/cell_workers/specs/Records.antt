@@ -13,8 +13,8 @@ use Rattle.cell_parts.specs.Names.{CellScales}
 use Rattle.cell_parts.specs.declared.plant.PlantState.{PlantState}
 use Rattle.cell_plant.specs.Names.{CellGauges, ProgressOf, PartOf, any_near, steps_by, rig_of, side_in}
 use Rattle.cell_plant.specs.Names.{sides_at_start, positions_in}
-use Rattle.cell_workers.specs.Lines.{passes}
-use Rattle.cell_workers.specs.Workers.{GateOf, WorkerMoment, HasEnded, AreCountsOf}
+use Rattle.cell_threads.specs.Lines.{passes}
+use Rattle.cell_threads.specs.Workers.{GateOf, WorkerMoment, HasEnded, AreCountsOf}
 
 -- the six machines have workers, the watch none
 abbrev pub has_worker : Machine → Bool

@@ -1,29 +1,23 @@
--- What six workers gave back, by machine.
-use Rattle.std.specs.Prelude.{◌≡◌, ℕ, List, [], Option, Some}
-use Rattle.cell_rules.specs.Types.{Machine, Feed, Table, Robot, Press, Deposit, Crane, Watch, Event, Entry}
+-- What the six workers of a cell gave back, by machine.
+use Rattle.std.specs.Prelude.{ℕ, List}
+use Rattle.cell_rules.specs.Types.{Machine, Feed, Table, Robot, Press, Deposit, Crane, Entry}
 use Rattle.cell_interlock.specs.Views.{PassView, InterlockView}
-use Rattle.cell_interlock.specs.declared.pass.Passes.{Passes}
 use Rattle.cell_notes.specs.declared.counts.Counts.{Counts}
 use Rattle.cell_notes.specs.declared.status.Status.{Status}
 use Rattle.cell_parts.specs.Names.{CellScales}
 use Rattle.cell_parts.specs.declared.plant.PlantState.{PlantState}
-use Rattle.cell_plant.specs.Machines.{CellGauges, PartOf, steps_by, rig_of}
-use Rattle.cell_workers.specs.Workers.{GateOf, IsWorkerResult}
-use Rattle.cell_workers.specs.Records.{first_moment}
 use Rattle.cell_parts.specs.declared.parts.feed.FeedPart.{FeedPart}
 use Rattle.cell_parts.specs.declared.parts.table.TablePart.{TablePart}
 use Rattle.cell_parts.specs.declared.parts.robot.RobotPart.{RobotPart}
 use Rattle.cell_parts.specs.declared.parts.press.PressPart.{PressPart}
 use Rattle.cell_parts.specs.declared.parts.deposit.DepositPart.{DepositPart}
 use Rattle.cell_parts.specs.declared.parts.crane.CranePart.{CranePart}
-use Rattle.cell_workers.specs.declared.worker_result.WorkerResult.{WorkerResult}
-use Rattle.cell_workers.specs.declared.worker_result.UnitOutcome.{UnitOutcome}
-use Rattle.cell_workers.specs.declared.per_machine.PerMachine.{PerMachine}
-
--- what six workers gave back
-abbrev pub SixResults : Type 0 → Type 0 → Type 0 → Type 0 → Type 0 → Type 0 → Type 0
-SixResults A B C D E F =
-    PerMachine (WorkerResult A) (WorkerResult B) (WorkerResult C) (WorkerResult D) (WorkerResult E) (WorkerResult F)
+use Rattle.cell_plant.specs.Machines.{CellGauges, PartOf, steps_by, rig_of}
+use Rattle.cell_threads.specs.Results.{SixResults}
+use Rattle.cell_threads.specs.Workers.{GateOf, IsWorkerResult}
+use Rattle.cell_threads.specs.declared.worker_result.UnitOutcome.{UnitOutcome}
+use Rattle.cell_threads.specs.declared.per_machine.PerMachine.{PerMachine}
+use Rattle.cell_workers.specs.Records.{first_moment}
 
 -- what is left of the machines of a cell
 abbrev pub CellOutcomes : Type 0
@@ -36,62 +30,6 @@ abbrev pub CellResults : Type 0
 CellResults =
     SixResults (UnitOutcome FeedPart) (UnitOutcome TablePart) (UnitOutcome RobotPart)
     (UnitOutcome PressPart) (UnitOutcome DepositPart) (UnitOutcome CranePart)
-
--- none is missing, and these are the six
-pub record AreAllThere {A B C D E F : Type 0} (each : PerMachine (Option A) (Option B) (Option C) (Option D)
-    (Option E) (Option F)) (six : PerMachine A B C D E F) : Type 0 where
-  pub feed : each.feed ≡ Some six.feed
-  pub table : each.table ≡ Some six.table
-  pub robot : each.robot ≡ Some six.robot
-  pub press : each.press ≡ Some six.press
-  pub deposit : each.deposit ≡ Some six.deposit
-  pub crane : each.crane ≡ Some six.crane
-
-module _ {A B C D E F : Type 0} where
-  -- the journals; the watch's is empty
-  abbrev pub journal_in : SixResults A B C D E F → Machine → List Entry
-  journal_in results Feed = results.feed.journal.items
-  journal_in results Table = results.table.journal.items
-  journal_in results Robot = results.robot.journal.items
-  journal_in results Press = results.press.journal.items
-  journal_in results Deposit = results.deposit.journal.items
-  journal_in results Crane = results.crane.journal.items
-  journal_in results Watch = []
-
-  -- what each pass has seen; the watch's has seen nothing
-  abbrev pub seen_in : SixResults A B C D E F → Machine → List Event
-  seen_in results Feed = results.feed.pass.seen
-  seen_in results Table = results.table.pass.seen
-  seen_in results Robot = results.robot.pass.seen
-  seen_in results Press = results.press.pass.seen
-  seen_in results Deposit = results.deposit.pass.seen
-  seen_in results Crane = results.crane.pass.seen
-  seen_in results Watch = []
-
-  -- the passes, with the watch's
-  abbrev pub passes_in : SixResults A B C D E F → PassView → Passes
-  passes_in results watch =
-      record {
-        feed = results.feed.pass;
-        table = results.table.pass;
-        robot = results.robot.pass;
-        press = results.press.pass;
-        deposit = results.deposit.pass;
-        crane = results.crane.pass;
-        watch = watch;
-      }
-
-  -- what else each gave
-  abbrev pub outcomes_in : SixResults A B C D E F → PerMachine A B C D E F
-  outcomes_in results =
-      record {
-        feed = results.feed.outcome;
-        table = results.table.outcome;
-        robot = results.robot.outcome;
-        press = results.press.outcome;
-        deposit = results.deposit.outcome;
-        crane = results.crane.outcome;
-      }
 
 abbrev pub parts_in : CellOutcomes → PlantState
 parts_in each =

@@ -1,26 +1,11 @@
-//! Six workers over one interlock: each machine takes its turns in a thread of its own.
+//! Six workers over one interlock, whose machines are those of a cell, and laws of their records.
 #![tactic(auto)]
 
-pub mod fault;
-pub mod gate;
 pub mod laws;
-pub mod paced;
-pub mod per_machine;
 pub mod run;
-pub mod six;
-mod start;
-mod take_turns;
-mod threads;
-pub mod watching;
-pub mod worker;
-pub mod worker_result;
 
-pub use fault::RunFault;
-pub use gate::{Gate, OpenGate};
-pub use paced::PacedGate;
-pub use per_machine::PerMachine;
+pub use cell_threads::{
+    Gate, NoWatch, OpenGate, PacedGate, PerMachine, RunFault, SixRecord, UnitOutcome, Watching,
+    Worker, WorkerResult, run_watched, run_workers,
+};
 pub use run::run_cell;
-pub use six::{SixRecord, run_watched, run_workers};
-pub use watching::{NoWatch, Watching};
-pub use worker::Worker;
-pub use worker_result::{UnitOutcome, WorkerResult};

@@ -9,16 +9,12 @@ ghost use Rattle.cell_plant.specs.Records.{NoneRefused, positions_in};
 ghost use Rattle.cell_workers.specs.Records.{TellsWork};
 ghost use Rattle.cell_workers.specs.Results.{parts_in};
 
-use crate::fault::RunFault;
-use crate::gate::Gate;
-use crate::per_machine::PerMachine;
-use crate::six::{SixRecord, run_workers};
-use crate::worker_result::UnitOutcome;
 use cell_calib::Gauge;
 use cell_notes::{Counts, RunRecord, Status};
 use cell_parts::{CranePart, DepositPart, FeedPart, PressPart, RobotPart, TablePart};
 use cell_plant::Cell;
 use cell_rules::State;
+use cell_threads::{Gate, PerMachine, RunFault, SixRecord, UnitOutcome, run_workers};
 use std::alloc::Global;
 use std::sync::Wait;
 use std::thread::Threads;

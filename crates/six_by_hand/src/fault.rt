@@ -4,7 +4,7 @@ use cell_calib::PointsFault;
 use cell_renewal::RenewalFault;
 use cell_report::AuditFault;
 use cell_rules::StartFault;
-use cell_workers::RunFault;
+use cell_threads::RunFault;
 use std::io;
 
 /// Why the six machines can't be driven, or their run not told.

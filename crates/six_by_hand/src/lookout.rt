@@ -4,8 +4,8 @@ ghost use Rattle.cell_interlock.specs.Seen.{IsSamePass};
 
 use cell_interlock::{Interlock, Pass, PassLine};
 use cell_rules::{Line, Survey};
+use cell_threads::{Watching, WorkerResult};
 use cell_types::{Answer, Call, Reply};
-use cell_workers::{Watching, WorkerResult};
 use std::alloc::Global;
 
 /// Looks once in each round.

@@ -2,8 +2,8 @@
 
 use cell_renewal::{Round, RoundSink};
 use cell_report::{AuditFault, audit};
+use cell_threads::{Gate, PacedGate};
 use cell_types::{Answer, Call, Entry, Machine, Zone};
-use cell_workers::{Gate, PacedGate};
 use std::alloc::Global;
 use std::sync::{Mutex, Wait};
 

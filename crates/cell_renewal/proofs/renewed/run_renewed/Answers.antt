@@ -1,5 +1,5 @@
 use Rattle.std.proofs.Common.{sym, subst}
-use Rattle.cell_workers.proofs.Turning.{comes_on}
+use Rattle.cell_threads.proofs.Turning.{comes_on}
 use Rattle.cell_renewal.specs.Renewing.{AreAllFine, EndsRound, IsTurnedOver, TakesRound}
 use Rattle.cell_renewal.proofs.renewed.run_renewed.Goals as goal
 

@@ -1,5 +1,5 @@
-use Rattle.cell_workers.specs.Workers.{ComesBy}
-use Rattle.cell_workers.specs.Six.{AreReadyAt}
+use Rattle.cell_threads.specs.Workers.{ComesBy}
+use Rattle.cell_threads.specs.Six.{AreReadyAt}
 use Rattle.cell_renewal.specs.Renewing.{TakesRound}
 use Rattle.cell_renewal.proofs.renewed.run_renewed.Given as goal
 

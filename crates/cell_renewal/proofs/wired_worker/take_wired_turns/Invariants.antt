@@ -1,6 +1,6 @@
 use Rattle.std.proofs.Common.{◌≡◌, ◌+◌}
 use Rattle.cell_interlock.specs.Seen.{IsSamePass}
-use Rattle.cell_workers.specs.Workers.{ComesBy}
+use Rattle.cell_threads.specs.Workers.{ComesBy}
 use Rattle.cell_renewal.specs.WiredWorkers.{TakesCycle, wired_moment}
 use Rattle.cell_renewal.proofs.wired_worker.take_wired_turns.Given as goal
 

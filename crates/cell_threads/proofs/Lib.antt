@@ -1,0 +1,6 @@
+pub mod Turning
+pub mod Passes
+pub mod Assembling
+pub mod FirstSteps
+pub mod Answering
+pub mod Telling

@@ -1,0 +1,9 @@
+pub mod Faults
+pub mod Paces
+pub mod Lines
+pub mod Workers
+pub mod Results
+pub mod Promises
+pub mod Six
+pub mod Watching
+pub mod Laws
