@@ -16,3 +16,4 @@ pub mod Possible
 pub mod GuardsHold
 pub mod StateWordsHold
 pub mod ZonesAtOnce
+pub mod After

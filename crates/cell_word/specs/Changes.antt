@@ -1,11 +1,11 @@
 -- The bits that a Done call writes.
-use Rattle.std.specs.Prelude.{Bool, true, false, Option, Some, None, if◌then◌else◌}
+use Rattle.std.specs.Prelude.{ℕ, ◌+◌, ◌^◌, Bool, true, false, Option, Some, None, Result, Ok, Err, if◌then◌else◌}
 use Rattle.std.specs.Option.{option_or}
 use Rattle.cell_rules.specs.Types.{Machine, Feed, Deposit, Watch, Zone, Z4, Z5, Z6, Place, Transfer, Posture, Closed}
 use Rattle.cell_rules.specs.Types.{OpenIn, OpenOut, Call, Claim, Give, Yield, Take, Release, SetPose, Advance}
-use Rattle.cell_rules.specs.Types.{Inquire, Stop, Resume, transfer_of, own_move_of, same_machine}
+use Rattle.cell_rules.specs.Types.{Inquire, Stop, Resume, Refusal, transfer_of, own_move_of, same_machine}
 use Rattle.cell_rules.specs.Names.{is_party, other_party}
-use Rattle.cell_word.specs.Patterns.{anything, both, owner_is, flag_is, posture_is, place_is, mark_is}
+use Rattle.cell_word.specs.Patterns.{anything, both, owner_is, flag_is, posture_is, place_is, mark_is, with_written}
 use Rattle.cell_word.specs.Guards.{row_given, hosted_zones, posed_at}
 use Rattle.cell_word.specs.declared.patterns.Pattern.{Pattern}
 
@@ -59,3 +59,8 @@ written m Advance = both (move_pattern (own_move_of m)) (halt_pattern m)
 written m (Inquire z) = anything
 written m Stop = mark_becomes m true
 written m Resume = mark_becomes m false
+
+-- the word after a call whose guards gave this: with what they let it write and the next stamp, or the same word
+abbrev pub word_after : ℕ → Result Pattern Refusal → ℕ
+word_after w (Ok p) = with_written w p.mask p.wanted + 2 ^ 40
+word_after w (Err _) = w

@@ -36,14 +36,6 @@ fn require_running(word: u64) -> Result<(), Refusal>
     mark_pattern(true).refuses(Refusal::Stopped).pass(word)
 }
 
-/// As `require_stamp`, but by the stamp's bits alone. It is rarely asked, so it isn't inlined.
-#[inline(never)]
-fn require_stamp_by_its_bits(word: u64) -> Result<(), Refusal>
-    ensures { result ≡ guards.checked word (guards.worn ∷ []) }
-{
-    worn_guard().pass(word)
-}
-
 /// A stamp has to be left. One comparison finds that out where the cell isn't stopped.
 #[inline(always)]
 fn require_stamp(word: u64) -> Result<(), Refusal>
@@ -52,7 +44,7 @@ fn require_stamp(word: u64) -> Result<(), Refusal>
     if word >> STAMP_BIT < u64::from(LAST_STAMP) {
         return Ok(());
     }
-    require_stamp_by_its_bits(word)
+    worn_guard().pass(word)
 }
 
 /// The caller has to be a party of the zone. Returns which one it is.
@@ -70,6 +62,9 @@ fn require_party(machine: Machine, zone: Zone) -> Result<Party, Refusal>
 pub(crate) fn require_held(at: ZoneBits, party: Party) -> Result<(), Refusal>
     ensures { result ≡ guards.checked at.word (guards.held_guards at.zone party) }
 {
+    if at.is_owned_by(party) {
+        return Ok(());
+    }
     let other = party.opposite();
     if at.is_free() {
         return Err(Refusal::NotOwner(None));
@@ -132,7 +127,7 @@ fn require_leavable(at: ZoneBits, machine: Machine) -> Result<(), Refusal>
 {
     require_not_in(at, Posture::Moving)?;
     require_not_in_use(at, machine)?;
-    worn_guard().pass(at.word)
+    require_stamp(at.word)
 }
 
 /// A plate may be moved if its place is full, its new place empty, and a stamp is left.
@@ -144,7 +139,7 @@ pub(crate) fn require_movable(word: u64, from: Place, to: Place) -> Result<(), R
         .refuses(Refusal::NoPlate)
         .pass(word)?;
     no_room_guard(to).pass(word)?;
-    worn_guard().pass(word)
+    require_stamp(word)
 }
 
 /// The zone has to be free.
@@ -178,7 +173,7 @@ fn require_enterable(at: ZoneBits, party: Party) -> Result<(), Refusal>
 }
 
 #[inline(always)]
-fn claim(word: u64, machine: Machine, zone: Zone) -> Result<Pattern, Refusal>
+pub(crate) fn claim(word: u64, machine: Machine, zone: Zone) -> Result<Pattern, Refusal>
     ensures { result ≡ guards.unless (guards.first_refusal word (guards.claim_guards machine zone))
         (changes.written machine (calls.Claim zone)) }
 {
@@ -211,7 +206,7 @@ fn require_giving(at: ZoneBits, party: Party) -> Result<Transfer, Refusal>
 }
 
 #[inline(always)]
-fn give(word: u64, machine: Machine, zone: Zone) -> Result<Pattern, Refusal>
+pub(crate) fn give(word: u64, machine: Machine, zone: Zone) -> Result<Pattern, Refusal>
     ensures { result ≡ guards.unless (guards.first_refusal word (guards.give_guards machine zone))
         (changes.written machine (calls.Give zone)) }
 {
@@ -225,7 +220,7 @@ fn give(word: u64, machine: Machine, zone: Zone) -> Result<Pattern, Refusal>
 }
 
 #[inline(always)]
-fn hand_over(word: u64, machine: Machine, zone: Zone) -> Result<Pattern, Refusal>
+pub(crate) fn hand_over(word: u64, machine: Machine, zone: Zone) -> Result<Pattern, Refusal>
     ensures { result ≡ guards.unless (guards.first_refusal word (guards.yield_guards machine zone))
         (changes.written machine (calls.Yield zone)) }
 {
@@ -238,7 +233,7 @@ fn hand_over(word: u64, machine: Machine, zone: Zone) -> Result<Pattern, Refusal
 }
 
 #[inline(always)]
-fn take(word: u64, machine: Machine, zone: Zone) -> Result<Pattern, Refusal>
+pub(crate) fn take(word: u64, machine: Machine, zone: Zone) -> Result<Pattern, Refusal>
     ensures { result ≡ guards.unless (guards.first_refusal word (guards.take_guards machine zone))
         (changes.written machine (calls.Take zone)) }
 {
@@ -247,12 +242,12 @@ fn take(word: u64, machine: Machine, zone: Zone) -> Result<Pattern, Refusal>
     Pattern::flag(zone, false)
         .refuses(Refusal::NoPlate)
         .pass(word)?;
-    worn_guard().pass(word)?;
+    require_stamp(word)?;
     Ok(take_pattern(zone, party))
 }
 
 #[inline(always)]
-fn release(word: u64, machine: Machine, zone: Zone) -> Result<Pattern, Refusal>
+pub(crate) fn release(word: u64, machine: Machine, zone: Zone) -> Result<Pattern, Refusal>
     ensures { result ≡ guards.unless
         (guards.first_refusal word (guards.release_guards machine zone))
         (changes.written machine (calls.Release zone)) }
@@ -287,7 +282,7 @@ fn require_stopped(word: u64) -> Result<(), Refusal>
 }
 
 #[inline(always)]
-fn stop(word: u64, machine: Machine) -> Result<Pattern, Refusal>
+pub(crate) fn stop(word: u64, machine: Machine) -> Result<Pattern, Refusal>
     ensures { result ≡ guards.unless (guards.first_refusal word (guards.stop_guards machine))
         (changes.written machine calls.Stop) }
 {
@@ -298,7 +293,7 @@ fn stop(word: u64, machine: Machine) -> Result<Pattern, Refusal>
 }
 
 #[inline(always)]
-fn resume(word: u64, machine: Machine) -> Result<Pattern, Refusal>
+pub(crate) fn resume(word: u64, machine: Machine) -> Result<Pattern, Refusal>
     ensures { result ≡ guards.unless (guards.first_refusal word (guards.resume_guards machine))
         (changes.written machine calls.Resume) }
 {

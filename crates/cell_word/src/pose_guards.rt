@@ -3,14 +3,18 @@ ghost use Rattle.std.specs.Prelude.{◌≡◌, ℕ, ◌∷◌, ◌++◌, []};
 ghost use Rattle.cell_types.specs.declared.call.Call.TheVariants as calls;
 ghost use Rattle.cell_types.specs.declared.machine.Machine.TheVariants as machines;
 ghost use Rattle.cell_types.specs.declared.posture.Posture.TheVariants.{OpenIn};
+ghost use Rattle.cell_rules.specs.ModelState.{ModelState};
 ghost use Rattle.cell_rules.specs.Refusals as refusals;
+ghost use Rattle.cell_rules.specs.Reply.{next};
+ghost use Rattle.cell_rules.specs.Sound.{IsSound};
 ghost use Rattle.cell_word.specs.Changes as changes;
 ghost use Rattle.cell_word.specs.Guards as guards;
+ghost use Rattle.cell_word.specs.Layout.{packed};
 
 use crate::changes::{advance_pattern, posture_pattern};
 use crate::guards::{no_room_guard, require_clear, require_held, require_movable, worn_guard};
 use crate::parties::{Party, ZoneBits};
-use crate::patterns::{Pattern, mark_pattern};
+use crate::patterns::{Pattern, mark_pattern, word_after_check};
 use cell_types::{Machine, Place, Pose, Posture, Refusal, Zone, host, posture_in, transfer};
 
 /// The zones that a machine hosts.
@@ -288,6 +292,7 @@ impl Host for Deposit {
 }
 
 /// Why a pose of this machine is refused at a word, or what it writes.
+#[inline(always)]
 fn set_pose_of<H: Host>(word: u64, pose: Pose) -> Result<Pattern, Refusal>
     ensures { result ≡ guards.unless (guards.first_refusal word (guards.pose_guards H.MACHINE pose))
         (changes.written H.MACHINE (calls.SetPose pose)) }
@@ -316,6 +321,31 @@ pub(crate) fn set_pose(word: u64, machine: Machine, pose: Pose) -> Result<Patter
         Machine::Press => set_pose_of::<Press>(word, pose),
         Machine::Deposit => set_pose_of::<Deposit>(word, pose),
         Machine::Robot | Machine::Crane | Machine::Watch => Err(Refusal::NoPose),
+    }
+}
+
+/// The word of a sound state after a pose of this machine.
+fn word_after_pose_of<H: Host>(word: u64, pose: Pose) -> u64
+    requires { (state : ModelState) × IsSound state × (packed state ≡ word) }
+    ensures { (state : ModelState) → IsSound state → packed state ≡ word
+        → result ≡ packed (next state H.MACHINE (calls.SetPose pose)) }
+{
+    word_after_check(word, set_pose_of::<H>(word, pose))
+}
+
+/// The word of a sound state after a pose.
+#[inline(always)]
+pub(crate) fn word_after_pose(word: u64, machine: Machine, pose: Pose) -> u64
+    requires { (state : ModelState) × IsSound state × (packed state ≡ word) }
+    ensures { (state : ModelState) → IsSound state → packed state ≡ word
+        → result ≡ packed (next state machine (calls.SetPose pose)) }
+{
+    match machine {
+        Machine::Feed => word_after_pose_of::<Feed>(word, pose),
+        Machine::Table => word_after_pose_of::<Table>(word, pose),
+        Machine::Press => word_after_pose_of::<Press>(word, pose),
+        Machine::Deposit => word_after_pose_of::<Deposit>(word, pose),
+        Machine::Robot | Machine::Crane | Machine::Watch => word,
     }
 }
 
