@@ -13,11 +13,12 @@ or no memory.
 
 docs/SCRIPTS.md describes scripts, answers and exit statuses, docs/CONFIGURATIONS.md
 what `sim` and `run` read, docs/REPORTS.md what they write.
+The program `explain` says why an input is refused.
 
 Examples:
   cell replay < examples/interior.csv
   cell sim < examples/press.toml
-  cell run --turns 3 < examples/six_workers.toml";
+  cell run --turns 3 --tries 64 < examples/six_workers.toml";
 
 /// The help of `replay`.
 pub const REPLAY: &str =
@@ -28,6 +29,7 @@ Reads a script in CSV. Record 0 says which places are full at the start; each la
 record is a call of a machine.
 Writes a line for each record: its number, the stamp (the number of changes) after it,
 and the answer. If the script is refused, the last line begins with `fault`.
+`explain replay < FILE` says why a script is refused.
 docs/SCRIPTS.md describes scripts and answers.
 
 Example:
@@ -41,7 +43,7 @@ Reads a configuration in TOML: which places are full at the start, the schedule 
 turns, and the calibrations of the five potentiometers. Writes a report: what each
 machine did, the cell at the end, and what an audit of the machines' journals (their
 logs of calls) found. If the configuration is refused, writes one line that begins
-with `fault`.
+with `fault`; `explain sim < FILE` says why.
 docs/CONFIGURATIONS.md describes what is read, docs/REPORTS.md what is written.
 
 Example:

@@ -180,13 +180,17 @@ const OF_THE_WHOLE: &[&str] = &[
     "docs/SCRIPTS.md",
     "docs/CONFIGURATIONS.md",
     "docs/REPORTS.md",
+    "`explain`",
     "cell replay < examples/interior.csv",
+    "cell sim < examples/press.toml",
+    "cell run --turns 3 --tries 64 < examples/six_workers.toml",
 ];
 
 const OF_REPLAY: &[&str] = &[
     "Usage: cell replay",
     "Reads a script",
     "Writes a line for each record",
+    "`explain replay < FILE`",
     "docs/SCRIPTS.md",
     "cell replay < examples/interior.csv",
 ];
@@ -195,6 +199,7 @@ const OF_SIM: &[&str] = &[
     "Usage: cell sim",
     "Reads a configuration",
     "Writes a report",
+    "`explain sim < FILE`",
     "docs/CONFIGURATIONS.md",
     "docs/REPORTS.md",
     "cell sim < examples/press.toml",
@@ -222,7 +227,7 @@ const HELPS: &[(&[&str], &[&str])] = &[
     (&["cell", "run", "--help"], OF_RUN),
 ];
 
-// Help says what is read, what is written, where the formats are described, and an example.
+// Help says what is read, what is written, what explains a refusal, where the formats are described, and an example.
 #[test]
 fn helps(rt: HostRuntime) {
     for (words, parts) in HELPS {
