@@ -14,15 +14,15 @@ or 'press meet robot'. 'seen' shows what each has been told. After each step it 
 import sys
 
 import steps
-from steps import CALLS, KINDS, LAST_STAMP, LETTER, MACHINES, RIGHT, Cell, State, Told, answer_words, call_of, fault_of, kept, reply_at, words
+from steps import CALLS, KINDS, LAST_STAMP, LETTER, MACHINES, RIGHT, State, SystemState, Told, answer_words, call_of, fault_of, kept, reply_at, words
 
 
 class Play:
-    """A cell, and what each caller was told."""
+    """A state of word and callers, and what each caller was told."""
 
     def __init__(self, kind, word, tries):
         self.word, self.tries = word, tries
-        self.cell = Cell.start(kind, word, tries)
+        self.state = SystemState.start(kind, word, tries)
         self.journals = [(machine, []) for machine in range(7)]
 
     def step(self, fields):
@@ -31,16 +31,16 @@ class Play:
             return "no machine"
         machine = MACHINES.index(fields[0])
         step, call = fields[1] if len(fields) > 1 else "", call_of([it for it in fields[2:4] if it])
-        pending = self.cell.held[machine]
+        pending = self.state.held[machine]
         if step == "ask" and call is not None and not pending:
-            return self.after("", machine, *self.cell.ask(machine, call))
+            return self.after("", machine, *self.state.ask(machine, call))
         if step == "look" and call is not None and not pending:
-            return self.after("pending", machine, *self.cell.look(machine, call))
+            return self.after("pending", machine, *self.state.look(machine, call))
         if step == "attempt" and call is None and pending:
-            return self.after("lost", machine, *self.cell.attempt(machine))
+            return self.after("lost", machine, *self.state.attempt(machine))
         if step in ("meet", "tell") and call is None and not pending and len(fields) > 2 and fields[2] in MACHINES:
             other = MACHINES.index(fields[2])
-            if other != machine and not self.cell.held[other]:
+            if other != machine and not self.state.held[other]:
                 return self.met(machine, other) if step == "meet" else self.told(machine, other)
         return "no step"
 
@@ -53,16 +53,16 @@ class Play:
         """Each tells the other, and loads."""
         self.told(machine, other)
         self.told(other, machine)
-        self.cell = self.cell.finding(machine, None).finding(other, None)
+        self.state = self.state.finding(machine, None).finding(other, None)
         return "met"
 
     def seen(self, machine):
         """The stamp that the machine has seen."""
         return max((it.stamp for it in self.journals[machine][1]), default=self.word[1])
 
-    def after(self, untold, machine, cell, told):
-        """Goes on in this cell, and answers what the caller was told, if anything."""
-        self.cell = cell
+    def after(self, untold, machine, state, told):
+        """Goes on in this state, and answers what the caller was told, if anything."""
+        self.state = state
         if told is None:
             return untold
         self.journals[machine][1].append(told)
@@ -70,7 +70,7 @@ class Play:
 
     def shown(self, fields):
         """The word that the machine of a line has now."""
-        return steps.shown(self.cell.word(MACHINES.index(fields[0]))) if fields and fields[0] in MACHINES else ""
+        return steps.shown(self.state.word(MACHINES.index(fields[0]))) if fields and fields[0] in MACHINES else ""
 
 
 def play_steps(rows, kind, with_words):

@@ -55,8 +55,8 @@ def reply_at(word, machine, call):
     return (refusal(WORN), word) if stamp == LAST_STAMP else (DONE, (kept(found), stamp + 1))
 
 
-class Cell:
-    """The word, or a word for each caller, and what callers hold. Steps change nothing: they give another cell."""
+class SystemState:
+    """The word, or a word for each caller, and what callers hold. Steps change nothing: they give another state."""
 
     __slots__ = ("kind", "tries", "words", "held", "found")
 
@@ -67,8 +67,8 @@ class Cell:
 
     @staticmethod
     def start(kind, word, tries):
-        """The cell before the first step."""
-        return Cell(kind, tries, (word,) * (7 if kind == WORD_PER_PASS else 1))
+        """The state before the first step."""
+        return SystemState(kind, tries, (word,) * (7 if kind == WORD_PER_PASS else 1))
 
     def at(self, machine):
         """Which word is the machine's."""
@@ -79,28 +79,28 @@ class Cell:
         return self.words[self.at(machine)]
 
     def holding(self, machine, pending):
-        """The cell in which the machine has this pending call, or none."""
+        """The state in which the machine has this pending call, or none."""
         held = self.held[:machine] + (pending,) + self.held[machine + 1 :]
-        return Cell(self.kind, self.tries, self.words, held, self.found)
+        return SystemState(self.kind, self.tries, self.words, held, self.found)
 
     def finding(self, machine, word):
-        """The cell in which the machine has found this word last."""
+        """The state in which the machine has found this word last."""
         found = self.found[:machine] + (word,) + self.found[machine + 1 :] if self.kind == ACCEPT_FORGETS else self.found
-        return Cell(self.kind, self.tries, self.words, self.held, found)
+        return SystemState(self.kind, self.tries, self.words, self.held, found)
 
     def look(self, machine, call):
-        """A load. It gives the cell, and what the caller is told, if anything."""
+        """A load. It gives the state, and what the caller is told, if anything."""
         word = self.found[machine] or self.word(machine)
         if reply_at(word, machine, call)[0] == DONE:
             word = self.word(machine)
-        cell = self.finding(machine, word)
+        state = self.finding(machine, word)
         answer, new = reply_at(word, machine, call)
         if answer == DONE:
-            return cell.holding(machine, Try(call, word, new, 0, word[1])), None
-        return cell, Told(call, answer, word[1], 0)
+            return state.holding(machine, Try(call, word, new, 0, word[1])), None
+        return state, Told(call, answer, word[1], 0)
 
     def attempt(self, machine):
-        """An exchange of the machine's pending call. It gives the cell, and what the caller is told, if anything."""
+        """An exchange of the machine's pending call. It gives the state, and what the caller is told, if anything."""
         call, old, new, lost, since = self.held[machine]
         at = self.at(machine)
         found = self.words[at]
@@ -119,8 +119,8 @@ class Cell:
 
     def ask(self, machine, call):
         """A whole call, with no other step in it. So it loses no exchange."""
-        cell, told = self.look(machine, call)
-        return (cell, told) if told else cell.attempt(machine)
+        state, told = self.look(machine, call)
+        return (state, told) if told else state.attempt(machine)
 
 
 def answer_words(told):
