@@ -1,5 +1,5 @@
-//! Explains why `cell` refuses a script or a configuration, in words. It is silent just where `cell`
-//! doesn't refuse its input.
+//! Explains why `cell` refuses a script or a configuration, in words. It prints nothing exactly if
+//! `cell` accepts the input.
 #![tactic(auto)]
 
 pub mod explain;

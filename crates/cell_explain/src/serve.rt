@@ -59,7 +59,7 @@ pub fn serve_configuration<R: Read, W: Write>(alloc: Global, reader: &mut R, wri
     }
 }
 
-/// Does what the words ask for, and returns the exit status. They are those of `cell`: with
+/// Does what the words ask for, and returns the exit status. The words are those of `cell`: with
 /// `replay`, or nothing, after the program's name a script is explained, with `sim` or `run` a
 /// configuration. The status is
 /// - 0 for an input that isn't refused, for help, and for the version;

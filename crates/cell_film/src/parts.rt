@@ -10,7 +10,7 @@ use cell_types::Machine;
 use std::alloc::{AllocError, Global};
 use std::fmt;
 
-/// A part of the plant, which is shown as a film tells it.
+/// A part of the plant, formatted for a film's line.
 #[derive(Clone, Copy)]
 struct Shown<T>(T);
 

@@ -65,8 +65,8 @@ fn push_text_words(
     }
 }
 
-/// Adds why a text is no TOML, and the line on which that is found: that of the byte after this
-/// number of bytes. In the value of a key it adds where that begins, or what the key takes.
+/// Adds why a text is no TOML, and the line of the byte at offset `before`, where that is found. In
+/// a key's value it adds where the value begins, or what the key takes.
 fn push_no_toml(
     words: &mut String,
     source: Source<'_>,

@@ -6,7 +6,7 @@ use std::alloc::{AllocError, Global};
 use toml_parser::text::{first, skip_blank, skip_ws};
 use toml_parser::{ErrorKind, Key, ParseError, dotted_key, quoted, starts_string};
 
-/// A key, and where it stands. Each place is the number of bytes before it.
+/// A key, and where it stands. Each place is an offset, in bytes.
 #[derive(Drop)]
 pub struct KeyPlace {
     /// The keys of the sections that it is in, and the key.
@@ -238,13 +238,13 @@ impl Source<'_> {
         self.push_line_at(words, place.map_or(0, |place| place.key))
     }
 
-    /// Adds the line of the byte after this number of bytes.
+    /// Adds the line of the byte at offset `before`.
     pub fn push_line_at(&self, words: &mut String, before: usize) -> Result<(), AllocError> {
         let line = line_at(self.bytes, before);
         write!(words, "line {line}: ")
     }
 
-    /// The last key before the byte after this number of bytes, if that byte is in its value.
+    /// The last key before the byte at offset `before`, if that byte is in the key's value.
     pub fn place_around(&self, before: usize) -> Option<&KeyPlace> {
         let place = self.places.iter().rev().find(|place| place.key <= before)?;
         let is_closed = place.end.is_some_and(|end| end <= before);

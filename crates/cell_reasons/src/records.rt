@@ -67,7 +67,7 @@ fn read_next(reader: &mut Reader<&[u8]>, row: &mut ByteRecord) -> Result<bool, A
     }
 }
 
-/// The line of the first byte that ends no line, after this number of bytes and a byte order mark.
+/// The line of the first byte that ends no line, from offset `before` on, after a byte order mark.
 fn line_after(script: &[u8], before: usize) -> usize {
     let before = if script.starts_with(BYTE_ORDER_MARK) {
         before.max(BYTE_ORDER_MARK.len())
@@ -79,7 +79,7 @@ fn line_after(script: &[u8], before: usize) -> usize {
     line_at(script, before.saturating_add(blank))
 }
 
-/// The line of the byte after this number of bytes.
+/// The line of the byte at offset `before`.
 pub fn line_at(bytes: &[u8], before: usize) -> usize {
     line_ends(&bytes[..before.min(bytes.len())]).saturating_add(1)
 }

@@ -259,7 +259,7 @@ pub enum PlanTextFault {
     Memory,
     /// The document has more than 65,536 bytes.
     Long,
-    /// It is no TOML: the line on which that is found, and why.
+    /// It is no TOML: on which line this is found, and why.
     NoToml {
         /// The line, from 1.
         line: usize,

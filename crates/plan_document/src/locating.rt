@@ -37,7 +37,7 @@ struct Inner<'a> {
     value: &'a str,
 }
 
-/// The line, from 1, of the byte after the first `before` bytes.
+/// The line, from 1, of the byte at offset `before`.
 pub fn line_at(bytes: &[u8], before: usize) -> usize
     ensures { result ≡ 1 + count_by (λ byte. byte == LINE_END) (take before bytes.now) }
 {

@@ -40,7 +40,7 @@ pub trait Told<S, V> {
     ghost then: { Step S → Me S V → ℕ → Me S V → Type 0 };
 }
 
-// Each step picks what it tells, and this isn't read.
+// The proof of a call at `Brand` picks `then` itself (as `ghosts-load_for` in `proofs/`), so this isn't read.
 impl<S, V> Told<S, V> for Brand {
     ghost use Rattle.std.specs.Prelude.{⊤};
 
