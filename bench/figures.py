@@ -255,7 +255,7 @@ def shown(figure):
 
 
 def ratio(pair, unit):
-    """A ratio and the two figures that it is of, which are None where they can't be had."""
+    """A ratio and the two figures that it is of, which are None where there are none."""
     if None in pair:
         return NONE
     # (instructions are whole numbers)

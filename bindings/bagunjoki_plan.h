@@ -76,7 +76,7 @@ enum bagunjoki_plan_answer {
     BAGUNJOKI_PLAN_NO_MEMORY = 68 /* memory ran out: nothing has changed, and the call may be made again */
 };
 
-/* In place of a word, and of a stamp. */
+/* Instead of a word, and of a stamp. */
 #define BAGUNJOKI_PLAN_NO_WORD UINT64_MAX
 #define BAGUNJOKI_PLAN_NO_STAMP UINT32_MAX
 

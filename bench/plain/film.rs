@@ -26,7 +26,7 @@ use std::process::ExitCode;
 const MOST_TURNS: usize = 100_000;
 
 /// What a film shows of a machine. A motor that is on moves its axis, since none drives at an end; so
-/// it is told by the positions before the turn.
+/// the positions before the turn say it.
 trait Shown: Program {
     fn step(&self) -> &'static str;
     fn positions(&self) -> Vec<Option<i32>>;

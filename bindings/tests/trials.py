@@ -209,14 +209,14 @@ def pythons():
 
 
 def judged(trials, program, calls, most, ways, status=0, **environment):
-    """What check.py says of so many calls, or renewals.py if the word is renewed."""
+    """What check.py says of this number of calls, or renewals.py if the word is renewed."""
     judge = f"{trials.here}/tests/renewals.py" if "renewals" in ways else f"{trials.root}/bench/stress/check.py"
     words = [sys.executable, "-B", judge, "1", str(calls), str(most), program, *ways]
     return trials.run(words, status=status, **environment)
 
 
 def load(trials, program, calls, ways, **environment):
-    """About so many calls, of which check.py makes one legal history."""
+    """About this number of calls, of which check.py makes one legal history."""
     said = judged(trials, program, calls, min(420_000, calls), ways, **environment).strip().split("\n")
     return "; ".join(said[-2:] if "renewals" in ways else said[-1:])
 
