@@ -82,15 +82,14 @@ class Building:
         words += ["--antt-project", f"{KIT}/rattle/logic/antt-project.json", "--logic-built", f"{KIT}/logic_built"]
         return [*words, "--links", f"{self.name}="]
 
-    def words(self, side_by_side, is_first):
+    def words(self, _side_by_side, idle):
         how = ["--toolchain", f"{KIT}/toolchain"] if self.is_program else ["--statements"]
-        return ["rattle", "build", *self.reading(), *how, "--jobs", str(self.jobs(side_by_side, is_first)), "-o", self.made]
+        return ["rattle", "build", *self.reading(), *how, "--jobs", str(self.jobs(idle)), "-o", self.made]
 
-    def jobs(self, side_by_side, is_first):
-        """How many jobs the crate has. Each further one costs some 20 s of processor time, since it reads again what the crate uses. So
-        only the crate for which all others wait has them, and only where several processors would be idle."""
-        idle = crates.processors() - side_by_side
-        return max(1, min(1 + idle // 4, crates.memory() // MEMORY)) if is_first and not self.is_program else 1
+    def jobs(self, idle):
+        """How many jobs the crate has: a second one if a processor would be idle else, since it costs some 30 s of processor time. A
+        program has one, since its compiler has no more."""
+        return 2 if idle and not self.is_program and crates.memory() > 2 * MEMORY else 1
 
     def leave(self, proved=False):
         if proved:

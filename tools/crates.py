@@ -222,7 +222,7 @@ class Place:
         return False
 
     @staticmethod
-    def words(side_by_side, _is_first):
+    def words(side_by_side, _idle):
         # a crate that runs alone gets the jobs that rt chooses
         return ["rt", "lib", *(["--jobs", str(max(1, processors() // side_by_side))] if side_by_side > 1 else [])]
 
@@ -340,46 +340,92 @@ class Progress:
         return at
 
 
+class Order:
+    """The crates to prove, those with the longest way above them first, and those that are proved."""
+
+    def __init__(self, root, names, is_done):
+        self.uses, order, self.spent, self.done = listed(root), [], costs(), set()
+        for name in names:
+            order += [it for it in [*below(self.uses, name), name] if it not in order]
+        self.urgent = sorted(order, key=lambda it: -ahead(self.uses, order, it, self.spent))
+        for name in order:
+            if self.done >= {*self.uses[name]} and is_done(name):
+                self.done.add(name)
+        self.plan = {it: self.uses[it] for it in self.urgent}
+        self.left = [it for it in self.urgent if it not in self.done]
+
+    def ready(self):
+        """The crates that are left and need no crate that isn't proved."""
+        return [it for it in self.left if self.done >= {*self.uses[it]}]
+
+    def idle(self, name):
+        """How many processors would be idle while this crate is proved: for it, if no other is as urgent. For what need not wait for it,
+        there are fewer seconds of work than the other processors have meanwhile."""
+        if name != next(it for it in self.urgent if it not in self.done):
+            return 0
+        weight = lambda it: self.spent.get(it, USUAL)
+        others = [it for it in self.urgent if it not in self.done and it != name and name not in below(self.uses, it)]
+        return max(0, int(processors() - 1 - sum(map(weight, others)) / weight(name)))
+
+    def niceness(self, name):
+        return min(self.urgent.index(name), 19)
+
+
+class Proving:
+    """Crates that are proved side by side, each in a place of its own."""
+
+    def __init__(self, root, order, folder, place_of):
+        self.root, self.order, self.folder, self.place_of = root, order, folder, place_of
+        self.places, self.begun, self.running, self.waits = {}, {}, Running(), False
+
+    def start(self, name, side_by_side):
+        """Starts a crate, unless rt is at work on it or below it."""
+        place = self.place_of(self.root, self.order.uses, name, f"{self.folder}/{name}")
+        if not place.enter():
+            if not self.waits:
+                print(f"{PROGRAM}: waiting: another rt is working on {name}, or on a crate that {name} uses", file=sys.stderr, flush=True)
+            self.waits = True
+            return
+        self.places[name] = place
+        self.order.left.remove(name)
+        words = place.words(side_by_side, self.order.idle(name))
+        self.running.start(name, words, place.crate, f"{self.folder}/{name}/log", self.order.niceness(name))
+        self.begun[name] = time.monotonic()
+
+    def end(self):
+        """Takes over what has been proved within a second. Answers a crate that failed."""
+        for name, status in self.running.ended(1).items():
+            self.places.pop(name).leave(status == 0)
+            if status:
+                return name
+            del self.begun[name]
+            shutil.rmtree(f"{self.folder}/{name}")
+            self.order.done.add(name)
+        return None
+
+    def stop(self):
+        self.running.stop()
+        for it in self.places.values():
+            it.leave()
+
+
 def prove(root, names, folder, place_of=Place, limit=None, watch=lambda plan, done, since: None):
     """Proves these crates and all below them, each in a place of its own, and answers None, or the crate that failed and the file of
     what was said of it. Where cores and memory allow, or at most by the limit, crates are worked at side by side. Those with the
     longest way above them come first, and get processors before others. Each second `watch` is called, as Progress.watch has it."""
-    crates, order, spent = listed(root), [], costs()
-    for name in names:
-        order += [it for it in [*below(crates, name), name] if it not in order]
-    urgent, done, waits = sorted(order, key=lambda it: -ahead(crates, order, it, spent)), set(), False
-    for name in order:
-        if done >= {*crates[name]} and place_of(root, crates, name, f"{folder}/{name}").is_done():
-            done.add(name)
-    plan = {it: crates[it] for it in urgent}
-    left = [it for it in urgent if it not in done]
-    places, begun, running = {}, {}, Running()
+    order = Order(root, names, lambda name: place_of(root, listed(root), name, f"{folder}/{name}").is_done())
+    proving = Proving(root, order, folder, place_of)
     with contextlib.ExitStack() as ends:
-        ends.callback(lambda: [it.leave() for it in places.values()])
-        ends.callback(running.stop)
-        while left or places:
-            free = max((limit or at_once()) - len(places), 0 if places else 1)
-            starting = [it for it in left if done >= {*crates[it]}][:free]
-            side_by_side = len(places) + len(starting)
+        ends.callback(proving.stop)
+        while order.left or proving.places:
+            free = max((limit or at_once()) - len(proving.places), 0 if proving.places else 1)
+            starting = order.ready()[:free]
+            side_by_side = len(proving.places) + len(starting)
             for name in starting:
-                places[name] = place_of(root, crates, name, f"{folder}/{name}")
-                if not places[name].enter():
-                    del places[name]
-                    if not waits:
-                        print(f"{PROGRAM}: waiting: another rt is working on {name}, or on a crate that {name} uses", file=sys.stderr, flush=True)
-                    waits = True
-                    continue
-                left.remove(name)
-                is_first = name == next(it for it in urgent if it not in done)
-                running.start(name, places[name].words(side_by_side, is_first), places[name].crate, f"{folder}/{name}/log", min(urgent.index(name), 19))
-                begun[name] = time.monotonic()
-            watch(plan, done, begun)
-            for name, status in running.ended(1).items():
-                places.pop(name).leave(status == 0)
-                if status:
-                    return name, f"{folder}/{name}/log"
-                del begun[name]
-                shutil.rmtree(f"{folder}/{name}")
-                done.add(name)
-        watch(plan, done, begun)
+                proving.start(name, side_by_side)
+            watch(order.plan, order.done, proving.begun)
+            failed = proving.end()
+            if failed:
+                return failed, f"{folder}/{failed}/log"
+        watch(order.plan, order.done, proving.begun)
     return None
