@@ -1,3 +1,4 @@
+pub mod Keeping
 pub mod Searched
 pub mod StepLemmas
 pub mod TurnLemmas
