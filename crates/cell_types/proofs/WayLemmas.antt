@@ -3,7 +3,7 @@ use Rattle.std.proofs.Common.{◌≡◌, refl, rules, IfSome, count_by}
 use Rattle.cell_types.specs.declared.machine.Machine.{Machine}
 use Rattle.cell_types.specs.declared.zone.Zone.{Zone}
 use Rattle.cell_types.specs.declared.zone.Zone.TheVariants.{Z3}
-use Rattle.cell_types.specs.declared.place.Place.TheVariants.{FeedEntry, FeedEnd, Table, Arm1, PressIn, PressOut, Arm2, DepEntry, DepEnd, Crane}
+use Rattle.cell_types.specs.declared.place.Place.TheVariants.{FeedEntry}
 use Rattle.cell_types.specs.declared.posture.Posture.{Posture}
 use Rattle.cell_types.specs.declared.posture.Posture.TheVariants.{OpenIn, OpenOut}
 use Rattle.cell_types.specs.Ways.{GoesRound, JoinsKeepers, OneRowEach, all_ways, keeper_of, own_move_of}
@@ -35,27 +35,11 @@ joins_keepers = record { row = joined; own_move = moved }
 
 left : (p : Place) → count_by (λ way. same_place way.0 p) all_ways ≡ 1
 left FeedEntry = refl
-left FeedEnd = refl
-left Table = refl
-left Arm1 = refl
-left PressIn = refl
-left PressOut = refl
-left Arm2 = refl
-left DepEntry = refl
-left DepEnd = refl
-left Crane = refl
+left _ = refl
 
 entered : (p : Place) → count_by (λ way. same_place way.1 p) all_ways ≡ 1
 entered FeedEntry = refl
-entered FeedEnd = refl
-entered Table = refl
-entered Arm1 = refl
-entered PressIn = refl
-entered PressOut = refl
-entered Arm2 = refl
-entered DepEntry = refl
-entered DepEnd = refl
-entered Crane = refl
+entered _ = refl
 
 pub goes_round : GoesRound
 goes_round = record { left = left; entered = entered }

@@ -5,15 +5,15 @@ use Rattle.std.specs.Str.{bytes_eq}
 use Rattle.std.proofs.lemmas.Option.{same_Some}
 use Rattle.std.proofs.lemmas.Slice.Eq.{bytes_eq-Decides}
 use Rattle.cell_types.specs.declared.machine.Machine.{Machine}
-use Rattle.cell_types.specs.declared.machine.Machine.TheVariants.{Feed, Table as TableMachine, Robot, Press, Deposit, Crane as CraneMachine, Watch}
+use Rattle.cell_types.specs.declared.machine.Machine.TheVariants.{Feed}
 use Rattle.cell_types.specs.declared.zone.Zone.{Zone}
-use Rattle.cell_types.specs.declared.zone.Zone.TheVariants.{Z1, Z2, Z3, Z4, Z5, Z6}
+use Rattle.cell_types.specs.declared.zone.Zone.TheVariants.{Z1}
 use Rattle.cell_types.specs.declared.place.Place.{Place}
-use Rattle.cell_types.specs.declared.place.Place.TheVariants.{FeedEntry, FeedEnd, Table, Arm1, PressIn, PressOut, Arm2, DepEntry, DepEnd, Crane}
+use Rattle.cell_types.specs.declared.place.Place.TheVariants.{FeedEntry}
 use Rattle.cell_types.specs.declared.posture.Posture.{Posture}
-use Rattle.cell_types.specs.declared.posture.Posture.TheVariants.{Closed, Moving, OpenIn, OpenOut}
+use Rattle.cell_types.specs.declared.posture.Posture.TheVariants.{Closed}
 use Rattle.cell_types.specs.declared.pose.Pose.{Pose}
-use Rattle.cell_types.specs.declared.pose.Pose.TheVariants.{Turning, Loading, Unloading, Travelling, Middle, Low, Top, Running, Landing, Halted, Offering, Standing}
+use Rattle.cell_types.specs.declared.pose.Pose.TheVariants.{Turning}
 use Rattle.cell_types.specs.Words.{named, machine_word, zone_word, place_word, posture_word, pose_word}
 use Rattle.cell_types.specs.Everything.{all_machines, all_zones, all_places, all_postures, all_poses}
 
@@ -51,23 +51,14 @@ read_by word_of all found word x = (
 
 machine_found : (x : Machine) → named machine_word all_machines (machine_word x) ≡ Some x
 machine_found Feed = refl
-machine_found TableMachine = refl
-machine_found Robot = refl
-machine_found Press = refl
-machine_found Deposit = refl
-machine_found CraneMachine = refl
-machine_found Watch = refl
+machine_found _ = refl
 
 pub machine_read : (word : List ℕ) (x : Machine) → (named machine_word all_machines word ≡ Some x) ↔ (word ≡ machine_word x)
 machine_read = read_by machine_word all_machines machine_found
 
 zone_found : (x : Zone) → named zone_word all_zones (zone_word x) ≡ Some x
 zone_found Z1 = refl
-zone_found Z2 = refl
-zone_found Z3 = refl
-zone_found Z4 = refl
-zone_found Z5 = refl
-zone_found Z6 = refl
+zone_found _ = refl
 
 pub same_zone : (x y : Zone) → zone_word x ≡ zone_word y → x ≡ y
 same_zone x y e = same_Some x y (sym (zone_found x) ∙ ap (named zone_word all_zones) e ∙ zone_found y)
@@ -77,41 +68,21 @@ zone_read = read_by zone_word all_zones zone_found
 
 place_found : (x : Place) → named place_word all_places (place_word x) ≡ Some x
 place_found FeedEntry = refl
-place_found FeedEnd = refl
-place_found Table = refl
-place_found Arm1 = refl
-place_found PressIn = refl
-place_found PressOut = refl
-place_found Arm2 = refl
-place_found DepEntry = refl
-place_found DepEnd = refl
-place_found Crane = refl
+place_found _ = refl
 
 pub place_read : (word : List ℕ) (x : Place) → (named place_word all_places word ≡ Some x) ↔ (word ≡ place_word x)
 place_read = read_by place_word all_places place_found
 
 posture_found : (x : Posture) → named posture_word all_postures (posture_word x) ≡ Some x
 posture_found Closed = refl
-posture_found Moving = refl
-posture_found OpenIn = refl
-posture_found OpenOut = refl
+posture_found _ = refl
 
 pub posture_read : (word : List ℕ) (x : Posture) → (named posture_word all_postures word ≡ Some x) ↔ (word ≡ posture_word x)
 posture_read = read_by posture_word all_postures posture_found
 
 pose_found : (x : Pose) → named pose_word all_poses (pose_word x) ≡ Some x
 pose_found Turning = refl
-pose_found Loading = refl
-pose_found Unloading = refl
-pose_found Travelling = refl
-pose_found Middle = refl
-pose_found Low = refl
-pose_found Top = refl
-pose_found Running = refl
-pose_found Landing = refl
-pose_found Halted = refl
-pose_found Offering = refl
-pose_found Standing = refl
+pose_found _ = refl
 
 pub pose_read : (word : List ℕ) (x : Pose) → (named pose_word all_poses word ≡ Some x) ↔ (word ≡ pose_word x)
 pose_read = read_by pose_word all_poses pose_found

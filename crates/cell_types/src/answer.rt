@@ -228,7 +228,7 @@ pub enum Answer {
 }
 
 /// A call of a machine, with its answer.
-#[derive(Clone, Copy, Debug, PartialEq, Eq)]
+#[derive(Clone, Copy, PartialEq, Eq)]
 pub struct Event {
     /// Whose call it was.
     pub machine: Machine,

@@ -1,6 +1,6 @@
 //! The calls, with their words, for scripts and for every interlock.
 ghost use Rattle.std.specs.Prelude.{◌≡◌, ◌↔◌, ◌∷◌, [], Some, option_map};
-ghost use Rattle.cell_types.specs.CallWords.{call_fields, verb_of, with_object};
+ghost use Rattle.cell_types.specs.CallWords.{call_fields, object_of, verb_of, with_object};
 
 use crate::pose::Pose;
 use crate::words::{Worded, find_by_word};
@@ -48,6 +48,22 @@ impl Call {
             Call::Inquire(_) => "inquire",
             Call::Stop => "stop",
             Call::Resume => "resume",
+        }
+    }
+
+    // The word of the zone or the pose that the call names.
+    fn object_word(self) -> Option<&'static str>
+        ensures { option_map (λ s. s.now) result ≡ object_of self }
+    {
+        match self {
+            Call::Advance | Call::Stop | Call::Resume => None,
+            Call::SetPose(pose) => Some(pose.word()),
+            Call::Claim(zone)
+            | Call::Give(zone)
+            | Call::Yield(zone)
+            | Call::Take(zone)
+            | Call::Release(zone)
+            | Call::Inquire(zone) => Some(zone.word()),
         }
     }
 
@@ -102,21 +118,9 @@ impl fmt::Display for Call {
 
     fn fmt<W: fmt::Write>(&self, f: &mut fmt::Formatter<W>) -> fmt::Result {
         let verb = self.verb();
-        match self {
-            Call::Advance | Call::Stop | Call::Resume => f.write_str(verb),
-            Call::SetPose(pose) => {
-                let pose = pose.word();
-                write!(f, "{verb} {pose}")
-            }
-            Call::Claim(zone)
-            | Call::Give(zone)
-            | Call::Yield(zone)
-            | Call::Take(zone)
-            | Call::Release(zone)
-            | Call::Inquire(zone) => {
-                let zone = zone.word();
-                write!(f, "{verb} {zone}")
-            }
+        match self.object_word() {
+            Some(object) => write!(f, "{verb} {object}"),
+            None => f.write_str(verb),
         }
     }
 }

@@ -6,7 +6,7 @@ use crate::words::{Worded, find_by_word};
 
 /// A machine of the production cell (LNCS 891), or the watch: an observer, which inquires, stops the
 /// cell and resumes it.
-#[derive(Clone, Copy, Debug, PartialEq, Eq, PartialOrd, Ord)]
+#[derive(Clone, Copy, Debug, PartialEq, Eq)]
 pub enum Machine {
     /// The feed belt.
     Feed,

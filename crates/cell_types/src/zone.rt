@@ -60,7 +60,7 @@ impl Worded for Zone {
 }
 
 /// How a plate passes through a zone: who gives it, who receives it, and from which place to which.
-#[derive(Clone, Copy, Debug, PartialEq, Eq)]
+#[derive(Clone, Copy, PartialEq, Eq)]
 pub struct Transfer {
     /// Who gives the plate.
     pub giver: Machine,
