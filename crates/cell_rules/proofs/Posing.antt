@@ -26,13 +26,8 @@ pub from_right : (Zone → Option Refusal) → Option Refusal
 from_right f = f Z1 or (f Z2 or (f Z3 or (f Z4 or (f Z5 or (f Z6 or None)))))
 
 six_right : (a b c d e g : Option Refusal) → a or b or c or d or e or g ≡ a or (b or (c or (d or (e or (g or None)))))
-six_right (Some r) b c d e g = refl
-six_right None (Some r) c d e g = refl
-six_right None None (Some r) d e g = refl
-six_right None None None (Some r) e g = refl
-six_right None None None None (Some r) g = refl
-six_right None None None None None (Some r) = refl
 six_right None None None None None None = refl
+six_right _ _ _ _ _ _ = refl
 
 -- ---- the zones of a pose
 
@@ -127,13 +122,8 @@ abbrev running : ModelState → Machine → Pose → Bool
 running s m p = same_pose p Running && ((same_machine m Deposit && is_full s DepEnd) || (same_machine m Feed && is_full s FeedEnd && not (owns s Feed Z1)))
 
 seven_tests : (a b c d e g h : Bool) (r : Refusal) → then_some a r or then_some b r or then_some c r or then_some d r or then_some e r or then_some g r or then_some h r ≡ then_some (a || b || c || d || e || g || h) r
-seven_tests true b c d e g h r = refl
-seven_tests false true c d e g h r = refl
-seven_tests false false true d e g h r = refl
-seven_tests false false false true e g h r = refl
-seven_tests false false false false true g h r = refl
-seven_tests false false false false false true h r = refl
 seven_tests false false false false false false h r = refl
+seven_tests _ _ _ _ _ _ _ _ = refl
 
 any_test : ModelState → Machine → Pose → Bool
 any_test s m p = opening s m p Z1 || opening s m p Z2 || opening s m p Z3 || opening s m p Z4 || opening s m p Z5 || opening s m p Z6 || running s m p

@@ -7,8 +7,8 @@ use Rattle.cell_rules.specs.declared.heard.LineFault.{LineFault}
 use Rattle.cell_rules.specs.declared.heard.LineFault.TheVariants.{Memory}
 use Rattle.cell_rules.specs.declared.heard.Heard.{Heard}
 use Rattle.cell_rules.specs.declared.bench.Bench.{Bench}
-use Rattle.cell_rules.specs.declared.bench.Outcome.{Outcome}
-use Rattle.cell_rules.specs.declared.bench.Outcome.TheVariants.{Nothing, Settled, Busy, OutOfMemory}
+use Rattle.cell_rules.specs.declared.bench.LastCall.{LastCall}
+use Rattle.cell_rules.specs.declared.bench.LastCall.TheVariants.{Nothing, Settled, Busy, OutOfMemory}
 use Rattle.cell_rules.specs.ModelState.{ModelState}
 use Rattle.cell_rules.specs.Benches.{Desk}
 
@@ -24,11 +24,11 @@ abbrev pub settled_at : ModelState → Event → Call × Result Reply LineFault
 settled_at s e = (e.call, Ok (settled e.answer s.stamp))
 
 -- the last call and what came back, by how it ended
-abbrev pub last_of : ModelState → List Event → Outcome → Option (Call × Result Reply LineFault)
+abbrev pub last_of : ModelState → List Event → LastCall → Option (Call × Result Reply LineFault)
 last_of s h Nothing = None
 last_of s h Settled = option_map (settled_at s) (last_event h)
 last_of s h (Busy c) = Some (c, Ok (busy 1 s.stamp))
 last_of s h (OutOfMemory c) = Some (c, Err Memory)
 
 abbrev pub heard_of : Bench → Heard
-heard_of b = record { asks = b.asks; last = last_of b.state b.history.items b.outcome }
+heard_of b = record { asks = b.asks; last = last_of b.state b.history.items b.last_call }

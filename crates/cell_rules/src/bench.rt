@@ -10,7 +10,7 @@ use std::alloc::Global;
 
 // How the last call ended. A call that was settled is the last event of the history.
 #[derive(Clone, Copy)]
-enum Outcome {
+enum LastCall {
     Nothing,
     Settled,
     Busy(Call),
@@ -29,7 +29,7 @@ pub struct Bench {
     machine: Machine,
     busy: bool,
     asks: u64,
-    outcome: Outcome,
+    last_call: LastCall,
     ghost kept: { ∥ IsHistory opening state history.items ∥₁ },
 }
 
@@ -59,7 +59,7 @@ impl Bench {
             machine: Machine::Watch,
             busy: false,
             asks: 0,
-            outcome: Outcome::Nothing,
+            last_call: LastCall::Nothing,
         }
     }
 
@@ -77,16 +77,16 @@ impl Bench {
     /// The state that the history leads to.
     #[tactic(auto, using(crate::proofs::SeenLemmas::state_reached))]
     pub fn state(&self) -> State
-        ensures state { result ≡ self.now.state }
-        ensures reached { result ≡ after self.now.opening self.now.history.items }
+        ensures state { result ≡ (desk_of self.now).state }
+        ensures reached { result ≡ after (desk_of self.now).opening (desk_of self.now).history }
     {
         self.state
     }
 
     /// Each call that was answered since the opening, the oldest first.
     pub fn history(&self) -> &[Event]
-        ensures events { result.now ≡ self.now.history.items }
-        ensures lawful { LawfulThroughout self.now.opening result.now }
+        ensures events { result.now ≡ (desk_of self.now).history }
+        ensures lawful { LawfulThroughout (desk_of self.now).opening result.now }
     {
         &self.history
     }
@@ -97,14 +97,14 @@ impl Bench {
         ensures { result ≡ (heard_of self.now).last }
     {
         let stamp = self.state.stamp();
-        match self.outcome {
-            Outcome::Nothing => None,
-            Outcome::Settled => match self.history.last() {
+        match self.last_call {
+            LastCall::Nothing => None,
+            LastCall::Settled => match self.history.last() {
                 Some(event) => Some((event.call, Ok(Reply::Settled(event.answer, stamp)))),
                 None => None,
             },
-            Outcome::Busy(call) => Some((call, Ok(Reply::Busy { lost: 1, stamp }))),
-            Outcome::OutOfMemory(call) => Some((call, Err(LineFault::Memory))),
+            LastCall::Busy(call) => Some((call, Ok(Reply::Busy { lost: 1, stamp }))),
+            LastCall::OutOfMemory(call) => Some((call, Err(LineFault::Memory))),
         }
     }
 }
@@ -146,7 +146,7 @@ impl Line for Bench {
     fn ask(&mut self, call: Call) -> Result<Reply, LineFault> {
         self.asks = self.asks.wrapping_add(1);
         if self.busy {
-            self.outcome = Outcome::Busy(call);
+            self.last_call = LastCall::Busy(call);
             return Ok(Reply::Busy {
                 lost: 1,
                 stamp: self.state.stamp(),
@@ -162,11 +162,11 @@ impl Line for Bench {
         match self.history.push(event) {
             Ok(()) => {
                 apply_answer(&mut self.state, machine, call, answer);
-                self.outcome = Outcome::Settled;
+                self.last_call = LastCall::Settled;
                 Ok(Reply::Settled(answer, self.state.stamp()))
             }
             Err(_) => {
-                self.outcome = Outcome::OutOfMemory(call);
+                self.last_call = LastCall::OutOfMemory(call);
                 Err(LineFault::Memory)
             }
         }

@@ -15,7 +15,7 @@ pub enum LineFault {
 pub type Answered = Result<Reply, LineFault>;
 
 /// What a line remembers of its calls.
-#[derive(Clone, Copy, Debug, PartialEq, Eq)]
+#[derive(Clone, Copy, PartialEq, Eq)]
 pub struct Heard {
     /// How many calls were asked, refused ones too. It wraps round.
     pub asks: u64,

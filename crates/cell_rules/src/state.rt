@@ -69,7 +69,7 @@ impl State {
     }
 
     /// The state of these zones, places and stamp, stopped or not, if they are sound.
-    pub fn checked(zones: Zones, full: Places, stamp: u32, stopped: bool) -> Option<State>
+    pub fn from_parts(zones: Zones, full: Places, stamp: u32, stopped: bool) -> Option<State>
         ensures some { IsSome result ↔ IsSound (model_state zones full stamp stopped) }
         ensures value { IfSome result (λ s. s ≡ model_state zones full stamp stopped) }
     {
@@ -152,7 +152,7 @@ impl State {
     /// The first stamp plus the number of Done calls.
     pub fn stamp(&self) -> u32
         ensures stamp { result ≡ self.now.stamp }
-        ensures small { result ≤ 1048575 }
+        ensures small { result ≤ last_stamp }
     {
         self.stamp
     }

@@ -60,7 +60,7 @@ fn checked_owner(machine: Machine) -> Option<Option<Machine>> {
     let mut held = zones.get(Zone::Z1);
     held.owner = Some(machine);
     zones.set(Zone::Z1, held);
-    let checked = State::checked(zones, state.full(), 8, false)?;
+    let checked = State::from_parts(zones, state.full(), 8, false)?;
     Some(checked.owner(Zone::Z1))
 }
 

@@ -667,7 +667,7 @@ fn marks_of_words(rt: HostRuntime) {
 /// The mark of a start, and the marks of its zones and places as they are and with this mark.
 fn marks(places: [bool; 10], stopped: bool) -> Option<(bool, bool)> {
     let state = State::start(places, 0).ok()?;
-    let marked = State::checked(state.zones(), state.full(), state.stamp(), stopped)?;
+    let marked = State::from_parts(state.zones(), state.full(), state.stamp(), stopped)?;
     Some((state.stopped(), marked.stopped()))
 }
 

@@ -97,7 +97,7 @@ fn sound_state_told(word: u64) -> Option<State>
     ensures value { IfSome result (λ state. state ≡ state_told word) }
 {
     let stopped = bits(word, MARK_BIT, 1) == 1;
-    State::checked(zones_told(word), places_told(word), stamp_of(word), stopped)
+    State::from_parts(zones_told(word), places_told(word), stamp_of(word), stopped)
 }
 
 /// The sound state that packs to a word, or `None` if there is none: a bit above the mark is set,

@@ -28,7 +28,7 @@ pub(super) fn state_of(stamp: u32, owned: &[Owned], stopped: bool) -> Option<Sta
         };
         zones.set(*zone, held);
     }
-    State::checked(zones, Places::from_flags([false; 10]), stamp, stopped)
+    State::from_parts(zones, Places::from_flags([false; 10]), stamp, stopped)
 }
 
 const STOPPED: Outcome = Outcome::Settled(Answer::Refused(Refusal::Stopped), 2);

@@ -387,7 +387,7 @@ fn compares_the_mark_of_the_end(rt: HostRuntime) {
     let start = start_at(&rt, EMPTY, 0);
     let journals = journals_of(&rt, rt.alloc(), &STOPPED, &[]);
     for (stopped, fault) in [(true, None), (false, Some(AuditFault::End))] {
-        let end = State::checked(start.zones(), start.full(), 1, stopped).expect(&rt, "an end");
+        let end = State::from_parts(start.zones(), start.full(), 1, stopped).expect(&rt, "an end");
         let got = fault_of(&rt, rt.alloc(), &journals, &start, Some(&end));
         assert!(rt; got == fault, "{fault:?}");
     }
@@ -400,13 +400,13 @@ fn compares_the_end_whole(rt: HostRuntime) {
     let end = end_of_three_calls(&start);
     let mut full = end.full();
     full.set(Place::Crane, true);
-    let late = State::checked(start.zones(), start.full(), 3, false).expect(
+    let late = State::from_parts(start.zones(), start.full(), 3, false).expect(
         &rt,
         "the start's zones",
     );
-    let later = State::checked(start.zones(), start.full(), 5, false).expect(&rt, "a later one");
-    let fuller = State::checked(end.zones(), full, 3, false).expect(&rt, "one plate more");
-    let stopped = State::checked(end.zones(), end.full(), 3, true).expect(&rt, "a stopped one");
+    let later = State::from_parts(start.zones(), start.full(), 5, false).expect(&rt, "a later one");
+    let fuller = State::from_parts(end.zones(), full, 3, false).expect(&rt, "one plate more");
+    let stopped = State::from_parts(end.zones(), end.full(), 3, true).expect(&rt, "a stopped one");
     for (end, fault) in [
         (&end, None),
         (&late, Some(AuditFault::End)),

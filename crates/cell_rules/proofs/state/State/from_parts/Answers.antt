@@ -1,6 +1,6 @@
 use Rattle.cell_rules.proofs.Names.{sym, ◌∙◌, refl, model_state}
 use Rattle.cell_rules.proofs.Tested.{sound_by_test, test_of_sound}
-use Rattle.cell_rules.proofs.state.State.checked.Goals as goal
+use Rattle.cell_rules.proofs.state.State.from_parts.Goals as goal
 
 pub invariant_of-result : goal.invariant_of-result
 invariant_of-result c = sound_by_test (model_state c.args.zones c.args.full c.args.stamp c.args.stopped) (sym (c.is_sound.ensures c.args.stopped) ∙ c.if-is_sound.true)
