@@ -1,5 +1,5 @@
 -- The word after a call is that of the next state, by what the call's guards give.
-use Rattle.cell_word.proofs.Names.{◌≡◌, ℕ, ◌+◌, ◌<◌, ◌^◌, arith, Option, Some, None, Result, ◌∙◌, ap, sym, refl, subst, Machine, Zone, Call, Inquire, Refusal, Done, ModelState, IsSound, reply, refusal, done_unless, next, next_by, packed, with_written, written, first_refusal, unless, guards_of, Pattern, next_keeps}
+use Rattle.cell_word.proofs.Names.{◌≡◌, ◌≢◌, ℕ, ◌+◌, ◌<◌, ◌^◌, arith, Option, Some, None, Result, ◌∙◌, ap, sym, refl, subst, Machine, Zone, Call, Inquire, Refusal, Answer, Done, Shown, Refused, ModelState, IsSound, reply, refusal, done_unless, next, next_by, packed, with_written, written, first_refusal, unless, guards_of, Pattern, next_keeps}
 use Rattle.std.specs.Prelude.{IfOk}
 use Rattle.cell_word.specs.Changes.{word_after}
 use Rattle.cell_word.proofs.RoundTrip.{laid_out}
@@ -51,3 +51,12 @@ room_of w known m c other is =
 pub after_of : {x : ℕ} {r : Result Pattern Refusal} {call : Call} (w : ℕ) (m : Machine) (c : Call) → call ≡ c → IsNoInquiry c → r ≡ unless (first_refusal w (guards_of m c)) (written m c) → x ≡ word_after w r
     → (s : ModelState) → IsSound s → packed s ≡ w → x ≡ packed (next s m call)
 after_of w m c call other is after s sound e = after ∙ ap (word_after w) is ∙ after_guards s sound m c other w e ∙ ap (λ k. packed (next s m k)) (sym call)
+
+-- a call that changes the word is Done
+done_by : (a : Answer) (s : ModelState) (m : Machine) (c : Call) (w : ℕ) → packed s ≡ w → packed (next_by a s m c) ≢ w → Done ≡ a
+done_by Done s m c w e changed = refl
+done_by (Shown o f q) s m c w e changed = absurd (changed e)
+done_by (Refused r) s m c w e changed = absurd (changed e)
+
+pub done_if_changed : {x : ℕ} (s : ModelState) (m : Machine) (c : Call) (w : ℕ) → packed s ≡ w → x ≢ w → x ≡ packed (next s m c) → Done ≡ reply s m c
+done_if_changed s m c w e changed is = done_by (reply s m c) s m c w e (λ same. changed (is ∙ same))

@@ -1,6 +1,6 @@
 -- What a Done call writes is what it changes.
 use Rattle.cell_word.proofs.Names.{◌≡◌, ℕ, ◌+◌, ◌*◌, ◌^◌, ◌<◌, Bool, true, false, cond, ◌||◌, ◌&&◌, not, nat_eq, nat_lt, Option, Some, None, is_none, is_some, unwrap_or, refl, sym, ap, ap₂, ◌∙◌, arith, eqb-true, ltb-true, if◌then◌else◌, bit_and, bit_or, and_parts, and_mask, or_comm, or_shifted, Machine, Watch, Zone, Transfer, Place, Posture, Closed, Pose, Call, Claim, Give, Yield, Take, Release, SetPose, Advance, Inquire, Stop, Resume}
-use Rattle.cell_word.proofs.Names.{Done, transfer_of, posture_of, own_move_of, same_machine, same_zone, same_place, one_machine, zone_in, put_zone, PlaceSet, has, ModelState, model_state, zone_at, is_full, one_if, IsSound, implies, is_party, is_owned_by, reply, changed, next, next_by, emptied, filled, worked, posed, halted, is_belt_of, ZoneState, and_left, and_right, and_both, implied, all_bools, all_machines, from_machines}
+use Rattle.cell_word.proofs.Names.{Done, transfer_of, posture_of, own_move_of, same_machine, same_zone, same_place, one_machine, put_zone, PlaceSet, has, ModelState, model_state, zone_at, is_full, one_if, IsSound, implies, is_party, reply, changed, next, next_by, emptied, filled, worked, posed, halted, is_belt_of, ZoneState, and_right, and_both, implied, all_bools, all_machines, from_machines}
 use Rattle.cell_word.proofs.Names.{all_zones, from_zones, from_places, all_states, from_states, bools, machines, zones, postures, poses, places, holds2, holds3, holds4, put_cases, zone_in-map, has-put, none_or, fresh, may_claim, may_give, may_yield, may_take, may_release, claim_done, give_done, yield_done, take_done, release_done, stop_done, resume_done, done_none, take_finds, zone_bit, place_bit, mark_bit, owner_code, posture_code, packed}
 use Rattle.cell_word.proofs.Names.{bits_of, with_written, anything, mark_is, IsOffStamp, written, received_by, row_received, mark_becomes, Pattern}
 use Rattle.cell_rules.specs.Names.{other_party}

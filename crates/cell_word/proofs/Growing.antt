@@ -1,5 +1,5 @@
 -- Another field in a word: the zones and the places, one by one.
-use Rattle.cell_word.proofs.Names.{◌≡◌, ℕ, zero, suc, ◌+◌, ◌*◌, ◌<◌, ◌^◌, Bool, List, [], ◌∷◌, ◌++◌, length, map, take, get_or, refl, sym, ap, ◌∙◌, subst, arith, flat_map, take_more, map-append, append-nil, append_assoc, sum_by-append, sum_by_push, flat_map-append, Zone, Place, all_places, ZoneMap, zone_in, put_zone, put_each, ModelState, zone_at, is_full, one_if, ZoneState, Field, term_of, word_of, zone_bit, zone_fields, fields_at, place_bit, place_field}
+use Rattle.cell_word.proofs.Names.{◌≡◌, ℕ, suc, ◌+◌, ◌*◌, ◌<◌, ◌^◌, Bool, List, [], ◌∷◌, ◌++◌, length, map, take, get_or, refl, sym, ap, ◌∙◌, subst, arith, flat_map, take_more, map-append, append-nil, append_assoc, sum_by-append, sum_by_push, flat_map-append, Zone, Place, all_places, ZoneMap, zone_in, put_zone, put_each, ModelState, zone_at, is_full, one_if, ZoneState, Field, term_of, word_of, zone_bit, zone_fields, fields_at, place_bit, place_field}
 use Rattle.cell_rules.specs.Types.{all_zones}
 
 put_each-push : (f : Zone → ZoneState → ZoneState) (zs : List Zone) (z : Zone) (m : ZoneMap) → put_each f (zs ++ z ∷ []) m ≡ put_zone (put_each f zs m) z (f z (zone_in (put_each f zs m) z))

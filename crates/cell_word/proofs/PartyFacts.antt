@@ -1,5 +1,5 @@
 -- What holds of the two parties of a zone.
-use Rattle.cell_word.proofs.Names.{◌≡◌, Option, refl, ap, ◌∙◌, Machine, Zone, Z1, Z2, Z3, Z4, Z5, Z6, guest_of, transfer_of, same_machine, other_party, machine_of, opposite, is_guest, giving_posture, owner_is, row_given, row_received, owner_becomes, Party, Host, Guest}
+use Rattle.cell_word.proofs.Names.{◌≡◌, Option, refl, ap, ◌∙◌, Machine, Zone, Z1, guest_of, transfer_of, same_machine, other_party, machine_of, opposite, is_guest, giving_posture, owner_is, row_given, row_received, owner_becomes, Party, Host}
 
 pub given_by_party : (z : Zone) (s : Party) → transfer_of z (giving_posture s) ≡ row_given (machine_of z s) z
 given_by_party Z1 Host = refl

@@ -1,13 +1,13 @@
 -- The guards of poses and of work are the refusals of these calls.
-use Rattle.cell_word.proofs.Names.{◌≡◌, ℕ, Bool, true, false, ◌||◌, ◌&&◌, not, Option, Some, None, is_none, is_some, option_map, unwrap_or, List, [], ◌∷◌, ◌++◌, refl, sym, ap, ap₂, ◌∙◌, subst, if◌then◌else◌, bit_or, option_or, option_eq, then_some, flat_map, append-nil, Machine, Feed, Robot, Press, Deposit, Watch, Zone, Z1, Z2, Z3, Z4, Z5, Z6, Place, FeedEntry, FeedEnd, PressIn, PressOut, DepEntry, DepEnd, Posture, Closed, Moving, OpenIn}
-use Rattle.cell_word.proofs.Names.{OpenOut, Pose, Running, Refusal, NotOwner, PlateInZone, NoPlate, PlaceFull, Jump, NotAtWork, NoPose, Stopped, host_of, guest_of, posture_of, same_machine, same_posture, same_pose, one_machine, Table, ModelState, zone_at, is_full, IsSound, implies, is_owned_by, ZoneState, and_left, and_right, and_both, implied, all_bools, from_bools, all_zones, all_postures, bools, machines, zones, postures, poses}
+use Rattle.cell_word.proofs.Names.{◌≡◌, ℕ, Bool, true, false, ◌||◌, ◌&&◌, not, Option, Some, None, is_none, is_some, option_map, unwrap_or, List, [], ◌∷◌, ◌++◌, refl, sym, ap, ap₂, ◌∙◌, subst, if◌then◌else◌, bit_or, option_or, option_eq, then_some, flat_map, append-nil, Machine, Feed, Press, Deposit, Zone, Z1, Z2, Z3, Z4, Z5, Z6, Place, FeedEntry, FeedEnd, PressIn, PressOut, DepEntry, DepEnd, Posture, Closed, Moving, OpenIn}
+use Rattle.cell_word.proofs.Names.{Pose, Running, Refusal, NotOwner, PlateInZone, NoPlate, PlaceFull, Jump, NotAtWork, NoPose, Stopped, host_of, guest_of, posture_of, same_machine, same_posture, same_pose, one_machine, Table, ModelState, zone_at, is_full, IsSound, implies, is_owned_by, ZoneState, and_left, and_right, and_both, implied, from_bools, all_zones, all_postures, bools, machines, zones, postures, poses}
 use Rattle.cell_word.proofs.Names.{states, pairs, holds2, holds3, none_then_not, packed, anything, nothing, when, both, owner_is, place_is, mark_is, guard, first_refusal, Guard}
-use Rattle.cell_types.specs.declared.machine.Machine.TheVariants.{Table as TableMachine, Crane as CraneMachine}
+use Rattle.cell_types.specs.declared.machine.Machine.TheVariants.{Table as TableMachine}
 use Rattle.cell_rules.specs.Refusals
 use Rattle.cell_word.specs.Guards as guards
 use Rattle.cell_word.proofs.SameAnswer.{same_bool, one_bool}
-use Rattle.cell_word.proofs.Windows.{and_or, first-append, all_within, first-window}
-use Rattle.cell_word.proofs.Seen.{zone_window, zone_word, place_window, place_word, zone_shown, place_shown, zone_and_place_shown, is_lawful, lawful_at}
+use Rattle.cell_word.proofs.Windows.{and_or, first-append}
+use Rattle.cell_word.proofs.Seen.{zone_window, zone_word, place_window, place_word, place_shown, zone_and_place_shown, is_lawful, lawful_at}
 use Rattle.cell_word.proofs.ZoneGuards.{or_none, or_assoc, or_next, blind, always_seen, mark_seen, way_seen, worn_seen, Row, row_test, row_seen, on_zone, zone_seen, on_zone_and_place, zone_and_place_seen}
 
 -- ---- guards on the five bits of a zone, for each zone and posture

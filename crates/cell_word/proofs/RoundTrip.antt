@@ -1,6 +1,6 @@
 -- The word of a sound state encodes that state.
-use Rattle.cell_word.proofs.Names.{◌≡◌, ℕ, ◌+◌, ◌-◌, ◌*◌, ◌/◌, ◌<◌, ◌≤◌, Bool, true, false, ◌||◌, if◌then◌else◌, nat_eq, Option, Some, None, is_none, List, [], ◌∷◌, ◌++◌, map, get_or, refl, sym, ap, ◌∙◌, subst, arith, rules, ◌↔◌, All, flat_map, All-nil, All-cons, All-append, All-map, Machine, Zone, Z1, Z2, Z3, Z4, Z5, Z6, Place, FeedEntry, FeedEnd, Arm1, PressIn, PressOut, Arm2, DepEntry, DepEnd, Posture, Closed, Moving, OpenIn}
-use Rattle.cell_word.proofs.Names.{OpenOut, host_of, guest_of, same_machine, one_machine, all_places, Table, Crane, ModelState, zone_at, is_full, one_if, last_stamp, IsSound, has_lawful_owner, is_owned_by, ZoneState, Field, field, zone_bit, place_bit, stamp_bit, mark_bit, owner_code, posture_code, zone_fields, fields_at, place_field, last_fields, fields_of, packed, bits_of, owner_of_code, posture_of_code, is_bit_set, is_told_full, zone_told, state_told, Fits, SideBySide, ReadsBack, IsLaidOut}
+use Rattle.cell_word.proofs.Names.{◌≡◌, ℕ, ◌+◌, ◌-◌, ◌*◌, ◌/◌, ◌<◌, ◌≤◌, Bool, true, false, ◌||◌, if◌then◌else◌, nat_eq, Option, Some, None, is_none, List, [], ◌∷◌, ◌++◌, map, get_or, refl, sym, ap, ◌∙◌, subst, arith, rules, ◌↔◌, All, flat_map, All-nil, All-cons, All-append, All-map, Machine, Zone, Z1, Z2, Z3, Z4, Z5, Z6, Place, FeedEntry, FeedEnd, Arm1, PressIn, PressOut, Arm2, DepEntry, DepEnd, Posture, Closed}
+use Rattle.cell_word.proofs.Names.{host_of, guest_of, same_machine, one_machine, all_places, Table, Crane, ModelState, zone_at, is_full, one_if, last_stamp, IsSound, has_lawful_owner, is_owned_by, ZoneState, Field, field, zone_bit, place_bit, stamp_bit, mark_bit, owner_code, posture_code, zone_fields, fields_at, place_field, last_fields, fields_of, packed, bits_of, owner_of_code, posture_of_code, is_bit_set, is_told_full, zone_told, state_told, Fits, SideBySide, ReadsBack, IsLaidOut}
 use Rattle.cell_rules.specs.Types.{all_zones}
 use Rattle.cell_word.proofs.Fields.{whole_word_below, whole_word_back}
 

@@ -1,6 +1,6 @@
 -- A word is a sound state's exactly if the masks say so.
-use Rattle.cell_word.proofs.Names.{◌≡◌, ℕ, zero, suc, ◌+◌, ◌*◌, ◌/◌, ◌%◌, ◌^◌, ◌<◌, ◌≤◌, Bool, true, false, ◌&&◌, not, nat_eq, Option, Some, None, refl, sym, ap, ap₂, ◌∙◌, arith, eqb-true, eq-eqb, bit_and, bit_or, list_all, and-false, and_parts, not-true, shr-shr, mod_below, five, Zone, Z1, Z2, Z3, Z4, Z5, Z6, Transfer, Place, FeedEntry, FeedEnd, Arm1, PressIn, PressOut, Arm2, DepEntry, DepEnd, Posture, Closed, Moving, OpenIn, OpenOut}
-use Rattle.cell_word.proofs.Names.{transfer_of, same_posture, one_posture, Machine, Table, Crane, PlaceSet, ModelState, zone_at, is_full, one_if, IsSound, implies, has_lawful_owner, is_lawful_plate, is_onto_full, is_open_to_guest, moves_by_host, is_of_some_pose, has_one_plate, is_received_by, ZoneState, and_left, and_right, and_both, implied, all_bools, from_bools, from_zones, all_pass, zones, postures, states, holds2, zone_bit}
+use Rattle.cell_word.proofs.Names.{◌≡◌, ℕ, zero, suc, ◌+◌, ◌*◌, ◌/◌, ◌%◌, ◌^◌, ◌<◌, ◌≤◌, Bool, true, false, ◌&&◌, not, nat_eq, Option, Some, None, refl, sym, ap, ap₂, ◌∙◌, arith, eqb-true, eq-eqb, bit_and, bit_or, list_all, and-false, and_parts, not-true, shr-shr, mod_below, five, Zone, Z1, Z3, Transfer, Place, FeedEntry, PressIn, PressOut, Posture, Closed, Moving, OpenIn, OpenOut}
+use Rattle.cell_word.proofs.Names.{transfer_of, same_posture, one_posture, Machine, PlaceSet, ModelState, zone_at, is_full, one_if, IsSound, implies, has_lawful_owner, is_lawful_plate, is_onto_full, is_open_to_guest, moves_by_host, is_of_some_pose, has_one_plate, is_received_by, ZoneState, and_left, and_right, and_both, implied, all_bools, from_bools, from_zones, all_pass, zones, postures, states, holds2, zone_bit}
 use Rattle.cell_word.proofs.Names.{place_bit, mark_bit, packed, bits_of, is_bit_set, owner_of_code, posture_of_code, zone_told, state_told, stands, both, nothing, posture_is, place_is, field_is, zone_codes, onto_full, is_lawful_zone, is_lawful_press, is_state_word, Pattern}
 use Rattle.cell_types.specs.Everything.{all_zones as every_zone}
 use Rattle.cell_word.proofs.RoundTrip.{told_back, laid_out}

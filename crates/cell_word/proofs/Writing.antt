@@ -1,7 +1,6 @@
 -- A word into which a pattern is written: its fields, and the state that it encodes.
-use Rattle.cell_word.proofs.Names.{◌≡◌, ℕ, ◌+◌, ◌-◌, ◌*◌, ◌/◌, ◌%◌, ◌^◌, ◌<◌, List, [], ◌∷◌, ◌++◌, map, get_or, sym, ap, ap₂, ◌∙◌, subst, arith, mod-eq_of_lt, bit_and, bit_or, All, flat_map, div-eq_of_lt, pow-add, shr-shr, div-add-mod', and_shr, and_mod, or_shr, or_mod, and-not, and_comm, and_mask, or_comm, or_lt, mod_below, All-nil, All-cons, All-head, All-tail, All-append, All-map, Zone, Z1, Z2, Z3, Z4, Z5, Z6, Place, FeedEntry}
-use Rattle.cell_word.proofs.Names.{FeedEnd, Arm1, PressIn, PressOut, Arm2, DepEntry, DepEnd, all_places, Table, Crane, ModelState, zone_at, is_full, one_if, ZoneState, Field, field, word_of, zone_bit, place_bit, stamp_bit, mark_bit, owner_code, posture_code, zone_fields, fields_at, place_field, last_fields, fields_of, packed, bits_of, SideBySide, ReadsBack, IsOffStamp, with_written}
-use Rattle.cell_rules.specs.Types.{all_zones}
+use Rattle.cell_word.proofs.Names.{◌≡◌, ℕ, ◌+◌, ◌-◌, ◌*◌, ◌/◌, ◌%◌, ◌^◌, ◌<◌, List, [], ◌∷◌, sym, ap, ap₂, ◌∙◌, subst, arith, mod-eq_of_lt, bit_and, bit_or, All, div-eq_of_lt, pow-add, shr-shr, div-add-mod', and_shr, and_mod, or_shr, or_mod, and-not, and_comm, and_mask, or_comm, or_lt, mod_below, All-head, All-tail, Zone, Z1, Place, FeedEntry}
+use Rattle.cell_word.proofs.Names.{ModelState, zone_at, is_full, one_if, ZoneState, Field, field, word_of, zone_bit, place_bit, stamp_bit, mark_bit, owner_code, posture_code, zone_fields, fields_of, packed, bits_of, SideBySide, ReadsBack, IsOffStamp, with_written}
 use Rattle.cell_word.proofs.Fields.{word-cons, arranged}
 use Rattle.cell_word.proofs.RoundTrip.{ZoneRead, owner_fits, flag_fits, posture_fits, all_fields, all_three, side_by_side}
 use Rattle.cell_word.proofs.Seen.{zone_code}

@@ -1,6 +1,6 @@
 -- The guards of the calls about a zone are the refusals of these calls.
 use Rattle.cell_word.proofs.Names.{◌≡◌, ℕ, ◌*◌, ◌^◌, ◌≤◌, Bool, true, false, cond, ◌||◌, ◌&&◌, not, nat_eq, nat_lt, Option, Some, None, is_none, option_map, List, [], ◌∷◌, ◌++◌, refl, sym, ap, ap₂, ◌∙◌, arith, bit_and, bit_or, option_or, then_some, and_le_r, nat_tests, Machine, Feed, Watch, Zone, Z1, Z6, Transfer, Place, FeedEnd, Posture, Closed, Moving, OpenIn, OpenOut, Refusal, NotParty, Held, AlreadyMine, Shut, NotOwner, PlateInZone}
-use Rattle.cell_word.proofs.Names.{NoPlate, PlaceFull, WrongWay, InUse, Stopped, NotStopped, guest_of, transfer_of, same_machine, same_zone, same_posture, ModelState, zone_at, is_full, last_stamp, IsSound, implies, is_open, is_owned_by, is_party, ZoneState, and_left, and_right, implied, Finite, from_bools, all_machines, all_zones, bools, machines, zones, postures, places, states, pairs, holds2, holds3, none_or, none_then, packed, stands}
+use Rattle.cell_word.proofs.Names.{NoPlate, PlaceFull, WrongWay, InUse, Stopped, NotStopped, guest_of, transfer_of, same_machine, same_zone, same_posture, ModelState, zone_at, is_full, last_stamp, IsSound, implies, is_open, is_owned_by, ZoneState, and_left, and_right, implied, Finite, from_bools, all_machines, all_zones, bools, machines, zones, postures, places, states, pairs, holds2, holds3, none_or, none_then, packed, stands}
 use Rattle.cell_word.proofs.Names.{anything, nothing, when, both, owner_is, flag_is, posture_is, place_is, mark_is, guard, first_refusal, Guard}
 use Rattle.cell_rules.specs.Names.{other_party}
 use Rattle.cell_rules.specs.Refusals

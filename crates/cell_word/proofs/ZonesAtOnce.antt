@@ -1,6 +1,6 @@
 -- The zones of a word without plates in zones, all tested at once.
 use Rattle.cell_word.proofs.Names.{◌≡◌, ◌↔◌, ℕ, ◌+◌, ◌-◌, ◌*◌, ◌/◌, ◌%◌, ◌^◌, min, max, Bool, true, false, ◌&&◌, not, nat_eq, refl, sym, ap, ap₂, ◌∙◌, arith, eqb-true, eq-eqb, bit_and, bit_or, bit_xor, bit_at, list_all, and-false, add_comm, shr-shr, xor_shr, le_or_l, le_or_r, bit_at_and, bit_at_or, bit_at_xor, Zone, Z1, Z2, Z3, Z4, Z5, Z6, PressIn, PressOut, Posture, OpenIn, OpenOut, transfer_of, same_posture, zone_at, is_full, is_onto_full}
-use Rattle.cell_word.proofs.Names.{implies, and_both, implied, all_zones, from_zones, all_pass, each_zone, zone_bit, bits_of, is_bit_set, posture_of_code, state_told, stands, flag_is, place_is, zone_codes, onto_full, is_lawful_zone, is_lawful_press}
+use Rattle.cell_word.proofs.Names.{implies, and_both, implied, from_zones, all_pass, each_zone, zone_bit, bits_of, is_bit_set, posture_of_code, state_told, stands, flag_is, place_is, zone_codes, onto_full, is_lawful_zone, is_lawful_press}
 use Rattle.cell_types.specs.Everything.{all_zones as every_zone}
 use Rattle.cell_word.proofs.SameAnswer.{same_bool, one_bool}
 use Rattle.cell_word.proofs.Windows.{and_or, field_shown, field_test, all_below, from_below, five_fit}

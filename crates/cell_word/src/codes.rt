@@ -30,6 +30,7 @@ pub fn place_bit(place: Place) -> u32
     30 + (place as u32)
 }
 
+/// The code of an owner: 0 for none, 1 for the host, 2 for any other machine.
 #[inline(always)]
 pub fn owner_code(zone: Zone, owner: Option<Machine>) -> u64
     ensures code { result ≡ layout.owner_code zone owner }
@@ -54,6 +55,7 @@ pub fn owner_of_code(zone: Zone, code: u64) -> Option<Machine>
     }
 }
 
+/// The code of a posture.
 #[inline(always)]
 pub fn posture_code(posture: Posture) -> u64
     ensures code { result ≡ layout.posture_code posture }
@@ -67,6 +69,7 @@ pub fn posture_code(posture: Posture) -> u64
     }
 }
 
+/// The posture with a code; a number that is no code reads as 3 does.
 #[inline(always)]
 pub fn posture_of_code(code: u64) -> Posture
     ensures { result ≡ reading.posture_of_code code }

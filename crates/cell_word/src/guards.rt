@@ -15,7 +15,7 @@ use cell_rules::LAST_STAMP;
 use cell_types::{Call, Machine, Place, Posture, Refusal, Transfer, Zone};
 
 #[inline(always)]
-pub(crate) fn worn_guard() -> Guard
+fn worn_guard() -> Guard
     ensures { result ≡ guards.worn }
 {
     Pattern::stamp(LAST_STAMP).refuses(Refusal::Worn)
@@ -38,7 +38,7 @@ fn require_running(word: u64) -> Result<(), Refusal>
 
 /// A stamp has to be left. One comparison finds that out where the cell isn't stopped.
 #[inline(always)]
-fn require_stamp(word: u64) -> Result<(), Refusal>
+pub(crate) fn require_stamp(word: u64) -> Result<(), Refusal>
     ensures { result ≡ guards.checked word (guards.worn ∷ []) }
 {
     if word >> STAMP_BIT < u64::from(LAST_STAMP) {
@@ -288,7 +288,7 @@ pub(crate) fn stop(word: u64, machine: Machine) -> Result<Pattern, Refusal>
 {
     require_watch(machine)?;
     require_running(word)?;
-    worn_guard().pass(word)?;
+    require_stamp(word)?;
     Ok(mark_pattern(true))
 }
 
@@ -299,7 +299,7 @@ pub(crate) fn resume(word: u64, machine: Machine) -> Result<Pattern, Refusal>
 {
     require_watch(machine)?;
     require_stopped(word)?;
-    worn_guard().pass(word)?;
+    require_stamp(word)?;
     Ok(mark_pattern(false))
 }
 

@@ -24,7 +24,6 @@ pub fn words_are_distinct()
 
 /// The guards of a call are its refusals: the first of them that refuses a sound state's word has
 /// the refusal that the interlock answers, and they are in the order of the call's refusals.
-#[tactic(auto, using(crate::proofs::GuardsHold::guards_hold, crate::proofs::GuardsHold::guards_ordered))]
 pub fn guards_are_refusals()
     ensures first { (state : ModelState) → IsSound state → (machine : Machine) (call : Call)
         → first_refusal (packed state) (guards_of machine call) ≡ refusal state machine call }

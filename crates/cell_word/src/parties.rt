@@ -32,6 +32,7 @@ pub(crate) fn party_of(machine: Machine, zone: Zone) -> Option<Party>
 }
 
 impl Party {
+    /// The other party.
     #[inline(always)]
     pub fn opposite(self) -> Party
         ensures { result ≡ parties.opposite self }
@@ -81,7 +82,6 @@ impl Party {
 
 /// The row of transfers in which a party of a zone gives.
 #[inline(always)]
-#[tactic(auto, using(crate::proofs::PartyFacts::given_by_party))]
 pub(crate) fn row_given(zone: Zone, party: Party) -> Option<Transfer>
     ensures row { result ≡ transfer_of zone (parties.giving_posture party) }
     ensures given { result ≡ row_given_of (parties.machine_of zone party) zone }
@@ -91,7 +91,6 @@ pub(crate) fn row_given(zone: Zone, party: Party) -> Option<Transfer>
 
 /// The row of transfers in which a party of a zone receives.
 #[inline(always)]
-#[tactic(auto, using(crate::proofs::PartyFacts::received_by_party))]
 pub(crate) fn row_received(zone: Zone, party: Party) -> Option<Transfer>
     ensures { result ≡ row_received_of (parties.machine_of zone party) zone }
 {
@@ -115,6 +114,7 @@ impl ZoneBits {
         self.word >> zone_bit(self.zone)
     }
 
+    /// Whether nobody owns the zone.
     #[inline(always)]
     pub fn is_free(self) -> bool
         ensures { result ≡ stands self.word (owner_is self.zone None) }
@@ -122,6 +122,7 @@ impl ZoneBits {
         self.lowest() & 0b11 == 0
     }
 
+    /// Whether this party owns the zone.
     #[inline(always)]
     pub fn is_owned_by(self, party: Party) -> bool
         ensures { result ≡ stands self.word
@@ -130,6 +131,7 @@ impl ZoneBits {
         self.lowest() & 0b11 == party.code()
     }
 
+    /// Whether a plate is in the zone.
     #[inline(always)]
     pub fn has_plate(self) -> bool
         ensures { result ≡ stands self.word (flag_is self.zone true) }
@@ -137,6 +139,7 @@ impl ZoneBits {
         self.lowest() & 0b100 == 0b100
     }
 
+    /// Whether the zone has this posture.
     #[inline(always)]
     pub fn is(self, posture: Posture) -> bool
         ensures { result ≡ stands self.word (posture_is self.zone posture) }

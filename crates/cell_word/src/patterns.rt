@@ -41,6 +41,7 @@ impl Pattern {
         }
     }
 
+    /// A zone has this owner, or none.
     #[inline(always)]
     pub fn owner(zone: Zone, owner: Option<Machine>) -> Pattern
         ensures { result ≡ patterns.owner_is zone owner }
@@ -56,6 +57,7 @@ impl Pattern {
         Pattern::field(zone_bit(zone), 2, party.code())
     }
 
+    /// A plate is in a zone, or isn't.
     #[inline(always)]
     pub fn flag(zone: Zone, set: bool) -> Pattern
         ensures { result ≡ patterns.flag_is zone set }
@@ -63,6 +65,7 @@ impl Pattern {
         Pattern::field(zone_bit(zone) + 2, 1, u64::from(set))
     }
 
+    /// A zone has this posture.
     #[inline(always)]
     pub fn posture(zone: Zone, posture: Posture) -> Pattern
         ensures { result ≡ patterns.posture_is zone posture }
@@ -70,6 +73,7 @@ impl Pattern {
         Pattern::field(zone_bit(zone) + 3, 2, posture_code(posture))
     }
 
+    /// A place is full, or empty.
     #[inline(always)]
     pub fn place(place: Place, full: bool) -> Pattern
         ensures { result ≡ patterns.place_is place full }
@@ -77,6 +81,7 @@ impl Pattern {
         Pattern::field(place_bit(place), 1, u64::from(full))
     }
 
+    /// The stamp is this number.
     #[inline(always)]
     pub fn stamp(stamp: u32) -> Pattern
         requires { stamp < 2 ^ 20 }

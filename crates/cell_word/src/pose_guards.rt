@@ -12,7 +12,7 @@ ghost use Rattle.cell_word.specs.Guards as guards;
 ghost use Rattle.cell_word.specs.Layout.{packed};
 
 use crate::changes::{advance_pattern, posture_pattern};
-use crate::guards::{no_room_guard, require_clear, require_held, require_movable, worn_guard};
+use crate::guards::{no_room_guard, require_clear, require_held, require_movable, require_stamp};
 use crate::parties::{Party, ZoneBits};
 use crate::patterns::{Pattern, mark_pattern, word_after_check};
 use cell_types::{Machine, Place, Pose, Posture, Refusal, Zone, host, posture_in, transfer};
@@ -42,7 +42,6 @@ pub(crate) fn posed_at(machine: Machine, pose: Pose, zone: Option<Zone>) -> Opti
 
 /// A zone that gets another posture has to be its host's.
 #[inline(always)]
-#[tactic(auto, using(crate::proofs::Turning::require_held_unless_in))]
 fn require_held_unless_in(at: ZoneBits, posture: Posture) -> Result<(), Refusal>
     ensures { result ≡ guards.checked at.word (guards.owner_guards at.zone posture) }
 {
@@ -64,7 +63,6 @@ fn require_owned_zone(word: u64, posed: Option<(Zone, Posture)>) -> Result<(), R
 
 /// A zone that gets another posture has to be free of plates.
 #[inline(always)]
-#[tactic(auto, using(crate::proofs::Turning::require_clear_unless_in))]
 fn require_clear_unless_in(at: ZoneBits, posture: Posture) -> Result<(), Refusal>
     ensures { result ≡ guards.checked at.word (guards.plate_guards at.zone posture) }
 {
@@ -162,21 +160,24 @@ fn require_room_to_open(word: u64, posed: Option<(Zone, Posture)>) -> Result<(),
 fn require_end_clear_to_run(word: u64, machine: Machine, pose: Pose) -> Result<(), Refusal>
     ensures { result ≡ guards.checked word (guards.run_guards machine pose) }
 {
-    if pose == Pose::Running && machine == Machine::Deposit {
-        no_room_guard(Place::DepEnd).pass(word)?;
+    if pose != Pose::Running {
+        return Ok(());
     }
-    if pose == Pose::Running && machine == Machine::Feed {
-        let at_end = Pattern::place(Place::FeedEnd, true);
-        at_end
-            .and(Pattern::owner(Zone::Z1, None))
-            .refuses(Refusal::PlaceFull)
-            .pass(word)?;
-        at_end
-            .and(Pattern::owner(Zone::Z1, Some(host(Zone::Z1))))
-            .refuses(Refusal::PlaceFull)
-            .pass(word)?;
+    match machine {
+        Machine::Deposit => no_room_guard(Place::DepEnd).pass(word),
+        Machine::Feed => {
+            let at_end = Pattern::place(Place::FeedEnd, true);
+            at_end
+                .and(Pattern::owner(Zone::Z1, None))
+                .refuses(Refusal::PlaceFull)
+                .pass(word)?;
+            at_end
+                .and(Pattern::owner(Zone::Z1, Some(host(Zone::Z1))))
+                .refuses(Refusal::PlaceFull)
+                .pass(word)
+        }
+        _ => Ok(()),
     }
-    Ok(())
 }
 
 /// The machine has the pose: it gives a posture to the first zone that the machine hosts.
@@ -305,7 +306,7 @@ fn set_pose_of<H: Host>(word: u64, pose: Pose) -> Result<Pattern, Refusal>
     require_running_to_move(word, pose)?;
     require_owned_clear_zones(word, one, other)?;
     require_allowed_pose(word, machine, pose, one, other)?;
-    worn_guard().pass(word)?;
+    require_stamp(word)?;
     Ok(posture_pattern(one).and(posture_pattern(other)))
 }
 

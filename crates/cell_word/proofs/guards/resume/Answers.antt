@@ -1,6 +1,6 @@
 use Rattle.cell_word.proofs.Names.{List, [], ◌∷◌, sym, ap, ◌∙◌, Ok, Machine, Resume, written, Guard}
 use Rattle.cell_word.specs.Guards as guards
-use Rattle.cell_word.proofs.Trying.{by_parts, asked, ends, past, refused_by}
+use Rattle.cell_word.proofs.Trying.{by_parts, ends, past, refused_by}
 use Rattle.cell_word.proofs.guards.resume.Goals as goal
 
 abbrev parts : Machine → List (List Guard)
@@ -12,8 +12,8 @@ returns-in_err-require_watch c = refused_by (by_parts c.args.word (parts c.args.
 pub returns-in_err-require_stopped : goal.returns-in_err-require_stopped
 returns-in_err-require_stopped c = refused_by (past (by_parts c.args.word (parts c.args.machine) (written c.args.machine Resume)) (c.require_watch.ensures.stranger c.args.word) c.in_ok-require_watch.was) c.require_stopped.ensures c.in_err-require_stopped.was c.from_residual-in_err-require_stopped.ensures.1
 
-pub returns-in_err-pass : goal.returns-in_err-pass
-returns-in_err-pass c = refused_by (past (past (by_parts c.args.word (parts c.args.machine) (written c.args.machine Resume)) (c.require_watch.ensures.stranger c.args.word) c.in_ok-require_watch.was) c.require_stopped.ensures c.in_ok-require_stopped.was) (asked c.args.word c.pass.ensures c.worn_guard.ensures) c.in_err-pass.was c.from_residual-in_err-pass.ensures.1
+pub returns-in_err-require_stamp : goal.returns-in_err-require_stamp
+returns-in_err-require_stamp c = refused_by (past (past (by_parts c.args.word (parts c.args.machine) (written c.args.machine Resume)) (c.require_watch.ensures.stranger c.args.word) c.in_ok-require_watch.was) c.require_stopped.ensures c.in_ok-require_stopped.was) c.require_stamp.ensures c.in_err-require_stamp.was c.from_residual-in_err-require_stamp.ensures.1
 
 pub returns : goal.returns
-returns c = ends (past (past (past (by_parts c.args.word (parts c.args.machine) (written c.args.machine Resume)) (c.require_watch.ensures.stranger c.args.word) c.in_ok-require_watch.was) c.require_stopped.ensures c.in_ok-require_stopped.was) (asked c.args.word c.pass.ensures c.worn_guard.ensures) c.in_ok-pass.was) (ap Ok (c.mark_pattern.ensures ∙ sym (ap (λ m. written m Resume) c.in_ok-require_watch.ensures.watch)))
+returns c = ends (past (past (past (by_parts c.args.word (parts c.args.machine) (written c.args.machine Resume)) (c.require_watch.ensures.stranger c.args.word) c.in_ok-require_watch.was) c.require_stopped.ensures c.in_ok-require_stopped.was) c.require_stamp.ensures c.in_ok-require_stamp.was) (ap Ok (c.mark_pattern.ensures ∙ sym (ap (λ m. written m Resume) c.in_ok-require_watch.ensures.watch)))

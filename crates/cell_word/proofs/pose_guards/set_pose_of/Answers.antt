@@ -2,7 +2,7 @@ use Rattle.cell_word.proofs.Names.{◌≡◌, ℕ, Result, Ok, Option, is_none, 
 use Rattle.std.proofs.Common.{append_assoc}
 use Rattle.cell_word.specs.Changes as changes
 use Rattle.cell_word.specs.Guards as guards
-use Rattle.cell_word.proofs.Trying.{by_parts, InTurn, asked, ends, past, refused_by}
+use Rattle.cell_word.proofs.Trying.{by_parts, InTurn, ends, past, refused_by}
 use Rattle.cell_word.proofs.pose_guards.set_pose_of.Goals as goal
 
 abbrev parts : Machine → Pose → Option (Zone × Posture) → Option (Zone × Posture) → List (List Guard)
@@ -52,12 +52,12 @@ returns-in_err-require_owned_clear_zones g c = by_name c.args.word c.args.pose c
 pub returns-in_err-require_allowed_pose : goal.returns-in_err-require_allowed_pose
 returns-in_err-require_allowed_pose g c = by_name c.args.word c.args.pose c.MACHINE-machine.ensures (refused_by (past (past (past (row_at _ _ _ _ _ _ c.hosted_zones-one.ensures c.posed_at-one.ensures c.posed_at-other.ensures) (c.require_pose.ensures c.args.word) c.in_ok-require_pose.was) c.require_running_to_move.ensures c.in_ok-require_running_to_move.was) c.require_owned_clear_zones.ensures c.in_ok-require_owned_clear_zones.was) c.require_allowed_pose.ensures c.in_err-require_allowed_pose.was c.from_residual-in_err-require_allowed_pose.ensures.1)
 
-pub returns-in_err-pass : goal.returns-in_err-pass
-returns-in_err-pass g c = by_name c.args.word c.args.pose c.MACHINE-machine.ensures (refused_by (past (past (past (past (row_at _ _ _ _ _ _ c.hosted_zones-one.ensures c.posed_at-one.ensures c.posed_at-other.ensures) (c.require_pose.ensures c.args.word) c.in_ok-require_pose.was) c.require_running_to_move.ensures c.in_ok-require_running_to_move.was) c.require_owned_clear_zones.ensures c.in_ok-require_owned_clear_zones.was) c.require_allowed_pose.ensures c.in_ok-require_allowed_pose.was) (asked c.args.word c.pass.ensures c.worn_guard.ensures) c.in_err-pass.was c.from_residual-in_err-pass.ensures.1)
+pub returns-in_err-require_stamp : goal.returns-in_err-require_stamp
+returns-in_err-require_stamp g c = by_name c.args.word c.args.pose c.MACHINE-machine.ensures (refused_by (past (past (past (past (row_at _ _ _ _ _ _ c.hosted_zones-one.ensures c.posed_at-one.ensures c.posed_at-other.ensures) (c.require_pose.ensures c.args.word) c.in_ok-require_pose.was) c.require_running_to_move.ensures c.in_ok-require_running_to_move.was) c.require_owned_clear_zones.ensures c.in_ok-require_owned_clear_zones.was) c.require_allowed_pose.ensures c.in_ok-require_allowed_pose.was) c.require_stamp.ensures c.in_err-require_stamp.was c.from_residual-in_err-require_stamp.ensures.1)
 
 pub returns : goal.returns
 returns g c =
     let first = c.posed_at-one.ensures ∙ ap (λ h. guards.posed_at c.MACHINE-machine.result c.args.pose h.0) c.hosted_zones-one.ensures in
     let second = c.posed_at-other.ensures ∙ ap (λ h. guards.posed_at c.MACHINE-machine.result c.args.pose h.1) c.hosted_zones-one.ensures in
     let written = c.and.ensures ∙ ap₂ both (c.posture_pattern.ensures ∙ ap changes.posture_pattern first) (c.posture_pattern-2.ensures ∙ ap changes.posture_pattern second) in
-    by_name c.args.word c.args.pose c.MACHINE-machine.ensures (ends (past (past (past (past (past (row_at _ _ _ _ _ _ c.hosted_zones-one.ensures c.posed_at-one.ensures c.posed_at-other.ensures) (c.require_pose.ensures c.args.word) c.in_ok-require_pose.was) c.require_running_to_move.ensures c.in_ok-require_running_to_move.was) c.require_owned_clear_zones.ensures c.in_ok-require_owned_clear_zones.was) c.require_allowed_pose.ensures c.in_ok-require_allowed_pose.was) (asked c.args.word c.pass.ensures c.worn_guard.ensures) c.in_ok-pass.was) (ap Ok written))
+    by_name c.args.word c.args.pose c.MACHINE-machine.ensures (ends (past (past (past (past (past (row_at _ _ _ _ _ _ c.hosted_zones-one.ensures c.posed_at-one.ensures c.posed_at-other.ensures) (c.require_pose.ensures c.args.word) c.in_ok-require_pose.was) c.require_running_to_move.ensures c.in_ok-require_running_to_move.was) c.require_owned_clear_zones.ensures c.in_ok-require_owned_clear_zones.was) c.require_allowed_pose.ensures c.in_ok-require_allowed_pose.was) c.require_stamp.ensures c.in_ok-require_stamp.was) (ap Ok written))
