@@ -1,11 +1,12 @@
 -- Prefixes of histories, the states after them, and what an event adds.
 use Rattle.std.proofs.Common.{◌≡◌, ℕ, ◌+◌, Bool, true, false, ◌&&◌, not, cond, List, [], ◌∷◌, ◌++◌, refl, sym, ap, ◌∙◌, subst, arith, append-nil, append_assoc}
+use Rattle.std.specs.Prelude.{count_by}
 use Rattle.std.proofs.lemmas.Bool.{false_from_ne_true}
 use Rattle.std.proofs.lemmas.List.{append_cancel_left}
 use Rattle.std.proofs.lemmas.List.Elements.{filter-append}
 use Rattle.std.proofs.lemmas.List.Sums.{sum_by-cons, sum_by-append}
 use Rattle.word_interlock.specs.RuleBook.{RuleBook, IsRuleBook}
-use Rattle.word_interlock.specs.History.{after, IsLegal, own_events, is_change, change_count, changes_by_others, BeginsWith, Waits}
+use Rattle.word_interlock.specs.History.{after, IsLegal, own_events, is_change, changes_by_others, BeginsWith, Waits}
 
 pub begins-trans : {E : Type 0} (x y z : List E) → BeginsWith y x → BeginsWith z y → BeginsWith z x
 begins-trans {E} x y z f g = (f.0 ++ g.0, g.1 ∙ (ap (λ (l : List E). l ++ g.0) f.1 ∙ append_assoc x f.0 g.0))
@@ -113,7 +114,7 @@ module _ {S M C A E : Type 0} (b : RuleBook S M C A E) (law : IsRuleBook b) wher
       go false e = omega (arith, ap b.stamp (law.quiet s m c e))
 
   -- the stamp counts the changes
-  pub stamp-after : (s : S) (h : List E) → IsLegal b s h → b.stamp (after b s h) ≡ b.stamp s + change_count b h
+  pub stamp-after : (s : S) (h : List E) → IsLegal b s h → b.stamp (after b s h) ≡ b.stamp s + count_by (is_change b) h
   stamp-after s [] l = omega arith
   stamp-after s (e ∷ h) l =
       let rest = stamp-after (b.next s (b.actor_of e) (b.call_of e)) h l.1 in

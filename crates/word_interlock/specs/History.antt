@@ -27,10 +27,7 @@ module _ {S M C A E : Type 0} (b : RuleBook S M C A E) where
   abbrev pub is_change : E → Bool
   is_change e = b.is_done (b.answer_of e)
 
-  -- how many changes a history has, and how many of them are of actors other than one
-  abbrev pub change_count : List E → ℕ
-  change_count history = count_by is_change history
-
+  -- how many changes of a history are of actors other than one
   abbrev pub changes_by_others : List E → M → ℕ
   changes_by_others history m = count_by (λ e. is_change e && not (b.same (b.actor_of e) m)) history
 

@@ -1,7 +1,7 @@
 //! What comes back from a call.
 
 /// What comes back from a call.
-#[derive(Clone, Copy, Debug, PartialEq, Eq)]
+#[derive(Clone, Copy, PartialEq, Eq)]
 pub enum Reply<A> {
     /// The call was answered. The number is the stamp of the state at its point, or after the call
     /// if it is done.
