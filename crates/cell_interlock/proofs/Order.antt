@@ -37,6 +37,19 @@ pub seen_there : (m : Machine) (c : Call) (r : Reply) (s : ModelState) (x y : Li
 seen_there m c (Settled a stamp) s x y f = (settles_there m c a x y f.0, f.1 ∙ sym (ap (λ (t : ModelState). t.stamp) (after_here s y)))
 seen_there m c (Busy lost stamp) s x y f = (record { begins = f.0.begins; own = f.0.own }, f.1 ∙ sym (ap (λ (t : ModelState). t.stamp) (after_here s y)))
 
+-- two calls in order
+pub order_here : (x y : EngineReply Answer) (m n : Machine) (c d : Call) (seen now : List Event) → engine_calls.IfSettled x (λ a. engine_calls.IfSettled y (λ b. engine_order.StandsBefore cell_book seen (event m c a) (event n d b) now))
+    → IfSettled (reply_from x) (λ a. IfSettled (reply_from y) (λ b. StandsBefore seen (event m c a) (event n d b) now))
+order_here (EngineSettled a s) (EngineSettled b t) m n c d seen now f = before_here seen (event m c a) (event n d b) now f
+order_here (EngineSettled a s) (EngineBusy l t) m n c d seen now f = tt
+order_here (EngineBusy l s) y m n c d seen now f = tt
+
+pub stamps_here : (x y : EngineReply Answer) → engine_calls.IsStampedAfter cell_book (engine_calls.stamp_in x) y → IsStampedAfter (stamp_in (reply_from x)) (reply_from y)
+stamps_here (EngineSettled a s) (EngineSettled b t) f = (f.0, λ done. f.1 (ap is_done_answer done))
+stamps_here (EngineBusy l s) (EngineSettled b t) f = (f.0, λ done. f.1 (ap is_done_answer done))
+stamps_here (EngineSettled a s) (EngineBusy l t) f = f
+stamps_here (EngineBusy l s) (EngineBusy k t) f = f
+
 pub receipts_order_calls : ReceiptsOrderCalls
 receipts_order_calls m n c d a b seen answered receipt accepted heard now first took took_in later second =
     before_here seen (event m c a) (event n d b) now

@@ -7,7 +7,7 @@ use cell_rules::State;
 use word_interlock as engine;
 
 /// What an interlock leaves.
-#[derive(Clone, Copy, Debug, PartialEq, Eq)]
+#[derive(Clone, Copy)]
 pub struct Ended {
     /// The state after all calls of the seven passes.
     pub state: State,
@@ -24,13 +24,22 @@ impl Interlock {
         ensures end { IsEnd self.opening passes result.state }
     {
         let Interlock { inner } = self;
-        let mut all = engine::Passes::of(passes.watch.inner);
-        inner.give_back(&mut all, passes.crane.inner);
-        inner.give_back(&mut all, passes.deposit.inner);
-        inner.give_back(&mut all, passes.press.inner);
-        inner.give_back(&mut all, passes.robot.inner);
-        inner.give_back(&mut all, passes.table.inner);
-        inner.give_back(&mut all, passes.feed.inner);
+        let Passes {
+            feed,
+            table,
+            robot,
+            press,
+            deposit,
+            crane,
+            watch,
+        } = passes;
+        let mut all = engine::Passes::of(watch.inner);
+        inner.give_back(&mut all, crane.inner);
+        inner.give_back(&mut all, deposit.inner);
+        inner.give_back(&mut all, press.inner);
+        inner.give_back(&mut all, robot.inner);
+        inner.give_back(&mut all, table.inner);
+        inner.give_back(&mut all, feed.inner);
         Ended {
             state: inner.close(all),
         }

@@ -1,5 +1,8 @@
 //! Makes an interlock.
 ghost use Rattle.std.specs.Prelude.{◌≡◌, ◌<◌, IfOk, Err, ◌⊎◌, ◌↔◌};
+ghost use Rattle.cell_types.specs.Everything.{all_machines};
+ghost use Rattle.word_interlock.specs.Bunches.{fresh_passes};
+ghost use Rattle.cell_interlock.specs.Engine.{interlock_from};
 ghost use Rattle.cell_interlock.specs.Fresh.{AreFresh};
 
 use crate::interlock::Interlock;
@@ -35,33 +38,41 @@ impl Interlock {
         states_are_sound(&opening);
         match engine::Interlock::new(alloc, CellRules, opening, tries) {
             Ok((inner, mut all)) => {
-                let passes = Passes {
-                    feed: Pass {
-                        inner: inner.take_pass(&mut all, Machine::Feed),
-                    },
-                    table: Pass {
-                        inner: inner.take_pass(&mut all, Machine::Table),
-                    },
-                    robot: Pass {
-                        inner: inner.take_pass(&mut all, Machine::Robot),
-                    },
-                    press: Pass {
-                        inner: inner.take_pass(&mut all, Machine::Press),
-                    },
-                    deposit: Pass {
-                        inner: inner.take_pass(&mut all, Machine::Deposit),
-                    },
-                    crane: Pass {
-                        inner: inner.take_pass(&mut all, Machine::Crane),
-                    },
-                    watch: Pass {
-                        inner: inner.take_pass(&mut all, Machine::Watch),
-                    },
-                };
+                let passes = take_passes(&inner, &mut all);
                 Ok((Interlock { inner }, passes))
             }
             Err(engine::MakeFault::Tries) => Err(MakeFault::Tries),
             Err(engine::MakeFault::Memory) => Err(MakeFault::Memory),
         }
+    }
+}
+
+// The passes of a new interlock, out of the value that has them all.
+fn take_passes(inner: &engine::Interlock<CellRules>, all: &mut engine::Passes<CellRules>) -> Passes
+    requires fresh { all.old ≡ fresh_passes inner.now all_machines }
+    ensures { AreFresh (interlock_from inner.now) result }
+{
+    Passes {
+        feed: Pass {
+            inner: inner.take_pass(all, Machine::Feed),
+        },
+        table: Pass {
+            inner: inner.take_pass(all, Machine::Table),
+        },
+        robot: Pass {
+            inner: inner.take_pass(all, Machine::Robot),
+        },
+        press: Pass {
+            inner: inner.take_pass(all, Machine::Press),
+        },
+        deposit: Pass {
+            inner: inner.take_pass(all, Machine::Deposit),
+        },
+        crane: Pass {
+            inner: inner.take_pass(all, Machine::Crane),
+        },
+        watch: Pass {
+            inner: inner.take_pass(all, Machine::Watch),
+        },
     }
 }

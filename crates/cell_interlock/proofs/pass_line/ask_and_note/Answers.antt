@@ -12,3 +12,13 @@ returns-in-Settled-clause-noted c =
 pub returns-in_default-clause-noted : goal.returns-in_default-clause-noted
 returns-in_default-clause-noted c =
     c.reserve.ensures.items ∙ (c.requires.noted ∙ sym (entry-busy _ _ c.in_default.ensures.pass c.in_default.ensures.seen.0))
+
+pub returns-in-Settled-clause-asks : goal.returns-in-Settled-clause-asks
+returns-in-Settled-clause-asks c =
+    let e = c.in-Settled.ensures in
+    record { pass = e.pass; lawful = e.lawful; seen = e.seen; answer = e.answer; right = e.right; busy = e.busy; one_load = e.one_load; few_exchanges = e.few_exchanges; all_lost = e.all_lost; since = e.since }
+
+pub returns-in_default-clause-asks : goal.returns-in_default-clause-asks
+returns-in_default-clause-asks c =
+    let e = c.ask-reply.ensures in
+    record { pass = e.pass; lawful = e.lawful; seen = e.seen; answer = e.answer; right = e.right; busy = e.busy; one_load = e.one_load; few_exchanges = e.few_exchanges; all_lost = e.all_lost; since = e.since }

@@ -14,7 +14,7 @@ use Rattle.cell_interlock.proofs.interlock.Interlock.close.Goals as goal
 
 pub returns : goal.returns
 returns c =
-    let p = c.passes.inside.0 in let f = p.0.inner in let t = p.1.0.inner in let r = p.1.1.0.inner in let q = p.1.1.1.0.inner in let d = p.1.1.1.1.0.inner in let k = p.1.1.1.1.1.0.inner in let w = p.1.1.1.1.1.1.0.inner in
+    let f = c.feed.inside.inner in let t = c.table.inside.inner in let r = c.robot.inside.inner in let q = c.press.inside.inner in let d = c.deposit.inside.inner in let k = c.crane.inside.inner in let w = c.watch.inside.inner in
     let one = c.give_back.ensures.given ∙ ap (λ (l : List (ActorView CellRules ModelState Machine Event)). view_of k ∷ l) c.of-all.ensures.actors in
     let two = c.give_back-2.ensures.given ∙ ap (λ (l : List (ActorView CellRules ModelState Machine Event)). view_of d ∷ l) one in
     let three = c.give_back-3.ensures.given ∙ ap (λ (l : List (ActorView CellRules ModelState Machine Event)). view_of q ∷ l) two in
@@ -25,5 +25,6 @@ returns c =
     let end = subst (λ (l : List (ActorView CellRules ModelState Machine Event)). engine.IsEnd cell_book o l c.close.result) six c.close.ensures.end in
     record {
       end = subst (λ (i : InterlockView). IsEnd i.opening c.args.passes c.close.result) c.self.view_is
-          (end_here c.args.self o c.args.passes f t r q d k w c.close.result end (sym c.passes.view_is) c.requires.own);
+          (end_here c.args.self o c.args.passes f t r q d k w c.close.result end
+          (λ i. record { feed = sym c.feed.view_is i; table = sym c.table.view_is i; robot = sym c.robot.view_is i; press = sym c.press.view_is i; deposit = sym c.deposit.view_is i; crane = sym c.crane.view_is i; watch = sym c.watch.view_is i }) c.requires.own);
     }

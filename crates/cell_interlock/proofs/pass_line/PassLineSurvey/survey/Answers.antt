@@ -1,4 +1,7 @@
-use Rattle.std.proofs.Common.{◌∙◌}
+use Rattle.std.proofs.Common.{ap, ◌∙◌, subst}
+use Rattle.cell_rules.specs.Seen.{Waits}
+use Rattle.cell_interlock.specs.Seen.{HasSeenMore}
+use Rattle.cell_interlock.specs.Lines.{LineView}
 use Rattle.cell_interlock.proofs.Journals.{line_surveys}
 use Rattle.cell_interlock.proofs.pass_line.PassLineSurvey.survey.Goals as goal
 
@@ -6,3 +9,15 @@ pub invariant_of-self-inside : goal.invariant_of-self-inside
 invariant_of-self-inside c =
     let more = c.survey.ensures.more in
     (more.pass.table ∙ c.self.inside.own, (line_surveys _ _ _ more c.self.inside.kept, tt))
+
+pub returns-clause-surveys : goal.returns-clause-surveys
+returns-clause-surveys c = record {
+  more = subst (λ (l : LineView). HasSeenMore l.pass c.survey.new.pass) c.self.view_is c.survey.ensures.more;
+  tries = ap (λ l. l.tries) c.self.view_is;
+}
+
+pub returns-clause-seen : goal.returns-clause-seen
+returns-clause-seen c = subst (λ (l : LineView). Waits l.pass.machine l.pass.seen c.survey.new.pass.seen) c.self.view_is c.survey.ensures.more.seen
+
+pub returns-clause-state : goal.returns-clause-state
+returns-clause-state c = c.survey.ensures.state
