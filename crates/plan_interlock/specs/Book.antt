@@ -12,6 +12,11 @@ use Rattle.plan_rules.specs.History.{is_done_answer}
 use Rattle.plan_word.specs.OfPlan.{IsOfPlan}
 use Rattle.plan_word.specs.Packed.{packed}
 use Rattle.word_interlock.specs.RuleBook.{RuleBook}
+use Rattle.plan_interlock.specs.declared.rules.PlanRules.{PlanRules}
+
+-- the plan of some rules
+abbrev pub plan_of : PlanRules → PlanTable
+plan_of rules = rules.plan
 
 -- the machines of a plan, which has at most 15, and the watch
 abbrev pub callers_of : PlanTable → List ℕ

@@ -3,7 +3,7 @@ ghost use Rattle.std.specs.Prelude.{◌≡◌, ℕ, ◌≤◌, false};
 ghost use Rattle.plan_types.specs.Table.{place_count};
 ghost use Rattle.plan_rules.specs.State.{is_full};
 ghost use Rattle.plan_rules.specs.Sound.{IsStart};
-ghost use Rattle.plan_interlock.specs.Book.{plan_book};
+ghost use Rattle.plan_interlock.specs.Book.{plan_book, plan_of};
 ghost use Rattle.plan_interlock.specs.Laws.{EveryPassSeesLaws, RightsLast};
 
 use crate::rules::PlanRules;
@@ -12,15 +12,15 @@ use plan_rules::State;
 /// A start can open an interlock if only places of the plan are full.
 pub fn starts_can_open(rules: &PlanRules, opening: &State)
     requires start { IsStart opening.now }
-    requires places { (p : ℕ) → place_count rules.now.plan ≤ p → is_full opening.now p ≡ false }
-    ensures { (plan_book rules.now.plan).is_sound opening.now }
+    requires places { (p : ℕ) → place_count (plan_of rules.now) ≤ p → is_full opening.now p ≡ false }
+    ensures { (plan_book (plan_of rules.now)).is_sound opening.now }
 {
     let _ = rules.plan().machines();
 }
 
 /// All that a pass sees keeps the laws of plans: no zone has two holders, plates are neither lost nor made, and so on.
 pub fn passes_see_laws(rules: &PlanRules)
-    ensures { EveryPassSeesLaws rules.now.plan }
+    ensures { EveryPassSeesLaws (plan_of rules.now) }
 {
     let _ = rules;
 }
@@ -28,7 +28,7 @@ pub fn passes_see_laws(rules: &PlanRules)
 /// At the point of its call a machine still has what it had: what it holds, its own places, and the postures of the
 /// zones that it hosts.
 pub fn rights_last(rules: &PlanRules)
-    ensures { RightsLast rules.now.plan }
+    ensures { RightsLast (plan_of rules.now) }
 {
     let _ = rules;
 }

@@ -16,9 +16,11 @@ pub struct PlanRules {
 }
 
 impl PlanRules {
+    ghost use Rattle.plan_interlock.specs.Book.{plan_of};
+
     /// The rules by a plan.
     pub fn new(plan: Plan) -> PlanRules
-        ensures { result.plan ≡ plan }
+        ensures { plan_of result ≡ plan }
     {
         let layout = Layout::of(&plan);
         PlanRules { plan, layout }
@@ -26,7 +28,7 @@ impl PlanRules {
 
     /// The plan.
     pub fn plan(&self) -> &Plan
-        ensures { result.now ≡ self.now.plan }
+        ensures { result.now ≡ plan_of self.now }
     {
         &self.plan
     }
