@@ -3,13 +3,14 @@ use Rattle.std.proofs.Common.{◌≡◌, ℕ, Some, refl, sym, ap, subst, ◌∙
 use Rattle.cell_rules.specs.Types.{Machine, Feed, Table, Robot, Press, Deposit, Crane, Watch, journal_of}
 use Rattle.cell_rules.specs.Names.{ModelState, noted, event_by, Waits, IsAudited}
 use Rattle.cell_interlock.specs.Views.{PassView, InterlockView}
-use Rattle.cell_interlock.specs.Fresh.{fresh_pass}
+use Rattle.cell_interlock.specs.Fresh.{AreFresh, fresh_pass}
+use Rattle.cell_interlock.specs.declared.pass.Passes.{Passes}
 use Rattle.cell_interlock.specs.Ends.{ArePassesOf, IsEnd, pass_in}
 use Rattle.cell_threads.specs.Workers.{GateOf}
 use Rattle.cell_threads.specs.Results.{SixResults, outcomes_in, passes_in, seen_in}
-use Rattle.cell_threads.specs.Promises.{AreAllFresh, GiveBack, GivesOf, SixPasses}
+use Rattle.cell_threads.specs.Promises.{AreAllFresh, GiveBack, GivesOf, SixPasses, six_of}
 use Rattle.cell_threads.specs.Six.{TellsSix, six_fresh}
-use Rattle.cell_threads.specs.Watching.{HasWatched, TellsWatched, WatchesOf, journal_with, seen_with}
+use Rattle.cell_threads.specs.Watching.{HasWatched, HaveWorked, TellsWatched, WatchesOf, journal_with, seen_with}
 use Rattle.cell_threads.specs.declared.per_machine.PerMachine.{PerMachine}
 use Rattle.cell_threads.specs.declared.six.SixRecord.{SixRecord}
 use Rattle.cell_threads.specs.declared.worker_result.WorkerResult.{WorkerResult}
@@ -17,6 +18,20 @@ use Rattle.cell_threads.specs.declared.worker_result.WorkerResult.{WorkerResult}
 -- six fresh passes are those of the interlock
 pub fresh_six : (i : InterlockView) (passes : SixPasses) → AreAllFresh i passes → passes ≡ six_fresh i
 fresh_six i passes k = λ x. record { feed = k.feed x; table = k.table x; robot = k.robot x; press = k.press x; deposit = k.deposit x; crane = k.crane x }
+
+-- the passes of a new interlock are six fresh ones, and the watch's
+pub all_fresh : (i : InterlockView) (passes : Passes) → AreFresh i passes → AreAllFresh i (six_of passes)
+all_fresh i passes all = record { feed = all.feed; table = all.table; robot = all.robot; press = all.press; deposit = all.deposit; crane = all.crane }
+
+-- six workers that have worked by the interlock's passes have worked by six fresh ones, and the watch by its own
+pub worked_by_fresh : {W1 W2 W3 W4 W5 W6 A B C D E F H : Type 0} → (gives1 : GivesOf W1 A) (gives2 : GivesOf W2 B) (gives3 : GivesOf W3 C) (gives4 : GivesOf W4 D) (gives5 : GivesOf W5 E) (gives6 : GivesOf W6 F) (watches : WatchesOf H)
+    (workers : PerMachine W1 W2 W3 W4 W5 W6) (watch : H) (i : InterlockView) (passes : Passes) (six : SixPasses) (pass : PassView) (limit : ℕ) (gate : Machine → GateOf) (results : SixResults A B C D E F) (watched : WorkerResult H)
+    → AreFresh i passes → six ≡ six_of passes → pass ≡ passes.watch
+    → HaveWorked gives1 gives2 gives3 gives4 gives5 gives6 watches workers watch six pass i.tries gate limit results watched
+    → HaveWorked gives1 gives2 gives3 gives4 gives5 gives6 watches workers watch (six_fresh i) (fresh_pass i Watch) i.tries gate limit results watched
+worked_by_fresh gives1 gives2 gives3 gives4 gives5 gives6 watches workers watch i passes six pass limit gate results watched fresh e f k =
+    subst (λ (q : PassView). HaveWorked gives1 gives2 gives3 gives4 gives5 gives6 watches workers watch (six_fresh i) q i.tries gate limit results watched) (f ∙ fresh.watch)
+    (subst (λ (q : SixPasses). HaveWorked gives1 gives2 gives3 gives4 gives5 gives6 watches workers watch q pass i.tries gate limit results watched) (e ∙ fresh_six i _ (all_fresh i passes fresh)) k)
 
 module _ {W1 W2 W3 W4 W5 W6 A B C D E F H : Type 0} (gives1 : GivesOf W1 A) (gives2 : GivesOf W2 B) (gives3 : GivesOf W3 C) (gives4 : GivesOf W4 D) (gives5 : GivesOf W5 E) (gives6 : GivesOf W6 F) (watches : WatchesOf H)
     (workers : PerMachine W1 W2 W3 W4 W5 W6) (watch : H) (i : InterlockView) (limit : ℕ) (gate : Machine → GateOf) (results : SixResults A B C D E F)

@@ -21,7 +21,7 @@ use Rattle.cell_notes.specs.declared.status.Status.TheVariants.{Fine, GateLimit}
 use Rattle.cell_notes.specs.declared.status.Status.TheVariants as status
 use Rattle.cell_unit.specs.Statuses.{status_of}
 use Rattle.cell_threads.specs.Lines.{passes}
-use Rattle.cell_threads.specs.Workers.{GateOf, WorkerMoment, TakesTurn, TakesTurns, HasCome, HasEnded, Ends, last_of}
+use Rattle.cell_threads.specs.Workers.{GateOf, WorkerMoment, TakesTurn, AreTaken, HasCome, HasEnded, Ends, last_of}
 use Rattle.cell_threads.specs.Laws.{answers_in, HasAtMost, HasStatusBy}
 use Rattle.cell_threads.proofs.Passes.{by_turn}
 use Rattle.cell_threads.proofs.Turning.{all_along}
@@ -180,11 +180,11 @@ module _ {S Sense Reading Act State : Type 0} (tries : ℕ) (t : Steps S Sense R
   one_more_turn : (before now : WorkerMoment PassView S State) → Turn before now → now.counts.turns ≡ before.counts.turns + 1
   one_more_turn before now turn = ap (λ (c : Counts). c.turns) turn.counted
 
-  grows : (first : WorkerMoment PassView S State) (turns : List (WorkerMoment PassView S State)) → TakesTurns (passes tries) t rig gate first turns → first.counts.turns ≤ (last_of first turns).counts.turns
+  grows : (first : WorkerMoment PassView S State) (turns : List (WorkerMoment PassView S State)) → AreTaken (TakesTurn (passes tries) t rig gate) first turns → first.counts.turns ≤ (last_of first turns).counts.turns
   grows first [] k = omega arith
   grows first (now ∷ later) k = let one = one_more_turn first now k.0 in let more = grows now later k.1 in omega (arith, one, more)
 
-  still_by : (first last : WorkerMoment PassView S State) (turns : List (WorkerMoment PassView S State)) → TakesTurns (passes tries) t rig gate first turns → last_of first turns ≡ last → last.counts.turns ≤ first.counts.turns → last ≡ first
+  still_by : (first last : WorkerMoment PassView S State) (turns : List (WorkerMoment PassView S State)) → AreTaken (TakesTurn (passes tries) t rig gate) first turns → last_of first turns ≡ last → last.counts.turns ≤ first.counts.turns → last ≡ first
   still_by first last [] k e few = sym e
   still_by first last (now ∷ later) k e few =
       let one = one_more_turn first now k.0 in
@@ -215,7 +215,7 @@ module _ {S Sense Reading Act State : Type 0} (tries : ℕ) (t : Steps S Sense R
   still first last k few = still_by first last k.turns k.taken k.last few
 
   -- there are no turns if the gate lets none begin
-  shut_by : ((turn : ℕ) → ¬ gate turn true) → (first last : WorkerMoment PassView S State) (turns : List (WorkerMoment PassView S State)) → TakesTurns (passes tries) t rig gate first turns → last_of first turns ≡ last → last ≡ first
+  shut_by : ((turn : ℕ) → ¬ gate turn true) → (first last : WorkerMoment PassView S State) (turns : List (WorkerMoment PassView S State)) → AreTaken (TakesTurn (passes tries) t rig gate) first turns → last_of first turns ≡ last → last ≡ first
   shut_by never first last [] k e = sym e
   shut_by never first last (now ∷ later) k e = absurd (never first.counts.turns k.0.let_in)
 
@@ -228,7 +228,7 @@ module _ {S Sense Reading Act State : Type 0} (tries : ℕ) (t : Steps S Sense R
       subst (λ n. Ends gate limit None n s) none
       (subst (λ o. Ends gate limit o first.counts.turns s) runs (subst (λ (m : WorkerMoment PassView S State). Ends gate limit m.side.stopped m.counts.turns s) same k))
 
-  once_by : (first last : WorkerMoment PassView S State) (turns : List (WorkerMoment PassView S State)) → TakesTurns (passes tries) t rig gate first turns → last_of first turns ≡ last → last.counts.turns ≤ first.counts.turns + 1 → (last ≡ first) ⊎ Turn first last
+  once_by : (first last : WorkerMoment PassView S State) (turns : List (WorkerMoment PassView S State)) → AreTaken (TakesTurn (passes tries) t rig gate) first turns → last_of first turns ≡ last → last.counts.turns ≤ first.counts.turns + 1 → (last ≡ first) ⊎ Turn first last
   once_by first last [] k e few = inl (sym e)
   once_by first last (now ∷ []) k e few = inr (subst (Turn first) e k.0)
   once_by first last (now ∷ (next ∷ later)) k e few =

@@ -17,7 +17,7 @@ use Rattle.cell_unit.specs.Sides.{Acts}
 use Rattle.cell_unit.proofs.Turning.{acts_map}
 use Rattle.cell_threads.specs.Lines.{Lines, passes}
 use Rattle.cell_threads.proofs.Turning.{all_along}
-use Rattle.cell_threads.specs.Workers.{WorkerMoment, worker_moment, GateOf, TakesTurn, TakesTurns, HasCome, HasEnded, IsWorkerResult, AreCountsOf, last_of, is_shown_answer, is_refused_answer}
+use Rattle.cell_threads.specs.Workers.{WorkerMoment, worker_moment, GateOf, TakesTurn, AreTaken, HasCome, HasEnded, IsWorkerResult, AreCountsOf, last_of, is_shown_answer, is_refused_answer}
 
 -- the opening, the history seen and the calls of a worker's line
 abbrev pub line_views : Lines LineView
@@ -68,7 +68,7 @@ module _ {S Sense Reading Act State : Type 0} (tries : ℕ) (t : Steps S Sense R
   same_tries : (before now : WorkerMoment LineView S State) → TakesTurn line_views t rig gate before now → now.line.tries ≡ before.line.tries
   same_tries before now k = by_turn line_views before now _ k (λ asked same nothing counted. ap (λ l. l.tries) same) (λ asked c r asks is counted. asks.tries)
 
-  turns_by_pass : (before : WorkerMoment LineView S State) (turns : List (WorkerMoment LineView S State)) → before.line.tries ≡ tries → TakesTurns line_views t rig gate before turns → TakesTurns (passes tries) t rig gate (by_pass before) (map by_pass turns)
+  turns_by_pass : (before : WorkerMoment LineView S State) (turns : List (WorkerMoment LineView S State)) → before.line.tries ≡ tries → AreTaken (TakesTurn line_views t rig gate) before turns → AreTaken (TakesTurn (passes tries) t rig gate) (by_pass before) (map by_pass turns)
   turns_by_pass before [] e k = tt
   turns_by_pass before (now ∷ later) e k = (turn_by_pass before now e k.0, turns_by_pass now later (same_tries before now k.0 ∙ e) k.1)
 

@@ -4,6 +4,7 @@ use Rattle.std.specs.Prelude.{◌≡◌, ℕ, Option, Some, None, IfSome}
 use Rattle.cell_rules.specs.Types.{Machine, Feed, Table, Robot, Press, Deposit, Crane}
 use Rattle.cell_interlock.specs.Views.{PassView, InterlockView}
 use Rattle.cell_interlock.specs.Fresh.{IsFresh}
+use Rattle.cell_interlock.specs.declared.pass.Passes.{Passes}
 use Rattle.cell_threads.specs.Workers.{GateOf, IsGivenBack}
 use Rattle.cell_threads.specs.declared.start.WorkerPromise.{WorkerPromise}
 use Rattle.cell_threads.specs.declared.per_machine.PerMachine.{PerMachine}
@@ -18,6 +19,18 @@ GivesOf W B = W → PassView → ℕ → GateOf → ℕ → WorkerResult B → T
 -- the passes of the six: `SixPasses`, since antt has no name for an alias
 abbrev pub SixPasses : Type 0
 SixPasses = PerMachine PassView PassView PassView PassView PassView PassView
+
+-- the passes of the six, without the watch's
+abbrev pub six_of : Passes → SixPasses
+six_of p =
+    record {
+      feed = p.feed;
+      table = p.table;
+      robot = p.robot;
+      press = p.press;
+      deposit = p.deposit;
+      crane = p.crane;
+    }
 
 -- each is a fresh pass of its machine
 pub record AreAllFresh (i : InterlockView) (passes : SixPasses) : Type 0 where

@@ -53,11 +53,6 @@ pub record ComesBy {M : Type 0} (Turn : M → M → Type 0) (first now : M) : Ty
   pub taken : AreTaken Turn first turns
   pub last : last_of first turns ≡ now
 
--- a worker's turns
-abbrev pub TakesTurns : {L S Sense Reading Act State : Type 0} → Lines L → Steps S Sense Reading Act
-    → Rig State Sense Act → GateOf → WorkerMoment L S State → List (WorkerMoment L S State) → Type 0
-TakesTurns lines t rig gate = AreTaken (TakesTurn lines t rig gate)
-
 -- a worker has gone from one moment to another by turns
 abbrev pub HasCome : {L S Sense Reading Act State : Type 0} → Lines L → Steps S Sense Reading Act
     → Rig State Sense Act → GateOf → WorkerMoment L S State → WorkerMoment L S State → Type 0

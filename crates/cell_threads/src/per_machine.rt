@@ -2,6 +2,7 @@
 ghost use Rattle.std.specs.Prelude.{◌≡◌, IfSome};
 ghost use Rattle.cell_types.specs.declared.machine.Machine.{Machine};
 ghost use Rattle.cell_types.specs.Journals.{journal_of};
+ghost use Rattle.cell_threads.specs.Promises.{six_of};
 ghost use Rattle.cell_threads.specs.Results.{AreAllThere, outcomes_in, passes_in};
 ghost use Rattle.cell_threads.specs.Watching.{journal_with};
 
@@ -38,6 +39,31 @@ pub(crate) type SixResults<A, B, C, D, E, F> = PerMachine<
     WorkerResult<E>,
     WorkerResult<F>,
 >;
+
+/// The passes of the six, and the watch's.
+pub(crate) fn six_and_watch(passes: Passes) -> (SixPasses, Pass)
+    ensures six { result.0 ≡ six_of passes }
+    ensures watch { result.1 ≡ passes.watch }
+{
+    let Passes {
+        feed,
+        table,
+        robot,
+        press,
+        deposit,
+        crane,
+        watch,
+    } = passes;
+    let six = PerMachine {
+        feed,
+        table,
+        robot,
+        press,
+        deposit,
+        crane,
+    };
+    (six, watch)
+}
 
 /// All six, if none is missing.
 pub(crate) fn all_six<A, B, C, D, E, F>(

@@ -1,20 +1,17 @@
 //! Six workers over one interlock, and their watch.
-ghost use Rattle.std.specs.Prelude.{◌≡◌, ◌<◌, ◌⊎◌, ◌↔◌, IfOk, IfSome, Err};
-ghost use Rattle.cell_types.specs.declared.machine.Machine.TheVariants.{Watch};
-ghost use Rattle.cell_interlock.specs.Fresh.{AreFresh, fresh_pass};
-ghost use Rattle.cell_threads.specs.Six.{AreReadyAt, TellsSix, six_fresh};
-ghost use Rattle.cell_threads.specs.Promises.{AreReady};
-ghost use Rattle.cell_threads.specs.Watching.{HaveWorked, TellsWatched};
+ghost use Rattle.std.specs.Prelude.{◌≡◌, ◌<◌, ◌⊎◌, ◌↔◌, IfOk, Err};
+ghost use Rattle.cell_threads.specs.Six.{AreReadyAt, TellsSix};
+ghost use Rattle.cell_threads.specs.Watching.{TellsWatched};
 
 use crate::fault::RunFault;
 use crate::gate::Gate;
-use crate::per_machine::{PerMachine, SixResults, into_parts};
+use crate::per_machine::{PerMachine, into_parts, six_and_watch};
 use crate::start::WorkerContext;
 use crate::threads::run_in_threads;
 use crate::watching::{NoWatch, Watching};
 use crate::worker::Worker;
 use crate::worker_result::WorkerResult;
-use cell_interlock::{Interlock, Passes};
+use cell_interlock::Interlock;
 use cell_rules::State;
 use cell_types::Journals;
 use std::alloc::Global;
@@ -136,7 +133,8 @@ where
         gate,
         turns,
     };
-    let Some((results, watched)) = work(rt, &context, passes, workers, watch) else {
+    let (passes, pass) = six_and_watch(passes);
+    let Some((results, watched)) = run_in_threads(rt, &context, passes, workers, pass, watch) else {
         return Err(RunFault::Spawn);
     };
     let WorkerResult {
@@ -153,63 +151,4 @@ where
         outcomes,
     };
     Ok((record, watch))
-}
-
-// What six workers and the watch gave back.
-//
-// Returns `None` if a thread couldn't be started; the workers that had begun have ended.
-fn work<R, W1, W2, W3, W4, W5, W6, H, G>(
-    rt: &R,
-    context: &WorkerContext<'_, G>,
-    passes: Passes,
-    workers: PerMachine<W1, W2, W3, W4, W5, W6>,
-    watch: H,
-) -> Option<
-    (
-        SixResults<W1::Outcome, W2::Outcome, W3::Outcome, W4::Outcome, W5::Outcome, W6::Outcome>,
-        WorkerResult<H>,
-    ),
->
-where
-    R: Threads + Wait,
-    W1: Worker + Send,
-    W2: Worker + Send,
-    W3: Worker + Send,
-    W4: Worker + Send,
-    W5: Worker + Send,
-    W6: Worker + Send,
-    W1::Outcome: Send,
-    W2::Outcome: Send,
-    W3::Outcome: Send,
-    W4::Outcome: Send,
-    W5::Outcome: Send,
-    W6::Outcome: Send,
-    H: Watching,
-    G: Gate + Sync,
-    requires fresh { AreFresh context.now.interlock.now passes }
-    requires ready { AreReady W1.is_ready W2.is_ready W3.is_ready W4.is_ready W5.is_ready W6.is_ready workers
-        (six_fresh context.now.interlock.now) }
-    ensures { IfSome result (λ back. HaveWorked W1.gives_back W2.gives_back W3.gives_back W4.gives_back W5.gives_back
-        W6.gives_back H.watches workers watch (six_fresh context.now.interlock.now)
-        (fresh_pass context.now.interlock.now Watch) context.now.interlock.now.tries
-        (G.may_answer context.now.gate.now) context.now.turns back.0 back.1) }
-{
-    let Passes {
-        feed,
-        table,
-        robot,
-        press,
-        deposit,
-        crane,
-        watch: pass,
-    } = passes;
-    let passes = PerMachine {
-        feed,
-        table,
-        robot,
-        press,
-        deposit,
-        crane,
-    };
-    run_in_threads(rt, context, passes, workers, pass, watch)
 }

@@ -22,9 +22,16 @@ use Rattle.cell_parts.specs.Names.{CellScales, table_rig, robot_rig, crane_rig}
 use Rattle.cell_plant.specs.Names.{CellGauges, PartOf, any_near, robot_axes, robot_gauges, robot_points, steps_by, rig_of, SideOf, side_in, sides_at_start, positions_in}
 use Rattle.cell_plant.proofs.Gauged.{GiveAsMuch, table_as, robot_as, crane_as}
 use Rattle.cell_threads.specs.Lines.{Lines, passes}
-use Rattle.cell_threads.specs.Workers.{WorkerMoment, worker_moment, GateOf, TakesTurn, TakesTurns, HasEnded, IsWorkerResult, AreCountsOf}
-use Rattle.cell_threads.specs.Results.{journal_in, outcomes_in, seen_in}
-use Rattle.cell_workers.specs.Results.{CellResults, IsResultOf, AreWorkerResults, parts_in}
+use Rattle.cell_threads.specs.Workers.{WorkerMoment, worker_moment, GateOf, TakesTurn, AreTaken, HasEnded, IsWorkerResult, AreCountsOf}
+use Rattle.cell_threads.specs.Results.{SixResults, journal_in, outcomes_in, seen_in}
+use Rattle.cell_parts.specs.declared.parts.feed.FeedPart.{FeedPart}
+use Rattle.cell_parts.specs.declared.parts.table.TablePart.{TablePart}
+use Rattle.cell_parts.specs.declared.parts.robot.RobotPart.{RobotPart}
+use Rattle.cell_parts.specs.declared.parts.press.PressPart.{PressPart}
+use Rattle.cell_parts.specs.declared.parts.deposit.DepositPart.{DepositPart}
+use Rattle.cell_parts.specs.declared.parts.crane.CranePart.{CranePart}
+use Rattle.cell_threads.specs.declared.worker_result.UnitOutcome.{UnitOutcome}
+use Rattle.cell_workers.specs.Results.{parts_in}
 use Rattle.cell_workers.specs.Records.{MomentOf, first_moment, TellsAnyWork, TellsWork, has_worker}
 
 -- if less is known of the sensors, a worker has still worked
@@ -40,14 +47,14 @@ module _ {L S Sense Reading Act State : Type 0} (lines : Lines L) (t : Steps S S
         counted = k.counted;
       }
 
-  turns_still : (before : WorkerMoment L S State) (turns : List (WorkerMoment L S State)) → TakesTurns lines t rig gate before turns → TakesTurns lines (with_senses t senses) rig gate before turns
+  turns_still : (before : WorkerMoment L S State) (turns : List (WorkerMoment L S State)) → AreTaken (TakesTurn lines t rig gate) before turns → AreTaken (TakesTurn lines (with_senses t senses) rig gate) before turns
   turns_still before [] k = tt
   turns_still before (now ∷ later) k = (turn_still before now k.0, turns_still now later k.1)
 
 -- workers by what gauges may give are workers by what others may give that give as much
 module _ (c : CellScales) (gives other : CellGauges) (f : GiveAsMuch c gives other) where
   taken_as : (tries : ℕ) (gate : GateOf) (m : Machine) (before : MomentOf m) (turns : List (MomentOf m))
-      → TakesTurns (passes tries) (steps_by c gives m) (rig_of c m) gate before turns → TakesTurns (passes tries) (steps_by c other m) (rig_of c m) gate before turns
+      → AreTaken (TakesTurn (passes tries) (steps_by c gives m) (rig_of c m) gate) before turns → AreTaken (TakesTurn (passes tries) (steps_by c other m) (rig_of c m) gate) before turns
   taken_as tries gate Feed before turns k = k
   taken_as tries gate Table before turns k =
       turns_still (passes tries) (table_steps c.turn gives.turn) (table_rig c.turn) gate (TableSenses c.turn other.turn) (table_as c.turn gives.turn other.turn f.turn) before turns k
@@ -106,6 +113,36 @@ ready_at_start t i pass stopped progress e begins = (ap (λ (v : PassView). v.ma
 pub if_some : {A : Type 0} → (P Q : A → Type 0) → ((x : A) → P x → Q x) → (r : Option A) → IfSome r P → IfSome r Q
 if_some P Q f None k = tt
 if_some P Q f (Some x) k = f x k
+
+-- what the workers of a cell gave back
+abbrev pub CellResults : Type 0
+CellResults =
+    SixResults (UnitOutcome FeedPart) (UnitOutcome TablePart) (UnitOutcome RobotPart)
+    (UnitOutcome PressPart) (UnitOutcome DepositPart) (UnitOutcome CranePart)
+
+-- what a machine's worker gave back, by the machine's name; it began with a fresh pass of the interlock, at its
+-- machine's start
+abbrev pub IsResultOf : CellScales → CellGauges → InterlockView → ℕ → (Machine → GateOf) → (m : Machine) → PassView
+    → List Entry → Counts → Status → PartOf m → Type 0
+IsResultOf c gives i limit gate m kept journal did status stands =
+    IsWorkerResult i.tries (steps_by c gives m) (rig_of c m) (gate m) limit
+    (first_moment i m) kept journal did status stands
+
+-- likewise for each of the six
+pub record AreWorkerResults (c : CellScales) (gives : CellGauges) (i : InterlockView) (limit : ℕ)
+    (gate : Machine → GateOf) (results : CellResults) : Type 0 where
+  pub feed : IsResultOf c gives i limit gate Feed results.feed.pass results.feed.journal.items
+      results.feed.outcome.counts results.feed.outcome.status results.feed.outcome.part.belt
+  pub table : IsResultOf c gives i limit gate Table results.table.pass results.table.journal.items
+      results.table.outcome.counts results.table.outcome.status results.table.outcome.part.plant
+  pub robot : IsResultOf c gives i limit gate Robot results.robot.pass results.robot.journal.items
+      results.robot.outcome.counts results.robot.outcome.status results.robot.outcome.part.plant
+  pub press : IsResultOf c gives i limit gate Press results.press.pass results.press.journal.items
+      results.press.outcome.counts results.press.outcome.status results.press.outcome.part
+  pub deposit : IsResultOf c gives i limit gate Deposit results.deposit.pass results.deposit.journal.items
+      results.deposit.outcome.counts results.deposit.outcome.status results.deposit.outcome.part.belt
+  pub crane : IsResultOf c gives i limit gate Crane results.crane.pass results.crane.journal.items
+      results.crane.outcome.counts results.crane.outcome.status results.crane.outcome.part.plant
 
 module _ (c : CellScales) (gives : CellGauges) (i : InterlockView) (limit : ℕ) (gate : Machine → GateOf) where
   -- it began with a fresh pass, at the start of its machine

@@ -20,7 +20,6 @@ use Rattle.cell_notes.specs.declared.counts.Counts.{Counts}
 use Rattle.cell_notes.specs.declared.run_record.RunRecord.{RunRecord}
 use Rattle.cell_notes.specs.declared.status.Status.{Status}
 use Rattle.cell_notes.specs.declared.status.Status.TheVariants.{Fine, GateLimit}
-use Rattle.cell_notes.specs.declared.status.Status.TheVariants as status
 use Rattle.cell_unit.specs.Sides.{side_of}
 use Rattle.cell_parts.specs.Axes.{CellScales}
 use Rattle.cell_plant.specs.Names.{SideOf, CellGauges, steps_of, rig_of, IsAtRest}

@@ -12,9 +12,9 @@ use Rattle.cell_plant.specs.Names.{robot_gauges, robot_points, robot_axes, posit
 use Rattle.cell_plant.specs.Watch.{watch_at_start}
 use Rattle.cell_workers.specs.Records.{TellsWork}
 use Rattle.cell_threads.specs.Results.{seen_in}
-use Rattle.cell_workers.specs.Results.{AreWorkerResults, CellOutcomes, parts_in}
+use Rattle.cell_workers.specs.Results.{CellOutcomes, parts_in}
 use Rattle.cell_threads.specs.Workers.{worker_moment}
-use Rattle.cell_workers.proofs.Recording.{fitted_result, is_result_of, ready_at_start, tells}
+use Rattle.cell_workers.proofs.Recording.{AreWorkerResults, fitted_result, is_result_of, ready_at_start, tells}
 use Rattle.cell_workers.proofs.Unrefused.{work-unrefused}
 use Rattle.cell_workers.proofs.run.run_cell.Goals as goal
 
