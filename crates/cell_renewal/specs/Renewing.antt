@@ -108,8 +108,8 @@ module _ {W1 W2 W3 W4 W5 W6 A B C D E F H S Fault : Type 0} (gives1 : GivesOf W1
     (gives3 : GivesOf W3 C) (gives4 : GivesOf W4 D) (gives5 : GivesOf W5 E) (gives6 : GivesOf W6 F)
     (watches : WatchesOf H) (takes : S → Round → Result (Unit {0}) Fault → S → Type 0) (tries limit : ℕ)
     (gate : Machine → GateOf) where
-  -- A round is over: its record tells of six workers and the watch over one interlock, and the sink has taken what it
-  -- noted.
+  -- A round is over: its record is that of six workers and the watch over one interlock, and the sink has taken what
+  -- it noted.
   pub record EndsRound (before : RoundMoment W1 W2 W3 W4 W5 W6 H S) (left : Leave A B C D E F H) (sink : S)
       : Type 0 where
     pub six : SixRecord A B C D E F

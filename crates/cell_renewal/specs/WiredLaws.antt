@@ -48,11 +48,11 @@ WiredWorkersEnd {S = S} {D = D} t shows sets gate =
     → IsWiredResult tries t shows sets gate limit (wired_moment pass p None first 0 0) kept turns missed status devices
     → WiredWorkerEnds t sets gate limit (turns + missed) status devices
 
--- what a press is told whose switches clash: its motor is off
+-- what a press is told if its switches clash: its motor is off
 abbrev pub told_clash : Told PressAct
 told_clash = record { act = record { press = Off }; fault = Some (Sensor Clash) }
 
--- and one of whose switches nothing is known
+-- and if nothing is known of them
 abbrev pub told_unread : Told PressAct
 told_unread = at_rest_by (record { press = Off })
 

@@ -77,7 +77,7 @@ struct CycleCounts {
 
 impl CycleCounts {
     // The ending with this status.
-    fn ended(self, status: Status) -> WiredEnding
+    fn ending(self, status: Status) -> WiredEnding
         ensures turns { result.turns ≡ self.turns }
         ensures missed { result.missed ≡ self.missed }
         ensures status { result.status ≡ status }
@@ -166,14 +166,14 @@ pub(crate) fn take_wired_turns<'a, P: Program, D: Devices<Sense = P::Sense, Act 
     };
     for cycle in 0..cycles {
         if wired.stopped().is_some() {
-            return done.ended(status_of(wired.stopped()));
+            return done.ending(status_of(wired.stopped()));
         }
         if !gate.pass(machine, cycle) {
-            return done.ended(Status::GateLimit);
+            return done.ending(Status::GateLimit);
         }
         done = take_cycle(wired, devices, gate, done);
     }
-    done.ended(status_of(wired.stopped()))
+    done.ending(status_of(wired.stopped()))
 }
 
 /// One cycle of a machine that runs, once its gate has let it begin: a turn if the sensors show

@@ -19,11 +19,26 @@ use Rattle.six_by_hand.specs.declared.devices.Press.{Press}
 use Rattle.six_by_hand.specs.declared.devices.Robot.{Robot}
 use Rattle.six_by_hand.specs.declared.devices.Table.{Table}
 
+-- how far an axis or a belt goes in a turn
+abbrev pub step : ℕ
+step = 20
+
+-- where a plate is first and last in its belt's light barrier
+abbrev pub barrier_first : ℕ
+barrier_first = 900
+
+abbrev pub barrier_last : ℕ
+barrier_last = 999
+
+-- where an axis is
+abbrev pub position : Axis → ℕ
+position a = a.at
+
 -- an axis after a turn: it goes a step as its motor is told, and not past its ends
 abbrev pub driven : Motor → Axis → Axis
 driven Off a = a
-driven Plus a = record a { at = min (a.at + 20) a.end }
-driven Minus a = record a { at = a.at - 20 }
+driven Plus a = record a { at = min (a.at + step) a.end }
+driven Minus a = record a { at = a.at - step }
 
 -- a switch from the first position to the last is on
 abbrev pub is_between : ℕ → ℕ → Axis → Bool
@@ -31,12 +46,12 @@ is_between first last a = nat_le first a.at && nat_le a.at last
 
 -- a belt's plate is in its light barrier
 abbrev pub is_in_barrier : Belt → Bool
-is_in_barrier b = nat_le 900 b.plate && nat_le b.plate 999
+is_in_barrier b = nat_le barrier_first b.plate && nat_le b.plate barrier_last
 
 -- a belt after a turn: when it stops after the barrier, its plate has left, and the next one comes
 abbrev pub carried : Bool → Belt → Belt
-carried true b = record { plate = min (b.plate + 20) 65535 }
-carried false b = if nat_lt 999 b.plate then record { plate = 0 } else b
+carried true b = record { plate = min (b.plate + step) 65535 }
+carried false b = if nat_lt barrier_last b.plate then record { plate = 0 } else b
 
 -- what the sensors of a machine show
 abbrev pub feed_sense : Belt → FeedSense
@@ -46,10 +61,10 @@ abbrev pub deposit_sense : Belt → DepositSense
 deposit_sense b = record { barrier = is_in_barrier b }
 
 abbrev pub table_sense : Table → TableSense
-table_sense d = record { bottom = is_between 0 10 d.height; top = is_between 590 600 d.height; turn = d.turn.at }
+table_sense d = record { bottom = is_between 0 10 d.height; top = is_between 590 600 d.height; turn = position d.turn }
 
 abbrev pub robot_sense : Robot → RobotSense
-robot_sense d = record { arm1 = d.arm1.at; arm2 = d.arm2.at; rotation = d.rotation.at }
+robot_sense d = record { arm1 = position d.arm1; arm2 = position d.arm2; rotation = position d.rotation }
 
 abbrev pub press_sense : Press → PressSense
 press_sense d =
@@ -64,7 +79,7 @@ crane_sense d =
     record {
       deposit = is_between 0 10 d.travel;
       feed = is_between 1990 2000 d.travel;
-      gripper = d.gripper.at;
+      gripper = position d.gripper;
     }
 
 -- a machine after a turn in which it is told this

@@ -5,8 +5,8 @@ ghost use Rattle.six_by_hand.specs.Devices as devices;
 
 use cell_devices::Motor;
 
-/// How far an axis goes in a turn.
-const STEP: u16 = 20;
+/// How far an axis or a belt goes in a turn.
+pub const STEP: u16 = 20;
 
 /// An axis that goes from 0 to its end. Its potentiometer's raw value is its position.
 #[derive(Clone, Copy, Debug)]
@@ -23,7 +23,7 @@ impl Axis {
 
     /// Its position, in tenths of a millimetre or of a degree.
     pub fn at(&self) -> u16
-        ensures { result ≡ self.now.at }
+        ensures { result ≡ devices.position self.now }
     {
         self.at
     }

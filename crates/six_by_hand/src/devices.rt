@@ -4,11 +4,16 @@
 ghost use Rattle.std.specs.Prelude.{◌≡◌};
 ghost use Rattle.six_by_hand.specs.Devices as devices;
 
-use crate::axis::Axis;
+use crate::axis::{Axis, STEP};
 use cell_calib::{CraneSense, DepositSense, FeedSense, PressSense, RobotSense, TableSense};
 use cell_control::Told;
 use cell_devices::{CraneAct, DepositAct, FeedAct, PressAct, RobotAct, TableAct};
 use cell_renewal::Devices;
+
+// Where a plate is when it enters its belt's light barrier, and where it is last in it.
+const BARRIER_FIRST: u16 = 900;
+
+const BARRIER_LAST: u16 = 999;
 
 /// A belt that carries one plate at a time past a light barrier.
 #[derive(Clone, Copy, Debug, Drop)]
@@ -26,7 +31,7 @@ impl Belt {
     fn barrier(&self) -> bool
         ensures { result ≡ devices.is_in_barrier self.now }
     {
-        (900..=999).contains(&self.plate)
+        (BARRIER_FIRST..=BARRIER_LAST).contains(&self.plate)
     }
 
     // Runs for a turn. When it stops after the barrier, its plate has left, and the next one comes.
@@ -34,8 +39,8 @@ impl Belt {
         ensures { self.new ≡ devices.carried runs self.old }
     {
         if runs {
-            self.plate = self.plate.saturating_add(20);
-        } else if self.plate > 999 {
+            self.plate = self.plate.saturating_add(STEP);
+        } else if self.plate > BARRIER_LAST {
             self.plate = 0;
         }
     }
@@ -104,7 +109,7 @@ pub struct Table {
 
 impl Table {
     /// The table where its program begins: at the bottom, turned to the feed belt.
-    pub fn standing() -> Table {
+    pub fn at_start() -> Table {
         Table {
             height: Axis::new(0, 600),
             turn: Axis::new(0, 500),
@@ -148,7 +153,7 @@ pub struct Robot {
 
 impl Robot {
     /// The robot where its program begins: both arms in, turned to the table.
-    pub fn standing() -> Robot {
+    pub fn at_start() -> Robot {
         Robot {
             arm1: Axis::new(0, 1000),
             arm2: Axis::new(0, 1000),
@@ -192,7 +197,7 @@ pub struct Press {
 
 impl Press {
     /// The press where its program begins: at the top.
-    pub fn standing() -> Press {
+    pub fn at_start() -> Press {
         Press {
             height: Axis::new(1000, 1000),
         }
@@ -233,7 +238,7 @@ pub struct Crane {
 
 impl Crane {
     /// The crane where its program begins: over the deposit belt, its gripper up.
-    pub fn standing() -> Crane {
+    pub fn at_start() -> Crane {
         Crane {
             travel: Axis::new(0, 2000),
             gripper: Axis::new(900, 1000),

@@ -43,6 +43,21 @@ pub struct Plan {
     pub mark: u32,
 }
 
+impl Plan {
+    // How its rounds are renewed.
+    fn renewal(self) -> Renewal
+        ensures tries { result.tries ≡ 8 }
+        ensures turns { result.turns ≡ self.turns }
+        ensures mark { result.mark ≡ self.mark }
+    {
+        Renewal {
+            tries: TRIES,
+            turns: self.turns,
+            mark: self.mark,
+        }
+    }
+}
+
 /// How each machine ended.
 pub type SixStatuses = PerMachine<Status, Status, Status, Status, Status, Status>;
 
@@ -83,23 +98,14 @@ where
     let deposit = DepositBelt(Belt::new());
     let workers = PerMachine {
         feed: GoingWorker::at_start(FeedProgram, Machine::Feed, opening, belt),
-        table: GoingWorker::at_start(table, Machine::Table, opening, Table::standing()),
-        robot: GoingWorker::at_start(robot, Machine::Robot, opening, Robot::standing()),
-        press: GoingWorker::at_start(PressProgram, Machine::Press, opening, Press::standing()),
+        table: GoingWorker::at_start(table, Machine::Table, opening, Table::at_start()),
+        robot: GoingWorker::at_start(robot, Machine::Robot, opening, Robot::at_start()),
+        press: GoingWorker::at_start(PressProgram, Machine::Press, opening, Press::at_start()),
         deposit: GoingWorker::at_start(DepositProgram, Machine::Deposit, opening, deposit),
-        crane: GoingWorker::at_start(crane, Machine::Crane, opening, Crane::standing()),
+        crane: GoingWorker::at_start(crane, Machine::Crane, opening, Crane::at_start()),
     };
-    let Plan {
-        rounds,
-        turns,
-        mark,
-    } = plan;
-    let gate = RoundsGate::new(rt, rounds);
-    let renewal = Renewal {
-        tries: TRIES,
-        turns,
-        mark,
-    };
+    let gate = RoundsGate::new(rt, plan.rounds);
+    let renewal = plan.renewal();
     let watch = Lookout::new(STOPS_IN);
     let left = match run_renewed(rt, alloc, workers, watch, opening, renewal, &gate, audits) {
         Ok(left) => left,
