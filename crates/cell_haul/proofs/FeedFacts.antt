@@ -39,11 +39,7 @@ has_plates TakePlate entry last = not entry && not last
 has_plates StartIn entry last = entry && not last
 has_plates RunIn entry last = entry && not last
 has_plates MoveOn entry last = entry && not last
-has_plates ClaimExit entry last = last
-has_plates StartOut entry last = last
-has_plates RunOut entry last = last
-has_plates Halt entry last = last
-has_plates GivePlate entry last = last
+has_plates _ entry last = last
 
 -- the notes agree with the belt's places
 pub record KnowsAt (s : FeedStep) (entry last : Bool) (z : ModelState) : Type 0 where

@@ -8,12 +8,7 @@ use Rattle.cell_notes.specs.ByMachine.{PutIsFound}
 module _ {T : Type 0} (b : ByMachine T) where
   pub put_found : (m : Machine) (v : T) → at_machine (with_machine b m v) m ≡ v
   put_found Feed v = refl
-  put_found Table v = refl
-  put_found Robot v = refl
-  put_found Press v = refl
-  put_found Deposit v = refl
-  put_found Crane v = refl
-  put_found Watch v = refl
+  put_found _ v = refl
 
   pub put_others : (m n : Machine) (v : T) → same_machine m n ≡ false → at_machine (with_machine b m v) n ≡ at_machine b n
   put_others Feed Feed v e = cc

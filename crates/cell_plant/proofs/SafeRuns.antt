@@ -126,15 +126,13 @@ module _ (c : CellScales) (scales : AreCellScales c) where
   not_past Press busy w s i k past =
       press-ends (w.side Press).part k.takes.sense k.takes.shows _ _ (w.side Press).stopped (w.side Press).progress k.takes.turned k.takes.row
       (subst (λ a. DrivesPastEnd Press (record (plant_of s.set) { press = a })) (set_unnoted press_steps press_rig (λ b x. refl) (w.side Press) s.asked k.takes.turned (s.set.side Press) k.takes.is) past)
-  not_past Feed busy w s i k past = past
   not_past Robot busy w s i k past =
       robot-ends points axes w.interlock (w.side Robot).progress (w.side Robot).part (i.each Robot) k.takes.sense k.takes.shows _ _ (w.side Robot).stopped k.takes.turned k.takes.row
       (subst (λ x. DrivesPastEnd Robot (record (plant_of s.set) { robot = x })) (robot_set busy w s k) past)
-  not_past Deposit busy w s i k past = past
   not_past Crane busy w s i k past =
       crane-ends c.gripper scales.gripper w.interlock (w.side Crane).progress (w.side Crane).part (i.each Crane) k.takes.sense k.takes.shows _ _ (w.side Crane).stopped k.takes.turned k.takes.row
       (subst (λ x. DrivesPastEnd Crane (record (plant_of s.set) { crane = x })) (crane_set busy w s k) past)
-  not_past Watch busy w s i k past = past
+  not_past _ busy w s i k past = past
 
   not_taken : (b : Bool) → b ≡ false → b ≡ true → ⊥
   not_taken b e f = cc

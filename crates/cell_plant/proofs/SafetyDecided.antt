@@ -181,9 +181,7 @@ drives_past_end Table p = either (drives_past lift_end p.table.lift) (drives_pas
 drives_past_end Robot p = either (drives_past arm_end p.robot.arm1) (either (drives_past arm_end p.robot.arm2) (drives_past rotation_end p.robot.rotation))
 drives_past_end Press p = drives_past press_end p.press
 drives_past_end Crane p = either (drives_past crane_end p.crane.travel) (drives_past gripper_end p.crane.gripper)
-drives_past_end Feed p = no (λ k. k)
-drives_past_end Deposit p = no (λ k. k)
-drives_past_end Watch p = no (λ k. k)
+drives_past_end _ p = no (λ k. k)
 
 abbrev nothing_collides_when_set : (m : Machine) (before p : PlantState) → Dec (NothingCollidesWhenSet m before p)
 nothing_collides_when_set m before p =

@@ -93,36 +93,6 @@ zone_shares p z e = shares_of p.step z (kept_of (table p.step) Robot z Z2 (and_l
 keeps_zones : (p : RobotProgress) (z : ModelState) → AreSo Robot z (facts_at p.step) → shares.AreSo Robot z (team.shares_at p.step) → has_zones p.step z ≡ true
 keeps_zones p z f h = let k = kept_at p.step z f h in and_both _ _ (of_kept (table p.step) Robot z Z2 k.0) (and_both _ _ (of_kept (interior p.step) Robot z Z3 k.1.0) (of_kept (deposit p.step) Robot z Z4 k.1.1))
 
-plates_same : (s : RobotStep) (first second fed : Bool) → has_plates s first second fed ≡ team.has_plates s first second fed
-plates_same TurnToTable first second fed = refl
-plates_same AwaitPlate first second fed = refl
-plates_same ReachTable first second fed = refl
-plates_same GripPlate first second fed = refl
-plates_same LeaveTable first second fed = refl
-plates_same TakePlate first second fed = refl
-plates_same ReleaseTable first second fed = refl
-plates_same TurnToLoad first second fed = refl
-plates_same ClaimPress first second fed = refl
-plates_same InspectPress first second fed = refl
-plates_same ReleasePress first second fed = refl
-plates_same ReachToLoad first second fed = refl
-plates_same DropInPress first second fed = refl
-plates_same LeaveLoaded first second fed = refl
-plates_same GiveToPress first second fed = refl
-plates_same TurnToUnload first second fed = refl
-plates_same AwaitForged first second fed = refl
-plates_same ReachToUnload first second fed = refl
-plates_same GripForged first second fed = refl
-plates_same LeaveUnloaded first second fed = refl
-plates_same TakeForged first second fed = refl
-plates_same ReleaseUnloaded first second fed = refl
-plates_same TurnToDeposit first second fed = refl
-plates_same ClaimDeposit first second fed = refl
-plates_same ReachDeposit first second fed = refl
-plates_same DropOnDeposit first second fed = refl
-plates_same LeaveDeposit first second fed = refl
-plates_same GiveToDeposit first second fed = refl
-
 -- ---- the magnets
 
 abbrev pub MagnetsSo : RobotProgress → ModelState → Type 0
@@ -207,7 +177,7 @@ robot_knows points gives p z e =
     let more = and_right (has_plates p.step p.notes.arm1 p.notes.arm2 p.notes.fed) _ rest in
     let noted = and_left _ _ more in
     let arms = and_right (same_flag (is_full z Arm1) p.notes.arm1) _ noted in
-    ((robot_resumable points gives).enters p z e, record { shares = zone_shares p z (and_left _ _ e); plates = sym (plates_same p.step p.notes.arm1 p.notes.arm2 p.notes.fed) ∙ and_left _ _ rest; noted = record { arm1 = one_flag _ _ (and_left _ _ noted); arm2 = one_flag _ _ (and_left _ _ arms); press = eqb-true (inside z) (one_if p.notes.fed) (and_right (same_flag (is_full z Arm2) p.notes.arm2) _ arms) } })
+    ((robot_resumable points gives).enters p z e, record { shares = zone_shares p z (and_left _ _ e); plates = and_left _ _ rest; noted = record { arm1 = one_flag _ _ (and_left _ _ noted); arm2 = one_flag _ _ (and_left _ _ arms); press = eqb-true (inside z) (one_if p.notes.fed) (and_right (same_flag (is_full z Arm2) p.notes.arm2) _ arms) } })
 
 pub robot_magnets : (p : RobotProgress) (z : ModelState) → in_step p z ≡ true → MagnetsSo p z
 robot_magnets p z e =
@@ -217,7 +187,7 @@ robot_magnets p z e =
 pub robot_stands : (p : RobotProgress) (z : ModelState) → RobotKnows p z × team.RobotMore p z → MagnetsSo p z → in_step p z ≡ true
 robot_stands p z k m =
     and_both _ _ (keeps_zones p z k.0 k.1.shares)
-    (and_both _ _ (plates_same p.step p.notes.arm1 p.notes.arm2 p.notes.fed ∙ k.1.plates)
+    (and_both _ _ k.1.plates
     (and_both _ _
     (and_both _ _ (own_flag _ _ k.1.noted.arm1) (and_both _ _ (own_flag _ _ k.1.noted.arm2) (eq-eqb (inside z) (one_if p.notes.fed) k.1.noted.press)))
     (and_both _ _ (own_flag _ _ m.0) (own_flag _ _ m.1))))

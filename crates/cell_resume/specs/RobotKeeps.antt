@@ -15,6 +15,7 @@ use Rattle.cell_robot.specs.declared.robot.RobotStep.TheVariants.{DropOnDeposit,
 use Rattle.cell_robot.specs.declared.robot.RobotProgress.{RobotProgress}
 use Rattle.cell_robot.specs.declared.robot.RobotNotes.{RobotNotes}
 use Rattle.cell_robot.specs.declared.robot.RobotMagnets.{RobotMagnets}
+pub use Rattle.cell_team.specs.RobotPlates.{has_plates}
 use Rattle.cell_resume.specs.declared.keep.Share.TheVariants.{Clear, Loaded, Held, Lent, Any}
 use Rattle.cell_resume.specs.declared.keep.Keep.{Keep}
 use Rattle.cell_resume.specs.Keeping.{is_kept, posed, unposed}
@@ -55,30 +56,6 @@ deposit _ = unposed Lent
 abbrev pub has_zones : RobotStep → ModelState → Bool
 has_zones step s =
     is_kept (table step) Robot s Z2 && (is_kept (interior step) Robot s Z3 && is_kept (deposit step) Robot s Z4)
-
--- the plates that a step is about
-abbrev pub has_plates : RobotStep → Bool → Bool → Bool → Bool
-has_plates TurnToLoad first second fed = first && not fed
-has_plates ClaimPress first second fed = first && not fed
-has_plates InspectPress first second fed = first && not fed
-has_plates ReleasePress first second fed = first && not fed
-has_plates ReachToLoad first second fed = first && not fed
-has_plates DropInPress first second fed = first && not fed
-has_plates LeaveLoaded first second fed = first && not fed
-has_plates GiveToPress first second fed = first && not fed
-has_plates TurnToUnload first second fed = fed
-has_plates AwaitForged first second fed = fed
-has_plates ReachToUnload first second fed = fed
-has_plates GripForged first second fed = fed
-has_plates LeaveUnloaded first second fed = fed
-has_plates TakeForged first second fed = fed
-has_plates TurnToDeposit first second fed = second
-has_plates ClaimDeposit first second fed = second
-has_plates ReachDeposit first second fed = second
-has_plates DropOnDeposit first second fed = second
-has_plates LeaveDeposit first second fed = second
-has_plates GiveToDeposit first second fed = second
-has_plates _ first second fed = true
 
 -- the plates in the press, and in its zone on their way into it or out of it
 abbrev pub inside : ModelState → ℕ

@@ -15,34 +15,27 @@ use Rattle.cell_robot.specs.declared.robot.RobotProgress.{RobotProgress}
 use Rattle.cell_robot.specs.RobotProgram.{RobotDemands}
 
 abbrev pub facts_at : RobotStep → List Fact
-facts_at TurnToTable = []
-facts_at AwaitPlate = []
 facts_at ReachTable = Finds Z2 OpenOut ∷ []
 facts_at GripPlate = Finds Z2 OpenOut ∷ []
 facts_at LeaveTable = Finds Z2 OpenOut ∷ []
 facts_at TakePlate = Finds Z2 OpenOut ∷ []
 facts_at ReleaseTable = Finds Z2 OpenOut ∷ []
-facts_at TurnToLoad = []
-facts_at ClaimPress = []
 facts_at InspectPress = Owns Z3 ∷ []
 facts_at ReleasePress = Owns Z3 ∷ []
 facts_at ReachToLoad = Finds Z3 OpenIn ∷ []
 facts_at DropInPress = Finds Z3 OpenIn ∷ []
 facts_at LeaveLoaded = Finds Z3 OpenIn ∷ []
 facts_at GiveToPress = Finds Z3 OpenIn ∷ []
-facts_at TurnToUnload = []
-facts_at AwaitForged = []
 facts_at ReachToUnload = Finds Z3 OpenOut ∷ []
 facts_at GripForged = Finds Z3 OpenOut ∷ []
 facts_at LeaveUnloaded = Finds Z3 OpenOut ∷ []
 facts_at TakeForged = Finds Z3 OpenOut ∷ []
 facts_at ReleaseUnloaded = Finds Z3 OpenOut ∷ []
-facts_at TurnToDeposit = []
-facts_at ClaimDeposit = []
 facts_at ReachDeposit = Finds Z4 OpenIn ∷ []
 facts_at DropOnDeposit = Finds Z4 OpenIn ∷ []
 facts_at LeaveDeposit = Finds Z4 OpenIn ∷ []
 facts_at GiveToDeposit = Finds Z4 OpenIn ∷ []
+facts_at _ = []
 
 abbrev pub RobotKnows : RobotProgress → ModelState → Type 0
 RobotKnows p z = AreSo Robot z (facts_at p.step)
@@ -60,22 +53,7 @@ at_choice notes z = by_notes notes.arm1 notes.arm2 notes.fed z
 -- after a drive, or after switching a magnet
 done_drive : (s : RobotStep) (p : RobotProgress) (z : ModelState) → (row_at s p).call ≡ None → AreSo Robot z (facts_at s) → RobotKnows (row_at s p).next z
 done_drive TurnToTable p z e k = k
-done_drive ReachTable p z e k = k
-done_drive GripPlate p z e k = k
-done_drive LeaveTable p z e k = k
-done_drive TurnToLoad p z e k = k
-done_drive ReachToLoad p z e k = k
-done_drive DropInPress p z e k = k
-done_drive LeaveLoaded p z e k = k
-done_drive TurnToUnload p z e k = k
-done_drive ReachToUnload p z e k = k
-done_drive GripForged p z e k = k
-done_drive LeaveUnloaded p z e k = k
-done_drive TurnToDeposit p z e k = k
-done_drive ReachDeposit p z e k = k
-done_drive DropOnDeposit p z e k = k
-done_drive LeaveDeposit p z e k = k
-done_drive _ p z e _ = cc
+done_drive _ p z e k = first_of (assumption, cc)
 
 drive_on : (b : Bool) (p : RobotProgress) (z : ModelState) → (row_of p).call ≡ None → RobotKnows p z → RobotKnows (if b then after_done p else p) z
 drive_on true p z e k = done_drive p.step p z e k
@@ -83,23 +61,17 @@ drive_on false p z e k = k
 
 -- a plate comes to the robot from the table or the press only while that zone is open outward
 table_gives : (q : Posture) → is_received_by (Some Robot) (transfer_of Z2 q) ≡ true → q ≡ OpenOut
-table_gives Closed e = cc
-table_gives Moving e = cc
-table_gives OpenIn e = cc
 table_gives OpenOut e = refl
+table_gives _ e = cc
 
 press_gives : (q : Posture) → is_received_by (Some Robot) (transfer_of Z3 q) ≡ true → q ≡ OpenOut
-press_gives Closed e = cc
-press_gives Moving e = cc
-press_gives OpenIn e = cc
 press_gives OpenOut e = refl
+press_gives _ e = cc
 
 -- the deposit belt opens its zone to the robot only inward
 deposit_opens : (q : Posture) → is_open q ≡ true → is_of_some_pose Z4 q ≡ true → q ≡ OpenIn
-deposit_opens Closed e f = cc
-deposit_opens Moving e f = cc
 deposit_opens OpenIn e f = refl
-deposit_opens OpenOut e f = cc
+deposit_opens _ e f = cc
 
 -- after a call that is done
 abbrev AfterCall : ModelState → Option Call → List Fact → Type 0
@@ -107,34 +79,19 @@ AfterCall z None facts = ⊤
 AfterCall z (Some c) facts = reply z Robot c ≡ Done → AreSo Robot (changed z Robot c) facts
 
 after_call : (s : RobotStep) (p : RobotProgress) (z : ModelState) → IsSound z → AreSo Robot z (facts_at s) → AfterCall z (row_at s p).call (facts_at (row_at s p).next.step)
-after_call TurnToTable p z sound k = tt
 after_call AwaitPlate p z sound k = λ d. cc
-after_call ReachTable p z sound k = tt
-after_call GripPlate p z sound k = tt
-after_call LeaveTable p z sound k = tt
 after_call TakePlate p z sound k = λ d. ((k.0.0, k.0.1), tt)
 after_call ReleaseTable p z sound k = λ d. at_choice (row_at ReleaseTable p).next.notes (changed z Robot (Release Z2))
-after_call TurnToLoad p z sound k = tt
 after_call ClaimPress p z sound k = λ d. (refl, tt)
 after_call InspectPress p z sound k = λ d. cc
 after_call ReleasePress p z sound k = λ d. tt
-after_call ReachToLoad p z sound k = tt
-after_call DropInPress p z sound k = tt
-after_call LeaveLoaded p z sound k = tt
 after_call GiveToPress p z sound k = λ d. at_choice (row_at GiveToPress p).next.notes (changed z Robot (Give Z3))
-after_call TurnToUnload p z sound k = tt
 after_call AwaitForged p z sound k = λ d. cc
-after_call ReachToUnload p z sound k = tt
-after_call GripForged p z sound k = tt
-after_call LeaveUnloaded p z sound k = tt
 after_call TakeForged p z sound k = λ d. ((k.0.0, k.0.1), tt)
 after_call ReleaseUnloaded p z sound k = λ d. at_choice (row_at ReleaseUnloaded p).next.notes (changed z Robot (Release Z3))
-after_call TurnToDeposit p z sound k = tt
 after_call ClaimDeposit p z sound k = λ d. ((refl, deposit_opens (posture_at z Z4) (entered z Z4 Robot d refl) (posed z Z4 sound)), tt)
-after_call ReachDeposit p z sound k = tt
-after_call DropOnDeposit p z sound k = tt
-after_call LeaveDeposit p z sound k = tt
 after_call GiveToDeposit p z sound k = λ d. at_choice (row_at GiveToDeposit p).next.notes (changed z Robot (Give Z4))
+after_call _ p z sound k = tt
 
 done_call : (p : RobotProgress) (c : Call) (z : ModelState) → (row_of p).call ≡ Some c → reply z Robot c ≡ Done → IsSound z → RobotKnows p z → RobotKnows (row_of p).next (changed z Robot c)
 done_call p c z e d sound k = subst (λ o. AfterCall z o (facts_at (row_of p).next.step)) e (after_call p.step p z sound k) d

@@ -18,19 +18,14 @@ use Rattle.cell_stations.specs.PressProgram.{row_of}
 abbrev pub facts_at : PressStep → List Fact
 facts_at ClaimFirst = []
 facts_at LeaveForMiddle = Owns Z3 ∷ []
-facts_at MoveToMiddle = Owns Z3 ∷ Hosts Z3 Moving ∷ []
-facts_at PoseMiddle = Owns Z3 ∷ Hosts Z3 Moving ∷ []
 facts_at ReleaseInterior = Owns Z3 ∷ Hosts Z3 OpenIn ∷ []
 facts_at TakePlate = Hosts Z3 OpenIn ∷ []
 facts_at LeaveForTop = Owns Z3 ∷ []
-facts_at MoveToTop = Owns Z3 ∷ Hosts Z3 Moving ∷ []
-facts_at PoseTop = Owns Z3 ∷ Hosts Z3 Moving ∷ []
 facts_at Forge = Owns Z3 ∷ Hosts Z3 Closed ∷ []
 facts_at LeaveForBottom = Owns Z3 ∷ []
-facts_at MoveToBottom = Owns Z3 ∷ Hosts Z3 Moving ∷ []
-facts_at PoseLow = Owns Z3 ∷ Hosts Z3 Moving ∷ []
 facts_at GivePlate = Owns Z3 ∷ Hosts Z3 OpenOut ∷ []
 facts_at ClaimBack = Hosts Z3 OpenOut ∷ []
+facts_at _ = Owns Z3 ∷ Hosts Z3 Moving ∷ []
 
 abbrev pub PressKnows : PressProgress → ModelState → Type 0
 PressKnows p z = AreSo Press z (facts_at p.step)
@@ -59,20 +54,15 @@ AfterCall z (Some c) facts = reply z Press c ≡ Done → AreSo Press (changed z
 
 after_call : (s : PressStep) (p : PressProgress) (z : ModelState) → AreSo Press z (facts_at s) → AfterCall z (row_at s p).call (facts_at (row_at s p).next.step)
 after_call ClaimFirst p z k = λ d. at_choice p.loaded p.forged p (changed z Press (Claim Z3)) refl
-after_call LeaveForMiddle p z k = λ d. (k.0, ((refl, refl), tt))
 after_call MoveToMiddle p z k = tt
-after_call PoseMiddle p z k = λ d. (k.0, ((refl, refl), tt))
 after_call ReleaseInterior p z k = λ d. (k.1.0, tt)
 after_call TakePlate p z k = λ d. (take_owned z Press Z3 d, tt)
-after_call LeaveForTop p z k = λ d. (k.0, ((refl, refl), tt))
 after_call MoveToTop p z k = tt
-after_call PoseTop p z k = λ d. (k.0, ((refl, refl), tt))
 after_call Forge p z k = λ d. (k.0, tt)
-after_call LeaveForBottom p z k = λ d. (k.0, ((refl, refl), tt))
 after_call MoveToBottom p z k = tt
-after_call PoseLow p z k = λ d. (k.0, ((refl, refl), tt))
 after_call GivePlate p z k = λ d. (k.1.0, tt)
 after_call ClaimBack p z k = λ d. (refl, tt)
+after_call _ p z k = λ d. (k.0, ((refl, refl), tt))
 
 done_call : (p : PressProgress) (c : Call) (z : ModelState) → (row_of p).call ≡ Some c → reply z Press c ≡ Done → PressKnows p z → PressKnows (row_of p).next (changed z Press c)
 done_call p c z e d k = subst (λ o. AfterCall z o (facts_at (row_of p).next.step)) e (after_call p.step p z k) d

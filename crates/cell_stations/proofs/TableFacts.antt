@@ -20,15 +20,12 @@ abbrev pub facts_at : TableStep → List Fact
 facts_at ClaimEntry = []
 facts_at ClaimExit = Owns Z1 ∷ []
 facts_at LeaveForLoading = Owns Z1 ∷ Owns Z2 ∷ []
-facts_at MoveToLoading = Owns Z1 ∷ Owns Z2 ∷ Hosts Z1 Moving ∷ Hosts Z2 Moving ∷ []
-facts_at PoseLoading = Owns Z1 ∷ Owns Z2 ∷ Hosts Z1 Moving ∷ Hosts Z2 Moving ∷ []
 facts_at ReleaseEntry = Owns Z1 ∷ Owns Z2 ∷ Hosts Z1 OpenIn ∷ Hosts Z2 Closed ∷ []
 facts_at TakePlate = Owns Z2 ∷ Hosts Z1 OpenIn ∷ Hosts Z2 Closed ∷ []
 facts_at LeaveForUnloading = Owns Z1 ∷ Owns Z2 ∷ []
-facts_at MoveToUnloading = Owns Z1 ∷ Owns Z2 ∷ Hosts Z1 Moving ∷ Hosts Z2 Moving ∷ []
-facts_at PoseUnloading = Owns Z1 ∷ Owns Z2 ∷ Hosts Z1 Moving ∷ Hosts Z2 Moving ∷ []
 facts_at GivePlate = Owns Z1 ∷ Owns Z2 ∷ Hosts Z1 Closed ∷ Hosts Z2 OpenOut ∷ []
 facts_at ClaimBack = Owns Z1 ∷ Hosts Z1 Closed ∷ Hosts Z2 OpenOut ∷ []
+facts_at _ = Owns Z1 ∷ Owns Z2 ∷ Hosts Z1 Moving ∷ Hosts Z2 Moving ∷ []
 
 abbrev pub TableKnows : TableProgress → ModelState → Type 0
 TableKnows p z = AreSo TableMachine z (facts_at p.step)
@@ -55,16 +52,13 @@ AfterCall z (Some c) facts = reply z TableMachine c ≡ Done → AreSo TableMach
 after_call : (s : TableStep) (p : TableProgress) (z : ModelState) → AreSo TableMachine z (facts_at s) → AfterCall z (row_at s p).call (facts_at (row_at s p).next.step)
 after_call ClaimEntry p z k = λ d. (refl, tt)
 after_call ClaimExit p z k = λ d. at_choice p.loaded p (changed z TableMachine (Claim Z2)) k.0 refl
-after_call LeaveForLoading p z k = λ d. (k.0, (k.1.0, ((refl, refl), ((refl, refl), tt))))
 after_call MoveToLoading p z k = tt
-after_call PoseLoading p z k = λ d. (k.0, (k.1.0, ((refl, refl), ((refl, refl), tt))))
 after_call ReleaseEntry p z k = λ d. k.1
 after_call TakePlate p z k = λ d. (take_owned z TableMachine Z1 d, (k.0, tt))
-after_call LeaveForUnloading p z k = λ d. (k.0, (k.1.0, ((refl, refl), ((refl, refl), tt))))
 after_call MoveToUnloading p z k = tt
-after_call PoseUnloading p z k = λ d. (k.0, (k.1.0, ((refl, refl), ((refl, refl), tt))))
 after_call GivePlate p z k = λ d. (k.0, k.1.1)
 after_call ClaimBack p z k = λ d. (k.0, (refl, tt))
+after_call _ p z k = λ d. (k.0, (k.1.0, ((refl, refl), ((refl, refl), tt))))
 
 done_call : (p : TableProgress) (c : Call) (z : ModelState) → (row_of p).call ≡ Some c → reply z TableMachine c ≡ Done → TableKnows p z → TableKnows (row_of p).next (changed z TableMachine c)
 done_call p c z e d k = subst (λ o. AfterCall z o (facts_at (row_of p).next.step)) e (after_call p.step p z k) d

@@ -87,20 +87,18 @@ AfterCall z (Some c) q = reply z Deposit c ≡ Done → DepositMore q (changed z
 after_call : (s : DepositStep) (p : DepositProgress) (z : ModelState) → IsSound z → facts.AreSo Deposit z (known.facts_at s) → MoreAt s p.entry p.last z → AfterCall z (row_at s p).call (row_at s p).next
 after_call ClaimEntry p z sound f k = λ d. record { shares = ((refl, claimed_clear z Deposit Z4 sound d), (k.shares.1.0, (k.shares.1.1.1.0, tt))); plates = refl; entry_noted = k.entry_noted; last_noted = k.last_noted }
 after_call ClaimExit p z sound f k = λ d. at_choice p.entry p.last p (changed z Deposit (Claim Z5)) (k.shares.0, ((refl, claimed_clear z Deposit Z5 sound d), tt)) k.entry_noted k.last_noted
-after_call PoseLanding p z sound f k = λ d. record { shares = k.shares; plates = k.plates; entry_noted = k.entry_noted; last_noted = k.last_noted }
 after_call ReleaseEntry p z sound f k = λ d. record { shares = (λ o. cc, (k.shares.1.0, tt)); plates = k.plates; entry_noted = k.entry_noted; last_noted = k.last_noted }
 after_call TakePlate p z sound f k = λ d.
     let places = taken_in z f.1.0.1 in
     record { shares = ((take_owned z Deposit Z4 d, refl), (k.shares.1.0, tt)); plates = and_right (not p.entry) (not p.last) k.plates; entry_noted = places.0; last_noted = places.1 ∙ k.last_noted }
-after_call StartRun p z sound f k = λ d. record { shares = k.shares; plates = k.plates; entry_noted = k.entry_noted; last_noted = k.last_noted }
 after_call RunIn p z sound f k = tt
 after_call RunOut p z sound f k = tt
 after_call MoveOn p z sound f k = λ d. record { shares = k.shares; plates = refl; entry_noted = refl; last_noted = refl }
-after_call PoseOffering p z sound f k = λ d. record { shares = k.shares; plates = k.plates; entry_noted = k.entry_noted; last_noted = k.last_noted }
 after_call GivePlate p z sound f k = λ d.
     let places = given_out z f.1.1.1.0.1 in
     record { shares = (k.shares.0, (λ o. cc, tt)); plates = refl; entry_noted = places.0 ∙ k.entry_noted; last_noted = places.1 }
 after_call ClaimBack p z sound f k = λ d. at_choice p.entry p.last p (changed z Deposit (Claim Z5)) (k.shares.0, ((refl, claimed_clear z Deposit Z5 sound d), tt)) k.entry_noted k.last_noted
+after_call _ p z sound f k = λ d. record { shares = k.shares; plates = k.plates; entry_noted = k.entry_noted; last_noted = k.last_noted }
 
 pub deposit-more : KnowingMore deposit_steps known.DepositKnows DepositMore
 deposit-more = record {

@@ -56,17 +56,13 @@ AfterCall z (Some c) shares = reply z Feed c ≡ Done → AreSo Feed (changed z 
 
 after_call : (s : FeedStep) (p : FeedProgress) (z : ModelState) → IsSound z → AreSo Feed z (shares_at s) → AfterCall z (row_at s p).call (shares_at (row_at s p).next.step)
 after_call ClaimEntry p z sound k = λ d. at_choice p.entry p.last p (changed z Feed (Claim Z6)) ((refl, claimed_clear z Feed Z6 sound d), (k.1.0, tt))
-after_call PoseLanding p z sound k = λ d. k
 after_call ReleaseEntry p z sound k = λ d. (λ o. cc, (k.1.0, tt))
 after_call TakePlate p z sound k = λ d. ((take_owned z Feed Z6 d, refl), (k.1.0, tt))
-after_call StartIn p z sound k = λ d. k
 after_call RunIn p z sound k = tt
-after_call MoveOn p z sound k = λ d. k
 after_call ClaimExit p z sound k = λ d. (k.0, tt)
-after_call StartOut p z sound k = λ d. k
 after_call RunOut p z sound k = tt
-after_call Halt p z sound k = λ d. k
 after_call GivePlate p z sound k = λ d. at_choice p.entry false p (changed z Feed (Give Z1)) (k.0, (λ o. cc, tt))
+after_call _ p z sound k = λ d. k
 
 pub feed-more : KnowingMore feed_steps known.FeedKnows FeedMore
 feed-more = record {

@@ -101,24 +101,19 @@ AfterCall z (Some c) q = reply z Press c ≡ Done → PressMore q (changed z Pre
 
 after_call : (s : PressStep) (p : PressProgress) (z : ModelState) → IsSound z → facts.AreSo Press z (known.facts_at s) → MoreAt s p.loaded p.forged z → AfterCall z (row_at s p).call (row_at s p).next
 after_call ClaimFirst p z sound f k = λ d. at_choice p.loaded p.forged p (changed z Press (Claim Z3)) ((refl, claimed_clear z Press Z3 sound d), tt) k.plates k.in_noted k.out_noted
-after_call LeaveForMiddle p z sound f k = λ d. record { shares = k.shares; plates = k.plates; in_noted = k.in_noted; out_noted = k.out_noted }
 after_call MoveToMiddle p z sound f k = tt
-after_call PoseMiddle p z sound f k = λ d. record { shares = k.shares; plates = k.plates; in_noted = k.in_noted; out_noted = k.out_noted }
 after_call ReleaseInterior p z sound f k = λ d. record { shares = (λ o. cc, tt); plates = k.plates; in_noted = k.in_noted; out_noted = k.out_noted }
 after_call TakePlate p z sound f k = λ d.
     let places = taken_in z f.0.1 in
     record { shares = ((take_owned z Press Z3 d, refl), tt); plates = and_right (not p.loaded) (not p.forged) k.plates; in_noted = places.0; out_noted = places.1 ∙ k.out_noted }
-after_call LeaveForTop p z sound f k = λ d. record { shares = k.shares; plates = k.plates; in_noted = k.in_noted; out_noted = k.out_noted }
 after_call MoveToTop p z sound f k = tt
-after_call PoseTop p z sound f k = λ d. record { shares = k.shares; plates = k.plates; in_noted = k.in_noted; out_noted = k.out_noted }
 after_call Forge p z sound f k = λ d. record { shares = k.shares; plates = refl; in_noted = refl; out_noted = refl }
-after_call LeaveForBottom p z sound f k = λ d. record { shares = k.shares; plates = k.plates; in_noted = k.in_noted; out_noted = k.out_noted }
 after_call MoveToBottom p z sound f k = tt
-after_call PoseLow p z sound f k = λ d. record { shares = k.shares; plates = k.plates; in_noted = k.in_noted; out_noted = k.out_noted }
 after_call GivePlate p z sound f k = λ d.
     let places = given_out z f.1.0.1 in
     record { shares = (λ o. cc, tt); plates = and_both (not p.loaded) true (and_left (not p.loaded) p.forged k.plates) refl; in_noted = places.0 ∙ k.in_noted; out_noted = places.1 }
 after_call ClaimBack p z sound f k = λ d. record { shares = ((refl, claimed_clear z Press Z3 sound d), tt); plates = k.plates; in_noted = k.in_noted; out_noted = k.out_noted }
+after_call _ p z sound f k = λ d. record { shares = k.shares; plates = k.plates; in_noted = k.in_noted; out_noted = k.out_noted }
 
 pub press-more : KnowingMore press_steps known.PressKnows PressMore
 press-more = record {
@@ -170,26 +165,24 @@ leaves z k = pose_only z Press Travelling refl (clears z k) refl (has_room z Pre
 
 heeds_at : (s : PressStep) (p : PressProgress) (z : ModelState) → IsSound z → facts.AreSo Press z (known.facts_at s) → MoreAt s p.loaded p.forged z → Heeds (row_at s p).waits z Press (row_at s p).call
 heeds_at ClaimFirst p z sound f k = let mine = unowned z Press Z3 Closed sound k.shares.1.0.1 refl k.shares.0 in first_claim z Press Z3 refl refl mine (free_of z Z3 sound k.shares.1.0.1 mine)
-heeds_at LeaveForMiddle p z sound f k = leaves z k.shares
 heeds_at MoveToMiddle p z sound f k = tt
 heeds_at PoseMiddle p z sound f k =
     pose_only z Press Middle refl (clears z k.shares) (no_jump z Press (moves z f.1.0.1))
     (room z (noted_empty _ _ k.in_noted (and_left (not p.loaded) (not p.forged) k.plates)) (noted_empty _ _ k.out_noted (and_right (not p.loaded) (not p.forged) k.plates))) refl
 heeds_at ReleaseInterior p z sound f k = release_only z Press Z3 refl k.shares.0.0 k.shares.0.1 (ap (λ q. same_posture q Moving) f.1.0.1) refl
 heeds_at TakePlate p z sound f k = take_back z Press Z3 refl k.shares.0
-heeds_at LeaveForTop p z sound f k = leaves z k.shares
 heeds_at MoveToTop p z sound f k = tt
 heeds_at PoseTop p z sound f k = pose_only z Press Top refl (clears z k.shares) (no_jump z Press (moves z f.1.0.1)) (has_room z Press Top refl) refl
 heeds_at Forge p z sound f k =
     advance_only z Press (PressIn, PressOut) refl (owned_not (owns z Press Z3) z f.0) (ap (λ q. same_posture q Closed) f.1.0.1)
     (noted_full _ _ k.in_noted (and_left p.loaded (not p.forged) k.plates)) (noted_empty _ _ k.out_noted (and_right p.loaded (not p.forged) k.plates))
-heeds_at LeaveForBottom p z sound f k = leaves z k.shares
 heeds_at MoveToBottom p z sound f k = tt
 heeds_at PoseLow p z sound f k = pose_only z Press Low refl (clears z k.shares) (no_jump z Press (moves z f.1.0.1)) (has_room z Press Low refl) refl
 heeds_at GivePlate p z sound f k =
     give_only UntilRoom z Press Z3 _ refl k.shares.0.0 k.shares.0.1 (ap (λ q. given_by Press (transfer_of Z3 q)) f.1.0.1)
     (noted_full _ _ k.out_noted (and_right (not p.loaded) p.forged k.plates)) (may UntilRoom _ _ refl)
 heeds_at ClaimBack p z sound f k = claim_back z Press Z3 refl refl (unowned z Press Z3 OpenOut sound f.0.1 refl k.shares.0)
+heeds_at _ p z sound f k = leaves z k.shares
 
 pub press_heeds : (p : PressProgress) (z : ModelState) → IsSound z → known.PressKnows p z → PressMore p z → Heeds (row_of p).waits z Press (row_of p).call
 press_heeds p z sound f k = heeds_at p.step p z sound f k

@@ -44,11 +44,7 @@ own_yieldless p s t (e ∷ events) never r = (asked_no_yield (p.call r.0) e.call
 -- the watch is no party of a zone
 watch_apart : (y : Zone) → is_party Watch y ≡ false
 watch_apart Z1 = refl
-watch_apart Z2 = refl
-watch_apart Z3 = refl
-watch_apart Z4 = refl
-watch_apart Z5 = refl
-watch_apart Z6 = refl
+watch_apart _ = refl
 
 watch_yieldless : (z : ModelState) (c : Call) → IsYieldless z Watch c
 watch_yieldless z (Yield y) e = no_both (is_party Watch y) _ (and_left _ _ (yield_done z Watch y (done_none (yield_refusal z Watch y) e)).0) (watch_apart y)

@@ -23,6 +23,7 @@ use Rattle.cell_robot.specs.declared.robot.RobotStep.TheVariants.{LeaveUnloaded,
 use Rattle.cell_robot.specs.declared.robot.RobotStep.TheVariants.{TurnToDeposit, ClaimDeposit, ReachDeposit}
 use Rattle.cell_robot.specs.declared.robot.RobotStep.TheVariants.{DropOnDeposit, LeaveDeposit, GiveToDeposit}
 use Rattle.cell_robot.specs.declared.robot.RobotProgress.{RobotProgress}
+use Rattle.cell_team.specs.RobotPlates.{has_plates}
 use Rattle.cell_robot.proofs.RobotFacts as known
 use Rattle.cell_control.proofs.Facts as facts
 use Rattle.cell_team.proofs.Waiting.{Heeds, none_only, unless, claim_in, take_own, give_only, release_only}
@@ -52,30 +53,6 @@ shares_at DropOnDeposit = Lent Z3 ∷ []
 shares_at LeaveDeposit = Lent Z3 ∷ []
 shares_at GiveToDeposit = Lent Z3 ∷ []
 shares_at _ = Lent Z3 ∷ Lent Z4 ∷ []
-
--- the plates that a step is about
-abbrev pub has_plates : RobotStep → Bool → Bool → Bool → Bool
-has_plates TurnToLoad first second fed = first && not fed
-has_plates ClaimPress first second fed = first && not fed
-has_plates InspectPress first second fed = first && not fed
-has_plates ReleasePress first second fed = first && not fed
-has_plates ReachToLoad first second fed = first && not fed
-has_plates DropInPress first second fed = first && not fed
-has_plates LeaveLoaded first second fed = first && not fed
-has_plates GiveToPress first second fed = first && not fed
-has_plates TurnToUnload first second fed = fed
-has_plates AwaitForged first second fed = fed
-has_plates ReachToUnload first second fed = fed
-has_plates GripForged first second fed = fed
-has_plates LeaveUnloaded first second fed = fed
-has_plates TakeForged first second fed = fed
-has_plates TurnToDeposit first second fed = second
-has_plates ClaimDeposit first second fed = second
-has_plates ReachDeposit first second fed = second
-has_plates DropOnDeposit first second fed = second
-has_plates LeaveDeposit first second fed = second
-has_plates GiveToDeposit first second fed = second
-has_plates _ first second fed = true
 
 -- the notes agree with the arms' places, and with the plates that the robot brought into the press and hasn't fetched
 pub record Noted (first second fed : Bool) (z : ModelState) : Type 0 where

@@ -74,16 +74,13 @@ AfterCall z (Some c) q = reply z TableMachine c ≡ Done → TableMore q (change
 after_call : (s : TableStep) (p : TableProgress) (z : ModelState) → IsSound z → facts.AreSo TableMachine z (known.facts_at s) → MoreAt s p.loaded z → AfterCall z (row_at s p).call (row_at s p).next
 after_call ClaimEntry p z sound f k = λ d. record { shares = ((refl, claimed_clear z TableMachine Z1 sound d), (k.shares.1.0, (k.shares.1.1.1.0, tt))); plate = refl; noted = k.noted }
 after_call ClaimExit p z sound f k = λ d. at_choice p.loaded p (changed z TableMachine (Claim Z2)) (k.shares.0, ((refl, claimed_clear z TableMachine Z2 sound d), tt)) k.noted
-after_call LeaveForLoading p z sound f k = λ d. record { shares = k.shares; plate = k.plate; noted = k.noted }
 after_call MoveToLoading p z sound f k = tt
-after_call PoseLoading p z sound f k = λ d. record { shares = k.shares; plate = k.plate; noted = k.noted }
 after_call ReleaseEntry p z sound f k = λ d. record { shares = (λ o. cc, (k.shares.1.0, tt)); plate = k.plate; noted = k.noted }
 after_call TakePlate p z sound f k = λ d. record { shares = ((take_owned z TableMachine Z1 d, refl), (k.shares.1.0, tt)); plate = refl; noted = ap (λ q. has (filled z.full (transfer_of Z1 q)) OnTable) f.1.0.1 }
-after_call LeaveForUnloading p z sound f k = λ d. record { shares = k.shares; plate = k.plate; noted = k.noted }
 after_call MoveToUnloading p z sound f k = tt
-after_call PoseUnloading p z sound f k = λ d. record { shares = k.shares; plate = k.plate; noted = k.noted }
 after_call GivePlate p z sound f k = λ d. record { shares = (k.shares.0, (λ o. cc, tt)); plate = refl; noted = ap (λ q. has (emptied z.full (given_by TableMachine (transfer_of Z2 q))) OnTable) f.1.1.1.0.1 }
 after_call ClaimBack p z sound f k = λ d. record { shares = (k.shares.0, ((refl, claimed_clear z TableMachine Z2 sound d), tt)); plate = k.plate; noted = k.noted }
+after_call _ p z sound f k = λ d. record { shares = k.shares; plate = k.plate; noted = k.noted }
 
 pub table-more : (points : Scale) (gives : ℕ → ℤ → Type 0) → KnowingMore (table_steps points gives) known.TableKnows TableMore
 table-more points gives = record {

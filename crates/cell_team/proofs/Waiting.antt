@@ -53,17 +53,11 @@ may w false r k = none_only w
 
 worn_waited : (w : Waits) → is_waited w Worn ≡ true
 worn_waited Never = refl
-worn_waited UntilFree = refl
-worn_waited UntilOwner = refl
-worn_waited UntilRoom = refl
-worn_waited UntilFreeAndOpen = refl
+worn_waited _ = refl
 
 stopped_waited : (w : Waits) → is_waited w Stopped ≡ true
 stopped_waited Never = refl
-stopped_waited UntilFree = refl
-stopped_waited UntilOwner = refl
-stopped_waited UntilRoom = refl
-stopped_waited UntilFreeAndOpen = refl
+stopped_waited _ = refl
 
 worn_only : (w : Waits) (s : ModelState) → Only w (Refusals.worn s)
 worn_only w s = may w _ Worn (worn_waited w)
@@ -286,10 +280,8 @@ refusal_of s m (Yield z) r e = some_of _ r e
 refusal_of s m (Take z) r e = some_of _ r e
 refusal_of s m (Release z) r e = some_of _ r e
 refusal_of s m (SetPose p) r e = some_of _ r e
-refusal_of s m Advance r e = some_of _ r e
 refusal_of s m (Inquire z) r e = cc
-refusal_of s m Stop r e = some_of _ r e
-refusal_of s m Resume r e = some_of _ r e
+refusal_of s m _ r e = some_of _ r e
 
 -- what a step asks, if it asks, is heeded
 abbrev pub Heeds : Waits → ModelState → Machine → Option Call → Type 0
