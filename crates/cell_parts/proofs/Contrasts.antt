@@ -16,9 +16,6 @@ minus_on e = cc
 pub false_true : ¬ (false ≡ true)
 false_true e = cc
 
-pub true_false : ¬ (true ≡ false)
-true_false e = cc
-
 pub off_plus : ¬ (Off ≡ Plus)
 off_plus e = cc
 

@@ -30,8 +30,8 @@ pub record Scaled (Plant Scales : Type 0) : Type 0 where
 
 -- The start: every motor and belt is off, each full place has its plate, and the magnet of an arm or a crane is on if
 -- it has a plate.
-abbrev pub standing : ℤ → Axis
-standing p = record { position = p; motor = Off }
+abbrev pub axis_at_rest : ℤ → Axis
+axis_at_rest p = record { position = p; motor = Off }
 
 abbrev pub plate_if : Bool → ℤ → Option ℤ
 plate_if full p = if full then Some p else None
@@ -51,23 +51,23 @@ deposit_at_start s = record {
 }
 
 abbrev pub table_at_start : TablePlant
-table_at_start = record { lift = standing (pos 0); turn = standing (pos 0) }
+table_at_start = record { lift = axis_at_rest (pos 0); turn = axis_at_rest (pos 0) }
 
 abbrev pub robot_at_start : ModelState → RobotPlant
 robot_at_start s =
     record {
-      arm1 = standing (pos 0);
-      arm2 = standing (pos 0);
-      rotation = standing rotation_start;
+      arm1 = axis_at_rest (pos 0);
+      arm2 = axis_at_rest (pos 0);
+      rotation = axis_at_rest rotation_start;
       magnet1 = is_full s Arm1;
       magnet2 = is_full s Arm2;
     }
 
 abbrev pub press_at_start : Axis
-press_at_start = standing press_end
+press_at_start = axis_at_rest press_end
 
 abbrev pub crane_at_start : ModelState → CranePlant
-crane_at_start s = record { travel = standing (pos 0); gripper = standing gripper_start; magnet = is_full s Crane }
+crane_at_start s = record { travel = axis_at_rest (pos 0); gripper = axis_at_rest gripper_start; magnet = is_full s Crane }
 
 abbrev pub plant_at_start : ModelState → PlantState
 plant_at_start s =

@@ -1,7 +1,7 @@
 //! An axis that its motor moves, for all parts but the belts.
 ghost use Rattle.std.specs.Prelude.{◌≡◌, ◌≤ℤ◌};
 ghost use Rattle.cell_parts.specs.Axes.{IsWithin, rotation_end};
-ghost use Rattle.cell_parts.specs.Plant.{standing, set_axis, moved_axis};
+ghost use Rattle.cell_parts.specs.Plant.{axis_at_rest, set_axis, moved_axis};
 
 use cell_devices::Motor;
 
@@ -20,8 +20,8 @@ pub struct Axis {
 
 impl Axis {
     /// An axis at rest at a position.
-    pub fn standing(position: i32) -> Axis
-        ensures { result ≡ standing position }
+    pub fn at_rest(position: i32) -> Axis
+        ensures { result ≡ axis_at_rest position }
     {
         Axis {
             position,

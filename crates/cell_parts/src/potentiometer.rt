@@ -1,7 +1,7 @@
 //! An axis with a potentiometer, for the parts of table, robot and crane.
 ghost use Rattle.std.specs.Prelude.{◌≡◌, ◌*◌, ◌/◌, ◌≤◌, ◌<◌, ◌≤ℤ◌, pos, ◌<ℤ◌, ◌-ℤ◌};
 ghost use Rattle.cell_parts.specs.Axes.{IsWithin, rotation_end};
-ghost use Rattle.cell_parts.specs.Plant.{standing, set_axis, moved_axis};
+ghost use Rattle.cell_parts.specs.Plant.{axis_at_rest, set_axis, moved_axis};
 ghost use Rattle.cell_parts.specs.Shows.{ShowsRaw};
 
 use crate::axis::Axis;
@@ -10,7 +10,7 @@ use cell_devices::Motor;
 
 /// An axis with a potentiometer. It keeps what the sensor shows, which changes only when the axis
 /// moves.
-#[derive(Drop, Debug)]
+#[derive(Drop)]
 pub(crate) struct MeasuredAxis {
     /// The axis.
     pub(crate) axis: Axis,
@@ -24,12 +24,12 @@ pub(crate) struct MeasuredAxis {
 
 impl MeasuredAxis {
     /// An axis at rest at a position. These are the points of its potentiometer.
-    pub(crate) fn standing(position: i32, points: Points) -> MeasuredAxis
-        ensures axis { result.axis ≡ standing position }
+    pub(crate) fn at_rest(position: i32, points: Points) -> MeasuredAxis
+        ensures axis { result.axis ≡ axis_at_rest position }
         ensures points { result.points ≡ points }
     {
         MeasuredAxis {
-            axis: Axis::standing(position),
+            axis: Axis::at_rest(position),
             points,
             raw: raw_at(&points, position),
         }
@@ -51,11 +51,10 @@ impl MeasuredAxis {
         ensures points { self.new.points ≡ self.old.points }
         ensures within { IsWithin end self.new.axis.position }
     {
-        let position = self.axis.set(motor).after_tick(end).position;
-        self.axis.motor = motor;
-        if position != self.axis.position {
-            self.axis.position = position;
-            self.raw = raw_at(&self.points, position);
+        let before = self.axis.position;
+        self.axis = self.axis.set(motor).after_tick(end);
+        if self.axis.position != before {
+            self.raw = raw_at(&self.points, self.axis.position);
         }
     }
 }

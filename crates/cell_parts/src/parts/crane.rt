@@ -31,7 +31,7 @@ pub const CRANE_FEED_FROM: i32 = 1990;
 /// The crane. Its travel goes from 0, over the deposit belt, to 2000, over the feed belt, with a
 /// switch at each end. Its gripper's height goes from 0 to 1000, with a potentiometer. Its gripper
 /// has a magnet.
-#[derive(Drop, Debug)]
+#[derive(Drop)]
 pub struct CranePart {
     travel: Axis,
     gripper: MeasuredAxis,
@@ -62,8 +62,8 @@ impl CranePart {
         ensures scale { result.scale ≡ points }
     {
         CranePart {
-            travel: Axis::standing(0),
-            gripper: MeasuredAxis::standing(GRIPPER_START, points),
+            travel: Axis::at_rest(0),
+            gripper: MeasuredAxis::at_rest(GRIPPER_START, points),
             magnet: state.is_full(Place::Crane),
         }
     }

@@ -10,7 +10,7 @@ use cell_rules::State;
 use cell_types::{Answer, Call, Event, Machine, Zone};
 
 /// The feed belt, with a light barrier.
-#[derive(Clone, Copy, Debug)]
+#[derive(Clone, Copy)]
 pub struct FeedPart {
     /// The belt with its plates.
     pub belt: Belt,

@@ -26,7 +26,7 @@ pub const PRESS_MIDDLE_LAST: i32 = 510;
 pub const PRESS_TOP_FROM: i32 = 990;
 
 /// The press: an axis from 0 to 1000, with a switch at its bottom, its middle and its top.
-#[derive(Clone, Copy, Debug)]
+#[derive(Clone, Copy)]
 pub struct PressPart {
     axis: Axis,
 }
@@ -50,7 +50,7 @@ impl PressPart {
         ensures { result ≡ press_at_start }
     {
         PressPart {
-            axis: Axis::standing(PRESS_END),
+            axis: Axis::at_rest(PRESS_END),
         }
     }
 

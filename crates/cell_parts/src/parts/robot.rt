@@ -22,7 +22,7 @@ pub const ROTATION_END: i32 = 2000;
 pub const ROTATION_START: i32 = 300;
 
 /// The points of the robot's potentiometers.
-#[derive(Clone, Copy, Debug)]
+#[derive(Clone, Copy)]
 pub struct RobotPoints {
     /// Of the first arm's extension.
     pub arm1: Points,
@@ -34,7 +34,7 @@ pub struct RobotPoints {
 
 /// The robot. Its arms go from 0 to 1000, its rotation from 0 to 2000, each with a potentiometer.
 /// Each arm has a magnet.
-#[derive(Drop, Debug)]
+#[derive(Drop)]
 pub struct RobotPart {
     arm1: MeasuredAxis,
     arm2: MeasuredAxis,
@@ -73,9 +73,9 @@ impl RobotPart {
         ensures scale { result.scale ≡ record { arm1 = points.arm1; arm2 = points.arm2; rotation = points.rotation } }
     {
         RobotPart {
-            arm1: MeasuredAxis::standing(0, points.arm1),
-            arm2: MeasuredAxis::standing(0, points.arm2),
-            rotation: MeasuredAxis::standing(ROTATION_START, points.rotation),
+            arm1: MeasuredAxis::at_rest(0, points.arm1),
+            arm2: MeasuredAxis::at_rest(0, points.arm2),
+            rotation: MeasuredAxis::at_rest(ROTATION_START, points.rotation),
             magnet1: state.is_full(Place::Arm1),
             magnet2: state.is_full(Place::Arm2),
         }

@@ -26,7 +26,7 @@ pub const TABLE_TOP_FROM: i32 = 590;
 
 /// The table. Its height goes from 0 to 600, with a switch at each end; its rotation goes from 0 to
 /// 500, with a potentiometer.
-#[derive(Drop, Debug)]
+#[derive(Drop)]
 pub struct TablePart {
     lift: Axis,
     turn: MeasuredAxis,
@@ -53,8 +53,8 @@ impl TablePart {
         ensures scale { result.scale ≡ points }
     {
         TablePart {
-            lift: Axis::standing(0),
-            turn: MeasuredAxis::standing(0, points),
+            lift: Axis::at_rest(0),
+            turn: MeasuredAxis::at_rest(0, points),
         }
     }
 
