@@ -25,7 +25,7 @@ use cell_notes::{RunRecord, Status, Turn, TurnCall};
 use cell_parts::PlantState;
 use cell_rules::{Bench, State};
 use cell_types::Machine;
-use cell_unit::{SimFault, status_of, take_bench_turn};
+use cell_unit::{SimFault, take_bench_turn};
 use std::alloc::Global;
 use std::marker::Model;
 use std::mem;
@@ -283,13 +283,13 @@ impl<F1: Gauge, F2: Gauge, F3: Gauge, F4: Gauge, F5: Gauge> Simulation<F1, F2, F
         ensures { result ≡ map (λ m. status_by (side_in self.now.sides m).stopped) all_machines }
     {
         [
-            status_of(self.cell.feed.controller.stopped()),
-            status_of(self.cell.table.controller.stopped()),
-            status_of(self.cell.robot.controller.stopped()),
-            status_of(self.cell.press.controller.stopped()),
-            status_of(self.cell.deposit.controller.stopped()),
-            status_of(self.cell.crane.controller.stopped()),
-            status_of(self.watch.controller.stopped()),
+            self.cell.feed.status(),
+            self.cell.table.status(),
+            self.cell.robot.status(),
+            self.cell.press.status(),
+            self.cell.deposit.status(),
+            self.cell.crane.status(),
+            self.watch.status(),
         ]
     }
 }

@@ -2,9 +2,11 @@
 ghost use Rattle.std.specs.Prelude.{◌≡◌, None};
 ghost use Rattle.cell_unit.specs.Sides.{ActsAndMoves, DemandsHold, UnitIsReady, noting};
 ghost use Rattle.cell_unit.specs.Sides.{unit_program, unit_rig, unit_side, unit_table};
+ghost use Rattle.cell_unit.specs.Statuses.{status_of as status_by};
 
+use crate::status::status_of;
 use cell_control::{Controller, Part, PartSensors, Program};
-use cell_notes::{TurnCall, done_event};
+use cell_notes::{Status, TurnCall, done_event};
 use cell_rules::Line;
 use cell_types::Event;
 
@@ -42,6 +44,13 @@ impl<P: Program, B: Part<Sense = P::Sense, Act = P::Act>> MachineUnit<P, B> {
         let event = done_event(machine, taken.asked);
         note_and_tick(&mut self.part, event, &taken.told.act);
         taken.asked
+    }
+
+    /// Its status, by what has stopped its controller.
+    pub fn status(&self) -> Status
+        ensures { result ≡ status_by (unit_side B.state self.now).stopped }
+    {
+        status_of(self.controller.stopped())
     }
 }
 
