@@ -23,24 +23,24 @@ abbrev pub CraneClashes : CraneSense → Type 0
 CraneClashes s = IsTrue s.deposit × IsTrue s.feed
 
 -- the sensors of each machine
-abbrev pub feed_part : SensorVector → FeedSense
-feed_part v = record { barrier = v.feed_barrier }
+abbrev pub feed_sense : SensorVector → FeedSense
+feed_sense v = record { barrier = v.feed_barrier }
 
-abbrev pub table_part : SensorVector → TableSense
-table_part v = record { bottom = v.table_bottom; top = v.table_top; turn = v.table_turn }
+abbrev pub table_sense : SensorVector → TableSense
+table_sense v = record { bottom = v.table_bottom; top = v.table_top; turn = v.table_turn }
 
-abbrev pub robot_part : SensorVector → RobotSense
-robot_part v = record { arm1 = v.arm1; arm2 = v.arm2; rotation = v.rotation }
+abbrev pub robot_sense : SensorVector → RobotSense
+robot_sense v = record { arm1 = v.arm1; arm2 = v.arm2; rotation = v.rotation }
 
-abbrev pub press_part : SensorVector → PressSense
-press_part v = record { bottom = v.press_bottom; middle = v.press_middle; top = v.press_top }
+abbrev pub press_sense : SensorVector → PressSense
+press_sense v = record { bottom = v.press_bottom; middle = v.press_middle; top = v.press_top }
 
-abbrev pub deposit_part : SensorVector → DepositSense
-deposit_part v = record { barrier = v.deposit_barrier }
+abbrev pub deposit_sense : SensorVector → DepositSense
+deposit_sense v = record { barrier = v.deposit_barrier }
 
-abbrev pub crane_part : SensorVector → CraneSense
-crane_part v = record { deposit = v.crane_deposit; feed = v.crane_feed; gripper = v.gripper }
+abbrev pub crane_sense : SensorVector → CraneSense
+crane_sense v = record { deposit = v.crane_deposit; feed = v.crane_feed; gripper = v.gripper }
 
 -- a machine has two switches on that exclude each other
 abbrev pub SwitchesClash : SensorVector → Type 0
-SwitchesClash v = (PressClashes (press_part v) ⊎ TableClashes (table_part v)) ⊎ CraneClashes (crane_part v)
+SwitchesClash v = (PressClashes (press_sense v) ⊎ TableClashes (table_sense v)) ⊎ CraneClashes (crane_sense v)

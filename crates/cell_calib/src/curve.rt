@@ -67,7 +67,7 @@ impl Curve {
         check(points, pairs)?;
         Ok(Curve {
             points,
-            places: placed(pairs),
+            places: places_of(pairs),
             filled: pairs.len(),
         })
     }
@@ -116,7 +116,7 @@ impl Curve {
 }
 
 /// An array that begins with these pairs.
-fn placed(pairs: &[(u16, i32)]) -> [(u16, i32); MAX_PAIRS]
+fn places_of(pairs: &[(u16, i32)]) -> [(u16, i32); MAX_PAIRS]
     requires { length pairs.now ≤ 32 }
     ensures { take (length pairs.now) result ≡ pairs.now }
 {

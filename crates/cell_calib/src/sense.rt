@@ -2,8 +2,8 @@
 ghost use Rattle.std.specs.Prelude.{◌≡◌, ◌↔◌, IsOk, Some};
 ghost use Rattle.cell_calib.specs.Faults.{sensor_fault_text};
 ghost use Rattle.cell_calib.specs.Sensors.{TableClashes, PressClashes, CraneClashes, SwitchesClash};
-ghost use Rattle.cell_calib.specs.Sensors.{feed_part, table_part, robot_part, press_part, deposit_part};
-ghost use Rattle.cell_calib.specs.Sensors.{crane_part};
+ghost use Rattle.cell_calib.specs.Sensors.{feed_sense, table_sense, robot_sense, press_sense, deposit_sense};
+ghost use Rattle.cell_calib.specs.Sensors.{crane_sense};
 
 use std::fmt;
 
@@ -40,14 +40,14 @@ impl fmt::Display for SensorFault {
 }
 
 /// The feed belt's sensors.
-#[derive(Clone, Copy, Debug, PartialEq, Eq, Default)]
+#[derive(Clone, Copy, PartialEq, Eq, Default)]
 pub struct FeedSense {
     /// A plate is in the light barrier at the belt's end.
     pub barrier: bool,
 }
 
 /// The table's sensors.
-#[derive(Clone, Copy, Debug, PartialEq, Eq, Default)]
+#[derive(Clone, Copy, PartialEq, Eq, Default)]
 pub struct TableSense {
     /// The switch at the bottom.
     pub bottom: bool,
@@ -58,7 +58,7 @@ pub struct TableSense {
 }
 
 /// The robot's sensors, all raw values.
-#[derive(Clone, Copy, Debug, PartialEq, Eq, Default)]
+#[derive(Clone, Copy, PartialEq, Eq, Default)]
 pub struct RobotSense {
     /// The extension of the first arm.
     pub arm1: u16,
@@ -80,14 +80,14 @@ pub struct PressSense {
 }
 
 /// The deposit belt's sensors.
-#[derive(Clone, Copy, Debug, PartialEq, Eq, Default)]
+#[derive(Clone, Copy, PartialEq, Eq, Default)]
 pub struct DepositSense {
     /// A plate is in the light barrier at the belt's end.
     pub barrier: bool,
 }
 
 /// The crane's sensors.
-#[derive(Clone, Copy, Debug, PartialEq, Eq, Default)]
+#[derive(Clone, Copy, PartialEq, Eq, Default)]
 pub struct CraneSense {
     /// The switch over the deposit belt.
     pub deposit: bool,
@@ -137,7 +137,7 @@ impl CraneSense {
 }
 
 /// The fourteen sensors of the cell.
-#[derive(Clone, Copy, Debug, PartialEq, Eq, Default)]
+#[derive(Clone, Copy, Default)]
 pub struct SensorVector {
     /// The press at its bottom.
     pub press_bottom: bool,
@@ -172,7 +172,7 @@ pub struct SensorVector {
 impl SensorVector {
     /// The feed belt's sensors, out of the fourteen.
     pub fn feed(&self) -> FeedSense
-        ensures { result ≡ feed_part self.now }
+        ensures { result ≡ feed_sense self.now }
     {
         FeedSense {
             barrier: self.feed_barrier,
@@ -181,7 +181,7 @@ impl SensorVector {
 
     /// The table's sensors, out of the fourteen.
     pub fn table(&self) -> TableSense
-        ensures { result ≡ table_part self.now }
+        ensures { result ≡ table_sense self.now }
     {
         TableSense {
             bottom: self.table_bottom,
@@ -192,7 +192,7 @@ impl SensorVector {
 
     /// The robot's sensors, out of the fourteen.
     pub fn robot(&self) -> RobotSense
-        ensures { result ≡ robot_part self.now }
+        ensures { result ≡ robot_sense self.now }
     {
         RobotSense {
             arm1: self.arm1,
@@ -203,7 +203,7 @@ impl SensorVector {
 
     /// The press's sensors, out of the fourteen.
     pub fn press(&self) -> PressSense
-        ensures { result ≡ press_part self.now }
+        ensures { result ≡ press_sense self.now }
     {
         PressSense {
             bottom: self.press_bottom,
@@ -214,7 +214,7 @@ impl SensorVector {
 
     /// The deposit belt's sensors, out of the fourteen.
     pub fn deposit(&self) -> DepositSense
-        ensures { result ≡ deposit_part self.now }
+        ensures { result ≡ deposit_sense self.now }
     {
         DepositSense {
             barrier: self.deposit_barrier,
@@ -223,7 +223,7 @@ impl SensorVector {
 
     /// The crane's sensors, out of the fourteen.
     pub fn crane(&self) -> CraneSense
-        ensures { result ≡ crane_part self.now }
+        ensures { result ≡ crane_sense self.now }
     {
         CraneSense {
             deposit: self.crane_deposit,

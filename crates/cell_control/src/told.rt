@@ -5,7 +5,7 @@ ghost use Rattle.cell_control.specs.Turns.{answered};
 use crate::fault::CtlFault;
 
 /// What a machine is told in a turn: commands that its actuators are to be set to, each time.
-#[derive(Clone, Copy, Debug, PartialEq, Eq)]
+#[derive(Clone, Copy)]
 pub struct Told<A> {
     /// The commands to its actuators. After a fault all motors are off, and magnets stay as the
     /// program has noted them.

@@ -2,7 +2,7 @@
 ghost use Rattle.std.specs.Prelude.{◌≡◌, ◌≢◌, [], None};
 ghost use Rattle.cell_rules.specs.History.{after, own_events};
 ghost use Rattle.cell_rules.specs.Seen.{Waits};
-ghost use Rattle.cell_control.specs.Steps.{IsReached};
+ghost use Rattle.cell_control.specs.Controllers.{HasReached, program_in, step_in, stopped_in};
 ghost use Rattle.cell_control.specs.Wiring.{TurnsWired};
 
 use crate::controller::Controller;
@@ -55,12 +55,11 @@ impl<P: Program, L: Line> Wired<P, L> {
 
     // A controller that has come so far by what this line has seen.
     pub(crate) fn of(controller: Controller<P>, line: L) -> Wired<P, L>
-        requires own { L.machine line ≡ (P.steps controller.program).machine }
-        requires reached { controller.stopped ≡ None
-            → IsReached (P.steps controller.program) (L.opening line) (L.seen line) controller.progress }
-        ensures program { result.program ≡ controller.program }
-        ensures progress { result.progress ≡ controller.progress }
-        ensures stopped { result.stopped ≡ controller.stopped }
+        requires own { L.machine line ≡ (P.steps (program_in controller)).machine }
+        requires reached { HasReached P.steps controller (L.opening line) (L.seen line) }
+        ensures program { result.program ≡ program_in controller }
+        ensures progress { result.progress ≡ step_in controller }
+        ensures stopped { result.stopped ≡ stopped_in controller }
         ensures line { result.line ≡ line }
     {
         Wired { controller, line }

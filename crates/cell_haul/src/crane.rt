@@ -3,6 +3,7 @@ ghost use Rattle.std.specs.Prelude.{◌≡◌, ◌↔◌, ◌≤◌, IfSome, IsT
 ghost use Rattle.cell_devices.specs.Drives.{DrivesTo, narrowest_half};
 ghost use Rattle.cell_devices.specs.Limits.{travel_from};
 ghost use Rattle.cell_haul.specs.CraneProgram as program;
+ghost use Rattle.cell_haul.specs.Calibrations.{gripper_in};
 
 use cell_calib::{Calibration, CraneSense, Gauge, SensorFault};
 use cell_control::{Controller, Program, Row, Waits};
@@ -47,7 +48,7 @@ pub enum CraneStep {
 }
 
 /// The crane's step in its program, with its note.
-#[derive(Clone, Copy, Debug, PartialEq, Eq)]
+#[derive(Clone, Copy)]
 pub struct CraneProgress {
     pub step: CraneStep,
     /// Whether the gripper's magnet is on.
@@ -55,7 +56,7 @@ pub struct CraneProgress {
 }
 
 /// What the crane's sensors say after the check.
-#[derive(Clone, Copy, Debug, PartialEq, Eq)]
+#[derive(Clone, Copy)]
 pub struct CraneReading {
     /// The switches, which don't clash, and the raw value.
     pub sense: CraneSense,
@@ -175,7 +176,7 @@ pub type CraneCtl<F> = Controller<CraneProgram<F>>;
 impl<F: Gauge> CraneProgram<F> {
     /// The program with this calibration.
     pub fn new(gripper: Calibration<F>) -> CraneProgram<F>
-        ensures { result.gripper ≡ gripper }
+        ensures { gripper_in result ≡ gripper }
     {
         CraneProgram { gripper }
     }

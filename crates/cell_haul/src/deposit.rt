@@ -38,7 +38,7 @@ pub enum DepositStep {
 }
 
 /// The deposit belt's step in its program, with its notes.
-#[derive(Clone, Copy, Debug, PartialEq, Eq)]
+#[derive(Clone, Copy)]
 pub struct DepositProgress {
     pub step: DepositStep,
     /// Whether a plate is at its entry.
@@ -152,7 +152,7 @@ impl DepositStep {
 }
 
 /// The deposit belt's program.
-#[derive(Clone, Copy, Debug, PartialEq, Eq)]
+#[derive(Clone, Copy)]
 pub struct DepositProgram;
 
 /// The deposit belt's controller.

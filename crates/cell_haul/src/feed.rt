@@ -38,7 +38,7 @@ pub enum FeedStep {
 }
 
 /// The feed belt's step in its program, with its notes.
-#[derive(Clone, Copy, Debug, PartialEq, Eq)]
+#[derive(Clone, Copy)]
 pub struct FeedProgress {
     pub step: FeedStep,
     /// Whether a plate is at its entry.
@@ -151,7 +151,7 @@ impl FeedStep {
 }
 
 /// The feed belt's program.
-#[derive(Clone, Copy, Debug, PartialEq, Eq)]
+#[derive(Clone, Copy)]
 pub struct FeedProgram;
 
 /// The feed belt's controller.

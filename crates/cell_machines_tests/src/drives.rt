@@ -39,7 +39,7 @@ const BY_STEPS: &[(Option<Stop>, Motor)] = &[
 #[test]
 fn drives_to_the_stop_of_a_step(rt: HostRuntime) {
     for (stop, motor) in BY_STEPS {
-        assert!(rt; drive_to(*stop, 10, 100) == *motor, "{stop:?}");
+        assert!(rt; drive_to(*stop, 10, 100) == *motor, "{motor:?}");
     }
 }
 
@@ -72,11 +72,11 @@ const BY_SWITCHES: &[(bool, bool, bool, Motor, Motor, Motor)] = &[
 fn drives_the_press_by_its_switches(rt: HostRuntime) {
     for (bottom, middle, top, up, down, inwards) in BY_SWITCHES {
         let sense = press_shows(*bottom, *middle, *top);
-        assert!(rt; press_to_top(&sense) == *up, "{sense:?}");
-        assert!(rt; press_to_bottom(&sense) == *down, "{sense:?}");
+        assert!(rt; press_to_top(&sense) == *up, "{bottom} {middle} {top}");
+        assert!(rt; press_to_bottom(&sense) == *down, "{bottom} {middle} {top}");
         assert!(rt;
             press_to_middle(&sense, Direction::Minus) == *inwards,
-            "{sense:?}"
+            "{bottom} {middle} {top}"
         );
     }
     let last = Direction::Minus.after(Motor::Plus).after(Motor::Off);

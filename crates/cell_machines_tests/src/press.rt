@@ -320,7 +320,7 @@ fn is_stopped(alloc: Global, start: State, broken: &PressSense) -> bool {
     let clash = CtlFault::Sensor(SensorFault::Clash);
     let first = press.turn(&mut bench, broken);
     let then = press.turn(&mut bench, &press_at(1000));
-    let told = first == Err(clash) && then == Err(CtlFault::Stopped);
+    let told = first.err() == Some(clash) && then.err() == Some(CtlFault::Stopped);
     let silent = bench.heard() == heard && bench.history().len() == 1;
     was_running && told && press.stopped() == Some(clash) && silent
 }
@@ -342,6 +342,9 @@ fn a_press_whose_switches_clash_stops(rt: HostRuntime) {
             middle: *middle,
             top: *top,
         };
-        assert!(rt; is_stopped(rt.alloc(), start, &broken), "{broken:?}");
+        assert!(rt;
+            is_stopped(rt.alloc(), start, &broken),
+            "{bottom} {middle} {top}"
+        );
     }
 }

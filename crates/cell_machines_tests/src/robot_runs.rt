@@ -199,7 +199,7 @@ fn is_stopped_by<F1: Gauge, F2: Gauge, F3: Gauge>(
     let stop = CtlFault::Sensor(fault);
     let first = robot.turn(&mut bench, &sense);
     let then = robot.turn(&mut bench, &GOOD);
-    let told = first == Err(stop) && then == Err(CtlFault::Stopped);
+    let told = first.err() == Some(stop) && then.err() == Some(CtlFault::Stopped);
     let silent = bench.heard().asks == 0 && bench.history().is_empty();
     Ok(told && robot.stopped() == Some(stop) && silent)
 }
@@ -208,7 +208,7 @@ fn is_stopped_by<F1: Gauge, F2: Gauge, F3: Gauge>(
 fn a_robot_whose_sensors_are_wrong_stops(rt: HostRuntime) -> Result<(), Fail> {
     let arm = Points::new(100, 4100, 0, 1000, 5)?;
     let rotation = Points::new(100, 4100, 0, 2000, 5)?;
-    for broken in BROKEN {
+    for (sense, fault) in BROKEN {
         let gauges = (
             move |raw: u16| line_at(&arm, raw),
             move |raw: u16| line_at(&arm, raw),
@@ -216,8 +216,8 @@ fn a_robot_whose_sensors_are_wrong_stops(rt: HostRuntime) -> Result<(), Fail> {
         );
         let points = RobotPoints { arm, rotation };
         assert!(rt;
-            is_stopped_by(rt.alloc(), *broken, gauges, points)?,
-            "{broken:?}"
+            is_stopped_by(rt.alloc(), (*sense, *fault), gauges, points)?,
+            "{fault}"
         );
     }
     Ok(())

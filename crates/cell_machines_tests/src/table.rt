@@ -366,7 +366,7 @@ fn is_stopped_by<F: Gauge>(
     let stop = CtlFault::Sensor(fault);
     let first = table.turn(&mut bench, &broken);
     let then = table.turn(&mut bench, &shows(true, false, 100));
-    let told = first == Err(stop) && then == Err(CtlFault::Stopped);
+    let told = first.err() == Some(stop) && then.err() == Some(CtlFault::Stopped);
     let silent = bench.heard() == heard && bench.history().len() == 1;
     was_running && told && table.stopped() == Some(stop) && silent
 }

@@ -5,7 +5,7 @@ ghost use Rattle.cell_notes.specs.ByMachine.{IsMadeOf, PutIsFound, at_machine, e
 use cell_types::Machine;
 
 /// A value for each machine.
-#[derive(Debug, Drop)]
+#[derive(Drop)]
 pub struct ByMachine<T> {
     /// The feed belt's.
     pub feed: T,

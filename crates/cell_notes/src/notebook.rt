@@ -8,7 +8,7 @@ use cell_types::Entry;
 use std::alloc::{AllocError, Global};
 
 /// What a machine keeps of its turns: its counts, and its calls that were settled.
-#[derive(Debug, Drop)]
+#[derive(Drop)]
 pub struct Notebook {
     pub counts: Counts,
     /// The settled calls, the oldest first.

@@ -61,9 +61,6 @@ TakesTurn c = TakesTurnBy c (any_near c)
 abbrev pub LeadsIf : Bool → CellScales → Machine → Bool → CellState → Step → Type 0
 LeadsIf taken c = LeadsIfBy taken c (any_near c)
 
-abbrev pub Leads : CellScales → Machine → Bool → CellState → Step → Type 0
-Leads c = LeadsBy c (any_near c)
-
 abbrev pub IsRun : CellScales → CellState → List Turn → List Step → Type 0
 IsRun c = IsRunBy c (any_near c)
 

@@ -10,7 +10,7 @@ use cell_types::{Call, Event, Machine, Posture};
 use cell_unit::MachineUnit;
 
 /// The watch's note.
-#[derive(Clone, Copy, Debug, PartialEq, Eq)]
+#[derive(Clone, Copy)]
 pub struct WatchProgress {
     /// Whether its last call that was done was Stop.
     pub has_stopped: bool,
@@ -35,7 +35,7 @@ impl WatchProgress {
 }
 
 /// The watch's program.
-#[derive(Clone, Copy, Debug, PartialEq, Eq)]
+#[derive(Clone, Copy)]
 pub struct WatchProgram;
 
 impl Program for WatchProgram {
@@ -82,7 +82,7 @@ impl Program for WatchProgram {
 }
 
 /// The watch's part, which has nothing.
-#[derive(Clone, Copy, Debug)]
+#[derive(Clone, Copy)]
 pub struct WatchPart;
 
 impl Part for WatchPart {

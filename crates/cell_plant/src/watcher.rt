@@ -29,7 +29,7 @@ pub trait Watcher {
 }
 
 /// The watcher that doesn't look.
-#[derive(Clone, Copy, Debug, PartialEq, Eq)]
+#[derive(Clone, Copy)]
 pub struct NoWatcher;
 
 impl Watcher for NoWatcher {
@@ -51,7 +51,7 @@ impl Watcher for NoWatcher {
 }
 
 /// Why the simulation of a cell ended before its last turn.
-#[derive(Clone, Copy, Debug, PartialEq, Eq)]
+#[derive(Clone, Copy, Debug)]
 pub enum SeenFault<E> {
     /// Out of memory for a journal's entry.
     Memory,

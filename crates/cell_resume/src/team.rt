@@ -5,7 +5,7 @@ use cell_robot::RobotProgress;
 use cell_stations::{PressProgress, TableProgress};
 
 /// The step of each machine, with its notes.
-#[derive(Clone, Copy, Debug, PartialEq, Eq)]
+#[derive(Clone, Copy)]
 pub struct Team {
     /// The feed belt's step.
     pub feed: FeedProgress,

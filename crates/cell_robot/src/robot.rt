@@ -3,6 +3,7 @@ ghost use Rattle.std.specs.Prelude.{◌≡◌, ◌↔◌, ◌≤◌, IfSome, IsT
 ghost use Rattle.cell_devices.specs.Drives.{DrivesTo, narrowest_half};
 ghost use Rattle.cell_devices.specs.Limits.{retracted_to};
 ghost use Rattle.cell_robot.specs.RobotProgram as program;
+ghost use Rattle.cell_robot.specs.Calibrations.{arm1_in, arm2_in, rotation_in};
 
 use cell_calib::{Calibration, Gauge, RobotSense, SensorFault};
 use cell_control::{Controller, Program, Row, Waits};
@@ -76,7 +77,7 @@ pub enum RobotStep {
 }
 
 /// The robot's notes of plates.
-#[derive(Clone, Copy, Debug, PartialEq, Eq)]
+#[derive(Clone, Copy)]
 pub struct RobotNotes {
     /// Whether a plate is on the first arm.
     pub arm1: bool,
@@ -87,14 +88,14 @@ pub struct RobotNotes {
 }
 
 /// The robot's last commands to its magnets: whether each is on.
-#[derive(Clone, Copy, Debug, PartialEq, Eq)]
+#[derive(Clone, Copy)]
 pub struct RobotMagnets {
     pub arm1: bool,
     pub arm2: bool,
 }
 
 /// The robot's step in its program, with its notes.
-#[derive(Clone, Copy, Debug, PartialEq, Eq)]
+#[derive(Clone, Copy)]
 pub struct RobotProgress {
     pub step: RobotStep,
     pub notes: RobotNotes,
@@ -102,7 +103,7 @@ pub struct RobotProgress {
 }
 
 /// What the robot's sensors say after the check.
-#[derive(Clone, Copy, Debug, PartialEq, Eq)]
+#[derive(Clone, Copy)]
 pub struct RobotReading {
     /// How far the first arm is out, in tenths of a millimetre.
     pub arm1: i32,
@@ -370,9 +371,9 @@ impl<F1: Gauge, F2: Gauge, F3: Gauge> RobotProgram<F1, F2, F3> {
         arm2: Calibration<F2>,
         rotation: Calibration<F3>,
     ) -> RobotProgram<F1, F2, F3>
-        ensures arm1 { result.arm1 ≡ arm1 }
-        ensures arm2 { result.arm2 ≡ arm2 }
-        ensures rotation { result.rotation ≡ rotation }
+        ensures arm1 { arm1_in result ≡ arm1 }
+        ensures arm2 { arm2_in result ≡ arm2 }
+        ensures rotation { rotation_in result ≡ rotation }
     {
         RobotProgram {
             arm1,

@@ -44,7 +44,7 @@ pub enum PressStep {
 }
 
 /// The press's step in its program, with its notes.
-#[derive(Clone, Copy, Debug, PartialEq, Eq)]
+#[derive(Clone, Copy)]
 pub struct PressProgress {
     pub step: PressStep,
     /// Whether a plate that isn't forged is in the press.
@@ -142,7 +142,7 @@ impl PressProgress {
 }
 
 /// The press's program.
-#[derive(Clone, Copy, Debug, PartialEq, Eq)]
+#[derive(Clone, Copy)]
 pub struct PressProgram;
 
 /// The press's controller.

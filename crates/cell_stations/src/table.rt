@@ -2,6 +2,7 @@
 ghost use Rattle.std.specs.Prelude.{◌≡◌, ◌≤◌, IfSome};
 ghost use Rattle.cell_devices.specs.Drives.{DrivesTo, narrowest_half};
 ghost use Rattle.cell_stations.specs.TableProgram as program;
+ghost use Rattle.cell_stations.specs.Calibrations.{turn_in};
 
 use cell_calib::{Calibration, Gauge, SensorFault, TableSense};
 use cell_control::{Controller, Program, Row, Waits};
@@ -40,7 +41,7 @@ pub enum TableStep {
 }
 
 /// The table's step in its program, with its note.
-#[derive(Clone, Copy, Debug, PartialEq, Eq)]
+#[derive(Clone, Copy)]
 pub struct TableProgress {
     pub step: TableStep,
     /// Whether a plate is on the table.
@@ -48,7 +49,7 @@ pub struct TableProgress {
 }
 
 /// What the table's sensors say after the check.
-#[derive(Clone, Copy, Debug, PartialEq, Eq)]
+#[derive(Clone, Copy)]
 pub struct TableReading {
     /// The switches, which don't clash, and the raw value.
     pub sense: TableSense,
@@ -168,7 +169,7 @@ pub type TableCtl<F> = Controller<TableProgram<F>>;
 impl<F: Gauge> TableProgram<F> {
     /// The program with this calibration.
     pub fn new(turn: Calibration<F>) -> TableProgram<F>
-        ensures { result.turn ≡ turn }
+        ensures { turn_in result ≡ turn }
     {
         TableProgram { turn }
     }

@@ -142,7 +142,7 @@ pub record IsRefusedMemory {S Sense Reading Act State : Type 0} (t : Steps S Sen
   pub side : now ≡ comes_to rig before.progress (Some fault.Memory) before.part (t.rest before.progress)
   pub noted : notes' ≡ notes_with notes (Some (call, Err line.Memory))
 
-pub record PassedOver {S State : Type 0} (old new : Desk) (before now : Side S State) (notes notes' : Notes)
+pub record DoesNothing {S State : Type 0} (old new : Desk) (before now : Side S State) (notes notes' : Notes)
     (asked : TurnCall) : Type 0 where
   pub asks_nothing : asked ≡ None
   pub bench : BenchStays old new
@@ -171,7 +171,7 @@ pub record Drives {S Sense Reading Act State : Type 0} (t : Steps S Sense Readin
 pub record UnitRows {S Sense Reading Act State : Type 0} (t : Steps S Sense Reading Act) (rig : Rig State Sense Act)
     (old new : Desk) (before now : Side S State) (notes notes' : Notes) (asked : TurnCall) : Type 0 where
   pub stopped : (f : CtlFault) (busy : Bool) → before.stopped ≡ Some f
-      → UnitTurn t rig busy old new before now notes notes' asked → PassedOver old new before now notes notes' asked
+      → UnitTurn t rig busy old new before now notes notes' asked → DoesNothing old new before now notes notes' asked
   pub busy : (reading : Reading) (call : Call) → IsAsking t rig before reading call
       → UnitTurn t rig true old new before now notes notes' asked
       → FindsBusy t rig call old new before now notes notes' asked
