@@ -55,10 +55,8 @@ pub use Rattle.cell_parts.proofs.NoCollision.{nothing_collides}
 pub use Rattle.cell_parts.specs.Axes.{CellScales, gripper_start}
 pub use Rattle.cell_parts.specs.Collisions.{IsAt}
 pub use Rattle.cell_parts.specs.MotorDemands.{TravelsHigh}
-pub use Rattle.cell_parts.specs.Names.{AllDemandsMet, AreCellScales, Arm1MayLetGo, Arm2MayLetGo, AtDeposit, AtFeed, CraneMayLetGo, DrivesPast, DrivesPastEnd, ErrandDemands, ForTravel, GripperErrand, HoldsIn, IsArm1AtTable, IsArm1InPress}
-pub use Rattle.cell_parts.specs.Names.{IsArm2AtDeposit, IsArm2InPress, IsAxisScale, IsGripperDown, IsIn, IsOn, IsOut, IsOverDeposit, IsOverFeed, IsWithin, LetsGo, MotorDemands, NothingCollides, NothingCollidesWhenSet, PlateFalls}
-pub use Rattle.cell_parts.specs.Names.{PositionDemands, PressShows, RestsAtBottom, RestsAtLoading, RestsAtMiddle, RotatesRetracted, ShowsRaw, Span, StaysWithin, TableMoves, arm1_at_table, arm1_in_press, arm2_at_deposit, arm2_in_press}
-pub use Rattle.cell_parts.specs.Names.{arm_end, at, crane_at_start, crane_end, crane_rig, deposit_at_start, deposit_rig, driven_at, feed_at_start, feed_rig, gripper_end, lift_end, loads_to, moved_axis, moved_to, over_deposit_to}
+pub use Rattle.cell_parts.specs.Names.{AllDemandsMet, AreCellScales, Arm1MayLetGo, Arm2MayLetGo, AtDeposit, AtFeed, CraneMayLetGo, DrivesPast, DrivesPastEnd, ErrandDemands, ForTravel, GripperErrand, HoldsIn, IsArm1AtTable, IsArm1InPress, IsArm2AtDeposit, IsArm2InPress, IsAxisScale, IsGripperDown, IsIn, IsOn, IsOut, IsOverDeposit, IsOverFeed, IsWithin, LetsGo, MotorDemands, NothingCollides, NothingCollidesWhenSet, PlateFalls}
+pub use Rattle.cell_parts.specs.Names.{PositionDemands, PressShows, RestsAtBottom, RestsAtLoading, RestsAtMiddle, RotatesRetracted, ShowsRaw, Span, StaysWithin, TableMoves, arm1_at_table, arm1_in_press, arm2_at_deposit, arm2_in_press, arm_end, at, crane_at_start, crane_end, crane_rig, deposit_at_start, deposit_rig, driven_at, feed_at_start, feed_rig, gripper_end, lift_end, loads_to, moved_axis, moved_to, over_deposit_to}
 pub use Rattle.cell_parts.specs.Names.{over_feed_from, press_at_start, press_end, press_rig, robot_at_start, robot_rig, rotation_end, set_axis, set_belt, set_crane, set_robot, table_at_start, table_rig, turn_end}
 pub use Rattle.cell_parts.specs.Plant.{deposit_called, feed_called, moved_belt, moved_plate, moved_press, moved_table, plate_if, set_press, set_table}
 pub use Rattle.cell_parts.specs.PositionDemands.{Arm1HasPress, Arm1HasTable, Arm2HasDeposit, Arm2HasPress, CraneHasDeposit, CraneHasFeed}
@@ -74,20 +72,14 @@ pub use Rattle.cell_plant.specs.FrameExamples.{Fails, FrameExamples, ShownExampl
 pub use Rattle.cell_plant.specs.Frames.{FilmsAreSafe, IsCut, IsSafeFrame, result_of}
 pub use Rattle.cell_plant.specs.GaugeLaws.{HasOneRun, RunsAreByGauges, SaysOneThing}
 pub use Rattle.cell_plant.specs.Moments.{AllNotes, first_notes}
-pub use Rattle.cell_plant.specs.Names.{AreRefusedAsWorn, CellGauges, CellState, GiveOne, GivesOne, HadMemory, IsAtRest, IsOfLiteralRun, IsOfOneStop, IsRecordOf, IsRefusedAsWorn, IsRun, IsRunBy, IsSafeRun, IsSafeState, IsSafelySet, IsShown}
-pub use Rattle.cell_plant.specs.Names.{Keeps, LeadsBy, LeadsIf, LeadsIfBy, NoneRefused, PartOf, ProgressOf, RunMoment, SayTheSame, SeesBeginning, SeesRun, SideOf, Sides, Step, StepsOn, TakesTurn, TakesTurnBy, TellsRun, any_near, asks}
-pub use Rattle.cell_plant.specs.Names.{at_entered, at_first, at_last, at_press_stopped, cell_at_start, cell_scales, counts_in, counts_of, end_of, errand_of, events_in, first_moment, five_gauges, frame_of, frames_after, frames_of, goes_on}
-pub use Rattle.cell_plant.specs.Names.{is_told, is_turn_of, opening, plant_of, points_of, positions_in, rig_of, robot_axes, robot_gauges, robot_points, schedule, side_in, sides_at_start, sides_of, starts, state_at, steps, steps_by}
-pub use Rattle.cell_plant.specs.Names.{steps_of, turn_of, watch_noting, watch_rig, watch_steps}
-pub use Rattle.cell_plant.specs.RecordExamples.{AreJournals, IsOfApart, IsOfLegalHistory, IsOfNoTurn, IsRecord, IsUnread, RecordExamples, Tells, WrongRecords, counts_by, done_entry, first_stop, journal_by, journals_apart, last_apart}
-pub use Rattle.cell_plant.specs.RecordExamples.{open_too_early, refused_entry, steps_apart, stop_entry, with_feed_counts}
+pub use Rattle.cell_plant.specs.Names.{AreRefusedAsWorn, CellGauges, CellState, GiveOne, GivesOne, HadMemory, IsAtRest, IsOfLiteralRun, IsOfOneStop, IsRecordOf, IsRefusedAsWorn, IsRun, IsRunBy, IsSafeRun, IsSafeState, IsSafelySet, IsShown, Keeps, LeadsBy, LeadsIf, LeadsIfBy, NoneRefused, PartOf, ProgressOf, RunMoment, SayTheSame, SeesBeginning, SeesRun, SideOf, Sides, Step, StepsOn, TakesTurn, TakesTurnBy, TellsRun, any_near, asks}
+pub use Rattle.cell_plant.specs.Names.{at_entered, at_first, at_last, at_press_stopped, cell_at_start, cell_scales, counts_in, counts_of, end_of, errand_of, events_in, first_moment, five_gauges, frame_of, frames_after, frames_of, goes_on, is_told, is_turn_of, opening, plant_of, points_of, positions_in, rig_of, robot_axes, robot_gauges, robot_points, schedule, side_in, sides_at_start, sides_of, starts, state_at, steps, steps_by, steps_of, turn_of, watch_noting, watch_rig, watch_steps}
+pub use Rattle.cell_plant.specs.RecordExamples.{AreJournals, IsOfApart, IsOfLegalHistory, IsOfNoTurn, IsRecord, IsUnread, RecordExamples, Tells, WrongRecords, counts_by, done_entry, first_stop, journal_by, journals_apart, last_apart, open_too_early, refused_entry, steps_apart, stop_entry, with_feed_counts}
 pub use Rattle.cell_plant.specs.Resting.{StoppedMachinesRest}
-pub use Rattle.cell_plant.specs.RunExamples.{PassExamples, ScheduleExamples, TurnExamples, belt_waits, cell_of, claims_entry, falls, falls_to, finds_busy, finds_no_room, is_refused, passes, press_falls, resumed, resumes_at_first}
-pub use Rattle.cell_plant.specs.RunExamples.{resumes_cell, resumes_unnoted, stopped, stops_again, stops_cell, waits, watch_finds_busy}
+pub use Rattle.cell_plant.specs.RunExamples.{PassExamples, ScheduleExamples, TurnExamples, belt_waits, cell_of, claims_entry, falls, falls_to, finds_busy, finds_no_room, is_refused, passes, press_falls, resumed, resumes_at_first, resumes_cell, resumes_unnoted, stopped, stops_again, stops_cell, waits, watch_finds_busy}
 pub use Rattle.cell_plant.specs.Runs.{IsPassedOver}
 pub use Rattle.cell_plant.specs.Safety.{EveryRunIsSafe}
-pub use Rattle.cell_plant.specs.SafetyExamples.{HasMotors, HasPositions, IsClear, IsWithinEnds, OnlyCollides, OnlyMotorUnmet, OnlyPastEnd, OnlyPositionUnmet, OnlySetIsUnsafe, OnlyStepIsUnsafe, SafeRuns, SafetyExamples, StandsWithin}
-pub use Rattle.cell_plant.specs.SafetyExamples.{before_first, cell_with, danger, drops, loaded, quiet, through}
+pub use Rattle.cell_plant.specs.SafetyExamples.{HasMotors, HasPositions, IsClear, IsWithinEnds, OnlyCollides, OnlyMotorUnmet, OnlyPastEnd, OnlyPositionUnmet, OnlySetIsUnsafe, OnlyStepIsUnsafe, SafeRuns, SafetyExamples, StandsWithin, before_first, cell_with, danger, drops, loaded, quiet, through}
 pub use Rattle.cell_plant.specs.WatchExamples.{WatchRowsAreMet}
 pub use Rattle.cell_plant.specs.WatchLaws.{NotesTheMark, NotesThroughout, WatchNotesTheMark}
 pub use Rattle.cell_plant.specs.declared.frame.Frame.{Frame}
@@ -101,8 +93,7 @@ pub use Rattle.cell_robot.specs.declared.robot.RobotNotes.{RobotNotes}
 pub use Rattle.cell_robot.specs.declared.robot.RobotProgress.{RobotProgress}
 pub use Rattle.cell_robot.specs.declared.robot.RobotReading.{RobotReading}
 pub use Rattle.cell_robot.specs.declared.robot.RobotStep.{RobotStep}
-pub use Rattle.cell_robot.specs.declared.robot.RobotStep.TheVariants.{AwaitForged, ClaimDeposit, ClaimPress, DropInPress, DropOnDeposit, GripForged, InspectPress, LeaveDeposit, LeaveLoaded, LeaveTable, LeaveUnloaded, ReachDeposit}
-pub use Rattle.cell_robot.specs.declared.robot.RobotStep.TheVariants.{ReachTable, ReachToLoad, ReachToUnload, ReleasePress, TurnToDeposit, TurnToLoad, TurnToTable, TurnToUnload}
+pub use Rattle.cell_robot.specs.declared.robot.RobotStep.TheVariants.{AwaitForged, ClaimDeposit, ClaimPress, DropInPress, DropOnDeposit, GripForged, InspectPress, LeaveDeposit, LeaveLoaded, LeaveTable, LeaveUnloaded, ReachDeposit, ReachTable, ReachToLoad, ReachToUnload, ReleasePress, TurnToDeposit, TurnToLoad, TurnToTable, TurnToUnload}
 pub use Rattle.cell_rules.proofs.Clear.{clear_next}
 pub use Rattle.cell_rules.proofs.Done.{give_done, none_or, none_then_not, resume_done, stop_done, take_done}
 pub use Rattle.cell_rules.proofs.Histories.{after-append}
@@ -115,13 +106,9 @@ pub use Rattle.cell_rules.proofs.SeenLemmas.{legal-append, own-append, settles-p
 pub use Rattle.cell_rules.proofs.Soundness.{done_none, next_keeps}
 pub use Rattle.cell_rules.proofs.Tables.{and_left, and_right}
 pub use Rattle.cell_rules.specs.ModelState.{one_if}
-pub use Rattle.cell_rules.specs.Names.{Desk, IsLegal, IsSound, IsStartState, ModelState, PlaceSet, RunsClear, Waits, advance_refusal, after, changed, done_unless, emptied, entry_of, event, filled, give_refusal, given_by, has, is_full}
-pub use Rattle.cell_rules.specs.Names.{is_party, is_received_by, last_stamp, next, next_by, noted, own_events, owner_of, owns, posture_at, posture_given, reply, resume_refusal, start_state, stop_refusal, stopped_after, take_refusal}
-pub use Rattle.cell_rules.specs.Names.{transfer_given, zone_at}
+pub use Rattle.cell_rules.specs.Names.{Desk, IsLegal, IsSound, IsStartState, ModelState, PlaceSet, RunsClear, Waits, advance_refusal, after, changed, done_unless, emptied, entry_of, event, filled, give_refusal, given_by, has, is_full, is_party, is_received_by, last_stamp, next, next_by, noted, own_events, owner_of, owns, posture_at, posture_given, reply, resume_refusal, start_state, stop_refusal, stopped_after, take_refusal, transfer_given, zone_at}
 pub use Rattle.cell_rules.specs.Refusals.{has_no_work, no_room_for_work, not_at_work, nothing_to_work, press_unowned, worn, ◌or◌}
-pub use Rattle.cell_rules.specs.Types.{Advance, Answer, Busy, Call, Claim, Closed, Crane, DepEnd, DepEntry, Deposit, Done, Entry, Event, Feed, FeedEnd, FeedEntry, Give, Journals, Machine, Moving, NotStopped, OpenIn, OpenOut, Place, Posture}
-pub use Rattle.cell_rules.specs.Types.{Press, Refusal, Refused, Release, Reply, Resume, Robot, SetPose, Settled, Shut, Stop, Stopped, Table, Take, Watch, Worn, Z1, Z2, Z3, Z4, Z5, Z6, Zone, all_machines, keeper_of, one_machine, one_posture}
-pub use Rattle.cell_rules.specs.Types.{own_move_of, same_machine, same_posture, transfer_of}
+pub use Rattle.cell_rules.specs.Types.{Advance, Answer, Busy, Call, Claim, Closed, Crane, DepEnd, DepEntry, Deposit, Done, Entry, Event, Feed, FeedEnd, FeedEntry, Give, Journals, Machine, Moving, NotStopped, OpenIn, OpenOut, Place, Posture, Press, Refusal, Refused, Release, Reply, Resume, Robot, SetPose, Settled, Shut, Stop, Stopped, Table, Take, Watch, Worn, Z1, Z2, Z3, Z4, Z5, Z6, Zone, all_machines, keeper_of, one_machine, one_posture, own_move_of, same_machine, same_posture, transfer_of}
 pub use Rattle.cell_rules.specs.declared.heard.LineFault.{LineFault}
 pub use Rattle.cell_stations.proofs.PressFacts.{PressKnows, press-knowing}
 pub use Rattle.cell_stations.proofs.TableFacts.{TableKnows, table-knowing}
@@ -150,8 +137,7 @@ pub use Rattle.cell_unit.specs.Names.{Answers, Side, Takes, UnitTurn, side_moved
 pub use Rattle.cell_unit.specs.Sides.{ActsAndMoves, IsReady, act_or_rest, noting, part_set}
 pub use Rattle.cell_unit.specs.Statuses.{status_of}
 pub use Rattle.cell_unit.specs.UnitTurns.{Untouched}
-pub use Rattle.std.proofs.Common.{Bool, Err, IfOk, IsSome, IsTrue, List, None, Ok, OnErr, Option, Result, Some, [], add-zero, ap, append-nil, append_assoc, arith, cond, count_by, drop, false, get_or, if◌then◌else◌, inl, inr, is_none}
-pub use Rattle.std.proofs.Common.{is_some, length, map, not, pos, refl, subst, suc, sym, take, true, zero, ℕ, ℤ, ◌&&◌, ◌++◌, ◌+ℤ◌, ◌+◌, ◌-ℤ◌, ◌-◌, ◌<ℤ◌, ◌<◌, ◌==◌, ◌||◌, ◌↔◌, ◌∙◌, ◌∷◌, ◌≡◌, ◌≢◌, ◌≤ℤ◌, ◌≤◌, ◌⊎◌}
+pub use Rattle.std.proofs.Common.{Bool, Err, IfOk, IsSome, IsTrue, List, None, Ok, OnErr, Option, Result, Some, [], add-zero, ap, append-nil, append_assoc, arith, cond, count_by, drop, false, get_or, if◌then◌else◌, inl, inr, is_none, is_some, length, map, not, pos, refl, subst, suc, sym, take, true, zero, ℕ, ℤ, ◌&&◌, ◌++◌, ◌+ℤ◌, ◌+◌, ◌-ℤ◌, ◌-◌, ◌<ℤ◌, ◌<◌, ◌==◌, ◌||◌, ◌↔◌, ◌∙◌, ◌∷◌, ◌≡◌, ◌≢◌, ◌≤ℤ◌, ◌≤◌, ◌⊎◌}
 pub use Rattle.std.proofs.Math.Dec.{T}
 pub use Rattle.std.proofs.lemmas.Bool.{false_from_ne_true}
 pub use Rattle.std.proofs.lemmas.Bool.Decides.{Decides-eqb, Decides-int_eq}

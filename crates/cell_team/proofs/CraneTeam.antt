@@ -1,24 +1,17 @@
 -- The crane is never refused.
 use Rattle.std.proofs.Common.{◌≡◌, ℕ, ℤ, Bool, true, false, if◌then◌else◌, List, [], ◌∷◌, Option, Some, None, refl, sym, ap, ◌∙◌, subst}
 use Rattle.std.specs.Prelude.{⊤}
-use Rattle.cell_rules.specs.Types.{Machine, Feed, Crane, Z5, Z6, FeedEntry, Posture, Closed, Moving, OpenIn, Call}
-use Rattle.cell_rules.specs.Types.{Inquire, PlaceFull, Done, Shown, transfer_of, same_posture}
+use Rattle.cell_rules.specs.Types.{Machine, Feed, Crane, Z5, Z6, FeedEntry, Posture, Closed, Moving, OpenIn, Call, Inquire, PlaceFull, Done, Shown, transfer_of, same_posture}
 use Rattle.cell_types.specs.declared.place.Place.TheVariants.{Crane as OnCrane}
 use Rattle.cell_calib.specs.Scale.{Scale}
-use Rattle.cell_rules.specs.Names.{has, ModelState, is_full, IsSound, implies, is_owned_by, is_received_by, owns}
-use Rattle.cell_rules.specs.Names.{owner_of, posture_at, given_by, reply, changed, filled, IsStartState}
+use Rattle.cell_rules.specs.Names.{has, ModelState, is_full, IsSound, implies, is_owned_by, is_received_by, owns, owner_of, posture_at, given_by, reply, changed, filled, IsStartState}
 use Rattle.cell_rules.proofs.Holders.{owned_as, take_owned}
 use Rattle.cell_rules.proofs.OwnSide.{full-foreign}
 use Rattle.cell_control.specs.declared.row.Waits.TheVariants.{Never}
-use Rattle.cell_haul.specs.Names.{row_at, row_of, step_after_inquiry, first_step, after_done, is_done, crane_start}
-use Rattle.cell_haul.specs.Names.{crane_steps}
+use Rattle.cell_haul.specs.Names.{row_at, row_of, step_after_inquiry, first_step, after_done, is_done, crane_start, crane_steps}
 use Rattle.cell_haul.specs.declared.crane.CraneStep.{CraneStep}
-use Rattle.cell_haul.specs.declared.crane.CraneStep.TheVariants.{RaiseToFetch, TravelToDeposit, AwaitPlate}
-use Rattle.cell_haul.specs.declared.crane.CraneStep.TheVariants.{LowerToPlate, GripPlate, RaiseWithPlate}
-use Rattle.cell_haul.specs.declared.crane.CraneStep.TheVariants.{ReleaseDeposit, TravelToFeed, ClaimFeed, LowerToFeed}
-use Rattle.cell_haul.specs.declared.crane.CraneStep.TheVariants.{DropPlate, RaiseFromFeed}
+use Rattle.cell_haul.specs.declared.crane.CraneStep.TheVariants.{RaiseToFetch, TravelToDeposit, AwaitPlate, LowerToPlate, GripPlate, RaiseWithPlate, ReleaseDeposit, TravelToFeed, ClaimFeed, LowerToFeed, DropPlate, RaiseFromFeed, TakePlate, GivePlate}
 use Rattle.cell_haul.specs.declared.crane.CraneProgress.{CraneProgress}
-use Rattle.cell_haul.specs.declared.crane.CraneStep.TheVariants.{TakePlate, GivePlate}
 use Rattle.cell_haul.proofs.CraneFacts as known
 use Rattle.cell_control.proofs.Facts as facts
 use Rattle.cell_team.proofs.Waiting.{Heeds, none_only, unless, claim_in, take_own, give_only, release_only}
@@ -58,15 +51,7 @@ CraneMore p z = MoreAt p.step z
 -- after a drive, or after switching the magnet
 done_drive : (s : CraneStep) (p : CraneProgress) (z : ModelState) → (row_at s p).call ≡ None → MoreAt s z → CraneMore (row_at s p).next z
 done_drive RaiseToFetch p z e k = record { shares = k.shares; plate = k.plate }
-done_drive TravelToDeposit p z e k = record { shares = k.shares; plate = k.plate }
-done_drive LowerToPlate p z e k = record { shares = k.shares; plate = k.plate }
-done_drive GripPlate p z e k = record { shares = k.shares; plate = k.plate }
-done_drive RaiseWithPlate p z e k = record { shares = k.shares; plate = k.plate }
-done_drive TravelToFeed p z e k = record { shares = k.shares; plate = k.plate }
-done_drive LowerToFeed p z e k = record { shares = k.shares; plate = k.plate }
-done_drive DropPlate p z e k = record { shares = k.shares; plate = k.plate }
-done_drive RaiseFromFeed p z e k = record { shares = k.shares; plate = k.plate }
-done_drive _ p z e k = cc
+done_drive _ p z e k = first_of (assumption, cc)
 
 drive_on : (b : Bool) (p : CraneProgress) (z : ModelState) → (row_of p).call ≡ None → CraneMore p z → CraneMore (if b then after_done p else p) z
 drive_on true p z e k = done_drive p.step p z e k

@@ -2,22 +2,16 @@
 use Rattle.std.proofs.Common.{◌≡◌, ◌&&◌, Bool, true, false, not, if◌then◌else◌, List, [], ◌∷◌, Option, Some, None, refl, sym, ap, ◌∙◌, subst}
 use Rattle.std.specs.Prelude.{⊤, ◌||◌}
 use Rattle.std.specs.Bool.{then_some}
-use Rattle.cell_rules.specs.Types.{Deposit, Z4, Z5, DepEntry, DepEnd, Closed, Moving, OpenIn, OpenOut, Landing}
-use Rattle.cell_rules.specs.Types.{Running, Offering, Call, Claim, Give, Take, PlaceFull, Done, transfer_of}
-use Rattle.cell_rules.specs.Types.{same_posture}
-use Rattle.cell_rules.specs.Names.{has, ModelState, is_full, IsSound, owns, posture_at, given_by, runs_onto_plate}
-use Rattle.cell_rules.specs.Names.{reply, changed, emptied, filled, IsStartState}
+use Rattle.cell_rules.specs.Types.{Deposit, Z4, Z5, DepEntry, DepEnd, Closed, Moving, OpenIn, OpenOut, Landing, Running, Offering, Call, Claim, Give, Take, PlaceFull, Done, transfer_of, same_posture}
+use Rattle.cell_rules.specs.Names.{has, ModelState, is_full, IsSound, owns, posture_at, given_by, runs_onto_plate, reply, changed, emptied, filled, IsStartState}
 use Rattle.cell_rules.proofs.Holders.{take_owned}
 use Rattle.cell_rules.proofs.Tables.{and_left, and_right, and_both}
 use Rattle.cell_rules.proofs.OwnSide.{full-foreign}
 use Rattle.cell_control.specs.declared.row.Waits.TheVariants.{UntilRoom}
 use Rattle.cell_haul.specs.Names.{with_plates, by_plates, deposit_start, deposit_steps}
 use Rattle.cell_haul.specs.declared.deposit.DepositStep.{DepositStep}
-use Rattle.cell_haul.specs.declared.deposit.DepositStep.TheVariants.{ClaimEntry, PoseLanding, ReleaseEntry, TakePlate}
-use Rattle.cell_haul.specs.declared.deposit.DepositStep.TheVariants.{StartRun, RunIn, RunOut, MoveOn, PoseOffering}
-use Rattle.cell_haul.specs.declared.deposit.DepositStep.TheVariants.{GivePlate, ClaimBack}
+use Rattle.cell_haul.specs.declared.deposit.DepositStep.TheVariants.{ClaimEntry, PoseLanding, ReleaseEntry, TakePlate, StartRun, RunIn, RunOut, MoveOn, PoseOffering, GivePlate, ClaimBack, ClaimExit}
 use Rattle.cell_haul.specs.declared.deposit.DepositProgress.{DepositProgress}
-use Rattle.cell_haul.specs.declared.deposit.DepositStep.TheVariants.{ClaimExit}
 use Rattle.cell_haul.specs.DepositProgram.{row_at, row_of, after_done}
 use Rattle.cell_haul.proofs.DepositFacts as known
 use Rattle.cell_control.proofs.Facts as facts

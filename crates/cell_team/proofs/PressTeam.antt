@@ -1,25 +1,18 @@
 -- The press is never refused.
 use Rattle.std.proofs.Common.{◌≡◌, ◌&&◌, Bool, true, false, not, List, [], ◌∷◌, Option, Some, None, refl, sym, ap, ◌∙◌, subst}
 use Rattle.std.specs.Prelude.{⊤, ◌||◌}
-use Rattle.cell_rules.specs.Types.{Press, Zone, Z3, PressIn, PressOut, Closed, Moving, OpenIn, OpenOut, Travelling}
-use Rattle.cell_rules.specs.Types.{Middle, Low, Top, Call, Claim, Give, Take, SetPose, NotOwner, Done, transfer_of}
-use Rattle.cell_rules.specs.Types.{same_posture}
+use Rattle.cell_rules.specs.Types.{Press, Zone, Z3, PressIn, PressOut, Closed, Moving, OpenIn, OpenOut, Travelling, Middle, Low, Top, Call, Claim, Give, Take, SetPose, NotOwner, Done, transfer_of, same_posture}
 use Rattle.std.specs.Bool.{then_some}
 use Rattle.cell_devices.specs.declared.motor.Motor.{Motor}
 use Rattle.cell_devices.specs.declared.motor.Motor.TheVariants.{Off, Plus, Minus}
-use Rattle.cell_rules.specs.Names.{has, ModelState, is_full, IsSound, owns, owner_of, posture_at, given_by, moves_at}
-use Rattle.cell_rules.specs.Names.{reply, changed, emptied, filled, IsStartState}
+use Rattle.cell_rules.specs.Names.{has, ModelState, is_full, IsSound, owns, owner_of, posture_at, given_by, moves_at, reply, changed, emptied, filled, IsStartState}
 use Rattle.cell_rules.proofs.Holders.{take_owned}
 use Rattle.cell_rules.proofs.Tables.{and_left, and_right, and_both}
 use Rattle.cell_rules.proofs.OwnSide.{full-foreign}
 use Rattle.cell_control.specs.declared.row.Waits.TheVariants.{Never, UntilRoom}
 use Rattle.cell_stations.specs.Names.{with_plates, by_plates, row_at, after_motor, press_start, press_steps}
 use Rattle.cell_stations.specs.declared.press.PressStep.{PressStep}
-use Rattle.cell_stations.specs.declared.press.PressStep.TheVariants.{ClaimFirst, LeaveForMiddle, MoveToMiddle}
-use Rattle.cell_stations.specs.declared.press.PressStep.TheVariants.{PoseMiddle, ReleaseInterior, TakePlate}
-use Rattle.cell_stations.specs.declared.press.PressStep.TheVariants.{LeaveForTop, MoveToTop, PoseTop, Forge}
-use Rattle.cell_stations.specs.declared.press.PressStep.TheVariants.{LeaveForBottom, MoveToBottom, PoseLow, GivePlate}
-use Rattle.cell_stations.specs.declared.press.PressStep.TheVariants.{ClaimBack}
+use Rattle.cell_stations.specs.declared.press.PressStep.TheVariants.{ClaimFirst, LeaveForMiddle, MoveToMiddle, PoseMiddle, ReleaseInterior, TakePlate, LeaveForTop, MoveToTop, PoseTop, Forge, LeaveForBottom, MoveToBottom, PoseLow, GivePlate, ClaimBack}
 use Rattle.cell_stations.specs.declared.press.PressProgress.{PressProgress}
 use Rattle.cell_stations.specs.PressProgram.{row_of}
 use Rattle.cell_stations.proofs.PressFacts as known
@@ -69,9 +62,7 @@ PressMore p z = MoreAt p.step p.loaded p.forged z
 -- after a drive
 done_drive : (s : PressStep) (p : PressProgress) (z : ModelState) → (row_at s p).call ≡ None → MoreAt s p.loaded p.forged z → PressMore (row_at s p).next z
 done_drive MoveToMiddle p z e k = record { shares = k.shares; plates = k.plates; in_noted = k.in_noted; out_noted = k.out_noted }
-done_drive MoveToTop p z e k = record { shares = k.shares; plates = k.plates; in_noted = k.in_noted; out_noted = k.out_noted }
-done_drive MoveToBottom p z e k = record { shares = k.shares; plates = k.plates; in_noted = k.in_noted; out_noted = k.out_noted }
-done_drive _ p z e k = cc
+done_drive _ p z e k = first_of (assumption, cc)
 
 drive_on : (m : Motor) (p : PressProgress) (z : ModelState) → (row_of p).call ≡ None → PressMore p z → PressMore (after_motor p m) z
 drive_on Off p z e k = done_drive p.step p z e k

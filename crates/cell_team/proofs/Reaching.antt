@@ -1,10 +1,8 @@
 -- What a reached step knows of the state, if nobody hands over an empty zone.
 use Rattle.std.proofs.Common.{◌≡◌, ℕ, zero, suc, Bool, true, false, cond, if◌then◌else◌, inl, inr, List, [], ◌∷◌, Option, Some, None, Ok, Err, refl, sym, ap, ◌∙◌, subst}
 use Rattle.std.specs.Prelude.{⊤}
-use Rattle.cell_rules.specs.Types.{Machine, Watch, Zone, Z1, Z2, Z3, Z4, Z5, Z6, Posture, Call, Yield, Answer, Done}
-use Rattle.cell_rules.specs.Types.{Shown, Refused, Event, same_machine, one_machine}
-use Rattle.cell_rules.specs.Names.{ModelState, IsSound, is_party, yield_refusal, reply, next, next_by, changed, after}
-use Rattle.cell_rules.specs.Names.{IsLegal, own_events, is_done_answer, Program, MovesIn, Reached}
+use Rattle.cell_rules.specs.Types.{Machine, Watch, Zone, Z1, Z2, Z3, Z4, Z5, Z6, Posture, Call, Yield, Answer, Done, Shown, Refused, Event, same_machine, one_machine}
+use Rattle.cell_rules.specs.Names.{ModelState, IsSound, is_party, yield_refusal, reply, next, next_by, changed, after, IsLegal, own_events, is_done_answer, Program, MovesIn, Reached}
 use Rattle.cell_rules.proofs.Done.{yield_done}
 use Rattle.cell_rules.proofs.Tables.{and_left}
 use Rattle.cell_rules.proofs.Holders.{same_machine-self}

@@ -1,27 +1,15 @@
 -- The robot is never refused.
 use Rattle.std.proofs.Common.{◌≡◌, ◌+◌, ◌&&◌, Bool, true, false, not, if◌then◌else◌, List, [], ◌∷◌, Option, Some, None, refl, sym, ap, ◌∙◌, subst, arith}
 use Rattle.std.specs.Prelude.{⊤, ◌||◌}
-use Rattle.cell_rules.specs.Types.{Machine, Robot, Deposit, Z2, Z3, Z4, Arm1, Arm2, PressIn, PressOut, DepEntry}
-use Rattle.cell_rules.specs.Types.{Posture, Closed, Moving, OpenIn, OpenOut, Call, Give, Take, Release, Inquire}
-use Rattle.cell_rules.specs.Types.{PlaceFull, Done, Shown, transfer_of, same_posture}
-use Rattle.cell_rules.specs.Names.{has, ModelState, zone_at, is_full, one_if, IsSound, is_owned_by, is_open}
-use Rattle.cell_rules.specs.Names.{is_received_by, owns, owner_of, posture_at, given_by, reply, changed, emptied}
-use Rattle.cell_rules.specs.Names.{filled, IsStartState}
+use Rattle.cell_rules.specs.Types.{Machine, Robot, Deposit, Z2, Z3, Z4, Arm1, Arm2, PressIn, PressOut, DepEntry, Posture, Closed, Moving, OpenIn, OpenOut, Call, Give, Take, Release, Inquire, PlaceFull, Done, Shown, transfer_of, same_posture}
+use Rattle.cell_rules.specs.Names.{has, ModelState, zone_at, is_full, one_if, IsSound, is_owned_by, is_open, is_received_by, owns, owner_of, posture_at, given_by, reply, changed, emptied, filled, IsStartState}
 use Rattle.cell_rules.proofs.Holders.{owned_as, take_owned}
 use Rattle.cell_rules.proofs.Tables.{and_left, implied}
 use Rattle.cell_rules.proofs.OwnSide.{full-foreign}
 use Rattle.cell_control.specs.declared.row.Waits.TheVariants.{Never}
-use Rattle.cell_robot.specs.Names.{RobotScales, RobotGauges, row_at, row_of, step_after_inquiry, after_done, is_done}
-use Rattle.cell_robot.specs.Names.{robot_start, robot_steps}
+use Rattle.cell_robot.specs.Names.{RobotScales, RobotGauges, row_at, row_of, step_after_inquiry, after_done, is_done, robot_start, robot_steps}
 use Rattle.cell_robot.specs.declared.robot.RobotStep.{RobotStep}
-use Rattle.cell_robot.specs.declared.robot.RobotStep.TheVariants.{TurnToTable, AwaitPlate, ReachTable, GripPlate}
-use Rattle.cell_robot.specs.declared.robot.RobotStep.TheVariants.{LeaveTable, TakePlate, ReleaseTable, TurnToLoad}
-use Rattle.cell_robot.specs.declared.robot.RobotStep.TheVariants.{ClaimPress, InspectPress, ReleasePress, ReachToLoad}
-use Rattle.cell_robot.specs.declared.robot.RobotStep.TheVariants.{DropInPress, LeaveLoaded, GiveToPress, TurnToUnload}
-use Rattle.cell_robot.specs.declared.robot.RobotStep.TheVariants.{AwaitForged, ReachToUnload, GripForged}
-use Rattle.cell_robot.specs.declared.robot.RobotStep.TheVariants.{LeaveUnloaded, TakeForged, ReleaseUnloaded}
-use Rattle.cell_robot.specs.declared.robot.RobotStep.TheVariants.{TurnToDeposit, ClaimDeposit, ReachDeposit}
-use Rattle.cell_robot.specs.declared.robot.RobotStep.TheVariants.{DropOnDeposit, LeaveDeposit, GiveToDeposit}
+use Rattle.cell_robot.specs.declared.robot.RobotStep.TheVariants.{TurnToTable, AwaitPlate, ReachTable, GripPlate, LeaveTable, TakePlate, ReleaseTable, TurnToLoad, ClaimPress, InspectPress, ReleasePress, ReachToLoad, DropInPress, LeaveLoaded, GiveToPress, TurnToUnload, AwaitForged, ReachToUnload, GripForged, LeaveUnloaded, TakeForged, ReleaseUnloaded, TurnToDeposit, ClaimDeposit, ReachDeposit, DropOnDeposit, LeaveDeposit, GiveToDeposit}
 use Rattle.cell_robot.specs.declared.robot.RobotProgress.{RobotProgress}
 use Rattle.cell_team.specs.RobotPlates.{has_plates}
 use Rattle.cell_robot.proofs.RobotFacts as known
@@ -71,22 +59,7 @@ RobotMore p z = MoreAt p.step p.notes.arm1 p.notes.arm2 p.notes.fed z
 -- after a drive, or after switching a magnet
 done_drive : (s : RobotStep) (p : RobotProgress) (z : ModelState) → (row_at s p).call ≡ None → MoreAt s p.notes.arm1 p.notes.arm2 p.notes.fed z → RobotMore (row_at s p).next z
 done_drive TurnToTable p z e k = record { shares = k.shares; plates = k.plates; noted = k.noted }
-done_drive ReachTable p z e k = record { shares = k.shares; plates = k.plates; noted = k.noted }
-done_drive GripPlate p z e k = record { shares = k.shares; plates = k.plates; noted = k.noted }
-done_drive LeaveTable p z e k = record { shares = k.shares; plates = k.plates; noted = k.noted }
-done_drive TurnToLoad p z e k = record { shares = k.shares; plates = k.plates; noted = k.noted }
-done_drive ReachToLoad p z e k = record { shares = k.shares; plates = k.plates; noted = k.noted }
-done_drive DropInPress p z e k = record { shares = k.shares; plates = k.plates; noted = k.noted }
-done_drive LeaveLoaded p z e k = record { shares = k.shares; plates = k.plates; noted = k.noted }
-done_drive TurnToUnload p z e k = record { shares = k.shares; plates = k.plates; noted = k.noted }
-done_drive ReachToUnload p z e k = record { shares = k.shares; plates = k.plates; noted = k.noted }
-done_drive GripForged p z e k = record { shares = k.shares; plates = k.plates; noted = k.noted }
-done_drive LeaveUnloaded p z e k = record { shares = k.shares; plates = k.plates; noted = k.noted }
-done_drive TurnToDeposit p z e k = record { shares = k.shares; plates = k.plates; noted = k.noted }
-done_drive ReachDeposit p z e k = record { shares = k.shares; plates = k.plates; noted = k.noted }
-done_drive DropOnDeposit p z e k = record { shares = k.shares; plates = k.plates; noted = k.noted }
-done_drive LeaveDeposit p z e k = record { shares = k.shares; plates = k.plates; noted = k.noted }
-done_drive _ p z e k = cc
+done_drive _ p z e k = first_of (assumption, cc)
 
 drive_on : (b : Bool) (p : RobotProgress) (z : ModelState) → (row_of p).call ≡ None → RobotMore p z → RobotMore (if b then after_done p else p) z
 drive_on true p z e k = done_drive p.step p z e k

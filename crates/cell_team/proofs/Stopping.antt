@@ -11,8 +11,7 @@ use Rattle.cell_parts.specs.Axes.{CellScales}
 use Rattle.cell_haul.specs.Names.{crane_steps, deposit_steps, feed_steps}
 use Rattle.cell_robot.specs.RobotProgram.{near_lines, robot_steps}
 use Rattle.cell_stations.specs.Names.{press_steps, table_steps}
-use Rattle.cell_team.specs.Names.{Team, robot_points, programs_of, program_with_stops, HasCome, HaveCome, is_worn}
-use Rattle.cell_team.specs.Names.{IsHeeded, AreHeeded, IsStoppedBy, AreUnstopped}
+use Rattle.cell_team.specs.Names.{Team, robot_points, programs_of, program_with_stops, HasCome, HaveCome, is_worn, IsHeeded, AreHeeded, IsStoppedBy, AreUnstopped}
 use Rattle.cell_team.specs.Heeded.{NoMachineIsStopped}
 use Rattle.cell_team.proofs.Together.{none-refused}
 

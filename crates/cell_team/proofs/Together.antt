@@ -2,8 +2,7 @@
 use Rattle.std.proofs.Common.{◌≡◌, Bool, true, false, ◌&&◌, not, List, refl, sym, subst}
 use Rattle.cell_rules.specs.Types.{Feed, Table, Robot, Press, Deposit, Crane, Watch, Event}
 use Rattle.cell_calib.specs.Line.{IsReading}
-use Rattle.cell_rules.specs.Names.{PlaceSet, ModelState, zone_at, IsSound, after, IsLegal, own_events, IsStart}
-use Rattle.cell_rules.specs.Names.{IsStartState, start_state}
+use Rattle.cell_rules.specs.Names.{PlaceSet, ModelState, zone_at, IsSound, after, IsLegal, own_events, IsStart, IsStartState, start_state}
 use Rattle.cell_rules.proofs.Lawful.{lawful_in, sound_from}
 use Rattle.cell_rules.proofs.Puts.{each_zone}
 use Rattle.cell_rules.proofs.Histories.{sound-after}
@@ -17,8 +16,7 @@ use Rattle.cell_haul.proofs.FeedFacts as feed_facts
 use Rattle.cell_robot.proofs.RobotFacts as robot_facts
 use Rattle.cell_stations.proofs.PressFacts as press_facts
 use Rattle.cell_stations.proofs.TableFacts as table_facts
-use Rattle.cell_team.specs.Names.{Team, robot_points, programs_of, program_with_stops, HaveComeFrom, first_team}
-use Rattle.cell_team.specs.Names.{AreHeeded}
+use Rattle.cell_team.specs.Names.{Team, robot_points, programs_of, program_with_stops, HaveComeFrom, first_team, AreHeeded}
 use Rattle.cell_team.specs.Heeded.{NoMachineIsRefused}
 use Rattle.cell_team.proofs.Waiting.{heeded}
 use Rattle.cell_team.proofs.Reaching.{OwnYieldless, AreYieldless, own_yieldless, yieldless, reached_both}

@@ -7,8 +7,7 @@ use Rattle.cell_rules.specs.Names.{ModelState, own_events, Reached, event, Settl
 use Rattle.cell_rules.specs.declared.heard.LineFault.{LineFault}
 use Rattle.cell_rules.proofs.ProgramLemmas.{reached-moves, reached-settles, reached-waits}
 use Rattle.cell_rules.proofs.SeenLemmas.{own-push}
-use Rattle.cell_control.specs.Names.{fault_of, Steps, waits_out, outcome, Performed, PerformsCall, PerformsSensed}
-use Rattle.cell_control.specs.Names.{Turned, Turns, at_rest, turned}
+use Rattle.cell_control.specs.Names.{fault_of, Steps, waits_out, outcome, Performed, PerformsCall, PerformsSensed, Turned, Turns, at_rest, turned}
 use Rattle.cell_control.specs.declared.fault.CtlFault.{CtlFault}
 use Rattle.cell_control.specs.declared.fault.CtlFault.TheVariants as fault
 use Rattle.cell_team.specs.Names.{HasCome, DrivesOn, program_with_stops, IsStoppedBy}

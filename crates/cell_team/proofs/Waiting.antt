@@ -3,22 +3,16 @@ use Rattle.std.proofs.Common.{◌≡◌, Bool, true, false, ◌&&◌, ◌||◌, 
 use Rattle.std.specs.Prelude.{⊤}
 use Rattle.std.specs.Bool.{then_some}
 use Rattle.std.specs.Option.{option_eq}
-use Rattle.cell_rules.specs.Types.{Machine, Zone, Z1, Z2, Z3, Z4, Z5, Z6, Transfer, Place, Posture, Moving, OpenIn}
-use Rattle.cell_rules.specs.Types.{Pose, Call, Claim, Give, Yield, Take, Release, SetPose, Advance, Inquire, Stop}
-use Rattle.cell_rules.specs.Types.{Resume, Refusal, NotParty, Held, AlreadyMine, Shut, NotOwner, PlateInZone, NoPlate}
-use Rattle.cell_rules.specs.Types.{PlaceFull, WrongWay, Jump, NotAtWork, NoPose, Worn, Stopped, Refused, host_of}
-use Rattle.cell_rules.specs.Types.{guest_of, posture_of, own_move_of, same_machine, same_posture}
+use Rattle.cell_rules.specs.Types.{Machine, Zone, Z1, Z2, Z3, Z4, Z5, Z6, Transfer, Place, Posture, Moving, OpenIn, Pose, Call, Claim, Give, Yield, Take, Release, SetPose, Advance, Inquire, Stop, Resume, Refusal, NotParty, Held, AlreadyMine, Shut, NotOwner, PlateInZone, NoPlate, PlaceFull, WrongWay, Jump, NotAtWork, NoPose, Worn, Stopped, Refused, host_of, guest_of, posture_of, own_move_of, same_machine, same_posture}
 use Rattle.cell_types.specs.Everything.{all_zones as every_zone}
-use Rattle.cell_rules.specs.Names.{ModelState, zone_at, is_full, is_party, is_open, owns, owner_of, posture_at}
-use Rattle.cell_rules.specs.Names.{refusal, reply, done_unless}
+use Rattle.cell_rules.specs.Names.{ModelState, zone_at, is_full, is_party, is_open, owns, owner_of, posture_at, refusal, reply, done_unless}
 use Rattle.cell_rules.specs.Refusals
 use Rattle.cell_rules.specs.Refusals.{◌or◌}
 use Rattle.cell_rules.proofs.Done.{none_or, none_then_not}
 use Rattle.cell_rules.proofs.Tables.{all_zones, from_zones, all_pass}
 use Rattle.cell_control.specs.Names.{waits_on, is_while_stopped}
 use Rattle.cell_control.specs.declared.row.Waits.{Waits}
-use Rattle.cell_control.specs.declared.row.Waits.TheVariants.{Never, UntilOwner, UntilRoom, UntilFreeAndOpen}
-use Rattle.cell_control.specs.declared.row.Waits.TheVariants.{UntilFree}
+use Rattle.cell_control.specs.declared.row.Waits.TheVariants.{Never, UntilOwner, UntilRoom, UntilFreeAndOpen, UntilFree}
 use Rattle.cell_team.specs.Heeded.{is_worn}
 
 -- a step that waits so stays on the refusal, or it is worn

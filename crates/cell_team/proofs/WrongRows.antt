@@ -2,19 +2,14 @@
 use Rattle.std.proofs.Common.{◌≡◌, ◌≤◌, pos, ◌≤ℤ◌, ◌-ℤ◌, Bool, true, false, ◌&&◌, inl, List, [], ◌∷◌, Some, None, refl, arith, suc}
 use Rattle.std.specs.Int.Signed.{le_z_yes}
 use Rattle.std.proofs.lemmas.Int.{ints}
-use Rattle.cell_rules.specs.Types.{Machine, Z1, Z2, Z3, Z4, Z5, Z6, Closed, OpenOut, Turning, Loading, Travelling}
-use Rattle.cell_rules.specs.Types.{Middle, Low, Landing, Running, Offering, Unloading, Call, Claim, Give, Take, Release}
-use Rattle.cell_rules.specs.Types.{SetPose, Inquire, Held, AlreadyMine, Shut, NotOwner, PlateInZone, NoPlate, PlaceFull}
-use Rattle.cell_rules.specs.Types.{Done, Shown, Event}
+use Rattle.cell_rules.specs.Types.{Machine, Z1, Z2, Z3, Z4, Z5, Z6, Closed, OpenOut, Turning, Loading, Travelling, Middle, Low, Landing, Running, Offering, Unloading, Call, Claim, Give, Take, Release, SetPose, Inquire, Held, AlreadyMine, Shut, NotOwner, PlateInZone, NoPlate, PlaceFull, Done, Shown, Event}
 use Rattle.cell_types.specs.declared.machine.Machine.TheVariants as machine
 use Rattle.cell_types.specs.declared.place.Place.TheVariants as place
-use Rattle.cell_rules.specs.Names.{ModelState, size_of, PlaceSet, empty, insert_place, has, event, IsStartState}
-use Rattle.cell_rules.specs.Names.{start_state, Program, Reached}
+use Rattle.cell_rules.specs.Names.{ModelState, size_of, PlaceSet, empty, insert_place, has, event, IsStartState, start_state, Program, Reached}
 use Rattle.cell_devices.specs.Names.{StopsAt}
 use Rattle.cell_devices.specs.declared.motor.Motor.TheVariants.{Off}
 use Rattle.cell_devices.specs.declared.stops.Stop.{Stop}
-use Rattle.cell_devices.specs.declared.stops.TheConstants.{TURN_LOADING, TURN_UNLOADING, ROTATION_ARM1_PRESS}
-use Rattle.cell_devices.specs.declared.stops.TheConstants.{ROTATION_ARM2_DEPOSIT, GRIPPER_TRAVEL, GRIPPER_DEPOSIT}
+use Rattle.cell_devices.specs.declared.stops.TheConstants.{TURN_LOADING, TURN_UNLOADING, ROTATION_ARM1_PRESS, ROTATION_ARM2_DEPOSIT, GRIPPER_TRAVEL, GRIPPER_DEPOSIT}
 use Rattle.cell_devices.specs.declared.motor.Direction.TheVariants.{Minus as Downward}
 use Rattle.cell_devices.proofs.DriveLemmas.{stops_there}
 use Rattle.cell_control.specs.Names.{Steps}
@@ -39,8 +34,7 @@ use Rattle.cell_stations.specs.declared.table.TableStep.TheVariants as table_ste
 use Rattle.cell_team.specs.Names.{Programs, Team, scales, program_with_stops}
 use Rattle.cell_team.specs.Heeded.{NoneIsRefused}
 use Rattle.cell_team.specs.WrongPrograms as wrong
-use Rattle.cell_team.specs.WrongPrograms.{by_feed, by_table, by_robot, by_press, by_deposit, by_crane, RightRows}
-use Rattle.cell_team.specs.WrongPrograms.{WrongProgramsAreRefused}
+use Rattle.cell_team.specs.WrongPrograms.{by_feed, by_table, by_robot, by_press, by_deposit, by_crane, RightRows, WrongProgramsAreRefused}
 use Rattle.cell_team.proofs.Together.{none-refused}
 
 -- a start with these plates, and the machines there

@@ -1,8 +1,7 @@
-use Rattle.cell_plant.proofs.Names.{cell_gauges}
+use Rattle.cell_plant.proofs.Names.{cell_gauges, ◌≡◌, Ok, refl}
 use Rattle.cell_plant.specs.Cells.{cell_scales}
 use Rattle.cell_plant.proofs.Unrefused.{run-unrefused}
 use Rattle.cell_plant.proofs.Watched.{none_cut}
-use Rattle.cell_plant.proofs.Names.{◌≡◌, Ok, refl}
 use Rattle.cell_plant.specs.Names.{given_by}
 use Rattle.cell_plant.specs.declared.watcher.NoWatcher.{NoWatcher}
 use Rattle.cell_plant.proofs.simulation.simulate.Goals as goal
