@@ -1,5 +1,5 @@
 -- Exits by their statuses.
-use Rattle.std.proofs.Common.{◌≡◌, ◌≢◌, ◌<◌, ℕ, refl, sym, ◌∙◌, arith}
+use Rattle.std.proofs.Common.{◌≡◌, ◌≢◌, ◌<◌, ◌≤◌, ℕ, refl, sym, ◌∙◌, arith}
 use Rattle.cell_shell.specs.Exits.{exit_status}
 use Rattle.cell_shell.specs.declared.exit.Exit.{Exit}
 use Rattle.cell_shell.specs.declared.exit.Exit.TheVariants.{Well, Failed, Refused}
@@ -26,3 +26,8 @@ not_refused Refused k r = cc
 
 pub never_well : {P : Type 0} → (e : Exit) → e ≡ Failed → e ≡ Well → P
 never_well e k w = let lie : Failed ≡ Well = sym k ∙ w in cc
+
+pub is_at_most_two : (e : Exit) (n : ℕ) → n ≡ exit_status e → n ≤ 2
+is_at_most_two Well n is = let same : n ≡ 0 = is in omega (arith, same)
+is_at_most_two Failed n is = let same : n ≡ 1 = is in omega (arith, same)
+is_at_most_two Refused n is = let same : n ≡ 2 = is in omega (arith, same)

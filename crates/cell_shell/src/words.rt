@@ -70,14 +70,22 @@ pub fn words_or_exit<E: Env, W: Write>(
     }
 }
 
+/// Prints why words are refused, as far as the writer takes it, and returns `Refused`.
+pub fn refuse_words<W: Write>(writer: &mut W, why: &str) -> Exit
+    ensures status { result ≡ Exit.Refused }
+    ensures line { WrotePrefix (W.contents writer.old) (W.contents writer.new) why.now }
+{
+    print_prefix(writer, why.as_bytes());
+    Exit::Refused
+}
+
 /// Prints that a word isn't text, as far as the writer takes it, and returns `Refused`.
 pub fn refuse_bytes<W: Write>(writer: &mut W) -> Exit
     ensures status { result ≡ Exit.Refused }
     ensures line { WrotePrefix (W.contents writer.old) (W.contents writer.new)
         (codes "error: a word isn't UTF-8\n") }
 {
-    print_prefix(writer, "error: a word isn't UTF-8\n".as_bytes());
-    Exit::Refused
+    refuse_words(writer, "error: a word isn't UTF-8\n")
 }
 
 /// The texts of words. An error says that memory ran out.
@@ -89,4 +97,20 @@ pub fn texts_of(alloc: Global, words: &[String]) -> Result<Vec<&str>, AllocError
         texts.push(word.as_str())?;
     }
     Ok(texts)
+}
+
+/// The texts of words. Without them it prints that memory ran out, as far as the writer takes it, and the
+/// error says how the program ends: `Failed`.
+pub fn texts_or_exit<'w, W: Write>(
+    alloc: Global,
+    words: &'w [String],
+    writer: &mut W,
+) -> Result<Vec<&'w str>, Exit>
+    ensures texts { IfOk result (λ texts. spec.texts_of texts.items ≡ map string_bytes words.now) }
+    ensures ended { IfErr result (λ exit. exit ≡ Exit.Failed) }
+{
+    match texts_of(alloc, words) {
+        Ok(texts) => Ok(texts),
+        Err(_) => Err(fail(writer, "memory")),
+    }
 }
