@@ -114,6 +114,10 @@ pub writes-after : (written rest all : List (List ℕ)) (o end : Outcome) (old n
     → Writes rest o mid new r → Writes all end old new r
 writes-after written rest all o end old now mid new r wrote keeps whole same h = writes-through written rest all o end old mid new r (Appends-kept old now mid (concat written) wrote keeps) whole same h
 
+-- the same after a flush before any line
+pub flushed : (all : List (List ℕ)) (end : Outcome) (old mid new : Option (List ℕ)) (r : Result Outcome ReplayFault) → Keeps old mid → Writes all end mid new r → Writes all end old new r
+flushed all end old mid new r keeps h = writes-through [] all all end end old mid new r (kept-none old mid keeps) refl refl h
+
 -- the input failed before anything was written
 pub writes-input : (fault : InputFault) (lines : List (List ℕ)) (end : Outcome) (old : Option (List ℕ)) → Writes lines end old old (Err (replay_fault_of fault))
 writes-input input.Read lines end old = (0, Appends-nil old)

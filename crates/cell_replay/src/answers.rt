@@ -3,11 +3,14 @@
 ghost use Rattle.std.specs.Prelude.{◌≡◌, ◌<◌, ◌++◌, ℕ, List, Some, OnOk, if◌then◌else◌, string_bytes};
 ghost use Rattle.std.specs.Io.KnownBytes.{Keeps};
 ghost use Rattle.cell_types.specs.Answers.{answer_text};
+ghost use Rattle.cell_rules.specs.ModelState.{ModelState};
 ghost use Rattle.csv_rows.specs.Rows.{IsPlain};
 ghost use Rattle.cell_replay.specs.Script as script;
-ghost use Rattle.cell_replay.specs.Script.{is_cut_of, line_of, max_records, start_line};
-ghost use Rattle.cell_replay.specs.ScriptRecords.{ForLeft, HasLeft, WritesLater, WritesRows};
-ghost use Rattle.cell_replay.specs.Writing.{WritesLine, WritesNext};
+ghost use Rattle.cell_replay.specs.Script.{line_of, max_records, start_line};
+ghost use Rattle.cell_replay.specs.ScriptRecords.{ForLeft, HasLeft, WritesFirst, WritesFrom};
+ghost use Rattle.cell_replay.specs.ScriptRecords.{WritesLater, WritesRows};
+ghost use Rattle.cell_replay.specs.Writing.{WritesLine};
+ghost use Rattle.cell_replay.specs.declared.version.Version.{Version};
 
 use crate::lent::{LentReader, Origin};
 use crate::records::Records;
@@ -22,7 +25,7 @@ use std::alloc::{AllocError, Global};
 use std::io::Write;
 
 /// The most records after record 0 that are answered.
-const MAX_RECORDS: u32 = 65_536;
+pub const MAX_RECORDS: u32 = 65_536;
 
 /// Writes the lines of the records that are left, the first of which is record 0. Returns how the
 /// script ends.
@@ -77,16 +80,45 @@ fn answer_later<L: LentReader, K: Origin, W: Write>(
 {
     let Start { version, mut state } = start;
     let mut line = String::new(alloc);
+    answer_each(records, version, &mut state, &mut line, writer)
+}
+
+/// Writes the lines of the records after record 0. `line` is room for a line.
+fn answer_each<L: LentReader, K: Origin, W: Write>(
+    records: &mut Records<'_, L, K>,
+    version: Version,
+    state: &mut State,
+    line: &mut String,
+    writer: &mut W,
+) -> Result<Outcome, ReplayFault>
+    requires { IsPlain records.old.reader }
+    ensures written { ForLeft K.bytes L.left records.old (λ bytes left.
+        WritesLater version state.old bytes left
+        (W.contents writer.old) (W.contents writer.new) result) }
+{
     'rows: for done in 0..MAX_RECORDS {
         if flush_at_pause(records, writer).is_err() {
             return Err(ReplayFault::Write);
         }
-        match answer_next(records, version, &mut state, done, &mut line, writer) {
+        match answer_next(records, version, state, done, line, writer) {
             Ok(None) => {}
             Ok(Some(outcome)) => return Ok(outcome),
             Err(fault) => return Err(fault),
         }
     }
+    end_at_limit(records, writer)
+}
+
+/// Returns how a script ends of which as many records are answered as may be.
+fn end_at_limit<L: LentReader, K: Origin, W: Write>(
+    records: &mut Records<'_, L, K>,
+    writer: &mut W,
+) -> Result<Outcome, ReplayFault>
+    requires { IsPlain records.old.reader }
+    ensures written { (version : Version) (s : ModelState) →
+        ForLeft K.bytes L.left records.old (λ bytes left. WritesFrom version max_records s bytes left
+        (W.contents writer.old) (W.contents writer.new) result) }
+{
     if flush_at_pause(records, writer).is_err() {
         return Err(ReplayFault::Write);
     }
@@ -123,9 +155,8 @@ fn answer_next<L: LentReader, K: Origin, W: Write>(
     requires few { done < max_records }
     ensures plain { OnOk result (IsPlain records.new.reader) }
     ensures written { ForLeft K.bytes L.left records.old (λ bytes left.
-        WritesNext version (is_cut_of bytes) done state.old state.new left
-        (W.contents writer.old) (W.contents writer.new)
-        (HasLeft L.left bytes records.new) result) }
+        WritesFirst version done state.old state.new bytes left
+        (W.contents writer.old) (W.contents writer.new) (HasLeft L.left bytes records.new) result) }
 {
     if !records.next()? {
         return Ok(Some(end(records.is_cut())));

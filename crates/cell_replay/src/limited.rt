@@ -13,7 +13,7 @@ use std::io::Read;
 use std::marker::PhantomData;
 
 /// The most bytes of a script that are used.
-const BYTE_LIMIT: usize = 4_194_304;
+pub const MAX_BYTES: usize = 4_194_304;
 
 /// Hands on the first 4,194,304 bytes of a reader, and notes whether there are more.
 #[derive(Drop)]
@@ -40,7 +40,7 @@ impl<L: LentReader, K: Origin> Read for LimitedReader<L, K> {
         if buf.is_empty() || self.is_cut.is_some() {
             return Ok(0);
         }
-        if self.taken == BYTE_LIMIT {
+        if self.taken == MAX_BYTES {
             self.look_past_limit()?;
             return Ok(0);
         }
@@ -96,7 +96,7 @@ impl<L: LentReader, K: Origin> LimitedReader<L, K> {
             (bytes_left (L.left self.old.input) self.old.is_cut self.old.taken)
             (bytes_left (L.left self.new.input) self.new.is_cut self.new.taken) result buf.new }
     {
-        let room = buf.len().min(BYTE_LIMIT - self.taken);
+        let room = buf.len().min(MAX_BYTES - self.taken);
         let count = self.input.read_on(&mut buf[..room])?;
         self.lines_end = self.taken + whole_lines(&buf[..count]);
         self.taken += count;

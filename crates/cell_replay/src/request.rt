@@ -10,7 +10,7 @@ use cell_types::{Call, Machine};
 use csv::ByteRecord;
 
 /// A call that a machine makes.
-#[derive(Clone, Copy, PartialEq, Eq, Debug)]
+#[derive(Clone, Copy)]
 pub struct Request {
     pub machine: Machine,
     pub call: Call,

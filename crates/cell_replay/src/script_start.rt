@@ -10,14 +10,14 @@ use cell_rules::{PLACES, State, read_places};
 use csv::ByteRecord;
 
 /// The most digits of a stamp.
-const MAX_DIGITS: usize = 7;
+pub const MAX_STAMP_DIGITS: usize = 7;
 
 /// The number that one to seven digits write; `None` for other bytes.
 #[tactic(auto, using(crate::proofs::Digits::power_small))]
 fn read_number(field: &[u8]) -> Option<u32>
     ensures { result ≡ script.number_in field.now }
 {
-    if field.is_empty() || field.len() > MAX_DIGITS {
+    if field.is_empty() || field.len() > MAX_STAMP_DIGITS {
         return None;
     }
     let mut number = 0u32;
@@ -43,7 +43,7 @@ fn start_of(places: Option<[bool; PLACES]>, stamp: Option<u32>) -> Result<State,
 }
 
 /// The version of a script, and the state that it starts from.
-#[derive(Clone, Copy, Debug)]
+#[derive(Clone, Copy)]
 pub struct Start {
     pub version: Version,
     pub state: State,

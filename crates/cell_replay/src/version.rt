@@ -6,7 +6,7 @@ ghost use Rattle.cell_replay.specs.Versions.{has_call, version_of, version_word}
 use cell_types::Call;
 
 /// The version of a script.
-#[derive(Clone, Copy, PartialEq, Eq, Debug)]
+#[derive(Clone, Copy)]
 pub enum Version {
     /// Its first word is `start`. It can't stop the cell.
     First,
