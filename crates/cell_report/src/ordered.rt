@@ -25,7 +25,7 @@ pub fn key(entry: &Entry) -> u64
 
 /// An entry of a machine, and whether it is in turn: no earlier entry of its journal is later in
 /// the order.
-#[derive(Clone, Copy, Debug)]
+#[derive(Clone, Copy)]
 pub struct Noted {
     pub entry: Entry,
     pub machine: Machine,
@@ -85,18 +85,27 @@ fn push_journal(all: &mut Vec<Noted>, machine: Machine, journal: &[Entry]) -> Re
     Ok(())
 }
 
+fn push_journals(all: &mut Vec<Noted>, journals: &Journals) -> Result<(), AllocError>
+    ensures { IfOk result (λ _. all.old.items ≡ [] →
+        all.new.items ≡ order.all_noted (journal_of journals.now)) }
+{
+    push_journal(all, Machine::Feed, &journals.feed)?;
+    push_journal(all, Machine::Table, &journals.table)?;
+    push_journal(all, Machine::Robot, &journals.robot)?;
+    push_journal(all, Machine::Press, &journals.press)?;
+    push_journal(all, Machine::Deposit, &journals.deposit)?;
+    push_journal(all, Machine::Crane, &journals.crane)?;
+    push_journal(all, Machine::Watch, &journals.watch)
+}
+
 fn all_noted(alloc: Global, journals: &Journals) -> Result<Vec<Noted>, AllocError>
     ensures { IfOk result (λ all. all.items ≡ order.all_noted (journal_of journals.now)) }
 {
     let mut all = Vec::new(alloc);
-    push_journal(&mut all, Machine::Feed, &journals.feed)?;
-    push_journal(&mut all, Machine::Table, &journals.table)?;
-    push_journal(&mut all, Machine::Robot, &journals.robot)?;
-    push_journal(&mut all, Machine::Press, &journals.press)?;
-    push_journal(&mut all, Machine::Deposit, &journals.deposit)?;
-    push_journal(&mut all, Machine::Crane, &journals.crane)?;
-    push_journal(&mut all, Machine::Watch, &journals.watch)?;
-    Ok(all)
+    match push_journals(&mut all, journals) {
+        Ok(()) => Ok(all),
+        Err(error) => Err(error),
+    }
 }
 
 /// Sorts all entries into the order of an audit. The cost for n entries is about n log n.
