@@ -23,10 +23,10 @@ use std::io::Read;
 use toml::Table;
 
 /// The most bytes of a configuration.
-const MAX_BYTES: usize = 2_097_152;
+pub const MAX_BYTES: usize = 2_097_152;
 
 /// What a run begins with.
-#[derive(Debug, PartialEq, Eq, Drop)]
+#[derive(PartialEq, Eq, Drop)]
 pub struct Config {
     /// The state of the interlock at the start.
     pub start: State,

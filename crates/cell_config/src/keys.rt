@@ -7,13 +7,13 @@ ghost use Rattle.cell_config.specs.Keys as keys;
 use toml::{Table, Value};
 
 /// The keys at the top with plain values.
-const PLAIN_KEYS: [&str; 3] = ["start", "stamp", "schedule"];
+pub const PLAIN_KEYS: [&str; 3] = ["start", "stamp", "schedule"];
 
 /// The keys at the top with sections.
-const SECTION_KEYS: [&str; 5] = ["arm1", "arm2", "rotation", "turn", "gripper"];
+pub const SECTION_KEYS: [&str; 5] = ["arm1", "arm2", "rotation", "turn", "gripper"];
 
 /// The keys of a section.
-const INNER_KEYS: [&str; 3] = ["raw", "tol", "points"];
+pub const INNER_KEYS: [&str; 3] = ["raw", "tol", "points"];
 
 fn is_plain_key(key: &str) -> bool
     ensures { result ≡ keys.is_one_of keys.plain_keys key.now }

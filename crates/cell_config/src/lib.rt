@@ -12,6 +12,8 @@ mod sections;
 mod starts;
 mod values;
 
-pub use configuration::{Config, read_config};
+pub use configuration::{Config, MAX_BYTES, read_config};
 pub use fault::ConfigFault;
+pub use keys::{INNER_KEYS, PLAIN_KEYS, SECTION_KEYS};
 pub use refused_sections::{SectionFault, SectionKey, check_sections};
+pub use schedules::MAX_LETTERS;

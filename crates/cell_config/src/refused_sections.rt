@@ -17,7 +17,7 @@ use cell_parts::parts::table::TURN_END;
 use toml::{Table, Value};
 
 /// The key of a section.
-#[derive(Clone, Copy, Debug, PartialEq, Eq)]
+#[derive(Clone, Copy, Debug)]
 pub enum SectionKey {
     Arm1,
     Arm2,
@@ -56,7 +56,7 @@ impl SectionKey {
 
 /// What is wrong with a section: the first fault of its keys, in the order `raw`, `tol`, `points`.
 /// The fault of a key is `Kind` or `Range`.
-#[derive(Clone, Copy, Debug, PartialEq, Eq)]
+#[derive(Clone, Copy, Debug)]
 pub enum SectionFault {
     /// The section is no table.
     NoTable,

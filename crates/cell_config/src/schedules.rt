@@ -15,7 +15,7 @@ use std::alloc::Global;
 use toml::Table;
 
 /// The most letters of a schedule.
-const MAX_LETTERS: usize = 1_000_000;
+pub const MAX_LETTERS: usize = 1_000_000;
 
 /// How many ASCII characters there are.
 const ASCII: usize = 128;
