@@ -1,25 +1,20 @@
 -- Which mode words ask for.
 use Rattle.std.proofs.Common.{◌≡◌, inl, inr, ℕ, List, [], ◌∷◌, codes, refl, sym, ap, subst, ◌∙◌}
-use Rattle.clap.specs.Words.{HasKind, Kinds, Text, kind_of}
+use Rattle.clap.specs.Words.{HasKind, IsAmong, Kinds, Text, kind_of}
 use Rattle.clap.specs.declared.error.Error.{Error}
 use Rattle.clap.specs.declared.error.kind.ErrorKind.TheVariants as ErrorKind
 use Rattle.clap.proofs.OnLiterals.{clap_on_literals}
 use Rattle.cell_shell.specs.Versions.{AskForVersion}
 use Rattle.cell_shell.proofs.Versions.{version_words}
-use Rattle.cell_command.specs.Words.{AreTaken, AskForReplay, AskForRun, AskForSim, mode_of}
+use Rattle.cell_command.specs.Words.{AreTaken, AskForRun, mode_of}
 use Rattle.cell_command.specs.declared.words.Mode.{Mode}
-use Rattle.cell_command.specs.declared.words.Mode.TheVariants.{Replay, Sim, Run}
+use Rattle.cell_command.specs.declared.words.Mode.TheVariants.{Run}
 
 -- the words ask for the run that was read
 pub run_asked : (words : List Text) (m : Mode) (turns tries turns' tries' : ℕ) → m ≡ Run turns tries → m ≡ mode_of words → AskForRun turns' tries' words → (turns ≡ turns') × (tries ≡ tries')
 run_asked words m turns tries turns' tries' e f k =
     let same : Run turns tries ≡ Run turns' tries' = sym e ∙ (f ∙ k.1) in
     (cc, cc)
-
--- what holds of both ways to ask for a replay
-pub either_way : {K : Type 0} → (words : List Text) → AskForReplay words → ((name : List ℕ) → words ≡ name ∷ [] → K) → ((name : List ℕ) → words ≡ name ∷ codes "replay" ∷ [] → K) → K
-either_way words (name, inl e) f g = f name e
-either_way words (name, inr e) f g = g name e
 
 -- ---- words that ask for the version
 
@@ -42,3 +37,9 @@ pub no_room : (kinds : Kinds) (e : Error) → HasKind kinds e → kinds ≡ [] �
 no_room kinds e (inl h) none = h
 no_room (k ∷ ks) e (inr h) none = cc
 no_room [] e (inr h) none = absurd h
+
+-- ---- words that ask for help
+
+pub help_asked : (kinds : Kinds) (e : Error) → HasKind kinds e → kind_of e ≡ ErrorKind.DisplayHelp → IsAmong ErrorKind.DisplayHelp kinds
+help_asked kinds e (inl h) is = let lie : ErrorKind.OutOfMemory ≡ ErrorKind.DisplayHelp = sym h ∙ is in cc
+help_asked kinds e (inr h) is = subst (λ k. IsAmong k kinds) is h

@@ -5,9 +5,9 @@ use Rattle.cell_command.specs.Words.{mode_of, program, AreTaken}
 use Rattle.cell_command.specs.declared.words.Mode.{Mode}
 use Rattle.cell_command.specs.declared.words.Mode.TheVariants.{Replay, Sim, Run}
 
--- words after the program's name ask for this
-abbrev pub AskFor : List Text → Mode → Type 0
-AskFor words mode = AreTaken (codes "cell" ∷ words) × (mode_of (codes "cell" ∷ words) ≡ mode)
+-- these words after the program's name ask for this
+abbrev pub AskAfterName : List Text → Mode → Type 0
+AskAfterName words mode = AreTaken (codes "cell" ∷ words) × (mode_of (codes "cell" ∷ words) ≡ mode)
 
 abbrev pub AreRefused : List Text → Type 0
 AreRefused words = takes program (codes "cell" ∷ words) ≡ false
@@ -16,15 +16,15 @@ abbrev pub run_with : Text → Text → List Text
 run_with flag number = codes "run" ∷ flag ∷ number ∷ []
 
 pub record WordsAreMet : Type 0 where
-  pub nothing : AskFor [] Replay
-  pub replay : AskFor (codes "replay" ∷ []) Replay
-  pub sim : AskFor (codes "sim" ∷ []) Sim
-  pub run : AskFor (codes "run" ∷ []) (Run 1000 8)
-  pub one_turn : AskFor (run_with (codes "--turns") (codes "1")) (Run 1 8)
-  pub max_turns : AskFor (run_with (codes "--turns") (codes "100000")) (Run 100000 8)
-  pub one_try : AskFor (run_with (codes "--tries") (codes "1")) (Run 1000 1)
-  pub max_tries : AskFor (run_with (codes "--tries") (codes "64")) (Run 1000 64)
-  pub both : AskFor (codes "run" ∷ codes "--tries=64" ∷ codes "--turns=3" ∷ []) (Run 3 64)
+  pub nothing : AskAfterName [] Replay
+  pub replay : AskAfterName (codes "replay" ∷ []) Replay
+  pub sim : AskAfterName (codes "sim" ∷ []) Sim
+  pub run : AskAfterName (codes "run" ∷ []) (Run 1000 8)
+  pub one_turn : AskAfterName (run_with (codes "--turns") (codes "1")) (Run 1 8)
+  pub max_turns : AskAfterName (run_with (codes "--turns") (codes "100000")) (Run 100000 8)
+  pub one_try : AskAfterName (run_with (codes "--tries") (codes "1")) (Run 1000 1)
+  pub max_tries : AskAfterName (run_with (codes "--tries") (codes "64")) (Run 1000 64)
+  pub both : AskAfterName (codes "run" ∷ codes "--tries=64" ∷ codes "--turns=3" ∷ []) (Run 3 64)
   pub no_turn : AreRefused (run_with (codes "--turns") (codes "0"))
   pub turn_more : AreRefused (run_with (codes "--turns") (codes "100001"))
   pub no_try : AreRefused (run_with (codes "--tries") (codes "0"))
