@@ -2,7 +2,7 @@ use Rattle.std.proofs.Common.{map, rules}
 use Rattle.cell_calib.specs.Curve.{pairs_of}
 use Rattle.cell_plant.specs.Machines.{on_curves}
 use Rattle.cell_configured.proofs.Places.{curves_fit, curves_in_order, keeps_curve, on_curves_as}
-use Rattle.cell_configured.proofs.Shown.{sees_beginning, sees_run}
+use Rattle.cell_configured.proofs.Shown.{sees_both}
 use Rattle.cell_configured.proofs.simulation.simulate_shown.Goals as goal
 
 pub show_with_gauges-requires-clause-arm1 : goal.show_with_gauges-requires-clause-arm1
@@ -26,26 +26,16 @@ show_with_gauges-requires-clause-scales g c =
     c.index-config-0.result c.index-config-1.result c.index-config-2.result c.index-config-3.result c.index-config-4.result _
     (record { arm1 = c.points.ensures; arm2 = c.points-2.ensures; rotation = c.points-3.ensures; turn = c.points-4.ensures; gripper = c.points-5.ensures })
 
-pub returns-clause-run : goal.returns-clause-run
-returns-clause-run g c =
-    sees_run g.W.Watcher.sees _ _ (on_curves (map pairs_of c.args.config.now.curves))
+pub returns : goal.returns
+returns g c =
+    let seen =
+    sees_both g.W.Watcher.sees _ _ (on_curves (map pairs_of c.args.config.now.curves))
     c.args.config.now.points c.args.config.now.start _ c.args.watcher.now c.show_with_gauges.new.watcher
     (curves_in_order _ _ c.requires.points c.requires.curves
     c.index-config-0.result c.index-config-1.result c.index-config-2.result c.index-config-3.result c.index-config-4.result _
     (record { arm1 = c.points.ensures; arm2 = c.points-2.ensures; rotation = c.points-3.ensures; turn = c.points-4.ensures; gripper = c.points-5.ensures }))
-    c.show_with_gauges.result c.show_with_gauges.ensures.run
+    c.show_with_gauges.result c.show_with_gauges.ensures.run c.show_with_gauges.ensures.ended
     (on_curves_as _ _ c.requires.points c.requires.curves
     c.index-config-0.result c.index-config-1.result c.index-config-2.result c.index-config-3.result c.index-config-4.result _ _
-    (record { arm1 = λ raw v k. search rules; arm2 = λ raw v k. search rules; rotation = λ raw v k. search rules; turn = λ raw v k. search rules; gripper = λ raw v k. search rules }))
-
-pub returns-clause-ended : goal.returns-clause-ended
-returns-clause-ended g c =
-    sees_beginning g.W.Watcher.sees _ _ (on_curves (map pairs_of c.args.config.now.curves))
-    c.args.config.now.points c.args.config.now.start _ c.args.watcher.now c.show_with_gauges.new.watcher
-    (curves_in_order _ _ c.requires.points c.requires.curves
-    c.index-config-0.result c.index-config-1.result c.index-config-2.result c.index-config-3.result c.index-config-4.result _
-    (record { arm1 = c.points.ensures; arm2 = c.points-2.ensures; rotation = c.points-3.ensures; turn = c.points-4.ensures; gripper = c.points-5.ensures }))
-    c.show_with_gauges.result c.show_with_gauges.ensures.ended
-    (on_curves_as _ _ c.requires.points c.requires.curves
-    c.index-config-0.result c.index-config-1.result c.index-config-2.result c.index-config-3.result c.index-config-4.result _ _
-    (record { arm1 = λ raw v k. search rules; arm2 = λ raw v k. search rules; rotation = λ raw v k. search rules; turn = λ raw v k. search rules; gripper = λ raw v k. search rules }))
+    (record { arm1 = λ raw v k. search rules; arm2 = λ raw v k. search rules; rotation = λ raw v k. search rules; turn = λ raw v k. search rules; gripper = λ raw v k. search rules })) in
+    record { run = seen.0; ended = seen.1 }
