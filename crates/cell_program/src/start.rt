@@ -5,7 +5,7 @@ ghost use Rattle.cell_text.specs.Input.{TakesAtMost};
 ghost use Rattle.cell_replay.specs.Script.{max_bytes_read};
 
 use crate::serve::serve;
-use cell_shell::{fail, texts_of, words_or_exit};
+use cell_shell::{texts_or_exit, words_or_exit};
 use std::alloc::Global;
 use std::env::Env;
 use std::io::{Read, Write};
@@ -30,8 +30,8 @@ where
         Ok(words) => words,
         Err(exit) => return exit.status(),
     };
-    match texts_of(alloc, &words) {
+    match texts_or_exit(alloc, &words, writer) {
         Ok(texts) => serve(rt, alloc, texts.as_slice(), reader, writer),
-        Err(_) => fail(writer, "memory").status(),
+        Err(exit) => exit.status(),
     }
 }
