@@ -11,7 +11,7 @@ ghost use Rattle.cell_recorder.specs.Served.{AskForHistory, Records, run_words a
 
 use crate::record::record;
 use cell_command::{Mode, read_words, refuse_with_help};
-use cell_shell::{Exit, asks_for_version, fail, print_version, texts_of, words_or_exit};
+use cell_shell::{Exit, asks_for_version, fail, print_version, texts_or_exit, words_or_exit};
 use std::alloc::{AllocError, Global};
 use std::env::Env;
 use std::io::{Read, Write};
@@ -129,8 +129,8 @@ where
         Ok(words) => words,
         Err(exit) => return exit.status(),
     };
-    match texts_of(alloc, &words) {
+    match texts_or_exit(alloc, &words, writer) {
         Ok(texts) => serve(rt, alloc, texts.as_slice(), reader, writer),
-        Err(_) => fail(writer, "memory").status(),
+        Err(exit) => exit.status(),
     }
 }

@@ -7,6 +7,7 @@ ghost use Rattle.cell_recorder.specs.Recorded.{IsHistoryOf, IsTold, IsWritten};
 use cell_history::script_of;
 use cell_notes::RunRecord;
 use cell_program::reporting::are_fine;
+use cell_replay::MAX_RECORDS;
 use cell_report::{AuditFault, audit};
 use cell_shell::{Exit, fail};
 use cell_text::write_text;
@@ -14,7 +15,7 @@ use std::alloc::Global;
 use std::io::Write;
 
 /// The most events of a script.
-const MAX_EVENTS: usize = 65_536;
+const MAX_EVENTS: usize = MAX_RECORDS as usize;
 
 /// Finds the history of a run in its journals, and writes the history's script, with a stopped
 /// machine too. Returns `Well` if no machine was stopped and the script was written, `Failed`
