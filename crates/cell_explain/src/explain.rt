@@ -13,17 +13,11 @@ use crate::fault::ExplainFault;
 use crate::report::{report_configuration, report_script};
 use crate::sink::Sink;
 use crate::verdict::Verdict;
-use cell_config::{ConfigFault, read_config};
-use cell_replay::{Outcome, ReplayFault, replay};
+use cell_config::{ConfigFault, MAX_BYTES as MAX_CONFIG_BYTES, read_config};
+use cell_replay::{MAX_BYTES as MAX_SCRIPT_BYTES, Outcome, ReplayFault, replay};
 use cell_text::{read_up_to, write_text};
 use std::alloc::Global;
 use std::io::{Read, Write};
-
-/// The most bytes that are read of a script: one more than are used shows that there are more.
-const MAX_SCRIPT_BYTES: usize = 4_194_305;
-
-/// The most bytes that are read of a configuration: one more than it may have.
-const MAX_CONFIG_BYTES: usize = 2_097_153;
 
 /// Reads a script as `replay` does. Where that isn't refused, it writes nothing; else it writes
 /// which record is refused, and why.
@@ -40,7 +34,8 @@ pub fn explain_script<R: Read, W: Write>(
         fault (W.contents writer.old) (W.contents writer.new)) }
     ensures taken { TakesAtMost (R.remaining reader.old) (R.remaining reader.new) max_bytes_read }
 {
-    let bytes = read_up_to(alloc, reader, MAX_SCRIPT_BYTES)?;
+    // (one byte more shows whether there are more than are used)
+    let bytes = read_up_to(alloc, reader, MAX_SCRIPT_BYTES + 1)?;
     explain_script_bytes(alloc, bytes.as_slice(), writer)
 }
 
@@ -87,7 +82,7 @@ pub fn explain_configuration<R: Read, W: Write>(
     ensures taken { TakesAtMost (R.remaining reader.old) (R.remaining reader.new)
         config_bytes_read }
 {
-    let bytes = read_up_to(alloc, reader, MAX_CONFIG_BYTES)?;
+    let bytes = read_up_to(alloc, reader, MAX_CONFIG_BYTES + 1)?;
     explain_configuration_bytes(alloc, bytes.as_slice(), writer)
 }
 

@@ -13,11 +13,10 @@ ghost use Rattle.cell_explain.specs.Served.{AskOfConfig, AskOfScript, ExplainsCo
 use crate::explain::{explain_configuration, explain_script};
 use crate::verdict::Verdict;
 use cell_command::{Mode, read_words, refuse_with_help};
-use cell_shell::{Exit, asks_for_version, print_version, refuse_bytes, texts_of, words_of};
+use cell_shell::{Exit, asks_for_version, print_version, texts_or_exit, words_or_exit};
 use clap::error::ErrorKind;
 use std::alloc::Global;
 use std::env::Env;
-use std::io;
 use std::io::{Read, Write};
 
 /// The help.
@@ -149,13 +148,12 @@ pub fn start<E: Env, R: Read, W: Write>(
     ensures status { result ≤ 3 }
     ensures read { TakesAtMost (R.remaining reader.old) (R.remaining reader.new) max_bytes_read }
 {
-    let words = match words_of(alloc, env) {
+    let words = match words_or_exit(alloc, env, writer) {
         Ok(words) => words,
-        Err(error) if error.kind() == io::ErrorKind::OutOfMemory => return FAILED,
-        Err(_) => return refuse_bytes(writer).status(),
+        Err(exit) => return status_of(exit),
     };
-    match texts_of(alloc, &words) {
+    match texts_or_exit(alloc, &words, writer) {
         Ok(texts) => serve(alloc, texts.as_slice(), reader, writer),
-        Err(_) => FAILED,
+        Err(exit) => status_of(exit),
     }
 }

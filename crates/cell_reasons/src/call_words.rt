@@ -1,6 +1,6 @@
 //! What is wrong with a later record of a script.
 
-use crate::fields::Field;
+use crate::fields::{Field, MAX_FIELDS};
 use crate::records::{Record, record_at};
 use crate::start_words::{field_of, is_version};
 use cell_types::{Call, Machine, Pose, Zone};
@@ -8,9 +8,6 @@ use std::alloc::{AllocError, Global};
 
 /// What is said where nothing else is known.
 const NO_CALL: &str = "it is no call";
-
-/// The most fields of a call.
-const MOST_FIELDS: usize = 3;
 
 /// What stands after a verb.
 #[derive(Clone, Copy)]
@@ -125,7 +122,7 @@ fn push_bad_call(
         verb.push_place(words)?;
         return words.push_str(" needs a script that begins with start2, not with start");
     }
-    if let Some(more) = field_of(record, MOST_FIELDS) {
+    if let Some(more) = field_of(record, MAX_FIELDS) {
         return more.push_wrong(words, "; a call has at most three fields");
     }
     push_bad_object(alloc, words, verb, object, field_of(record, 2))

@@ -7,14 +7,11 @@ use crate::records::line_at;
 use crate::section_words::push_refused_section;
 use crate::start_words::push_plate_count;
 use crate::unknown_keys::push_unknown;
-use cell_config::{ConfigFault, check_sections};
+use cell_config::{ConfigFault, MAX_BYTES, MAX_LETTERS, check_sections};
 use cell_rules::{LAST_STAMP, read_places};
 use std::alloc::{AllocError, Global};
 use std::str;
 use toml::Table;
-
-/// The most letters of a schedule.
-const MOST_LETTERS: usize = 1_000_000;
 
 /// The letters of a schedule.
 const LETTERS: &[u8] = b"ftrpdcwFTRPDCW";
@@ -32,7 +29,7 @@ const SCHEDULE_TAKES: &str = "schedule takes a text; put quotes round the letter
 pub fn config_words(alloc: Global, bytes: &[u8], fault: ConfigFault) -> Result<String, AllocError> {
     let mut words = String::new(alloc);
     if fault == ConfigFault::Long {
-        words.push_str("it has more than 2097152 bytes")?;
+        write!(words, "it has more than {MAX_BYTES} bytes")?;
     } else {
         push_text_words(alloc, &mut words, bytes, fault)?;
     }
@@ -176,7 +173,7 @@ fn push_wrong_range(
         source.push_line(words, &["schedule"])?;
         return write!(
             words,
-            "schedule is too long: it takes at most {MOST_LETTERS} letters"
+            "schedule is too long: it takes at most {MAX_LETTERS} letters"
         );
     }
     match check_sections(table) {
@@ -196,7 +193,7 @@ fn has_wrong_stamp(table: &Table) -> bool {
 /// Whether the schedule is too long.
 fn has_long_schedule(table: &Table) -> bool {
     match text_at(table, "schedule") {
-        Some(text) => text.chars().count() > MOST_LETTERS,
+        Some(text) => text.chars().count() > MAX_LETTERS,
         None => false,
     }
 }

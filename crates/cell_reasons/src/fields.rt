@@ -4,6 +4,9 @@ use crate::nearest::push_suggestion;
 use crate::quoted::push_quoted;
 use std::alloc::{AllocError, Global};
 
+/// The most fields of a record.
+pub const MAX_FIELDS: usize = 3;
+
 /// A field, and where it is: the line on which it begins, and its number. The first field is 1.
 #[derive(Clone, Copy)]
 pub struct Field<'a> {

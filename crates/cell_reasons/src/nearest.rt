@@ -3,8 +3,8 @@
 use std::alloc::{AllocError, Global};
 use strsim::osa_distance;
 
-/// The longest text for which a word is looked for.
-const LONGEST: usize = 40;
+/// The most bytes of a text for which a word is looked for.
+const MAX_MISTYPED: usize = 40;
 
 /// The known word that is nearest to a text, if one is near: of three letters at most one is
 /// another, left out, put in, or swapped with the next. Blanks around it, and capitals, don't count.
@@ -13,10 +13,10 @@ pub fn nearest(
     text: &[u8],
     known: &[&'static str],
 ) -> Result<Option<&'static str>, AllocError> {
-    if text.len() > LONGEST {
+    if text.len() > MAX_MISTYPED {
         return Ok(None);
     }
-    let word = folded(alloc, text)?;
+    let word = lower_case_of(alloc, text)?;
     let mut found = None;
     let mut least = usize::MAX;
     for candidate in known {
@@ -30,7 +30,7 @@ pub fn nearest(
 }
 
 /// A text without blanks around it, in lower case.
-fn folded(alloc: Global, text: &[u8]) -> Result<String, AllocError> {
+fn lower_case_of(alloc: Global, text: &[u8]) -> Result<String, AllocError> {
     let mut word = String::from_utf8_lossy(alloc, text.trim_ascii())?;
     word.make_ascii_lowercase();
     Ok(word)

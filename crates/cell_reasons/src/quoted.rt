@@ -4,7 +4,7 @@ use std::alloc::AllocError;
 use std::str;
 
 /// The most characters of a part that are shown.
-const MOST_SHOWN: usize = 40;
+const MAX_SHOWN: usize = 40;
 
 /// Adds a part of the input between quotes. What isn't printable ASCII is escaped; what is longer
 /// than 40 characters is cut.
@@ -26,15 +26,15 @@ pub fn push_quoted_char(text: &mut String, letter: char) -> Result<(), AllocErro
 
 /// Adds the first characters. Returns whether there are more.
 fn push_chars(text: &mut String, chars: &str) -> Result<bool, AllocError> {
-    for letter in chars.chars().take(MOST_SHOWN) {
+    for letter in chars.chars().take(MAX_SHOWN) {
         push_char(text, letter)?;
     }
-    Ok(chars.chars().nth(MOST_SHOWN).is_some())
+    Ok(chars.chars().nth(MAX_SHOWN).is_some())
 }
 
 /// Adds the first bytes of what isn't UTF-8. Returns whether there are more.
 fn push_bytes(text: &mut String, bytes: &[u8]) -> Result<bool, AllocError> {
-    for byte in bytes.iter().take(MOST_SHOWN) {
+    for byte in bytes.iter().take(MAX_SHOWN) {
         let byte = *byte;
         if byte.is_ascii() {
             push_char(text, char::from(byte))?;
@@ -42,7 +42,7 @@ fn push_bytes(text: &mut String, bytes: &[u8]) -> Result<bool, AllocError> {
             write!(text, "\\x{byte:02x}")?;
         }
     }
-    Ok(bytes.len() > MOST_SHOWN)
+    Ok(bytes.len() > MAX_SHOWN)
 }
 
 /// Adds a character, escaped where it isn't printable ASCII, a quote or a backslash.

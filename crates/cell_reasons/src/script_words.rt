@@ -2,11 +2,8 @@
 
 use crate::call_words::push_bad_row;
 use crate::start_words::{push_bad_start, push_no_start};
-use cell_replay::ScriptFault;
+use cell_replay::{MAX_BYTES, MAX_RECORDS, ScriptFault};
 use std::alloc::{AllocError, Global};
-
-/// The most bytes of a script.
-const MAX_BYTES: usize = 4_194_304;
 
 /// What is wrong with a script that is refused for this fault: a line.
 pub fn script_words(
@@ -20,10 +17,13 @@ pub fn script_words(
         ScriptFault::BadStart => push_bad_start(alloc, &mut words, script)?,
         ScriptFault::BadRow(number) => push_bad_row(alloc, &mut words, script, number)?,
         ScriptFault::Long if script.len() > MAX_BYTES => {
-            words.push_str("it has more than 4194304 bytes; split it")?;
+            write!(words, "it has more than {MAX_BYTES} bytes; split it")?;
         }
         ScriptFault::Long => {
-            words.push_str("it has more than 65536 records after record 0; split it")?;
+            write!(
+                words,
+                "it has more than {MAX_RECORDS} records after record 0; split it"
+            )?;
         }
     }
     words.push('\n')?;

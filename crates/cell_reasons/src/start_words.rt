@@ -2,8 +2,9 @@
 ghost use Rattle.std.specs.Prelude.{◌≡◌, is_some};
 ghost use Rattle.cell_replay.specs.Versions.{version_of};
 
-use crate::fields::Field;
+use crate::fields::{Field, MAX_FIELDS};
 use crate::records::{Record, line_ends, record_at};
+use cell_replay::{MAX_STAMP_DIGITS, Version};
 use cell_rules::{LAST_STAMP, read_places};
 use cell_types::Machine;
 use std::alloc::{AllocError, Global};
@@ -11,17 +12,8 @@ use std::alloc::{AllocError, Global};
 /// What a start looks like.
 const EXAMPLE: &str = "a script begins with a start, such as start,0000000000";
 
-/// The words that begin a script.
-const VERSIONS: [&str; 2] = ["start", "start2"];
-
-/// The most fields of a start.
-const MOST_FIELDS: usize = 3;
-
-/// The most digits of a stamp.
-const MOST_DIGITS: usize = 7;
-
 /// The most plates of a start.
-const MOST_PLATES: usize = 6;
+const MAX_PLATES: usize = 6;
 
 /// Adds why a script has no start.
 pub fn push_no_start(alloc: Global, words: &mut String, script: &[u8]) -> Result<(), AllocError> {
@@ -54,7 +46,8 @@ fn push_no_start_in(
         first.push_place(words)?;
         return words.push_str(": a script has no header; delete the line");
     } else {
-        first.push_unknown(alloc, words, "word that begins a script", &VERSIONS)?;
+        let versions = [Version::First.word(), Version::Second.word()];
+        first.push_unknown(alloc, words, "word that begins a script", &versions)?;
         words.push_str("; ")?;
     }
     words.push_str(EXAMPLE)
@@ -77,10 +70,7 @@ fn is_header(alloc: Global, script: &[u8]) -> Result<bool, AllocError> {
 pub fn is_version(field: &[u8]) -> bool
     ensures { result ≡ is_some (version_of field.now) }
 {
-    if field == "start".as_bytes() {
-        return true;
-    }
-    field == "start2".as_bytes()
+    Version::read(field).is_some()
 }
 
 /// The field with this index.
@@ -108,8 +98,8 @@ pub fn push_bad_start(alloc: Global, words: &mut String, script: &[u8]) -> Resul
 }
 
 fn push_bad_record(words: &mut String, record: &Record) -> Result<(), AllocError> {
-    if record.row.len() > MOST_FIELDS {
-        return match field_of(record, MOST_FIELDS) {
+    if record.row.len() > MAX_FIELDS {
+        return match field_of(record, MAX_FIELDS) {
             Some(field) => field.push_wrong(words, "; a start has at most three fields"),
             None => words.push_str(EXAMPLE),
         };
@@ -167,7 +157,7 @@ fn are_digits(field: &[u8]) -> bool {
 
 /// Whether a field is a stamp within its limit: one to seven digits, of which the first may be 0.
 fn is_stamp(field: &[u8]) -> bool {
-    if !are_digits(field) || field.is_empty() || field.len() > MOST_DIGITS {
+    if !are_digits(field) || field.is_empty() || field.len() > MAX_STAMP_DIGITS {
         return false;
     }
     let mut stamp = 0u32;
@@ -195,7 +185,7 @@ fn push_plates(words: &mut String, places: Field<'_>) -> Result<(), AllocError> 
 /// Adds why these digits make no start.
 pub fn push_plate_count(words: &mut String, digits: &[u8]) -> Result<(), AllocError> {
     let plates = digits.iter().filter(|digit| **digit == b'1').count();
-    if plates > MOST_PLATES {
+    if plates > MAX_PLATES {
         return write!(words, " has {plates} plates; a start has at most six");
     }
     words.push_str(" has plates in both p5 and p6; the press holds one")

@@ -3,19 +3,14 @@
 use crate::key_places::Source;
 use crate::nearest::push_suggestion;
 use crate::quoted::push_quoted;
+use cell_config::{INNER_KEYS, PLAIN_KEYS, SECTION_KEYS};
 use std::alloc::{AllocError, Global};
 use toml::Table;
 
-/// The keys outside of sections, with those of the sections.
-const KEYS: [&str; 8] = [
-    "start", "stamp", "schedule", "arm1", "arm2", "rotation", "turn", "gripper",
-];
-
-/// The keys outside of sections that take no section.
-const PLAIN_KEYS: [&str; 3] = ["start", "stamp", "schedule"];
-
-/// The keys of a section.
-const INNER_KEYS: [&str; 3] = ["raw", "tol", "points"];
+/// Whether a key stands outside of sections, or is a section's.
+fn is_outer_key(key: &str) -> bool {
+    PLAIN_KEYS.contains(&key) || SECTION_KEYS.contains(&key)
+}
 
 /// Adds the first key that is unknown, and the nearest known one.
 pub fn push_unknown(
@@ -36,10 +31,10 @@ pub fn push_unknown(
 /// Whether a key's names have an unknown one.
 fn is_unknown(names: &[String], table: &Table) -> bool {
     match names {
-        [key] => !KEYS.contains(&key.as_str()),
+        [key] => !is_outer_key(key.as_str()),
         [key, inner, ..] => {
             let key = key.as_str();
-            !KEYS.contains(&key)
+            !is_outer_key(key)
                 || !PLAIN_KEYS.contains(&key)
                     && is_table(table, key)
                     && !INNER_KEYS.contains(&inner.as_str())
@@ -55,7 +50,7 @@ fn push_unknown_names(
     names: &[String],
 ) -> Result<(), AllocError> {
     match names {
-        [key, inner, ..] if KEYS.contains(&key.as_str()) => {
+        [key, inner, ..] if is_outer_key(key.as_str()) => {
             push_unknown_inner_key(alloc, words, key.as_str(), inner.as_str())
         }
         [key, ..] => push_unknown_key(alloc, words, key.as_str()),
@@ -79,7 +74,10 @@ fn push_unknown_key(alloc: Global, words: &mut String, key: &str) -> Result<(), 
             "{key} is a key of a section; move it below a section's head, such as [arm1]"
         );
     }
-    push_no_key(alloc, words, key, &KEYS)
+    let mut known = Vec::with_capacity(alloc, PLAIN_KEYS.len() + SECTION_KEYS.len())?;
+    known.extend_from_slice(&PLAIN_KEYS)?;
+    known.extend_from_slice(&SECTION_KEYS)?;
+    push_no_key(alloc, words, key, known.as_slice())
 }
 
 /// Adds that a key is none of these.
@@ -101,7 +99,7 @@ fn push_unknown_inner_key(
     section: &str,
     key: &str,
 ) -> Result<(), AllocError> {
-    if KEYS.contains(&key) {
+    if is_outer_key(key) {
         write!(words, "{key} stands in the section {section}; ")?;
         if PLAIN_KEYS.contains(&key) {
             return words.push_str("move it above the first section");
