@@ -25,7 +25,7 @@ pub const PICTURE_TAIL: &str = "\
 <text x=\"16\" y=\"96\">its owner, grey if it is free</text></g></svg>\n";
 
 /// A piece of a picture.
-#[derive(Clone, Copy, Debug)]
+#[derive(Clone, Copy)]
 pub(crate) enum Piece {
     /// A text.
     Text(&'static str),

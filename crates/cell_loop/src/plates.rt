@@ -47,7 +47,7 @@ const CRANE_WAY: Ramp = Ramp { base: 0, rise: -59 };
 
 /// Where a plate is: a way from the robot's axis in a direction, clockwise from the right, and then
 /// a way to the right and down.
-#[derive(Clone, Copy, Debug, PartialEq, Eq)]
+#[derive(Clone, Copy)]
 pub(crate) struct Spot {
     /// The direction, in degrees.
     pub angle: i32,

@@ -7,7 +7,7 @@ ghost use Rattle.cell_loop.specs.Ramps as ramps;
 const RUN: i32 = 500;
 
 /// A number of the picture that follows a position of the plant.
-#[derive(Clone, Copy, Debug, PartialEq, Eq)]
+#[derive(Clone, Copy)]
 pub(crate) struct Ramp {
     /// The number at position 0.
     pub base: i32,

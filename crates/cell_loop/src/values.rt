@@ -34,7 +34,7 @@ const GRIPPER_HEIGHT: Ramp = Ramp {
 };
 
 /// What an animated attribute has of a frame.
-#[derive(Clone, Copy, Debug, PartialEq, Eq)]
+#[derive(Clone, Copy)]
 pub(crate) enum Value {
     /// How wide the feed belt's edge is: wide while it runs.
     FeedEdge,
@@ -69,7 +69,7 @@ pub(crate) enum Value {
 }
 
 /// A value of an animated attribute.
-#[derive(Clone, Copy, Debug)]
+#[derive(Clone, Copy)]
 pub(crate) enum Shown {
     /// No value: there is no such plate.
     Nothing,
