@@ -292,7 +292,7 @@ part-plain machine.Crane p =
     (both (fields.axis_text p.crane.gripper) _ (axis-plain p.crane.gripper) (flag-plain p.crane.magnet))
 part-plain machine.Watch p = refl
 
--- ---- what lines tell of a machine
+-- ---- what lines say of a machine
 
 word-plain : (m : Machine) (s : MachineSteps) → are_plain (fields.step_word m s) ≡ true
 word-plain machine.Feed s = feed-plain s.feed

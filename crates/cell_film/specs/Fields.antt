@@ -1,4 +1,4 @@
--- What lines tell of a frame, as texts.
+-- What lines say of a frame, as texts.
 use Rattle.std.specs.Prelude.{ℕ, ℤ, false, List, [], ◌∷◌, ◌++◌, codes, slice_index_or, Option, Some, None, Result, Ok}
 use Rattle.std.specs.Prelude.{Err}
 use Rattle.std.specs.Fmt.{digits, signed_decimal}

@@ -29,7 +29,7 @@ start_line f =
 
 -- ---- the line of a turn
 
--- what a line tells of the machine whose turn it was
+-- what a line says of the machine whose turn it was
 pub record Fields : Type 0 where
   pub step : List ℕ
   pub call : List ℕ

@@ -1,4 +1,4 @@
-//! What a line tells of the machine whose turn it was, as texts.
+//! What a line says of the machine whose turn it was, as texts.
 
 ghost use Rattle.std.specs.Prelude.{◌≡◌, ◌++◌, codes, option_copied, IfOk, OnOk, string_bytes};
 ghost use Rattle.cell_film.specs.Fields as fields;

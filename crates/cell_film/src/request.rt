@@ -5,7 +5,7 @@ ghost use Rattle.cell_shell.specs.Words.{texts_of};
 ghost use Rattle.cell_film.specs.Served as served;
 
 /// What the program does.
-#[derive(Clone, Copy, PartialEq, Eq, Debug)]
+#[derive(Clone, Copy)]
 pub enum Request {
     /// Writes the page of a film.
     Film,

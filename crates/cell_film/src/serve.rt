@@ -14,7 +14,7 @@ use crate::looped::loop_configured;
 use crate::request;
 use crate::request::Request;
 use cell_config::read_config;
-use cell_shell::{Exit, fail, print, print_prefix, print_version, texts_of, words_or_exit};
+use cell_shell::{fail, print, print_version, refuse_words, texts_or_exit, words_or_exit};
 use std::alloc::Global;
 use std::env::Env;
 use std::io::{Read, Write};
@@ -106,17 +106,8 @@ pub fn serve<R: Read, W: Write>(alloc: Global, words: &[&str], reader: &mut R, w
         Some(Request::Loop) => serve_loop(alloc, reader, writer),
         Some(Request::Help) => print(writer, HELP.as_bytes()).status(),
         Some(Request::Version) => print_version(writer, "film").status(),
-        None => refuse(writer).status(),
+        None => refuse_words(writer, OTHER_WORDS).status(),
     }
-}
-
-/// Prints why words are refused, as far as the writer takes it, and returns `Refused`.
-fn refuse<W: Write>(writer: &mut W) -> Exit
-    ensures status { result ≡ Exit.Refused }
-    ensures line { WrotePrefix (W.contents writer.old) (W.contents writer.new) OTHER_WORDS.now }
-{
-    print_prefix(writer, OTHER_WORDS.as_bytes());
-    Exit::Refused
 }
 
 /// Runs the program with the words that it was started with, its input and its output, and returns
@@ -134,8 +125,8 @@ pub fn start<E: Env, R: Read, W: Write>(
         Ok(words) => words,
         Err(exit) => return exit.status(),
     };
-    match texts_of(alloc, &words) {
+    match texts_or_exit(alloc, &words, writer) {
         Ok(texts) => serve(alloc, texts.as_slice(), reader, writer),
-        Err(_) => fail(writer, "memory").status(),
+        Err(exit) => exit.status(),
     }
 }
