@@ -3,7 +3,7 @@
 use cell_turns::Prospect;
 
 /// How the turns end that an exploration has found.
-#[derive(Clone, Copy, PartialEq, Eq, Debug)]
+#[derive(Clone, Copy)]
 pub enum Ending {
     /// All six machines wait.
     Standstill,

@@ -39,7 +39,7 @@ fn line_of(
     let name = machine.word();
     match ending {
         Ending::Standstill => {
-            let awaited = match awaited(machine, call, given) {
+            let awaited = match party_awaited_by(machine, call, given) {
                 Some(other) => other.word(),
                 None => "nobody",
             };
@@ -50,7 +50,7 @@ fn line_of(
 }
 
 // For whom a machine waits: the owner that refuses it, or else the other party of the zone.
-fn awaited(machine: Machine, call: Call, given: Answer) -> Option<Machine> {
+fn party_awaited_by(machine: Machine, call: Call, given: Answer) -> Option<Machine> {
     match given {
         Answer::Refused(Refusal::Held(owner)) => Some(owner),
         Answer::Refused(Refusal::NotOwner(Some(owner))) => Some(owner),

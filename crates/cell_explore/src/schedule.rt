@@ -14,7 +14,7 @@ use cell_types::{Call, Machine, Reply};
 use std::alloc::{AllocError, Global};
 
 /// The most turns that one drive takes here.
-const MOST: usize = 8_192;
+const MAX_TURNS: usize = 8_192;
 
 /// Why there is no schedule.
 #[derive(Clone, Copy, PartialEq, Eq, Debug)]
@@ -32,11 +32,11 @@ impl From<AllocError> for ScheduleFault {
 }
 
 // That a machine has asked.
-#[derive(Clone, Copy, PartialEq, Eq, Debug)]
+#[derive(Clone, Copy)]
 struct Asked;
 
 // Passes over a number of frames, and then looks for the first with a call. It keeps the last that it saw.
-#[derive(Clone, Copy, Debug)]
+#[derive(Clone, Copy)]
 struct AskSeeker {
     skip: usize,
     turns: usize,
@@ -147,7 +147,7 @@ fn longer(alloc: Global, schedule: &[Turn], turn: Turn) -> Result<Vec<Turn>, All
     for earlier in schedule {
         trial.push(*earlier)?;
     }
-    push_turns(&mut trial, turn, MOST)?;
+    push_turns(&mut trial, turn, MAX_TURNS)?;
     Ok(trial)
 }
 

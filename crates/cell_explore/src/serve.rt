@@ -9,14 +9,14 @@ ghost use Rattle.cell_shell.specs.Words.{texts_of};
 ghost use Rattle.cell_config.specs.Settings.{max_bytes_read};
 ghost use Rattle.cell_explore.specs.Requests.{request_of};
 
-use crate::every_start::{MOST_PLATES, every_start};
+use crate::every_start::{MAX_PLATES, every_start};
 use crate::request;
 use crate::request::Request;
 use crate::schedule::ScheduleFault;
 use crate::screen::screen_of;
 use crate::timing::tell_time;
 use cell_config::read_config;
-use cell_shell::{Exit, fail, print, print_prefix, print_version, texts_of, words_or_exit};
+use cell_shell::{fail, print, print_version, refuse_words, texts_or_exit, words_or_exit};
 use std::alloc::{AllocError, Global};
 use std::env::Env;
 use std::io::{Read, Write};
@@ -130,20 +130,11 @@ pub fn serve<T: Threads + Sync, C: Clock, R: Read, W: Write, P: Write>(
 {
     match request::request_of(words) {
         Some(Request::Start) => serve_start(clock, alloc, reader, writer, progress),
-        Some(Request::All) => serve_all(rt, clock, alloc, MOST_PLATES, writer, progress),
+        Some(Request::All) => serve_all(rt, clock, alloc, MAX_PLATES, writer, progress),
         Some(Request::Help) => print(writer, HELP.as_bytes()).status(),
         Some(Request::Version) => print_version(writer, "explore").status(),
-        None => refuse(writer).status(),
+        None => refuse_words(writer, OTHER_WORDS).status(),
     }
-}
-
-/// Prints why words are refused, as far as the writer takes it, and returns `Refused`.
-fn refuse<W: Write>(writer: &mut W) -> Exit
-    ensures status { result ≡ Exit.Refused }
-    ensures line { WrotePrefix (W.contents writer.old) (W.contents writer.new) OTHER_WORDS.now }
-{
-    print_prefix(writer, OTHER_WORDS.as_bytes());
-    Exit::Refused
 }
 
 /// Runs the program with the words that it was started with, a clock, its input and its outputs, and
@@ -166,8 +157,8 @@ where
         Ok(words) => words,
         Err(exit) => return exit.status(),
     };
-    match texts_of(alloc, &words) {
+    match texts_or_exit(alloc, &words, writer) {
         Ok(texts) => serve(rt, clock, alloc, texts.as_slice(), reader, writer, progress),
-        Err(_) => fail(writer, "memory").status(),
+        Err(exit) => exit.status(),
     }
 }
