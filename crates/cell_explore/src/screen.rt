@@ -33,7 +33,7 @@ pub fn screen_by(alloc: Global, config: &Config, found: &Explored) -> Result<Str
     requires curves { AreCurvesOf config.now.points config.now.curves }
 {
     let (ending, way) = match found {
-        Explored::Free(states) => return Ok(free_screen(alloc, config, *states)?),
+        Explored::Free(situations) => return Ok(free_screen(alloc, config, *situations)?),
         Explored::Standstill(way) => (Ending::Standstill, way.as_slice()),
         Explored::Refusal(way) => (Ending::Refusal, way.as_slice()),
     };
@@ -42,10 +42,10 @@ pub fn screen_by(alloc: Global, config: &Config, found: &Explored) -> Result<Str
 }
 
 // The screen of a start from which no turns lead to a standstill.
-fn free_screen(alloc: Global, config: &Config, states: usize) -> Result<String, AllocError> {
+fn free_screen(alloc: Global, config: &Config, situations: usize) -> Result<String, AllocError> {
     let plates = config.start.plates();
     let mut text = format!(in alloc;
-        "# plates {plates}\n# no standstill in any schedule: {states} states\n"
+        "# plates {plates}\n# no standstill in any schedule: {situations} situations\n"
     )?;
     push_start(&mut text, &config.start)?;
     Ok(text)

@@ -12,7 +12,7 @@ pub struct Tally {
     free: u32,
     // From how many of them turns lead to a refusal.
     refused: u32,
-    most_states: usize,
+    most_situations: usize,
     fewest_turns: usize,
     most_turns: usize,
 }
@@ -23,7 +23,7 @@ impl Tally {
         starts: 0,
         free: 0,
         refused: 0,
-        most_states: 0,
+        most_situations: 0,
         fewest_turns: usize::MAX,
         most_turns: 0,
     };
@@ -31,9 +31,9 @@ impl Tally {
     /// With what was found from one more start.
     pub fn with(self, found: &Explored) -> Tally {
         let one = match found {
-            Explored::Free(states) => Tally {
+            Explored::Free(situations) => Tally {
                 free: 1,
-                most_states: *states,
+                most_situations: *situations,
                 ..Tally::NONE
             },
             Explored::Standstill(way) => Tally::of_way(way.len()),
@@ -60,7 +60,7 @@ impl Tally {
             starts: self.starts.saturating_add(other.starts),
             free: self.free.saturating_add(other.free),
             refused: self.refused.saturating_add(other.refused),
-            most_states: self.most_states.max(other.most_states),
+            most_situations: self.most_situations.max(other.most_situations),
             fewest_turns: self.fewest_turns.min(other.fewest_turns),
             most_turns: self.most_turns.max(other.most_turns),
         }
@@ -72,14 +72,14 @@ impl Tally {
             starts,
             free,
             refused,
-            most_states,
+            most_situations,
             fewest_turns,
             most_turns,
         } = *self;
         let stuck = starts.saturating_sub(free).saturating_sub(refused);
         if free == starts {
             format!(in alloc;
-                "plates {plates} starts {starts}: no standstill; at most {most_states} states\n"
+                "plates {plates} starts {starts}: no standstill; at most {most_situations} situations\n"
             )
         } else if refused == 0 {
             format!(in alloc;

@@ -1,4 +1,4 @@
-//! What is told of a refusal that stops a machine. No turns of the six programs lead to one: so a walk tells of
+//! What is said of a refusal that stops a machine. No turns of the six programs lead to one: so a walk says of
 //! machines that they would be stopped, though they only wait.
 
 use cell_config::read_config;

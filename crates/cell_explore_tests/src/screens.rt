@@ -1,4 +1,4 @@
-//! Screens of starts: with no standstill in any schedule, and with a standstill. The numbers of turns and states are
+//! Screens of starts: with no standstill in any schedule, and with a standstill. The numbers of turns and situations are
 //! those that plain Rust finds, written apart from the proved program.
 
 use cell_config::read_config;
@@ -29,7 +29,7 @@ schedule = \"fffttttttppppppppppppppppppppppppppppppddddftrrpdccc\"
         "start = \"1000000000\"\n",
         "\
 # plates 1
-# no standstill in any schedule: 49902 states
+# no standstill in any schedule: 49902 situations
 start = \"1000000000\"
 ",
     ),
@@ -37,7 +37,7 @@ start = \"1000000000\"
         "stamp = 1048575\nstart = \"0000000001\"\n",
         "\
 # plates 1
-# no standstill in any schedule: 53918 states
+# no standstill in any schedule: 53918 situations
 start = \"0000000001\"
 ",
     ),

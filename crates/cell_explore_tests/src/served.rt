@@ -11,7 +11,7 @@ use test_doubles::{FailingReader, FailingWriter};
 const HELP: &str = "\
 Reads a configuration, as `cell sim` does, and explores every schedule from its start: whether
 the six machines can come to a standstill, in which no machine can go on. Its schedule isn't used.
-It prints a configuration whose comments say what was found: the number of states, or the ring of
+It prints a configuration whose comments say what was found: the number of situations, or the ring of
 those who wait, and a schedule that leads there: explore < examples/standstill.toml | cell sim
 --all explores all 685 starts in two threads, by their plates.
 --version prints the version.

@@ -5,7 +5,7 @@ use cell_explorer::Explored;
 use cell_types::Machine;
 use std::alloc::{AllocError, Global};
 
-/// What was found from one start: the number of states, or how many turns lead to an end.
+/// What was found from one start: the number of situations, or how many turns lead to an end.
 #[derive(Clone, Copy, Debug)]
 enum Found {
     Free(usize),
@@ -21,19 +21,19 @@ const ROWS: &[(&[Found], &[Found], u32, &str)] = &[
         &[],
         &[],
         7,
-        "plates 7 starts 0: no standstill; at most 0 states\n",
+        "plates 7 starts 0: no standstill; at most 0 situations\n",
     ),
     (
         &[Free(5), Free(9)],
         &[Free(7)],
         1,
-        "plates 1 starts 3: no standstill; at most 9 states\n",
+        "plates 1 starts 3: no standstill; at most 9 situations\n",
     ),
     (
         &[Free(5)],
         &[Free(6), Free(12)],
         2,
-        "plates 2 starts 3: no standstill; at most 12 states\n",
+        "plates 2 starts 3: no standstill; at most 12 situations\n",
     ),
     (
         &[Standstill(21)],
@@ -67,7 +67,7 @@ const ROWS: &[(&[Found], &[Found], u32, &str)] = &[
     ),
 ];
 
-/// What an exploration tells of it.
+/// What an exploration says of it.
 fn told(alloc: Global, found: Found) -> Result<Explored, AllocError> {
     let way = |turns: usize| -> Result<Vec<Machine>, AllocError> {
         let mut way = Vec::new(alloc);
@@ -77,7 +77,7 @@ fn told(alloc: Global, found: Found) -> Result<Explored, AllocError> {
         Ok(way)
     };
     Ok(match found {
-        Free(states) => Explored::Free(states),
+        Free(situations) => Explored::Free(situations),
         Standstill(turns) => Explored::Standstill(way(turns)?),
         Refusal(turns) => Explored::Refusal(way(turns)?),
     })
