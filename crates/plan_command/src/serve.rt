@@ -9,6 +9,7 @@ ghost use Rattle.cell_shell.specs.Words.{texts_of};
 ghost use Rattle.plan_command.specs.Input.{byte_limit, max_bytes_read, script_in};
 ghost use Rattle.plan_command.specs.Served.{AnswersInput, AnswersScript};
 ghost use Rattle.plan_command.specs.Requests.{request_of};
+ghost use Rattle.plan_document.specs.Limits as plan_limits;
 
 use crate::explore::screen_of;
 use crate::header::header_of;
@@ -16,7 +17,7 @@ use crate::input::{MAX_BYTES, plan_length};
 use crate::report::report_of;
 use crate::request;
 use crate::request::Request;
-use cell_shell::{Exit, fail, print, print_prefix, print_version, texts_of, words_or_exit};
+use cell_shell::{Exit, fail, print, print_version, refuse_words, texts_or_exit, words_or_exit};
 use cell_text::{InputFault, read_up_to};
 use plan_document::{ProgrammedPlan, plan_of, read_plan};
 use plan_replay::{Answered, Outcome, ReplayFault, answer_script, start_of_script};
@@ -54,7 +55,7 @@ fn serve_plan<R: Read, W: Write>(
     writer: &mut W,
 ) -> u8
     ensures status { result ≤ 1 }
-    ensures read { TakesAtMost (R.remaining reader.old) (R.remaining reader.new) 65537 }
+    ensures read { TakesAtMost (R.remaining reader.old) (R.remaining reader.new) plan_limits.max_bytes_read }
 {
     match read_plan(alloc, reader) {
         Ok(plan) => serve_request(alloc, request, plan, &[], writer).status(),
@@ -263,17 +264,8 @@ pub fn serve<R: Read, W: Write>(alloc: Global, words: &[&str], reader: &mut R, w
         Some(Request::Explore) => serve_script(alloc, Request::Explore, reader, writer).status(),
         Some(Request::Help) => print(writer, HELP.as_bytes()).status(),
         Some(Request::Version) => print_version(writer, "plan").status(),
-        None => refuse(writer).status(),
+        None => refuse_words(writer, OTHER_WORDS).status(),
     }
-}
-
-/// Prints why words are refused, as far as the writer takes it, and returns `Refused`.
-fn refuse<W: Write>(writer: &mut W) -> Exit
-    ensures status { result ≡ Exit.Refused }
-    ensures line { WrotePrefix (W.contents writer.old) (W.contents writer.new) OTHER_WORDS.now }
-{
-    print_prefix(writer, OTHER_WORDS.as_bytes());
-    Exit::Refused
 }
 
 /// Runs the program with the words that it was started with, and returns the exit status.
@@ -290,8 +282,8 @@ pub fn start<E: Env, R: Read, W: Write>(
         Ok(words) => words,
         Err(exit) => return exit.status(),
     };
-    match texts_of(alloc, &words) {
+    match texts_or_exit(alloc, &words, writer) {
         Ok(texts) => serve(alloc, texts.as_slice(), reader, writer),
-        Err(_) => fail(writer, "memory").status(),
+        Err(exit) => exit.status(),
     }
 }

@@ -1,5 +1,6 @@
 //! Reads a plan's document.
 ghost use Rattle.cell_text.specs.Input.{TakesAtMost};
+ghost use Rattle.plan_document.specs.Limits.{max_bytes_read};
 
 use crate::document::{Document, MachineRow, PoseRow, WayRow, ZoneRow};
 use crate::fault::{At, DocumentFault, Key, PlanTextFault, RowOf, Wrong};
@@ -29,7 +30,7 @@ const ZONE_KEYS: [&str; 5] = ["name", "host", "guest", "inward", "outward"];
 /// tables, the lines of programs, and last whole programs. The error is `Read` if the reader fails. `Memory` may come
 /// from any allocation.
 pub fn read_plan<R: Read>(alloc: Global, reader: &mut R) -> Result<ProgrammedPlan, PlanTextFault>
-    ensures { TakesAtMost (R.remaining reader.old) (R.remaining reader.new) 65537 }
+    ensures { TakesAtMost (R.remaining reader.old) (R.remaining reader.new) max_bytes_read }
 {
     match read_up_to(alloc, reader, MAX_BYTES + 1) {
         Ok(bytes) => plan_of(alloc, bytes.as_slice()),

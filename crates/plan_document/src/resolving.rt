@@ -31,12 +31,12 @@ pub fn programmed_plan_of(
     let named = named_plan_of(alloc, document)?;
     match programs_of(alloc, document, &named) {
         Ok(programs) => Ok(ProgrammedPlan { named, programs }),
-        Err(fault) => Err(refused(named, fault)),
+        Err(fault) => Err(fault_without(named, fault)),
     }
 }
 
-/// The fault of a plan that isn't used further.
-fn refused(_named: NamedPlan, fault: DocumentFault) -> PlanTextFault {
+/// The fault of a program, without the plan, which ends here.
+fn fault_without(_named: NamedPlan, fault: DocumentFault) -> PlanTextFault {
     fault.into()
 }
 

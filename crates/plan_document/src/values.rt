@@ -6,7 +6,7 @@ use std::alloc::{AllocError, Global};
 use toml::{Table, Value};
 
 /// The value of a key that has to be there.
-pub fn required<'a>(table: &'a Table, key: &str) -> Result<&'a Value, Wrong> {
+pub fn value_of<'a>(table: &'a Table, key: &str) -> Result<&'a Value, Wrong> {
     match table.get(key) {
         Some(value) => Ok(value),
         None => Err(Wrong::Missing),
@@ -71,7 +71,7 @@ fn way_between(alloc: Global, from: &Value, to: &Value) -> Result<WayRow, Wrong>
 
 /// Adds what a pose gives: a table from zones to postures, which has to be there.
 pub fn add_gives(alloc: Global, pose: &Table, gives: &mut Vec<Given>) -> Result<(), Wrong> {
-    let Some(table) = required(pose, "gives")?.as_table() else {
+    let Some(table) = value_of(pose, "gives")?.as_table() else {
         return Err(Wrong::NoTable);
     };
     'entries: for (zone, posture) in table.iter() {
