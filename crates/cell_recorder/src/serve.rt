@@ -2,7 +2,10 @@
 
 ghost use Rattle.std.specs.Prelude.{◌≡◌, ◌≤◌, ◌<◌, ◌⊎◌, ℕ, codes, IfOk};
 ghost use Rattle.std.specs.Io.KnownBytes.{Appends};
+ghost use Rattle.clap.specs.Words.{kind_of};
 ghost use Rattle.cell_text.specs.Input.{TakesAtMost};
+ghost use Rattle.cell_text.specs.Output.{WrotePrefix};
+ghost use Rattle.cell_shell.specs.Faults.{fault_line};
 ghost use Rattle.cell_shell.specs.Printed.{Prints};
 ghost use Rattle.cell_shell.specs.Versions.{AskForVersion, version_line};
 ghost use Rattle.cell_config.specs.Settings.{max_bytes_read};
@@ -11,7 +14,10 @@ ghost use Rattle.cell_recorder.specs.Served.{AskForHistory, Records, run_words a
 
 use crate::record::record;
 use cell_command::{Mode, read_words, refuse_with_help};
-use cell_shell::{Exit, asks_for_version, fail, print_version, texts_or_exit, words_or_exit};
+use cell_shell::{
+    Exit, asks_for_version, fail, print_version, refuse_words, texts_or_exit, words_or_exit,
+};
+use clap::error::ErrorKind;
 use std::alloc::{AllocError, Global};
 use std::env::Env;
 use std::io::{Read, Write};
@@ -36,6 +42,10 @@ read, write or start of a thread, or no memory.
 Example:
   history < examples/six_workers.toml
 ";
+
+/// What is printed for other words.
+const OTHER_WORDS: &str =
+    "error: the only arguments are --turns N, --tries N, --help and --version\n";
 
 /// Does what the words ask for, and returns the exit status. The first word is the program's name;
 /// the others are those that may follow the word `run` of `cell`. It waits until all threads have
@@ -93,7 +103,22 @@ where
         // (never: the word `run` stands before the flags)
         Ok(Mode::Replay) => Exit::Failed.status(),
         Ok(Mode::Sim) => Exit::Failed.status(),
-        Err(error) => refuse_with_help(writer, error, HELP).status(),
+        Err(error) => refuse(writer, error).status(),
+    }
+}
+
+/// Prints the help, or why words are refused, and returns how the program ends: `Well` for help, `Failed` if memory ran
+/// out. For other words `clap` would show the usage of `cell run`, so they have a line of their own.
+fn refuse<W: Write>(writer: &mut W, error: clap::Error) -> Exit
+    ensures help { result ≡ Exit.Well → (kind_of error ≡ ErrorKind.DisplayHelp)
+        × Appends (W.contents writer.old) (W.contents writer.new) HELP.now }
+    ensures memory { kind_of error ≡ ErrorKind.OutOfMemory → result ≡ Exit.Failed }
+    ensures line { kind_of error ≡ ErrorKind.OutOfMemory →
+        WrotePrefix (W.contents writer.old) (W.contents writer.new) (fault_line (codes "memory")) }
+{
+    match error.kind() {
+        ErrorKind::DisplayHelp | ErrorKind::OutOfMemory => refuse_with_help(writer, error, HELP),
+        _ => refuse_words(writer, OTHER_WORDS),
     }
 }
 

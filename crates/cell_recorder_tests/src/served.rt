@@ -39,7 +39,12 @@ const ROWS: &[Row] = &[
     (&["history", "-V"], EMPTY, 2, "error: "),
     (&["history", "--version", "--turns=1"], EMPTY, 2, "error: "),
     (&["history", "--turns", "0"], EMPTY, 2, "error: "),
-    (&["history", "run"], EMPTY, 2, "error: "),
+    (
+        &["history", "run"],
+        EMPTY,
+        2,
+        "error: the only arguments are --turns N, --tries N, --help and --version\n",
+    ),
     (&["history", "--tries", "65"], EMPTY, 2, "error: "),
 ];
 
