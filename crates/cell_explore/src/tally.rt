@@ -4,7 +4,7 @@ use cell_explorer::Explored;
 use std::alloc::{AllocError, Global};
 
 /// What was found from the starts with one number of plates.
-#[derive(Clone, Copy)]
+#[derive(Clone, Copy, PartialEq, Eq)]
 pub struct Tally {
     // How many starts were explored.
     starts: u32,
