@@ -1,5 +1,5 @@
-//! Screens of starts: with no standstill in any schedule, and with a standstill. The numbers of turns and situations are
-//! those that plain Rust finds, written apart from the proved program.
+//! Screens of starts: with no standstill in any schedule, and with a standstill. The numbers of turns and situations
+//! are those that plain Rust finds, written apart from the proved program.
 
 use cell_config::read_config;
 use cell_configured::simulate_configured;
