@@ -12,4 +12,6 @@ pub use exit::Exit;
 pub use faults::fail;
 pub use printing::{print, print_prefix};
 pub use version::{VERSION, asks_for_version, print_version};
-pub use words::{refuse_bytes, refuse_words, texts_of, texts_or_exit, words_of, words_or_exit};
+pub use words::{
+    NOT_TEXT, refuse_bytes, refuse_words, texts_of, texts_or_exit, words_of, words_or_exit,
+};

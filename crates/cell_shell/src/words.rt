@@ -1,7 +1,8 @@
 //! The words that a program was started with.
 
-ghost use Rattle.std.specs.Prelude.{◌≡◌, ◌≢◌, ◌∷◌, ℕ, List, map, codes, string_bytes, IfErr, IfOk};
+ghost use Rattle.std.specs.Prelude.{◌≡◌, ◌≢◌, ◌∷◌, ℕ, List, Err, map, codes, string_bytes, IfErr, IfOk};
 ghost use Rattle.cell_text.specs.Output.{WrotePrefix};
+ghost use Rattle.cell_shell.specs.Faults.{fault_line};
 ghost use Rattle.cell_shell.specs.Words as spec;
 
 use crate::exit::Exit;
@@ -11,6 +12,9 @@ use std::alloc::{AllocError, Global};
 use std::env::{Env, FillError};
 use std::io::{ErrorKind, Write};
 use std::{env, io};
+
+/// What is printed of a word that isn't text.
+pub const NOT_TEXT: &str = "error: a word isn't UTF-8\n";
 
 /// An environment without the program's own name, which isn't read: its arguments begin after that.
 #[derive(Drop)]
@@ -62,6 +66,10 @@ pub fn words_or_exit<E: Env, W: Write>(
     ensures words { IfOk result
         (λ words. (rest : List (List ℕ)) × (map string_bytes words.items ≡ codes "cell" ∷ rest)) }
     ensures ended { IfErr result (λ exit. exit ≢ Exit.Well) }
+    ensures memory { result ≡ Err Exit.Failed →
+        WrotePrefix (W.contents writer.old) (W.contents writer.new) (fault_line (codes "memory")) }
+    ensures bytes { result ≡ Err Exit.Refused →
+        WrotePrefix (W.contents writer.old) (W.contents writer.new) NOT_TEXT.now }
 {
     match words_of(alloc, env) {
         Ok(words) => Ok(words),
@@ -82,10 +90,9 @@ pub fn refuse_words<W: Write>(writer: &mut W, why: &str) -> Exit
 /// Prints that a word isn't text, as far as the writer takes it, and returns `Refused`.
 pub fn refuse_bytes<W: Write>(writer: &mut W) -> Exit
     ensures status { result ≡ Exit.Refused }
-    ensures line { WrotePrefix (W.contents writer.old) (W.contents writer.new)
-        (codes "error: a word isn't UTF-8\n") }
+    ensures line { WrotePrefix (W.contents writer.old) (W.contents writer.new) NOT_TEXT.now }
 {
-    refuse_words(writer, "error: a word isn't UTF-8\n")
+    refuse_words(writer, NOT_TEXT)
 }
 
 /// The texts of words. An error says that memory ran out.
@@ -108,6 +115,8 @@ pub fn texts_or_exit<'w, W: Write>(
 ) -> Result<Vec<&'w str>, Exit>
     ensures texts { IfOk result (λ texts. spec.texts_of texts.items ≡ map string_bytes words.now) }
     ensures ended { IfErr result (λ exit. exit ≡ Exit.Failed) }
+    ensures memory { IfErr result (λ _.
+        WrotePrefix (W.contents writer.old) (W.contents writer.new) (fault_line (codes "memory"))) }
 {
     match texts_of(alloc, words) {
         Ok(texts) => Ok(texts),
