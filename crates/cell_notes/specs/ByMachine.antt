@@ -27,6 +27,16 @@ with_machine b Watch v = record b { watch = v }
 abbrev pub each_machine : {T : Type 0} → T → ByMachine T
 each_machine v = record { feed = v; table = v; robot = v; press = v; deposit = v; crane = v; watch = v }
 
+-- each value is so
+pub record HoldsOfEach {T : Type 0} (P : T → Type 0) (b : ByMachine T) : Type 0 where
+  pub feed : P b.feed
+  pub table : P b.table
+  pub robot : P b.robot
+  pub press : P b.press
+  pub deposit : P b.deposit
+  pub crane : P b.crane
+  pub watch : P b.watch
+
 -- each value is made of the same machine's
 pub record IsMadeOf {T U : Type 0} (made : T → U → Type 0) (b : ByMachine T) (c : ByMachine U) : Type 0 where
   pub feed : made b.feed c.feed

@@ -1,6 +1,6 @@
 -- The watch of six workers, and what a record says of seven: of the six, and of the watch.
 use Rattle.std.specs.Prelude.{◌≡◌, ℕ, List, Some}
-use Rattle.cell_rules.specs.Types.{Machine, Feed, Table, Robot, Press, Deposit, Crane, Watch, Event, Entry}
+use Rattle.cell_rules.specs.Types.{Machine, Watch, Event, Entry}
 use Rattle.cell_rules.specs.Types.{journal_of}
 use Rattle.cell_rules.specs.Names.{ModelState, after, noted, Waits, LawfulThroughout, IsAudited}
 use Rattle.cell_interlock.specs.Views.{PassView, InterlockView}

@@ -1,9 +1,10 @@
 //! A gate that keeps the machines at one pace.
-ghost use Rattle.std.specs.Prelude.{◌≡◌, ◌≢◌, ◌↔◌, ℕ, IsTrue};
-ghost use Rattle.cell_types.specs.declared.machine.Machine.{Machine};
-ghost use Rattle.cell_threads.specs.Paces.{HasHad, HaveHad, begun_none, pace_in};
+ghost use Rattle.std.specs.Prelude.{◌≡◌, ◌↔◌, IsTrue};
+ghost use Rattle.cell_threads.specs.Paces as paces;
+ghost use Rattle.cell_threads.specs.Paces.{HasHad, HaveHad};
 
 use crate::gate::Gate;
+use cell_notes::ByMachine;
 use cell_types::Machine;
 use std::sync::{Condvar, Mutex, Wait};
 
@@ -28,59 +29,29 @@ impl Pace {
     }
 }
 
-/// How far each of the six machines has come.
-#[derive(Clone, Copy)]
-pub(crate) struct Paces {
-    feed: Pace,
-    table: Pace,
-    robot: Pace,
-    press: Pace,
-    deposit: Pace,
-    crane: Pace,
+/// How far each machine has come.
+type Paces = ByMachine<Pace>;
+
+/// Before any turn. The watch takes none.
+fn first_paces() -> Paces
+    ensures { result ≡ paces.first_paces }
+{
+    let mut paces = ByMachine::each(Pace::Had(0));
+    paces.put(Machine::Watch, Pace::Ended);
+    paces
 }
 
-impl Paces {
-    /// Before any turn.
-    fn new() -> Paces
-        ensures { (m : Machine) → pace_in result m ≡ begun_none m }
-    {
-        Paces {
-            feed: Pace::Had(0),
-            table: Pace::Had(0),
-            robot: Pace::Had(0),
-            press: Pace::Had(0),
-            deposit: Pace::Had(0),
-            crane: Pace::Had(0),
-        }
-    }
-
-    /// Notes how far a machine has come. The watch takes no turns.
-    fn note(&mut self, machine: Machine, pace: Pace)
-        ensures own { machine ≢ Machine.Watch → pace_in self.new machine ≡ pace }
-        ensures others { (m : Machine) → m ≢ machine → pace_in self.new m ≡ pace_in self.old m }
-    {
-        match machine {
-            Machine::Feed => self.feed = pace,
-            Machine::Table => self.table = pace,
-            Machine::Robot => self.robot = pace,
-            Machine::Press => self.press = pace,
-            Machine::Deposit => self.deposit = pace,
-            Machine::Crane => self.crane = pace,
-            Machine::Watch => {}
-        }
-    }
-
-    /// Whether each machine has had this number of turns, or takes no more.
-    fn have_had(&self, turns: u32) -> bool
-        ensures { IsTrue result ↔ HaveHad turns self.now }
-    {
-        self.feed.has_had(turns)
-            && self.table.has_had(turns)
-            && self.robot.has_had(turns)
-            && self.press.has_had(turns)
-            && self.deposit.has_had(turns)
-            && self.crane.has_had(turns)
-    }
+/// Whether each machine has had this number of turns, or takes no more.
+fn have_had(paces: &Paces, turns: u32) -> bool
+    ensures { IsTrue result ↔ HaveHad turns paces.now }
+{
+    paces.feed.has_had(turns)
+        && paces.table.has_had(turns)
+        && paces.robot.has_had(turns)
+        && paces.press.has_had(turns)
+        && paces.deposit.has_had(turns)
+        && paces.crane.has_had(turns)
+        && paces.watch.has_had(turns)
 }
 
 /// Lets a machine begin its turn k once each of the six has had its turn k - 1 or takes no more
@@ -102,7 +73,7 @@ impl<'r, R: Wait> PacedGate<'r, R> {
     pub fn new(rt: &'r R) -> PacedGate<'r, R> {
         PacedGate {
             rt,
-            paces: Mutex::new(Paces::new()),
+            paces: Mutex::new(first_paces()),
             moved: Condvar::new(),
         }
     }
@@ -115,22 +86,22 @@ impl<R: Wait> Gate for PacedGate<'_, R> {
 
     fn pass(&self, machine: Machine, turn: u32) -> bool {
         let mut paces = self.paces.lock(self.rt);
-        paces.note(machine, Pace::Had(turn));
-        if paces.have_had(turn) {
+        paces.put(machine, Pace::Had(turn));
+        if have_had(&paces, turn) {
             self.moved.notify_all();
             return true;
         }
         self.moved
-            .wait_while(self.rt, paces, |paces| !paces.have_had(turn));
+            .wait_while(self.rt, paces, |paces| !have_had(paces, turn));
         true
     }
 
     fn begin(&self) {
-        *self.paces.lock(self.rt) = Paces::new();
+        *self.paces.lock(self.rt) = first_paces();
     }
 
     fn end(&self, machine: Machine) {
-        self.paces.lock(self.rt).note(machine, Pace::Ended);
+        self.paces.lock(self.rt).put(machine, Pace::Ended);
         self.moved.notify_all();
     }
 }
