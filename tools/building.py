@@ -87,8 +87,8 @@ class Building:
         return ["rattle", "build", *self.reading(), *how, "--jobs", str(self.jobs(idle)), "-o", self.made]
 
     def jobs(self, idle):
-        """How many jobs the crate has: a second one if a processor would be idle else, since it costs some 30 s of processor time. A
-        program has one, since its compiler has no more."""
+        """How many jobs the crate has: a second one if it is long and a processor would be idle else, since it costs some 30 s of
+        processor time. A program has one, since its compiler has no more."""
         return 2 if idle and not self.is_program and crates.memory() > 2 * MEMORY else 1
 
     def leave(self, proved=False):

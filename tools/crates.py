@@ -18,6 +18,8 @@ KEPT = "incremental"
 BESIDE = ("out", "must-fail", "attacks")
 # The processor seconds of a crate's proof where nothing is written down.
 USUAL = 60
+# The processor seconds from which on a second job saves a crate more time than it costs.
+LONG = 100
 STOPS = (signal.SIGINT, signal.SIGTERM, signal.SIGHUP)
 # The most memory that the check of a crate takes, in bytes, and the processors that it is given at least where there are several.
 MEMORY = 7_000_000_000
@@ -359,11 +361,11 @@ class Order:
         return [it for it in self.left if self.done >= {*self.uses[it]}]
 
     def idle(self, name):
-        """How many processors would be idle while this crate is proved: for it, if no other is as urgent. For what need not wait for it,
-        there are fewer seconds of work than the other processors have meanwhile."""
-        if name != next(it for it in self.urgent if it not in self.done):
-            return 0
+        """How many processors would be idle while this crate is proved: for it, if it is long and no other is as urgent. For what need
+        not wait for it, there are fewer seconds of work than the other processors have meanwhile."""
         weight = lambda it: self.spent.get(it, USUAL)
+        if weight(name) < LONG or name != next(it for it in self.urgent if it not in self.done):
+            return 0
         others = [it for it in self.urgent if it not in self.done and it != name and name not in below(self.uses, it)]
         return max(0, int(processors() - 1 - sum(map(weight, others)) / weight(name)))
 
