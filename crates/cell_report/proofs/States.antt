@@ -1,53 +1,137 @@
--- Two states are the same if they have the same at each zone and place, the same stamp, and the same mark.
-use Rattle.std.proofs.Common.{◌≡◌, ◌↔◌, ℕ, ◌<◌, Bool, true, false, MatchBool, List, length, All, IsTrue, refl, sym, ◌∙◌, arith}
-use Rattle.std.specs.List.{AllWithin, HoldsAt}
-use Rattle.std.proofs.lemmas.Bool.{false≢true}
-use Rattle.cell_rules.specs.Types.{Z1, all_zones, all_places}
-use Rattle.cell_types.specs.declared.place.Place.TheVariants.{Table}
-use Rattle.cell_rules.specs.Names.{ZoneMap, zone_map, zone_in, PlaceSet, place_set, has, ModelState, model_state, zone_at, is_full}
+-- Two states are the same if they have the same in each zone and place, the same stamp, and the same mark.
+use Rattle.std.proofs.Common.{◌≡◌, nat_eq, Bool, true, false, ◌&&◌, Option, Some, None, refl, ap, ◌∙◌, subst}
+use Rattle.std.proofs.Math.Bool.{beq}
+use Rattle.std.specs.Option.{option_eq}
+use Rattle.std.specs.Cmp.{booleans_Decides}
+use Rattle.std.proofs.lemmas.Bool.{and_parts, eqb-true, eq-eqb}
+use Rattle.cell_rules.specs.Types.{Machine, Posture, Closed, Moving, OpenIn, OpenOut, same_machine, same_posture, one_machine, one_posture}
+use Rattle.cell_rules.specs.Names.{ZoneMap, zone_map, PlaceSet, place_set, ModelState, model_state}
 use Rattle.cell_rules.specs.declared.zones.ZoneState.{ZoneState}
+use Rattle.cell_report.proofs.Own.{same_itself}
 
--- what a test of each element answers, if there is an element
-pub tells_all : {X : Type 0} (P : X → Type 0) (xs : List X) (d : X) (r : Bool) → MatchBool r (AllWithin P xs 0 (length xs)) ((k : ℕ) × (k < length xs) × HoldsAt (λ x. ¬ P x) xs k) → IsTrue r ↔ All P xs
-tells_all P xs d true m = (λ _ k e h. m k e (omega arith) h, λ _. refl)
-tells_all P xs d false m = (λ e. absurd (false≢true e), λ all. absurd (m.2 d (all m.0 d m.1)))
+-- ---- the test of each part
 
-map_of : ZoneState → ZoneState → ZoneState → ZoneState → ZoneState → ZoneState → ZoneMap
-map_of a b c d e f = zone_map a b c d e f
+abbrev same_zone : ZoneState → ZoneState → Bool
+same_zone a b = option_eq same_machine a.owner b.owner && (beq a.flag b.flag && same_posture a.posture b.posture)
 
-map_itself : (m : ZoneMap) → map_of m.at_z1 m.at_z2 m.at_z3 m.at_z4 m.at_z5 m.at_z6 ≡ m
-unfolding map_of
-map_itself m = refl
+abbrev same_zones : ZoneMap → ZoneMap → Bool
+same_zones a b =
+    same_zone a.at_z1 b.at_z1
+    && (same_zone a.at_z2 b.at_z2
+    && (same_zone a.at_z3 b.at_z3
+    && (same_zone a.at_z4 b.at_z4
+    && (same_zone a.at_z5 b.at_z5 && same_zone a.at_z6 b.at_z6))))
 
-same_map : (a b : ZoneMap) → All (λ z. zone_in a z ≡ zone_in b z) all_zones → a ≡ b
-same_map a b h =
-    let same : map_of a.at_z1 a.at_z2 a.at_z3 a.at_z4 a.at_z5 a.at_z6 ≡ map_of b.at_z1 b.at_z2 b.at_z3 b.at_z4 b.at_z5 b.at_z6 =
-    cc (h 0 Z1 (omega arith), h 1 Z1 (omega arith), h 2 Z1 (omega arith), h 3 Z1 (omega arith), h 4 Z1 (omega arith), h 5 Z1 (omega arith)) in
-    sym (map_itself a) ∙ same ∙ map_itself b
+abbrev same_places : PlaceSet → PlaceSet → Bool
+same_places a b =
+    beq a.feed_entry b.feed_entry
+    && (beq a.feed_end b.feed_end
+    && (beq a.table b.table
+    && (beq a.arm1 b.arm1
+    && (beq a.press_in b.press_in
+    && (beq a.press_out b.press_out && (beq a.arm2 b.arm2 && (beq a.dep_entry b.dep_entry && (beq a.dep_end b.dep_end && beq a.crane b.crane))))))))
 
-set_of : Bool → Bool → Bool → Bool → Bool → Bool → Bool → Bool → Bool → Bool → PlaceSet
-set_of a b c d e f g h i j = place_set a b c d e f g h i j
+abbrev pub same_states : ModelState → ModelState → Bool
+same_states a b = nat_eq a.stamp b.stamp && (beq a.stopped b.stopped && (same_zones a.zones b.zones && same_places a.full b.full))
 
-set_itself : (s : PlaceSet) → set_of s.feed_entry s.feed_end s.table s.arm1 s.press_in s.press_out s.arm2 s.dep_entry s.dep_end s.crane ≡ s
-unfolding set_of
-set_itself s = refl
+-- ---- what passes is the same
 
-same_set : (a b : PlaceSet) → All (λ p. has a p ≡ has b p) all_places → a ≡ b
-same_set a b h =
-    let same : set_of a.feed_entry a.feed_end a.table a.arm1 a.press_in a.press_out a.arm2 a.dep_entry a.dep_end a.crane ≡ set_of b.feed_entry b.feed_end b.table b.arm1 b.press_in b.press_out b.arm2 b.dep_entry b.dep_end b.crane =
-    cc (h 0 Table (omega arith), h 1 Table (omega arith), h 2 Table (omega arith), h 3 Table (omega arith), h 4 Table (omega arith), h 5 Table (omega arith), h 6 Table (omega arith), h 7 Table (omega arith), h 8 Table (omega arith), h 9 Table (omega arith)) in
-    sym (set_itself a) ∙ same ∙ set_itself b
+flag_from : (a b : Bool) → beq a b ≡ true → a ≡ b
+flag_from a b = (booleans_Decides a b).0
 
-state_of : ZoneMap → PlaceSet → ℕ → Bool → ModelState
-state_of zones full stamp stopped = model_state zones full stamp stopped
+owner_from : (a b : Option Machine) → option_eq same_machine a b ≡ true → a ≡ b
+owner_from None None e = refl
+owner_from None (Some b) e = cc
+owner_from (Some a) None e = cc
+owner_from (Some a) (Some b) e = ap Some (one_machine a b e)
 
-state_itself : (s : ModelState) → state_of s.zones s.full s.stamp s.stopped ≡ s
-unfolding state_of
-state_itself s = refl
+zone_from : (a b : ZoneState) → same_zone a b ≡ true → a ≡ b
+zone_from a b e =
+    let o = and_parts _ _ e in
+    let f = and_parts _ _ o.1 in
+    let with : Option Machine → Bool → Posture → ZoneState = λ owner flag posture. record { owner = owner; flag = flag; posture = posture } in
+    ap (λ x. with x a.flag a.posture) (owner_from a.owner b.owner o.0)
+    ∙ ap (λ x. with b.owner x a.posture) (flag_from a.flag b.flag f.0)
+    ∙ ap (λ x. with b.owner b.flag x) (one_posture a.posture b.posture f.1)
 
-pub same_state : (a b : ModelState) → All (λ z. zone_at a z ≡ zone_at b z) all_zones → All (λ p. is_full a p ≡ is_full b p) all_places → a.stamp ≡ b.stamp → a.stopped ≡ b.stopped → a ≡ b
-same_state a b zones places stamp stopped =
-    let z = same_map a.zones b.zones zones in
-    let p = same_set a.full b.full places in
-    let same : state_of a.zones a.full a.stamp a.stopped ≡ state_of b.zones b.full b.stamp b.stopped = cc in
-    sym (state_itself a) ∙ same ∙ state_itself b
+zones_from : (a b : ZoneMap) → same_zones a b ≡ true → a ≡ b
+zones_from a b e =
+    let p = and_parts _ _ e in
+    let q = and_parts _ _ p.1 in
+    let r = and_parts _ _ q.1 in
+    let s = and_parts _ _ r.1 in
+    let t = and_parts _ _ s.1 in
+    ap (λ x. zone_map x a.at_z2 a.at_z3 a.at_z4 a.at_z5 a.at_z6) (zone_from a.at_z1 b.at_z1 p.0)
+    ∙ ap (λ x. zone_map b.at_z1 x a.at_z3 a.at_z4 a.at_z5 a.at_z6) (zone_from a.at_z2 b.at_z2 q.0)
+    ∙ ap (λ x. zone_map b.at_z1 b.at_z2 x a.at_z4 a.at_z5 a.at_z6) (zone_from a.at_z3 b.at_z3 r.0)
+    ∙ ap (λ x. zone_map b.at_z1 b.at_z2 b.at_z3 x a.at_z5 a.at_z6) (zone_from a.at_z4 b.at_z4 s.0)
+    ∙ ap (λ x. zone_map b.at_z1 b.at_z2 b.at_z3 b.at_z4 x a.at_z6) (zone_from a.at_z5 b.at_z5 t.0)
+    ∙ ap (λ x. zone_map b.at_z1 b.at_z2 b.at_z3 b.at_z4 b.at_z5 x) (zone_from a.at_z6 b.at_z6 t.1)
+
+places_from : (a b : PlaceSet) → same_places a b ≡ true → a ≡ b
+places_from a b e =
+    let p = and_parts _ _ e in
+    let q = and_parts _ _ p.1 in
+    let r = and_parts _ _ q.1 in
+    let s = and_parts _ _ r.1 in
+    let t = and_parts _ _ s.1 in
+    let u = and_parts _ _ t.1 in
+    let v = and_parts _ _ u.1 in
+    let w = and_parts _ _ v.1 in
+    let x = and_parts _ _ w.1 in
+    ap (λ y. place_set y a.feed_end a.table a.arm1 a.press_in a.press_out a.arm2 a.dep_entry a.dep_end a.crane) (flag_from a.feed_entry b.feed_entry p.0)
+    ∙ ap (λ y. place_set b.feed_entry y a.table a.arm1 a.press_in a.press_out a.arm2 a.dep_entry a.dep_end a.crane) (flag_from a.feed_end b.feed_end q.0)
+    ∙ ap (λ y. place_set b.feed_entry b.feed_end y a.arm1 a.press_in a.press_out a.arm2 a.dep_entry a.dep_end a.crane) (flag_from a.table b.table r.0)
+    ∙ ap (λ y. place_set b.feed_entry b.feed_end b.table y a.press_in a.press_out a.arm2 a.dep_entry a.dep_end a.crane) (flag_from a.arm1 b.arm1 s.0)
+    ∙ ap (λ y. place_set b.feed_entry b.feed_end b.table b.arm1 y a.press_out a.arm2 a.dep_entry a.dep_end a.crane) (flag_from a.press_in b.press_in t.0)
+    ∙ ap (λ y. place_set b.feed_entry b.feed_end b.table b.arm1 b.press_in y a.arm2 a.dep_entry a.dep_end a.crane) (flag_from a.press_out b.press_out u.0)
+    ∙ ap (λ y. place_set b.feed_entry b.feed_end b.table b.arm1 b.press_in b.press_out y a.dep_entry a.dep_end a.crane) (flag_from a.arm2 b.arm2 v.0)
+    ∙ ap (λ y. place_set b.feed_entry b.feed_end b.table b.arm1 b.press_in b.press_out b.arm2 y a.dep_end a.crane) (flag_from a.dep_entry b.dep_entry w.0)
+    ∙ ap (λ y. place_set b.feed_entry b.feed_end b.table b.arm1 b.press_in b.press_out b.arm2 b.dep_entry y a.crane) (flag_from a.dep_end b.dep_end x.0)
+    ∙ ap (λ y. place_set b.feed_entry b.feed_end b.table b.arm1 b.press_in b.press_out b.arm2 b.dep_entry b.dep_end y) (flag_from a.crane b.crane x.1)
+
+pub states_from : (a b : ModelState) → same_states a b ≡ true → a ≡ b
+states_from a b e =
+    let p = and_parts _ _ e in
+    let q = and_parts _ _ p.1 in
+    let r = and_parts _ _ q.1 in
+    ap (λ x. model_state a.zones a.full x a.stopped) (eqb-true a.stamp b.stamp p.0)
+    ∙ ap (λ x. model_state a.zones a.full b.stamp x) (flag_from a.stopped b.stopped q.0)
+    ∙ ap (λ x. model_state x a.full b.stamp b.stopped) (zones_from a.zones b.zones r.0)
+    ∙ ap (λ x. model_state b.zones x b.stamp b.stopped) (places_from a.full b.full r.1)
+
+-- ---- each passes with itself
+
+both : (x y : Bool) → x ≡ true → y ≡ true → (x && y) ≡ true
+both true y p q = q
+both false y p q = p
+
+flag_itself : (a : Bool) → beq a a ≡ true
+flag_itself a = (booleans_Decides a a).1 refl
+
+owner_itself : (a : Option Machine) → option_eq same_machine a a ≡ true
+owner_itself None = refl
+owner_itself (Some m) = same_itself m
+
+posture_itself : (a : Posture) → same_posture a a ≡ true
+posture_itself Closed = refl
+posture_itself Moving = refl
+posture_itself OpenIn = refl
+posture_itself OpenOut = refl
+
+zone_itself : (a : ZoneState) → same_zone a a ≡ true
+zone_itself a = both _ _ (owner_itself a.owner) (both _ _ (flag_itself a.flag) (posture_itself a.posture))
+
+zones_itself : (a : ZoneMap) → same_zones a a ≡ true
+zones_itself a =
+    both _ _ (zone_itself a.at_z1) (both _ _ (zone_itself a.at_z2) (both _ _ (zone_itself a.at_z3) (both _ _ (zone_itself a.at_z4) (both _ _ (zone_itself a.at_z5) (zone_itself a.at_z6)))))
+
+places_itself : (a : PlaceSet) → same_places a a ≡ true
+places_itself a =
+    both _ _ (flag_itself a.feed_entry) (both _ _ (flag_itself a.feed_end) (both _ _ (flag_itself a.table) (both _ _ (flag_itself a.arm1) (both _ _ (flag_itself a.press_in)
+    (both _ _ (flag_itself a.press_out) (both _ _ (flag_itself a.arm2) (both _ _ (flag_itself a.dep_entry) (both _ _ (flag_itself a.dep_end) (flag_itself a.crane)))))))))
+
+pub states_tell : (a b : ModelState) → a ≡ b → same_states a b ≡ true
+states_tell a b e =
+    subst (λ c. same_states a c ≡ true) e
+    (both _ _ (eq-eqb a.stamp a.stamp refl) (both _ _ (flag_itself a.stopped) (both _ _ (zones_itself a.zones) (places_itself a.full))))

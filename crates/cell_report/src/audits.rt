@@ -125,7 +125,6 @@ fn retrace<K: Keeper>(
 /// `AuditFault`, and the first that applies is returned. `Gap` takes the end's stamp into account
 /// too, and `End` compares the whole states. `Memory` says that memory ran out. The journals and
 /// the states don't change.
-#[tactic(auto, using(crate::proofs::Refusals::refused_if))]
 pub fn audit(
     alloc: Global,
     journals: &Journals,
@@ -156,7 +155,6 @@ pub fn audit(
 /// Returns `None` if a legal history explains the journals, which begins at the start, and ends at
 /// the end, if one is given. After any fault but `Memory` there is no such history. The fault is
 /// that of `audit`, unless memory runs out.
-#[tactic(auto, using(crate::proofs::Refusals::refused_if_some))]
 pub fn find_fault(
     alloc: Global,
     journals: &Journals,

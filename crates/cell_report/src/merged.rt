@@ -45,7 +45,6 @@ impl<'a> Rest<'a> {
 }
 
 /// The place of the rest whose first entry is the next in the order: the first with the least key.
-#[tactic(auto, using(crate::proofs::NextLeast::least_moves, crate::proofs::NextLeast::least_stays))]
 fn least(rests: &[Rest<'_>]) -> usize
     requires { 0 < length rests.now }
     ensures { turn.IsFirstLeast (map (λ r. r.key) rests.now) result }
@@ -89,7 +88,6 @@ impl<'a> Merge<'a> {
 
     /// The next run in the order, or `None` after the last.
     // While the key stays, so does the place, and no other rest is looked at.
-    #[tactic(auto, using(crate::proofs::NextLeast::next_of_copy))]
     #[inline(always)]
     pub fn next_run(&mut self) -> Option<Run<'a>>
         ensures { MatchOption result (merged.left_of_all self.old.rests ≡ [])
