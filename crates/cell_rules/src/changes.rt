@@ -30,7 +30,7 @@ fn zone_after_pose(machine: Machine, pose: Pose, zone: Zone, at: ZoneState) -> Z
 fn zone_after_halt(machine: Machine, zone: Zone, at: ZoneState) -> ZoneState
     ensures { result ≡ replies.halted machine zone at }
 {
-    let is_belt = machine == Machine::Feed || machine == Machine::Deposit;
+    let is_belt = matches!(machine, Machine::Feed | Machine::Deposit);
     if is_belt && host(zone) == machine {
         ZoneState {
             posture: Posture::Closed,

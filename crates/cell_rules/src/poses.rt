@@ -20,13 +20,13 @@ fn has_pose(machine: Machine, pose: Pose) -> bool
 fn is_moving_pose(pose: Pose) -> bool
     ensures { result ≡ refusals.is_moving_pose pose }
 {
-    pose == Pose::Turning || pose == Pose::Travelling || pose == Pose::Running
+    matches!(pose, Pose::Turning | Pose::Travelling | Pose::Running)
 }
 
 fn passes_through_moving(machine: Machine) -> bool
     ensures { result ≡ refusals.passes_through_moving machine }
 {
-    machine == Machine::Table || machine == Machine::Press
+    matches!(machine, Machine::Table | Machine::Press)
 }
 
 fn has_no_work(machine: Machine) -> Option<Refusal>
@@ -97,7 +97,7 @@ impl State {
     fn moves_at(&self, machine: Machine, zone: Zone) -> bool
         ensures { result ≡ refusals.moves_at self.now machine zone }
     {
-        host(zone) != machine || self.posture(zone) == Posture::Moving
+        host(zone) != machine || self.is_moving(zone)
     }
 
     fn all_move(&self, machine: Machine) -> bool
@@ -179,11 +179,8 @@ impl State {
         ensures { result ≡ refusals.is_at_work self.now machine }
     {
         match machine {
-            Machine::Feed => self.posture(Zone::Z6) == Posture::Moving,
-            Machine::Deposit => {
-                self.posture(Zone::Z4) == Posture::Moving
-                    && self.posture(Zone::Z5) == Posture::Moving
-            }
+            Machine::Feed => self.is_moving(Zone::Z6),
+            Machine::Deposit => self.is_moving(Zone::Z4) && self.is_moving(Zone::Z5),
             Machine::Press => self.posture(Zone::Z3) == Posture::Closed,
             _ => false,
         }
@@ -192,13 +189,19 @@ impl State {
     fn nothing_to_work(&self, way: Option<(Place, Place)>) -> Option<Refusal>
         ensures { result ≡ refusals.nothing_to_work self.now way }
     {
-        (!self.is_full(way?.0)).then_some(Refusal::NoPlate)
+        match way {
+            Some((from, _)) => (!self.is_full(from)).then_some(Refusal::NoPlate),
+            None => None,
+        }
     }
 
     fn no_room_for_work(&self, way: Option<(Place, Place)>) -> Option<Refusal>
         ensures { result ≡ refusals.no_room_for_work self.now way }
     {
-        self.is_full(way?.1).then_some(Refusal::PlaceFull)
+        match way {
+            Some((_, to)) => self.is_full(to).then_some(Refusal::PlaceFull),
+            None => None,
+        }
     }
 
     fn not_at_work(&self, machine: Machine) -> Option<Refusal>

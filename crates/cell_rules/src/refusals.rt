@@ -2,7 +2,10 @@
 ghost use Rattle.std.specs.Prelude.{◌≡◌};
 ghost use Rattle.cell_rules.specs.Sound.{is_party as is_party_of, is_open as opens_way};
 ghost use Rattle.cell_rules.specs.Refusals as refusals;
+ghost use Rattle.cell_rules.specs.Refusals.{posture_at};
+ghost use Rattle.cell_rules.specs.Types.{same_posture, Moving};
 
+use crate::sound::is_owned_by;
 use crate::stamp::LAST_STAMP;
 use crate::state::State;
 use cell_types::{
@@ -15,7 +18,7 @@ macro_rules! first {
     ($refusal:expr, $($more:expr),+) => {
         match $refusal {
             None => first!($($more),+),
-            Some(refusal) => Some(refusal),
+            refusal => refusal,
         }
     };
 }
@@ -55,7 +58,7 @@ fn not_watch(machine: Machine) -> Option<Refusal>
 fn already_mine(owner: Option<Machine>, machine: Machine) -> Option<Refusal>
     ensures { result ≡ refusals.mine_by owner machine }
 {
-    (owner == Some(machine)).then_some(Refusal::AlreadyMine)
+    is_owned_by(owner, machine).then_some(Refusal::AlreadyMine)
 }
 
 fn held_refusal(owner: Option<Machine>, machine: Machine) -> Option<Refusal>
@@ -72,7 +75,7 @@ impl State {
     pub(crate) fn owns(&self, machine: Machine, zone: Zone) -> bool
         ensures { result ≡ refusals.owns self.now machine zone }
     {
-        self.owner(zone) == Some(machine)
+        is_owned_by(self.owner(zone), machine)
     }
 
     fn shut_to_guest(&self, machine: Machine, zone: Zone) -> Option<Refusal>
@@ -104,7 +107,7 @@ impl State {
         ensures { result ≡ refusals.not_owner self.now machine zone }
     {
         let owner = self.owner(zone);
-        (owner != Some(machine)).then_some(Refusal::NotOwner(owner))
+        (!is_owned_by(owner, machine)).then_some(Refusal::NotOwner(owner))
     }
 
     fn plate_in_zone(&self, zone: Zone) -> Option<Refusal>
@@ -113,10 +116,18 @@ impl State {
         self.flag(zone).then_some(Refusal::PlateInZone(zone))
     }
 
+    /// Whether a zone is Moving.
+    pub(crate) fn is_moving(&self, zone: Zone) -> bool
+        ensures { result ≡ same_posture (posture_at self.now zone) Moving }
+    {
+        matches!(self.posture(zone), Posture::Moving)
+    }
+
     fn shut_while_moving(&self, zone: Zone) -> Option<Refusal>
         ensures { result ≡ refusals.shut_while_moving self.now zone }
     {
-        (self.posture(zone) == Posture::Moving).then_some(Refusal::Shut(Posture::Moving))
+        self.is_moving(zone)
+            .then_some(Refusal::Shut(Posture::Moving))
     }
 
     fn in_use(&self, machine: Machine, zone: Zone) -> Option<Refusal>
@@ -124,7 +135,7 @@ impl State {
     {
         let in_use = machine == Machine::Feed
             && zone == Zone::Z1
-            && self.posture(Zone::Z6) == Posture::Moving
+            && self.is_moving(Zone::Z6)
             && self.is_full(Place::FeedEnd);
         in_use.then_some(Refusal::InUse)
     }
@@ -149,13 +160,19 @@ impl State {
     fn nothing_to_give(&self, row: Option<Transfer>) -> Option<Refusal>
         ensures { result ≡ refusals.nothing_to_give self.now row }
     {
-        (!self.is_full(row?.from)).then_some(Refusal::NoPlate)
+        match row {
+            Some(row) => (!self.is_full(row.from)).then_some(Refusal::NoPlate),
+            None => None,
+        }
     }
 
     fn no_room(&self, row: Option<Transfer>) -> Option<Refusal>
         ensures { result ≡ refusals.no_room self.now row }
     {
-        self.is_full(row?.to).then_some(Refusal::PlaceFull)
+        match row {
+            Some(row) => self.is_full(row.to).then_some(Refusal::PlaceFull),
+            None => None,
+        }
     }
 
     // Why a plate can't go this way.

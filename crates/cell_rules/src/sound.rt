@@ -14,7 +14,7 @@ use cell_types::{
     Machine, Place, Pose, Posture, Transfer, Zone, guest, host, posture_in, transfer,
 };
 
-fn is_owned_by(owner: Option<Machine>, machine: Machine) -> bool
+pub(crate) fn is_owned_by(owner: Option<Machine>, machine: Machine) -> bool
     ensures { result ≡ sound.is_owned_by owner machine }
 {
     owner == Some(machine)
