@@ -67,7 +67,11 @@ abbrev pub press_at_start : Axis
 press_at_start = axis_at_rest press_end
 
 abbrev pub crane_at_start : ModelState → CranePlant
-crane_at_start s = record { travel = axis_at_rest (pos 0); gripper = axis_at_rest gripper_start; magnet = is_full s Crane }
+crane_at_start s = record {
+  travel = axis_at_rest (pos 0);
+  gripper = axis_at_rest gripper_start;
+  magnet = is_full s Crane;
+}
 
 abbrev pub plant_at_start : ModelState → PlantState
 plant_at_start s =
