@@ -36,10 +36,6 @@ done_drive RunIn p z e k = k
 done_drive RunOut p z e k = k
 done_drive _ p z e k = cc
 
-drive_on : (b : Bool) (p : DepositProgress) (z : ModelState) → (row_of p).call ≡ None → DepositKnows p z → DepositKnows (if b then p else after_done p) z
-drive_on true p z e k = k
-drive_on false p z e k = done_drive p.step p z e k
-
 -- after a call that is done
 at_choice : (entry last : Bool) (p : DepositProgress) (z : ModelState) → owns z Deposit Z4 ≡ true → owns z Deposit Z5 ≡ true → AreSo Deposit z (facts_at (by_plates (with_plates p entry last)))
 at_choice entry true p z o u = (o, (u, tt))
@@ -62,7 +58,7 @@ done_call s p c z e d k = cc
 pub deposit-knowing : Knowing deposit_steps DepositKnows
 deposit-knowing = record {
   foreign = λ p z n c apart sound k. are_foreign Deposit n c z (facts_at p.step) apart sound k;
-  after_drive = λ p s act z e d k. drive_on act.belt p z e k;
+  after_drive = λ p s act z e d k. elim act.belt as (λ on. DepositKnows (if on then p else after_done p) z) [ true ↦ k | false ↦ done_drive p.step p z e k ];
   after_done = λ p z c e d sound k. done_call p.step p c z e d k;
   after_inquiry = λ p z c owner flag posture e d sound k. k;
   same_for = λ p z w same k. are_same Deposit z w (facts_at p.step) same k;

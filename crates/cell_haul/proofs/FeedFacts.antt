@@ -60,10 +60,6 @@ done_drive RunIn p z e k = assumption
 done_drive RunOut p z e k = record { facts = k.facts; plates = k.plates; entry_noted = k.entry_noted; last_noted = k.last_noted }
 done_drive _ p z e k = cc
 
-drive_on : (b : Bool) (p : FeedProgress) (z : ModelState) → (row_of p).call ≡ None → FeedKnows p z → FeedKnows (if b then p else after_done p) z
-drive_on true p z e k = k
-drive_on false p z e k = done_drive p.step p z e k
-
 -- at the first step of the next group
 at_choice : (entry last : Bool) (p : FeedProgress) (z : ModelState) → owns z Feed Z6 ≡ true → is_full z FeedEntry ≡ entry → is_full z FeedEnd ≡ last → KnowsAt (by_plates (with_plates p entry last)) entry last z
 at_choice entry true p z o e l = record { facts = (o, tt); plates = refl; entry_noted = e; last_noted = l }
@@ -110,7 +106,7 @@ feed-knowing = record {
         full-foreign z n c FeedEntry sound apart ∙ k.entry_noted,
         full-foreign z n c FeedEnd sound apart ∙ k.last_noted,
       );
-  after_drive = λ p s act z e d k. drive_on act.belt p z e k;
+  after_drive = λ p s act z e d k. elim act.belt as (λ on. FeedKnows (if on then p else after_done p) z) [ true ↦ k | false ↦ done_drive p.step p z e k ];
   after_done = λ p z c e d sound k. done_call p.step p c z e d sound k;
   after_inquiry = λ p z c owner flag posture e d sound k. k;
   same_for = λ p z w same k.

@@ -6,13 +6,13 @@ ghost use Rattle.cell_haul.specs.FeedExamples.{FeedRowsAreMet};
 /// The rows of the feed belt's program, by examples: its start, by the places that are full; for
 /// each step and each state of its notes, what it asks, exactly the refusals on which it stays, and
 /// the next step; and whether the belt runs, by the light barrier.
-#[tactic(auto, using(crate::proofs::FeedRows::feed_rows))]
+#[tactic(auto, using(crate::proofs::BeltRows::feed_rows))]
 pub fn feed_rows_are_met()
     ensures { FeedRowsAreMet }
 {}
 
 /// The rows of the deposit belt's program, likewise.
-#[tactic(auto, using(crate::proofs::DepositRows::deposit_rows))]
+#[tactic(auto, using(crate::proofs::BeltRows::deposit_rows))]
 pub fn deposit_rows_are_met()
     ensures { DepositRowsAreMet }
 {}
