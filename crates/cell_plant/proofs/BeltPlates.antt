@@ -1,6 +1,7 @@
 -- A plate is on a belt if and only if its place is full: the entry's and the end's.
-use Rattle.cell_plant.proofs.Names.{◌≡◌, ℤ, Bool, true, false, not, IsSome, IsTrue, ◌↔◌, Option, Some, None, is_some, refl, sym, subst, if◌then◌else◌, Machine, Zone, Place, Call, Give, Take, Advance, Done, transfer_of, same_machine, keeper_of, own_move_of, ModelState, zone_at, is_full, IsSound, is_party, is_received_by, owns, owner_of, posture_at, transfer_given, given_by, advance_refusal, give_refusal, take_refusal, reply, next}
-use Rattle.cell_plant.proofs.Names.{has_no_work, press_unowned, not_at_work, nothing_to_work, no_room_for_work, worn, ◌or◌, and_left, and_right, none_or, none_then_not, take_done, give_done, done_none, fourth, owner_is, full-foreign, handed, set_belt, Belt, plate_if, moved_plate, moved_belt}
+use Rattle.cell_plant.proofs.Names.{◌≡◌, ℤ, Bool, true, false, not, IsSome, IsTrue, ◌↔◌, Option, Some, None, refl, sym, ap, ◌∙◌, subst, if◌then◌else◌, Machine, Zone, Posture, Place, Call, Give, Take, Advance, Done, transfer_of, same_machine, keeper_of, own_move_of, ModelState, has, is_full, IsSound, posture_at, given_by, emptied, filled, advance_refusal, reply, next, changed}
+use Rattle.cell_plant.proofs.Names.{has_no_work, press_unowned, not_at_work, nothing_to_work, no_room_for_work, worn, ◌or◌, none_or, none_then_not, done_none, full-foreign, set_belt, Belt, plate_if, moved_plate, moved_belt}
+use Rattle.cell_parts.specs.Plant.{advanced, loaded_belt, unloaded_belt}
 
 abbrev pub StandsIf : Option ℤ → Bool → Type 0
 StandsIf plate full = IsSome plate ↔ IsTrue full
@@ -43,16 +44,8 @@ runs_by _ b = refl
 pub still_runs : (b : Belt) → (moved_belt b).runs ≡ b.runs
 still_runs b = runs_by b.runs b
 
--- what a Done call says: a take had a plate to hand over, a give had one to give, an advance had one to move
-pub plate_taken : (z : ModelState) (m : Machine) (y : Zone) → IsSound z → reply z m (Take y) ≡ Done → is_received_by (Some m) (transfer_of y (posture_at z y)) ≡ true
-plate_taken z m y sound e =
-    let may = and_right _ _ (take_done z m y (done_none (take_refusal z m y) e)).0 in
-    handed z y m sound (owner_is (owner_of z y) m (and_left _ _ may)) (and_right _ _ may)
-
-pub plate_given : (z : ModelState) (m : Machine) (y : Zone) → reply z m (Give y) ≡ Done → is_some (given_by m (transfer_of y (posture_at z y))) ≡ true
-plate_given z m y e = fourth (is_party m y) (owns z m y) (not (zone_at z y).flag) (is_some (transfer_given z m y)) (give_done z m y (done_none (give_refusal z m y) e)).0
-
-pub plate_worked : (z : ModelState) (m : Machine) (from to : Place) → reply z m Advance ≡ Done → own_move_of m ≡ Some (from, to) → is_full z from ≡ true
+-- an advance that is done had a plate to move
+plate_worked : (z : ModelState) (m : Machine) (from to : Place) → reply z m Advance ≡ Done → own_move_of m ≡ Some (from, to) → is_full z from ≡ true
 plate_worked z m from to e way =
     let way' = own_move_of m in
     let r3 = has_no_work m or press_unowned z m or not_at_work z m in
@@ -61,3 +54,18 @@ plate_worked z m from to e way =
     let h5 = none_or r5 (worn z) (done_none (advance_refusal z m) e) in
     let h4 = none_or r4 (no_room_for_work z way') h5.0 in
     none_then_not _ _ (subst (λ w. nothing_to_work z w ≡ None) way (none_or r3 (nothing_to_work z way') h4.0).1)
+
+-- after it takes a plate, moves it on or gives it
+module _ (z : ModelState) (m : Machine) (first last : Place) (b : Belt) (k : PlatesStand z first last b) where
+  pub taken : (y : Zone) (q : Posture) → posture_at z y ≡ q → (has (filled z.full (transfer_of y q)) first ≡ true) × (has (filled z.full (transfer_of y q)) last ≡ is_full z last) → PlatesStand (changed z m (Take y)) first last (set_belt (loaded_belt b) false)
+  taken y q opens on =
+      let at = ap (λ r. filled z.full (transfer_of y r)) opens in
+      record { entry = (λ h. ap (λ full. has full first) at ∙ on.0, λ h. refl); end = as_full b.last _ _ (ap (λ full. has full last) at ∙ on.1) k.end }
+
+  pub moved_on : reply z m Advance ≡ Done → own_move_of m ≡ Some (first, last) → (is_full (changed z m Advance) first ≡ false) × (is_full (changed z m Advance) last ≡ true) → PlatesStand (changed z m Advance) first last (set_belt (advanced b) false)
+  moved_on done way on = record { entry = (λ h. cc, λ h. let none = on.0 in cc); end = (λ h. on.1, λ h. k.entry.1 (plate_worked z m first last done way)) }
+
+  pub given : (y : Zone) (q : Posture) → posture_at z y ≡ q → (has (emptied z.full (given_by m (transfer_of y q))) first ≡ is_full z first) × (has (emptied z.full (given_by m (transfer_of y q))) last ≡ false) → PlatesStand (changed z m (Give y)) first last (set_belt (unloaded_belt b) false)
+  given y q opens on =
+      let at = ap (λ r. emptied z.full (given_by m (transfer_of y r))) opens in
+      record { entry = as_full b.entry _ _ (ap (λ full. has full first) at ∙ on.0) k.entry; end = (λ h. cc, λ h. let none = ap (λ full. has full last) at ∙ on.1 in cc) }

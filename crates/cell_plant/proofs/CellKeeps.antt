@@ -3,8 +3,8 @@ use Rattle.cell_plant.proofs.Names.{refl, sym, ap, Machine, Feed, Table, Robot, 
 use Rattle.cell_calib.specs.Line.{IsReading}
 use Rattle.cell_parts.specs.Names.{CellScales}
 use Rattle.cell_plant.proofs.CraneKeeps.{CraneInv, CraneTold, crane-start, crane-keeping}
-use Rattle.cell_plant.proofs.DepositKeeps.{DepositInv, DepositRuns, deposit-start, deposit-keeping, deposit-demanding}
-use Rattle.cell_plant.proofs.FeedKeeps.{FeedInv, FeedRuns, feed-start, feed-keeping, feed-demanding}
+use Rattle.cell_plant.proofs.BeltKeeps.{FeedInv, FeedRuns, feed-start, feed-keeping, feed-demanding}
+use Rattle.cell_plant.proofs.BeltKeeps.{DepositInv, DepositRuns, deposit-start, deposit-keeping, deposit-demanding}
 use Rattle.cell_plant.proofs.PressKeeps.{PressInv, PressMoves, press-start, press-keeping, press-demanding}
 use Rattle.cell_plant.proofs.TableKeeps.{TableInv, TableDrives, off_stands, table-start, table-keeping, table-demanding}
 use Rattle.cell_plant.proofs.RobotKeeps.{RobotInv, robot-start, robot-keeping}

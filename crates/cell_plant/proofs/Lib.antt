@@ -3,8 +3,7 @@ pub mod WithinLemmas
 pub mod PressKeeps
 pub mod TableKeeps
 pub mod BeltPlates
-pub mod FeedKeeps
-pub mod DepositKeeps
+pub mod BeltKeeps
 pub mod Stops
 pub mod Magnets
 pub mod CraneKeeps

@@ -8,8 +8,8 @@ pub use Rattle.cell_calib.specs.declared.sense.RobotSense.{RobotSense}
 pub use Rattle.cell_calib.specs.declared.sense.SensorFault.{SensorFault}
 pub use Rattle.cell_calib.specs.declared.sense.SensorFault.TheVariants.{Clash}
 pub use Rattle.cell_calib.specs.declared.sense.TableSense.{TableSense}
-pub use Rattle.cell_control.proofs.Facts.{AreSo, Finds, handed}
-pub use Rattle.cell_control.proofs.StepLemmas.{reached_first}
+pub use Rattle.cell_control.proofs.Facts.{AreSo, Fact, Finds}
+pub use Rattle.cell_control.proofs.StepLemmas.{Knowing, reached_first}
 pub use Rattle.cell_control.proofs.TurnMaps.{turn_either}
 pub use Rattle.cell_control.proofs.TurnsByAnswers.{asked_own}
 pub use Rattle.cell_control.proofs.WaitLemmas.{stays_never}
@@ -30,7 +30,7 @@ pub use Rattle.cell_devices.specs.declared.motor.Motor.TheVariants.{Minus, Off, 
 pub use Rattle.cell_devices.specs.declared.stops.TheConstants.{ARM1_PRESS, ARM2_DEPOSIT, GRIPPER_FEED, RETRACTED, ROTATION_ARM1_PRESS, ROTATION_ARM1_TABLE, ROTATION_ARM2_DEPOSIT, ROTATION_ARM2_PRESS}
 pub use Rattle.cell_haul.proofs.CraneFacts.{CraneKnows, crane-knowing, crane_begins, facts_at}
 pub use Rattle.cell_haul.proofs.CraneRows.{acts_one}
-pub use Rattle.cell_haul.proofs.DepositFacts.{DepositKnows, deposit-knowing, drives_at}
+pub use Rattle.cell_haul.proofs.DepositFacts.{DepositKnows, deposit-knowing}
 pub use Rattle.cell_haul.proofs.FeedFacts.{FeedKnows, feed-knowing, feed_begins}
 pub use Rattle.cell_haul.specs.CraneProgram.{is_off, travel_for, travels}
 pub use Rattle.cell_haul.specs.Names.{Acts, Senses, after_done, crane_start, crane_steps, deposit_start, deposit_steps, feed_start, feed_steps, first_step, gripper_stop, is_done, row_at, row_of, step_after_inquiry}
@@ -40,7 +40,6 @@ pub use Rattle.cell_haul.specs.declared.crane.CraneStep.{CraneStep}
 pub use Rattle.cell_haul.specs.declared.crane.CraneStep.TheVariants.{AwaitPlate, ClaimFeed, DropPlate, GripPlate, LowerToFeed, LowerToPlate, RaiseFromFeed, RaiseToFetch, RaiseWithPlate, TravelToDeposit, TravelToFeed}
 pub use Rattle.cell_haul.specs.declared.deposit.DepositProgress.{DepositProgress}
 pub use Rattle.cell_haul.specs.declared.deposit.DepositStep.{DepositStep}
-pub use Rattle.cell_haul.specs.declared.deposit.DepositStep.TheVariants.{GivePlate, MoveOn, TakePlate}
 pub use Rattle.cell_haul.specs.declared.feed.FeedProgress.{FeedProgress}
 pub use Rattle.cell_haul.specs.declared.feed.FeedStep.{FeedStep}
 pub use Rattle.cell_haul.specs.declared.feed.FeedStep.TheVariants.{ClaimExit}
@@ -58,7 +57,7 @@ pub use Rattle.cell_parts.specs.MotorDemands.{TravelsHigh}
 pub use Rattle.cell_parts.specs.Names.{AllDemandsMet, AreCellScales, Arm1MayLetGo, Arm2MayLetGo, AtDeposit, AtFeed, CraneMayLetGo, DrivesPast, DrivesPastEnd, ErrandDemands, ForTravel, GripperErrand, HoldsIn, IsArm1AtTable, IsArm1InPress, IsArm2AtDeposit, IsArm2InPress, IsAxisScale, IsGripperDown, IsIn, IsOn, IsOut, IsOverDeposit, IsOverFeed, IsWithin, LetsGo, MotorDemands, NothingCollides, NothingCollidesWhenSet, PlateFalls}
 pub use Rattle.cell_parts.specs.Names.{PositionDemands, PressShows, RestsAtBottom, RestsAtLoading, RestsAtMiddle, RotatesRetracted, ShowsRaw, Span, StaysWithin, TableMoves, arm1_at_table, arm1_in_press, arm2_at_deposit, arm2_in_press, arm_end, at, crane_at_start, crane_end, crane_rig, deposit_at_start, deposit_rig, driven_at, feed_at_start, feed_rig, gripper_end, lift_end, loads_to, moved_axis, moved_to, over_deposit_to}
 pub use Rattle.cell_parts.specs.Names.{over_feed_from, press_at_start, press_end, press_rig, robot_at_start, robot_rig, rotation_end, set_axis, set_belt, set_crane, set_robot, table_at_start, table_rig, turn_end}
-pub use Rattle.cell_parts.specs.Plant.{deposit_called, feed_called, moved_belt, moved_plate, moved_press, moved_table, plate_if, set_press, set_table}
+pub use Rattle.cell_parts.specs.Plant.{moved_belt, moved_plate, moved_press, moved_table, plate_if, set_press, set_table}
 pub use Rattle.cell_parts.specs.PositionDemands.{Arm1HasPress, Arm1HasTable, Arm2HasDeposit, Arm2HasPress, CraneHasDeposit, CraneHasFeed}
 pub use Rattle.cell_parts.specs.Shows.{CraneShows, FeedShows, RobotShows, TableShows, crane_feed_from, press_bottom_to, press_middle, table_bottom_to}
 pub use Rattle.cell_parts.specs.declared.axis.Axis.{Axis}
@@ -95,18 +94,15 @@ pub use Rattle.cell_robot.specs.declared.robot.RobotReading.{RobotReading}
 pub use Rattle.cell_robot.specs.declared.robot.RobotStep.{RobotStep}
 pub use Rattle.cell_robot.specs.declared.robot.RobotStep.TheVariants.{AwaitForged, ClaimDeposit, ClaimPress, DropInPress, DropOnDeposit, GripForged, InspectPress, LeaveDeposit, LeaveLoaded, LeaveTable, LeaveUnloaded, ReachDeposit, ReachTable, ReachToLoad, ReachToUnload, ReleasePress, TurnToDeposit, TurnToLoad, TurnToTable, TurnToUnload}
 pub use Rattle.cell_rules.proofs.Clear.{clear_next}
-pub use Rattle.cell_rules.proofs.Done.{give_done, none_or, none_then_not, resume_done, stop_done, take_done}
+pub use Rattle.cell_rules.proofs.Done.{none_or, none_then_not, resume_done, stop_done}
 pub use Rattle.cell_rules.proofs.Histories.{after-append}
-pub use Rattle.cell_rules.proofs.Holders.{owner_is}
 pub use Rattle.cell_rules.proofs.Notes.{noted-append}
 pub use Rattle.cell_rules.proofs.OwnSide.{full-foreign, posture-foreign}
-pub use Rattle.cell_rules.proofs.Plates.{fourth}
 pub use Rattle.cell_rules.proofs.Postures.{posture-changed}
 pub use Rattle.cell_rules.proofs.SeenLemmas.{legal-append, own-append, settles-push}
 pub use Rattle.cell_rules.proofs.Soundness.{done_none, next_keeps}
-pub use Rattle.cell_rules.proofs.Tables.{and_left, and_right}
 pub use Rattle.cell_rules.specs.ModelState.{one_if}
-pub use Rattle.cell_rules.specs.Names.{Desk, IsLegal, IsSound, IsStartState, ModelState, PlaceSet, RunsClear, Waits, advance_refusal, after, changed, done_unless, emptied, entry_of, event, filled, give_refusal, given_by, has, is_full, is_party, is_received_by, last_stamp, next, next_by, noted, own_events, owner_of, owns, posture_at, posture_given, reply, resume_refusal, start_state, stop_refusal, stopped_after, take_refusal, transfer_given, zone_at}
+pub use Rattle.cell_rules.specs.Names.{Desk, IsLegal, IsSound, IsStartState, ModelState, PlaceSet, RunsClear, Waits, advance_refusal, after, changed, done_unless, emptied, entry_of, event, filled, given_by, has, is_full, last_stamp, next, next_by, noted, own_events, owns, posture_at, posture_given, reply, resume_refusal, start_state, stop_refusal, stopped_after}
 pub use Rattle.cell_rules.specs.Refusals.{has_no_work, no_room_for_work, not_at_work, nothing_to_work, press_unowned, worn, ◌or◌}
 pub use Rattle.cell_rules.specs.Types.{Advance, Answer, Busy, Call, Claim, Closed, Crane, DepEnd, DepEntry, Deposit, Done, Entry, Event, Feed, FeedEnd, FeedEntry, Give, Journals, Machine, Moving, NotStopped, OpenIn, OpenOut, Place, Posture, Press, Refusal, Refused, Release, Reply, Resume, Robot, SetPose, Settled, Shut, Stop, Stopped, Table, Take, Watch, Worn, Z1, Z2, Z3, Z4, Z5, Z6, Zone, all_machines, keeper_of, one_machine, one_posture, own_move_of, same_machine, same_posture, transfer_of}
 pub use Rattle.cell_rules.specs.declared.heard.LineFault.{LineFault}
