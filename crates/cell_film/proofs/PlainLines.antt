@@ -304,7 +304,7 @@ word-plain machine.Crane s = crane-plain s.crane
 word-plain machine.Watch s = refl
 
 step-plain : (m : Machine) (f : Frame) → are_plain (fields.step_text m f) ≡ true
-step-plain m f = both (fields.step_word m f.steps) (stopped_text (fields.status_at m f.status)) (word-plain m f.steps) (stopped-plain (fields.status_at m f.status))
+step-plain m f = both (fields.step_word m f.steps) (stopped_text (at_machine f.status m)) (word-plain m f.steps) (stopped-plain (at_machine f.status m))
 
 state-plain : (s : ModelState) → are_plain (fields.word_text s) ≡ true
 state-plain s = hex-plain (packed s)

@@ -1,5 +1,5 @@
 -- What lines say of a frame, as texts.
-use Rattle.std.specs.Prelude.{ℕ, ℤ, false, List, [], ◌∷◌, ◌++◌, codes, slice_index_or, Option, Some, None, Result, Ok}
+use Rattle.std.specs.Prelude.{ℕ, ℤ, false, List, [], ◌∷◌, ◌++◌, codes, Option, Some, None, Result, Ok}
 use Rattle.std.specs.Prelude.{Err}
 use Rattle.std.specs.Fmt.{digits, signed_decimal}
 use Rattle.std.specs.List.{join_with_byte}
@@ -11,9 +11,7 @@ use Rattle.cell_rules.specs.Names.{ModelState}
 use Rattle.cell_rules.specs.declared.heard.LineFault.{LineFault}
 use Rattle.cell_rules.specs.declared.heard.LineFault.TheVariants.{Memory}
 use Rattle.cell_word.specs.Layout.{packed}
-use Rattle.cell_notes.specs.Names.{TurnCall}
-use Rattle.cell_notes.specs.declared.status.Status.{Status}
-use Rattle.cell_notes.specs.declared.status.Status.TheVariants.{Fine}
+use Rattle.cell_notes.specs.Names.{TurnCall, at_machine}
 use Rattle.cell_parts.specs.declared.axis.Axis.{Axis}
 use Rattle.cell_parts.specs.declared.belt.Belt.{Belt}
 use Rattle.cell_parts.specs.declared.plant.CranePlant.{CranePlant}
@@ -84,18 +82,8 @@ step_word Deposit s = deposit_word s.deposit
 step_word Crane s = crane_word s.crane
 step_word Watch s = []
 
--- a frame has the statuses in the order of the machines
-abbrev pub status_at : Machine → List Status → Status
-status_at Feed status = slice_index_or status 0 Fine
-status_at Table status = slice_index_or status 1 Fine
-status_at Robot status = slice_index_or status 2 Fine
-status_at Press status = slice_index_or status 3 Fine
-status_at Deposit status = slice_index_or status 4 Fine
-status_at Crane status = slice_index_or status 5 Fine
-status_at Watch status = slice_index_or status 6 Fine
-
 abbrev pub step_text : Machine → Frame → List ℕ
-step_text m f = step_word m f.steps ++ stopped_text (status_at m f.status)
+step_text m f = step_word m f.steps ++ stopped_text (at_machine f.status m)
 
 -- ---- the interlock
 

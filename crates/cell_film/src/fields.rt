@@ -6,7 +6,7 @@ ghost use Rattle.cell_film.specs.Lines as lines;
 
 use crate::parts::part_text;
 use crate::words::{step_word, stopped_text};
-use cell_notes::{Status, TurnCall};
+use cell_notes::TurnCall;
 use cell_plant::Frame;
 use cell_rules::{Answered, LineFault, State};
 use cell_types::{Machine, Reply};
@@ -129,23 +129,8 @@ pub(crate) fn step_text(
     ensures { IfOk result (λ text. string_bytes text ≡ fields.step_text machine frame.now) }
 {
     let word = step_word(machine, &frame.steps);
-    let stopped = stopped_text(status_of(machine, &frame.status));
+    let stopped = stopped_text(*frame.status.at(machine));
     format!(in alloc; "{word}{stopped}")
-}
-
-/// A machine's status.
-fn status_of(machine: Machine, status: &[Status; 7]) -> Status
-    ensures { result ≡ fields.status_at machine status.now }
-{
-    match machine {
-        Machine::Feed => status[0],
-        Machine::Table => status[1],
-        Machine::Robot => status[2],
-        Machine::Press => status[3],
-        Machine::Deposit => status[4],
-        Machine::Crane => status[5],
-        Machine::Watch => status[6],
-    }
 }
 
 /// The interlock's word.

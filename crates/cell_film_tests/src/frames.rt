@@ -190,7 +190,7 @@ const OF_WORN: &[Told] = &[
 /// What a frame shows.
 fn told_by(frame: &Frame) -> Told {
     let status = match frame.turn {
-        Some(turn) => frame.status[turn.machine as usize],
+        Some(turn) => *frame.status.at(turn.machine),
         None => Status::Fine,
     };
     let call = match frame.asked {
@@ -217,7 +217,8 @@ fn shows_each_turn(rt: HostRuntime) -> Result<(), Fail> {
         let frames = frames_of(rt.alloc(), example)?;
         assert!(rt; frames.len() == wanted.len(), "{wanted:?}");
         for (number, (frame, told)) in frames.iter().zip(*wanted).enumerate() {
-            assert!(rt; told_by(frame) == *told, "{number}: {frame:?}");
+            let found = told_by(frame);
+            assert!(rt; found == *told, "{number}: {found:?}");
         }
     }
     Ok(())

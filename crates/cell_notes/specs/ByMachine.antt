@@ -1,6 +1,7 @@
 -- A value for each machine.
-use Rattle.std.specs.Prelude.{◌≡◌, IsFalse}
-use Rattle.cell_rules.specs.Types.{Machine, Feed, Table, Robot, Press, Deposit, Crane, Watch, same_machine}
+use Rattle.std.specs.Prelude.{◌≡◌, IsFalse, List, map}
+use Rattle.cell_rules.specs.Types.{Machine, Feed, Table, Robot, Press, Deposit, Crane, Watch, all_machines}
+use Rattle.cell_rules.specs.Types.{same_machine}
 use Rattle.cell_notes.specs.declared.by_machine.ByMachine.{ByMachine}
 
 -- a machine's value
@@ -23,9 +24,22 @@ with_machine b Deposit v = record b { deposit = v }
 with_machine b Crane v = record b { crane = v }
 with_machine b Watch v = record b { watch = v }
 
+-- the values that a function gives
+abbrev pub values_of : {T : Type 0} → (Machine → T) → ByMachine T
+values_of f =
+    record {
+      feed = f Feed;
+      table = f Table;
+      robot = f Robot;
+      press = f Press;
+      deposit = f Deposit;
+      crane = f Crane;
+      watch = f Watch;
+    }
+
 -- one value for all
 abbrev pub each_machine : {T : Type 0} → T → ByMachine T
-each_machine v = record { feed = v; table = v; robot = v; press = v; deposit = v; crane = v; watch = v }
+each_machine v = values_of (λ m. v)
 
 -- each value is so
 pub record HoldsOfEach {T : Type 0} (P : T → Type 0) (b : ByMachine T) : Type 0 where
@@ -49,16 +63,11 @@ pub record IsMadeOf {T U : Type 0} (made : T → U → Type 0) (b : ByMachine T)
 
 -- of each value, something
 abbrev pub map_machines : {T U : Type 0} → (T → U) → ByMachine T → ByMachine U
-map_machines f b =
-    record {
-      feed = f b.feed;
-      table = f b.table;
-      robot = f b.robot;
-      press = f b.press;
-      deposit = f b.deposit;
-      crane = f b.crane;
-      watch = f b.watch;
-    }
+map_machines f b = values_of (λ m. f (at_machine b m))
+
+-- the values in the order of the machines
+abbrev pub in_order : {T : Type 0} → ByMachine T → List T
+in_order b = map (at_machine b) all_machines
 
 -- what was put is found, and the other machines' values stay
 pub record PutIsFound {T : Type 0} (b : ByMachine T) : Type 0 where

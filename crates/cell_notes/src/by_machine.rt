@@ -1,11 +1,11 @@
 //! A value for each machine.
 ghost use Rattle.std.specs.Prelude.{◌≡◌};
-ghost use Rattle.cell_notes.specs.ByMachine.{IsMadeOf, PutIsFound, at_machine, each_machine, with_machine};
+ghost use Rattle.cell_notes.specs.ByMachine.{IsMadeOf, PutIsFound, at_machine, each_machine, in_order, with_machine};
 
 use cell_types::Machine;
 
 /// A value for each machine.
-#[derive(Drop)]
+#[derive(Clone, Copy, Drop, PartialEq)]
 pub struct ByMachine<T> {
     /// The feed belt's.
     pub feed: T,
@@ -85,6 +85,21 @@ impl<T: Copy> ByMachine<T> {
             crane: value,
             watch: value,
         }
+    }
+
+    /// The values in the order of `Machine::ALL`.
+    pub fn in_order(&self) -> [T; 7]
+        ensures { result ≡ in_order self.now }
+    {
+        [
+            self.feed,
+            self.table,
+            self.robot,
+            self.press,
+            self.deposit,
+            self.crane,
+            self.watch,
+        ]
     }
 }
 

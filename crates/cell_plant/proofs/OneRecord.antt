@@ -1,5 +1,5 @@
 -- Records of runs of one schedule from one opening, in which no machine was stopped, say the same.
-use Rattle.cell_plant.proofs.Names.{◌≡◌, List, map, Option, Some, None, refl, sym, ap, ◌∙◌, subst, arith, Machine, Feed, Table, Robot, Press, Deposit, Crane, Watch, all_machines, noted, ModelState, CtlFault, RunRecord, Turn, Status, Fine, status_of, CellScales, TellsRun, CellState, cell_at_start, plant_of, HadMemory, SayTheSame, CellGauges, counts_in, events_in, positions_in, Step, end_of, SaysOneThing}
+use Rattle.cell_plant.proofs.Names.{◌≡◌, List, map, Option, Some, None, refl, sym, ap, ◌∙◌, subst, arith, Machine, Feed, Table, Robot, Press, Deposit, Crane, Watch, all_machines, noted, ModelState, CtlFault, RunRecord, Turn, Status, Fine, status_of, in_order, statuses_in, CellScales, TellsRun, CellState, cell_at_start, plant_of, HadMemory, SayTheSame, CellGauges, counts_in, events_in, positions_in, Step, end_of, SaysOneThing}
 use Rattle.std.proofs.Common.{All}
 use Rattle.cell_control.specs.declared.fault.CtlFault.TheVariants as cause
 use Rattle.cell_plant.proofs.FineRuns.{had_memory}
@@ -37,7 +37,7 @@ module _ (c : CellScales) (gives : CellGauges) (opening : ModelState) (turns : L
       record {
         start = l.told.start ∙ sym k.told.start;
         counts = l.told.counts ∙ ap (λ steps. map (counts_in steps) all_machines) same ∙ sym k.told.counts;
-        status = l.told.status ∙ ap (λ steps. map (λ m. status_of ((last steps).side m).stopped) all_machines) same ∙ sym k.told.status;
+        status = l.told.status ∙ ap (λ steps. in_order (statuses_in (last steps))) same ∙ sym k.told.status;
         journals = λ m. l.told.journals m ∙ ap (λ steps. noted opening (events_in steps) m) same ∙ sym (k.told.journals m);
         end = l.told.end ∙ ap (λ steps. Some (last steps).interlock) same ∙ sym k.told.end;
         axes = l.told.axes ∙ ap (λ steps. positions_in (plant_of (last steps))) same ∙ sym k.told.axes;

@@ -1,6 +1,6 @@
 -- The examples of records: of runs of a schedule, and of no such run.
 use Rattle.cell_plant.proofs.Names.{◌≡◌, ◌≢◌, ◌+◌, Bool, true, false, ◌&&◌, cond, List, [], ◌∷◌, map, Some, Result, Ok, Err, refl, sym, ap, ◌∙◌, arith, Machine, Feed, Table, Robot, Press, Deposit, Crane, Watch, Call, Reply, all_machines, same_machine, IsReading, CraneSense, SensorFault, CraneAct, ModelState, IsLegal, after, LineFault, Performed, PerformsSensed, Turned, turned, Senses, CraneProgress, CraneReading, RunRecord, Fine, Sensor}
-use Rattle.cell_plant.proofs.Names.{Turn, status_of, CellScales, steps_of, SideOf, CellState, cell_at_start, IsRecordOf, is_turn_of, counts_in, events_in, Step, TakesTurn, IsRun, end_of, IsSafeState, IsSafeRun, opening, at_first, schedule, steps, turn_of, asks, IsOfLiteralRun, IsOfOneStop, counts_of, IsOfLegalHistory, RecordExamples, IsOfNoTurn, IsUnread, Tells, counts_by, open_too_early}
+use Rattle.cell_plant.proofs.Names.{Turn, in_order, statuses_in, CellScales, steps_of, SideOf, CellState, cell_at_start, IsRecordOf, is_turn_of, counts_in, events_in, Step, TakesTurn, IsRun, end_of, IsSafeState, IsSafeRun, opening, at_first, schedule, steps, turn_of, asks, IsOfLiteralRun, IsOfOneStop, counts_of, IsOfLegalHistory, RecordExamples, IsOfNoTurn, IsUnread, Tells, counts_by, open_too_early}
 use Rattle.cell_control.specs.declared.fault.CtlFault.TheVariants.{Sensor as BySensor}
 use Rattle.cell_plant.proofs.Deciding.{so, not_so, same_number}
 use Rattle.cell_plant.proofs.ExampleTurns.{one_stop, literal_run, one_stop_run}
@@ -55,7 +55,7 @@ module _ (r : RunRecord) (c : CellScales) where
   goes_fine : {busy : Bool} (n : Machine) (s : Step) → same_machine Crane n ≡ false → TakesTurn c Crane busy at_first s → (s.moved.side n).stopped ≡ (at_first.side n).stopped
   goes_fine n s apart k = ap (λ (x : SideOf n). x.stopped) (k.others_moved n apart ∙ k.others_set n apart)
 
-  blind : (ss : List Step) → IsUnread c → IsRun c at_first (turn_of Crane ∷ []) ss → map (λ m. status_of ((end_of at_first ss).side m).stopped) all_machines ≡ Fine ∷ Fine ∷ Fine ∷ Fine ∷ Fine ∷ Sensor ∷ Fine ∷ []
+  blind : (ss : List Step) → IsUnread c → IsRun c at_first (turn_of Crane ∷ []) ss → in_order (statuses_in (end_of at_first ss)) ≡ Fine ∷ Fine ∷ Fine ∷ Fine ∷ Fine ∷ Sensor ∷ Fine ∷ []
   blind [] unread run = absurd run
   blind (s ∷ x ∷ ss) unread run = absurd run.1.1
   blind (s ∷ []) unread run =

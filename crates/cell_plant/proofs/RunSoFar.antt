@@ -1,8 +1,7 @@
 -- The progress of a simulation: the run so far, and what was noted of it.
 use Rattle.cell_plant.proofs.Names.{◌≡◌, ℕ, ◌<◌, ◌≤◌, Bool, true, false, ◌&&◌, cond, List, [], ◌∷◌, ◌++◌, append-nil, length, take, map, count_by, Some, None, Result, Ok, Err, refl, sym, ap, ◌∙◌, subst, if◌then◌else◌, arith, length-take-le, count_by-le-length, Machine, Feed, Table, Robot, Press, Deposit, Crane, Watch, Call, Answer, Event, Entry, Reply, Settled, Busy, all_machines, same_machine, ModelState, noted, entry_of, after, IsLegal}
-use Rattle.cell_plant.proofs.Names.{IsStartState, LineFault, after-append, noted-append, legal-append, turn_either, TurnCall, is_done_reply, is_read_reply, is_refused_reply, is_busy_reply, settled_in, Notes, no_notes, HasRoom, counts_with, notes_with, at_machine, Counts, RunRecord, Turn, entries_in, Answers, CellScales, CellGauges, steps_by, CellState, plant_of, cell_at_start, Step, TakesTurnBy, LeadsIfBy, LeadsBy, goes_on, IsRunBy, end_of}
-use Rattle.cell_plant.proofs.Names.{is_turn_of, is_told, counts_in, events_in, positions_in, TellsRun, RunMoment, StepsOn, Keeps, first_moment, state_at}
-use Rattle.cell_unit.specs.Names.{status_of}
+use Rattle.cell_plant.proofs.Names.{IsStartState, LineFault, after-append, noted-append, legal-append, turn_either, TurnCall, is_done_reply, is_read_reply, is_refused_reply, is_busy_reply, settled_in, Notes, no_notes, HasRoom, counts_with, notes_with, at_machine, in_order, Counts, RunRecord, Turn, entries_in, Answers, CellScales, CellGauges, steps_by, CellState, plant_of, cell_at_start, Step, TakesTurnBy, LeadsIfBy, LeadsBy, goes_on, IsRunBy, end_of}
+use Rattle.cell_plant.proofs.Names.{is_turn_of, is_told, counts_in, events_in, positions_in, TellsRun, RunMoment, StepsOn, Keeps, first_moment, state_at, statuses_in}
 use Rattle.cell_parts.specs.Axes.{AreCellScales}
 use Rattle.cell_plant.proofs.Gauged.{run_near}
 use Rattle.cell_plant.proofs.KeptRuns.{own_program_by}
@@ -183,7 +182,7 @@ tells gives turns m r scales start g k =
       told = record {
         start = k.start;
         counts = k.counts ∙ by_machine (λ n. (at_machine m.notes n).counts) (counts_in g.steps) g.counts;
-        status = k.status ∙ ap (λ (w : CellState). map (λ n. status_of (w.side n).stopped) all_machines) g.is_end;
+        status = k.status ∙ ap (λ w. in_order (statuses_in w)) g.is_end;
         journals = λ n. k.journals n ∙ g.journals n ∙ ap (λ x. noted m.opening x n) g.history;
         end = k.end ∙ ap (λ (w : CellState). Some w.interlock) g.is_end;
         axes = k.axes ∙ ap (λ (w : CellState). positions_in (plant_of w)) g.is_end;

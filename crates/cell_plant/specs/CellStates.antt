@@ -6,6 +6,9 @@ use Rattle.cell_haul.specs.Names.{crane_start, deposit_start, feed_start}
 use Rattle.cell_haul.specs.declared.crane.CraneProgress.{CraneProgress}
 use Rattle.cell_haul.specs.declared.deposit.DepositProgress.{DepositProgress}
 use Rattle.cell_haul.specs.declared.feed.FeedProgress.{FeedProgress}
+use Rattle.cell_notes.specs.Names.{values_of}
+use Rattle.cell_notes.specs.declared.by_machine.ByMachine.{ByMachine}
+use Rattle.cell_notes.specs.declared.status.Status.{Status}
 use Rattle.cell_robot.specs.Names.{robot_start}
 use Rattle.cell_robot.specs.declared.robot.RobotProgress.{RobotProgress}
 use Rattle.cell_stations.specs.Names.{press_start, table_start}
@@ -20,6 +23,7 @@ use Rattle.cell_parts.specs.declared.plant.RobotPlant.{RobotPlant}
 use Rattle.cell_parts.specs.declared.plant.CranePlant.{CranePlant}
 use Rattle.cell_parts.specs.declared.plant.PlantState.{PlantState}
 use Rattle.cell_unit.specs.Sides.{Side, side_of}
+use Rattle.cell_unit.specs.Statuses.{status_of}
 use Rattle.cell_plant.specs.declared.watch.WatchProgress.{WatchProgress}
 use Rattle.cell_plant.specs.Machines.{ProgressOf, PartOf}
 use Rattle.cell_plant.specs.Watch.{watch_at_start}
@@ -42,6 +46,10 @@ plant_of w =
       deposit = (w.side Deposit).part;
       crane = (w.side Crane).part;
     }
+
+-- each machine's status
+abbrev pub statuses_in : CellState → ByMachine Status
+statuses_in w = values_of (λ m. status_of (w.side m).stopped)
 
 -- what is known of the machines, and the side of each
 pub record Sides : Type 0 where

@@ -10,6 +10,7 @@ use Rattle.cell_haul.specs.declared.crane.CraneStep.TheVariants as crane
 use Rattle.cell_robot.specs.declared.robot.RobotStep.TheVariants as robot
 use Rattle.cell_stations.specs.declared.press.PressStep.TheVariants as press
 use Rattle.cell_stations.specs.declared.table.TableStep.TheVariants as table
+use Rattle.cell_notes.specs.Names.{each_machine, with_machine}
 use Rattle.cell_notes.specs.declared.schedule.Turn.{Turn}
 use Rattle.cell_notes.specs.declared.status.Status.TheVariants.{Fine, Worn, Sensor, Memory}
 use Rattle.cell_notes.specs.declared.status.Status.TheVariants.{Refused as WasRefused}
@@ -19,7 +20,7 @@ use Rattle.cell_plant.specs.declared.frame.Frame.{Frame}
 use Rattle.cell_plant.specs.declared.frame.MachineSteps.{MachineSteps}
 use Rattle.cell_plant.specs.Frames.{IsShown, frame_of, frames_of}
 use Rattle.cell_plant.specs.Runs.{Step}
-use Rattle.cell_plant.specs.RecordExamples.{axes_apart, last_apart, status_by}
+use Rattle.cell_plant.specs.RecordExamples.{axes_apart, last_apart}
 use Rattle.cell_plant.specs.RunExamples.{opening, entered, stopped, schedule, steps, turn_of, busy_turn_of}
 use Rattle.cell_plant.specs.RunExamples.{claims_entry, press_falls}
 
@@ -46,7 +47,7 @@ starts =
       turn = None;
       asked = None;
       steps = first_steps;
-      status = status_by Fine Fine;
+      status = each_machine Fine;
       state = opening;
       plant = cell_with_plate_at FeedEnd;
     }
@@ -70,7 +71,7 @@ abbrev pub found_no_room : Frame
 found_no_room = record has_claimed {
   turn = Some (turn_of Press);
   asked = Some (Claim Z3, Err NoRoom);
-  status = status_by Fine Memory;
+  status = with_machine (each_machine Fine) Press Memory;
 }
 
 -- the press has stopped, so that its turn isn't taken; the watch stops the cell
@@ -146,7 +147,14 @@ pub record FrameExamples : Type 0 where
   pub falls : (frame_of None None (press_falls (driven_at 980 Minus))).plant ≡ with_press (driven_at 980 Minus)
   pub apart : (frame_of None None last_apart).plant ≡ shown_apart
   pub axes_are_apart : ¬ ((frame_of None None last_apart).plant ≡ axes_swapped shown_apart)
-  pub status_apart : (frame_of None None last_apart).status ≡ Fine ∷ Worn ∷ Sensor ∷ WasRefused ∷ Fine ∷ Memory ∷ Worn
-      ∷ []
+  pub status_apart : (frame_of None None last_apart).status ≡ record {
+    feed = Fine;
+    table = Worn;
+    robot = Sensor;
+    press = WasRefused;
+    deposit = Fine;
+    crane = Memory;
+    watch = Worn;
+  }
   pub wrong : WrongFilms
   pub shown : ShownExamples

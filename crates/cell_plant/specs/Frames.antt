@@ -1,11 +1,10 @@
 -- What a watcher is shown of a run: its start, and then the cell after each turn.
-use Rattle.std.specs.Prelude.{◌≡◌, ◌≢◌, ⊤, List, [], ◌∷◌, ◌++◌, map, All, Option, Some, None, Result, Ok, Err}
-use Rattle.cell_rules.specs.Types.{Feed, Table, Robot, Press, Deposit, Crane, all_machines}
+use Rattle.std.specs.Prelude.{◌≡◌, ◌≢◌, ⊤, List, [], ◌∷◌, ◌++◌, All, Option, Some, None, Result, Ok, Err}
+use Rattle.cell_rules.specs.Types.{Feed, Table, Robot, Press, Deposit, Crane}
 use Rattle.cell_rules.specs.Names.{ModelState, IsStartState}
 use Rattle.cell_notes.specs.Names.{TurnCall}
 use Rattle.cell_notes.specs.declared.run_record.RunRecord.{RunRecord}
 use Rattle.cell_notes.specs.declared.schedule.Turn.{Turn}
-use Rattle.cell_unit.specs.Statuses.{status_of}
 use Rattle.cell_parts.specs.Names.{CellScales, AreCellScales, NothingCollides, StaysWithin, PositionDemands}
 use Rattle.cell_parts.specs.Names.{MotorDemands}
 use Rattle.cell_plant.specs.declared.frame.Frame.{Frame}
@@ -13,7 +12,7 @@ use Rattle.cell_plant.specs.declared.frame.MachineSteps.{MachineSteps}
 use Rattle.cell_plant.specs.declared.watcher.SeenFault.{SeenFault}
 use Rattle.cell_plant.specs.declared.watcher.SeenFault.TheVariants.{Memory, Watcher}
 use Rattle.cell_plant.specs.Cells.{TellsRun}
-use Rattle.cell_plant.specs.CellStates.{CellState, plant_of, cell_at_start}
+use Rattle.cell_plant.specs.CellStates.{CellState, plant_of, statuses_in, cell_at_start}
 use Rattle.cell_plant.specs.Errands.{errand_of}
 use Rattle.cell_plant.specs.Machines.{CellGauges}
 use Rattle.cell_plant.specs.Runs.{Step, IsRun, IsRunBy}
@@ -37,7 +36,7 @@ frame_of turn asked w =
       turn = turn;
       asked = asked;
       steps = steps_in w;
-      status = map (λ m. status_of (w.side m).stopped) all_machines;
+      status = statuses_in w;
       state = w.interlock;
       plant = plant_of w;
     }

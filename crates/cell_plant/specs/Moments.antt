@@ -2,13 +2,13 @@
 use Rattle.std.specs.Prelude.{◌≡◌, ◌&&◌, List, [], ◌++◌, map, Some, if◌then◌else◌}
 use Rattle.cell_rules.specs.Types.{Machine, Event, all_machines, journal_of, same_machine}
 use Rattle.cell_rules.specs.ModelState.{ModelState}
-use Rattle.cell_notes.specs.Names.{TurnCall, settled_in, at_machine, each_machine, Notes, no_notes, notes_with}
+use Rattle.cell_notes.specs.Names.{TurnCall, settled_in, at_machine, each_machine, in_order}
+use Rattle.cell_notes.specs.Names.{Notes, no_notes, notes_with}
 use Rattle.cell_notes.specs.declared.run_record.RunRecord.{RunRecord}
 use Rattle.cell_notes.specs.declared.by_machine.ByMachine.{ByMachine}
 use Rattle.cell_notes.specs.declared.schedule.Turn.{Turn}
-use Rattle.cell_unit.specs.Statuses.{status_of}
 use Rattle.cell_parts.specs.Axes.{CellScales}
-use Rattle.cell_plant.specs.CellStates.{CellState, Sides, side_in, sides_at_start, plant_of}
+use Rattle.cell_plant.specs.CellStates.{CellState, Sides, side_in, sides_at_start, plant_of, statuses_in}
 use Rattle.cell_plant.specs.Records.{positions_in}
 use Rattle.cell_plant.specs.Machines.{CellGauges}
 use Rattle.cell_plant.specs.Runs.{Step, LeadsBy}
@@ -67,7 +67,7 @@ pub record StepsOn {G : Type 0} (gives : G → CellGauges) (t : Turn) (before no
 pub record Keeps {G : Type 0} (m : RunMoment G) (opening : ModelState) (r : RunRecord) : Type 0 where
   pub start : r.start ≡ opening
   pub counts : r.counts ≡ map (λ n. (at_machine m.notes n).counts) all_machines
-  pub status : r.status ≡ map (λ n. status_of (side_in m.sides n).stopped) all_machines
+  pub status : r.status ≡ in_order (statuses_in (state_at m))
   pub journals : (n : Machine) → journal_of r.journals n ≡ (at_machine m.notes n).journal
   pub end : r.end ≡ Some m.interlock
   pub axes : r.axes ≡ positions_in (plant_of (state_at m))

@@ -1,6 +1,6 @@
 -- The names of this crate that other crates' definitions and proofs use, in one place.
 pub use Rattle.cell_plant.specs.CellStates.{CellState, SideOf, Sides, cell_at_start, plant_of, side_in}
-pub use Rattle.cell_plant.specs.CellStates.{sides_at_start}
+pub use Rattle.cell_plant.specs.CellStates.{sides_at_start, statuses_in}
 pub use Rattle.cell_plant.specs.Cells.{TellsRun, cell_gauges, cell_scales, five_gauges, points_of, sides_of}
 pub use Rattle.cell_plant.specs.Errands.{errand_of}
 pub use Rattle.cell_plant.specs.FrameExamples.{has_claimed, starts}

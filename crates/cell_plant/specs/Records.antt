@@ -5,13 +5,12 @@ use Rattle.cell_rules.specs.Types.{Machine, Event, Reply, all_machines, journal_
 use Rattle.cell_rules.specs.Names.{ModelState, noted}
 use Rattle.cell_rules.specs.declared.heard.LineFault.{LineFault}
 use Rattle.cell_notes.specs.Names.{came_back, is_done_reply, is_read_reply, is_refused_reply, is_busy_reply}
-use Rattle.cell_notes.specs.Names.{settled_in}
+use Rattle.cell_notes.specs.Names.{in_order, settled_in}
 use Rattle.cell_notes.specs.declared.counts.Counts.{Counts}
 use Rattle.cell_notes.specs.declared.run_record.RunRecord.{RunRecord}
 use Rattle.cell_notes.specs.declared.status.Status.TheVariants.{Refused}
-use Rattle.cell_unit.specs.Statuses.{status_of}
 use Rattle.cell_parts.specs.declared.plant.PlantState.{PlantState}
-use Rattle.cell_plant.specs.CellStates.{CellState, plant_of}
+use Rattle.cell_plant.specs.CellStates.{CellState, plant_of, statuses_in}
 use Rattle.cell_plant.specs.Runs.{Step}
 
 -- a step was a turn of this machine; and it got back something of this kind
@@ -54,7 +53,7 @@ positions_in p =
 pub record IsRecordOf (opening : ModelState) (steps : List Step) (last : CellState) (r : RunRecord) : Type 0 where
   pub start : r.start ≡ opening
   pub counts : r.counts ≡ map (counts_in steps) all_machines
-  pub status : r.status ≡ map (λ m. status_of (last.side m).stopped) all_machines
+  pub status : r.status ≡ in_order (statuses_in last)
   pub journals : (m : Machine) → journal_of r.journals m ≡ noted opening (events_in steps) m
   pub end : r.end ≡ Some last.interlock
   pub axes : r.axes ≡ positions_in (plant_of last)

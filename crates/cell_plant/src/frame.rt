@@ -1,14 +1,14 @@
 //! What a watcher is shown of a run.
 
 use cell_haul::{CraneStep, DepositStep, FeedStep};
-use cell_notes::{Status, Turn, TurnCall};
+use cell_notes::{ByMachine, Status, Turn, TurnCall};
 use cell_parts::PlantState;
 use cell_robot::RobotStep;
 use cell_rules::State;
 use cell_stations::{PressStep, TableStep};
 
 /// The step of each machine's program. The watch's has only one.
-#[derive(Clone, Copy, Debug, PartialEq, Eq)]
+#[derive(Clone, Copy, PartialEq)]
 pub struct MachineSteps {
     /// The feed belt's.
     pub feed: FeedStep,
@@ -25,7 +25,7 @@ pub struct MachineSteps {
 }
 
 /// The cell after a turn of a run, or at the run's start.
-#[derive(Clone, Copy, Debug, PartialEq, Eq)]
+#[derive(Clone, Copy, PartialEq)]
 pub struct Frame {
     /// The turn that led to it: whose it was, and whether it found the interlock busy. `None` at
     /// the start.
@@ -34,8 +34,8 @@ pub struct Frame {
     pub asked: TurnCall,
     /// The step that each machine is at.
     pub steps: MachineSteps,
-    /// Each machine's status, in the order of `Machine::ALL`.
-    pub status: [Status; 7],
+    /// Each machine's status.
+    pub status: ByMachine<Status>,
     /// The interlock's state.
     pub state: State,
     /// The axes with their motors, the belts with their plates, and the magnets.

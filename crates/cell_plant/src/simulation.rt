@@ -1,14 +1,12 @@
 //! Runs a schedule on a cell over a bench.
 
-ghost use Rattle.std.specs.Prelude.{◌≡◌, [], map, IsOk, IfOk, IfErr};
+ghost use Rattle.std.specs.Prelude.{◌≡◌, [], IsOk, IfOk, IfErr};
 ghost use Rattle.cell_types.specs.declared.machine.Machine.{Machine};
-ghost use Rattle.cell_types.specs.Everything.{all_machines};
 ghost use Rattle.cell_rules.specs.Start.{IsStartState};
-ghost use Rattle.cell_unit.specs.Statuses.{status_of as status_by};
 ghost use Rattle.cell_notes.specs.Notes.{HasRoom};
 ghost use Rattle.cell_parts.specs.Axes.{AreCellScales};
 ghost use Rattle.cell_plant.specs.Cells.{IsMadeFor, TellsRun, cell_gauges, cell_scales, five_gauges};
-ghost use Rattle.cell_plant.specs.CellStates.{side_in, plant_of};
+ghost use Rattle.cell_plant.specs.CellStates.{plant_of, statuses_in};
 ghost use Rattle.cell_plant.specs.Frames.{SeesRun, SeesBeginning, frame_of};
 ghost use Rattle.cell_plant.specs.Moments.{StepsOn, Keeps, first_moment, state_at};
 ghost use Rattle.cell_notes.specs.ByMachine.{at_machine};
@@ -21,7 +19,7 @@ use crate::notebooks::{Notebooks, counts_in, empty_notebooks, journals_of};
 use crate::watch::{WatchUnit, watch_at_start};
 use crate::watcher::{NoWatcher, SeenFault, Watcher};
 use cell_calib::Gauge;
-use cell_notes::{RunRecord, Status, Turn, TurnCall};
+use cell_notes::{ByMachine, RunRecord, Status, Turn, TurnCall};
 use cell_parts::PlantState;
 use cell_rules::{Bench, State};
 use cell_types::Machine;
@@ -264,7 +262,7 @@ impl<F1: Gauge, F2: Gauge, F3: Gauge, F4: Gauge, F5: Gauge> Simulation<F1, F2, F
     fn take_record(&mut self, alloc: Global, start: State) -> RunRecord
         ensures { Keeps self.old start result }
     {
-        let status = self.status();
+        let status = self.status().in_order();
         let axes = axes_of(&self.plant());
         let counts = counts_in(&self.notebooks);
         let notebooks = mem::replace(&mut self.notebooks, empty_notebooks(alloc));
@@ -278,19 +276,19 @@ impl<F1: Gauge, F2: Gauge, F3: Gauge, F4: Gauge, F5: Gauge> Simulation<F1, F2, F
         }
     }
 
-    // The status of each machine, in the order of `Machine::ALL`.
-    fn status(&self) -> [Status; 7]
-        ensures { result ≡ map (λ m. status_by (side_in self.now.sides m).stopped) all_machines }
+    // The status of each machine.
+    fn status(&self) -> ByMachine<Status>
+        ensures { result ≡ statuses_in (state_at self.now) }
     {
-        [
-            self.cell.feed.status(),
-            self.cell.table.status(),
-            self.cell.robot.status(),
-            self.cell.press.status(),
-            self.cell.deposit.status(),
-            self.cell.crane.status(),
-            self.watch.status(),
-        ]
+        ByMachine {
+            feed: self.cell.feed.status(),
+            table: self.cell.table.status(),
+            robot: self.cell.robot.status(),
+            press: self.cell.press.status(),
+            deposit: self.cell.deposit.status(),
+            crane: self.cell.crane.status(),
+            watch: self.watch.status(),
+        }
     }
 }
 
