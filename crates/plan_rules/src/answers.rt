@@ -63,7 +63,7 @@ impl State {
         self.with_zone(zone, ZoneState { owner, ..at })
     }
 
-    fn posed(&self, plan: &Plan, pose: u8, zone: u8) -> ZoneState
+    fn zone_after_pose(&self, plan: &Plan, pose: u8, zone: u8) -> ZoneState
         ensures { result ≡ replies.posed plan.now self.now pose zone }
     {
         let at = self.zone(zone);
@@ -71,20 +71,20 @@ impl State {
         ZoneState { posture, ..at }
     }
 
-    fn all_posed(&self, plan: &Plan, pose: u8) -> [ZoneState; MAX_ZONES]
+    fn zones_after_pose(&self, plan: &Plan, pose: u8) -> [ZoneState; MAX_ZONES]
         ensures { result ≡ replies.all_posed plan.now self.now pose }
     {
         [
-            self.posed(plan, pose, 0),
-            self.posed(plan, pose, 1),
-            self.posed(plan, pose, 2),
-            self.posed(plan, pose, 3),
-            self.posed(plan, pose, 4),
-            self.posed(plan, pose, 5),
-            self.posed(plan, pose, 6),
-            self.posed(plan, pose, 7),
-            self.posed(plan, pose, 8),
-            self.posed(plan, pose, 9),
+            self.zone_after_pose(plan, pose, 0),
+            self.zone_after_pose(plan, pose, 1),
+            self.zone_after_pose(plan, pose, 2),
+            self.zone_after_pose(plan, pose, 3),
+            self.zone_after_pose(plan, pose, 4),
+            self.zone_after_pose(plan, pose, 5),
+            self.zone_after_pose(plan, pose, 6),
+            self.zone_after_pose(plan, pose, 7),
+            self.zone_after_pose(plan, pose, 8),
+            self.zone_after_pose(plan, pose, 9),
         ]
     }
 
@@ -109,12 +109,12 @@ impl State {
                 self.with_zone(zone, ZoneState { flag: false, ..at })
             }
             Call::Release(zone) => self.with_owner(zone, None),
-            Call::SetPose(pose) => self.all_posed(plan, pose),
+            Call::SetPose(pose) => self.zones_after_pose(plan, pose),
             Call::Inquire(_) | Call::Stop | Call::Resume => self.zones,
         }
     }
 
-    fn emptied(&self, way: Option<Transfer>) -> [bool; MAX_PLACES]
+    fn places_after_give(&self, way: Option<Transfer>) -> [bool; MAX_PLACES]
         ensures { result ≡ replies.emptied self.now.full way }
     {
         match way {
@@ -123,7 +123,7 @@ impl State {
         }
     }
 
-    fn filled(&self, way: Option<Transfer>) -> [bool; MAX_PLACES]
+    fn places_after_take(&self, way: Option<Transfer>) -> [bool; MAX_PLACES]
         ensures { result ≡ replies.filled self.now.full way }
     {
         match way {
@@ -136,8 +136,11 @@ impl State {
         ensures { result ≡ replies.places_after plan.now self.now machine call }
     {
         match call {
-            Call::Give(zone) => self.emptied(self.transfer_given(plan, machine, zone)),
-            Call::Take(zone) => self.filled(plan.transfer(zone, self.zone(zone).posture)),
+            Call::Give(zone) => self.places_after_give(self.transfer_given(plan, machine, zone)),
+            Call::Take(zone) => self.places_after_take(plan.transfer(
+                zone,
+                self.zone(zone).posture,
+            )),
             _ => self.full,
         }
     }
@@ -164,7 +167,8 @@ impl State {
         }
     }
 
-    fn accepted(&self, call: Call) -> Answer
+    /// What a call is answered if nothing refuses it.
+    fn answer_if_accepted(&self, call: Call) -> Answer
         ensures { result ≡ replies.accepted self.now call }
     {
         match call {
@@ -187,7 +191,7 @@ pub fn answer(plan: &Plan, state: &State, machine: u8, call: Call) -> Answer
 {
     match state.refusal(plan, machine, call) {
         Some(refusal) => Answer::Refused(refusal),
-        None => state.accepted(call),
+        None => state.answer_if_accepted(call),
     }
 }
 

@@ -28,7 +28,7 @@ fn not_watch(machine: u8) -> Option<Refusal>
     (machine != WATCH).then_some(Refusal::NotParty)
 }
 
-fn held_by(owner: Option<u8>, machine: u8) -> Option<Refusal>
+fn held_refusal(owner: Option<u8>, machine: u8) -> Option<Refusal>
     ensures { result ≡ refusals.held_by owner machine }
 {
     match owner {
@@ -71,12 +71,6 @@ impl State {
         self.owns(machine, zone).then_some(Refusal::AlreadyMine)
     }
 
-    fn held(&self, machine: u8, zone: u8) -> Option<Refusal>
-        ensures { result ≡ refusals.held self.now machine zone }
-    {
-        held_by(self.zone(zone).owner, machine)
-    }
-
     fn shut_to_guest(&self, plan: &Plan, machine: u8, zone: u8) -> Option<Refusal>
         ensures { result ≡ refusals.shut_to_guest plan.now self.now machine zone }
     {
@@ -85,7 +79,7 @@ impl State {
         bars.then_some(Refusal::Shut(posture))
     }
 
-    fn worn(&self) -> Option<Refusal>
+    fn worn_refusal(&self) -> Option<Refusal>
         ensures { result ≡ refusals.worn self.now }
     {
         (!(self.stamp < LAST_STAMP)).then_some(Refusal::Worn)
@@ -129,7 +123,7 @@ impl State {
         moves.then_some(Refusal::Shut(Posture::Moving))
     }
 
-    fn shut(&self, zone: u8) -> Option<Refusal>
+    fn shut_refusal(&self, zone: u8) -> Option<Refusal>
         ensures { result ≡ refusals.shut self.now zone }
     {
         let posture = self.zone(zone).posture;
@@ -159,8 +153,9 @@ impl State {
         at.flag && leads_to(plan.transfer(zone, at.posture), place)
     }
 
+    /// How many plates are on their way to a place.
     #[tactic(auto, using(crate::proofs::Below::sum_below_more))]
-    fn coming(&self, plan: &Plan, place: u8) -> u8
+    fn plates_coming(&self, plan: &Plan, place: u8) -> u8
         ensures { result ≡ states.coming plan.now self.now place }
     {
         let mut coming = 0;
@@ -174,7 +169,7 @@ impl State {
     fn is_taken(&self, plan: &Plan, place: u8) -> bool
         ensures { result ≡ refusals.is_taken plan.now self.now place }
     {
-        self.is_full(place) || 0 < self.coming(plan, place)
+        self.is_full(place) || 0 < self.plates_coming(plan, place)
     }
 
     fn is_onto_taken(&self, plan: &Plan, way: Option<Transfer>) -> bool
@@ -195,12 +190,13 @@ impl State {
     pub(crate) fn claim_refusal(&self, plan: &Plan, machine: u8, zone: u8) -> Option<Refusal>
         ensures { result ≡ refusals.claim_refusal plan.now self.now machine zone }
     {
+        let owner = self.zone(zone).owner;
         not_party(plan, machine, zone)
             .or(self.while_stopped())
             .or(self.already_mine(machine, zone))
-            .or(self.held(machine, zone))
+            .or(held_refusal(owner, machine))
             .or(self.shut_to_guest(plan, machine, zone))
-            .or(self.worn())
+            .or(self.worn_refusal())
     }
 
     pub(crate) fn give_refusal(&self, plan: &Plan, machine: u8, zone: u8) -> Option<Refusal>
@@ -214,7 +210,7 @@ impl State {
             .or(wrong_way(way))
             .or(self.nothing_to_give(way))
             .or(self.no_room(plan, way))
-            .or(self.worn())
+            .or(self.worn_refusal())
     }
 
     pub(crate) fn yield_refusal(&self, plan: &Plan, machine: u8, zone: u8) -> Option<Refusal>
@@ -223,8 +219,8 @@ impl State {
         not_party(plan, machine, zone)
             .or(self.not_owner(machine, zone))
             .or(self.plate_in_zone(zone))
-            .or(self.shut(zone))
-            .or(self.worn())
+            .or(self.shut_refusal(zone))
+            .or(self.worn_refusal())
     }
 
     pub(crate) fn take_refusal(&self, plan: &Plan, machine: u8, zone: u8) -> Option<Refusal>
@@ -233,7 +229,7 @@ impl State {
         not_party(plan, machine, zone)
             .or(self.not_owner(machine, zone))
             .or(self.no_plate_in_zone(zone))
-            .or(self.worn())
+            .or(self.worn_refusal())
     }
 
     pub(crate) fn release_refusal(&self, plan: &Plan, machine: u8, zone: u8) -> Option<Refusal>
@@ -243,19 +239,23 @@ impl State {
             .or(self.not_owner(machine, zone))
             .or(self.plate_in_zone(zone))
             .or(self.shut_while_moving(zone))
-            .or(self.worn())
+            .or(self.worn_refusal())
     }
 
     pub(crate) fn stop_refusal(&self, machine: u8) -> Option<Refusal>
         ensures { result ≡ refusals.stop_refusal self.now machine }
     {
-        not_watch(machine).or(self.while_stopped()).or(self.worn())
+        not_watch(machine)
+            .or(self.while_stopped())
+            .or(self.worn_refusal())
     }
 
     pub(crate) fn resume_refusal(&self, machine: u8) -> Option<Refusal>
         ensures { result ≡ refusals.resume_refusal self.now machine }
     {
-        not_watch(machine).or(self.not_stopped()).or(self.worn())
+        not_watch(machine)
+            .or(self.not_stopped())
+            .or(self.worn_refusal())
     }
 
     fn posture_with(&self, plan: &Plan, pose: u8, zone: u8) -> Posture
@@ -378,6 +378,6 @@ impl State {
             .or(self.any_plate_under_pose(plan, machine, pose))
             .or(self.jump(plan, machine, pose))
             .or(self.any_opens_onto_plate(plan, pose))
-            .or(self.worn())
+            .or(self.worn_refusal())
     }
 }
