@@ -9,7 +9,7 @@ use plan_types::{Answer as PlanAnswer, Plan};
 const STEPS: u32 = 20_000;
 
 /// The next number of a linear congruential generator.
-fn drawn(seed: u64) -> u64 {
+fn next_number(seed: u64) -> u64 {
     seed.wrapping_mul(6_364_136_223_846_793_005)
         .wrapping_add(1_442_695_040_888_963_407)
 }
@@ -43,7 +43,7 @@ fn walk(plan: &Plan, mut seed: u64) -> Option<(u32, u32)> {
     let mut state = State::start(places, 0).ok()?;
     let (mut done, mut more) = (0_u32, 0_u32);
     for _ in 0..STEPS {
-        seed = drawn(seed);
+        seed = next_number(seed);
         let (machine, call) = call_of(seed >> 33);
         let mut mapped = plan_state(&state);
         let answer = apply(&mut state, machine, call);

@@ -7,7 +7,7 @@ use plan_word::{Layout, pack, stamp_of, step_word, unpack};
 const STEPS: u32 = 2_000;
 
 /// The next number of a linear congruential generator.
-fn drawn(seed: u64) -> u64 {
+fn next_number(seed: u64) -> u64 {
     seed.wrapping_mul(6_364_136_223_846_793_005)
         .wrapping_add(1_442_695_040_888_963_407)
 }
@@ -41,7 +41,7 @@ fn walk(plan: &Plan, full: [bool; 16], mut seed: u64) -> Option<u32> {
     let mut state = State::start(full, 0);
     let mut word = pack(plan, &layout, &state);
     for _ in 0..STEPS {
-        seed = drawn(seed);
+        seed = next_number(seed);
         let number = seed >> 33;
         let (machine, call) = (machine_of(number), call_of(number));
         let answer = apply(plan, &mut state, machine, call);
