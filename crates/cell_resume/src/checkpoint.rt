@@ -10,7 +10,10 @@ use cell_rules::State;
 use cell_rules::laws::states_are_sound;
 use cell_word::pack;
 
-/// What a cell hands out after a turn. It takes 14 bytes to store.
+/// A checkpoint as it is stored: the bytes of the word, the lowest first, and the six numbers.
+pub type CheckpointBytes = [u8; 14];
+
+/// What a cell hands out after a turn.
 #[derive(Clone, Copy, Debug, PartialEq, Eq)]
 pub struct Checkpoint {
     /// The word of the interlock's state.
@@ -46,8 +49,8 @@ impl Checkpoint {
         }
     }
 
-    /// The bytes to store: those of the word, the lowest first, and the six numbers.
-    pub fn to_bytes(&self) -> [u8; 14]
+    /// The bytes to store.
+    pub fn to_bytes(&self) -> CheckpointBytes
         ensures { checkpoint_in result ≡ self.now }
     {
         let [b0, b1, b2, b3, b4, b5, b6, b7] = self.word.to_le_bytes();
@@ -70,7 +73,7 @@ impl Checkpoint {
     }
 
     /// The checkpoint that was stored as these bytes.
-    pub fn from_bytes(bytes: [u8; 14]) -> Checkpoint
+    pub fn from_bytes(bytes: CheckpointBytes) -> Checkpoint
         ensures { result ≡ checkpoint_in bytes }
     {
         let [

@@ -102,12 +102,12 @@ fn deposit(step: CraneStep) -> Keep
         | CraneStep::LowerToFeed
         | CraneStep::DropPlate
         | CraneStep::RaiseFromFeed
-        | CraneStep::GivePlate => Share::Any.unposed(),
+        | CraneStep::GivePlate => Share::Any.in_any_posture(),
         CraneStep::LowerToPlate
         | CraneStep::GripPlate
         | CraneStep::RaiseWithPlate
-        | CraneStep::TakePlate => Share::Loaded.posed(Posture::OpenOut),
-        CraneStep::ReleaseDeposit => Share::Clear.posed(Posture::OpenOut),
+        | CraneStep::TakePlate => Share::Loaded.in_posture(Posture::OpenOut),
+        CraneStep::ReleaseDeposit => Share::Clear.in_posture(Posture::OpenOut),
     }
 }
 
@@ -125,11 +125,11 @@ fn feed(step: CraneStep) -> Keep
         | CraneStep::TakePlate
         | CraneStep::ReleaseDeposit
         | CraneStep::TravelToFeed
-        | CraneStep::ClaimFeed => Share::Lent.unposed(),
+        | CraneStep::ClaimFeed => Share::Lent.in_any_posture(),
         CraneStep::LowerToFeed
         | CraneStep::DropPlate
         | CraneStep::RaiseFromFeed
-        | CraneStep::GivePlate => Share::Held.posed(Posture::OpenIn),
+        | CraneStep::GivePlate => Share::Held.in_posture(Posture::OpenIn),
     }
 }
 

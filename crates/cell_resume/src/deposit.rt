@@ -92,17 +92,17 @@ fn entry(step: DepositStep) -> Keep
     ensures { result ≡ keeps.entry step }
 {
     match step {
-        DepositStep::ClaimEntry => Share::Lent.posed(Posture::Closed),
+        DepositStep::ClaimEntry => Share::Lent.in_posture(Posture::Closed),
         DepositStep::ClaimExit
         | DepositStep::PoseLanding
         | DepositStep::StartRun
-        | DepositStep::PoseOffering => Share::Clear.unposed(),
-        DepositStep::ReleaseEntry => Share::Clear.posed(Posture::OpenIn),
-        DepositStep::TakePlate => Share::Lent.posed(Posture::OpenIn),
-        DepositStep::RunIn | DepositStep::RunOut | DepositStep::MoveOn => Share::Clear.posed(
+        | DepositStep::PoseOffering => Share::Clear.in_any_posture(),
+        DepositStep::ReleaseEntry => Share::Clear.in_posture(Posture::OpenIn),
+        DepositStep::TakePlate => Share::Lent.in_posture(Posture::OpenIn),
+        DepositStep::RunIn | DepositStep::RunOut | DepositStep::MoveOn => Share::Clear.in_posture(
             Posture::Moving,
         ),
-        DepositStep::GivePlate | DepositStep::ClaimBack => Share::Clear.posed(Posture::Closed),
+        DepositStep::GivePlate | DepositStep::ClaimBack => Share::Clear.in_posture(Posture::Closed),
     }
 }
 
@@ -111,15 +111,17 @@ fn exit(step: DepositStep) -> Keep
     ensures { result ≡ keeps.exit step }
 {
     match step {
-        DepositStep::ClaimEntry | DepositStep::ClaimExit => Share::Lent.posed(Posture::Closed),
+        DepositStep::ClaimEntry | DepositStep::ClaimExit => Share::Lent.in_posture(Posture::Closed),
         DepositStep::PoseLanding | DepositStep::StartRun | DepositStep::PoseOffering =>
-            Share::Clear.unposed(),
-        DepositStep::ReleaseEntry | DepositStep::TakePlate => Share::Clear.posed(Posture::Closed),
-        DepositStep::RunIn | DepositStep::RunOut | DepositStep::MoveOn => Share::Clear.posed(
+            Share::Clear.in_any_posture(),
+        DepositStep::ReleaseEntry | DepositStep::TakePlate => Share::Clear.in_posture(
+            Posture::Closed,
+        ),
+        DepositStep::RunIn | DepositStep::RunOut | DepositStep::MoveOn => Share::Clear.in_posture(
             Posture::Moving,
         ),
-        DepositStep::GivePlate => Share::Clear.posed(Posture::OpenOut),
-        DepositStep::ClaimBack => Share::Lent.posed(Posture::OpenOut),
+        DepositStep::GivePlate => Share::Clear.in_posture(Posture::OpenOut),
+        DepositStep::ClaimBack => Share::Lent.in_posture(Posture::OpenOut),
     }
 }
 

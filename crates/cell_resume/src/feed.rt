@@ -92,14 +92,14 @@ fn entry(step: FeedStep) -> Keep
     ensures { result ≡ keeps.entry step }
 {
     match step {
-        FeedStep::ClaimEntry => Share::Lent.posed(Posture::Closed),
+        FeedStep::ClaimEntry => Share::Lent.in_posture(Posture::Closed),
         FeedStep::PoseLanding | FeedStep::StartIn | FeedStep::ClaimExit | FeedStep::StartOut =>
-            Share::Clear.unposed(),
-        FeedStep::ReleaseEntry => Share::Clear.posed(Posture::OpenIn),
-        FeedStep::TakePlate => Share::Lent.posed(Posture::OpenIn),
+            Share::Clear.in_any_posture(),
+        FeedStep::ReleaseEntry => Share::Clear.in_posture(Posture::OpenIn),
+        FeedStep::TakePlate => Share::Lent.in_posture(Posture::OpenIn),
         FeedStep::RunIn | FeedStep::MoveOn | FeedStep::RunOut | FeedStep::Halt =>
-            Share::Clear.posed(Posture::Moving),
-        FeedStep::GivePlate => Share::Clear.posed(Posture::Closed),
+            Share::Clear.in_posture(Posture::Moving),
+        FeedStep::GivePlate => Share::Clear.in_posture(Posture::Closed),
     }
 }
 
@@ -115,9 +115,9 @@ fn exit(step: FeedStep) -> Keep
         | FeedStep::StartIn
         | FeedStep::RunIn
         | FeedStep::MoveOn
-        | FeedStep::ClaimExit => Share::Lent.unposed(),
+        | FeedStep::ClaimExit => Share::Lent.in_any_posture(),
         FeedStep::StartOut | FeedStep::RunOut | FeedStep::Halt | FeedStep::GivePlate =>
-            Share::Held.posed(Posture::OpenIn),
+            Share::Held.in_posture(Posture::OpenIn),
     }
 }
 

@@ -34,7 +34,7 @@ pub struct Keep {
 impl Share {
     /// The share of a zone in this posture.
     #[inline(always)]
-    pub(crate) fn posed(self, posture: Posture) -> Keep
+    pub(crate) fn in_posture(self, posture: Posture) -> Keep
         ensures { result ≡ keeping.posed self posture }
     {
         Keep {
@@ -45,7 +45,7 @@ impl Share {
 
     /// The share of a zone in any posture.
     #[inline(always)]
-    pub(crate) fn unposed(self) -> Keep
+    pub(crate) fn in_any_posture(self) -> Keep
         ensures { result ≡ keeping.unposed self }
     {
         Keep {

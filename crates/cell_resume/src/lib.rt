@@ -17,7 +17,7 @@ pub mod robot;
 pub mod table;
 pub mod team;
 
-pub use checkpoint::Checkpoint;
+pub use checkpoint::{Checkpoint, CheckpointBytes};
 pub use fault::ResumeFault;
 pub use keep::{Keep, Share};
 pub use resumable::{Resumable, Resumed};

@@ -118,20 +118,20 @@ fn interior(step: PressStep) -> Keep
     ensures { result ≡ keeps.interior step }
 {
     match step {
-        PressStep::ClaimFirst => Share::Lent.posed(Posture::Closed),
+        PressStep::ClaimFirst => Share::Lent.in_posture(Posture::Closed),
         PressStep::LeaveForMiddle | PressStep::LeaveForTop | PressStep::LeaveForBottom =>
-            Share::Clear.unposed(),
+            Share::Clear.in_any_posture(),
         PressStep::MoveToMiddle
         | PressStep::PoseMiddle
         | PressStep::MoveToTop
         | PressStep::PoseTop
         | PressStep::MoveToBottom
-        | PressStep::PoseLow => Share::Clear.posed(Posture::Moving),
-        PressStep::ReleaseInterior => Share::Clear.posed(Posture::OpenIn),
-        PressStep::TakePlate => Share::Lent.posed(Posture::OpenIn),
-        PressStep::Forge => Share::Clear.posed(Posture::Closed),
-        PressStep::GivePlate => Share::Clear.posed(Posture::OpenOut),
-        PressStep::ClaimBack => Share::Lent.posed(Posture::OpenOut),
+        | PressStep::PoseLow => Share::Clear.in_posture(Posture::Moving),
+        PressStep::ReleaseInterior => Share::Clear.in_posture(Posture::OpenIn),
+        PressStep::TakePlate => Share::Lent.in_posture(Posture::OpenIn),
+        PressStep::Forge => Share::Clear.in_posture(Posture::Closed),
+        PressStep::GivePlate => Share::Clear.in_posture(Posture::OpenOut),
+        PressStep::ClaimBack => Share::Lent.in_posture(Posture::OpenOut),
     }
 }
 

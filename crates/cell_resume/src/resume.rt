@@ -10,7 +10,7 @@ ghost use Rattle.cell_resume.specs.declared.fault.ResumeFault.TheVariants.{NoSta
 ghost use Rattle.cell_resume.specs.Teams.{stood};
 ghost use Rattle.cell_resume.specs.Checkpoints.{IsCheckpointOf, IsWrong, checkpoint_in};
 
-use crate::checkpoint::Checkpoint;
+use crate::checkpoint::{Checkpoint, CheckpointBytes};
 use crate::fault::ResumeFault;
 use crate::resuming::ResumedCell;
 
@@ -20,7 +20,7 @@ use crate::resuming::ResumedCell;
 /// Bytes that were handed out by machines in step with their state are always taken back, and mean
 /// that state and these steps. `NoState`, `NoStep` and `NotInStep` say what is wrong with others,
 /// and with which machine.
-pub fn resume_at(bytes: [u8; 14]) -> Result<ResumedCell, ResumeFault>
+pub fn resume_at(bytes: CheckpointBytes) -> Result<ResumedCell, ResumeFault>
     ensures ok { (s : ModelState) (team : Team)
         → (result ≡ Ok (stood s team)) ↔ IsCheckpointOf (checkpoint_in bytes) s team }
     ensures no_state { (result ≡ Err NoState)

@@ -65,12 +65,7 @@ pub fn is_in_step(progress: RobotProgress, state: &State) -> bool
     ensures { result ≡ keeps.in_step progress state.now }
 {
     has_zones(progress.step, state)
-        && has_plates(
-            progress.step,
-            progress.notes.arm1,
-            progress.notes.arm2,
-            progress.notes.fed,
-        )
+        && has_plates(progress.step, progress.notes)
         && is_noted(progress, state)
         && has_magnets(progress)
 }
@@ -88,11 +83,11 @@ pub fn progress_at(number: u8, state: &State) -> Option<RobotProgress>
     ensures { result ≡ keeps.progress_at number state.now }
 {
     let step = step_at(number)?;
-    Some(standing(step, state))
+    Some(progress_in(step, state))
 }
 
 // A step, with the notes and the magnets that it has in a state.
-fn standing(step: RobotStep, state: &State) -> RobotProgress
+fn progress_in(step: RobotStep, state: &State) -> RobotProgress
     ensures { result ≡ keeps.standing step state.now }
 {
     let notes = notes_of(state);
@@ -114,7 +109,7 @@ fn notes_of(state: &State) -> RobotNotes
     RobotNotes {
         arm1: state.is_full(Place::Arm1),
         arm2: state.is_full(Place::Arm2),
-        fed: inside(state) == 1,
+        fed: plates_inside(state) == 1,
     }
 }
 
@@ -161,12 +156,12 @@ fn table(step: RobotStep) -> Keep
         | RobotStep::ReachDeposit
         | RobotStep::DropOnDeposit
         | RobotStep::LeaveDeposit
-        | RobotStep::GiveToDeposit => Share::Any.unposed(),
+        | RobotStep::GiveToDeposit => Share::Any.in_any_posture(),
         RobotStep::ReachTable
         | RobotStep::GripPlate
         | RobotStep::LeaveTable
-        | RobotStep::TakePlate => Share::Loaded.posed(Posture::OpenOut),
-        RobotStep::ReleaseTable => Share::Clear.posed(Posture::OpenOut),
+        | RobotStep::TakePlate => Share::Loaded.in_posture(Posture::OpenOut),
+        RobotStep::ReleaseTable => Share::Clear.in_posture(Posture::OpenOut),
     }
 }
 
@@ -191,17 +186,17 @@ fn interior(step: RobotStep) -> Keep
         | RobotStep::ReachDeposit
         | RobotStep::DropOnDeposit
         | RobotStep::LeaveDeposit
-        | RobotStep::GiveToDeposit => Share::Lent.unposed(),
-        RobotStep::InspectPress | RobotStep::ReleasePress => Share::Held.unposed(),
+        | RobotStep::GiveToDeposit => Share::Lent.in_any_posture(),
+        RobotStep::InspectPress | RobotStep::ReleasePress => Share::Held.in_any_posture(),
         RobotStep::ReachToLoad
         | RobotStep::DropInPress
         | RobotStep::LeaveLoaded
-        | RobotStep::GiveToPress => Share::Held.posed(Posture::OpenIn),
+        | RobotStep::GiveToPress => Share::Held.in_posture(Posture::OpenIn),
         RobotStep::ReachToUnload
         | RobotStep::GripForged
         | RobotStep::LeaveUnloaded
-        | RobotStep::TakeForged => Share::Loaded.posed(Posture::OpenOut),
-        RobotStep::ReleaseUnloaded => Share::Clear.posed(Posture::OpenOut),
+        | RobotStep::TakeForged => Share::Loaded.in_posture(Posture::OpenOut),
+        RobotStep::ReleaseUnloaded => Share::Clear.in_posture(Posture::OpenOut),
     }
 }
 
@@ -233,17 +228,17 @@ fn deposit(step: RobotStep) -> Keep
         | RobotStep::TakeForged
         | RobotStep::ReleaseUnloaded
         | RobotStep::TurnToDeposit
-        | RobotStep::ClaimDeposit => Share::Lent.unposed(),
+        | RobotStep::ClaimDeposit => Share::Lent.in_any_posture(),
         RobotStep::ReachDeposit
         | RobotStep::DropOnDeposit
         | RobotStep::LeaveDeposit
-        | RobotStep::GiveToDeposit => Share::Held.posed(Posture::OpenIn),
+        | RobotStep::GiveToDeposit => Share::Held.in_posture(Posture::OpenIn),
     }
 }
 
-// The plates that a step needs.
-fn has_plates(step: RobotStep, first: bool, second: bool, fed: bool) -> bool
-    ensures { result ≡ keeps.has_plates step first second fed }
+// Whether there are the plates that a step needs, by its notes.
+fn has_plates(step: RobotStep, notes: RobotNotes) -> bool
+    ensures { result ≡ keeps.has_plates step notes.arm1 notes.arm2 notes.fed }
 {
     match step {
         RobotStep::TurnToLoad
@@ -253,19 +248,19 @@ fn has_plates(step: RobotStep, first: bool, second: bool, fed: bool) -> bool
         | RobotStep::ReachToLoad
         | RobotStep::DropInPress
         | RobotStep::LeaveLoaded
-        | RobotStep::GiveToPress => first && !fed,
+        | RobotStep::GiveToPress => notes.arm1 && !notes.fed,
         RobotStep::TurnToUnload
         | RobotStep::AwaitForged
         | RobotStep::ReachToUnload
         | RobotStep::GripForged
         | RobotStep::LeaveUnloaded
-        | RobotStep::TakeForged => fed,
+        | RobotStep::TakeForged => notes.fed,
         RobotStep::TurnToDeposit
         | RobotStep::ClaimDeposit
         | RobotStep::ReachDeposit
         | RobotStep::DropOnDeposit
         | RobotStep::LeaveDeposit
-        | RobotStep::GiveToDeposit => second,
+        | RobotStep::GiveToDeposit => notes.arm2,
         RobotStep::TurnToTable
         | RobotStep::AwaitPlate
         | RobotStep::ReachTable
@@ -278,7 +273,7 @@ fn has_plates(step: RobotStep, first: bool, second: bool, fed: bool) -> bool
 }
 
 // The plates in the press, and in its zone on their way into it or out of it.
-fn inside(state: &State) -> u8
+fn plates_inside(state: &State) -> u8
     ensures { result ≡ keeps.inside state.now }
 {
     u8::from(state.is_full(Place::PressIn))
@@ -360,7 +355,7 @@ fn is_noted(progress: RobotProgress, state: &State) -> bool
 {
     agree(state.is_full(Place::Arm1), progress.notes.arm1)
         && agree(state.is_full(Place::Arm2), progress.notes.arm2)
-        && inside(state) == u8::from(progress.notes.fed)
+        && plates_inside(state) == u8::from(progress.notes.fed)
 }
 
 // Whether its magnets agree with its step.

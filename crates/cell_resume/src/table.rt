@@ -92,16 +92,16 @@ fn entry(step: TableStep) -> Keep
     ensures { result ≡ keeps.entry step }
 {
     match step {
-        TableStep::ClaimEntry => Share::Lent.posed(Posture::Closed),
+        TableStep::ClaimEntry => Share::Lent.in_posture(Posture::Closed),
         TableStep::ClaimExit | TableStep::LeaveForLoading | TableStep::LeaveForUnloading =>
-            Share::Clear.unposed(),
+            Share::Clear.in_any_posture(),
         TableStep::MoveToLoading
         | TableStep::PoseLoading
         | TableStep::MoveToUnloading
-        | TableStep::PoseUnloading => Share::Clear.posed(Posture::Moving),
-        TableStep::ReleaseEntry => Share::Clear.posed(Posture::OpenIn),
-        TableStep::TakePlate => Share::Lent.posed(Posture::OpenIn),
-        TableStep::GivePlate | TableStep::ClaimBack => Share::Clear.posed(Posture::Closed),
+        | TableStep::PoseUnloading => Share::Clear.in_posture(Posture::Moving),
+        TableStep::ReleaseEntry => Share::Clear.in_posture(Posture::OpenIn),
+        TableStep::TakePlate => Share::Lent.in_posture(Posture::OpenIn),
+        TableStep::GivePlate | TableStep::ClaimBack => Share::Clear.in_posture(Posture::Closed),
     }
 }
 
@@ -110,15 +110,15 @@ fn exit(step: TableStep) -> Keep
     ensures { result ≡ keeps.exit step }
 {
     match step {
-        TableStep::ClaimEntry | TableStep::ClaimExit => Share::Lent.posed(Posture::Closed),
-        TableStep::LeaveForLoading | TableStep::LeaveForUnloading => Share::Clear.unposed(),
+        TableStep::ClaimEntry | TableStep::ClaimExit => Share::Lent.in_posture(Posture::Closed),
+        TableStep::LeaveForLoading | TableStep::LeaveForUnloading => Share::Clear.in_any_posture(),
         TableStep::MoveToLoading
         | TableStep::PoseLoading
         | TableStep::MoveToUnloading
-        | TableStep::PoseUnloading => Share::Clear.posed(Posture::Moving),
-        TableStep::ReleaseEntry | TableStep::TakePlate => Share::Clear.posed(Posture::Closed),
-        TableStep::GivePlate => Share::Clear.posed(Posture::OpenOut),
-        TableStep::ClaimBack => Share::Lent.posed(Posture::OpenOut),
+        | TableStep::PoseUnloading => Share::Clear.in_posture(Posture::Moving),
+        TableStep::ReleaseEntry | TableStep::TakePlate => Share::Clear.in_posture(Posture::Closed),
+        TableStep::GivePlate => Share::Clear.in_posture(Posture::OpenOut),
+        TableStep::ClaimBack => Share::Lent.in_posture(Posture::OpenOut),
     }
 }
 
