@@ -5,6 +5,7 @@ pub mod FirstVersion
 pub mod Faults
 pub mod ScriptExamples
 pub mod Limited
+pub mod Held
 pub mod Records
 pub mod Writing
 pub mod ScriptRecords

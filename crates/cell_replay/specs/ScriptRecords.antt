@@ -2,9 +2,10 @@
 use Rattle.std.specs.Prelude.{ℕ, ◌≡◌, Bool, List, take, Option, Some, Result}
 use Rattle.csv.specs.Reading.{default_config, records, strip_bom}
 use Rattle.csv.specs.Records.{fields_of}
+use Rattle.csv.specs.Records.{Row as ByteRow}
 use Rattle.cell_rules.specs.Names.{ModelState}
-use Rattle.csv_rows.specs.Rows.{HasRows, Row}
-use Rattle.cell_replay.specs.Limited.{bytes_left}
+use Rattle.csv_rows.specs.Rows.{HasRows, IsPlain, Row}
+use Rattle.cell_replay.specs.Held.{left_to}
 use Rattle.cell_replay.specs.Records.{GivesRow, RowsLeft}
 use Rattle.cell_replay.specs.Script.{byte_limit, is_cut_of, rows_lines, rows_outcome}
 use Rattle.cell_replay.specs.Writing.{Writes, WritesNext, lines_left, outcome_left}
@@ -19,17 +20,29 @@ use Rattle.cell_replay.specs.declared.version.Version.{Version}
 abbrev pub records_used : List ℕ → List Row
 records_used bytes = records default_config (strip_bom (take byte_limit bytes))
 
+-- the reader of records is plain
+abbrev pub ArePlain : {L K : Type 0} {lent : Lent L} {known : Known K} → Records L K lent known → Type 0
+ArePlain records = IsPlain records.reader
+
+-- the record that was found last
+abbrev pub row_of : {L K : Type 0} {lent : Lent L} {known : Known K} → Records L K lent known → ByteRow
+row_of records = records.row
+
+-- whether it is noted that the script is cut
+abbrev pub is_noted_cut : {L K : Type 0} {lent : Lent L} {known : Known K} → Records L K lent known → Bool
+is_noted_cut records = records.is_cut
+
 -- these records are left to the reader; the first argument says what an input has left
 abbrev pub HasRecords : {L K : Type 0} {lent : Lent L} {known : Known K} → (L → Option (List ℕ))
     → Records L K lent known → List Row → Type 0
 HasRecords left records rows =
-    HasRows (λ r. bytes_left (left r.now.input) r.now.is_cut r.now.taken) records.reader rows
+    HasRows (λ r. left_to left r.now) records.reader rows
 
 -- these records of a script with these bytes are left: also the one that is held back
 abbrev pub HasLeft : {L K : Type 0} {lent : Lent L} {known : Known K} → (L → Option (List ℕ)) → List ℕ
     → Records L K lent known → List Row → Type 0
 HasLeft left bytes records rows =
-    RowsLeft (λ r. bytes_left (left r.now.input) r.now.is_cut r.now.taken) (is_cut_of bytes) records.reader
+    RowsLeft (λ r. left_to left r.now) (is_cut_of bytes) records.reader
     records.holds (fields_of records.held) records.is_cut rows
 
 -- this holds of the bytes of a script that are known, and of the records of it that are left

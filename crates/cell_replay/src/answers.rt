@@ -4,10 +4,9 @@ ghost use Rattle.std.specs.Prelude.{◌≡◌, ◌<◌, ◌++◌, ℕ, List, Som
 ghost use Rattle.std.specs.Io.KnownBytes.{Keeps};
 ghost use Rattle.cell_types.specs.Answers.{answer_text};
 ghost use Rattle.cell_rules.specs.ModelState.{ModelState};
-ghost use Rattle.csv_rows.specs.Rows.{IsPlain};
 ghost use Rattle.cell_replay.specs.Script as script;
 ghost use Rattle.cell_replay.specs.Script.{line_of, max_records, start_line};
-ghost use Rattle.cell_replay.specs.ScriptRecords.{ForLeft, HasLeft, WritesFirst, WritesFrom};
+ghost use Rattle.cell_replay.specs.ScriptRecords.{ArePlain, ForLeft, HasLeft, WritesFirst, WritesFrom};
 ghost use Rattle.cell_replay.specs.ScriptRecords.{WritesLater, WritesRows};
 ghost use Rattle.cell_replay.specs.Writing.{WritesLine};
 ghost use Rattle.cell_replay.specs.declared.version.Version.{Version};
@@ -34,7 +33,7 @@ pub fn answer_rows<L: LentReader, K: Origin, W: Write>(
     records: &mut Records<'_, L, K>,
     writer: &mut W,
 ) -> Result<Outcome, ReplayFault>
-    requires { IsPlain records.old.reader }
+    requires { ArePlain records.old }
     ensures written { ForLeft K.bytes L.left records.old (λ bytes left.
         WritesRows bytes left (W.contents writer.old) (W.contents writer.new) result) }
 {
@@ -73,7 +72,7 @@ fn answer_later<L: LentReader, K: Origin, W: Write>(
     start: Start,
     writer: &mut W,
 ) -> Result<Outcome, ReplayFault>
-    requires { IsPlain records.old.reader }
+    requires { ArePlain records.old }
     ensures written { ForLeft K.bytes L.left records.old (λ bytes left.
         WritesLater start.version start.state bytes left
         (W.contents writer.old) (W.contents writer.new) result) }
@@ -91,7 +90,7 @@ fn answer_each<L: LentReader, K: Origin, W: Write>(
     line: &mut String,
     writer: &mut W,
 ) -> Result<Outcome, ReplayFault>
-    requires { IsPlain records.old.reader }
+    requires { ArePlain records.old }
     ensures written { ForLeft K.bytes L.left records.old (λ bytes left.
         WritesLater version state.old bytes left
         (W.contents writer.old) (W.contents writer.new) result) }
@@ -114,7 +113,7 @@ fn end_at_limit<L: LentReader, K: Origin, W: Write>(
     records: &mut Records<'_, L, K>,
     writer: &mut W,
 ) -> Result<Outcome, ReplayFault>
-    requires { IsPlain records.old.reader }
+    requires { ArePlain records.old }
     ensures written { (version : Version) (s : ModelState) →
         ForLeft K.bytes L.left records.old (λ bytes left. WritesFrom version max_records s bytes left
         (W.contents writer.old) (W.contents writer.new) result) }
@@ -151,9 +150,9 @@ fn answer_next<L: LentReader, K: Origin, W: Write>(
     line: &mut String,
     writer: &mut W,
 ) -> Result<Option<Outcome>, ReplayFault>
-    requires plain { IsPlain records.old.reader }
+    requires plain { ArePlain records.old }
     requires few { done < max_records }
-    ensures plain { OnOk result (IsPlain records.new.reader) }
+    ensures plain { OnOk result (ArePlain records.new) }
     ensures written { ForLeft K.bytes L.left records.old (λ bytes left.
         WritesFirst version done state.old state.new bytes left
         (W.contents writer.old) (W.contents writer.new) (HasLeft L.left bytes records.new) result) }

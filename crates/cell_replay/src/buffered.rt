@@ -1,7 +1,7 @@
 //! Lines that wait until they are written together.
 
 ghost use Rattle.std.specs.Prelude.{◌≡◌, [], OnOk};
-ghost use Rattle.std.specs.Io.KnownBytes.{Keeps, append_known};
+ghost use Rattle.std.specs.Io.KnownBytes.{Keeps};
 ghost use Rattle.cell_replay.specs.Writing.{IsGrown};
 
 use crate::lent::{LentWriter, Origin};
@@ -21,8 +21,10 @@ pub struct BufferedWriter<O: LentWriter, K: Origin> {
 }
 
 impl<O: LentWriter, K: Origin> Write for BufferedWriter<O, K> {
+    ghost use Rattle.cell_replay.specs.Held.{contents_of};
+
     // What was written, and what waits.
-    ghost contents = { λ w. append_known (O.contents w.output) w.waiting };
+    ghost contents = { λ w. contents_of O.contents w };
 
     fn write(&mut self, buf: &[u8]) -> io::Result<usize> {
         if self.waiting.room() < buf.len() && self.write_out().is_err() {
@@ -42,12 +44,14 @@ impl<O: LentWriter, K: Origin> Write for BufferedWriter<O, K> {
 }
 
 impl<O: LentWriter, K: Origin> BufferedWriter<O, K> {
+    ghost use Rattle.cell_replay.specs.Held.{contents_of, output_of, waiting_in};
+
     /// A writer of which nothing waits.
     pub fn new(output: O) -> BufferedWriter<O, K>
         requires written { O.contents output ≡ K.written }
         requires loan { O.loan_of output ≡ K.writer_loan }
-        ensures output { result.output ≡ output }
-        ensures empty { result.waiting ≡ [] }
+        ensures output { output_of result ≡ output }
+        ensures empty { waiting_in result ≡ [] }
     {
         BufferedWriter {
             output,
@@ -59,9 +63,8 @@ impl<O: LentWriter, K: Origin> BufferedWriter<O, K> {
     /// Writes all that waits, and flushes the output. An error leaves what wasn't written.
     #[tactic(auto, using(crate::proofs::BufferedWrites::still_grown))]
     pub fn flush_out(&mut self) -> Result<(), WriteFault>
-        ensures kept { Keeps (append_known (O.contents self.old.output) self.old.waiting)
-            (append_known (O.contents self.new.output) self.new.waiting) }
-        ensures empty { OnOk result (self.new.waiting ≡ []) }
+        ensures kept { Keeps (contents_of O.contents self.old) (contents_of O.contents self.new) }
+        ensures empty { OnOk result (waiting_in self.new ≡ []) }
     {
         self.write_out()?;
         self.output.flush_on()
@@ -69,9 +72,8 @@ impl<O: LentWriter, K: Origin> BufferedWriter<O, K> {
 
     /// Writes all that waits. An error leaves what wasn't written.
     fn write_out(&mut self) -> Result<(), WriteFault>
-        ensures kept { Keeps (append_known (O.contents self.old.output) self.old.waiting)
-            (append_known (O.contents self.new.output) self.new.waiting) }
-        ensures empty { OnOk result (self.new.waiting ≡ []) }
+        ensures kept { Keeps (contents_of O.contents self.old) (contents_of O.contents self.new) }
+        ensures empty { OnOk result (waiting_in self.new ≡ []) }
     {
         let (count, result) = self.output.write_on(self.waiting.as_bytes());
         self.waiting.remove_first(count);
@@ -81,7 +83,7 @@ impl<O: LentWriter, K: Origin> BufferedWriter<O, K> {
     /// The output. What waits is lost.
     pub fn into_output(self) -> O
         ensures same { O.loan_of result ≡ K.writer_loan }
-        ensures output { result ≡ self.output }
+        ensures output { result ≡ output_of self }
     {
         self.output
     }

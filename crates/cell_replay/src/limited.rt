@@ -5,7 +5,7 @@ ghost use Rattle.std.specs.Io.{ReadsAtMost};
 ghost use Rattle.std.specs.Io.KnownBytes.{IsAtEnd, Keeps, ReadConsumes};
 ghost use Rattle.cell_text.specs.Input.{TakesAtMost};
 ghost use Rattle.cell_replay.specs.Script.{byte_limit, max_bytes_read};
-ghost use Rattle.cell_replay.specs.Limited.{IsNoted, IsTaken, bytes_left};
+ghost use Rattle.cell_replay.specs.Limited.{IsNoted, IsTaken};
 
 use crate::lent::{LentReader, Origin};
 use std::io;
@@ -34,7 +34,9 @@ pub struct LimitedReader<L: LentReader, K: Origin> {
 }
 
 impl<L: LentReader, K: Origin> Read for LimitedReader<L, K> {
-    ghost remaining = { λ r. bytes_left (L.left r.input) r.is_cut r.taken };
+    ghost use Rattle.cell_replay.specs.Held.{left_to};
+
+    ghost remaining = { λ r. left_to L.left r };
 
     fn read(&mut self, buf: &mut [u8]) -> io::Result<usize> {
         if buf.is_empty() || self.is_cut.is_some() {
@@ -49,12 +51,14 @@ impl<L: LentReader, K: Origin> Read for LimitedReader<L, K> {
 }
 
 impl<L: LentReader, K: Origin> LimitedReader<L, K> {
+    ghost use Rattle.cell_replay.specs.Held.{left_to, note_of, taken_by};
+
     /// A reader that has taken nothing of its input.
     pub fn new(input: L) -> LimitedReader<L, K>
         requires bytes { L.left input ≡ K.bytes }
         requires loan { L.loan_of input ≡ K.reader_loan }
-        ensures taken { result.taken ≡ 0 }
-        ensures unnoted { result.is_cut ≡ None }
+        ensures taken { taken_by result ≡ 0 }
+        ensures unnoted { note_of result ≡ None }
     {
         LimitedReader {
             input,
@@ -88,13 +92,12 @@ impl<L: LentReader, K: Origin> LimitedReader<L, K> {
 
     /// Hands on bytes that are used.
     fn hand_on(&mut self, buf: &mut [u8]) -> io::Result<usize>
-        requires unnoted { self.old.is_cut ≡ None }
-        requires room { self.old.taken < byte_limit }
+        requires unnoted { note_of self.old ≡ None }
+        requires room { taken_by self.old < byte_limit }
         requires wanted { 0 < length buf.old }
         ensures bound { ReadsAtMost result buf.new }
         ensures bytes { ReadConsumes
-            (bytes_left (L.left self.old.input) self.old.is_cut self.old.taken)
-            (bytes_left (L.left self.new.input) self.new.is_cut self.new.taken) result buf.new }
+            (left_to L.left self.old) (left_to L.left self.new) result buf.new }
     {
         let room = buf.len().min(MAX_BYTES - self.taken);
         let count = self.input.read_on(&mut buf[..room])?;
@@ -108,12 +111,10 @@ impl<L: LentReader, K: Origin> LimitedReader<L, K> {
 
     /// Reads one byte past the limit, and notes whether there is one.
     fn look_past_limit(&mut self) -> io::Result<()>
-        requires unnoted { self.old.is_cut ≡ None }
-        requires full { self.old.taken ≡ byte_limit }
-        ensures kept { Keeps (bytes_left (L.left self.old.input) self.old.is_cut self.old.taken)
-            (bytes_left (L.left self.new.input) self.new.is_cut self.new.taken) }
-        ensures end { OnOk result (IsAtEnd
-            (bytes_left (L.left self.new.input) self.new.is_cut self.new.taken)) }
+        requires unnoted { note_of self.old ≡ None }
+        requires full { taken_by self.old ≡ byte_limit }
+        ensures kept { Keeps (left_to L.left self.old) (left_to L.left self.new) }
+        ensures end { OnOk result (IsAtEnd (left_to L.left self.new)) }
     {
         let mut one = [0u8];
         let count = self.input.read_on(&mut one)?;

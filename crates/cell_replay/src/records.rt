@@ -1,8 +1,10 @@
 //! The records of a script, one at a time.
 
 ghost use Rattle.std.specs.Prelude.{◌≡◌, ℕ, List, None, Some, IfOk, OnOk};
-ghost use Rattle.csv_rows.specs.Rows.{IsPlain, Row};
-ghost use Rattle.cell_replay.specs.ScriptRecords.{ForLeft, GivesNext, HasLeft, HasRecords, HoldsNext, records_used};
+ghost use Rattle.csv_rows.specs.Rows.{Row};
+ghost use Rattle.cell_replay.specs.Held.{note_of, taken_by};
+ghost use Rattle.cell_replay.specs.ScriptRecords.{ArePlain, ForLeft, GivesNext, HasLeft, HasRecords, HoldsNext};
+ghost use Rattle.cell_replay.specs.ScriptRecords.{is_noted_cut, records_used, row_of};
 ghost use Rattle.cell_replay.specs.Script.{is_cut_of, used};
 
 use crate::lent::{LentReader, Origin};
@@ -28,9 +30,9 @@ pub struct Records<'f, L: LentReader, K: Origin> {
 impl<'f, L: LentReader, K: Origin> Records<'f, L, K> {
     /// Reads the next record into `held`.
     fn read_ahead(&mut self) -> Result<(), InputFault>
-        requires { IsPlain self.old.reader }
-        ensures plain { OnOk result (IsPlain self.new.reader) }
-        ensures row { self.new.row ≡ self.old.row }
+        requires { ArePlain self.old }
+        ensures plain { OnOk result (ArePlain self.new) }
+        ensures row { row_of self.new ≡ row_of self.old }
         ensures found { OnOk result ((bytes : List ℕ) → K.bytes ≡ Some bytes → (rows : List Row) →
             HasRecords L.left self.old rows →
             HoldsNext self.new bytes rows (HasRecords L.left self.new)) }
@@ -48,9 +50,9 @@ impl<'f, L: LentReader, K: Origin> Records<'f, L, K> {
 
     /// The records of a reader, none of which is read.
     pub fn new(alloc: Global, input: &'f mut LimitedReader<L, K>) -> Records<'f, L, K>
-        requires taken { input.old.taken ≡ 0 }
-        requires unnoted { input.old.is_cut ≡ None }
-        ensures plain { IsPlain result.reader }
+        requires taken { taken_by input.old ≡ 0 }
+        requires unnoted { note_of input.old ≡ None }
+        ensures plain { ArePlain result }
         ensures all { (bytes : List ℕ) → K.bytes ≡ Some bytes →
             HasRecords L.left result (records_used bytes) }
     {
@@ -68,8 +70,8 @@ impl<'f, L: LentReader, K: Origin> Records<'f, L, K> {
 
     /// Reads the first record that is held back.
     pub fn begin(&mut self) -> Result<(), InputFault>
-        requires { IsPlain self.old.reader }
-        ensures plain { OnOk result (IsPlain self.new.reader) }
+        requires { ArePlain self.old }
+        ensures plain { OnOk result (ArePlain self.new) }
         ensures left { OnOk result ((bytes : List ℕ) → K.bytes ≡ Some bytes → (rows : List Row) →
             HasRecords L.left self.old rows →
             HasLeft L.left bytes self.new (used (is_cut_of bytes) rows)) }
@@ -80,8 +82,8 @@ impl<'f, L: LentReader, K: Origin> Records<'f, L, K> {
 
     /// Reads on, so that `row` is the next record. Returns whether there is one.
     pub fn next(&mut self) -> Result<bool, InputFault>
-        requires { IsPlain self.old.reader }
-        ensures plain { OnOk result (IsPlain self.new.reader) }
+        requires { ArePlain self.old }
+        ensures plain { OnOk result (ArePlain self.new) }
         ensures gives { IfOk result (λ found. ForLeft K.bytes L.left self.old (λ bytes left.
             GivesNext found self.new bytes left (HasLeft L.left bytes self.new))) }
     {
@@ -95,7 +97,7 @@ impl<'f, L: LentReader, K: Origin> Records<'f, L, K> {
 
     /// The record that `next` found last.
     pub fn row(&self) -> &ByteRecord
-        ensures { result.now ≡ self.now.row }
+        ensures { result.now ≡ row_of self.now }
     {
         &self.row
     }
@@ -108,7 +110,7 @@ impl<'f, L: LentReader, K: Origin> Records<'f, L, K> {
 
     /// Whether the script is cut, once `next` has found no record.
     pub fn is_cut(&self) -> bool
-        ensures { result ≡ self.now.is_cut }
+        ensures { result ≡ is_noted_cut self.now }
     {
         self.is_cut
     }

@@ -6,8 +6,8 @@ ghost use Rattle.cell_replay.specs.Faults.{Leaves};
 ghost use Rattle.cell_text.specs.Input.{TakesAtMost};
 ghost use Rattle.cell_replay.specs.FirstVersion as first;
 ghost use Rattle.cell_replay.specs.FirstVersion.{IsOfFirstVersion};
-ghost use Rattle.csv_rows.specs.Rows.{IsPlain};
-ghost use Rattle.cell_replay.specs.ScriptRecords.{HasRecords, records_used};
+ghost use Rattle.cell_replay.specs.Held.{contents_of, note_of, output_of, taken_by};
+ghost use Rattle.cell_replay.specs.ScriptRecords.{ArePlain, HasRecords, records_used};
 ghost use Rattle.cell_replay.specs.Script.{end_text, fault_text, max_bytes_read, script_outcome, script_text};
 ghost use Rattle.cell_replay.specs.Writing.{WritesEnd, WritesScript};
 
@@ -63,9 +63,9 @@ pub fn replay<R: Read, W: Write>(
 /// A reader and a writer after a replay, and how it ended.
 #[derive(Drop)]
 struct Replayed<L, O> {
-    input: L,
-    output: O,
-    ended: Result<Outcome, ReplayFault>,
+    pub input: L,
+    pub output: O,
+    pub ended: Result<Outcome, ReplayFault>,
 }
 
 /// Replays a script. `K` identifies the reader and the writer, which are returned.
@@ -101,9 +101,8 @@ fn finish<O: LentWriter, K: Origin>(
     writer: &mut BufferedWriter<O, K>,
 ) -> Result<Outcome, ReplayFault>
     ensures script { (bytes : List ℕ) →
-        WritesScript bytes K.written (⟦<BufferedWriter<O, K> as Write>⟧.contents writer.old)
-        answered →
-        WritesScript bytes K.written (O.contents writer.new.output) result }
+        WritesScript bytes K.written (contents_of O.contents writer.old) answered →
+        WritesScript bytes K.written (O.contents (output_of writer.new)) result }
 {
     if answered == Err(ReplayFault::Write) {
         return Err(ReplayFault::Write);
@@ -120,8 +119,8 @@ fn answer_script<L: LentReader, K: Origin, W: Write>(
     input: &mut LimitedReader<L, K>,
     writer: &mut W,
 ) -> Result<Outcome, ReplayFault>
-    requires taken { input.old.taken ≡ 0 }
-    requires unnoted { input.old.is_cut ≡ None }
+    requires taken { taken_by input.old ≡ 0 }
+    requires unnoted { note_of input.old ≡ None }
     ensures written { (bytes : List ℕ) → K.bytes ≡ Some bytes →
         WritesScript bytes (W.contents writer.old) (W.contents writer.new) result }
 {
@@ -135,7 +134,7 @@ fn answer_records<L: LentReader, K: Origin, W: Write>(
     records: &mut Records<'_, L, K>,
     writer: &mut W,
 ) -> Result<Outcome, ReplayFault>
-    requires { IsPlain records.old.reader }
+    requires { ArePlain records.old }
     ensures written { (bytes : List ℕ) → K.bytes ≡ Some bytes →
         HasRecords L.left records.old (records_used bytes) →
         WritesScript bytes (W.contents writer.old) (W.contents writer.new) result }
