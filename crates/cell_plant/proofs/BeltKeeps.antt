@@ -1,5 +1,5 @@
 -- The invariant of a belt's side: it holds in every state of a run. The feed belt and the deposit belt have one form.
-use Rattle.cell_plant.proofs.Names.{◌≡◌, Bool, true, false, IsTrue, List, [], ◌∷◌, Option, Some, None, refl, sym, ap, ◌∙◌, subst, Machine, Feed, Deposit, Z1, Z4, Z5, Z6, Place, FeedEntry, FeedEnd, DepEntry, DepEnd, Moving, OpenIn, OpenOut, Call, Done, keeper_of, same_machine, ModelState, is_full, event, reply, changed, Rig, Steps, Fact, AreSo, Finds, Knowing}
+use Rattle.cell_plant.proofs.Names.{◌≡◌, Bool, false, IsTrue, List, [], ◌∷◌, Option, Some, None, refl, sym, ap, ◌∙◌, subst, Machine, Feed, Deposit, Z1, Z4, Z5, Z6, Place, FeedEntry, FeedEnd, DepEntry, DepEnd, Moving, OpenIn, OpenOut, Call, Done, keeper_of, same_machine, ModelState, is_full, event, reply, changed, Rig, Steps, Fact, AreSo, Finds, Knowing}
 use Rattle.cell_plant.proofs.Names.{feed_start, feed_steps, FeedStep, FeedProgress, FeedKnows, feed_begins, feed-knowing, feed_at_start, feed_rig, deposit_start, deposit_steps, DepositStep, DepositProgress, DepositKnows, deposit-knowing, deposit_at_start, deposit_rig, Keeping, Demanding, WhileOn, demanding_while_on, set_belt, moved_belt, Belt}
 use Rattle.std.specs.Prelude.{⊤}
 use Rattle.cell_haul.specs.declared.feed.FeedStep.TheVariants as feed

@@ -1,5 +1,5 @@
 -- A plate is on a belt if and only if its place is full: the entry's and the end's.
-use Rattle.cell_plant.proofs.Names.{◌≡◌, ℤ, Bool, true, false, not, IsSome, IsTrue, ◌↔◌, Option, Some, None, refl, sym, ap, ◌∙◌, subst, if◌then◌else◌, Machine, Zone, Posture, Place, Call, Give, Take, Advance, Done, transfer_of, same_machine, keeper_of, own_move_of, ModelState, has, is_full, IsSound, posture_at, given_by, emptied, filled, advance_refusal, reply, next, changed}
+use Rattle.cell_plant.proofs.Names.{◌≡◌, ℤ, Bool, true, false, IsSome, IsTrue, ◌↔◌, Option, Some, None, refl, sym, ap, ◌∙◌, subst, if◌then◌else◌, Machine, Zone, Posture, Place, Call, Give, Take, Advance, Done, transfer_of, same_machine, keeper_of, own_move_of, ModelState, has, is_full, IsSound, posture_at, given_by, emptied, filled, advance_refusal, reply, next, changed}
 use Rattle.cell_plant.proofs.Names.{has_no_work, press_unowned, not_at_work, nothing_to_work, no_room_for_work, worn, ◌or◌, none_or, none_then_not, done_none, full-foreign, set_belt, Belt, plate_if, moved_plate, moved_belt}
 use Rattle.cell_parts.specs.Plant.{advanced, loaded_belt, unloaded_belt}
 
