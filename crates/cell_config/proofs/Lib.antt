@@ -1,5 +1,6 @@
 mod Tests
 mod LetterLemmas
+pub mod Turns
 mod SettingsLemmas
 mod MeasuredLemmas
 mod CurveChoices

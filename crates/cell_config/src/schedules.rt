@@ -8,9 +8,9 @@ ghost use Rattle.cell_config.specs.Settings as settings;
 ghost use Rattle.cell_config.specs.declared.fault.ConfigFault.TheVariants.{Memory};
 
 use crate::fault::ConfigFault;
+use crate::letters::turn_of;
 use crate::values::value_at;
 use cell_notes::Turn;
-use cell_types::Machine;
 use std::alloc::Global;
 use toml::Table;
 
@@ -20,34 +20,14 @@ pub const MAX_LETTERS: usize = 1_000_000;
 /// How many ASCII characters there are.
 const ASCII: usize = 128;
 
-/// The turn of a letter. A call in the turn of a capital letter finds the interlock busy.
-fn turn_of(letter: char) -> Option<Turn>
-    ensures { result ≡ letters.turn_of letter }
-{
-    let machine = match letter {
-        'f' | 'F' => Machine::Feed,
-        't' | 'T' => Machine::Table,
-        'r' | 'R' => Machine::Robot,
-        'p' | 'P' => Machine::Press,
-        'd' | 'D' => Machine::Deposit,
-        'c' | 'C' => Machine::Crane,
-        'w' | 'W' => Machine::Watch,
-        _ => return None,
-    };
-    Some(Turn {
-        machine,
-        busy: letter.is_ascii_uppercase(),
-    })
-}
-
-/// The turn of each ASCII character; every letter is one. A table replaces the match in `turn_of`,
-/// whose branch no processor predicts.
+/// The turn of each ASCII character; every letter is one. A table replaces the search of `turn_of`,
+/// whose branches no processor predicts.
 fn ascii_turns() -> [Option<Turn>; ASCII]
     ensures { (code : ℕ) → code < 128 → slice_index_or result code None ≡ letters.turn_of code }
 {
     let mut turns = [None; ASCII];
     for code in 0..128u8 {
-        turns[usize::from(code)] = turn_of(char::from(code));
+        turns[usize::from(code)] = turn_of(code);
     }
     turns
 }
