@@ -84,19 +84,22 @@ fn serves_on(bench: &mut Bench, calls: u32) -> bool {
     bench.history().len() == before.saturating_add(calls as usize)
 }
 
+/// Whether each seated machine gets its reply.
+fn are_served(bench: &mut Bench) -> bool {
+    for (machine, is_busy, reply) in SEATED {
+        if !is_served(bench, *machine, *is_busy, *reply) {
+            return false;
+        }
+    }
+    true
+}
+
 #[test]
 fn a_bench_serves_who_is_seated(rt: HostRuntime) {
     let start = State::start(EMPTY, 7).expect(&rt, "a start without plates");
     let mut bench = Bench::new(rt.alloc(), start);
-    assert!(rt; is_opened(&bench, start));
-    assert!(rt; bench.ask(INQUIRY) == Ok(Reply::Settled(SHOWN, 7)));
-    for (machine, is_busy, reply) in SEATED {
-        assert!(rt;
-            is_served(&mut bench, *machine, *is_busy, *reply),
-            "{machine:?}"
-        );
-    }
-    assert!(rt; is_served_out(&bench));
+    assert!(rt; is_opened(&bench, start) && bench.ask(INQUIRY) == Ok(Reply::Settled(SHOWN, 7)));
+    assert!(rt; are_served(&mut bench) && is_served_out(&bench));
     assert!(rt; serves_on(&mut bench, 200_000));
 }
 

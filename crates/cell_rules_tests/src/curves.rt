@@ -152,75 +152,64 @@ fn is_refused(pairs: &[(u16, i32)], fault: CurveFault) -> bool {
     }
 }
 
-#[test]
-fn finds_the_first_fault(rt: HostRuntime) {
+/// Pairs that are refused, and their fault.
+const FAULTY: &[(&[(u16, i32)], CurveFault)] = &[
     // One pair with every fault.
-    assert!(rt; is_refused(&[(1, 5000)], CurveFault::Count));
+    (&[(1, 5000)], CurveFault::Count),
     // Ends alone, at each end; and before Order and OffLine.
-    assert!(rt;
-        is_refused(
-            &[(1, 0), (1000, 254), (2000, 500), (4000, 1000)],
-            CurveFault::Ends
-        )
-    );
-    assert!(rt;
-        is_refused(
-            &[(0, 0), (1000, 254), (2000, 500), (3999, 1000)],
-            CurveFault::Ends
-        )
-    );
-    assert!(rt; is_refused(&[(0, 0), (4001, 1000)], CurveFault::Ends));
-    assert!(rt; is_refused(&[(4000, 1000), (0, 0)], CurveFault::Ends));
-    assert!(rt; is_refused(&[(0, 0), (1000, 900), (3999, 1000)], CurveFault::Ends));
+    (
+        &[(1, 0), (1000, 254), (2000, 500), (4000, 1000)],
+        CurveFault::Ends,
+    ),
+    (
+        &[(0, 0), (1000, 254), (2000, 500), (3999, 1000)],
+        CurveFault::Ends,
+    ),
+    (&[(0, 0), (4001, 1000)], CurveFault::Ends),
+    (&[(4000, 1000), (0, 0)], CurveFault::Ends),
+    (&[(0, 0), (1000, 900), (3999, 1000)], CurveFault::Ends),
     // Order alone, of equal raw values and of falling ones; and before OffLine.
-    assert!(rt;
-        is_refused(
-            &[(0, 0), (1000, 254), (1000, 500), (4000, 1000)],
-            CurveFault::Order
-        )
-    );
-    assert!(rt; is_refused(&[(0, 0), (0, 0), (4000, 1000)], CurveFault::Order));
-    assert!(rt;
-        is_refused(
-            &[(0, 0), (2000, 500), (1999, 500), (4000, 1000)],
-            CurveFault::Order
-        )
-    );
-    assert!(rt; is_refused(&[(0, 0), (4000, 1000), (4000, 1000)], CurveFault::Order));
-    assert!(rt;
-        is_refused(
-            &[(0, 5000), (9, 0), (9, 0), (4000, 1000)],
-            CurveFault::Order
-        )
-    );
-}
+    (
+        &[(0, 0), (1000, 254), (1000, 500), (4000, 1000)],
+        CurveFault::Order,
+    ),
+    (&[(0, 0), (0, 0), (4000, 1000)], CurveFault::Order),
+    (
+        &[(0, 0), (2000, 500), (1999, 500), (4000, 1000)],
+        CurveFault::Order,
+    ),
+    (&[(0, 0), (4000, 1000), (4000, 1000)], CurveFault::Order),
+    (
+        &[(0, 5000), (9, 0), (9, 0), (4000, 1000)],
+        CurveFault::Order,
+    ),
+    // Off the line at a pair between the ends.
+    (
+        &[(0, 0), (1000, 255), (2000, 500), (4000, 1000)],
+        CurveFault::OffLine,
+    ),
+    (
+        &[(0, 0), (1000, 245), (2000, 500), (4000, 1000)],
+        CurveFault::OffLine,
+    ),
+    // Near enough, but outside the ends.
+    (&[(0, -1), (4000, 1000)], CurveFault::OffLine),
+    (&[(0, 0), (4000, 1001)], CurveFault::OffLine),
+    (&[(0, 0), (3999, 1001), (4000, 1000)], CurveFault::OffLine),
+    (
+        &[(0, 0), (2000, i32::MAX), (4000, 1000)],
+        CurveFault::OffLine,
+    ),
+    (&[(0, i32::MIN), (4000, 1000)], CurveFault::OffLine),
+    // Off by a quarter more than 4.
+    (&[(0, 0), (1001, 246), (4000, 1000)], CurveFault::OffLine),
+];
 
 #[test]
-fn finds_pairs_off_the_line(rt: HostRuntime) {
-    assert!(rt;
-        is_refused(
-            &[(0, 0), (1000, 255), (2000, 500), (4000, 1000)],
-            CurveFault::OffLine
-        )
-    );
-    assert!(rt;
-        is_refused(
-            &[(0, 0), (1000, 245), (2000, 500), (4000, 1000)],
-            CurveFault::OffLine
-        )
-    );
-    // Near enough, but outside the ends.
-    assert!(rt; is_refused(&[(0, -1), (4000, 1000)], CurveFault::OffLine));
-    assert!(rt; is_refused(&[(0, 0), (4000, 1001)], CurveFault::OffLine));
-    assert!(rt; is_refused(&[(0, 0), (3999, 1001), (4000, 1000)], CurveFault::OffLine));
-    assert!(rt;
-        is_refused(
-            &[(0, 0), (2000, i32::MAX), (4000, 1000)],
-            CurveFault::OffLine
-        )
-    );
-    assert!(rt; is_refused(&[(0, i32::MIN), (4000, 1000)], CurveFault::OffLine));
-    // Off by a quarter more than 4.
-    assert!(rt; is_refused(&[(0, 0), (1001, 246), (4000, 1000)], CurveFault::OffLine));
+fn finds_the_first_fault(rt: HostRuntime) {
+    for (pairs, fault) in FAULTY {
+        assert!(rt; is_refused(pairs, *fault), "{fault:?}");
+    }
+    // Off by a quarter less than 4.
     assert!(rt; !is_refused(&[(0, 0), (999, 246), (4000, 1000)], CurveFault::OffLine));
 }

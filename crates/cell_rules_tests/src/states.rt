@@ -71,7 +71,7 @@ fn checks_states(rt: HostRuntime) {
 }
 
 // One plate goes once round the cell, through each zone and each pose.
-pub const ROUND: [(Machine, Call); 55] = [
+const ROUND: &[(Machine, Call)] = &[
     (Machine::Feed, Call::Claim(Zone::Z6)),
     (Machine::Feed, Call::SetPose(Pose::Running)),
     (Machine::Feed, Call::Advance),
@@ -129,6 +129,11 @@ pub const ROUND: [(Machine, Call); 55] = [
     (Machine::Deposit, Call::Release(Zone::Z5)),
 ];
 
+/// The calls of a plate's round.
+pub fn round() -> &'static [(Machine, Call)] {
+    ROUND
+}
+
 /// Whether a call is Done, with this stamp and one plate after it.
 fn is_done(state: &mut State, machine: Machine, call: Call, stamp: u32) -> bool {
     apply(state, machine, call) == Answer::Done && state.stamp() == stamp && state.plates() == 1
@@ -138,7 +143,7 @@ fn is_done(state: &mut State, machine: Machine, call: Call, stamp: u32) -> bool 
 fn a_plate_goes_round(rt: HostRuntime) {
     let mut state = State::start(AT_ENTRY, 0).expect(&rt, "a start with a plate");
     let mut stamp = 0u32;
-    for (machine, call) in ROUND.iter() {
+    for (machine, call) in round() {
         stamp = stamp.saturating_add(1);
         assert!(rt;
             is_done(&mut state, *machine, *call, stamp),

@@ -1,11 +1,12 @@
 //! A stop between each two calls of a plate's round, at a bench: what is answered then, and how the
 //! round ends after the resume.
 
-use crate::states::{AT_ENTRY, ROUND};
-use crate::stops::CALLS;
+use crate::states::{AT_ENTRY, round};
+use crate::stops::calls;
 use cell_rules::{Bench, Line, State, answer};
 use cell_types::{Answer, Call, Machine, Pose, Refusal, Reply};
 use cell_word::pack;
+use std::alloc::Global;
 
 // A letter for each call of the round: `b` if a stop bars it.
 const BARRED: &str = "bb.bbb..bb.b.b..bb..b.b..b.b..bb..bb.b..b...b...bb.....";
@@ -21,9 +22,12 @@ fn asked(bench: &mut Bench, machine: Machine, call: Call) -> Option<Answer> {
 
 /// How many of these calls of the round are Done: some after the first ones.
 fn done_of(bench: &mut Bench, first: usize, count: usize) -> usize {
+    let round = round();
+    let last = first.saturating_add(count).min(round.len());
     let mut done = 0usize;
-    for (machine, call) in ROUND.iter().skip(first).take(count) {
-        if asked(bench, *machine, *call) == Some(Answer::Done) {
+    for at in first..last {
+        let (machine, call) = round[at];
+        if asked(bench, machine, call) == Some(Answer::Done) {
             done = done.saturating_add(1);
         }
     }
@@ -56,8 +60,9 @@ fn is_right(open: &State, stopped: &State, machine: Machine, call: Call) -> bool
 fn right_of(open: &State, stopped: &State) -> u32 {
     let mut right = 0u32;
     for machine in Machine::ALL {
-        for call in CALLS.iter().take(49) {
-            if is_right(open, stopped, machine, *call) {
+        for call in calls() {
+            let is_of_watch = matches!(call, Call::Stop | Call::Resume);
+            if !is_of_watch && is_right(open, stopped, machine, *call) {
                 right = right.saturating_add(1);
             }
         }
@@ -68,7 +73,7 @@ fn right_of(open: &State, stopped: &State) -> u32 {
 /// Whether the next call of the round is answered as the letter says. Without a next call there is
 /// no letter.
 fn is_next_right(bench: &mut Bench, count: usize) -> bool {
-    match (ROUND.get(count), BARRED.as_bytes().get(count)) {
+    match (round().get(count), BARRED.as_bytes().get(count)) {
         (Some((machine, call)), Some(letter)) => {
             let wanted = if *letter == b'b' {
                 Answer::Refused(Refusal::Stopped)
@@ -110,20 +115,30 @@ fn is_ended(bench: &Bench, whole: &Bench) -> bool {
         && pack(&state) == LATE_END
 }
 
+/// Whether `count` calls of the round are Done, the stop and the resume after them go well, and the
+/// rest of the round is Done.
+fn goes_round(bench: &mut Bench, count: usize) -> bool {
+    if done_of(bench, 0, count) != count || !is_stopped_well(bench, count) {
+        return false;
+    }
+    // a call that wasn't barred has been made
+    let made = bench.state().stamp() as usize;
+    let first = made.saturating_sub(2);
+    done_of(bench, first, 55) == 55usize.saturating_sub(first)
+}
+
+/// Whether a round with a stop after `count` calls goes well, and ends as the whole round.
+fn ends_late(alloc: Global, start: State, count: usize, whole: &Bench) -> bool {
+    let mut bench = Bench::new(alloc, start);
+    goes_round(&mut bench, count) && is_ended(&bench, whole)
+}
+
 #[test]
 fn a_stop_between_any_two_calls(rt: HostRuntime) {
     let start = State::start(AT_ENTRY, 0).expect(&rt, "a start with a plate");
     let mut whole = Bench::new(rt.alloc(), start);
     assert!(rt; done_of(&mut whole, 0, 55) == 55);
     for count in 0..56usize {
-        let mut bench = Bench::new(rt.alloc(), start);
-        assert!(rt; done_of(&mut bench, 0, count) == count, "{count}");
-        assert!(rt; is_stopped_well(&mut bench, count), "{count}");
-        // a call that wasn't barred has been made
-        let made = bench.state().stamp() as usize;
-        let first = made.saturating_sub(2);
-        let rest = 55usize.saturating_sub(first);
-        assert!(rt; done_of(&mut bench, first, 55) == rest, "{count}");
-        assert!(rt; is_ended(&bench, &whole), "{count}");
+        assert!(rt; ends_late(rt.alloc(), start, count, &whole), "{count}");
     }
 }

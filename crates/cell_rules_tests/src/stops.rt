@@ -7,7 +7,7 @@ use cell_word::{pack, step_word, unpack};
 use std::alloc::Global;
 
 /// Every call, in the order of the answers below.
-pub const CALLS: [Call; 51] = [
+const CALLS: &[Call] = &[
     Call::Claim(Zone::Z1),
     Call::Claim(Zone::Z2),
     Call::Claim(Zone::Z3),
@@ -60,6 +60,11 @@ pub const CALLS: [Call; 51] = [
     Call::Stop,
     Call::Resume,
 ];
+
+/// Every call.
+pub fn calls() -> &'static [Call] {
+    CALLS
+}
 
 // A machine, and what it is answered: to claims, gives and yields of z1 to z6; to takes, releases
 // and inquiries; to poses, Advance, Stop and Resume. `.` is Done. A number is that of a refusal, and
@@ -416,7 +421,7 @@ fn answered(alloc: Global, word: u64, machine: Machine, call: Call) -> Option<An
 
 /// How many calls of a machine are answered as its row says.
 fn right_of(alloc: Global, word: u64, machine: Machine, rows: &[&str]) -> u32 {
-    let mut calls = CALLS.iter();
+    let mut calls = calls().iter();
     let mut right = 0u32;
     for row in rows {
         for told in row.split_ascii_whitespace() {

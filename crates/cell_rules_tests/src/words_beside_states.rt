@@ -24,33 +24,38 @@ fn agrees(word: u64, told: &Option<State>, machine: Machine, call: Call) -> bool
 }
 
 fn agrees_about(word: u64, told: &Option<State>, machine: Machine, zone: Zone) -> bool {
-    let calls = [
-        Call::Claim(zone),
-        Call::Give(zone),
-        Call::Yield(zone),
-        Call::Take(zone),
-        Call::Release(zone),
-        Call::Inquire(zone),
-    ];
-    calls.iter().all(|call| agrees(word, told, machine, *call))
+    agrees(word, told, machine, Call::Claim(zone))
+        && agrees(word, told, machine, Call::Give(zone))
+        && agrees(word, told, machine, Call::Yield(zone))
+        && agrees(word, told, machine, Call::Take(zone))
+        && agrees(word, told, machine, Call::Release(zone))
+        && agrees(word, told, machine, Call::Inquire(zone))
 }
 
 fn agrees_for(word: u64, told: &Option<State>, machine: Machine) -> bool {
-    let poses = Pose::ALL
-        .iter()
-        .all(|pose| agrees(word, told, machine, Call::SetPose(*pose)));
-    let zones = Zone::ALL
-        .iter()
-        .all(|zone| agrees_about(word, told, machine, *zone));
-    let others = [Call::Advance, Call::Stop, Call::Resume];
-    poses && zones && others.iter().all(|call| agrees(word, told, machine, *call))
+    for pose in Pose::ALL {
+        if !agrees(word, told, machine, Call::SetPose(pose)) {
+            return false;
+        }
+    }
+    for zone in Zone::ALL {
+        if !agrees_about(word, told, machine, zone) {
+            return false;
+        }
+    }
+    agrees(word, told, machine, Call::Advance)
+        && agrees(word, told, machine, Call::Stop)
+        && agrees(word, told, machine, Call::Resume)
 }
 
 fn agrees_at(word: u64) -> bool {
     let told = unpack(word);
-    Machine::ALL
-        .iter()
-        .all(|machine| agrees_for(word, &told, *machine))
+    for machine in Machine::ALL {
+        if !agrees_for(word, &told, machine) {
+            return false;
+        }
+    }
+    true
 }
 
 /// The next of a sequence of random numbers of 64 bits.
