@@ -29,10 +29,23 @@ const NO_TEXT: &[&[&[u8]]] = &[
     &[b"cell", b"\xed\xa0\x80"],
 ];
 
+/// Whether words are these.
+fn are_words(words: &[String], wanted: &[&str]) -> bool {
+    if words.len() != wanted.len() {
+        return false;
+    }
+    for at in 0..wanted.len() {
+        if words[at].as_str() != wanted[at] {
+            return false;
+        }
+    }
+    true
+}
+
 /// Whether arguments are read as these words.
 fn is_read_as(alloc: Global, arguments: &[&[u8]], wanted: &[&str]) -> bool {
     match words_of(alloc, &Given { arguments }) {
-        Ok(words) => words.iter().map(String::as_str).eq(wanted.iter().copied()),
+        Ok(words) => are_words(words.as_slice(), wanted),
         Err(_) => false,
     }
 }

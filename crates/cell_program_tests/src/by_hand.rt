@@ -19,7 +19,7 @@ use std::sync::Wait;
 use std::thread::Threads;
 
 /// How a cell is run.
-#[derive(Clone, Copy, PartialEq, Eq, Debug)]
+#[derive(Clone, Copy)]
 enum Way {
     /// By the schedule of the configuration.
     Simulated,
@@ -125,6 +125,6 @@ const REPORTS: &[(&str, Way, &str)] = &[
 #[test]
 fn goes_with_closures_of_its_own(rt: HostRuntime) {
     for (config, way, text) in REPORTS {
-        assert!(rt; has_report(&rt, rt.alloc(), config, *way, text), "{way:?}");
+        assert!(rt; has_report(&rt, rt.alloc(), config, *way, text), "{config}");
     }
 }

@@ -252,27 +252,39 @@ fn is_read_as(alloc: Global, text: &str, wanted: &Config) -> bool {
     }
 }
 
+/// The configuration of a start, these turns, and curves that are the lines of these points.
+fn config_of(
+    alloc: Global,
+    start: State,
+    turns: &[Turn],
+    points: [Points; 5],
+) -> Result<Config, AllocError> {
+    let [arm1, arm2, rotation, turn, gripper] = points;
+    Ok(Config {
+        start,
+        schedule: turns.to_vec(alloc)?,
+        points,
+        curves: [
+            Curve::of_line(arm1),
+            Curve::of_line(arm2),
+            Curve::of_line(rotation),
+            Curve::of_line(turn),
+            Curve::of_line(gripper),
+        ],
+    })
+}
+
 #[test]
 fn gives_defaults(rt: HostRuntime) -> Result<(), Fail> {
     let alloc = rt.alloc();
-    let wanted = Config {
-        start: State::start([false; 10], 0)?,
-        schedule: Vec::new(alloc),
-        points: [
-            axis(0, 4000, 1000, 5)?,
-            axis(0, 4000, 1000, 5)?,
-            axis(0, 4000, 2000, 5)?,
-            axis(0, 4000, 500, 5)?,
-            axis(0, 4000, 1000, 5)?,
-        ],
-        curves: [
-            Curve::of_line(axis(0, 4000, 1000, 5)?),
-            Curve::of_line(axis(0, 4000, 1000, 5)?),
-            Curve::of_line(axis(0, 4000, 2000, 5)?),
-            Curve::of_line(axis(0, 4000, 500, 5)?),
-            Curve::of_line(axis(0, 4000, 1000, 5)?),
-        ],
-    };
+    let points = [
+        axis(0, 4000, 1000, 5)?,
+        axis(0, 4000, 1000, 5)?,
+        axis(0, 4000, 2000, 5)?,
+        axis(0, 4000, 500, 5)?,
+        axis(0, 4000, 1000, 5)?,
+    ];
+    let wanted = config_of(alloc, State::start([false; 10], 0)?, &[], points)?;
     assert!(rt; is_read_as(alloc, "start = \"0000000000\"", &wanted));
     // A byte order mark at the beginning is dropped.
     assert!(rt; is_read_as(alloc, "\u{feff}start = \"0000000000\"\n", &wanted));
@@ -298,24 +310,14 @@ fn gives_what_is_written(rt: HostRuntime) -> Result<(), Fail> {
         turn(Machine::Table, true),
         turn(Machine::Feed, false),
     ];
-    let wanted = Config {
-        start: State::start(full, 7)?,
-        schedule: turns.to_vec(alloc)?,
-        points: [
-            axis(10, 1010, 1000, 5)?,
-            axis(0, 4000, 1000, 2)?,
-            axis(0, 65535, 2000, 3)?,
-            axis(100, 600, 500, 4)?,
-            axis(0, 4000, 1000, 9)?,
-        ],
-        curves: [
-            Curve::of_line(axis(10, 1010, 1000, 5)?),
-            Curve::of_line(axis(0, 4000, 1000, 2)?),
-            Curve::of_line(axis(0, 65535, 2000, 3)?),
-            Curve::of_line(axis(100, 600, 500, 4)?),
-            Curve::of_line(axis(0, 4000, 1000, 9)?),
-        ],
-    };
+    let points = [
+        axis(10, 1010, 1000, 5)?,
+        axis(0, 4000, 1000, 2)?,
+        axis(0, 65535, 2000, 3)?,
+        axis(100, 600, 500, 4)?,
+        axis(0, 4000, 1000, 9)?,
+    ];
+    let wanted = config_of(alloc, State::start(full, 7)?, &turns, points)?;
     assert!(rt; is_read_as(alloc, text, &wanted));
     Ok(())
 }
@@ -338,23 +340,25 @@ const LETTERED: &[(Machine, bool)] = &[
     (Machine::Watch, true),
 ];
 
-/// The number of turns that agree with their letters, each in its place.
-fn lettered(turns: &[Turn]) -> u32 {
-    let mut right = 0u32;
-    for (turn, (machine, busy)) in turns.iter().zip(LETTERED) {
-        if turn.machine == *machine && turn.busy == *busy {
-            right = right.saturating_add(1);
+/// Whether turns are those of the letters.
+fn are_lettered(turns: &[Turn]) -> bool {
+    if turns.len() != LETTERED.len() {
+        return false;
+    }
+    for at in 0..LETTERED.len() {
+        let (machine, busy) = LETTERED[at];
+        if turns[at] != turn(machine, busy) {
+            return false;
         }
     }
-    right
+    true
 }
 
 #[test]
 fn reads_letters(rt: HostRuntime) {
     let text = "start = \"0000000000\"\nschedule = \"ftrpdcwFTRPDCW\"";
     let config = read(rt.alloc(), &mut text.as_bytes()).expect(&rt, "a configuration");
-    assert!(rt; config.schedule.len() == 14);
-    assert!(rt; lettered(config.schedule.as_slice()) == 14);
+    assert!(rt; are_lettered(config.schedule.as_slice()));
 }
 
 /// The number of turns that a schedule of one repeated letter gives, or its fault.
@@ -409,17 +413,22 @@ fn is_read_up_to(alloc: Global, text: &str, rest: &str) -> bool {
     fault == Some(ConfigFault::Long) && reader == rest.as_bytes()
 }
 
+/// Whether a text is as long as one may be, and is read, at once and a byte at a time.
+fn is_longest(alloc: Global, text: &str) -> bool {
+    let mut bytewise = FailingReader::new(text.as_bytes(), usize::MAX);
+    text.len() == 2_097_152
+        && judged(alloc, text.as_bytes()) == "well"
+        && read(alloc, &mut bytewise).is_ok()
+}
+
 #[test]
 fn reads_no_more_than_it_may(rt: HostRuntime) {
-    let text = spaced(&rt, rt.alloc(), 2_097_131, "");
-    assert!(rt; text.len() == 2_097_152);
-    assert!(rt; judged(rt.alloc(), text.as_bytes()) == "well");
-    let mut bytewise = FailingReader::new(text.as_bytes(), usize::MAX);
-    assert!(rt; read(rt.alloc(), &mut bytewise).is_ok());
-    let text = spaced(&rt, rt.alloc(), 2_097_132, "");
-    assert!(rt; judged(rt.alloc(), text.as_bytes()) == "config long");
-    let text = spaced(&rt, rt.alloc(), 2_097_132, "after");
-    assert!(rt; is_read_up_to(rt.alloc(), text.as_str(), "after"));
+    let longest = spaced(&rt, rt.alloc(), 2_097_131, "");
+    assert!(rt; is_longest(rt.alloc(), longest.as_str()));
+    let longer = spaced(&rt, rt.alloc(), 2_097_132, "");
+    assert!(rt; judged(rt.alloc(), longer.as_bytes()) == "config long");
+    let after = spaced(&rt, rt.alloc(), 2_097_132, "after");
+    assert!(rt; is_read_up_to(rt.alloc(), after.as_str(), "after"));
 }
 
 /// Whether a configuration is the one that was written, or memory ran out.

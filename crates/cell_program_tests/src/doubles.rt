@@ -20,6 +20,20 @@ pub fn run<T: Threads + Wait + Sync, R: Read, W: Write>(
     serve(rt, alloc, words, reader, writer)
 }
 
+/// Whether the program answers these words and what a reader gives with this status and this text.
+pub fn is_answered<T: Threads + Wait + Sync, R: Read>(
+    rt: &T,
+    alloc: Global,
+    words: &[&str],
+    reader: &mut R,
+    status: u8,
+    text: &str,
+) -> bool {
+    let mut written = Vec::new(alloc);
+    let answered = run(rt, alloc, words, reader, &mut written);
+    answered == status && written.as_slice() == text.as_bytes()
+}
+
 /// Whether the program answers these words and this input with this status and this text.
 pub fn is_served<T: Threads + Wait + Sync>(
     rt: &T,
@@ -29,9 +43,20 @@ pub fn is_served<T: Threads + Wait + Sync>(
     status: u8,
     text: &str,
 ) -> bool {
+    is_answered(rt, alloc, words, &mut input.as_bytes(), status, text)
+}
+
+/// Whether the program answers these words and this input with status 0, and a text with this end.
+pub fn ends<T: Threads + Wait + Sync>(
+    rt: &T,
+    alloc: Global,
+    words: &[&str],
+    input: &str,
+    end: &str,
+) -> bool {
     let mut written = Vec::new(alloc);
     let answered = run(rt, alloc, words, &mut input.as_bytes(), &mut written);
-    answered == status && written.as_slice() == text.as_bytes()
+    answered == 0 && written.as_slice().ends_with(end.as_bytes())
 }
 
 /// The configuration that a reader gives, or its first fault; also without clauses.
@@ -48,8 +73,10 @@ pub struct LineReader<'a> {
 
 impl Read for LineReader<'_> {
     fn read(&mut self, buf: &mut [u8]) -> io::Result<usize> {
-        let end = self.bytes.iter().position(|byte| *byte == b'\n');
-        let line = end.map_or(self.bytes.len(), |end| end.saturating_add(1));
+        let line = match self.bytes.iter().position(|byte| *byte == b'\n') {
+            Some(end) => end.saturating_add(1),
+            None => self.bytes.len(),
+        };
         let count = line.min(buf.len()).min(self.bytes.len());
         let (part, rest) = self.bytes.split_at(count);
         buf[..count].copy_from_slice(part);

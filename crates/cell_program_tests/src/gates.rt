@@ -11,7 +11,7 @@ pub const NOTES: [u64; 8] = [0, 1, 12, 123, 1234, 12_345, 123_456, 1_234_567];
 
 /// Which turns a gate lets machines begin. A machine that meets the others begins its turn once all
 /// six have asked for it; it waits for a bounded time.
-#[derive(Clone, Copy, PartialEq, Eq, Debug)]
+#[derive(Clone, Copy)]
 pub enum Rule {
     /// The first ones of each machine: how many.
     First([u32; 6]),
@@ -59,21 +59,28 @@ impl Doorkeeper {
 
     /// Whether some first machines have asked for these turns, and the others for none.
     pub fn has_let_in_the_first(&self, notes: u64) -> bool {
-        self.asked
-            .iter()
-            .map(|asked| asked.load(Ordering::SeqCst))
-            .skip_while(|asked| *asked == notes)
-            .all(|asked| asked == 0)
+        let mut are_first = true;
+        for asked in &self.asked {
+            let noted = asked.load(Ordering::SeqCst);
+            are_first = are_first && noted == notes;
+            if !are_first && noted != 0 {
+                return false;
+            }
+        }
+        true
     }
 
     // Whether all six have asked for this turn, once for each turn up to it.
     fn are_all_at(&self, turn: u32) -> bool {
-        match NOTES.get(turn as usize + 1) {
-            Some(wanted) => self.asked[..6]
-                .iter()
-                .all(|asked| asked.load(Ordering::SeqCst) >= *wanted),
-            None => false,
+        let Some(wanted) = NOTES.get(turn as usize + 1) else {
+            return false;
+        };
+        for machine in 0..6usize {
+            if self.asked[machine].load(Ordering::SeqCst) < *wanted {
+                return false;
+            }
         }
+        true
     }
 
     // Whether they all are within some time.
@@ -88,10 +95,12 @@ impl Doorkeeper {
 }
 
 fn are_noted(found: &[AtomicU64], wanted: &[u64]) -> bool {
-    found
-        .iter()
-        .zip(wanted.iter())
-        .all(|(found, wanted)| found.load(Ordering::SeqCst) == *wanted)
+    for at in 0..found.len().min(wanted.len()) {
+        if found[at].load(Ordering::SeqCst) != wanted[at] {
+            return false;
+        }
+    }
+    true
 }
 
 fn zero() -> AtomicU64 {

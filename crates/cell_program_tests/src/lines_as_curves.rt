@@ -6,7 +6,7 @@ use super::reports::{
     BUSY, EMPTY, HANDS_OVER, ONE_TURN_EACH, PRESS, PRESS_REPORT, SIX_WORKERS, STILL, WAITS,
 };
 use super::simulations::SIM;
-use super::six_machines::{LINES, RUNS, is_reported};
+use super::six_machines::{LINES, is_reported, runs};
 use std::alloc::{AllocError, Global};
 use std::sync::Wait;
 use std::test::Fail;
@@ -94,7 +94,7 @@ fn reads_a_line_by_its_pairs(rt: HostRuntime) -> Result<(), Fail> {
 
 #[test]
 fn moves_by_the_pairs_of_a_line(rt: HostRuntime) {
-    for (start, runs, lines, report) in RUNS {
+    for (start, runs, lines, report) in runs() {
         for (line, curves) in CURVES {
             assert!(rt;
                 *line != *lines || is_reported(&rt, rt.alloc(), start, runs, curves, report),

@@ -56,6 +56,16 @@ fn is_cut(written: &str, answer: &str, least: usize, fault: &str) -> bool {
     }
 }
 
+// Whether it is so for one of these faults.
+fn is_cut_by_any(written: &str, answer: &str, least: usize, faults: &[&str]) -> bool {
+    for fault in faults {
+        if is_cut(written, answer, least, fault) {
+            return true;
+        }
+    }
+    false
+}
+
 // Whether a run writes the whole text, or says that memory ran out. A script gives a record at a time,
 // and before the next one is read the lines of all but the last one are written: they aren't lost.
 fn is_right<T: Threads + Wait + Sync>(rt: &T, alloc: Global, row: &Row) -> bool {
@@ -74,12 +84,7 @@ fn is_right<T: Threads + Wait + Sync>(rt: &T, alloc: Global, row: &Row) -> bool 
     let least = reader.given.saturating_sub(2).min(answer.lines().count());
     match status {
         0 => written.ends_with(end),
-        1 => {
-            tells_want(written)
-                || faults
-                    .iter()
-                    .any(|fault| is_cut(written, answer, least, fault))
-        }
+        1 => tells_want(written) || is_cut_by_any(written, answer, least, faults),
         _ => false,
     }
 }

@@ -3,7 +3,10 @@
 
 use super::hostile_configurations::{NO_PLATES, are_told_beside_start};
 use std::alloc::{AllocError, Global};
+use std::process::Abort;
+use std::sync::Wait;
 use std::test::Fail;
+use std::thread::Threads;
 
 const STAMPS: &[(&str, &str)] = &[
     ("stamp = 0", NO_PLATES),
@@ -180,12 +183,22 @@ fn for_axis(alloc: Global, row: &str, axis: &Axis) -> Result<String, AllocError>
     Ok(text)
 }
 
+/// Checks what is said of a row for an axis.
+fn is_told_for_axis<T: Abort + Threads + Wait + Sync>(
+    rt: &T,
+    alloc: Global,
+    row: (&str, &str),
+    axis: &Axis,
+) -> Result<(), AllocError> {
+    let text = for_axis(alloc, row.0, axis)?;
+    are_told_beside_start(rt, alloc, &[(text.as_str(), row.1)])
+}
+
 #[test]
 fn takes_calibrations(rt: HostRuntime) -> Result<(), Fail> {
     for axis in AXES {
-        for (row, wanted) in CALIBRATIONS {
-            let text = for_axis(rt.alloc(), row, axis)?;
-            are_told_beside_start(&rt, rt.alloc(), &[(text.as_str(), *wanted)])?;
+        for row in CALIBRATIONS {
+            is_told_for_axis(&rt, rt.alloc(), *row, axis)?;
         }
     }
     Ok(())
@@ -270,24 +283,40 @@ const COUNTED: &[(u32, &str, &str)] = &[
     (1000, ", [\"4000\", 1000]", "kind"),
 ];
 
-/// A curve of the first arm: pairs on its line, the last pair, and what follows.
-fn curve(alloc: Global, count: u32, end: &str) -> Result<String, AllocError> {
-    let mut text = String::from_str(alloc, "arm1.points = [")?;
+/// Adds a number of pairs on the line of the first arm.
+fn push_pairs(text: &mut String, alloc: Global, count: u32) -> Result<(), AllocError> {
     for at in 0..count {
         let pair = format!(in alloc; "[{}, {at}], ", u64::from(at) * 4)?;
         text.push_str(pair.as_str())?;
     }
+    Ok(())
+}
+
+/// A curve of the first arm: pairs on its line, the last pair, and what follows.
+fn curve(alloc: Global, count: u32, end: &str) -> Result<String, AllocError> {
+    let mut text = String::from_str(alloc, "arm1.points = [")?;
+    push_pairs(&mut text, alloc, count)?;
     text.push_str("[4000, 1000]")?;
     text.push_str(end)?;
     text.push_str("]")?;
     Ok(text)
 }
 
+/// Checks what is said of a curve.
+fn is_curve_told<T: Abort + Threads + Wait + Sync>(
+    rt: &T,
+    alloc: Global,
+    row: &(u32, &str, &str),
+) -> Result<(), AllocError> {
+    let (count, end, wanted) = *row;
+    let text = curve(alloc, count, end)?;
+    are_told_beside_start(rt, alloc, &[(text.as_str(), wanted)])
+}
+
 #[test]
 fn takes_2_to_32_pairs(rt: HostRuntime) -> Result<(), Fail> {
-    for (count, end, wanted) in COUNTED {
-        let text = curve(rt.alloc(), *count, end)?;
-        are_told_beside_start(&rt, rt.alloc(), &[(text.as_str(), *wanted)])?;
+    for row in COUNTED {
+        is_curve_told(&rt, rt.alloc(), row)?;
     }
     Ok(())
 }

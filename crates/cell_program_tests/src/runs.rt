@@ -1,10 +1,7 @@
 //! Runs by six workers: configurations, the reports of their runs, and exit statuses.
 
-use super::doubles::{is_served, run};
+use super::doubles::{ends, is_served};
 use super::reports::{EMPTY, SIX_WORKERS};
-use std::alloc::Global;
-use std::sync::Wait;
-use std::thread::Threads;
 
 const RUN: &[&str] = &["cell", "run", "--turns", "3", "--tries", "64"];
 
@@ -40,19 +37,6 @@ fn runs_and_reports(rt: HostRuntime) {
     }
 }
 
-// Whether a run ends with status 0, and its report with this text.
-fn ends<T: Threads + Wait + Sync>(
-    rt: &T,
-    alloc: Global,
-    words: &[&str],
-    config: &str,
-    end: &[u8],
-) -> bool {
-    let mut written = Vec::new(alloc);
-    let status = run(rt, alloc, words, &mut config.as_bytes(), &mut written);
-    status == 0 && written.as_slice().ends_with(end)
-}
-
 // In whichever order the workers take turns, none is stopped, and their journals give one legal
 // history.
 const STARTS: &[&str] = &[
@@ -65,7 +49,7 @@ const STARTS: &[&str] = &[
 fn audits_long_runs(rt: HostRuntime) {
     for config in STARTS {
         assert!(rt;
-            ends(&rt, rt.alloc(), &["cell", "run"], config, b"\naudit ok\n"),
+            ends(&rt, rt.alloc(), &["cell", "run"], config, "\naudit ok\n"),
             "{config}"
         );
     }

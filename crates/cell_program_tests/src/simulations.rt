@@ -1,6 +1,6 @@
 //! Simulations: configurations, the reports of their runs, and exit statuses.
 
-use super::doubles::{is_served, run};
+use super::doubles::{ends, is_answered, is_served};
 use super::reports::{
     BUSY, HANDS_OVER, LONG, LONGEST, ONE_TURN_EACH, PRESS, PRESS_REPORT, STILL, STOP,
     STOP_AND_RESUME, WAITS, WORN,
@@ -82,9 +82,8 @@ fn is_too_long<T: Threads + Wait + Sync>(rt: &T, alloc: Global) -> bool {
     let Ok(long) = vec![in alloc; b' '; 2_097_153] else {
         return false;
     };
-    let mut written = Vec::new(alloc);
-    let status = run(rt, alloc, SIM, &mut long.as_slice(), &mut written);
-    status == 1 && written.as_slice() == b"fault config long\n".as_slice()
+    let fault = "fault config long\n";
+    is_answered(rt, alloc, SIM, &mut long.as_slice(), 1, fault)
 }
 
 #[test]
@@ -140,13 +139,6 @@ fn random_schedule(alloc: Global, seed: usize, turns: usize) -> Result<String, A
     Ok(schedule)
 }
 
-// Whether a configuration is simulated, no machine is stopped, and the report ends with this text.
-fn ends<T: Threads + Wait + Sync>(rt: &T, alloc: Global, config: &str, end: &[u8]) -> bool {
-    let mut written = Vec::new(alloc);
-    let status = run(rt, alloc, SIM, &mut config.as_bytes(), &mut written);
-    status == 0 && written.as_slice().ends_with(end)
-}
-
 #[test]
 fn audits_random_schedules(rt: HostRuntime) -> Result<(), Fail> {
     let alloc = rt.alloc();
@@ -161,7 +153,7 @@ fn audits_random_schedules(rt: HostRuntime) -> Result<(), Fail> {
         ] {
             let config = scheduled(alloc, start, schedule.as_str())?;
             assert!(rt;
-                ends(&rt, alloc, config.as_str(), b"\naudit ok\n"),
+                ends(&rt, alloc, SIM, config.as_str(), "\naudit ok\n"),
                 "{config}"
             );
         }

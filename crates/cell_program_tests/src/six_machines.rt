@@ -21,7 +21,7 @@ gripper = { raw = [5, 1508], tol = 10 }
 ";
 
 /// Starts, schedules and lines, with the reports of their runs.
-pub const RUNS: &[(&str, Runs<'static>, &str, &str)] = &[
+const RUNS: &[(&str, Runs<'static>, &str, &str)] = &[
     (
         "0100000000",
         &[(6, "t"), (11, "f"), (1, "t")],
@@ -51,6 +51,11 @@ pub const RUNS: &[(&str, Runs<'static>, &str, &str)] = &[
     ("1011101010", &[(400, "ftrpdc")], "", STANDSTILL),
 ];
 
+/// The starts, schedules and lines with their reports.
+pub fn runs() -> &'static [(&'static str, Runs<'static>, &'static str, &'static str)] {
+    RUNS
+}
+
 /// One plate is carried once round the cell, and each machine has turns for as long as it can work.
 const ONE_ROUND: Runs<'static> = &[
     (6, "t"),
@@ -70,6 +75,16 @@ const ONE_ROUND: Runs<'static> = &[
     (1, "f"),
 ];
 
+/// Adds the letters of these runs.
+fn push_runs(schedule: &mut String, runs: Runs<'_>) -> Result<(), AllocError> {
+    for (count, letters) in runs {
+        for _ in 0..*count {
+            schedule.push_str(letters)?;
+        }
+    }
+    Ok(())
+}
+
 /// The configuration of a start, of these runs and these lines.
 fn config_of(
     alloc: Global,
@@ -78,11 +93,7 @@ fn config_of(
     lines: &str,
 ) -> Result<String, AllocError> {
     let mut schedule = String::new(alloc);
-    for (count, letters) in runs {
-        for _ in 0..*count {
-            schedule.push_str(letters)?;
-        }
-    }
+    push_runs(&mut schedule, runs)?;
     let mut config = scheduled(alloc, start, schedule.as_str())?;
     config.push_str(lines)?;
     Ok(config)
@@ -105,7 +116,7 @@ pub fn is_reported<T: Threads + Wait + Sync>(
 
 #[test]
 fn plates_go_round(rt: HostRuntime) {
-    for (start, runs, lines, report) in RUNS {
+    for (start, runs, lines, report) in runs() {
         assert!(rt;
             is_reported(&rt, rt.alloc(), start, runs, lines, report),
             "{start}"

@@ -1,6 +1,6 @@
 //! Input and output that fail, are interrupted, or come in small parts.
 
-use super::doubles::{UnflushedWriter, read, run};
+use super::doubles::{UnflushedWriter, is_answered, read, run};
 use super::reports::{EMPTY, PRESS, PRESS_REPORT, SIX_WORKERS};
 use super::served::{SCRIPT, TEXT};
 use cell_config::{Config, ConfigFault};
@@ -29,9 +29,7 @@ fn is_failed_read<T: Threads + Wait + Sync>(
     left: usize,
 ) -> bool {
     let mut reader = FailingReader::new(input.as_bytes(), left);
-    let mut written = Vec::new(alloc);
-    let status = run(rt, alloc, words, &mut reader, &mut written);
-    status == 1 && written.as_slice() == b"fault read\n".as_slice()
+    is_answered(rt, alloc, words, &mut reader, 1, "fault read\n")
 }
 
 #[test]
