@@ -1,8 +1,8 @@
 //! A plan's document: its rows, in which machines, zones and places are texts.
 
-/// What a pose gives a zone.
+/// The posture that a pose gives a zone.
 #[derive(Drop)]
-pub struct Given {
+pub struct PostureRow {
     /// The zone's name.
     pub zone: String,
     /// The posture's word.
@@ -15,7 +15,7 @@ pub struct PoseRow {
     /// Its name.
     pub name: String,
     /// What it gives, by zones.
-    pub gives: Vec<Given>,
+    pub gives: Vec<PostureRow>,
     /// Whether it can be taken only after moving.
     pub after_moving: bool,
 }

@@ -9,7 +9,7 @@ mod resolving;
 mod skipping;
 mod values;
 
-pub use document::{Document, Given, MachineRow, PoseRow, WayRow, ZoneRow};
+pub use document::{Document, MachineRow, PoseRow, PostureRow, WayRow, ZoneRow};
 pub use fault::{DocumentFault, Key, Location, PlanTextFault, RowOf, Wrong};
 pub use reading::{MAX_BYTES, plan_of, read_plan};
 pub use resolving::ProgrammedPlan;

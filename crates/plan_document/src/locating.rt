@@ -81,14 +81,14 @@ fn push_steps<'a>(steps: &mut Vec<Step<'a>>, fault: &'a DocumentFault) -> Result
     if let Some(item) = item {
         steps.push(Step::Item(item))?;
     }
-    if let Some(name) = named_by(fault) {
+    if let Some(name) = key_name_of(fault) {
         steps.push(Step::Key(name))?;
     }
     Ok(())
 }
 
 /// The key that a fault is about, if it isn't one of `Key`.
-fn named_by(fault: &DocumentFault) -> Option<&str> {
+fn key_name_of(fault: &DocumentFault) -> Option<&str> {
     match (fault.location.key, &fault.wrong) {
         (None, Wrong::Unknown(name))
         | (Some(Key::Gives), Wrong::NoZone(name) | Wrong::Foreign(name))

@@ -1,6 +1,6 @@
 //! From the names in a document's rows to numbers: the tables of a plan, and the machines' programs.
 
-use crate::document::{Document, Given, MachineRow, PoseRow, WayRow, ZoneRow};
+use crate::document::{Document, MachineRow, PoseRow, PostureRow, WayRow, ZoneRow};
 use crate::fault::{At, DocumentFault, Key, PlanTextFault, RowOf, Wrong};
 use crate::values::copy;
 use plan_explorer::{MAX_STEPS, ProgramFault, Programs};
@@ -273,7 +273,7 @@ fn add_pose(
 fn gives_of(
     alloc: Global,
     zones: &Names,
-    rows: &[Given],
+    rows: &[PostureRow],
 ) -> Result<[Option<Posture>; MAX_ZONES], Wrong> {
     let mut gives = [None; MAX_ZONES];
     for row in rows {

@@ -1,6 +1,6 @@
 //! The values of a document's keys.
 
-use crate::document::{Given, WayRow};
+use crate::document::{PostureRow, WayRow};
 use crate::fault::Wrong;
 use std::alloc::{AllocError, Global};
 use toml::{Table, Value};
@@ -70,28 +70,28 @@ fn way_between(alloc: Global, from: &Value, to: &Value) -> Result<WayRow, Wrong>
 }
 
 /// Adds what a pose gives: a table from zones to postures, which has to be there.
-pub fn add_gives(alloc: Global, pose: &Table, gives: &mut Vec<Given>) -> Result<(), Wrong> {
+pub fn add_gives(alloc: Global, pose: &Table, gives: &mut Vec<PostureRow>) -> Result<(), Wrong> {
     let Some(table) = value_of(pose, "gives")?.as_table() else {
         return Err(Wrong::NoTable);
     };
     'entries: for (zone, posture) in table.iter() {
         match posture.as_str() {
-            Some(posture) => add_given(alloc, zone.as_str(), posture, gives)?,
+            Some(posture) => add_posture(alloc, zone.as_str(), posture, gives)?,
             None => return Err(Wrong::NoTable),
         }
     }
     Ok(())
 }
 
-fn add_given(
+fn add_posture(
     alloc: Global,
     zone: &str,
     posture: &str,
-    gives: &mut Vec<Given>,
+    gives: &mut Vec<PostureRow>,
 ) -> Result<(), AllocError> {
     let zone = copy(alloc, zone)?;
     let posture = copy(alloc, posture)?;
-    gives.push(Given { zone, posture })?;
+    gives.push(PostureRow { zone, posture })?;
     Ok(())
 }
 
