@@ -11,7 +11,8 @@ use Rattle.std.proofs.lemmas.Str.Parse.{FoldsDigits, IsDigitsTest, IsNumeralMode
 use Rattle.csv.specs.Writing.{default_writer, needs_byte}
 use Rattle.cell_rules.specs.Types.{all_places, Event, PressIn, PressOut}
 use Rattle.cell_rules.specs.Names.{ModelState, last_stamp, size_of, PlaceSet, has, IsStart, IsStartState, is_flag, is_start, places_in}
-use Rattle.cell_replay.specs.Script.{number_in, read_on, start_in, start_of}
+use Rattle.cell_replay.specs.Script.{start_in, start_of}
+use Rattle.csv_rows.specs.Numbers.{number_in, read_on}
 use Rattle.cell_replay.specs.Versions.{version_of, version_word}
 use Rattle.cell_replay.specs.declared.version.Version.{Version}
 use Rattle.cell_replay.specs.declared.version.Version.TheVariants.{First, Second}

@@ -4,9 +4,10 @@ ghost use Rattle.cell_replay.specs.Versions.{version_of};
 
 use crate::fields::{Field, MAX_FIELDS};
 use crate::records::{Record, line_ends, record_at};
-use cell_replay::{MAX_STAMP_DIGITS, Version};
+use cell_replay::Version;
 use cell_rules::{LAST_STAMP, read_places};
 use cell_types::Machine;
+use csv_rows::read_number;
 use std::alloc::{AllocError, Global};
 
 /// What a start looks like.
@@ -157,15 +158,10 @@ fn are_digits(field: &[u8]) -> bool {
 
 /// Whether a field is a stamp within its limit: one to seven digits, of which the first may be 0.
 fn is_stamp(field: &[u8]) -> bool {
-    if !are_digits(field) || field.is_empty() || field.len() > MAX_STAMP_DIGITS {
-        return false;
+    match read_number(field) {
+        Some(stamp) => stamp <= LAST_STAMP,
+        None => false,
     }
-    let mut stamp = 0u32;
-    for digit in field {
-        let value = u32::from(digit.saturating_sub(b'0'));
-        stamp = stamp.saturating_mul(10).saturating_add(value);
-    }
-    stamp <= LAST_STAMP
 }
 
 /// Adds why a field is no stamp.

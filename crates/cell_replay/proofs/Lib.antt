@@ -1,4 +1,3 @@
-pub mod Digits
 pub mod LimitedReads
 pub mod Lines
 pub mod Requests

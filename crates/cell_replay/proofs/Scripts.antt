@@ -12,7 +12,8 @@ use Rattle.csv_rows.specs.Rows.{Row}
 use Rattle.cell_replay.specs.Versions.{version_of}
 use Rattle.cell_replay.specs.declared.version.Version.{Version}
 use Rattle.cell_replay.specs.declared.script_start.Start.{Start}
-use Rattle.cell_replay.specs.Script.{event_line, event_lines, events_from, is_cut_of, lines_from, max_records, number_in, outcome_from, requests_in, rows_lines, rows_outcome, rows_start, script_events, script_lines, script_outcome, script_rows, script_start, start_by, start_fields, start_in, start_of, start_of_version}
+use Rattle.csv_rows.specs.Numbers.{number_in}
+use Rattle.cell_replay.specs.Script.{event_line, event_lines, events_from, is_cut_of, lines_from, max_records, outcome_from, requests_in, rows_lines, rows_outcome, rows_start, script_events, script_lines, script_outcome, script_rows, script_start, start_by, start_fields, start_in, start_of, start_of_version}
 use Rattle.cell_replay.specs.declared.script.ScriptFault.{ScriptFault}
 use Rattle.cell_replay.specs.declared.script.ScriptFault.TheVariants.{NoStart, BadStart, BadRow, Long}
 use Rattle.cell_replay.specs.declared.script.Outcome.TheVariants.{Clean, Refused}

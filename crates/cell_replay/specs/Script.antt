@@ -1,14 +1,14 @@
 -- The answer to a script, by its version.
-use Rattle.std.specs.Prelude.{ℕ, ◌+◌, ◌-◌, ◌*◌, ◌==◌, ◌&&◌, Bool, List, [], ◌∷◌, ◌++◌, length, map, take, drop, codes}
-use Rattle.std.specs.Prelude.{nat_lt, nat_le, Option, Some, None, Result, Ok, Err, if◌then◌else◌}
-use Rattle.std.specs.Char.{is_ascii_digit}
+use Rattle.std.specs.Prelude.{ℕ, ◌+◌, ◌-◌, ◌==◌, Bool, List, [], ◌∷◌, ◌++◌, length, map, take, drop, codes}
+use Rattle.std.specs.Prelude.{nat_lt, Option, Some, None, Result, Ok, Err, if◌then◌else◌}
 use Rattle.std.specs.Fmt.{decimal}
-use Rattle.std.specs.List.{concat, enumerate_from, list_all}
+use Rattle.std.specs.List.{concat, enumerate_from}
 use Rattle.std.specs.Option.{option_map_or}
 use Rattle.csv.specs.Reading.{default_config, records, strip_bom}
 use Rattle.cell_rules.specs.Types.{Event, answer_text}
 use Rattle.cell_rules.specs.Names.{ModelState, plates_of, PlaceSet, places_of, start_state, places_in, is_start, next}
 use Rattle.cell_rules.specs.Names.{reply, after}
+use Rattle.csv_rows.specs.Numbers.{number_in}
 use Rattle.csv_rows.specs.Rows.{Row}
 use Rattle.cell_replay.specs.Requests.{request_of}
 use Rattle.cell_replay.specs.Versions.{version_of, version_word}
@@ -30,18 +30,6 @@ max_records = 65536
 -- one byte more shows whether there are more than are used
 abbrev pub max_bytes_read : ℕ
 max_bytes_read = 4194305
-
--- the number that more digits write, after those of a number
-abbrev pub read_on : ℕ → List ℕ → ℕ
-read_on number [] = number
-read_on number (digit ∷ digits) = read_on (10 * number + (digit - 48)) digits
-
--- one to seven digits
-abbrev pub is_number : List ℕ → Bool
-is_number field = nat_lt 0 (length field) && nat_le (length field) 7 && list_all is_ascii_digit field
-
-abbrev pub number_in : List ℕ → Option ℕ
-number_in field = if is_number field then Some (read_on 0 field) else None
 
 abbrev pub start_at : PlaceSet → ℕ → Result ModelState ScriptFault
 start_at full stamp = if is_start full stamp then Ok (start_state full stamp) else Err BadStart

@@ -17,5 +17,4 @@ pub use answers::MAX_RECORDS;
 pub use limited::MAX_BYTES;
 pub use replay_script::replay;
 pub use script::{Outcome, ReplayFault, ScriptFault};
-pub use script_start::MAX_STAMP_DIGITS;
 pub use version::Version;

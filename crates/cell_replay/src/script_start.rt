@@ -1,6 +1,6 @@
 //! Reads the start in record 0.
 
-ghost use Rattle.std.specs.Prelude.{◌≡◌, ◌<◌, Some, drop};
+ghost use Rattle.std.specs.Prelude.{◌≡◌, drop};
 ghost use Rattle.csv.specs.Records.{fields_of};
 ghost use Rattle.cell_replay.specs.Script as script;
 
@@ -8,27 +8,7 @@ use crate::script::ScriptFault;
 use crate::version::Version;
 use cell_rules::{PLACES, State, read_places};
 use csv::ByteRecord;
-
-/// The most digits of a stamp.
-pub const MAX_STAMP_DIGITS: usize = 7;
-
-/// The number that one to seven digits write; `None` for other bytes.
-#[tactic(auto, using(crate::proofs::Digits::power_small))]
-fn read_number(field: &[u8]) -> Option<u32>
-    ensures { result ≡ script.number_in field.now }
-{
-    if field.is_empty() || field.len() > MAX_STAMP_DIGITS {
-        return None;
-    }
-    let mut number = 0u32;
-    'digits: for byte in field {
-        if !byte.is_ascii_digit() {
-            return None;
-        }
-        number = 10 * number + u32::from(*byte - b'0');
-    }
-    Some(number)
-}
+use csv_rows::read_number;
 
 /// The start with these places and this stamp; `BadStart` if one is absent, or both make no start.
 fn start_of(places: Option<[bool; PLACES]>, stamp: Option<u32>) -> Result<State, ScriptFault>

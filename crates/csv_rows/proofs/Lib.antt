@@ -1,2 +1,3 @@
+pub mod Digits
 mod RecordLemmas
 pub mod RowsTaken

@@ -1,6 +1,6 @@
 use Rattle.std.proofs.Common.{arith}
-use Rattle.cell_replay.proofs.Digits.{power_small}
-use Rattle.cell_replay.proofs.script_start.read_number.Goals as goal
+use Rattle.csv_rows.proofs.Digits.{power_small}
+use Rattle.csv_rows.proofs.number.read_number.Goals as goal
 
 pub overflow_mul-number : goal.overflow_mul-number
 overflow_mul-number c = grind (arith, power_small)

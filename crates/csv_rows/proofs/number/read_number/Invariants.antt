@@ -1,9 +1,9 @@
 use Rattle.std.proofs.Common.{◌≡◌, ◌<◌, drop}
 use Rattle.std.specs.Char.{is_ascii_digit}
 use Rattle.std.specs.List.{list_all}
-use Rattle.cell_replay.specs.Script.{read_on}
-use Rattle.cell_replay.proofs.Digits.{power}
-use Rattle.cell_replay.proofs.script_start.read_number.Given as goal
+use Rattle.csv_rows.specs.Numbers.{read_on}
+use Rattle.csv_rows.proofs.Digits.{power}
+use Rattle.csv_rows.proofs.number.read_number.Given as goal
 
 abbrev pub invariant-digits : goal.invariant-digits
 invariant-digits l = record {
