@@ -67,7 +67,7 @@ fn push_field(
     let Some(first) = named.layout().start(field) else {
         return Ok(());
     };
-    let count = plan_word::Layout::bits(field);
+    let count = plan_word::Layout::bits_of(field);
     let ending = if count == 1 { "" } else { "s" };
     writeln!(text, "bit {first}, {count} bit{ending}: {kind}{name}")
 }

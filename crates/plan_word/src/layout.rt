@@ -97,13 +97,13 @@ impl Layout {
     }
 
     /// The number in a field of a word.
-    pub(crate) fn told(&self, word: u64, field: Field) -> u64
+    pub(crate) fn value_in(&self, word: u64, field: Field) -> u64
         requires { layouts.has self.now field ≡ true }
         ensures value { result ≡ reading.told self.now word field }
         ensures fits { result < 2 ^ layouts.bits_of field }
     {
         let lowest = u32::from(self.lowest(field));
-        bits(word, lowest, u32::from(Layout::bits(field)))
+        bits(word, lowest, u32::from(Layout::bits_of(field)))
     }
 
     /// The word with a number in a field above all bits that are set.
@@ -115,11 +115,11 @@ impl Layout {
         ensures below { result < 2 ^ layouts.end_of self.now field }
     {
         let lowest = u32::from(self.lowest(field));
-        with_bits(word, lowest, u32::from(Layout::bits(field)), value)
+        with_bits(word, lowest, u32::from(Layout::bits_of(field)), value)
     }
 
     /// How many bits a field has.
-    pub fn bits(field: Field) -> u8
+    pub fn bits_of(field: Field) -> u8
         ensures { result ≡ layouts.bits_of field }
     {
         match field {

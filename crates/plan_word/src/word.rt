@@ -43,42 +43,42 @@ pub fn pack(plan: &Plan, layout: &Layout, state: &State) -> u64
     layout.with(word, Field::Stop, u64::from(state.stopped))
 }
 
-fn zone_told(plan: &Plan, layout: &Layout, word: u64, zone: u8) -> ZoneState
+fn zone_in(plan: &Plan, layout: &Layout, word: u64, zone: u8) -> ZoneState
     requires { layout.now ≡ counts_of plan.now }
     ensures { result ≡ reading.zone_told plan.now word zone }
 {
     if zone < plan.zone_count() {
-        zone_of_code(plan, zone, layout.told(word, Field::Zone(zone)))
+        zone_of_code(plan, zone, layout.value_in(word, Field::Zone(zone)))
     } else {
         FREE_ZONE
     }
 }
 
-fn place_told(plan: &Plan, layout: &Layout, word: u64, place: u8) -> bool
+fn is_full_in(plan: &Plan, layout: &Layout, word: u64, place: u8) -> bool
     requires { layout.now ≡ counts_of plan.now }
     ensures { result ≡ reading.place_told plan.now word place }
 {
-    place < plan.place_count() && layout.told(word, Field::Place(place)) == 1
+    place < plan.place_count() && layout.value_in(word, Field::Place(place)) == 1
 }
 
-fn zones_told(plan: &Plan, layout: &Layout, word: u64) -> [ZoneState; MAX_ZONES]
+fn zones_in(plan: &Plan, layout: &Layout, word: u64) -> [ZoneState; MAX_ZONES]
     requires { layout.now ≡ counts_of plan.now }
     ensures { result ≡ reading.zones_told plan.now word }
 {
     let mut zones = [FREE_ZONE; MAX_ZONES];
     for zone in 0..MAX_ZONES {
-        zones[zone] = zone_told(plan, layout, word, zone as u8);
+        zones[zone] = zone_in(plan, layout, word, zone as u8);
     }
     zones
 }
 
-fn places_told(plan: &Plan, layout: &Layout, word: u64) -> [bool; MAX_PLACES]
+fn places_in(plan: &Plan, layout: &Layout, word: u64) -> [bool; MAX_PLACES]
     requires { layout.now ≡ counts_of plan.now }
     ensures { result ≡ reading.places_told plan.now word }
 {
     let mut places = [false; MAX_PLACES];
     for place in 0..MAX_PLACES {
-        places[place] = place_told(plan, layout, word, place as u8);
+        places[place] = is_full_in(plan, layout, word, place as u8);
     }
     places
 }
@@ -89,19 +89,19 @@ pub fn stamp_of(layout: &Layout, word: u64) -> u32
     ensures stamp { (plan : PlanTable) (state : PlanState) → layout.now ≡ counts_of plan
         → IsOfPlan plan state → packed plan state ≡ word → result ≡ state.stamp }
 {
-    layout.told(word, Field::Stamp) as u32
+    layout.value_in(word, Field::Stamp) as u32
 }
 
 /// The state that the fields of a word tell, sound or not.
-fn state_told(plan: &Plan, layout: &Layout, word: u64) -> State
+fn state_in(plan: &Plan, layout: &Layout, word: u64) -> State
     requires { layout.now ≡ counts_of plan.now }
     ensures { result ≡ reading.state_told plan.now word }
 {
     State {
-        zones: zones_told(plan, layout, word),
-        full: places_told(plan, layout, word),
+        zones: zones_in(plan, layout, word),
+        full: places_in(plan, layout, word),
         stamp: stamp_of(layout, word),
-        stopped: layout.told(word, Field::Stop) == 1,
+        stopped: layout.value_in(word, Field::Stop) == 1,
     }
 }
 
@@ -114,7 +114,7 @@ pub fn unpack(plan: &Plan, layout: &Layout, word: u64) -> Option<State>
     ensures none { IsNone result
         ↔ ((state : PlanState) → IsOfPlan plan.now state → packed plan.now state ≢ word) }
 {
-    let state = state_told(plan, layout, word);
+    let state = state_in(plan, layout, word);
     if is_sound(plan, state) && pack(plan, layout, &state) == word {
         Some(state)
     } else {

@@ -7,6 +7,6 @@ use Rattle.plan_word.proofs.word.stamp_of.Goals as goal
 
 pub returns-clause-stamp : goal.returns-clause-stamp
 returns-clause-stamp c = λ t s layout k e.
-    c.told.ensures.value
+    c.value_in.ensures.value
     ∙ ap₂ (λ (n : Counts) w. told n w Stamp) layout (sym e)
     ∙ held_back t s k.sound.stamp_in_range Stamp refl
