@@ -28,7 +28,7 @@ pub enum Step {
 
 /// The outcome of a step.
 #[derive(Clone, Copy, PartialEq, Eq, Debug)]
-pub enum Outcome {
+pub enum StepOutcome {
     Settled(Answer, u32),
     Busy(u8, u32),
     Pending,
@@ -46,61 +46,67 @@ pub enum Held {
     Nothing,
 }
 
-impl Outcome {
-    fn of(reply: Reply) -> Outcome {
+impl StepOutcome {
+    fn of(reply: Reply) -> StepOutcome {
         match reply {
-            Reply::Settled(answer, stamp) => Outcome::Settled(answer, stamp),
-            Reply::Busy { lost, stamp } => Outcome::Busy(lost, stamp),
+            Reply::Settled(answer, stamp) => StepOutcome::Settled(answer, stamp),
+            Reply::Busy { lost, stamp } => StepOutcome::Busy(lost, stamp),
         }
     }
 }
 
-fn looked(interlock: &Interlock, pass: Pass, call: Call) -> (Held, Outcome)
+fn after_look(interlock: &Interlock, pass: Pass, call: Call) -> (Held, StepOutcome)
     requires { pass.table ≡ interlock.now.table }
     ensures { IsHeldAt interlock.now result.0 }
 {
     match interlock.look(pass, call) {
-        Look::Settled(answer, stamp, pass) => (Held::Idle(pass), Outcome::Settled(answer, stamp)),
-        Look::Pending(pending) => (Held::Trying(pending), Outcome::Pending),
+        Look::Settled(answer, stamp, pass) => (
+            Held::Idle(pass),
+            StepOutcome::Settled(answer, stamp),
+        ),
+        Look::Pending(pending) => (Held::Trying(pending), StepOutcome::Pending),
     }
 }
 
-fn attempted(interlock: &Interlock, pending: Try) -> (Held, Outcome)
+fn after_attempt(interlock: &Interlock, pending: Try) -> (Held, StepOutcome)
     requires { pending.pass.table ≡ interlock.now.table }
     ensures { IsHeldAt interlock.now result.0 }
 {
     match interlock.attempt(pending) {
-        Tried::Settled(answer, stamp, pass) => (Held::Idle(pass), Outcome::Settled(answer, stamp)),
-        Tried::Lost(pending) => (Held::Trying(pending), Outcome::Lost),
-        Tried::Busy { lost, stamp, pass } => (Held::Idle(pass), Outcome::Busy(lost, stamp)),
+        Tried::Settled(answer, stamp, pass) => (
+            Held::Idle(pass),
+            StepOutcome::Settled(answer, stamp),
+        ),
+        Tried::Lost(pending) => (Held::Trying(pending), StepOutcome::Lost),
+        Tried::Busy { lost, stamp, pass } => (Held::Idle(pass), StepOutcome::Busy(lost, stamp)),
     }
 }
 
 /// Takes a step with what a caller holds, and returns what it holds afterwards.
-fn stepped(interlock: &Interlock, held: Held, step: Step) -> (Held, Outcome)
+fn after_step(interlock: &Interlock, held: Held, step: Step) -> (Held, StepOutcome)
     requires { IsHeldAt interlock.now held }
     ensures { IsHeldAt interlock.now result.0 }
 {
     match (held, step) {
         (Held::Idle(mut pass), Step::Ask(call)) => {
             let reply = interlock.ask(&mut pass, call);
-            (Held::Idle(pass), Outcome::of(reply))
+            (Held::Idle(pass), StepOutcome::of(reply))
         }
-        (Held::Idle(pass), Step::Look(call)) => looked(interlock, pass, call),
-        (Held::Trying(pending), Step::Attempt) => attempted(interlock, pending),
+        (Held::Idle(pass), Step::Look(call)) => after_look(interlock, pass, call),
+        (Held::Trying(pending), Step::Attempt) => after_attempt(interlock, pending),
         (Held::Trying(pending), Step::Abandon) => {
-            (Held::Idle(pending.abandon()), Outcome::Abandoned)
+            (Held::Idle(pending.abandon()), StepOutcome::Abandoned)
         }
-        (held, _) => (held, Outcome::OutOfTurn),
+        (held, _) => (held, StepOutcome::OutOfTurn),
     }
 }
 
 /// A caller takes a step with what it holds.
-fn take_step(interlock: &Interlock, held: &mut Held, step: Step) -> Outcome
+fn take_step(interlock: &Interlock, held: &mut Held, step: Step) -> StepOutcome
     requires { IsHeldAt interlock.now held.old }
     ensures { IsHeldAt interlock.now held.new }
 {
-    let (after, outcome) = stepped(interlock, mem::replace(held, Held::Nothing), step);
+    let (after, outcome) = after_step(interlock, mem::replace(held, Held::Nothing), step);
     *held = after;
     outcome
 }
@@ -203,7 +209,7 @@ impl Callers {
     }
 
     /// A machine's caller takes a step.
-    pub fn step(&mut self, interlock: &Interlock, machine: Machine, next: Step) -> Outcome
+    pub fn step(&mut self, interlock: &Interlock, machine: Machine, next: Step) -> StepOutcome
         requires { AreHeldAt interlock.now self.old }
         ensures { AreHeldAt interlock.now self.new }
     {
@@ -217,6 +223,7 @@ impl Callers {
             Machine::Watch => take_step(interlock, &mut self.watch, next),
         }
     }
+
     /// The passes of the callers. Pending calls are abandoned.
     pub fn into_passes(self, interlock: &Interlock) -> Option<Passes>
         requires { AreHeldAt interlock.now self }

@@ -7,7 +7,7 @@ use super::steps::{ABANDONED, ABANDONED_LATE, ALONE, OVERTAKEN, PRESS_CLAIMS, TA
 use cell_interlock::{Interlock, Passes};
 use cell_rules::{Places, State, ZoneState, Zones};
 use cell_types::{Answer, Call, Machine, Posture, Refusal, Reply, Zone};
-use test_callers::callers::{Outcome, Step};
+use test_callers::callers::{Step, StepOutcome};
 
 pub(super) type Owned = (Zone, Machine);
 
@@ -31,12 +31,12 @@ pub(super) fn state_of(stamp: u32, owned: &[Owned], stopped: bool) -> Option<Sta
     State::from_parts(zones, Places::from_flags([false; 10]), stamp, stopped)
 }
 
-const STOPPED: Outcome = Outcome::Settled(Answer::Refused(Refusal::Stopped), 2);
+const STOPPED: StepOutcome = StepOutcome::Settled(Answer::Refused(Refusal::Stopped), 2);
 
 const WATCH_STOPS: Taken = (
     Machine::Watch,
     Step::Ask(Call::Stop),
-    Outcome::Settled(Answer::Done, 2),
+    StepOutcome::Settled(Answer::Done, 2),
 );
 
 // A pending claim is refused once the cell is stopped.
@@ -53,7 +53,7 @@ const RESUMES: &[Taken] = &[
     (
         Machine::Watch,
         Step::Ask(Call::Resume),
-        Outcome::Settled(Answer::Done, 3),
+        StepOutcome::Settled(Answer::Done, 3),
     ),
 ];
 

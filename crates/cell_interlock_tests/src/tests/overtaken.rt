@@ -3,7 +3,7 @@
 use super::played::{Taken, is_played};
 use cell_types::{Answer, Call, Machine, Refusal, Zone};
 use std::alloc::{AllocError, Global};
-use test_callers::callers::{Outcome, Step};
+use test_callers::callers::{Step, StepOutcome};
 
 const LAST: u32 = 1_048_575;
 
@@ -11,7 +11,7 @@ const CLAIM: Call = Call::Claim(Zone::Z1);
 
 const RELEASE: Call = Call::Release(Zone::Z1);
 
-const WORN: Outcome = Outcome::Settled(Answer::Refused(Refusal::Worn), LAST);
+const WORN: StepOutcome = StepOutcome::Settled(Answer::Refused(Refusal::Worn), LAST);
 
 // The calls of others in turn, each of them Done unless the stamp is the last.
 const CHANGES: [(Machine, Call); 4] = [
@@ -39,7 +39,12 @@ impl Steps {
         }
     }
 
-    fn take(&mut self, machine: Machine, step: Step, outcome: Outcome) -> Result<(), AllocError> {
+    fn take(
+        &mut self,
+        machine: Machine,
+        step: Step,
+        outcome: StepOutcome,
+    ) -> Result<(), AllocError> {
         self.taken.push((machine, step, outcome))?;
         Ok(())
     }
@@ -50,7 +55,11 @@ impl Steps {
             return self.take(machine, step, WORN);
         }
         self.stamp = self.stamp.wrapping_add(1);
-        self.take(machine, step, Outcome::Settled(Answer::Done, self.stamp))
+        self.take(
+            machine,
+            step,
+            StepOutcome::Settled(Answer::Done, self.stamp),
+        )
     }
 
     /// Calls of others.
@@ -70,7 +79,7 @@ impl Steps {
         let outcome = if self.stamp == LAST {
             WORN
         } else {
-            Outcome::Pending
+            StepOutcome::Pending
         };
         self.take(Machine::Table, Step::Look(call), outcome)
     }
@@ -81,9 +90,9 @@ impl Steps {
         let outcome = if self.stamp == LAST {
             WORN
         } else if lost == tries {
-            Outcome::Busy(lost, self.stamp)
+            StepOutcome::Busy(lost, self.stamp)
         } else {
-            Outcome::Lost
+            StepOutcome::Lost
         };
         self.take(Machine::Table, Step::Attempt, outcome)
     }
@@ -91,7 +100,7 @@ impl Steps {
 
 /// A claim whose attempts lose this many exchanges, each after this many calls of others. If it may
 /// lose more, the next attempt is Done; otherwise the table asks anew.
-fn overtaken(
+fn overtaken_claim(
     alloc: Global,
     first: u32,
     tries: u8,
@@ -120,7 +129,7 @@ fn overtaken(
 
 /// The table's two calls, each after this many calls of others that the table hasn't seen. They
 /// overtake nothing, since they come before its loads.
-fn unseen(alloc: Global, first: u32, number: u32) -> Result<Vec<Taken>, AllocError> {
+fn calls_after_unseen(alloc: Global, first: u32, number: u32) -> Result<Vec<Taken>, AllocError> {
     let mut steps = Steps::new(alloc, first);
     steps.changes(number)?;
     steps.change(Machine::Table, Step::Ask(CLAIM))?;
@@ -138,12 +147,12 @@ fn unseen(alloc: Global, first: u32, number: u32) -> Result<Vec<Taken>, AllocErr
 /// others come before each attempt.
 fn are_right(alloc: Global, first: u32, tries: u8, number: u32) -> Result<bool, AllocError> {
     for losses in 0..=tries {
-        let steps = overtaken(alloc, first, tries, losses, number)?;
+        let steps = overtaken_claim(alloc, first, tries, losses, number)?;
         if !is_played(alloc, first, tries, &steps) {
             return Ok(false);
         }
     }
-    let steps = unseen(alloc, first, u32::from(tries).wrapping_mul(number))?;
+    let steps = calls_after_unseen(alloc, first, u32::from(tries).wrapping_mul(number))?;
     Ok(is_played(alloc, first, tries, &steps))
 }
 

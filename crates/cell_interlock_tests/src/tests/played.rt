@@ -6,13 +6,13 @@ use cell_interlock::Interlock;
 use cell_rules::State;
 use cell_types::{Answer, Machine};
 use std::alloc::Global;
-use test_callers::callers::{Callers, Outcome, Step};
+use test_callers::callers::{Callers, Step, StepOutcome};
 
 /// A step that a machine has taken, and its outcome.
-pub type Taken = (Machine, Step, Outcome);
+pub type Taken = (Machine, Step, StepOutcome);
 
-fn is_change(outcome: Outcome) -> bool {
-    matches!(outcome, Outcome::Settled(Answer::Done, _))
+fn is_change(outcome: StepOutcome) -> bool {
+    matches!(outcome, StepOutcome::Settled(Answer::Done, _))
 }
 
 /// How many calls of others were Done after a machine's last load, and after it last found the
@@ -41,18 +41,18 @@ fn has_cause(before: &[Taken], tries: u8, taken: Taken) -> bool {
     let (machine, step, outcome) = taken;
     let (since_load, since_found) = changes_by_others(before, machine);
     match (step, outcome) {
-        (Step::Attempt, Outcome::Settled(Answer::Done, _)) => since_found == 0,
-        (Step::Attempt, Outcome::Settled(_, _) | Outcome::Lost) => since_found > 0,
-        (Step::Attempt, Outcome::Busy(lost, _)) => {
+        (Step::Attempt, StepOutcome::Settled(Answer::Done, _)) => since_found == 0,
+        (Step::Attempt, StepOutcome::Settled(_, _) | StepOutcome::Lost) => since_found > 0,
+        (Step::Attempt, StepOutcome::Busy(lost, _)) => {
             since_found > 0 && lost == tries && since_load >= u32::from(tries)
         }
-        (_, Outcome::Busy(_, _) | Outcome::Lost) => false,
+        (_, StepOutcome::Busy(_, _) | StepOutcome::Lost) => false,
         _ => true,
     }
 }
 
 /// Whether a step tells the stamp that the first stamp and the Done calls until then make.
-fn is_stamped(before: &[Taken], first: u32, outcome: Outcome) -> bool {
+fn is_stamped(before: &[Taken], first: u32, outcome: StepOutcome) -> bool {
     let mut now = first;
     for (_, _, earlier) in before {
         if is_change(*earlier) {
@@ -60,8 +60,8 @@ fn is_stamped(before: &[Taken], first: u32, outcome: Outcome) -> bool {
         }
     }
     match outcome {
-        Outcome::Settled(Answer::Done, stamp) => stamp == now.wrapping_add(1),
-        Outcome::Settled(_, stamp) | Outcome::Busy(_, stamp) => stamp == now,
+        StepOutcome::Settled(Answer::Done, stamp) => stamp == now.wrapping_add(1),
+        StepOutcome::Settled(_, stamp) | StepOutcome::Busy(_, stamp) => stamp == now,
         _ => true,
     }
 }

@@ -3,7 +3,7 @@
 use super::overtaken::are_right_from;
 use super::played::{Taken, is_played};
 use cell_types::{Answer, Call, Machine, Pose, Posture, Refusal, Zone};
-use test_callers::callers::{Outcome, Step};
+use test_callers::callers::{Step, StepOutcome};
 
 const CLAIM_1: Call = Call::Claim(Zone::Z1);
 
@@ -45,23 +45,23 @@ const FREE: Answer = Answer::Shown {
     posture: Posture::Closed,
 };
 
-const DONE_1: Outcome = Outcome::Settled(Answer::Done, 1);
+const DONE_1: StepOutcome = StepOutcome::Settled(Answer::Done, 1);
 
-const DONE_2: Outcome = Outcome::Settled(Answer::Done, 2);
+const DONE_2: StepOutcome = StepOutcome::Settled(Answer::Done, 2);
 
-const DONE_3: Outcome = Outcome::Settled(Answer::Done, 3);
+const DONE_3: StepOutcome = StepOutcome::Settled(Answer::Done, 3);
 
-const DONE_4: Outcome = Outcome::Settled(Answer::Done, 4);
+const DONE_4: StepOutcome = StepOutcome::Settled(Answer::Done, 4);
 
-const DONE_5: Outcome = Outcome::Settled(Answer::Done, 5);
+const DONE_5: StepOutcome = StepOutcome::Settled(Answer::Done, 5);
 
-const DONE_6: Outcome = Outcome::Settled(Answer::Done, 6);
+const DONE_6: StepOutcome = StepOutcome::Settled(Answer::Done, 6);
 
-const DONE_7: Outcome = Outcome::Settled(Answer::Done, 7);
+const DONE_7: StepOutcome = StepOutcome::Settled(Answer::Done, 7);
 
-pub const TABLE_LOOKS: Taken = (Machine::Table, Step::Look(CLAIM_1), Outcome::Pending);
+pub const TABLE_LOOKS: Taken = (Machine::Table, Step::Look(CLAIM_1), StepOutcome::Pending);
 
-const TABLE_LOSES: Taken = (Machine::Table, Step::Attempt, Outcome::Lost);
+const TABLE_LOSES: Taken = (Machine::Table, Step::Attempt, StepOutcome::Lost);
 
 pub const PRESS_CLAIMS: Taken = (Machine::Press, Step::Ask(CLAIM_3), DONE_1);
 
@@ -83,36 +83,36 @@ const PRESS_OPENS: Taken = (
 
 const PRESS_LEAVES: Taken = (Machine::Press, Step::Ask(RELEASE_3), DONE_4);
 
-const ROBOT_LOOKS: Taken = (Machine::Robot, Step::Look(CLAIM_3), Outcome::Pending);
+const ROBOT_LOOKS: Taken = (Machine::Robot, Step::Look(CLAIM_3), StepOutcome::Pending);
 
-const ROBOT_LOSES: Taken = (Machine::Robot, Step::Attempt, Outcome::Lost);
+const ROBOT_LOSES: Taken = (Machine::Robot, Step::Attempt, StepOutcome::Lost);
 
 // No machine has seen what the others did, and no call is overtaken.
 const APART: &[Taken] = &[
     (Machine::Press, Step::Ask(CLAIM_3), DONE_1),
     (Machine::Table, Step::Ask(CLAIM_1), DONE_2),
-    (Machine::Feed, Step::Look(CLAIM_6), Outcome::Pending),
+    (Machine::Feed, Step::Look(CLAIM_6), StepOutcome::Pending),
     (Machine::Feed, Step::Attempt, DONE_3),
 ];
 
 // The zones are as they were, but the word isn't.
 pub const OVERTAKEN: &[Taken] = &[
-    (Machine::Table, Step::Look(CLAIM_1), Outcome::Pending),
+    (Machine::Table, Step::Look(CLAIM_1), StepOutcome::Pending),
     (Machine::Press, Step::Ask(CLAIM_3), DONE_1),
-    (Machine::Table, Step::Attempt, Outcome::Lost),
+    (Machine::Table, Step::Attempt, StepOutcome::Lost),
     (Machine::Press, Step::Ask(RELEASE_3), DONE_2),
-    (Machine::Table, Step::Attempt, Outcome::Busy(2, 2)),
+    (Machine::Table, Step::Attempt, StepOutcome::Busy(2, 2)),
     (Machine::Table, Step::Ask(CLAIM_1), DONE_3),
 ];
 
 // Lost exchanges are counted, not the changes that caused them.
 const TWO_CHANGES: &[Taken] = &[
-    (Machine::Table, Step::Look(CLAIM_1), Outcome::Pending),
+    (Machine::Table, Step::Look(CLAIM_1), StepOutcome::Pending),
     (Machine::Press, Step::Ask(CLAIM_3), DONE_1),
     (Machine::Press, Step::Ask(RELEASE_3), DONE_2),
-    (Machine::Table, Step::Attempt, Outcome::Lost),
+    (Machine::Table, Step::Attempt, StepOutcome::Lost),
     (Machine::Feed, Step::Ask(CLAIM_6), DONE_3),
-    (Machine::Table, Step::Attempt, Outcome::Busy(2, 3)),
+    (Machine::Table, Step::Attempt, StepOutcome::Busy(2, 3)),
 ];
 
 const REFUSED: &[Taken] = &[
@@ -120,22 +120,22 @@ const REFUSED: &[Taken] = &[
     (
         Machine::Press,
         Step::Ask(Call::Inquire(Zone::Z3)),
-        Outcome::Settled(SHOWN, 1),
+        StepOutcome::Settled(SHOWN, 1),
     ),
     (
         Machine::Robot,
         Step::Ask(CLAIM_3),
-        Outcome::Settled(HELD, 1),
+        StepOutcome::Settled(HELD, 1),
     ),
     (
         Machine::Watch,
         Step::Look(Call::Inquire(Zone::Z3)),
-        Outcome::Settled(SHOWN, 1),
+        StepOutcome::Settled(SHOWN, 1),
     ),
     (
         Machine::Feed,
         Step::Look(CLAIM_3),
-        Outcome::Settled(STRANGER, 1),
+        StepOutcome::Settled(STRANGER, 1),
     ),
 ];
 
@@ -153,30 +153,34 @@ const REFUSED_LATE: &[Taken] = &[
         DONE_3,
     ),
     (Machine::Press, Step::Ask(RELEASE_3), DONE_4),
-    (Machine::Robot, Step::Look(CLAIM_3), Outcome::Pending),
+    (Machine::Robot, Step::Look(CLAIM_3), StepOutcome::Pending),
     (Machine::Press, Step::Ask(CLAIM_3), DONE_5),
-    (Machine::Robot, Step::Attempt, Outcome::Settled(HELD, 5)),
+    (Machine::Robot, Step::Attempt, StepOutcome::Settled(HELD, 5)),
 ];
 
 const WORN_LATE: &[Taken] = &[
-    (Machine::Table, Step::Look(CLAIM_1), Outcome::Pending),
+    (Machine::Table, Step::Look(CLAIM_1), StepOutcome::Pending),
     (
         Machine::Press,
         Step::Ask(CLAIM_3),
-        Outcome::Settled(Answer::Done, 1_048_575),
+        StepOutcome::Settled(Answer::Done, 1_048_575),
     ),
     (
         Machine::Table,
         Step::Attempt,
-        Outcome::Settled(WORN, 1_048_575),
+        StepOutcome::Settled(WORN, 1_048_575),
     ),
 ];
 
 // The stop comes between a look and its exchange.
 const STOPPED_LATE: &[Taken] = &[
-    (Machine::Press, Step::Look(CLAIM_3), Outcome::Pending),
+    (Machine::Press, Step::Look(CLAIM_3), StepOutcome::Pending),
     (Machine::Watch, Step::Ask(Call::Stop), DONE_1),
-    (Machine::Press, Step::Attempt, Outcome::Settled(STOPPED, 1)),
+    (
+        Machine::Press,
+        Step::Attempt,
+        StepOutcome::Settled(STOPPED, 1),
+    ),
 ];
 
 // While the cell is stopped a machine may leave its zone, but not go on.
@@ -186,29 +190,29 @@ const LEFT_WHILE_STOPPED: &[Taken] = &[
     (
         Machine::Press,
         Step::Ask(Call::SetPose(Pose::Travelling)),
-        Outcome::Settled(STOPPED, 2),
+        StepOutcome::Settled(STOPPED, 2),
     ),
     (Machine::Press, Step::Ask(RELEASE_3), DONE_3),
     (
         Machine::Press,
         Step::Look(CLAIM_3),
-        Outcome::Settled(STOPPED, 3),
+        StepOutcome::Settled(STOPPED, 3),
     ),
     (
         Machine::Press,
         Step::Ask(Call::Resume),
-        Outcome::Settled(STRANGER, 3),
+        StepOutcome::Settled(STRANGER, 3),
     ),
     (
         Machine::Watch,
         Step::Ask(Call::Stop),
-        Outcome::Settled(STOPPED, 3),
+        StepOutcome::Settled(STOPPED, 3),
     ),
     (Machine::Watch, Step::Ask(Call::Resume), DONE_4),
     (
         Machine::Watch,
         Step::Ask(Call::Resume),
-        Outcome::Settled(NOT_STOPPED, 4),
+        StepOutcome::Settled(NOT_STOPPED, 4),
     ),
     (Machine::Press, Step::Ask(CLAIM_3), DONE_5),
 ];
@@ -224,14 +228,14 @@ const RESUMED_BETWEEN: &[Taken] = &[
 
 // A stop may lose exchanges, too.
 const STOP_LOST_ONCE: &[Taken] = &[
-    (Machine::Watch, Step::Look(Call::Stop), Outcome::Pending),
+    (Machine::Watch, Step::Look(Call::Stop), StepOutcome::Pending),
     PRESS_CLAIMS,
-    (Machine::Watch, Step::Attempt, Outcome::Lost),
+    (Machine::Watch, Step::Attempt, StepOutcome::Lost),
     (Machine::Watch, Step::Attempt, DONE_2),
     (
         Machine::Table,
         Step::Ask(CLAIM_1),
-        Outcome::Settled(STOPPED, 2),
+        StepOutcome::Settled(STOPPED, 2),
     ),
 ];
 
@@ -261,7 +265,7 @@ const LOST_THRICE: &[Taken] = &[
     PRESS_RELEASES,
     TABLE_LOSES,
     FEED_CLAIMS,
-    (Machine::Table, Step::Attempt, Outcome::Busy(3, 3)),
+    (Machine::Table, Step::Attempt, StepOutcome::Busy(3, 3)),
 ];
 
 // The table hasn't seen the changes, but they come before its load.
@@ -272,7 +276,7 @@ const UNSEEN: &[Taken] = &[
     (
         Machine::Table,
         Step::Ask(CLAIM_1),
-        Outcome::Settled(Answer::Done, 4),
+        StepOutcome::Settled(Answer::Done, 4),
     ),
 ];
 
@@ -286,7 +290,7 @@ const REFUSED_LAST: &[Taken] = &[
     (Machine::Table, Step::Ask(CLAIM_1), DONE_5),
     ROBOT_LOSES,
     (Machine::Press, Step::Ask(CLAIM_3), DONE_6),
-    (Machine::Robot, Step::Attempt, Outcome::Settled(HELD, 6)),
+    (Machine::Robot, Step::Attempt, StepOutcome::Settled(HELD, 6)),
 ];
 
 // The word found last refuses the call, for another reason than those between.
@@ -306,9 +310,9 @@ const SHUT_LATE: &[Taken] = &[
     (
         Machine::Press,
         Step::Ask(RELEASE_3),
-        Outcome::Settled(Answer::Done, 8),
+        StepOutcome::Settled(Answer::Done, 8),
     ),
-    (Machine::Robot, Step::Attempt, Outcome::Settled(SHUT, 8)),
+    (Machine::Robot, Step::Attempt, StepOutcome::Settled(SHUT, 8)),
 ];
 
 // Two calls wait for one zone.
@@ -318,12 +322,12 @@ const BOTH_PENDING: &[Taken] = &[
     PRESS_OPENS,
     PRESS_LEAVES,
     ROBOT_LOOKS,
-    (Machine::Press, Step::Look(CLAIM_3), Outcome::Pending),
+    (Machine::Press, Step::Look(CLAIM_3), StepOutcome::Pending),
     (Machine::Robot, Step::Attempt, DONE_5),
     (
         Machine::Press,
         Step::Attempt,
-        Outcome::Settled(HELD_BY_ROBOT, 5),
+        StepOutcome::Settled(HELD_BY_ROBOT, 5),
     ),
 ];
 
@@ -342,11 +346,11 @@ const FREE_AGAIN: &[Taken] = &[
 
 // A refusal makes no other call lose an exchange.
 const UNDISTURBED: &[Taken] = &[
-    (Machine::Table, Step::Look(CLAIM_1), Outcome::Pending),
+    (Machine::Table, Step::Look(CLAIM_1), StepOutcome::Pending),
     (
         Machine::Robot,
         Step::Ask(CLAIM_3),
-        Outcome::Settled(SHUT, 0),
+        StepOutcome::Settled(SHUT, 0),
     ),
     (Machine::Table, Step::Attempt, DONE_1),
 ];
@@ -357,40 +361,40 @@ const LEFT_ALONE: &[Taken] = &[
     (
         Machine::Robot,
         Step::Ask(CLAIM_3),
-        Outcome::Settled(SHUT, 0),
+        StepOutcome::Settled(SHUT, 0),
     ),
     (
         Machine::Robot,
         Step::Look(CLAIM_3),
-        Outcome::Settled(SHUT, 0),
+        StepOutcome::Settled(SHUT, 0),
     ),
     (
         Machine::Press,
         Step::Ask(RELEASE_3),
-        Outcome::Settled(NOBODYS, 0),
+        StepOutcome::Settled(NOBODYS, 0),
     ),
     (
         Machine::Feed,
         Step::Ask(CLAIM_3),
-        Outcome::Settled(STRANGER, 0),
+        StepOutcome::Settled(STRANGER, 0),
     ),
     (
         Machine::Feed,
         Step::Ask(Call::Advance),
-        Outcome::Settled(IDLE, 0),
+        StepOutcome::Settled(IDLE, 0),
     ),
     (
         Machine::Watch,
         Step::Ask(CLAIM_1),
-        Outcome::Settled(STRANGER, 0),
+        StepOutcome::Settled(STRANGER, 0),
     ),
     (
         Machine::Watch,
         Step::Ask(Call::Inquire(Zone::Z1)),
-        Outcome::Settled(FREE, 0),
+        StepOutcome::Settled(FREE, 0),
     ),
-    (Machine::Press, Step::Look(CLAIM_3), Outcome::Pending),
-    (Machine::Press, Step::Abandon, Outcome::Abandoned),
+    (Machine::Press, Step::Look(CLAIM_3), StepOutcome::Pending),
+    (Machine::Press, Step::Abandon, StepOutcome::Abandoned),
     (Machine::Table, Step::Attempt, DONE_1),
 ];
 
@@ -400,63 +404,63 @@ const REFUSED_BETWEEN: &[Taken] = &[
     (
         Machine::Robot,
         Step::Ask(CLAIM_3),
-        Outcome::Settled(SHUT, 0),
+        StepOutcome::Settled(SHUT, 0),
     ),
     PRESS_CLAIMS,
     (
         Machine::Robot,
         Step::Ask(CLAIM_3),
-        Outcome::Settled(HELD, 1),
+        StepOutcome::Settled(HELD, 1),
     ),
     TABLE_LOSES,
     (
         Machine::Robot,
         Step::Ask(CLAIM_3),
-        Outcome::Settled(HELD, 1),
+        StepOutcome::Settled(HELD, 1),
     ),
     (
         Machine::Press,
         Step::Ask(CLAIM_3),
-        Outcome::Settled(MINE, 1),
+        StepOutcome::Settled(MINE, 1),
     ),
     (Machine::Table, Step::Attempt, DONE_2),
 ];
 
 // Nor do exchanges that others lose, or calls of theirs that are Busy.
 const OTHERS_LOSE: &[Taken] = &[
-    (Machine::Feed, Step::Look(CLAIM_6), Outcome::Pending),
+    (Machine::Feed, Step::Look(CLAIM_6), StepOutcome::Pending),
     PRESS_CLAIMS,
     TABLE_LOOKS,
-    (Machine::Feed, Step::Attempt, Outcome::Lost),
+    (Machine::Feed, Step::Attempt, StepOutcome::Lost),
     (Machine::Table, Step::Attempt, DONE_2),
     (
         Machine::Robot,
         Step::Ask(CLAIM_3),
-        Outcome::Settled(HELD, 2),
+        StepOutcome::Settled(HELD, 2),
     ),
-    (Machine::Feed, Step::Attempt, Outcome::Busy(2, 2)),
+    (Machine::Feed, Step::Attempt, StepOutcome::Busy(2, 2)),
     FEED_CLAIMS,
 ];
 
 const OTHERS_ARE_BUSY: &[Taken] = &[
-    (Machine::Feed, Step::Look(CLAIM_6), Outcome::Pending),
+    (Machine::Feed, Step::Look(CLAIM_6), StepOutcome::Pending),
     PRESS_CLAIMS,
     TABLE_LOOKS,
-    (Machine::Feed, Step::Attempt, Outcome::Busy(1, 1)),
+    (Machine::Feed, Step::Attempt, StepOutcome::Busy(1, 1)),
     (Machine::Table, Step::Attempt, DONE_2),
 ];
 
 // The abandoned call was never made.
 pub const ABANDONED: &[Taken] = &[
     TABLE_LOOKS,
-    (Machine::Table, Step::Abandon, Outcome::Abandoned),
+    (Machine::Table, Step::Abandon, StepOutcome::Abandoned),
     (Machine::Table, Step::Ask(Call::Claim(Zone::Z2)), DONE_1),
     (
         Machine::Watch,
         Step::Ask(Call::Inquire(Zone::Z1)),
-        Outcome::Settled(FREE, 1),
+        StepOutcome::Settled(FREE, 1),
     ),
-    (Machine::Table, Step::Attempt, Outcome::OutOfTurn),
+    (Machine::Table, Step::Attempt, StepOutcome::OutOfTurn),
 ];
 
 // The next call has lost no exchange yet.
@@ -464,7 +468,7 @@ pub const ABANDONED_LATE: &[Taken] = &[
     TABLE_LOOKS,
     PRESS_CLAIMS,
     TABLE_LOSES,
-    (Machine::Table, Step::Abandon, Outcome::Abandoned),
+    (Machine::Table, Step::Abandon, StepOutcome::Abandoned),
     TABLE_LOOKS,
     PRESS_RELEASES,
     TABLE_LOSES,
