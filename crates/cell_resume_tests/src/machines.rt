@@ -7,7 +7,7 @@ use cell_calib::{Calibration, Gauge, Points, line_at};
 use cell_control::{Program, Wired};
 use cell_haul::{CraneProgram, DepositProgram, FeedProgram};
 use cell_interlock::{Interlock, PassLine, Passes};
-use cell_resume::{Checkpoint, Resumed, ResumedCell, Team, resume_at};
+use cell_resume::{Checkpoint, CheckpointBytes, Resumed, ResumedCell, Team, resume_at};
 use cell_robot::RobotProgram;
 use cell_rules::State;
 use cell_stations::{PressProgram, TableProgram};
@@ -93,7 +93,12 @@ impl<F1: Gauge, F2: Gauge, F3: Gauge, F4: Gauge, F5: Gauge> Machines<'_, F1, F2,
     }
 
     // What is stored after these turns, if no machine stops.
-    fn hand_out_after(mut self, plant: &mut Plant, first: u32, turns: u32) -> Option<[u8; 14]> {
+    fn hand_out_after(
+        mut self,
+        plant: &mut Plant,
+        first: u32,
+        turns: u32,
+    ) -> Option<CheckpointBytes> {
         let goes_on = self.turns(plant, first, turns);
         let bytes = self.hand_out();
         if goes_on { Some(bytes) } else { None }
@@ -112,24 +117,24 @@ impl<F1: Gauge, F2: Gauge, F3: Gauge, F4: Gauge, F5: Gauge> Machines<'_, F1, F2,
     }
 
     // The state that the feed belt's line leaves.
-    fn left(self) -> State {
-        left_by(self.feed)
+    fn state_left(self) -> State {
+        state_left_by(self.feed)
     }
 
     // What is stored after a turn.
-    fn hand_out(self) -> [u8; 14] {
+    fn hand_out(self) -> CheckpointBytes {
         let team = self.team();
-        Checkpoint::of(&self.left(), &team).to_bytes()
+        Checkpoint::of(&self.state_left(), &team).to_bytes()
     }
 }
 
-fn left_by(feed: Wired<Resumed<FeedProgram>, PassLine<'_>>) -> State {
+fn state_left_by(feed: Wired<Resumed<FeedProgram>, PassLine<'_>>) -> State {
     let (feed, _) = feed.unwire();
     feed.left()
 }
 
 /// The bytes of a cell at its start.
-pub fn at_start(places: [bool; 10]) -> Result<[u8; 14], Fail> {
+pub fn at_start(places: [bool; 10]) -> Result<CheckpointBytes, Fail> {
     let opening = State::start(places, 0)?;
     let points = AxisPoints::new()?;
     let gauges = (
@@ -176,7 +181,7 @@ fn start_by<F1: Gauge, F2: Gauge, F3: Gauge, F4: Gauge, F5: Gauge>(
     opening: &State,
     gauges: (F1, F2, F3, F4, F5),
     points: AxisPoints,
-) -> [u8; 14]
+) -> CheckpointBytes
     requires arm1 { F1.keeps gauges.0 points.arm }
     requires arm2 { F2.keeps gauges.1 points.arm }
     requires rotation { F3.keeps gauges.2 points.rotation }
@@ -199,11 +204,11 @@ fn start_by<F1: Gauge, F2: Gauge, F3: Gauge, F4: Gauge, F5: Gauge>(
 /// bytes at the end. The first turn has this number.
 pub fn go_on(
     alloc: Global,
-    bytes: [u8; 14],
+    bytes: CheckpointBytes,
     plant: &mut Plant,
     first: u32,
     turns: u32,
-) -> Result<[u8; 14], Fail> {
+) -> Result<CheckpointBytes, Fail> {
     let points = AxisPoints::new()?;
     let cell = resume_at(bytes)?;
     let gauges = (
@@ -217,7 +222,7 @@ pub fn go_on(
 }
 
 // Machines that go on where a cell does, each on a line of its own.
-fn wired<'a, F1: Gauge, F2: Gauge, F3: Gauge, F4: Gauge, F5: Gauge>(
+fn wired_machines<'a, F1: Gauge, F2: Gauge, F3: Gauge, F4: Gauge, F5: Gauge>(
     alloc: Global,
     cell: &ResumedCell,
     programs: Programs<F1, F2, F3, F4, F5>,
@@ -252,7 +257,7 @@ fn go_on_by<F1: Gauge, F2: Gauge, F3: Gauge, F4: Gauge, F5: Gauge>(
     plant: &mut Plant,
     first: u32,
     turns: u32,
-) -> Result<[u8; 14], Fail>
+) -> Result<CheckpointBytes, Fail>
     requires arm1 { F1.keeps gauges.0 points.arm }
     requires arm2 { F2.keeps gauges.1 points.arm }
     requires rotation { F3.keeps gauges.2 points.rotation }
@@ -261,7 +266,7 @@ fn go_on_by<F1: Gauge, F2: Gauge, F3: Gauge, F4: Gauge, F5: Gauge>(
 {
     let (interlock, passes) = Interlock::new(alloc, cell.state(), 8)?;
     let programs = programs_by(gauges, points);
-    let machines = wired(alloc, cell, programs, &interlock, passes);
+    let machines = wired_machines(alloc, cell, programs, &interlock, passes);
     match machines.hand_out_after(plant, first, turns) {
         Some(bytes) => Ok(bytes),
         None => Err(Fail::new("a machine has stopped")),

@@ -69,7 +69,7 @@ pub struct Plant {
 
 impl Plant {
     /// The plant where the programs begin.
-    pub fn standing() -> Plant {
+    pub fn new() -> Plant {
         Plant {
             feed: Belt { plate: 0 },
             deposit: Belt { plate: 0 },

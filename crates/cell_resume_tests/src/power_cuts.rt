@@ -3,7 +3,7 @@
 
 use crate::machines::{at_start, go_on};
 use crate::plant::Plant;
-use cell_resume::resume_at;
+use cell_resume::{CheckpointBytes, resume_at};
 use std::alloc::Global;
 use std::test::Fail;
 
@@ -19,8 +19,8 @@ const CHANGES: u32 = 59;
 
 // The bytes and the plant at the end, after `parts` parts of `turns` turns each. After each part the power
 // is cut.
-fn run(alloc: Global, parts: u32, turns: u32) -> Result<([u8; 14], Plant), Fail> {
-    let mut plant = Plant::standing();
+fn run(alloc: Global, parts: u32, turns: u32) -> Result<(CheckpointBytes, Plant), Fail> {
+    let mut plant = Plant::new();
     let mut bytes = at_start(PLACES)?;
     for part in 0..parts {
         let first = part.wrapping_mul(turns);

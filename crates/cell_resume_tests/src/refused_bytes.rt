@@ -1,17 +1,17 @@
 //! Bytes that no cell hands out are refused, and the fault names what is wrong.
 
 use crate::machines::at_start;
-use cell_resume::{Checkpoint, ResumeFault, resume_at};
+use cell_resume::{Checkpoint, CheckpointBytes, ResumeFault, resume_at};
 use cell_types::Machine;
 use std::test::Fail;
 
 // What is wrong with bytes, if anything is.
-fn fault_of(bytes: [u8; 14]) -> Option<ResumeFault> {
+fn fault_of(bytes: CheckpointBytes) -> Option<ResumeFault> {
     resume_at(bytes).err()
 }
 
 // The bytes of a start without plates, with another byte at one index.
-fn with_byte(index: usize, byte: u8) -> Result<[u8; 14], Fail> {
+fn with_byte(index: usize, byte: u8) -> Result<CheckpointBytes, Fail> {
     let mut bytes = at_start([false; 10])?;
     if let Some(place) = bytes.get_mut(index) {
         *place = byte;

@@ -79,7 +79,7 @@ fn push_bytes(alloc: Global, text: &mut String, named: &NamedPlan) -> Result<(),
 }
 
 /// Adds the beginning of a definition: these words in capitals.
-fn push_defined(text: &mut String, words: &[&str]) -> Result<(), AllocError> {
+fn push_definition(text: &mut String, words: &[&str]) -> Result<(), AllocError> {
     text.push_str("#define PLAN_")?;
     for word in words {
         for letter in word.chars() {
@@ -90,7 +90,7 @@ fn push_defined(text: &mut String, words: &[&str]) -> Result<(), AllocError> {
 }
 
 fn push_number(text: &mut String, words: &[&str], number: usize) -> Result<(), AllocError> {
-    push_defined(text, words)?;
+    push_definition(text, words)?;
     writeln!(text, " {number}")
 }
 
@@ -137,7 +137,7 @@ fn push_party(
     machine: u8,
 ) -> Result<(), AllocError> {
     let machine = named.machines().name(machine);
-    push_defined(
+    push_definition(
         text,
         &[role, named.zones().name(zone), " plan_machine_", machine],
     )?;

@@ -14,7 +14,7 @@ fn claims(alloc: Global, count: usize) -> Result<Vec<Call>, AllocError> {
 }
 
 /// A list of `count` empty programs.
-fn nothing(alloc: Global, count: usize) -> Result<Vec<Vec<Call>>, AllocError> {
+fn empty_programs(alloc: Global, count: usize) -> Result<Vec<Vec<Call>>, AllocError> {
     let mut lists = Vec::new(alloc);
     for _ in 0..count {
         lists.push(Vec::new(alloc))?;
@@ -24,9 +24,9 @@ fn nothing(alloc: Global, count: usize) -> Result<Vec<Vec<Call>>, AllocError> {
 
 #[test]
 fn fifteen_machines_have_programs(rt: HostRuntime) {
-    let lists = nothing(rt.alloc(), 15).expect(&rt, "memory");
+    let lists = empty_programs(rt.alloc(), 15).expect(&rt, "memory");
     assert!(rt; Programs::new(lists).is_ok_and(|programs| programs.count() == 15));
-    let lists = nothing(rt.alloc(), 16).expect(&rt, "memory");
+    let lists = empty_programs(rt.alloc(), 16).expect(&rt, "memory");
     assert!(rt; Programs::new(lists).err() == Some(ProgramFault::TooManyPrograms));
 }
 
