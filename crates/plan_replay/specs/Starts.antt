@@ -1,28 +1,16 @@
 -- The start in record 0.
-use Rattle.std.specs.Prelude.{ℕ, ◌+◌, ◌-◌, ◌*◌, ◌==◌, ◌&&◌, ◌||◌, Bool, List, [], ◌∷◌, length, map, get_or, codes}
+use Rattle.std.specs.Prelude.{ℕ, ◌==◌, ◌&&◌, ◌||◌, Bool, List, [], ◌∷◌, length, map, get_or, codes}
 use Rattle.std.specs.Prelude.{nat_eq, nat_lt, nat_le, Option, Some, None, Result, Ok, Err, if◌then◌else◌}
-use Rattle.std.specs.Char.{is_ascii_digit}
 use Rattle.std.specs.List.{list_all, range_with_len}
 use Rattle.std.specs.Option.{ok_or, option_and_then}
 use Rattle.std.specs.Str.{bytes_eq}
 use Rattle.csv.specs.Records.{field_at}
+use Rattle.csv_rows.specs.Numbers.{number_in}
 use Rattle.csv_rows.specs.Rows.{Row}
 use Rattle.plan_rules.specs.declared.state.State.{State}
 use Rattle.plan_rules.specs.State.{start_state, last_stamp}
 use Rattle.plan_replay.specs.declared.script.ScriptFault.{ScriptFault}
 use Rattle.plan_replay.specs.declared.script.ScriptFault.TheVariants.{NoStart, BadStart}
-
--- the number that more digits write, after those of a number
-abbrev pub read_on : ℕ → List ℕ → ℕ
-read_on number [] = number
-read_on number (digit ∷ digits) = read_on (10 * number + (digit - 48)) digits
-
--- one to seven digits
-abbrev pub is_number : List ℕ → Bool
-is_number field = nat_lt 0 (length field) && nat_le (length field) 7 && list_all is_ascii_digit field
-
-abbrev pub number_in : List ℕ → Option ℕ
-number_in field = if is_number field then Some (read_on 0 field) else None
 
 -- the digit of a place is 1
 abbrev pub is_one : List ℕ → ℕ → Bool

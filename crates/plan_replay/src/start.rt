@@ -7,29 +7,10 @@ ghost use Rattle.plan_replay.specs.Starts as spec;
 
 use crate::script::ScriptFault;
 use csv::ByteRecord;
+use csv_rows::read_number;
 use plan_rules::{LAST_STAMP, State};
 use plan_text::NamedPlan;
 use plan_types::MAX_PLACES;
-
-/// The most digits of a stamp.
-const MAX_DIGITS: usize = 7;
-
-/// The number that one to seven digits write; `None` for other bytes.
-fn read_number(field: &[u8]) -> Option<u32>
-    ensures { result ≡ spec.number_in field.now }
-{
-    if field.is_empty() || field.len() > MAX_DIGITS {
-        return None;
-    }
-    let mut number = 0u32;
-    'digits: for byte in field {
-        if !byte.is_ascii_digit() {
-            return None;
-        }
-        number = 10 * number + u32::from(*byte - b'0');
-    }
-    Some(number)
-}
 
 /// Whether the digit of a place is 1.
 fn is_one(digits: &[u8], place: usize) -> bool
