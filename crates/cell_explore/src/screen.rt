@@ -6,7 +6,7 @@ ghost use Rattle.cell_config.specs.Configured.{AreAxisScales, AreCurvesOf};
 use crate::ending::Ending;
 use crate::ring::push_ring;
 use crate::schedule::{ScheduleFault, schedule_into};
-use cell_config::Config;
+use cell_config::{Config, letter_word};
 use cell_explorer::{Explored, Walk, explore_start, take_turns};
 use cell_plant::Turn;
 use cell_rules::State;
@@ -90,20 +90,7 @@ fn push_start(text: &mut String, start: &State) -> Result<(), AllocError> {
 fn push_schedule(text: &mut String, schedule: &[Turn]) -> Result<(), AllocError> {
     text.push_str("schedule = \"")?;
     for turn in schedule {
-        text.push_str(letter(turn.machine))?;
+        text.push_str(letter_word(turn.busy, turn.machine))?;
     }
     text.push_str("\"\n")
-}
-
-// The letter of a machine's turn in schedules.
-fn letter(machine: Machine) -> &'static str {
-    match machine {
-        Machine::Feed => "f",
-        Machine::Table => "t",
-        Machine::Robot => "r",
-        Machine::Press => "p",
-        Machine::Deposit => "d",
-        Machine::Crane => "c",
-        Machine::Watch => "w",
-    }
 }

@@ -185,20 +185,5 @@ pub(crate) fn stopped_text(status: Status) -> &'static str
 pub(crate) fn letter_word(busy: bool, machine: Machine) -> &'static str
     ensures { result.now ≡ words.letter_word busy machine }
 {
-    match (busy, machine) {
-        (false, Machine::Feed) => "f",
-        (false, Machine::Table) => "t",
-        (false, Machine::Robot) => "r",
-        (false, Machine::Press) => "p",
-        (false, Machine::Deposit) => "d",
-        (false, Machine::Crane) => "c",
-        (false, Machine::Watch) => "w",
-        (true, Machine::Feed) => "F",
-        (true, Machine::Table) => "T",
-        (true, Machine::Robot) => "R",
-        (true, Machine::Press) => "P",
-        (true, Machine::Deposit) => "D",
-        (true, Machine::Crane) => "C",
-        (true, Machine::Watch) => "W",
-    }
+    cell_config::letter_word(busy, machine)
 }

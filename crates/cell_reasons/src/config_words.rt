@@ -7,14 +7,12 @@ use crate::records::line_at;
 use crate::section_words::push_refused_section;
 use crate::start_words::push_plate_count;
 use crate::unknown_keys::push_unknown;
-use cell_config::{ConfigFault, MAX_BYTES, MAX_LETTERS, check_sections};
+use cell_config::{ConfigFault, MAX_BYTES, MAX_LETTERS, check_sections, is_letter, letter_word};
 use cell_rules::{LAST_STAMP, read_places};
+use cell_types::Machine;
 use std::alloc::{AllocError, Global};
 use std::str;
 use toml::Table;
-
-/// The letters of a schedule.
-const LETTERS: &[u8] = b"ftrpdcwFTRPDCW";
 
 /// What the key `start` takes.
 const START_TAKES: &str = "start takes a text of ten digits; put quotes round them";
@@ -250,7 +248,12 @@ fn push_wrong_letter(
     let number = i.saturating_add(1);
     write!(words, "character {number} of the schedule, ")?;
     push_quoted_char(words, letter)?;
-    words.push_str(", is no letter: known are f t r p d c w and their capitals")
+    words.push_str(", is no letter: known are")?;
+    for machine in Machine::ALL {
+        words.push(' ')?;
+        words.push_str(letter_word(false, machine))?;
+    }
+    words.push_str(" and their capitals")
 }
 
 /// How many bytes are before the first character of the schedule that is no letter, if the schedule is found.
@@ -263,7 +266,7 @@ fn bytes_before_letter(source: Source<'_>) -> Option<usize> {
 /// The first character of a schedule that is no letter, and how many are before it.
 fn first_wrong_letter(text: &str) -> Option<(usize, char)> {
     for (i, letter) in text.chars().enumerate() {
-        if !is_letter(letter) {
+        if !is_letter_char(letter) {
             return Some((i, letter));
         }
     }
@@ -271,8 +274,11 @@ fn first_wrong_letter(text: &str) -> Option<(usize, char)> {
 }
 
 /// Whether a character is a letter of a schedule.
-fn is_letter(letter: char) -> bool {
-    LETTERS.iter().any(|known| char::from(*known) == letter)
+fn is_letter_char(letter: char) -> bool {
+    match u8::try_from(letter) {
+        Ok(byte) => is_letter(byte),
+        Err(_) => false,
+    }
 }
 
 /// How many bytes of a text in quotes are before its first character that is no letter. The text may
@@ -284,7 +290,7 @@ fn letters_before(value: &[u8]) -> usize {
             [b'\\', b' ' | b'\t' | b'\r' | b'\n', ..] if value.first() == Some(&b'"') => {
                 rest[1..].trim_ascii_start()
             }
-            [byte, more @ ..] if LETTERS.contains(byte) => more,
+            [byte, more @ ..] if is_letter(*byte) => more,
             _ => break,
         };
     }
