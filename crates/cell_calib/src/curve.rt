@@ -14,7 +14,7 @@ use crate::points::Points;
 use std::marker::Model;
 
 /// The most pairs of a curve.
-const MAX_PAIRS: usize = 32;
+pub const MAX_PAIRS: usize = 32;
 
 /// A potentiometer's curve: 2 to 32 pairs of a raw value and the position measured there, and a
 /// straight line from each to the next.

@@ -11,7 +11,7 @@ pub mod points;
 pub mod sense;
 
 pub use calibration::{Calibration, curve_reading, line_reading};
-pub use curve::{Curve, CurveFault};
+pub use curve::{Curve, CurveFault, MAX_PAIRS};
 pub use gauge::Gauge;
 pub use line::line_at;
 pub use points::{Points, PointsFault};

@@ -8,9 +8,9 @@ ghost use Rattle.cell_config.specs.RefusedSections.{pairs_given, section_by_key}
 ghost use Rattle.cell_config.specs.Settings as settings;
 
 use crate::fault::ConfigFault;
-use crate::sections::{MAX_PAIRS, curve_at, measured_pairs, pairs_in, points_of, raw_at, tol_at};
+use crate::sections::{curve_at, measured_pairs, pairs_in, points_of, raw_at, tol_at};
 use crate::values::value_at;
-use cell_calib::{Curve, CurveFault, Points};
+use cell_calib::{Curve, CurveFault, MAX_PAIRS, Points};
 use cell_parts::parts::crane::GRIPPER_END;
 use cell_parts::parts::robot::{ARM_END, ROTATION_END};
 use cell_parts::parts::table::TURN_END;

@@ -11,7 +11,7 @@ ghost use Rattle.cell_config.specs.Settings as settings;
 
 use crate::fault::ConfigFault;
 use crate::values::{number_at, value_at};
-use cell_calib::{Curve, Points};
+use cell_calib::{Curve, MAX_PAIRS, Points};
 use cell_parts::parts::crane::GRIPPER_END;
 use cell_parts::parts::robot::{ARM_END, ROTATION_END};
 use cell_parts::parts::table::TURN_END;
@@ -22,9 +22,6 @@ const RAW: (u16, u16) = (0, 4000);
 
 /// The default tolerance, in tenths of a millimetre or of a degree.
 const TOL: u32 = 5;
-
-/// The most pairs of a curve.
-pub const MAX_PAIRS: usize = 32;
 
 /// The numbers of an array of exactly two whole numbers.
 fn pair_of(value: &Value) -> Option<(i64, i64)>
