@@ -19,6 +19,11 @@ AskOfScript words = AreTaken words × (mode_of words ≡ Replay)
 abbrev pub AskOfConfig : List Text → Type 0
 AskOfConfig words = AreTaken words × (mode_of words ≢ Replay)
 
+-- the exit status of an input that was read
+abbrev pub verdict_status : Verdict → ℕ
+verdict_status Taken = 0
+verdict_status Refused = 1
+
 -- no explanation was written, for some fault
 abbrev pub IsUnsaid : (List ℕ → Type 0) → Option (List ℕ) → Option (List ℕ) → Type 0
 IsUnsaid IsText old new = (fault : ExplainFault) × LeavesUnsaid IsText fault old new

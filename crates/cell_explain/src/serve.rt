@@ -11,7 +11,6 @@ ghost use Rattle.cell_replay.specs.Script.{max_bytes_read};
 ghost use Rattle.cell_explain.specs.Served.{AskOfConfig, AskOfScript, ExplainsConfig, ExplainsScript};
 
 use crate::explain::{explain_configuration, explain_script};
-use crate::verdict::Verdict;
 use cell_command::{Mode, read_words, refuse_with_help};
 use cell_shell::{Exit, asks_for_version, print_version, texts_or_exit, words_or_exit};
 use clap::error::ErrorKind;
@@ -40,8 +39,7 @@ pub fn serve_script<R: Read, W: Write>(alloc: Global, reader: &mut R, writer: &m
         (W.contents writer.old) (W.contents writer.new) }
 {
     match explain_script(alloc, reader, writer) {
-        Ok(Verdict::Taken) => 0,
-        Ok(Verdict::Refused) => 1,
+        Ok(verdict) => verdict.status(),
         Err(_) => FAILED,
     }
 }
@@ -52,8 +50,7 @@ pub fn serve_configuration<R: Read, W: Write>(alloc: Global, reader: &mut R, wri
         (W.contents writer.old) (W.contents writer.new) }
 {
     match explain_configuration(alloc, reader, writer) {
-        Ok(Verdict::Taken) => 0,
-        Ok(Verdict::Refused) => 1,
+        Ok(verdict) => verdict.status(),
         Err(_) => FAILED,
     }
 }
@@ -124,7 +121,7 @@ fn refuse<W: Write>(writer: &mut W, error: clap::Error) -> u8
     }
 }
 
-/// The exit status after a text that is no explanation.
+/// The exit status after a text that is no explanation. It is the program's, but for a failure.
 fn status_of(exit: Exit) -> u8
     ensures status { result ≤ 3 }
     ensures well { result ≡ 0 → exit ≡ Exit.Well }
@@ -132,9 +129,8 @@ fn status_of(exit: Exit) -> u8
     ensures refused { result ≡ 2 → exit ≡ Exit.Refused }
 {
     match exit {
-        Exit::Well => 0,
-        Exit::Refused => 2,
         Exit::Failed => FAILED,
+        Exit::Well | Exit::Refused => exit.status(),
     }
 }
 
