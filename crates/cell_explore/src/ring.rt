@@ -15,13 +15,13 @@ pub fn push_ring(
     ending: Ending,
     walk: &Walk,
 ) -> Result<(), AllocError> {
-    let machines = Machine::ALL;
-    for ((machine, call), prospect) in machines.iter().zip(&walk.calls).zip(&walk.prospects) {
-        if let Some(call) = call
-            && *prospect == ending.prospect()
+    for machine in Machine::ALL {
+        let next = walk.next.at(machine);
+        if let Some(call) = next.call
+            && next.prospect == ending.prospect()
         {
-            let given = answer(&walk.end.state, *machine, *call);
-            let line = line_of(alloc, ending, *machine, *call, given)?;
+            let given = answer(&walk.end.state, machine, call);
+            let line = line_of(alloc, ending, machine, call, given)?;
             text.push_str(line.as_str())?;
         }
     }

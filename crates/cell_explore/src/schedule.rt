@@ -94,11 +94,13 @@ pub fn schedule_into(
         }
     }
     let mut end = None;
-    let machines = Machine::ALL;
-    for ((machine, call), prospect) in machines.iter().zip(&walk.calls).zip(&walk.prospects) {
-        if *prospect == ending.prospect() {
-            let frame = push_until_asked(alloc, config, &mut schedule, *machine)?;
-            if !is_answered(&frame, *machine, *call, walk) {
+    for machine in Machine::ALL {
+        let next = walk.next.at(machine);
+        if let Some(call) = next.call
+            && next.prospect == ending.prospect()
+        {
+            let frame = push_until_asked(alloc, config, &mut schedule, machine)?;
+            if !is_answered(&frame, machine, call, walk) {
                 return Err(ScheduleFault::Apart);
             }
             end = Some(frame);
@@ -160,9 +162,9 @@ fn push_turns(schedule: &mut Vec<Turn>, turn: Turn, count: usize) -> Result<(), 
 }
 
 // Whether a simulated machine has asked this, and was answered as at the end of a walk.
-fn is_answered(frame: &Frame, machine: Machine, call: Option<Call>, walk: &Walk) -> bool {
-    match (frame.asked, call) {
-        (Some((asked, Ok(Reply::Settled(given, _)))), Some(call)) => {
+fn is_answered(frame: &Frame, machine: Machine, call: Call, walk: &Walk) -> bool {
+    match frame.asked {
+        Some((asked, Ok(Reply::Settled(given, _)))) => {
             asked == call && given == answer(&walk.end.state, machine, call)
         }
         _ => false,

@@ -5,7 +5,7 @@ use cell_config::read_config;
 use cell_explore::ending::Ending;
 use cell_explore::schedule::ScheduleFault;
 use cell_explore::screen::{screen_by, walk_screen};
-use cell_explorer::{Explored, take_turns};
+use cell_explorer::{Explored, NextTurn, Walk, take_turns};
 use cell_turns::Prospect;
 use cell_turns::Prospect::{Acts, Stops, Waits};
 use cell_types::Machine;
@@ -60,13 +60,24 @@ fn machines(alloc: Global, letters: &str) -> Result<Vec<Machine>, AllocError> {
     Ok(way)
 }
 
+/// Has the walk say that the next turn of each machine but the watch would do this.
+fn expect(walk: &mut Walk, prospects: &[Prospect; 6]) {
+    for (machine, prospect) in Machine::ALL.iter().zip(prospects) {
+        let next = NextTurn {
+            prospect: *prospect,
+            ..*walk.next.at(*machine)
+        };
+        walk.next.put(*machine, next);
+    }
+}
+
 #[test]
 fn tells_a_refusal(rt: HostRuntime) -> Result<(), Fail> {
     let config = read_config(rt.alloc(), &mut b"start = \"0000000000\"\n".as_slice())?;
     for (letters, prospects, wanted) in ROWS {
         let way = machines(rt.alloc(), letters)?;
         let mut walk = take_turns(rt.alloc(), &config.start, way.as_slice())?;
-        walk.prospects = *prospects;
+        expect(&mut walk, prospects);
         let found = walk_screen(rt.alloc(), &config, Ending::Refusal, way.as_slice(), &walk)?;
         assert!(rt; found.as_str() == *wanted, "{found}");
     }
@@ -100,7 +111,7 @@ fn tells_nothing_that_is_apart(rt: HostRuntime) -> Result<(), Fail> {
     ] {
         let walked = machines(rt.alloc(), letters)?;
         let mut walk = take_turns(rt.alloc(), &config.start, walked.as_slice())?;
-        walk.prospects = prospects;
+        expect(&mut walk, &prospects);
         let way = machines(rt.alloc(), scheduled)?;
         let found = walk_screen(rt.alloc(), &config, Ending::Refusal, way.as_slice(), &walk);
         assert!(rt; found == Err(ScheduleFault::Apart), "{letters}: {found:?}");

@@ -2,7 +2,7 @@
 
 use cell_explore::ending::Ending;
 use cell_explore::ring::push_ring;
-use cell_explorer::{Walk, take_turns};
+use cell_explorer::{NextTurn, Walk, take_turns};
 use cell_rules::State;
 use cell_turns::Prospect;
 use cell_types::{Call, Machine, Pose, Zone};
@@ -19,86 +19,73 @@ const WAY: &[Machine] = &[
     Machine::Deposit,
 ];
 
-/// The machines by their numbers in a walk.
-const FEED: usize = 0;
-
-const TABLE: usize = 1;
-
-const ROBOT: usize = 2;
-
-const PRESS: usize = 3;
-
-const DEPOSIT: usize = 4;
-
-const CRANE: usize = 5;
-
 /// A machine, what it asks after these turns, whom it waits for, and what it is answered.
-const ROWS: &[(usize, Call, &str, &str)] = &[
+const ROWS: &[(Machine, Call, &str, &str)] = &[
     // it waits for the owner that refuses it
     (
-        ROBOT,
+        Machine::Robot,
         Call::Claim(Zone::Z2),
         "robot waits for table",
         "claim z2: held table",
     ),
     (
-        ROBOT,
+        Machine::Robot,
         Call::Take(Zone::Z3),
         "robot waits for press",
         "take z3: notowner press",
     ),
     (
-        CRANE,
+        Machine::Crane,
         Call::Claim(Zone::Z6),
         "crane waits for feed",
         "claim z6: held feed",
     ),
     // or else for the other party of the zone, the host or the guest
     (
-        FEED,
+        Machine::Feed,
         Call::Inquire(Zone::Z1),
         "feed waits for table",
         "inquire z1: zone table 0 closed",
     ),
     (
-        TABLE,
+        Machine::Table,
         Call::Take(Zone::Z1),
         "table waits for feed",
         "take z1: noplate",
     ),
     (
-        TABLE,
+        Machine::Table,
         Call::Give(Zone::Z2),
         "table waits for robot",
         "give z2: wrongway",
     ),
     (
-        DEPOSIT,
+        Machine::Deposit,
         Call::Release(Zone::Z5),
         "deposit waits for crane",
         "release z5: notowner free",
     ),
     (
-        CRANE,
+        Machine::Crane,
         Call::Claim(Zone::Z5),
         "crane waits for deposit",
         "claim z5: shut closed",
     ),
     (
-        CRANE,
+        Machine::Crane,
         Call::Yield(Zone::Z5),
         "crane waits for deposit",
         "yield z5: notowner free",
     ),
     // a call about no zone
     (
-        PRESS,
+        Machine::Press,
         Call::Advance,
         "press waits for nobody",
         "advance: noplate",
     ),
     (
-        ROBOT,
+        Machine::Robot,
         Call::SetPose(Pose::Middle),
         "robot waits for nobody",
         "pose middle: nopose",
@@ -110,15 +97,20 @@ const ROWS: &[(usize, Call, &str, &str)] = &[
 fn lines_of(
     alloc: Global,
     ending: Ending,
-    machines: &[(usize, Option<Call>, Prospect)],
+    machines: &[(Machine, Option<Call>, Prospect)],
 ) -> Result<String, Fail> {
     let mut walk: Walk = take_turns(alloc, &State::start([false; 10], 0)?, WAY)?;
-    walk.prospects = [Prospect::Acts; 6];
+    for machine in Machine::ALL {
+        let call = walk.next.at(machine).call;
+        let prospect = Prospect::Acts;
+        walk.next.put(machine, NextTurn { call, prospect });
+    }
     for (machine, call, prospect) in machines {
-        if *machine < 6 {
-            walk.calls[*machine] = *call;
-            walk.prospects[*machine] = *prospect;
-        }
+        let next = NextTurn {
+            call: *call,
+            prospect: *prospect,
+        };
+        walk.next.put(*machine, next);
     }
     let mut text = String::from_str(alloc, "...\n")?;
     push_ring(alloc, &mut text, ending, &walk)?;
@@ -155,11 +147,11 @@ fn tells_who_is_refused(rt: HostRuntime) -> Result<(), Fail> {
 #[test]
 fn tells_them_in_the_order_of_reports(rt: HostRuntime) -> Result<(), Fail> {
     let machines = [
-        (CRANE, Some(Call::Claim(Zone::Z6)), Prospect::Waits),
-        (DEPOSIT, None, Prospect::Waits),
-        (PRESS, Some(Call::Advance), Prospect::Stops),
-        (ROBOT, Some(Call::Take(Zone::Z3)), Prospect::Waits),
-        (FEED, Some(Call::Inquire(Zone::Z1)), Prospect::Acts),
+        (Machine::Crane, Some(Call::Claim(Zone::Z6)), Prospect::Waits),
+        (Machine::Deposit, None, Prospect::Waits),
+        (Machine::Press, Some(Call::Advance), Prospect::Stops),
+        (Machine::Robot, Some(Call::Take(Zone::Z3)), Prospect::Waits),
+        (Machine::Feed, Some(Call::Inquire(Zone::Z1)), Prospect::Acts),
     ];
     let waiting = lines_of(rt.alloc(), Ending::Standstill, &machines)?;
     let wanted = "...\n# robot waits for press: take z3: notowner press\n\
