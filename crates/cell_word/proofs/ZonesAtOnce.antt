@@ -1,10 +1,9 @@
 -- The zones of a word without plates in zones, all tested at once.
-use Rattle.cell_word.proofs.Names.{◌≡◌, ◌↔◌, ℕ, ◌+◌, ◌-◌, ◌*◌, ◌/◌, ◌%◌, ◌^◌, min, max, Bool, true, false, ◌&&◌, not, nat_eq, refl, sym, ap, ap₂, ◌∙◌, arith, eqb-true, eq-eqb, bit_and, bit_or, bit_xor, bit_at, list_all, and-false, add_comm, and_shr, and_mod, shr-shr, xor_shr, le_or_l, le_or_r, bit_at_and, bit_at_or, bit_at_xor, Zone, Z1, Z2, Z3, Z4, Z5, Z6, PressIn, PressOut, Posture, OpenIn, OpenOut, transfer_of, same_posture, zone_at, is_full, is_onto_full}
-use Rattle.cell_word.proofs.Names.{implies, and_both, implied, from_zones, all_pass, each_zone, zone_bit, bits_of, is_bit_set, posture_of_code, state_told, stands, field_is, flag_is, place_is, zone_codes, onto_full, is_lawful_zone, is_lawful_press}
+use Rattle.cell_word.proofs.Names.{◌≡◌, ◌↔◌, ℕ, ◌+◌, ◌-◌, ◌*◌, ◌/◌, ◌%◌, ◌^◌, min, max, Bool, true, false, ◌&&◌, not, nat_eq, refl, sym, ap, ap₂, ◌∙◌, arith, eqb-true, eq-eqb, bit_and, bit_or, bit_xor, bit_at, list_all, and-false, add_comm, shr-shr, xor_shr, le_or_l, le_or_r, bit_at_and, bit_at_or, bit_at_xor, Zone, Z1, Z2, Z3, Z4, Z5, Z6, PressIn, PressOut, Posture, OpenIn, OpenOut, transfer_of, same_posture, zone_at, is_full, is_onto_full}
+use Rattle.cell_word.proofs.Names.{implies, and_both, implied, from_zones, all_pass, each_zone, zone_bit, bits_of, is_bit_set, posture_of_code, state_told, stands, flag_is, place_is, zone_codes, onto_full, is_lawful_zone, is_lawful_press}
 use Rattle.cell_types.specs.Everything.{all_zones as every_zone}
 use Rattle.cell_word.proofs.SameAnswer.{same_bool, one_bool}
 use Rattle.cell_word.proofs.Windows.{and_or, field_shown, field_test, all_below, from_below, five_fit}
-use Rattle.cell_word.proofs.ZoneGuards.{and_zero}
 use Rattle.cell_word.proofs.StateWordsHold.{zone_is, is_sent, onto_seen, zone_parts, plates_seen, forged_seen, is_inward}
 
 -- ---- the lowest bits of all zones
@@ -63,33 +62,11 @@ flag_shown w z = ap (λ n. n % 2) (down w (zone_bit z) 2 ∙ shr-shr w (zone_bit
 flag_clear : (w : ℕ) (z : Zone) → stands w (flag_is z false) ≡ nat_eq (bits_of (w / 2 ^ 2) (zone_bit z) 1) 0
 flag_clear w z = field_test w (zone_bit z + 2) 1 0 ∙ ap (λ n. nat_eq n 0) (sym (flag_shown w z))
 
-abbrev flags : ℕ
-flags = 138547332
-
-flags_down : (w : ℕ) → bit_and w flags ≡ 0 → bit_and (w / 2 ^ 2) lowest_bits ≡ 0
-flags_down w e = sym (and_shr w flags 2) ∙ ap (λ n. n / 4) e
-
-flags_up : (w : ℕ) → bit_and (w / 2 ^ 2) lowest_bits ≡ 0 → bit_and w flags ≡ 0
-flags_up w e =
-    let high : bit_and w flags / 4 ≡ 0 = and_shr w flags 2 ∙ e in
-    let low : bit_and w flags % 4 ≡ 0 = and_mod w flags 2 ∙ and_zero (w % 4) in
-    omega arith
-
--- the bits above the mark, and the flags
-abbrev unused_bits : ℕ
-unused_bits = 16140901064495857664
-
-pub clear_at_once : (w : ℕ)
-    → nat_eq (bit_and w 16140901064634404996) 0 ≡ true ↔ ((stands w (field_is 61 3 0) ≡ true) × ((z : Zone) → stands w (flag_is z false) ≡ true))
-clear_at_once w =
-    let parts : bit_and w 16140901064634404996 ≡ bit_or (bit_and w unused_bits) (bit_and w flags) = and_or w unused_bits flags in (
-      λ e.
-          let zero = both_zero (bit_and w unused_bits) (bit_and w flags) (sym parts ∙ eqb-true _ 0 e) in
-          (eq-eqb _ 0 zero.0, λ z. flag_clear w z ∙ eq-eqb _ 0 (none_set (w / 2 ^ 2) (flags_down w zero.1) z)),
-      λ h.
-          eq-eqb _ 0
-          (parts ∙ ap₂ bit_or (eqb-true (bit_and w unused_bits) 0 h.0) (flags_up w (set_none (w / 2 ^ 2) (λ z. eqb-true _ 0 (sym (flag_clear w z) ∙ h.1 z))))),
-    )
+pub clear_at_once : (w : ℕ) → nat_eq (bit_and (w / 4) lowest_bits) 0 ≡ true ↔ ((z : Zone) → stands w (flag_is z false) ≡ true)
+clear_at_once w = (
+  λ e z. flag_clear w z ∙ eq-eqb _ 0 (none_set (w / 2 ^ 2) (eqb-true _ 0 e) z),
+  λ h. eq-eqb _ 0 (set_none (w / 2 ^ 2) (λ z. eqb-true _ 0 (sym (flag_clear w z) ∙ h z))),
+)
 
 -- ---- the codes
 abbrev turned_bits : ℕ

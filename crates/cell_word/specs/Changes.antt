@@ -6,7 +6,7 @@ use Rattle.cell_rules.specs.Types.{OpenIn, OpenOut, Call, Claim, Give, Yield, Ta
 use Rattle.cell_rules.specs.Types.{Inquire, Stop, Resume, Refusal, transfer_of, own_move_of, same_machine}
 use Rattle.cell_rules.specs.Names.{is_party, other_party}
 use Rattle.cell_word.specs.Patterns.{anything, both, owner_is, flag_is, posture_is, place_is, mark_is, with_written}
-use Rattle.cell_word.specs.Guards.{row_given, hosted_zones, posed_at, first_refusal, unless, guards_of}
+use Rattle.cell_word.specs.Guards.{row_given, hosted_zones, posed_at}
 use Rattle.cell_word.specs.declared.patterns.Pattern.{Pattern}
 
 -- the row of transfers in which a machine receives in a zone; there is at most one
@@ -60,12 +60,7 @@ written m (Inquire z) = anything
 written m Stop = mark_becomes m true
 written m Resume = mark_becomes m false
 
--- what comes of a call whose guards gave this: the word with what they let it write and the next stamp, or the refusal
-abbrev pub outcome : ℕ → Result Pattern Refusal → Result ℕ Refusal
-outcome w (Ok p) = Ok (with_written w p.mask p.wanted + 2 ^ 40)
-outcome w (Err r) = Err r
-
--- what comes of a machine's call; of an inquiry the same word
-abbrev pub outcome_at : ℕ → Machine → Call → Result ℕ Refusal
-outcome_at w m (Inquire z) = Ok w
-outcome_at w m c = outcome w (unless (first_refusal w (guards_of m c)) (written m c))
+-- the word after a call whose guards gave this: with what they let it write and the next stamp, or the same word
+abbrev pub word_after : ℕ → Result Pattern Refusal → ℕ
+word_after w (Ok p) = with_written w p.mask p.wanted + 2 ^ 40
+word_after w (Err _) = w

@@ -6,4 +6,3 @@ pub mod Patterns
 pub mod Guards
 pub mod Changes
 pub mod StateWords
-pub mod Outcomes

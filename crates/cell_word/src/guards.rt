@@ -10,8 +10,9 @@ use crate::changes::{give_pattern, take_pattern};
 use crate::codes::STAMP_BIT;
 use crate::parties::{Party, ZoneBits, party_of, row_given};
 use crate::patterns::{Guard, Pattern, mark_pattern};
+use crate::pose_guards::{advance, set_pose};
 use cell_rules::LAST_STAMP;
-use cell_types::{Machine, Place, Posture, Refusal, Transfer, Zone};
+use cell_types::{Call, Machine, Place, Posture, Refusal, Transfer, Zone};
 
 #[inline(always)]
 fn worn_guard() -> Guard
@@ -300,4 +301,24 @@ pub(crate) fn resume(word: u64, machine: Machine) -> Result<Pattern, Refusal>
     require_stopped(word)?;
     require_stamp(word)?;
     Ok(mark_pattern(false))
+}
+
+/// What a call writes into a word, or the refusal of the first of its guards that refuses the word.
+#[inline(always)]
+pub(crate) fn check(word: u64, machine: Machine, call: Call) -> Result<Pattern, Refusal>
+    ensures { result ≡ guards.unless (guards.first_refusal word (guards.guards_of machine call))
+        (changes.written machine call) }
+{
+    match call {
+        Call::Claim(zone) => claim(word, machine, zone),
+        Call::Give(zone) => give(word, machine, zone),
+        Call::Yield(zone) => hand_over(word, machine, zone),
+        Call::Take(zone) => take(word, machine, zone),
+        Call::Release(zone) => release(word, machine, zone),
+        Call::SetPose(pose) => set_pose(word, machine, pose),
+        Call::Advance => advance(word, machine),
+        Call::Inquire(_) => Ok(Pattern::ANYTHING),
+        Call::Stop => stop(word, machine),
+        Call::Resume => resume(word, machine),
+    }
 }

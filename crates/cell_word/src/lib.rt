@@ -6,7 +6,6 @@ mod changes;
 mod codes;
 mod guards;
 pub mod laws;
-mod outcome;
 mod parties;
 mod patterns;
 mod pose_guards;

@@ -1,6 +1,7 @@
 //! Some bits of a word and their wanted values: to test a word, and to write into one.
-ghost use Rattle.std.specs.Prelude.{◌≡◌, ◌+◌, ◌<◌, ◌≤◌, ◌^◌, ◌∷◌, [], Some};
+ghost use Rattle.std.specs.Prelude.{◌≡◌, ◌+◌, ◌<◌, ◌≤◌, ◌^◌, ◌∷◌, [], Some, IfOk};
 ghost use Rattle.cell_word.specs.Patterns as patterns;
+ghost use Rattle.cell_word.specs.Changes as changes;
 ghost use Rattle.cell_word.specs.Guards as guards;
 ghost use Rattle.cell_word.specs.Parties as parties;
 
@@ -126,6 +127,20 @@ impl Pattern {
             pattern: self,
             refusal,
         }
+    }
+}
+
+/// The word after a call whose guards gave this: the same word if they refuse the call, or else the
+/// word with what the call writes and with the next stamp.
+#[inline(always)]
+pub(crate) fn word_after_check(word: u64, checked: Result<Pattern, Refusal>) -> u64
+    requires room { IfOk checked
+        (λ written. patterns.with_written word written.mask written.wanted + 2 ^ 40 < 2 ^ 64) }
+    ensures { result ≡ changes.word_after word checked }
+{
+    match checked {
+        Ok(written) => written.written_into(word) + (1 << STAMP_BIT),
+        Err(_) => word,
     }
 }
 

@@ -1,21 +1,20 @@
 //! The guards of poses, and of work, and what these calls write.
-ghost use Rattle.std.specs.Prelude.{◌≡◌, ℕ, ◌∷◌, ◌++◌, [], Ok, if◌then◌else◌};
+ghost use Rattle.std.specs.Prelude.{◌≡◌, ℕ, ◌∷◌, ◌++◌, []};
 ghost use Rattle.cell_types.specs.declared.call.Call.TheVariants as calls;
 ghost use Rattle.cell_types.specs.declared.machine.Machine.TheVariants as machines;
 ghost use Rattle.cell_types.specs.declared.posture.Posture.TheVariants.{OpenIn};
 ghost use Rattle.cell_rules.specs.ModelState.{ModelState};
 ghost use Rattle.cell_rules.specs.Refusals as refusals;
+ghost use Rattle.cell_rules.specs.Reply.{next};
 ghost use Rattle.cell_rules.specs.Sound.{IsSound};
 ghost use Rattle.cell_word.specs.Changes as changes;
 ghost use Rattle.cell_word.specs.Guards as guards;
 ghost use Rattle.cell_word.specs.Layout.{packed};
-ghost use Rattle.cell_word.specs.Patterns.{stands, posture_is};
 
 use crate::changes::{advance_pattern, posture_pattern};
 use crate::guards::{no_room_guard, require_clear, require_held, require_movable, require_stamp};
-use crate::outcome::Outcome;
 use crate::parties::{Party, ZoneBits};
-use crate::patterns::{Pattern, mark_pattern};
+use crate::patterns::{Pattern, mark_pattern, word_after_check};
 use cell_types::{Machine, Place, Pose, Posture, Refusal, Zone, host, posture_in, transfer};
 
 /// The zones that a machine hosts.
@@ -41,24 +40,15 @@ pub(crate) fn posed_at(machine: Machine, pose: Pose, zone: Option<Zone>) -> Opti
     Some((zone, posture_in(machine, pose, zone)?))
 }
 
-/// What this check gives, but nothing refuses a zone that has this posture. Most zones pass the check
-/// anyway, so the posture is looked at last.
-#[inline(always)]
-fn unless_in(at: ZoneBits, posture: Posture, checked: Result<(), Refusal>) -> Result<(), Refusal>
-    ensures { result ≡ (if stands at.word (posture_is at.zone posture) then Ok tt else checked) }
-{
-    match checked {
-        Err(refusal) if !at.is(posture) => Err(refusal),
-        _ => Ok(()),
-    }
-}
-
 /// A zone that gets another posture has to be its host's.
 #[inline(always)]
 fn require_held_unless_in(at: ZoneBits, posture: Posture) -> Result<(), Refusal>
     ensures { result ≡ guards.checked at.word (guards.owner_guards at.zone posture) }
 {
-    unless_in(at, posture, require_held(at, Party::Host))
+    if at.is(posture) {
+        return Ok(());
+    }
+    require_held(at, Party::Host)
 }
 
 #[inline(always)]
@@ -76,7 +66,10 @@ fn require_owned_zone(word: u64, posed: Option<(Zone, Posture)>) -> Result<(), R
 fn require_clear_unless_in(at: ZoneBits, posture: Posture) -> Result<(), Refusal>
     ensures { result ≡ guards.checked at.word (guards.plate_guards at.zone posture) }
 {
-    unless_in(at, posture, require_clear(at))
+    if at.is(posture) {
+        return Ok(());
+    }
+    require_clear(at)
 }
 
 #[inline(always)]
@@ -127,11 +120,14 @@ fn require_no_jump(
 
 /// The place has to be empty if its zone becomes open inward.
 #[inline(always)]
+#[tactic(auto, using(crate::proofs::Turning::require_room))]
 fn require_room(at: ZoneBits, place: Place) -> Result<(), Refusal>
     ensures { result ≡ guards.checked at.word (guards.room_guards at.zone place) }
 {
-    let checked = no_room_guard(place).pass(at.word);
-    unless_in(at, Posture::OpenIn, checked)
+    if at.is(Posture::OpenIn) {
+        return Ok(());
+    }
+    no_room_guard(place).pass(at.word)
 }
 
 /// All places inside the zone have to be empty if it becomes open inward.
@@ -314,26 +310,43 @@ fn set_pose_of<H: Host>(word: u64, pose: Pose) -> Result<Pattern, Refusal>
     Ok(posture_pattern(one).and(posture_pattern(other)))
 }
 
-/// What comes of a pose of this machine on the word of a sound state.
-fn outcome_of_pose_of<H: Host>(word: u64, pose: Pose) -> Outcome
-    requires { (state : ModelState) × IsSound state × (packed state ≡ word) }
-    ensures { result ≡ changes.outcome_at word H.MACHINE (calls.SetPose pose) }
-{
-    Outcome::of_check(word, set_pose_of::<H>(word, pose))
-}
-
-/// What comes of a pose on the word of a sound state.
+/// Why a pose is refused at a word, or what it writes.
 #[inline(always)]
-pub(crate) fn outcome_of_pose(word: u64, machine: Machine, pose: Pose) -> Outcome
-    requires { (state : ModelState) × IsSound state × (packed state ≡ word) }
-    ensures { result ≡ changes.outcome_at word machine (calls.SetPose pose) }
+pub(crate) fn set_pose(word: u64, machine: Machine, pose: Pose) -> Result<Pattern, Refusal>
+    ensures { result ≡ guards.unless (guards.first_refusal word (guards.pose_guards machine pose))
+        (changes.written machine (calls.SetPose pose)) }
 {
     match machine {
-        Machine::Feed => outcome_of_pose_of::<Feed>(word, pose),
-        Machine::Table => outcome_of_pose_of::<Table>(word, pose),
-        Machine::Press => outcome_of_pose_of::<Press>(word, pose),
-        Machine::Deposit => outcome_of_pose_of::<Deposit>(word, pose),
-        Machine::Robot | Machine::Crane | Machine::Watch => Outcome::of_refusal(Refusal::NoPose),
+        Machine::Feed => set_pose_of::<Feed>(word, pose),
+        Machine::Table => set_pose_of::<Table>(word, pose),
+        Machine::Press => set_pose_of::<Press>(word, pose),
+        Machine::Deposit => set_pose_of::<Deposit>(word, pose),
+        Machine::Robot | Machine::Crane | Machine::Watch => Err(Refusal::NoPose),
+    }
+}
+
+/// The word of a sound state after a pose of this machine.
+fn word_after_pose_of<H: Host>(word: u64, pose: Pose) -> u64
+    requires { (state : ModelState) × IsSound state × (packed state ≡ word) }
+    ensures { (state : ModelState) → IsSound state → packed state ≡ word
+        → result ≡ packed (next state H.MACHINE (calls.SetPose pose)) }
+{
+    word_after_check(word, set_pose_of::<H>(word, pose))
+}
+
+/// The word of a sound state after a pose.
+#[inline(always)]
+pub(crate) fn word_after_pose(word: u64, machine: Machine, pose: Pose) -> u64
+    requires { (state : ModelState) × IsSound state × (packed state ≡ word) }
+    ensures { (state : ModelState) → IsSound state → packed state ≡ word
+        → result ≡ packed (next state machine (calls.SetPose pose)) }
+{
+    match machine {
+        Machine::Feed => word_after_pose_of::<Feed>(word, pose),
+        Machine::Table => word_after_pose_of::<Table>(word, pose),
+        Machine::Press => word_after_pose_of::<Press>(word, pose),
+        Machine::Deposit => word_after_pose_of::<Deposit>(word, pose),
+        Machine::Robot | Machine::Crane | Machine::Watch => word,
     }
 }
 

@@ -6,7 +6,7 @@ ghost use Rattle.std.specs.List.{list_all};
 ghost use Rattle.cell_types.specs.Everything.{all_zones};
 ghost use Rattle.cell_types.specs.Tables.{transfer_of};
 ghost use Rattle.cell_word.specs.Layout.{packed};
-ghost use Rattle.cell_word.specs.Patterns.{stands, flag_is, field_is};
+ghost use Rattle.cell_word.specs.Patterns.{stands, flag_is};
 ghost use Rattle.cell_word.specs.StateWords as words;
 
 use crate::bits::bits;
@@ -23,9 +23,6 @@ const INWARD_CODES: u64 = 0x27_0000;
 
 /// The codes of a zone that is open outward: 24, 25 and 26, and 30 with a plate.
 const OUTWARD_CODES: u64 = 0x4700_0000;
-
-/// The bits above the mark, which no state's word has.
-const UNUSED: u64 = 7 << 61;
 
 /// The lowest bit of each zone.
 const ZONES: u64 = 0x210_8421;
@@ -92,13 +89,12 @@ fn is_lawful_press(word: u64) -> bool
             .stands_in(word)
 }
 
-/// Whether no bit above the mark is set, and no zone has a plate in it.
+/// Whether no zone has a plate in it.
 #[tactic(auto, using(crate::proofs::ZonesAtOnce::clear_at_once))]
-fn is_clear(word: u64) -> bool
-    ensures { IsTrue result ↔ (IsTrue (stands word (field_is 61 3 0))
-        × ((zone : Zone) → IsTrue (stands word (flag_is zone false)))) }
+fn are_clear_zones(word: u64) -> bool
+    ensures { IsTrue result ↔ ((zone : Zone) → IsTrue (stands word (flag_is zone false))) }
 {
-    word & (UNUSED | ZONES << 2) == 0
+    word >> 2 & ZONES == 0
 }
 
 /// Whether each zone has a code that it may have, where no zone has a plate in it. All zones are
@@ -118,10 +114,12 @@ fn are_lawful_codes(word: u64) -> bool
     (spare | barred | wrong_way) & ZONES == 0
 }
 
-/// Whether each zone has a code that it may have, and no plate in it is on its way to a full place.
 fn are_lawful_zones(word: u64) -> bool
     ensures { result ≡ list_all (words.is_lawful_zone word) all_zones }
 {
+    if are_clear_zones(word) {
+        return are_lawful_codes(word);
+    }
     Zone::ALL.iter().all(|zone| is_lawful_zone(word, *zone))
 }
 
@@ -129,9 +127,6 @@ fn are_lawful_zones(word: u64) -> bool
 fn keeps_masks(word: u64) -> bool
     ensures { result ≡ words.is_state_word word }
 {
-    if is_clear(word) {
-        return are_lawful_codes(word) && is_lawful_press(word);
-    }
     Pattern::field(61, 3, 0).stands_in(word) && are_lawful_zones(word) && is_lawful_press(word)
 }
 

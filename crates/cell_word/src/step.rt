@@ -1,22 +1,20 @@
 //! Calls on a word: the answer, and the word after it.
 ghost use Rattle.std.specs.Prelude.{◌≡◌, ◌≢◌, ◌↔◌, Some, IsNone};
-ghost use Rattle.cell_types.specs.declared.answer.Answer.TheVariants.{Shown};
+ghost use Rattle.cell_types.specs.declared.answer.Answer.TheVariants.{Done, Shown};
 ghost use Rattle.cell_types.specs.declared.call.Call.TheVariants as calls;
 ghost use Rattle.cell_rules.specs.ModelState.{ModelState, zone_at};
 ghost use Rattle.cell_rules.specs.Sound.{IsSound};
 ghost use Rattle.cell_rules.specs.Reply.{reply, next};
-ghost use Rattle.cell_word.specs.Changes as changes;
 ghost use Rattle.cell_word.specs.Layout.{packed};
 
-use crate::guards::{claim, give, hand_over, release, resume, stop, take};
-use crate::outcome::Outcome;
-use crate::pose_guards::{advance, outcome_of_pose};
+use crate::guards::{check, claim, give, hand_over, release, resume, stop, take};
+use crate::patterns::word_after_check;
+use crate::pose_guards::{advance, word_after_pose};
 use crate::state_words::is_state_word;
 use crate::word::zone_told;
 use cell_types::{Answer, Call, Machine, Zone};
 
 /// The state of a zone.
-#[inline(never)]
 #[tactic(auto, using(crate::proofs::RoundTrip::zone_read))]
 fn show_zone(word: u64, zone: Zone) -> Answer
     ensures { (state : ModelState) → IsSound state → packed state ≡ word
@@ -31,95 +29,91 @@ fn show_zone(word: u64, zone: Zone) -> Answer
     }
 }
 
-/// What comes of a claim on the word of a sound state.
+/// The word of a sound state after a claim.
 #[inline(never)]
-fn outcome_of_claim(word: u64, machine: Machine, zone: Zone) -> Outcome
+fn word_after_claim(word: u64, machine: Machine, zone: Zone) -> u64
     requires { (state : ModelState) × IsSound state × (packed state ≡ word) }
-    ensures { result ≡ changes.outcome_at word machine (calls.Claim zone) }
+    ensures { (state : ModelState) → IsSound state → packed state ≡ word
+        → result ≡ packed (next state machine (calls.Claim zone)) }
 {
-    Outcome::of_check(word, claim(word, machine, zone))
+    word_after_check(word, claim(word, machine, zone))
 }
 
-/// What comes of a give on the word of a sound state.
+/// The word of a sound state after a give.
 #[inline(never)]
-fn outcome_of_give(word: u64, machine: Machine, zone: Zone) -> Outcome
+fn word_after_give(word: u64, machine: Machine, zone: Zone) -> u64
     requires { (state : ModelState) × IsSound state × (packed state ≡ word) }
-    ensures { result ≡ changes.outcome_at word machine (calls.Give zone) }
+    ensures { (state : ModelState) → IsSound state → packed state ≡ word
+        → result ≡ packed (next state machine (calls.Give zone)) }
 {
-    Outcome::of_check(word, give(word, machine, zone))
+    word_after_check(word, give(word, machine, zone))
 }
 
-/// What comes of a yield on the word of a sound state.
+/// The word of a sound state after a yield.
 #[inline(never)]
-fn outcome_of_yield(word: u64, machine: Machine, zone: Zone) -> Outcome
+fn word_after_yield(word: u64, machine: Machine, zone: Zone) -> u64
     requires { (state : ModelState) × IsSound state × (packed state ≡ word) }
-    ensures { result ≡ changes.outcome_at word machine (calls.Yield zone) }
+    ensures { (state : ModelState) → IsSound state → packed state ≡ word
+        → result ≡ packed (next state machine (calls.Yield zone)) }
 {
-    Outcome::of_check(word, hand_over(word, machine, zone))
+    word_after_check(word, hand_over(word, machine, zone))
 }
 
-/// What comes of a take on the word of a sound state.
+/// The word of a sound state after a take.
 #[inline(never)]
-fn outcome_of_take(word: u64, machine: Machine, zone: Zone) -> Outcome
+fn word_after_take(word: u64, machine: Machine, zone: Zone) -> u64
     requires { (state : ModelState) × IsSound state × (packed state ≡ word) }
-    ensures { result ≡ changes.outcome_at word machine (calls.Take zone) }
+    ensures { (state : ModelState) → IsSound state → packed state ≡ word
+        → result ≡ packed (next state machine (calls.Take zone)) }
 {
-    Outcome::of_check(word, take(word, machine, zone))
+    word_after_check(word, take(word, machine, zone))
 }
 
-/// What comes of a release on the word of a sound state.
+/// The word of a sound state after a release.
 #[inline(never)]
-fn outcome_of_release(word: u64, machine: Machine, zone: Zone) -> Outcome
+fn word_after_release(word: u64, machine: Machine, zone: Zone) -> u64
     requires { (state : ModelState) × IsSound state × (packed state ≡ word) }
-    ensures { result ≡ changes.outcome_at word machine (calls.Release zone) }
+    ensures { (state : ModelState) → IsSound state → packed state ≡ word
+        → result ≡ packed (next state machine (calls.Release zone)) }
 {
-    Outcome::of_check(word, release(word, machine, zone))
+    word_after_check(word, release(word, machine, zone))
 }
 
-/// What comes of work on the word of a sound state.
-#[inline(never)]
-fn outcome_of_advance(word: u64, machine: Machine) -> Outcome
+/// The word after a call on the word of a sound state: the same word unless the answer is Done.
+///
+/// It is a number, so it comes back in a register. With its answer it would come back in memory,
+/// which takes as long as the guards.
+fn word_after(word: u64, machine: Machine, call: Call) -> u64
     requires { (state : ModelState) × IsSound state × (packed state ≡ word) }
-    ensures { result ≡ changes.outcome_at word machine calls.Advance }
-{
-    Outcome::of_check(word, advance(word, machine))
-}
-
-/// What comes of a stop on the word of a sound state.
-#[inline(never)]
-fn outcome_of_stop(word: u64, machine: Machine) -> Outcome
-    requires { (state : ModelState) × IsSound state × (packed state ≡ word) }
-    ensures { result ≡ changes.outcome_at word machine calls.Stop }
-{
-    Outcome::of_check(word, stop(word, machine))
-}
-
-/// What comes of a resume on the word of a sound state.
-#[inline(never)]
-fn outcome_of_resume(word: u64, machine: Machine) -> Outcome
-    requires { (state : ModelState) × IsSound state × (packed state ≡ word) }
-    ensures { result ≡ changes.outcome_at word machine calls.Resume }
-{
-    Outcome::of_check(word, resume(word, machine))
-}
-
-/// What comes of a call on the word of a sound state; of an inquiry the same word.
-#[inline(always)]
-fn outcome_of(word: u64, machine: Machine, call: Call) -> Outcome
-    requires { (state : ModelState) × IsSound state × (packed state ≡ word) }
-    ensures { result ≡ changes.outcome_at word machine call }
+    ensures { (state : ModelState) → IsSound state → packed state ≡ word
+        → result ≡ packed (next state machine call) }
 {
     match call {
-        Call::Claim(zone) => outcome_of_claim(word, machine, zone),
-        Call::Give(zone) => outcome_of_give(word, machine, zone),
-        Call::Yield(zone) => outcome_of_yield(word, machine, zone),
-        Call::Take(zone) => outcome_of_take(word, machine, zone),
-        Call::Release(zone) => outcome_of_release(word, machine, zone),
-        Call::SetPose(pose) => outcome_of_pose(word, machine, pose),
-        Call::Advance => outcome_of_advance(word, machine),
-        Call::Inquire(_) => Outcome::of_word(word),
-        Call::Stop => outcome_of_stop(word, machine),
-        Call::Resume => outcome_of_resume(word, machine),
+        Call::Claim(zone) => word_after_claim(word, machine, zone),
+        Call::Give(zone) => word_after_give(word, machine, zone),
+        Call::Yield(zone) => word_after_yield(word, machine, zone),
+        Call::Take(zone) => word_after_take(word, machine, zone),
+        Call::Release(zone) => word_after_release(word, machine, zone),
+        Call::SetPose(pose) => word_after_pose(word, machine, pose),
+        Call::Advance => word_after_check(word, advance(word, machine)),
+        Call::Inquire(_) => word,
+        Call::Stop => word_after_check(word, stop(word, machine)),
+        Call::Resume => word_after_check(word, resume(word, machine)),
+    }
+}
+
+/// The answer to a call on the word of a sound state.
+#[inline(never)]
+fn answer_at(word: u64, machine: Machine, call: Call) -> Answer
+    ensures { (state : ModelState) → IsSound state → packed state ≡ word
+        → result ≡ reply state machine call }
+{
+    if let Call::Inquire(zone) = call {
+        return show_zone(word, zone);
+    }
+    match check(word, machine, call) {
+        Err(refusal) => Answer::Refused(refusal),
+        Ok(_) => Answer::Done,
     }
 }
 
@@ -131,10 +125,12 @@ pub fn step_sound(word: u64, machine: Machine, call: Call) -> (Answer, u64)
     ensures { (state : ModelState) → IsSound state → packed state ≡ word
         → result ≡ (reply state machine call, packed (next state machine call)) }
 {
-    if let Call::Inquire(zone) = call {
-        return (show_zone(word, zone), word);
+    let new = word_after(word, machine, call);
+    if new == word {
+        (answer_at(word, machine, call), word)
+    } else {
+        (Answer::Done, new)
     }
-    outcome_of(word, machine, call).step(word)
 }
 
 /// Makes a call on a word. Returns the interlock's answer and the word of the state after it: the
