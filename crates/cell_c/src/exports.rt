@@ -110,7 +110,7 @@ pub extern "C" fn bagunjoki_is_stopped(word: u64) -> bool
         × IsTrue state.stopped) }
 {
     match unpack(word) {
-        Some(state) => state.stopped(),
+        Some(state) => state.is_stopped(),
         None => false,
     }
 }

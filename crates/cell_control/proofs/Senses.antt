@@ -3,7 +3,7 @@ use Rattle.std.proofs.Common.{◌≡◌, Option, Some, None, Result, Ok, Err, re
 use Rattle.cell_rules.specs.Types.{Call, Answer, Done, Shown, Refused, Reply, Settled, Busy}
 use Rattle.cell_calib.specs.declared.sense.SensorFault.{SensorFault}
 use Rattle.cell_rules.specs.declared.heard.LineFault.{LineFault}
-use Rattle.cell_control.specs.Names.{Steps, after_answer, outcome, with_senses, Performed, PerformsCall, PerformsSensed, Turned, Turns, at_rest}
+use Rattle.cell_control.specs.Names.{Steps, after_answer, step_after_reply, with_senses, Performed, PerformsCall, PerformsSensed, Turned, Turns, at_rest}
 use Rattle.cell_control.specs.declared.fault.CtlFault.{CtlFault}
 
 module _ {S Sense Reading Act : Type 0} (t : Steps S Sense Reading Act) (senses : Sense → Result Reading SensorFault → Type 0) (f : (s : Sense) (r : Result Reading SensorFault) → t.senses s r → senses s r) where
@@ -12,7 +12,7 @@ module _ {S Sense Reading Act : Type 0} (t : Steps S Sense Reading Act) (senses 
   answer_same p (Refused r) = refl
   answer_same p (Shown owner flag posture) = refl
 
-  outcome_same : (p : S) (r : Result Reply LineFault) → outcome t p r ≡ outcome (with_senses t senses) p r
+  outcome_same : (p : S) (r : Result Reply LineFault) → step_after_reply t p r ≡ step_after_reply (with_senses t senses) p r
   outcome_same p (Ok (Settled a stamp)) = answer_same p a
   outcome_same p (Ok (Busy lost stamp)) = refl
   outcome_same p (Err fault) = refl

@@ -4,7 +4,7 @@ use Rattle.cell_rules.specs.Types.{Machine, Posture, Call, Answer, Done, Shown, 
 use Rattle.cell_rules.specs.Names.{ModelState, IsSound, reply, next, next_by, changed, after, IsLegal, own_events, SeenAfter, Reached, IsSameFor}
 use Rattle.cell_rules.specs.declared.heard.LineFault.{LineFault}
 use Rattle.cell_rules.proofs.ProgramLemmas.{Keeps, reached-settles, reached-waits, reached-moves, reached-knows}
-use Rattle.cell_control.specs.Names.{fault_of, Steps, waits_out, after_answer, outcome, program_of, InStepAfter, IsReached}
+use Rattle.cell_control.specs.Names.{fault_of, Steps, waits_out, after_answer, step_after_reply, program_of, InStepAfter, IsReached}
 use Rattle.cell_control.specs.declared.fault.CtlFault.{CtlFault}
 use Rattle.cell_control.specs.Steps.{Drives, ComesFrom, GoesOn}
 
@@ -18,7 +18,7 @@ reached_first t p o seen none begins = record { renewals = zero; first = p; in_s
 
 -- a turn that asks
 pub asks_on : {S Sense Reading Act : Type 0} → (t : Steps S Sense Reading Act) (p q : S) (c : Call) (r : Result Reply LineFault) (o : ModelState) (before now : List Event)
-    → (t.row p).call ≡ Some c → SeenAfter t.machine c r o before now → outcome t p r ≡ Ok q → GoesOn t before p now q
+    → (t.row p).call ≡ Some c → SeenAfter t.machine c r o before now → step_after_reply t p r ≡ Ok q → GoesOn t before p now q
 asks_on t p q c (Ok (Settled a stamp)) o before now e seen l first come = reached-settles (program_of t) first p q t.machine c a before now seen.0 come e l
 asks_on t p q c (Ok (Busy lost stamp)) o before now e seen l first come =
     let same : p ≡ q = cc in

@@ -8,25 +8,25 @@ use Rattle.cell_rules.specs.Names.{Hears, MovesIn, Reached, ModelState}
 use Rattle.cell_rules.specs.declared.heard.LineFault.{LineFault}
 use Rattle.cell_rules.specs.declared.heard.Heard.{Heard}
 use Rattle.cell_control.specs.declared.fault.CtlFault.TheVariants as fault
-use Rattle.cell_control.specs.Names.{fault_of, InStepAfter, Steps, is_while_stopped, waits_out, after_answer, outcome, program_of, Performed, PerformsCall, PerformsSensed, Turned, Turns, at_rest, turned, Says, stops_with, waits_on}
+use Rattle.cell_control.specs.Names.{fault_of, InStepAfter, Steps, is_while_stopped, waits_out, after_answer, step_after_reply, program_of, Performed, PerformsCall, PerformsSensed, Turned, Turns, at_rest, turned, Says, stops_with, waits_on}
 use Rattle.cell_control.proofs.StepLemmas.{reached_first, reached_carried}
 use Rattle.cell_control.specs.Turns.{asked_at}
-use Rattle.cell_control.specs.TurnRows.{Answered, AnswerRows, SilentRows, HeardRows, AsksAlways, ReachedRows, TurnRows}
+use Rattle.cell_control.specs.TurnRows.{TurnAnswered, AnswerRows, SilentRows, HeardRows, AsksAlways, ReachedRows, TurnRows}
 
 module _ {S Sense Reading Act : Type 0} (t : Steps S Sense Reading Act) (p : S) (s : Sense) where
   -- the outcome of a turn that asks, by what came back
-  asked_call : (o : Option Call) (answered : Result Reply LineFault) (reading : Reading) (r : Performed S Act) → PerformsCall t o ⊥ (λ call x. x ≡ answered) p reading r → r ≡ at_rest (t.rest p) (outcome t p answered)
+  asked_call : (o : Option Call) (answered : Result Reply LineFault) (reading : Reading) (r : Performed S Act) → PerformsCall t o ⊥ (λ call x. x ≡ answered) p reading r → r ≡ at_rest (t.rest p) (step_after_reply t p answered)
   asked_call None answered reading r k = absurd k.0
-  asked_call (Some call) answered reading r k = k.2 ∙ ap (λ x. at_rest (t.rest p) (outcome t p x)) k.1
+  asked_call (Some call) answered reading r k = k.2 ∙ ap (λ x. at_rest (t.rest p) (step_after_reply t p x)) k.1
 
-  asked_sensed : (sensed : Result Reading SensorFault) (answered : Result Reply LineFault) (r : Performed S Act) → PerformsSensed t sensed ⊥ (λ call x. x ≡ answered) p r → r ≡ at_rest (t.rest p) (outcome t p answered)
+  asked_sensed : (sensed : Result Reading SensorFault) (answered : Result Reply LineFault) (r : Performed S Act) → PerformsSensed t sensed ⊥ (λ call x. x ≡ answered) p r → r ≡ at_rest (t.rest p) (step_after_reply t p answered)
   asked_sensed (Err f) answered r k = absurd k.0
   asked_sensed (Ok reading) answered r k = asked_call (t.row p).call answered reading r k
 
-  led_by : (answered : Result Reply LineFault) (w : Turned S Act) → Answered t p s answered w → w ≡ turned p (at_rest (t.rest p) (outcome t p answered))
+  led_by : (answered : Result Reply LineFault) (w : Turned S Act) → TurnAnswered t p s answered w → w ≡ turned p (at_rest (t.rest p) (step_after_reply t p answered))
   led_by answered w k = k.2 ∙ ap (turned p) (asked_sensed k.1.sensed answered k.0 k.1.performs)
 
-  refused_by : (b : Bool) (r : Refusal) (stamp : ℕ) (w : Turned S Act) → waits_out t p r ≡ b → Answered t p s (Ok (Settled (Refused r) stamp)) w → w ≡ turned p (at_rest (t.rest p) (if b then Ok p else Err (fault_of r)))
+  refused_by : (b : Bool) (r : Refusal) (stamp : ℕ) (w : Turned S Act) → waits_out t p r ≡ b → TurnAnswered t p s (Ok (Settled (Refused r) stamp)) w → w ≡ turned p (at_rest (t.rest p) (if b then Ok p else Err (fault_of r)))
   refused_by b r stamp w e k = led_by _ w k ∙ ap (λ x. turned p (at_rest (t.rest p) (if x then Ok p else Err (fault_of r)))) e
 
   answers : (w : Turned S Act) → AnswerRows t p s w
@@ -72,7 +72,7 @@ module _ {S Sense Reading Act : Type 0} (t : Steps S Sense Reading Act) (p : S) 
 
   -- a turn of a controller that runs, over any line: what it asks, or that the line stays, and the next step
   pub asked_own : (same : Type 0) (asks : Call → Result Reply LineFault → Type 0) (reading : Reading) (call : Call) (w : Turned S Act) → (t.row p).call ≡ Some call → Says t s (Ok reading) → Turns t same asks None p s w
-      → (r : Result Reply LineFault) × asks call r × (w ≡ turned p (at_rest (t.rest p) (outcome t p r)))
+      → (r : Result Reply LineFault) × asks call r × (w ≡ turned p (at_rest (t.rest p) (step_after_reply t p r)))
   asked_own same asks reading call w own says k =
       let led = by_call same asks (Some call) reading k.0 own (by_sensors same asks k.1.sensed (Ok reading) k.0 (says k.1.sensed k.1.senses) k.1.performs) in
       (led.0, led.1, k.2 ∙ ap (turned p) led.2)

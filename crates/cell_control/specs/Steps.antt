@@ -47,11 +47,11 @@ after_answer t p Done = Ok (t.row p).next
 after_answer t p (Refused r) = after_refusal t p r
 after_answer t p (Shown owner flag posture) = Ok (t.after_inquiry p owner flag posture)
 
-abbrev pub outcome : {S Sense Reading Act : Type 0} → Steps S Sense Reading Act → S → Result Reply LineFault
+abbrev pub step_after_reply : {S Sense Reading Act : Type 0} → Steps S Sense Reading Act → S → Result Reply LineFault
     → Result S CtlFault
-outcome t p (Ok (Settled a stamp)) = after_answer t p a
-outcome t p (Ok (Busy lost stamp)) = Ok p
-outcome t p (Err fault) = Err Memory
+step_after_reply t p (Ok (Settled a stamp)) = after_answer t p a
+step_after_reply t p (Ok (Busy lost stamp)) = Ok p
+step_after_reply t p (Err fault) = Err Memory
 
 -- a turn that asks nothing drives, by sensors that can be used
 pub record Drives {S Sense Reading Act : Type 0} (t : Steps S Sense Reading Act) (p q : S) : Type 0 where

@@ -12,7 +12,7 @@ use Rattle.cell_rules.specs.declared.heard.LineFault.TheVariants as line
 use Rattle.cell_control.specs.declared.fault.CtlFault.{CtlFault}
 use Rattle.cell_control.specs.declared.fault.CtlFault.TheVariants as fault
 use Rattle.cell_control.specs.Demands.{HoldsIn}
-use Rattle.cell_control.specs.Steps.{Steps, outcome, InStepAfter, IsReached}
+use Rattle.cell_control.specs.Steps.{Steps, step_after_reply, InStepAfter, IsReached}
 use Rattle.cell_control.specs.Turns.{Turned, Turns, HearsTurn}
 use Rattle.cell_control.specs.Row.{waits_on}
 
@@ -30,26 +30,26 @@ stops_with p f = record { result = Err f; progress = p; stopped = Some f }
 
 -- ---- what comes back from a call of a controller that runs
 
-abbrev pub Answered : {S Sense Reading Act : Type 0} → Steps S Sense Reading Act → S → Sense → Result Reply LineFault
+abbrev pub TurnAnswered : {S Sense Reading Act : Type 0} → Steps S Sense Reading Act → S → Sense → Result Reply LineFault
     → Turned S Act → Type 0
-Answered t p s answered w = Turns t ⊥ (λ call r. r ≡ answered) None p s w
+TurnAnswered t p s answered w = Turns t ⊥ (λ call r. r ≡ answered) None p s w
 
 -- a refusal on which the step doesn't stay stops it with this fault
 abbrev pub Stops : {S Sense Reading Act : Type 0} → Steps S Sense Reading Act → S → Sense → Turned S Act → Refusal
     → CtlFault → Type 0
 Stops t p s w r f = (stamp : ℕ) → waits_on (t.row p).waits r ≡ false
-    → Answered t p s (Ok (Settled (Refused r) stamp)) w → w ≡ stops_with p f
+    → TurnAnswered t p s (Ok (Settled (Refused r) stamp)) w → w ≡ stops_with p f
 
 pub record AnswerRows {S Sense Reading Act : Type 0} (t : Steps S Sense Reading Act) (p : S) (s : Sense)
     (w : Turned S Act) : Type 0 where
-  pub done : (stamp : ℕ) → Answered t p s (Ok (Settled Done stamp)) w → w ≡ leads_to t p (t.row p).next
+  pub done : (stamp : ℕ) → TurnAnswered t p s (Ok (Settled Done stamp)) w → w ≡ leads_to t p (t.row p).next
   pub shown : (owner : Option Machine) (flag : Bool) (posture : Posture) (stamp : ℕ)
-      → Answered t p s (Ok (Settled (Shown owner flag posture) stamp)) w
+      → TurnAnswered t p s (Ok (Settled (Shown owner flag posture) stamp)) w
       → w ≡ leads_to t p (t.after_inquiry p owner flag posture)
   pub waits : (r : Refusal) (stamp : ℕ) → waits_on (t.row p).waits r ≡ true
-      → Answered t p s (Ok (Settled (Refused r) stamp)) w → w ≡ leads_to t p p
-  pub while_stopped : (stamp : ℕ) → Answered t p s (Ok (Settled (Refused Stopped) stamp)) w → w ≡ leads_to t p p
-  pub busy : (lost stamp : ℕ) → Answered t p s (Ok (Busy lost stamp)) w → w ≡ leads_to t p p
+      → TurnAnswered t p s (Ok (Settled (Refused r) stamp)) w → w ≡ leads_to t p p
+  pub while_stopped : (stamp : ℕ) → TurnAnswered t p s (Ok (Settled (Refused Stopped) stamp)) w → w ≡ leads_to t p p
+  pub busy : (lost stamp : ℕ) → TurnAnswered t p s (Ok (Busy lost stamp)) w → w ≡ leads_to t p p
   pub not_party : Stops t p s w NotParty (fault.Refused NotParty)
   pub held : (m : Machine) → Stops t p s w (Held m) (fault.Refused (Held m))
   pub already_mine : Stops t p s w AlreadyMine (fault.Refused AlreadyMine)
@@ -65,7 +65,7 @@ pub record AnswerRows {S Sense Reading Act : Type 0} (t : Steps S Sense Reading 
   pub in_use : Stops t p s w InUse (fault.Refused InUse)
   pub not_stopped : Stops t p s w NotStopped (fault.Refused NotStopped)
   pub worn : Stops t p s w Worn fault.Worn
-  pub out_of_memory : Answered t p s (Err line.Memory) w → w ≡ stops_with p fault.Memory
+  pub out_of_memory : TurnAnswered t p s (Err line.Memory) w → w ≡ stops_with p fault.Memory
 
 -- ---- who asks, and who doesn't
 
@@ -124,7 +124,7 @@ pub record ReachedRows {S Sense Reading Act : Type 0} (t : Steps S Sense Reading
   pub by_none : AsksAlways t → own_events seen t.machine ≡ [] → IsReached t opening seen p → IsInStep t p opening
   pub by_one : (e : Event) → AsksAlways t → own_events seen t.machine ≡ e ∷ [] → IsReached t opening seen p
       → (first : S) × IsInStep t first opening × ((t.row first).call ≡ Some e.call)
-      × (outcome t first (Ok (Settled e.answer 0)) ≡ Ok p)
+      × (step_after_reply t first (Ok (Settled e.answer 0)) ≡ Ok p)
   pub carried_over : (opened : ModelState) → IsSound opening → IsLegal opening seen
       → IsSameFor t.machine (after opening seen) opened → IsReached t opening seen p → IsReached t opened [] p
 

@@ -7,7 +7,7 @@ use Rattle.cell_rules.specs.declared.heard.LineFault.{LineFault}
 use Rattle.cell_rules.specs.declared.heard.Heard.{Heard}
 use Rattle.cell_control.specs.declared.fault.CtlFault.{CtlFault}
 use Rattle.cell_control.specs.declared.fault.CtlFault.TheVariants.{Sensor, Stopped}
-use Rattle.cell_control.specs.Steps.{Steps, outcome}
+use Rattle.cell_control.specs.Steps.{Steps, step_after_reply}
 
 -- the next step and the actuators' commands, or the fault
 abbrev pub Performed : Type 0 → Type 0 → Type 0
@@ -23,7 +23,7 @@ abbrev pub PerformsCall : {S Sense Reading Act : Type 0} → Steps S Sense Readi
 PerformsCall {Act = Act} t None same asks p reading r = same
     × ((act : Act) × t.drives p reading act × (r ≡ Ok (t.after_drive p reading act, act)))
 PerformsCall t (Some c) same asks p reading r = (answered : Result Reply LineFault) × asks c answered
-    × (r ≡ at_rest (t.rest p) (outcome t p answered))
+    × (r ≡ at_rest (t.rest p) (step_after_reply t p answered))
 
 abbrev pub PerformsSensed : {S Sense Reading Act : Type 0} → Steps S Sense Reading Act → Result Reading SensorFault
     → Type 0 → (Call → Result Reply LineFault → Type 0) → S → Performed S Act → Type 0

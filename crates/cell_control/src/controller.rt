@@ -4,7 +4,7 @@ ghost use Rattle.cell_rules.specs.Seen.{heard_after};
 ghost use Rattle.cell_control.specs.Controllers.{MeetsDemands, GoesOnBy, HasReached, HearsBy};
 ghost use Rattle.cell_control.specs.Controllers.{OwnsLine, TurnsBy, program_in, rest_in, step_in};
 ghost use Rattle.cell_control.specs.Controllers.{stopped_in};
-ghost use Rattle.cell_control.specs.Steps.{GoesOn, IsReached, outcome};
+ghost use Rattle.cell_control.specs.Steps.{GoesOn, IsReached, step_after_reply};
 ghost use Rattle.cell_control.specs.Turns.{Performs, Reads, HearsOnce, answered};
 
 use crate::fault::CtlFault;
@@ -40,7 +40,7 @@ impl<P: Program> Controller<P> {
     }
 
     /// What has stopped it; `None` while it runs.
-    pub fn stopped(&self) -> Option<CtlFault>
+    pub fn stopped_by(&self) -> Option<CtlFault>
         ensures { result ≡ stopped_in self.now }
     {
         self.stopped
@@ -207,7 +207,7 @@ fn after_call<P: Program>(
     answered: Answered,
 ) -> Result<P::Progress, CtlFault>
     requires row { row ≡ (P.steps program.now).row progress }
-    ensures { result ≡ outcome (P.steps program.now) progress answered }
+    ensures { result ≡ step_after_reply (P.steps program.now) progress answered }
 {
     match answered {
         Ok(Reply::Settled(Answer::Done, _)) => Ok(row.next),

@@ -57,17 +57,17 @@ impl<P: Program> Unwired<P> {
     }
 
     /// The state that it has left.
-    pub fn left(&self) -> State
+    pub fn last_state(&self) -> State
         ensures { result ≡ self.now.left }
     {
         self.left
     }
 
     /// What has stopped the machine; `None` while it runs.
-    pub fn stopped(&self) -> Option<CtlFault>
+    pub fn stopped_by(&self) -> Option<CtlFault>
         ensures { result ≡ self.now.stopped }
     {
-        self.controller.stopped()
+        self.controller.stopped_by()
     }
 
     /// Its step in its program, with its notes.

@@ -94,10 +94,10 @@ impl<P: Program, L: Line> Wired<P, L> {
     }
 
     /// What has stopped the machine; `None` while it runs.
-    pub fn stopped(&self) -> Option<CtlFault>
+    pub fn stopped_by(&self) -> Option<CtlFault>
         ensures { result ≡ self.now.stopped }
     {
-        self.controller.stopped()
+        self.controller.stopped_by()
     }
 
     /// Its step in its program, with its notes.

@@ -68,7 +68,7 @@ const ROWS: &[(&[Found], &[Found], u32, &str)] = &[
 ];
 
 /// What an exploration says of it.
-fn told(alloc: Global, found: Found) -> Result<Explored, AllocError> {
+fn exploration_of(alloc: Global, found: Found) -> Result<Explored, AllocError> {
     let way = |turns: usize| -> Result<Vec<Machine>, AllocError> {
         let mut way = Vec::new(alloc);
         for _ in 0..turns {
@@ -86,7 +86,7 @@ fn told(alloc: Global, found: Found) -> Result<Explored, AllocError> {
 fn tally_of(alloc: Global, all: &[Found]) -> Result<Tally, AllocError> {
     let mut tally = Tally::NONE;
     for found in all {
-        tally = tally.with(&told(alloc, *found)?);
+        tally = tally.with(&exploration_of(alloc, *found)?);
     }
     Ok(tally)
 }

@@ -37,7 +37,8 @@ use Rattle.cell_parts.specs.declared.belt.Belt.{Belt}
 use Rattle.cell_parts.specs.declared.plant.PlantState.{PlantState}
 use Rattle.cell_plant.specs.declared.frame.Frame.{Frame}
 use Rattle.cell_plant.specs.declared.frame.MachineSteps.{MachineSteps}
-use Rattle.cell_film.specs.StepWords.{feed_word, table_word, robot_word, press_word, deposit_word, crane_word, letter_word, stopped_text}
+use Rattle.cell_film.specs.StepWords.{feed_word, table_word, robot_word, press_word, deposit_word, crane_word, stopped_text}
+use Rattle.cell_config.specs.Letters.{letter_word}
 use Rattle.cell_film.specs.Fields as fields
 use Rattle.cell_film.specs.Lines.{Fields, LastCalls, changes_text, fields_before, fields_of, frame_line, if_new, is_same, line_by, lines_after, machine_text, nothing_said, said_after, start_line, turn_line}
 use Rattle.cell_film.specs.Pages.{cut_line, max_turns}

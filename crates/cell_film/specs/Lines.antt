@@ -6,7 +6,7 @@ use Rattle.cell_notes.specs.Names.{TurnCall, at_machine, each_machine, with_mach
 use Rattle.cell_notes.specs.declared.by_machine.ByMachine.{ByMachine}
 use Rattle.cell_notes.specs.declared.schedule.Turn.{Turn}
 use Rattle.cell_plant.specs.declared.frame.Frame.{Frame}
-use Rattle.cell_film.specs.StepWords.{letter_word}
+use Rattle.cell_config.specs.Letters.{letter_word}
 use Rattle.cell_film.specs.Fields.{answered_text, asked_text, by_commas, by_semicolons, part_text, step_text, word_text}
 
 -- what each machine asked in its last turn so far

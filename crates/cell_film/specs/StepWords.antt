@@ -1,6 +1,5 @@
--- The words of steps, of statuses and of turns.
-use Rattle.std.specs.Prelude.{ℕ, Bool, true, false, List, [], codes}
-use Rattle.cell_rules.specs.Types.{Machine, Feed, Table, Robot, Press, Deposit, Crane, Watch}
+-- The words of steps and of statuses.
+use Rattle.std.specs.Prelude.{ℕ, List, [], codes}
 use Rattle.cell_haul.specs.declared.feed.FeedStep.{FeedStep}
 use Rattle.cell_haul.specs.declared.deposit.DepositStep.{DepositStep}
 use Rattle.cell_haul.specs.declared.crane.CraneStep.{CraneStep}
@@ -129,20 +128,3 @@ stopped_text Sensor = codes "!sensor"
 stopped_text Refused = codes "!refused"
 stopped_text Memory = codes "!memory"
 stopped_text GateLimit = codes "!gatelimit"
-
--- the letter of a turn, as in schedules: a capital one if the turn found the interlock busy
-abbrev pub letter_word : Bool → Machine → List ℕ
-letter_word false Feed = codes "f"
-letter_word false Table = codes "t"
-letter_word false Robot = codes "r"
-letter_word false Press = codes "p"
-letter_word false Deposit = codes "d"
-letter_word false Crane = codes "c"
-letter_word false Watch = codes "w"
-letter_word true Feed = codes "F"
-letter_word true Table = codes "T"
-letter_word true Robot = codes "R"
-letter_word true Press = codes "P"
-letter_word true Deposit = codes "D"
-letter_word true Crane = codes "C"
-letter_word true Watch = codes "W"

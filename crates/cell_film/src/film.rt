@@ -2,11 +2,11 @@
 
 ghost use Rattle.std.specs.Prelude.{◌≡◌, ◌++◌, codes, option_copied, IfOk, OnOk, string_bytes};
 ghost use Rattle.cell_film.specs.Lines as lines;
-ghost use Rattle.cell_film.specs.StepWords as words;
+ghost use Rattle.cell_config.specs.Letters.{letter_word};
 
 use crate::fields::{Fields, step_text, word_text};
 use crate::parts::part_text;
-use crate::words::letter_word;
+use cell_config::letter_word;
 use cell_notes::{ByMachine, Turn, TurnCall};
 use cell_plant::{Frame, Watcher};
 use cell_types::Machine;
@@ -140,7 +140,7 @@ fn push_turn_line(
     text: &mut String,
 ) -> Result<(), AllocError>
     ensures { OnOk result (string_bytes text.new ≡ string_bytes text.old ++
-        (lines.turn_line (words.letter_word turn.busy turn.machine)
+        (lines.turn_line (letter_word turn.busy turn.machine)
         (lines.fields_before turn.machine said.now (option_copied before.entry))
         (lines.fields_of turn.machine frame.now.asked frame.now) ++ codes "\n")) }
 {

@@ -1,4 +1,4 @@
-//! The words of steps, of statuses and of turns.
+//! The words of steps and of statuses.
 
 ghost use Rattle.std.specs.Prelude.{◌≡◌};
 ghost use Rattle.cell_film.specs.Fields as fields;
@@ -179,11 +179,4 @@ pub(crate) fn stopped_text(status: Status) -> &'static str
         Status::Memory => "!memory",
         Status::GateLimit => "!gatelimit",
     }
-}
-
-/// The letter of a turn, as in schedules: a capital one if the turn found the interlock busy.
-pub(crate) fn letter_word(busy: bool, machine: Machine) -> &'static str
-    ensures { result.now ≡ words.letter_word busy machine }
-{
-    cell_config::letter_word(busy, machine)
 }

@@ -204,7 +204,7 @@ fn told_by(frame: &Frame) -> Told {
         call,
         answer,
         state.stamp(),
-        state.stopped(),
+        state.is_stopped(),
         status,
     )
 }

@@ -94,7 +94,7 @@ fn is_seen(frame: &Frame, sight: Sight) -> bool {
         Sight::On(switch) => is_on(&frame.plant, switch),
         Sight::Off(switch) => !is_on(&frame.plant, switch),
         Sight::Answer(word) => answer_word(&frame.asked) == word,
-        Sight::Stopped => frame.state.stopped(),
+        Sight::Stopped => frame.state.is_stopped(),
     }
 }
 

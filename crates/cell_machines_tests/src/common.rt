@@ -45,7 +45,7 @@ pub fn guest_asks<P: Program>(
 }
 
 /// An axis's position after a turn: it moves by 20, and stays from 0 to its end.
-pub fn moved(position: u16, motor: Motor, end: u16) -> u16 {
+pub fn position_after(position: u16, motor: Motor, end: u16) -> u16 {
     match motor {
         Motor::Off => position,
         Motor::Plus => position.saturating_add(20).min(end),

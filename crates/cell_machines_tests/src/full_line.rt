@@ -99,7 +99,7 @@ fn stops<P: Program>(
     let then = controller.turn(line, sense).err();
     let told = first == Some(CtlFault::Memory) && then == Some(CtlFault::Stopped);
     let once = asked.asks == 1 && asked.last == Some((call, Err(LineFault::Memory)));
-    let stays = line.heard() == asked && controller.stopped() == Some(CtlFault::Memory);
+    let stays = line.heard() == asked && controller.stopped_by() == Some(CtlFault::Memory);
     silent && told && once && stays
 }
 

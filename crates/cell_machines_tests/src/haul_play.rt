@@ -128,5 +128,5 @@ pub fn stops<P: Program, B: Part<Sense = P::Sense, Act = P::Act>>(
         && asked == asks
         && then == Some(CtlFault::Stopped)
         && silent
-        && controller.stopped() == Some(fault)
+        && controller.stopped_by() == Some(fault)
 }

@@ -20,7 +20,7 @@ fn points_of(rt: &impl Abort, end: i32) -> Points {
     Points::new(100, 4100, 0, end, 5).expect(rt, "points")
 }
 
-fn done(machine: Machine, call: Call) -> Event {
+fn done_event(machine: Machine, call: Call) -> Event {
     Event {
         machine,
         call,
@@ -81,9 +81,9 @@ fn has(belt: &Belt, entry: Option<i32>, last: Option<i32>) -> bool {
 #[test]
 fn a_plate_goes_along_the_feed_belt(rt: HostRuntime) {
     let mut feed = FeedPart::start(&start_of(&rt, EMPTY));
-    feed.note(&done(Machine::Crane, Call::Give(Zone::Z6)));
+    feed.note(&done_event(Machine::Crane, Call::Give(Zone::Z6)));
     assert!(rt; feed.belt.entry.is_none());
-    feed.note(&done(Machine::Feed, Call::Take(Zone::Z6)));
+    feed.note(&done_event(Machine::Feed, Call::Take(Zone::Z6)));
     for (ticks, position, barrier) in RUNNING {
         for _ in 0..*ticks {
             feed.tick(&FeedAct { belt: true });
@@ -91,23 +91,23 @@ fn a_plate_goes_along_the_feed_belt(rt: HostRuntime) {
         assert!(rt; feed.belt.entry == Some(*position), "{position}");
         assert!(rt; feed.sensors().barrier == *barrier, "at {position}");
     }
-    feed.note(&done(Machine::Feed, Call::Advance));
+    feed.note(&done_event(Machine::Feed, Call::Advance));
     assert!(rt; has(&feed.belt, None, Some(1100)));
-    feed.note(&done(Machine::Feed, Call::Give(Zone::Z1)));
+    feed.note(&done_event(Machine::Feed, Call::Give(Zone::Z1)));
     assert!(rt; feed.belt.last.is_none());
 }
 
 #[test]
 fn a_plate_leaves_the_deposit_belt(rt: HostRuntime) {
     let mut deposit = DepositPart::start(&start_of(&rt, EMPTY));
-    deposit.note(&done(Machine::Deposit, Call::Take(Zone::Z4)));
+    deposit.note(&done_event(Machine::Deposit, Call::Take(Zone::Z4)));
     deposit.tick(&DepositAct { belt: true });
     deposit.tick(&DepositAct { belt: false });
     assert!(rt; deposit.belt.entry == Some(20));
-    deposit.note(&done(Machine::Deposit, Call::Advance));
+    deposit.note(&done_event(Machine::Deposit, Call::Advance));
     assert!(rt; has(&deposit.belt, None, Some(20)));
     assert!(rt; !deposit.sensors().barrier);
-    deposit.note(&done(Machine::Deposit, Call::Give(Zone::Z5)));
+    deposit.note(&done_event(Machine::Deposit, Call::Give(Zone::Z5)));
     assert!(rt; deposit.belt.last.is_none());
 }
 

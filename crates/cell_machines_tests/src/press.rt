@@ -4,7 +4,7 @@ ghost use Rattle.cell_types.specs.declared.machine.Machine.TheVariants.{Press};
 ghost use Rattle.cell_control.specs.Steps.{IsReached};
 ghost use Rattle.cell_stations.specs.PressProgram.{press_steps};
 
-use super::common::{EMPTY, NO_ROOM, NOT_YET, ROBOTS, guest_asks, is_last, moved, start_of};
+use super::common::{EMPTY, NO_ROOM, NOT_YET, ROBOTS, guest_asks, is_last, position_after, start_of};
 use cell_calib::{PressSense, SensorFault};
 use cell_rules::{Bench, Heard, Line, State};
 use cell_stations::{CtlFault, PressCtl, PressProgram};
@@ -58,7 +58,7 @@ fn go_on(press: &mut PressCtl, bench: &mut Bench, from: u16, turns: u32) -> Resu
     bench.seat(Machine::Press, false);
     'turns: for _ in 0..turns {
         let act = press.turn(bench, &press_at(position))?;
-        position = moved(position, act.press, 1000);
+        position = position_after(position, act.press, 1000);
     }
     Ok(position)
 }
@@ -81,7 +81,7 @@ fn alone(alloc: Global, start: State, turns: u32) -> Option<Run> {
 
 /// The end of a run in which the robot asks twice after a number of turns, and more turns follow.
 /// A press that stopped in the first turns does nothing in the others.
-fn visited(alloc: Global, start: State, turns: u32, calls: (Call, Call), more: u32) -> Option<Run> {
+fn end_of_visit(alloc: Global, start: State, turns: u32, calls: (Call, Call), more: u32) -> Option<Run> {
     let mut press = PressCtl::new(&start, PressProgram);
     let mut bench = Bench::new(alloc, start);
     let waits_at = go_on(&mut press, &mut bench, 1000, turns).unwrap_or(0);
@@ -188,7 +188,7 @@ const VISITS: &[([bool; 10], u32, (Call, Call), u32, u16, Call, Answer, u32)] = 
 fn the_press_goes_on_once_the_robot_has_been_there(rt: HostRuntime) {
     for (places, turns, calls, more, position, call, answer, stamp) in VISITS {
         let start = start_of(&rt, *places);
-        let run = visited(rt.alloc(), start, *turns, *calls, *more).expect(&rt, "a run");
+        let run = end_of_visit(rt.alloc(), start, *turns, *calls, *more).expect(&rt, "a run");
         assert!(rt; run.position == *position, "after {more}");
         assert!(rt; is_last(&run.heard, *call, *answer, *stamp), "after {more}");
     }
@@ -196,7 +196,7 @@ fn the_press_goes_on_once_the_robot_has_been_there(rt: HostRuntime) {
 
 /// The end of a run in which the watch stops the cell after a number of turns, more turns follow,
 /// the watch resumes if it has to, and the last turns follow.
-fn stopped(
+fn end_of_stop(
     alloc: Global,
     start: State,
     turns: u32,
@@ -299,7 +299,7 @@ const STOPS: &[([bool; 10], u32, u32, bool, u32, u16, Call, Answer, u32)] = &[
 fn the_press_waits_while_the_cell_is_stopped(rt: HostRuntime) {
     for (places, turns, waits, resumes, more, position, call, answer, stamp) in STOPS {
         let start = start_of(&rt, *places);
-        let run = stopped(rt.alloc(), start, *turns, *waits, *resumes, *more);
+        let run = end_of_stop(rt.alloc(), start, *turns, *waits, *resumes, *more);
         let run = run.expect(&rt, "a run");
         assert!(rt; run.position == *position, "{turns} {waits}");
         assert!(rt;
@@ -322,7 +322,7 @@ fn is_stopped(alloc: Global, start: State, broken: &PressSense) -> bool {
     let then = press.turn(&mut bench, &press_at(1000));
     let told = first.err() == Some(clash) && then.err() == Some(CtlFault::Stopped);
     let silent = bench.heard() == heard && bench.history().len() == 1;
-    was_running && told && press.stopped() == Some(clash) && silent
+    was_running && told && press.stopped_by() == Some(clash) && silent
 }
 
 // Switches at the bottom, the middle and the top: each two that exclude each other, and all.

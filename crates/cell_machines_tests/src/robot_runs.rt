@@ -3,7 +3,7 @@ ghost use Rattle.std.specs.Prelude.{◌≡◌, None};
 ghost use Rattle.cell_types.specs.declared.machine.Machine.TheVariants.{Robot};
 ghost use Rattle.cell_control.specs.Steps.{IsReached};
 
-use crate::common::{guest_asks, moved};
+use crate::common::{guest_asks, position_after};
 use crate::robot::{Axes, BROKEN, GOES_ON, GOOD, Row, STOPPED_CELL, STOPS, TURNS_RETRACTED, WAITS};
 use cell_calib::{Calibration, Gauge, Points, RobotSense, SensorFault, line_at};
 use cell_control::{Controller, CtlFault, Program};
@@ -53,20 +53,20 @@ struct Stand {
     magnets: (bool, bool),
 }
 
-fn told(axes: Axes, act: RobotAct) -> Stand {
+fn stand_after(axes: Axes, act: RobotAct) -> Stand {
     let (arm1, arm2, rotation) = axes;
     Stand {
         axes: (
-            moved(arm1, act.arm1, 1000),
-            moved(arm2, act.arm2, 1000),
-            moved(rotation, act.rotation, 2000),
+            position_after(arm1, act.arm1, 1000),
+            position_after(arm2, act.arm2, 1000),
+            position_after(rotation, act.rotation, 2000),
         ),
         magnets: (act.magnet1, act.magnet2),
     }
 }
 
 // Raw values go from 0 to 4000, for an arm from 0 to 1000 and for the rotation from 0 to 2000.
-fn shown(axes: Axes) -> RobotSense {
+fn sense_at(axes: Axes) -> RobotSense {
     let (arm1, arm2, rotation) = axes;
     RobotSense {
         arm1: arm1.saturating_mul(4),
@@ -92,14 +92,14 @@ fn goes_on<P: Program<Sense = RobotSense, Act = RobotAct>>(
     let mut at = from;
     bench.seat(Machine::Robot, false);
     'turns: for _ in 0..turns {
-        if let Ok(act) = robot.turn(bench, &shown(at.axes)) {
-            at = told(at.axes, act);
+        if let Ok(act) = robot.turn(bench, &sense_at(at.axes)) {
+            at = stand_after(at.axes, act);
         }
     }
     at
 }
 
-fn settled(last: (Call, Answer, u32)) -> (Call, Answered) {
+fn reply_of(last: (Call, Answer, u32)) -> (Call, Answered) {
     let (call, answer, stamp) = last;
     (call, Ok(Reply::Settled(answer, stamp)))
 }
@@ -151,8 +151,8 @@ fn is_met_by<F1: Gauge, F2: Gauge, F3: Gauge>(
     let at = goes_on(&mut robot, &mut bench, waits_at, row.more);
     let heard = bench.heard();
     let stands = at.axes == row.to && at.magnets == row.magnets;
-    let asked = heard.asks == row.asks && heard.last == row.last.map(settled);
-    Ok(stands && asked && robot.stopped() == row.stopped)
+    let asked = heard.asks == row.asks && heard.last == row.last.map(reply_of);
+    Ok(stands && asked && robot.stopped_by() == row.stopped)
 }
 
 fn is_met(alloc: Global, row: &Row) -> Result<bool, Fail> {
@@ -201,7 +201,7 @@ fn is_stopped_by<F1: Gauge, F2: Gauge, F3: Gauge>(
     let then = robot.turn(&mut bench, &GOOD);
     let told = first.err() == Some(stop) && then.err() == Some(CtlFault::Stopped);
     let silent = bench.heard().asks == 0 && bench.history().is_empty();
-    Ok(told && robot.stopped() == Some(stop) && silent)
+    Ok(told && robot.stopped_by() == Some(stop) && silent)
 }
 
 #[test]

@@ -6,7 +6,7 @@ ghost use Rattle.cell_calib.specs.Line.{IsReading};
 ghost use Rattle.cell_control.specs.Steps.{IsReached};
 ghost use Rattle.cell_stations.specs.TableProgram.{table_steps};
 
-use super::common::{EMPTY, NO_ROOM, NOT_YET, ROBOTS, guest_asks, is_last, moved, start_of};
+use super::common::{EMPTY, NO_ROOM, NOT_YET, ROBOTS, guest_asks, is_last, position_after, start_of};
 use cell_calib::{Calibration, Gauge, Points, SensorFault, TableSense, line_at};
 use cell_devices::Motor;
 use cell_rules::{Bench, Heard, Line, State};
@@ -68,8 +68,8 @@ fn go_on<F: Gauge>(
     bench.seat(Machine::Table, false);
     'turns: for _ in 0..turns {
         let act = table.turn(bench, &table_at((lift, turn)))?;
-        lift = moved(lift, act.height, 600);
-        turn = moved(turn, act.rotation, 500);
+        lift = position_after(lift, act.height, 600);
+        turn = position_after(turn, act.rotation, 500);
         if act.height != Motor::Off || act.rotation != Motor::Off {
             driven = driven.saturating_add(1);
         }
@@ -123,7 +123,7 @@ fn alone(alloc: Global, points: Points, start: State, turns: u32) -> Option<Run>
 
 /// The end of a run in which another machine asks twice after a number of turns, and more turns
 /// follow. A table that stopped in the first turns does nothing in the others.
-fn visited_by<F: Gauge>(
+fn end_of_visit_by<F: Gauge>(
     alloc: Global,
     gauge: F,
     points: Points,
@@ -146,7 +146,7 @@ fn visited_by<F: Gauge>(
 }
 
 /// The same, with a gauge that gives the line.
-fn visited(
+fn end_of_visit(
     alloc: Global,
     points: Points,
     start: State,
@@ -158,7 +158,7 @@ fn visited(
     requires { same_machine guest TableMachine ≡ false }
 {
     let gauge = move |raw: u16| line_at(&points, raw);
-    visited_by(alloc, gauge, points, start, turns, guest, calls, more)
+    end_of_visit_by(alloc, gauge, points, start, turns, guest, calls, more)
 }
 
 /// The points of the rotation.
@@ -248,7 +248,7 @@ fn the_table_goes_on_once_the_robot_has_been_there(rt: HostRuntime) {
     let start = start_of(&rt, LOADED);
     let robot = Machine::Robot;
     for (more, at, call, answer, stamp) in VISITS {
-        let run = visited(rt.alloc(), scale(&rt), start, 37, robot, TAKES, *more);
+        let run = end_of_visit(rt.alloc(), scale(&rt), start, 37, robot, TAKES, *more);
         let run = run.expect(&rt, "a run");
         assert!(rt; run.at == *at, "after {more}");
         assert!(rt; is_last(&run.heard, *call, *answer, *stamp), "after {more}");
@@ -304,7 +304,7 @@ fn the_table_waits_while_the_cell_is_stopped(rt: HostRuntime) {
     let start = start_of(&rt, LOADED);
     let watch = Machine::Watch;
     for (turns, calls, more, at, call, answer, stamp) in STOPPED_TURNS {
-        let run = visited(rt.alloc(), scale(&rt), start, *turns, watch, *calls, *more);
+        let run = end_of_visit(rt.alloc(), scale(&rt), start, *turns, watch, *calls, *more);
         let run = run.expect(&rt, "a run");
         assert!(rt; run.at == *at, "{turns} {more}");
         assert!(rt;
@@ -317,7 +317,7 @@ fn the_table_waits_while_the_cell_is_stopped(rt: HostRuntime) {
 #[test]
 fn the_table_takes_the_plate_of_the_feed_belt(rt: HostRuntime) {
     let start = start_of(&rt, AT_FEED_END);
-    let run = visited(rt.alloc(), scale(&rt), start, 7, Machine::Feed, GIVES, 1);
+    let run = end_of_visit(rt.alloc(), scale(&rt), start, 7, Machine::Feed, GIVES, 1);
     let run = run.expect(&rt, "a run");
     assert!(rt; run.at == (0, 0));
     assert!(rt; is_last(&run.heard, Call::Take(Zone::Z1), DONE, 8));
@@ -368,7 +368,7 @@ fn is_stopped_by<F: Gauge>(
     let then = table.turn(&mut bench, &shows(true, false, 100));
     let told = first.err() == Some(stop) && then.err() == Some(CtlFault::Stopped);
     let silent = bench.heard() == heard && bench.history().len() == 1;
-    was_running && told && table.stopped() == Some(stop) && silent
+    was_running && told && table.stopped_by() == Some(stop) && silent
 }
 
 /// The same, with a gauge that gives the line.

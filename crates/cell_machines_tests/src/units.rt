@@ -156,7 +156,7 @@ fn run_turns(rt: &impl Abort, alloc: Global, stamp: u32, turns: &[bool]) -> Run 
         state: bench.state(),
         counts: notebook.counts,
         entries: notebook.journal.len(),
-        stopped: unit.controller.stopped(),
+        stopped: unit.controller.stopped_by(),
         lamp: (unit.part.lit, unit.part.noted),
     }
 }
@@ -216,7 +216,7 @@ fn asked_out_of_memory(start: State) -> (TurnCall, TurnCall, u64, Status, (bool,
     };
     let first = unit.turn(&mut line);
     let then = unit.turn(&mut line);
-    let status = status_of(unit.controller.stopped());
+    let status = status_of(unit.controller.stopped_by());
     (
         first,
         then,

@@ -1,5 +1,5 @@
 -- The turns of the examples, each by its machine's program, and two literal runs of them.
-use Rattle.cell_plant.proofs.Names.{◌≡◌, List, [], ◌∷◌, Bool, true, false, inr, Some, None, Result, Ok, refl, sym, subst, Machine, Feed, Press, Watch, Call, Stop, Done, Reply, Settled, same_machine, FeedSense, PressSense, Minus, ModelState, LineFault, Rig, Steps, outcome, Performed, PerformsCall, at_rest, turned, FeedProgress, PressProgress, Side, side_of, side_set, side_moved, Answers, Takes, at, driven_at, feed_at_start, PressShows, Axis}
+use Rattle.cell_plant.proofs.Names.{◌≡◌, List, [], ◌∷◌, Bool, true, false, inr, Some, None, Result, Ok, refl, sym, subst, Machine, Feed, Press, Watch, Call, Stop, Done, Reply, Settled, same_machine, FeedSense, PressSense, Minus, ModelState, LineFault, Rig, Steps, step_after_reply, Performed, PerformsCall, at_rest, turned, FeedProgress, PressProgress, Side, side_of, side_set, side_moved, Answers, Takes, at, driven_at, feed_at_start, PressShows, Axis}
 use Rattle.cell_plant.proofs.Names.{Belt, FeedShows, steps_of, rig_of, CellState, Sides, side_in, sides_at_start, Step, TakesTurn, IsRun, asks, turn_of, schedule, steps, opening, at_first, at_entered, at_press_stopped, at_last, watch_noting, WatchProgress, IsPassedOver, cell_of, claims_entry, finds_busy, is_refused, finds_no_room, stops_cell, resumes_cell, watch_finds_busy, passes, press_falls, falls, falls_to, belt_waits, waits}
 use Rattle.cell_notes.specs.Asks.{TurnCall}
 use Rattle.cell_parts.specs.Names.{CellScales}
@@ -7,9 +7,9 @@ use Rattle.cell_plant.proofs.Deciding.{so, both, same_truth, at_most, is_true}
 
 -- a machine asks once, and is answered
 pub takes_call : {S Sense Reading Act State : Type 0} → (t : Steps S Sense Reading Act) (rig : Rig State Sense Act) (busy : Bool) (z y : ModelState) (p : S) (part : State) (c : Call) (r : Result Reply LineFault) (set : Side S State) (sense : Sense) (reading : Reading)
-    → rig.shows part sense → t.senses sense (Ok reading) → (t.row p).call ≡ Some c → Answers z t.machine busy c r y → set ≡ side_set t rig (side_of p None part) (Some (c, r)) (turned p (at_rest (t.rest p) (outcome t p r))) → Takes t rig busy z (side_of p None part) (Some (c, r)) y set
+    → rig.shows part sense → t.senses sense (Ok reading) → (t.row p).call ≡ Some c → Answers z t.machine busy c r y → set ≡ side_set t rig (side_of p None part) (Some (c, r)) (turned p (at_rest (t.rest p) (step_after_reply t p r))) → Takes t rig busy z (side_of p None part) (Some (c, r)) y set
 takes_call {S = S} {Act = Act} t rig busy z y p part c r set sense reading shows senses call answers is =
-    let done : Performed S Act = at_rest (t.rest p) (outcome t p r) in
+    let done : Performed S Act = at_rest (t.rest p) (step_after_reply t p r) in
     let asked : TurnCall = Some (c, r) in
     record {
       sense = sense;

@@ -1,5 +1,5 @@
 -- In a run at whose end no machine is stopped, no call was out of memory.
-use Rattle.cell_plant.proofs.Names.{◌≡◌, Bool, true, false, List, [], ◌∷◌, Option, Some, None, is_none, Result, Ok, Err, refl, sym, ap, ◌∙◌, subst, Machine, Call, Reply, same_machine, one_machine, SensorFault, LineFault, Steps, outcome, Performed, PerformsCall, PerformsSensed, Turned, Turns, at_rest, turned, CtlFault, Memory, TurnCall, Turn, CellScales, CellState, CellGauges, steps_by, HadMemory, Step, TakesTurnBy, LeadsIfBy, goes_on, IsRunBy, end_of}
+use Rattle.cell_plant.proofs.Names.{◌≡◌, Bool, true, false, List, [], ◌∷◌, Option, Some, None, is_none, Result, Ok, Err, refl, sym, ap, ◌∙◌, subst, Machine, Call, Reply, same_machine, one_machine, SensorFault, LineFault, Steps, step_after_reply, Performed, PerformsCall, PerformsSensed, Turned, Turns, at_rest, turned, CtlFault, Memory, TurnCall, Turn, CellScales, CellState, CellGauges, steps_by, HadMemory, Step, TakesTurnBy, LeadsIfBy, goes_on, IsRunBy, end_of}
 
 none_some : {A B : Type 0} → (o : Option A) (x : A) → o ≡ None → o ≡ Some x → B
 none_some o x e f = let lie : None ≡ Some x = sym e ∙ f in cc
@@ -21,7 +21,7 @@ module _ {S Sense Reading Act : Type 0} (t : Steps S Sense Reading Act) (same : 
 
   call_stops : (o : Option Call) (p : S) (reading : Reading) (r : Performed S Act) → PerformsCall t o Quiet Asks p reading r → r ≡ Err Memory
   call_stops None p reading r k = none_some asked (call, Err fault) k.0.1 is
-  call_stops (Some c) p reading r k = k.2 ∙ ap (λ x. at_rest (t.rest p) (outcome t p x)) (answered_so c k.0 k.1.1)
+  call_stops (Some c) p reading r k = k.2 ∙ ap (λ x. at_rest (t.rest p) (step_after_reply t p x)) (answered_so c k.0 k.1.1)
 
   sensed_stops : (sensed : Result Reading SensorFault) (p : S) (r : Performed S Act) → PerformsSensed t sensed Quiet Asks p r → r ≡ Err Memory
   sensed_stops (Err f) p r k = none_some asked (call, Err fault) k.0.1 is

@@ -13,7 +13,7 @@ pub use Rattle.cell_control.proofs.StepLemmas.{Knowing, reached_first}
 pub use Rattle.cell_control.proofs.TurnMaps.{turn_either}
 pub use Rattle.cell_control.proofs.TurnsByAnswers.{asked_own}
 pub use Rattle.cell_control.proofs.WaitLemmas.{stays_never}
-pub use Rattle.cell_control.specs.Names.{Performed, PerformsCall, PerformsSensed, Rig, Steps, Turned, Turns, at_rest, fault_of, outcome, turned, waits_out}
+pub use Rattle.cell_control.specs.Names.{Performed, PerformsCall, PerformsSensed, Rig, Steps, Turned, Turns, at_rest, fault_of, step_after_reply, turned, waits_out}
 pub use Rattle.cell_control.specs.Rows.{is_inquiry}
 pub use Rattle.cell_control.specs.declared.fault.CtlFault.{CtlFault}
 pub use Rattle.cell_control.specs.declared.fault.CtlFault.TheVariants.{Memory}

@@ -1,5 +1,5 @@
 -- A machine has one turn, if its sensors show one thing, their check says one thing, and a drive has one command.
-use Rattle.cell_plant.proofs.Names.{◌≡◌, ◌≢◌, ℕ, Bool, Option, Some, None, Result, Ok, Err, refl, sym, ap, ◌∙◌, subst, Machine, Call, Answer, Reply, Settled, Busy, SensorFault, ModelState, LineFault, Rig, Steps, outcome, Performed, PerformsCall, PerformsSensed, Turned, Turns, at_rest, turned, CtlFault, Side, side_set, Answers, Takes}
+use Rattle.cell_plant.proofs.Names.{◌≡◌, ◌≢◌, ℕ, Bool, Option, Some, None, Result, Ok, Err, refl, sym, ap, ◌∙◌, subst, Machine, Call, Answer, Reply, Settled, Busy, SensorFault, ModelState, LineFault, Rig, Steps, step_after_reply, Performed, PerformsCall, PerformsSensed, Turned, Turns, at_rest, turned, CtlFault, Side, side_set, Answers, Takes}
 use Rattle.cell_notes.specs.Asks.{TurnCall}
 
 abbrev pub GotMemory : TurnCall → Type 0
@@ -60,7 +60,7 @@ module _ {S Sense Reading Act State : Type 0} (t : Steps S Sense Reading Act) (r
     one_call (Some c) p reading r r' k k' =
         let one = one_answer z t.machine busy c k.0 k'.0 y y' (λ fault e. got c fault (k.1.1 ∙ ap (λ x. Some (c, x)) e)) (λ fault e. got' c fault (k'.1.1 ∙ ap (λ x. Some (c, x)) e)) k.1.0 k'.1.0 in (
           record { asked_is = k'.1.1 ∙ ap (λ x. Some (c, x)) one.0 ∙ sym k.1.1; state_is = one.1 },
-          k'.2 ∙ ap (λ x. at_rest (t.rest p) (outcome t p x)) one.0 ∙ sym k.2,
+          k'.2 ∙ ap (λ x. at_rest (t.rest p) (step_after_reply t p x)) one.0 ∙ sym k.2,
         )
 
     one_sensed : (sensed : Result Reading SensorFault) (p : S) (r r' : Performed S Act)

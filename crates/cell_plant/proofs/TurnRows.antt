@@ -1,5 +1,5 @@
 -- The examples of turns, and of what isn't one.
-use Rattle.cell_plant.proofs.Names.{◌≡◌, ◌≢◌, ℕ, Bool, true, false, Some, None, Result, Ok, refl, sym, ap, ◌∙◌, subst, Machine, Feed, Table, Press, Watch, Call, Stop, Resume, Done, Refused, Shut, Closed, Reply, Settled, ModelState, LineFault, outcome, Turned, at_rest, turned, turn_either, asked_own, FeedProgress, TableProgress, PressProgress, Side, Answers, Axis, Belt, TablePlant, steps_of, CellState, Step, TakesTurn, at_first}
+use Rattle.cell_plant.proofs.Names.{◌≡◌, ◌≢◌, ℕ, Bool, true, false, Some, None, Result, Ok, refl, sym, ap, ◌∙◌, subst, Machine, Feed, Table, Press, Watch, Call, Stop, Resume, Done, Refused, Shut, Closed, Reply, Settled, ModelState, LineFault, step_after_reply, Turned, at_rest, turned, turn_either, asked_own, FeedProgress, TableProgress, PressProgress, Side, Answers, Axis, Belt, TablePlant, steps_of, CellState, Step, TakesTurn, at_first}
 use Rattle.cell_plant.proofs.Names.{at_entered, at_press_stopped, at_last, watch_noting, watch_steps, WatchProgress, TurnExamples, PassExamples, stops_again, resumes_at_first, resumes_unnoted, stopped, resumed}
 use Rattle.cell_notes.specs.Asks.{TurnCall}
 use Rattle.cell_parts.specs.Names.{CellScales}
@@ -53,7 +53,7 @@ module _ (c : CellScales) where
       let same : led.0 ≡ Ok (Settled Done 3) = one_answer asked Resume Resume led.0 _ led.1.1 refl in
       ap (λ (x : Side WatchProgress (Unit {0})). x.progress.has_stopped) k.takes.is
       ∙ ap (λ (x : Turned WatchProgress (Unit {0})). x.progress.has_stopped) led.2
-      ∙ ap (λ (x : Result Reply LineFault). (turned (watch_noting true) (at_rest tt (outcome watch_steps (watch_noting true) x))).progress.has_stopped) same
+      ∙ ap (λ (x : Result Reply LineFault). (turned (watch_noting true) (at_rest tt (step_after_reply watch_steps (watch_noting true) x))).progress.has_stopped) same
 
   pub turn_examples : TurnExamples c
   turn_examples = record {

@@ -37,17 +37,17 @@ pub none_some : {A : Type 0} (a : A) (P : Type 0) → None ≡ Some a → P
 none_some a P e = cc
 
 -- a turn asks one call and gets one answer
-abbrev Answered : Type 0
-Answered = Call × Result Reply LineFault
+abbrev AskedAnswer : Type 0
+AskedAnswer = Call × Result Reply LineFault
 
-same_of : (asked : TurnCall) (a b : Answered) → asked ≡ Some a → asked ≡ Some b → a ≡ b
+same_of : (asked : TurnCall) (a b : AskedAnswer) → asked ≡ Some a → asked ≡ Some b → a ≡ b
 same_of asked a b e f = cc
 
 pub one_call : (asked : TurnCall) (q call : Call) (x y : Result Reply LineFault) → asked ≡ Some (q, x) → asked ≡ Some (call, y) → q ≡ call
-one_call asked q call x y e f = ap (λ (a : Answered). a.0) (same_of asked (q, x) (call, y) e f)
+one_call asked q call x y e f = ap (λ (a : AskedAnswer). a.0) (same_of asked (q, x) (call, y) e f)
 
 pub one_answer : (asked : TurnCall) (q call : Call) (x y : Result Reply LineFault) → asked ≡ Some (q, x) → asked ≡ Some (call, y) → x ≡ y
-one_answer asked q call x y e f = ap (λ (a : Answered). a.1) (same_of asked (q, x) (call, y) e f)
+one_answer asked q call x y e f = ap (λ (a : AskedAnswer). a.1) (same_of asked (q, x) (call, y) e f)
 
 -- what a turn asks is what its step asks
 module _ {S Sense Reading Act : Type 0} (t : Steps S Sense Reading Act) (same : Type 0) (asks : Call → Result Reply LineFault → Type 0) (p : S) (P : Type 0) (f : same → P) (g : (c : Call) (r : Result Reply LineFault) → (t.row p).call ≡ Some c → asks c r → P) where

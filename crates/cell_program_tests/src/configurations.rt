@@ -17,7 +17,7 @@ fn axis(raw_lo: u16, raw_hi: u16, end: i32, tol: i32) -> Result<Points, Fail> {
 }
 
 /// What the fault line says of a text after `fault`, or `well`.
-fn judged(alloc: Global, bytes: &[u8]) -> &'static str {
+fn judgement_of(alloc: Global, bytes: &[u8]) -> &'static str {
     let mut reader = bytes;
     match read(alloc, &mut reader) {
         Ok(_) => "well",
@@ -28,7 +28,7 @@ fn judged(alloc: Global, bytes: &[u8]) -> &'static str {
 /// Checks how each text is judged.
 fn are_judged(rt: &impl Abort, alloc: Global, rows: &[(&str, &str)]) {
     for (text, wanted) in rows {
-        assert!(rt; judged(alloc, text.as_bytes()) == *wanted, "{text}");
+        assert!(rt; judgement_of(alloc, text.as_bytes()) == *wanted, "{text}");
     }
 }
 
@@ -41,7 +41,7 @@ fn are_judged_beside_start(
     for (more, wanted) in rows {
         let mut text = String::from_str(alloc, "start = \"0000000000\"\n")?;
         text.push_str(more)?;
-        assert!(rt; judged(alloc, text.as_bytes()) == *wanted, "{more}");
+        assert!(rt; judgement_of(alloc, text.as_bytes()) == *wanted, "{more}");
     }
     Ok(())
 }
@@ -76,7 +76,7 @@ const TEXTS: &[(&str, &str)] = &[
 #[test]
 fn refuses_texts(rt: HostRuntime) {
     are_judged(&rt, rt.alloc(), TEXTS);
-    assert!(rt; judged(rt.alloc(), b"\xff") == "config text");
+    assert!(rt; judgement_of(rt.alloc(), b"\xff") == "config text");
 }
 
 const LEVELS: &[(&str, &str)] = &[
@@ -226,7 +226,7 @@ fn reads_the_forms_of_toml(rt: HostRuntime) -> Result<(), Fail> {
 }
 
 /// The judgement of a value with this depth of nested arrays.
-fn judged_nested(rt: &impl Abort, alloc: Global, depth: usize) -> &'static str {
+fn judgement_of_nested(rt: &impl Abort, alloc: Global, depth: usize) -> &'static str {
     let text = String::from_str(alloc, "start = \"0000000000\"\narm1.raw = ");
     let mut text = text.expect(rt, "memory");
     for _ in 0..depth {
@@ -235,13 +235,13 @@ fn judged_nested(rt: &impl Abort, alloc: Global, depth: usize) -> &'static str {
     for _ in 0..depth {
         text.push_str("]").expect(rt, "memory");
     }
-    judged(alloc, text.as_bytes())
+    judgement_of(alloc, text.as_bytes())
 }
 
 #[test]
 fn reads_values_that_are_not_too_deep(rt: HostRuntime) {
-    assert!(rt; judged_nested(&rt, rt.alloc(), 80) == "config kind");
-    assert!(rt; judged_nested(&rt, rt.alloc(), 81) == "config text");
+    assert!(rt; judgement_of_nested(&rt, rt.alloc(), 80) == "config kind");
+    assert!(rt; judgement_of_nested(&rt, rt.alloc(), 81) == "config text");
 }
 
 /// Whether a text gives this configuration.
@@ -398,7 +398,7 @@ fn counts_letters(rt: HostRuntime) {
 }
 
 /// A start, then this number of spaces, and then the last text.
-fn spaced(rt: &impl Abort, alloc: Global, spaces: usize, last: &str) -> String {
+fn text_with_spaces(rt: &impl Abort, alloc: Global, spaces: usize, last: &str) -> String {
     let mut text = String::from_str(alloc, "start = \"0000000000\"\n").expect(rt, "memory");
     let blanks = " ".repeat(alloc, spaces).expect(rt, "memory");
     text.push_str(blanks.as_str()).expect(rt, "memory");
@@ -417,17 +417,17 @@ fn is_read_up_to(alloc: Global, text: &str, rest: &str) -> bool {
 fn is_longest(alloc: Global, text: &str) -> bool {
     let mut bytewise = FailingReader::new(text.as_bytes(), usize::MAX);
     text.len() == 2_097_152
-        && judged(alloc, text.as_bytes()) == "well"
+        && judgement_of(alloc, text.as_bytes()) == "well"
         && read(alloc, &mut bytewise).is_ok()
 }
 
 #[test]
 fn reads_no_more_than_it_may(rt: HostRuntime) {
-    let longest = spaced(&rt, rt.alloc(), 2_097_131, "");
+    let longest = text_with_spaces(&rt, rt.alloc(), 2_097_131, "");
     assert!(rt; is_longest(rt.alloc(), longest.as_str()));
-    let longer = spaced(&rt, rt.alloc(), 2_097_132, "");
-    assert!(rt; judged(rt.alloc(), longer.as_bytes()) == "config long");
-    let after = spaced(&rt, rt.alloc(), 2_097_132, "after");
+    let longer = text_with_spaces(&rt, rt.alloc(), 2_097_132, "");
+    assert!(rt; judgement_of(rt.alloc(), longer.as_bytes()) == "config long");
+    let after = text_with_spaces(&rt, rt.alloc(), 2_097_132, "after");
     assert!(rt; is_read_up_to(rt.alloc(), after.as_str(), "after"));
 }
 
@@ -448,7 +448,7 @@ fn is_read_or_memory(read: &Result<Config, ConfigFault>) -> bool {
 fn reads_without_memory(rt: HostRuntime) {
     let text = "start = \"0100000000\"\nstamp = 3\nschedule = \"pP\"\narm1.tol = 2\n";
     assert!(rt; is_read_or_memory(&read(rt.alloc(), &mut text.as_bytes())));
-    let other = judged(rt.alloc(), b"start = \"0100000000\"\nschedule = \"pPx\"\n");
+    let other = judgement_of(rt.alloc(), b"start = \"0100000000\"\nschedule = \"pPx\"\n");
     assert!(rt; other == "config letter" || other == "memory");
 }
 

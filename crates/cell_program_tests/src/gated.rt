@@ -88,11 +88,11 @@ fn run_counted<R: Threads + Wait + Sync>(
     let turn = points_of(500)?;
     let calls = &gate.calls;
     let gauges = (
-        |raw: u16| counted(&calls[0], arm, raw),
-        |raw: u16| counted(&calls[1], arm, raw),
-        |raw: u16| counted(&calls[2], rotation, raw),
-        |raw: u16| counted(&calls[3], turn, raw),
-        |raw: u16| counted(&calls[4], arm, raw),
+        |raw: u16| line_with_count(&calls[0], arm, raw),
+        |raw: u16| line_with_count(&calls[1], arm, raw),
+        |raw: u16| line_with_count(&calls[2], rotation, raw),
+        |raw: u16| line_with_count(&calls[3], turn, raw),
+        |raw: u16| line_with_count(&calls[4], arm, raw),
     );
     let points = AxisPoints {
         arm,
@@ -103,7 +103,7 @@ fn run_counted<R: Threads + Wait + Sync>(
 }
 
 // The line, and the call is counted.
-fn counted(calls: &AtomicU64, points: Points, raw: u16) -> i32
+fn line_with_count(calls: &AtomicU64, points: Points, raw: u16) -> i32
     requires low { points.raw_lo ≤ raw }
     requires high { raw ≤ points.raw_hi }
     ensures { IsReading points raw result }

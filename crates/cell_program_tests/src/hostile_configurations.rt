@@ -317,7 +317,7 @@ fn push_times(config: &mut String, part: &str, count: usize) -> Result<(), Alloc
 }
 
 /// The text that is made, after a good start.
-fn made(alloc: Global, parts: &Made) -> Result<String, AllocError> {
+fn text_of_parts(alloc: Global, parts: &Made) -> Result<String, AllocError> {
     let (first, part, count, middle, last) = *parts;
     let mut config = beside_start(alloc, first)?;
     push_times(&mut config, part, count)?;
@@ -333,7 +333,7 @@ fn is_made_told<T: Threads + Wait + Sync>(
     parts: &Made,
     wanted: &str,
 ) -> Result<bool, AllocError> {
-    let config = made(alloc, parts)?;
+    let config = text_of_parts(alloc, parts)?;
     Ok(is_told(rt, alloc, config.as_bytes(), wanted))
 }
 

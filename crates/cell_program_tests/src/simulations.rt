@@ -93,7 +93,7 @@ fn a_stopped_machine_is_a_failure(rt: HostRuntime) {
 }
 
 /// A configuration with this start and this schedule.
-pub fn scheduled(alloc: Global, start: &str, schedule: &str) -> Result<String, AllocError> {
+pub fn config_with_schedule(alloc: Global, start: &str, schedule: &str) -> Result<String, AllocError> {
     let mut config = String::from_str(alloc, "start = \"")?;
     config.push_str(start)?;
     config.push_str("\"\nschedule = \"")?;
@@ -111,7 +111,7 @@ fn simulates_long_schedules(rt: HostRuntime) -> Result<(), Fail> {
     let alloc = rt.alloc();
     for (turns, report) in LONG_RUNS {
         let schedule = "tp".repeat(alloc, *turns)?;
-        let config = scheduled(alloc, "0010000000", schedule.as_str())?;
+        let config = config_with_schedule(alloc, "0010000000", schedule.as_str())?;
         assert!(rt;
             is_served(&rt, alloc, SIM, config.as_str(), 0, report),
             "{turns}"
@@ -151,7 +151,7 @@ fn audits_random_schedules(rt: HostRuntime) -> Result<(), Fail> {
             "0000010000",
             "1111010010",
         ] {
-            let config = scheduled(alloc, start, schedule.as_str())?;
+            let config = config_with_schedule(alloc, start, schedule.as_str())?;
             assert!(rt;
                 ends(&rt, alloc, SIM, config.as_str(), "\naudit ok\n"),
                 "{config}"

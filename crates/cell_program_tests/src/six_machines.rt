@@ -6,7 +6,7 @@ use super::reports::{
     ARM_TO_PRESS, CARRIED_ROUND, CRANE_TO_FEED, FEED_TO_TABLE, FOUR_PLATES, LINES_OF_THEIR_OWN,
     STANDSTILL,
 };
-use super::simulations::{SIM, scheduled};
+use super::simulations::{SIM, config_with_schedule};
 use std::alloc::{AllocError, Global};
 use std::sync::Wait;
 use std::thread::Threads;
@@ -94,7 +94,7 @@ fn config_of(
 ) -> Result<String, AllocError> {
     let mut schedule = String::new(alloc);
     push_runs(&mut schedule, runs)?;
-    let mut config = scheduled(alloc, start, schedule.as_str())?;
+    let mut config = config_with_schedule(alloc, start, schedule.as_str())?;
     config.push_str(lines)?;
     Ok(config)
 }

@@ -10,7 +10,7 @@ use Rattle.cell_rules.proofs.SeenLemmas.{legal-right, own-append}
 use Rattle.cell_interlock.specs.Views.{PassView, InterlockView}
 use Rattle.cell_interlock.specs.Fresh.{fresh_pass}
 use Rattle.cell_interlock.specs.Seen.{HasSeenMore}
-use Rattle.cell_control.specs.Names.{fault_of, Steps, waits_out, outcome, Performed, PerformsCall, PerformsSensed}
+use Rattle.cell_control.specs.Names.{fault_of, Steps, waits_out, step_after_reply, Performed, PerformsCall, PerformsSensed}
 use Rattle.cell_control.specs.Names.{Turned, Turns, at_rest}
 use Rattle.cell_control.specs.declared.fault.CtlFault.{CtlFault}
 use Rattle.cell_control.specs.declared.told.Told.{Told}
@@ -56,17 +56,17 @@ module _ {S Sense Reading Act : Type 0} (t : Steps S Sense Reading Act) (first :
 
   -- ---- its turns are the same
 
-  outcome_from : (p : S) (r : Result Reply LineFault) → outcome u p r ≡ outcome t p r
-  outcome_from p (Ok (Settled Done stamp)) = refl
-  outcome_from p (Ok (Settled (Shown m b q) stamp)) = refl
-  outcome_from p (Ok (Settled (Refused r) stamp)) = refl
-  outcome_from p (Ok (Busy lost stamp)) = refl
-  outcome_from p (Err why) = refl
+  step_from : (p : S) (r : Result Reply LineFault) → step_after_reply u p r ≡ step_after_reply t p r
+  step_from p (Ok (Settled Done stamp)) = refl
+  step_from p (Ok (Settled (Shown m b q) stamp)) = refl
+  step_from p (Ok (Settled (Refused r) stamp)) = refl
+  step_from p (Ok (Busy lost stamp)) = refl
+  step_from p (Err why) = refl
 
   module _ (same : Type 0) (asks : Call → Result Reply LineFault → Type 0) where
     call_from : (call : Option Call) (p : S) (reading : Reading) (r : Performed S Act) → PerformsCall t call same asks p reading r → PerformsCall u call same asks p reading r
     call_from None p reading r k = k
-    call_from (Some c) p reading r k = (k.0, k.1, k.2 ∙ ap (at_rest (t.rest p)) (sym (outcome_from p k.0)))
+    call_from (Some c) p reading r k = (k.0, k.1, k.2 ∙ ap (at_rest (t.rest p)) (sym (step_from p k.0)))
 
     sensed_from : (sensed : Result Reading SensorFault) (p : S) (r : Performed S Act) → PerformsSensed t sensed same asks p r → PerformsSensed u sensed same asks p r
     sensed_from (Err f) p r k = k

@@ -33,7 +33,7 @@ use Rattle.cell_plant.specs.Machines.{CellGauges, ProgressOf, steps_by, steps_of
 use Rattle.cell_team.specs.Names.{Team, programs_of, HaveComeFrom, StandAfter}
 use Rattle.cell_team.proofs.Together.{sound_start}
 use Rattle.cell_team.proofs.Turned.{Stands}
-use Rattle.cell_threads.specs.Results.{SixResults, outcomes_in}
+use Rattle.cell_threads.specs.Results.{SixResults, outputs_in}
 use Rattle.cell_threads.specs.Watching.{TellsWatched, WatchesOf, seen_with}
 use Rattle.cell_threads.specs.Workers.{GateOf, ComesBy}
 use Rattle.cell_threads.specs.declared.six.SixRecord.{SixRecord}
@@ -102,21 +102,21 @@ module _ (F1 F2 F3 F4 F5 : Type 0) (g1 : Ghosts F1) (g2 : Ghosts F2) (g3 : Ghost
   steps_in w Watch = record { has_stopped = false }
 
   abbrev steps_left : Results → (m : Machine) → ProgressOf m
-  steps_left r Feed = r.feed.outcome.machine.progress
-  steps_left r Table = r.table.outcome.machine.progress
-  steps_left r Robot = r.robot.outcome.machine.progress
-  steps_left r Press = r.press.outcome.machine.progress
-  steps_left r Deposit = r.deposit.outcome.machine.progress
-  steps_left r Crane = r.crane.outcome.machine.progress
+  steps_left r Feed = r.feed.output.machine.progress
+  steps_left r Table = r.table.output.machine.progress
+  steps_left r Robot = r.robot.output.machine.progress
+  steps_left r Press = r.press.output.machine.progress
+  steps_left r Deposit = r.deposit.output.machine.progress
+  steps_left r Crane = r.crane.output.machine.progress
   steps_left r Watch = record { has_stopped = false }
 
   abbrev stopped_in : Results → Machine → Option CtlFault
-  stopped_in r Feed = r.feed.outcome.machine.stopped
-  stopped_in r Table = r.table.outcome.machine.stopped
-  stopped_in r Robot = r.robot.outcome.machine.stopped
-  stopped_in r Press = r.press.outcome.machine.stopped
-  stopped_in r Deposit = r.deposit.outcome.machine.stopped
-  stopped_in r Crane = r.crane.outcome.machine.stopped
+  stopped_in r Feed = r.feed.output.machine.stopped
+  stopped_in r Table = r.table.output.machine.stopped
+  stopped_in r Robot = r.robot.output.machine.stopped
+  stopped_in r Press = r.press.output.machine.stopped
+  stopped_in r Deposit = r.deposit.output.machine.stopped
+  stopped_in r Crane = r.crane.output.machine.stopped
   stopped_in r Watch = None
 
   -- the scales and the gauges of the programs
@@ -167,7 +167,7 @@ module _ (F1 F2 F3 F4 F5 : Type 0) (g1 : Ghosts F1) (g2 : Ghosts F2) (g3 : Ghost
     few_changes : (calls : ℕ) → MakesAtMost watches calls → done_count k.history ≤ 6 * limit + calls
     few_changes calls most =
         let all = changes-are-calls k.history in
-        let own : length (own_events k.history Watch) ≤ calls = subst (λ (h : List Event). length h ≤ calls) (sym (k.seen Watch).own) (most m.watch k.watched.outcome (fresh_pass i Watch) k.watched.pass i.tries refl k.watched_so.does) in
+        let own : length (own_events k.history Watch) ≤ calls = subst (λ (h : List Event). length h ≤ calls) (sym (k.seen Watch).own) (most m.watch k.watched.output (fresh_pass i Watch) k.watched.pass i.tries refl k.watched_so.does) in
         omega (arith, all, few_feed, few_table, few_robot, few_press, few_deposit, few_crane, own)
 
     module _ (calls : ℕ) (most : MakesAtMost watches calls) (sound : IsSound m.opening) (room : m.opening.stamp + 6 * limit + calls < last_stamp) where
@@ -180,22 +180,22 @@ module _ (F1 F2 F3 F4 F5 : Type 0) (g1 : Ghosts F1) (g2 : Ghosts F2) (g3 : Ghost
           let same : i.opening.stamp ≡ m.opening.stamp = ap (λ (s : ModelState). s.stamp) k.opened in
           absurd (omega (arith, used, few, same, room))
 
-      pub unworn_feed : k.results.feed.outcome.status ≢ Worn
+      pub unworn_feed : k.results.feed.output.status ≢ Worn
       unworn_feed e = too_few (worn_last (λ _. feed_steps) shows1 sets1 (gate Feed) i.tries limit i k.history m.workers.feed k.results.feed runs.feed k.given.feed.1 (k.seen Feed) sound_here legal e)
 
-      pub unworn_table : k.results.table.outcome.status ≢ Worn
+      pub unworn_table : k.results.table.output.status ≢ Worn
       unworn_table e = too_few (worn_last by_table shows2 sets2 (gate Table) i.tries limit i k.history m.workers.table k.results.table runs.table k.given.table.1 (k.seen Table) sound_here legal e)
 
-      pub unworn_robot : k.results.robot.outcome.status ≢ Worn
+      pub unworn_robot : k.results.robot.output.status ≢ Worn
       unworn_robot e = too_few (worn_last by_robot shows3 sets3 (gate Robot) i.tries limit i k.history m.workers.robot k.results.robot runs.robot k.given.robot.1 (k.seen Robot) sound_here legal e)
 
-      pub unworn_press : k.results.press.outcome.status ≢ Worn
+      pub unworn_press : k.results.press.output.status ≢ Worn
       unworn_press e = too_few (worn_last (λ _. press_steps) shows4 sets4 (gate Press) i.tries limit i k.history m.workers.press k.results.press runs.press k.given.press.1 (k.seen Press) sound_here legal e)
 
-      pub unworn_deposit : k.results.deposit.outcome.status ≢ Worn
+      pub unworn_deposit : k.results.deposit.output.status ≢ Worn
       unworn_deposit e = too_few (worn_last (λ _. deposit_steps) shows5 sets5 (gate Deposit) i.tries limit i k.history m.workers.deposit k.results.deposit runs.deposit k.given.deposit.1 (k.seen Deposit) sound_here legal e)
 
-      pub unworn_crane : k.results.crane.outcome.status ≢ Worn
+      pub unworn_crane : k.results.crane.output.status ≢ Worn
       unworn_crane e = too_few (worn_last by_crane shows6 sets6 (gate Crane) i.tries limit i k.history m.workers.crane k.results.crane runs.crane k.given.crane.1 (k.seen Crane) sound_here legal e)
 
     module _ (t0 : TableProgram F4 g4) (r0 : RobotProgram F1 F2 F3 g1 g2 g3) (c0 : CraneProgram F5 g5) (table : m.workers.table.machine.program ≡ t0) (robot : m.workers.robot.machine.program ≡ r0) (crane : m.workers.crane.machine.program ≡ c0)
@@ -211,41 +211,41 @@ module _ (F1 F2 F3 F4 F5 : Type 0) (g1 : Ghosts F1) (g2 : Ghosts F2) (g3 : Ghost
 
       pub stands : (n : Machine) → same_machine n Watch ≡ false → Stands (from_step (steps_of c n) (steps_in m.workers n)) i.opening k.history (stopped_in k.results n) (steps_left k.results n)
       stands Feed e =
-          stands_near c gives i.opening k.history Feed m.workers.feed.machine.progress k.results.feed.outcome.machine.stopped k.results.feed.outcome.machine.progress
+          stands_near c gives i.opening k.history Feed m.workers.feed.machine.progress k.results.feed.output.machine.stopped k.results.feed.output.machine.progress
           (stands_after (λ _. feed_steps) shows1 sets1 (gate Feed) i.tries limit i k.history m.workers.feed k.results.feed runs.feed k.given.feed.1 (k.seen Feed))
       stands Table e =
-          stands_near c gives i.opening k.history Table m.workers.table.machine.progress k.results.table.outcome.machine.stopped k.results.table.outcome.machine.progress
-          (subst (λ (p : TableProgram F4 g4). Stands (from_step (by_table p) m.workers.table.machine.progress) i.opening k.history k.results.table.outcome.machine.stopped k.results.table.outcome.machine.progress) table (stands_after by_table shows2 sets2 (gate Table) i.tries limit i k.history m.workers.table k.results.table runs.table k.given.table.1 (k.seen Table)))
+          stands_near c gives i.opening k.history Table m.workers.table.machine.progress k.results.table.output.machine.stopped k.results.table.output.machine.progress
+          (subst (λ (p : TableProgram F4 g4). Stands (from_step (by_table p) m.workers.table.machine.progress) i.opening k.history k.results.table.output.machine.stopped k.results.table.output.machine.progress) table (stands_after by_table shows2 sets2 (gate Table) i.tries limit i k.history m.workers.table k.results.table runs.table k.given.table.1 (k.seen Table)))
       stands Robot e =
-          stands_near c gives i.opening k.history Robot m.workers.robot.machine.progress k.results.robot.outcome.machine.stopped k.results.robot.outcome.machine.progress
-          (subst (λ (p : RobotProgram F1 F2 F3 g1 g2 g3). Stands (from_step (by_robot p) m.workers.robot.machine.progress) i.opening k.history k.results.robot.outcome.machine.stopped k.results.robot.outcome.machine.progress) robot (stands_after by_robot shows3 sets3 (gate Robot) i.tries limit i k.history m.workers.robot k.results.robot runs.robot k.given.robot.1 (k.seen Robot)))
+          stands_near c gives i.opening k.history Robot m.workers.robot.machine.progress k.results.robot.output.machine.stopped k.results.robot.output.machine.progress
+          (subst (λ (p : RobotProgram F1 F2 F3 g1 g2 g3). Stands (from_step (by_robot p) m.workers.robot.machine.progress) i.opening k.history k.results.robot.output.machine.stopped k.results.robot.output.machine.progress) robot (stands_after by_robot shows3 sets3 (gate Robot) i.tries limit i k.history m.workers.robot k.results.robot runs.robot k.given.robot.1 (k.seen Robot)))
       stands Press e =
-          stands_near c gives i.opening k.history Press m.workers.press.machine.progress k.results.press.outcome.machine.stopped k.results.press.outcome.machine.progress
+          stands_near c gives i.opening k.history Press m.workers.press.machine.progress k.results.press.output.machine.stopped k.results.press.output.machine.progress
           (stands_after (λ _. press_steps) shows4 sets4 (gate Press) i.tries limit i k.history m.workers.press k.results.press runs.press k.given.press.1 (k.seen Press))
       stands Deposit e =
-          stands_near c gives i.opening k.history Deposit m.workers.deposit.machine.progress k.results.deposit.outcome.machine.stopped k.results.deposit.outcome.machine.progress
+          stands_near c gives i.opening k.history Deposit m.workers.deposit.machine.progress k.results.deposit.output.machine.stopped k.results.deposit.output.machine.progress
           (stands_after (λ _. deposit_steps) shows5 sets5 (gate Deposit) i.tries limit i k.history m.workers.deposit k.results.deposit runs.deposit k.given.deposit.1 (k.seen Deposit))
       stands Crane e =
-          stands_near c gives i.opening k.history Crane m.workers.crane.machine.progress k.results.crane.outcome.machine.stopped k.results.crane.outcome.machine.progress
-          (subst (λ (p : CraneProgram F5 g5). Stands (from_step (by_crane p) m.workers.crane.machine.progress) i.opening k.history k.results.crane.outcome.machine.stopped k.results.crane.outcome.machine.progress) crane (stands_after by_crane shows6 sets6 (gate Crane) i.tries limit i k.history m.workers.crane k.results.crane runs.crane k.given.crane.1 (k.seen Crane)))
+          stands_near c gives i.opening k.history Crane m.workers.crane.machine.progress k.results.crane.output.machine.stopped k.results.crane.output.machine.progress
+          (subst (λ (p : CraneProgram F5 g5). Stands (from_step (by_crane p) m.workers.crane.machine.progress) i.opening k.history k.results.crane.output.machine.stopped k.results.crane.output.machine.progress) crane (stands_after by_crane shows6 sets6 (gate Crane) i.tries limit i k.history m.workers.crane k.results.crane runs.crane k.given.crane.1 (k.seen Crane)))
       stands Watch e = cc
 
-      pub unrefused_feed : k.results.feed.outcome.status ≢ Refused
+      pub unrefused_feed : k.results.feed.output.status ≢ Refused
       unrefused_feed = unrefused_after (λ _. feed_steps) shows1 sets1 (gate Feed) i.tries limit i k.history m.workers.feed k.results.feed runs.feed k.given.feed.1 (k.seen Feed) (none_refused c renewals i.opening k.history (steps_in m.workers) (steps_left k.results) (stopped_in k.results) stood_here legal stands Feed refl)
 
-      pub unrefused_table : k.results.table.outcome.status ≢ Refused
+      pub unrefused_table : k.results.table.output.status ≢ Refused
       unrefused_table = unrefused_after by_table shows2 sets2 (gate Table) i.tries limit i k.history m.workers.table k.results.table runs.table k.given.table.1 (k.seen Table) (none_refused c renewals i.opening k.history (steps_in m.workers) (steps_left k.results) (stopped_in k.results) stood_here legal stands Table refl)
 
-      pub unrefused_robot : k.results.robot.outcome.status ≢ Refused
+      pub unrefused_robot : k.results.robot.output.status ≢ Refused
       unrefused_robot = unrefused_after by_robot shows3 sets3 (gate Robot) i.tries limit i k.history m.workers.robot k.results.robot runs.robot k.given.robot.1 (k.seen Robot) (none_refused c renewals i.opening k.history (steps_in m.workers) (steps_left k.results) (stopped_in k.results) stood_here legal stands Robot refl)
 
-      pub unrefused_press : k.results.press.outcome.status ≢ Refused
+      pub unrefused_press : k.results.press.output.status ≢ Refused
       unrefused_press = unrefused_after (λ _. press_steps) shows4 sets4 (gate Press) i.tries limit i k.history m.workers.press k.results.press runs.press k.given.press.1 (k.seen Press) (none_refused c renewals i.opening k.history (steps_in m.workers) (steps_left k.results) (stopped_in k.results) stood_here legal stands Press refl)
 
-      pub unrefused_deposit : k.results.deposit.outcome.status ≢ Refused
+      pub unrefused_deposit : k.results.deposit.output.status ≢ Refused
       unrefused_deposit = unrefused_after (λ _. deposit_steps) shows5 sets5 (gate Deposit) i.tries limit i k.history m.workers.deposit k.results.deposit runs.deposit k.given.deposit.1 (k.seen Deposit) (none_refused c renewals i.opening k.history (steps_in m.workers) (steps_left k.results) (stopped_in k.results) stood_here legal stands Deposit refl)
 
-      pub unrefused_crane : k.results.crane.outcome.status ≢ Refused
+      pub unrefused_crane : k.results.crane.output.status ≢ Refused
       unrefused_crane = unrefused_after by_crane shows6 sets6 (gate Crane) i.tries limit i k.history m.workers.crane k.results.crane runs.crane k.given.crane.1 (k.seen Crane) (none_refused c renewals i.opening k.history (steps_in m.workers) (steps_left k.results) (stopped_in k.results) stood_here legal stands Crane refl)
 
       pub came : HaveComeFrom (programs_of c) (team_of (steps_in m.workers)) k.history (team_of (steps_left k.results))
@@ -257,46 +257,46 @@ module _ (F1 F2 F3 F4 F5 : Type 0) (g1 : Ghosts F1) (g2 : Ghosts F2) (g3 : Ghost
     abbrev told : Told tries limit before turn.ends.six turn.left.watch
     told = turn.ends.told
 
-    outcomes : turn.left.outcomes ≡ outcomes_in told.results
-    outcomes = ap (λ (l : LeftBy). l.outcomes) turn.ends.is ∙ told.outcomes
+    outputs : turn.left.outputs ≡ outputs_in told.results
+    outputs = ap (λ (l : LeftBy). l.outputs) turn.ends.is ∙ told.outputs
 
     ended_at : turn.left.end ≡ after before.opening told.history
     ended_at = ap (λ (l : LeftBy). l.end) turn.ends.is ∙ told.end
 
-    left_feed : turn.left.outcomes.feed ≡ told.results.feed.outcome
-    left_feed = λ x. (outcomes x).feed
+    left_feed : turn.left.outputs.feed ≡ told.results.feed.output
+    left_feed = λ x. (outputs x).feed
 
-    machine_feed : now.workers.feed.machine ≡ told.results.feed.outcome.machine
+    machine_feed : now.workers.feed.machine ≡ told.results.feed.output.machine
     machine_feed = turn.goes_on.feed.same_machine ∙ ap (λ (l : GoingLeft FeedProgram FeedProgress D1). l.machine) left_feed
 
-    left_table : turn.left.outcomes.table ≡ told.results.table.outcome
-    left_table = λ x. (outcomes x).table
+    left_table : turn.left.outputs.table ≡ told.results.table.output
+    left_table = λ x. (outputs x).table
 
-    machine_table : now.workers.table.machine ≡ told.results.table.outcome.machine
+    machine_table : now.workers.table.machine ≡ told.results.table.output.machine
     machine_table = turn.goes_on.table.same_machine ∙ ap (λ (l : GoingLeft (TableProgram F4 g4) TableProgress D2). l.machine) left_table
 
-    left_robot : turn.left.outcomes.robot ≡ told.results.robot.outcome
-    left_robot = λ x. (outcomes x).robot
+    left_robot : turn.left.outputs.robot ≡ told.results.robot.output
+    left_robot = λ x. (outputs x).robot
 
-    machine_robot : now.workers.robot.machine ≡ told.results.robot.outcome.machine
+    machine_robot : now.workers.robot.machine ≡ told.results.robot.output.machine
     machine_robot = turn.goes_on.robot.same_machine ∙ ap (λ (l : GoingLeft (RobotProgram F1 F2 F3 g1 g2 g3) RobotProgress D3). l.machine) left_robot
 
-    left_press : turn.left.outcomes.press ≡ told.results.press.outcome
-    left_press = λ x. (outcomes x).press
+    left_press : turn.left.outputs.press ≡ told.results.press.output
+    left_press = λ x. (outputs x).press
 
-    machine_press : now.workers.press.machine ≡ told.results.press.outcome.machine
+    machine_press : now.workers.press.machine ≡ told.results.press.output.machine
     machine_press = turn.goes_on.press.same_machine ∙ ap (λ (l : GoingLeft PressProgram PressProgress D4). l.machine) left_press
 
-    left_deposit : turn.left.outcomes.deposit ≡ told.results.deposit.outcome
-    left_deposit = λ x. (outcomes x).deposit
+    left_deposit : turn.left.outputs.deposit ≡ told.results.deposit.output
+    left_deposit = λ x. (outputs x).deposit
 
-    machine_deposit : now.workers.deposit.machine ≡ told.results.deposit.outcome.machine
+    machine_deposit : now.workers.deposit.machine ≡ told.results.deposit.output.machine
     machine_deposit = turn.goes_on.deposit.same_machine ∙ ap (λ (l : GoingLeft DepositProgram DepositProgress D5). l.machine) left_deposit
 
-    left_crane : turn.left.outcomes.crane ≡ told.results.crane.outcome
-    left_crane = λ x. (outcomes x).crane
+    left_crane : turn.left.outputs.crane ≡ told.results.crane.output
+    left_crane = λ x. (outputs x).crane
 
-    machine_crane : now.workers.crane.machine ≡ told.results.crane.outcome.machine
+    machine_crane : now.workers.crane.machine ≡ told.results.crane.output.machine
     machine_crane = turn.goes_on.crane.same_machine ∙ ap (λ (l : GoingLeft (CraneProgram F5 g5) CraneProgress D6). l.machine) left_crane
 
     pub all_run : AllRun now.workers
@@ -355,15 +355,15 @@ module _ (F1 F2 F3 F4 F5 : Type 0) (g1 : Ghosts F1) (g2 : Ghosts F2) (g3 : Ghost
       let last = all_along (Turn tries limit mark) (Low mark) stays first k.last k.come (record { sound = sound; runs = runs; low = low }) in
       let told = k.ends.told in
       let six = k.ends.six in
-      let outcomes : left.outcomes ≡ outcomes_in told.results = ap (λ (l : LeftBy). l.outcomes) k.ends.is ∙ told.outcomes in
+      let outputs : left.outputs ≡ outputs_in told.results = ap (λ (l : LeftBy). l.outputs) k.ends.is ∙ told.outputs in
       let enough : k.last.opening.stamp + 6 * limit + calls < last_stamp = omega (arith, room, last.low) in
       record {
-        feed = λ e. unworn_feed tries limit k.last six left.watch told last.runs calls most last.sound enough (sym (λ x. (outcomes x).feed.status) ∙ e);
-        table = λ e. unworn_table tries limit k.last six left.watch told last.runs calls most last.sound enough (sym (λ x. (outcomes x).table.status) ∙ e);
-        robot = λ e. unworn_robot tries limit k.last six left.watch told last.runs calls most last.sound enough (sym (λ x. (outcomes x).robot.status) ∙ e);
-        press = λ e. unworn_press tries limit k.last six left.watch told last.runs calls most last.sound enough (sym (λ x. (outcomes x).press.status) ∙ e);
-        deposit = λ e. unworn_deposit tries limit k.last six left.watch told last.runs calls most last.sound enough (sym (λ x. (outcomes x).deposit.status) ∙ e);
-        crane = λ e. unworn_crane tries limit k.last six left.watch told last.runs calls most last.sound enough (sym (λ x. (outcomes x).crane.status) ∙ e);
+        feed = λ e. unworn_feed tries limit k.last six left.watch told last.runs calls most last.sound enough (sym (λ x. (outputs x).feed.status) ∙ e);
+        table = λ e. unworn_table tries limit k.last six left.watch told last.runs calls most last.sound enough (sym (λ x. (outputs x).table.status) ∙ e);
+        robot = λ e. unworn_robot tries limit k.last six left.watch told last.runs calls most last.sound enough (sym (λ x. (outputs x).robot.status) ∙ e);
+        press = λ e. unworn_press tries limit k.last six left.watch told last.runs calls most last.sound enough (sym (λ x. (outputs x).press.status) ∙ e);
+        deposit = λ e. unworn_deposit tries limit k.last six left.watch told last.runs calls most last.sound enough (sym (λ x. (outputs x).deposit.status) ∙ e);
+        crane = λ e. unworn_crane tries limit k.last six left.watch told last.runs calls most last.sound enough (sym (λ x. (outputs x).crane.status) ∙ e);
       }
 
   pub none_refused_through : (w : Six) → NoneIsRefusedThrough shows1 sets1 shows2 sets2 shows3 sets3 shows4 sets4 shows5 sets5 shows6 sets6 watches takes gate w
@@ -384,12 +384,12 @@ module _ (F1 F2 F3 F4 F5 : Type 0) (g1 : Ghosts F1) (g2 : Ghosts F2) (g3 : Ghost
       let last = all_along (Turn tries limit mark) (Standing t0 r0 c0) (λ was now turn inv. standing_on tries limit mark was now turn inv.runs t0 r0 c0 inv) first k.last k.come begun in
       let told = k.ends.told in
       let six = k.ends.six in
-      let outcomes : left.outcomes ≡ outcomes_in told.results = ap (λ (l : LeftBy). l.outcomes) k.ends.is ∙ told.outcomes in
+      let outputs : left.outputs ≡ outputs_in told.results = ap (λ (l : LeftBy). l.outputs) k.ends.is ∙ told.outputs in
       record {
-        feed = λ e. unrefused_feed tries limit k.last six left.watch told last.runs t0 r0 c0 last.table last.robot last.crane last.renewals last.stood (sym (λ x. (outcomes x).feed.status) ∙ e);
-        table = λ e. unrefused_table tries limit k.last six left.watch told last.runs t0 r0 c0 last.table last.robot last.crane last.renewals last.stood (sym (λ x. (outcomes x).table.status) ∙ e);
-        robot = λ e. unrefused_robot tries limit k.last six left.watch told last.runs t0 r0 c0 last.table last.robot last.crane last.renewals last.stood (sym (λ x. (outcomes x).robot.status) ∙ e);
-        press = λ e. unrefused_press tries limit k.last six left.watch told last.runs t0 r0 c0 last.table last.robot last.crane last.renewals last.stood (sym (λ x. (outcomes x).press.status) ∙ e);
-        deposit = λ e. unrefused_deposit tries limit k.last six left.watch told last.runs t0 r0 c0 last.table last.robot last.crane last.renewals last.stood (sym (λ x. (outcomes x).deposit.status) ∙ e);
-        crane = λ e. unrefused_crane tries limit k.last six left.watch told last.runs t0 r0 c0 last.table last.robot last.crane last.renewals last.stood (sym (λ x. (outcomes x).crane.status) ∙ e);
+        feed = λ e. unrefused_feed tries limit k.last six left.watch told last.runs t0 r0 c0 last.table last.robot last.crane last.renewals last.stood (sym (λ x. (outputs x).feed.status) ∙ e);
+        table = λ e. unrefused_table tries limit k.last six left.watch told last.runs t0 r0 c0 last.table last.robot last.crane last.renewals last.stood (sym (λ x. (outputs x).table.status) ∙ e);
+        robot = λ e. unrefused_robot tries limit k.last six left.watch told last.runs t0 r0 c0 last.table last.robot last.crane last.renewals last.stood (sym (λ x. (outputs x).robot.status) ∙ e);
+        press = λ e. unrefused_press tries limit k.last six left.watch told last.runs t0 r0 c0 last.table last.robot last.crane last.renewals last.stood (sym (λ x. (outputs x).press.status) ∙ e);
+        deposit = λ e. unrefused_deposit tries limit k.last six left.watch told last.runs t0 r0 c0 last.table last.robot last.crane last.renewals last.stood (sym (λ x. (outputs x).deposit.status) ∙ e);
+        crane = λ e. unrefused_crane tries limit k.last six left.watch told last.runs t0 r0 c0 last.table last.robot last.crane last.renewals last.stood (sym (λ x. (outputs x).crane.status) ∙ e);
       }

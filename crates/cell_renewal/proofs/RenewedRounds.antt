@@ -38,7 +38,7 @@ module _ {P S Sense Reading Act D : Type 0} (steps : P → Steps S Sense Reading
   t = steps w.machine.program
 
   abbrev left : GoingLeft P S D
-  left = r.outcome
+  left = r.output
 
   pub stands_after : Stands (from_step t w.machine.progress) i.opening history left.machine.stopped left.machine.progress
   stands_after =

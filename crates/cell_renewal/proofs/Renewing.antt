@@ -49,18 +49,18 @@ module _ {W1 W2 W3 W4 W5 W6 A B C D E F H : Type 0} (gives1 : GivesOf W1 A) (giv
   ends : r.end ≡ after i.opening t.history
   ends = t.end ∙ ap (λ s. after s t.history) (sym t.opened)
 
-  pub all_may_go_on : Leaves (of1 t.results.feed.outcome) (left1 t.results.feed.outcome) (fresh_pass i Feed) t.results.feed.pass
-      → Leaves (of2 t.results.table.outcome) (left2 t.results.table.outcome) (fresh_pass i Table) t.results.table.pass
-      → Leaves (of3 t.results.robot.outcome) (left3 t.results.robot.outcome) (fresh_pass i Robot) t.results.robot.pass
-      → Leaves (of4 t.results.press.outcome) (left4 t.results.press.outcome) (fresh_pass i Press) t.results.press.pass
-      → Leaves (of5 t.results.deposit.outcome) (left5 t.results.deposit.outcome) (fresh_pass i Deposit) t.results.deposit.pass
-      → Leaves (of6 t.results.crane.outcome) (left6 t.results.crane.outcome) (fresh_pass i Crane) t.results.crane.pass
-      → (mark : ℕ) (next : ModelState) → OpensAfter mark r.end next → MayAllGoOn of1 of2 of3 of4 of5 of6 left1 left2 left3 left4 left5 left6 r.outcomes next
+  pub all_may_go_on : Leaves (of1 t.results.feed.output) (left1 t.results.feed.output) (fresh_pass i Feed) t.results.feed.pass
+      → Leaves (of2 t.results.table.output) (left2 t.results.table.output) (fresh_pass i Table) t.results.table.pass
+      → Leaves (of3 t.results.robot.output) (left3 t.results.robot.output) (fresh_pass i Robot) t.results.robot.pass
+      → Leaves (of4 t.results.press.output) (left4 t.results.press.output) (fresh_pass i Press) t.results.press.pass
+      → Leaves (of5 t.results.deposit.output) (left5 t.results.deposit.output) (fresh_pass i Deposit) t.results.deposit.pass
+      → Leaves (of6 t.results.crane.output) (left6 t.results.crane.output) (fresh_pass i Crane) t.results.crane.pass
+      → (mark : ℕ) (next : ModelState) → OpensAfter mark r.end next → MayAllGoOn of1 of2 of3 of4 of5 of6 left1 left2 left3 left4 left5 left6 r.outputs next
   all_may_go_on k1 k2 k3 k4 k5 k6 mark next opens =
       let opened = opened_stamp mark r.end next opens in
       let stamp = opened.0 in
-      subst (MayAllGoOn of1 of2 of3 of4 of5 of6 left1 left2 left3 left4 left5 left6 r.outcomes) (sym opened.1)
-      (subst (λ o. MayAllGoOn of1 of2 of3 of4 of5 of6 left1 left2 left3 left4 left5 left6 o (restamped r.end stamp)) (sym t.outcomes)
+      subst (MayAllGoOn of1 of2 of3 of4 of5 of6 left1 left2 left3 left4 left5 left6 r.outputs) (sym opened.1)
+      (subst (λ o. MayAllGoOn of1 of2 of3 of4 of5 of6 left1 left2 left3 left4 left5 left6 o (restamped r.end stamp)) (sym t.outputs)
       (record {
         feed = may_go_on Feed i _ _ t.results.feed.pass t.history r.end stamp k1 t.given.feed.0.same begins legal (t.seen Feed) ends;
         table = may_go_on Table i _ _ t.results.table.pass t.history r.end stamp k2 t.given.table.0.same begins legal (t.seen Table) ends;

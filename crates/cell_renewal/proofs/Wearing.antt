@@ -16,7 +16,7 @@ use Rattle.cell_rules.proofs.Stamps.{stamp-after}
 use Rattle.cell_interlock.specs.Views.{PassView}
 use Rattle.cell_interlock.specs.Lines.{PassAsks}
 use Rattle.cell_interlock.specs.Seen.{IsSamePass}
-use Rattle.cell_control.specs.Names.{fault_of, Steps, waits_out, outcome, Performed, PerformsCall, PerformsSensed}
+use Rattle.cell_control.specs.Names.{fault_of, Steps, waits_out, step_after_reply, Performed, PerformsCall, PerformsSensed}
 use Rattle.cell_control.specs.Names.{Turned, Turns, at_rest, turned, answered}
 use Rattle.cell_control.specs.declared.fault.CtlFault.{CtlFault}
 use Rattle.cell_control.specs.declared.told.Told.{Told}
@@ -60,7 +60,7 @@ module _ {S Sense Reading Act : Type 0} (t : Steps S Sense Reading Act) (tries :
   by_refusal true p c r stamp k e = cc
   by_refusal false p c r stamp k e = settled_worn t.machine v w tries c r stamp own k (fault_is_worn r (the_fault (fault_of r) fault.Worn e))
 
-  by_answer : (p : S) (c : Call) (r : Result Reply LineFault) → PassAsks tries v c r w → Late (turned p (at_rest (t.rest p) (outcome t p r)))
+  by_answer : (p : S) (c : Call) (r : Result Reply LineFault) → PassAsks tries v c r w → Late (turned p (at_rest (t.rest p) (step_after_reply t p r)))
   by_answer p c (Ok (Settled Done stamp)) k e = cc
   by_answer p c (Ok (Settled (Shown m b q) stamp)) k e = cc
   by_answer p c (Ok (Settled (Refused r) stamp)) k e = by_refusal (waits_out t p r) p c r stamp k e

@@ -26,17 +26,17 @@ use Rattle.cell_threads.specs.declared.worker_result.WorkerResult.{WorkerResult}
 use Rattle.cell_renewal.specs.WiredRecords.{RefusedIsFound, NoneIsRefused, NoneRecordedRefused, TellsWired, WiredRecord, WiredRecordsTell, WiredSix, wired_gives}
 use Rattle.cell_renewal.specs.WiredTeams.{NoneEndsRefused, Sets, Shows, WiredTeam}
 use Rattle.cell_renewal.specs.WiredWorkers.{IsWiredResult, wired_moment}
-use Rattle.cell_renewal.specs.declared.wired_worker.WiredOutcome.{WiredOutcome}
+use Rattle.cell_renewal.specs.declared.wired_worker.WiredOutput.{WiredOutput}
 use Rattle.cell_renewal.specs.declared.wired_worker.WiredWorker.{WiredWorker}
 use Rattle.cell_renewal.proofs.WiredUnrefused.{wired-unrefused}
 
 -- what a worker gave back that began with the interlock's opening, and whose calls may lose as many exchanges
-given_as : {P D S Sense Reading Act : Type 0} → (m : Machine) (steps : P → Steps S Sense Reading Act) (shows : D → Option Sense → D → Type 0) (sets : D → Told Act → D → Type 0) (i : InterlockView) (tries limit : ℕ) (gate : GateOf) (opening : ModelState) (w : WiredWorker P D) (r : WorkerResult (WiredOutcome D))
+given_as : {P D S Sense Reading Act : Type 0} → (m : Machine) (steps : P → Steps S Sense Reading Act) (shows : D → Option Sense → D → Type 0) (sets : D → Told Act → D → Type 0) (i : InterlockView) (tries limit : ℕ) (gate : GateOf) (opening : ModelState) (w : WiredWorker P D) (r : WorkerResult (WiredOutput D))
     → i.opening ≡ opening → i.tries ≡ tries → w.opening ≡ opening → wired_gives steps shows sets w (fresh_pass i m) i.tries gate limit r
-    → IsWiredResult tries (steps w.program) shows sets gate limit (wired_moment (fresh_pass i m) ((steps w.program).start i.opening) None w.devices 0 0) r.pass r.outcome.turns r.outcome.missed r.outcome.status r.outcome.devices
+    → IsWiredResult tries (steps w.program) shows sets gate limit (wired_moment (fresh_pass i m) ((steps w.program).start i.opening) None w.devices 0 0) r.pass r.output.turns r.output.missed r.output.status r.output.devices
 given_as m steps shows sets i tries limit gate opening w r opened losing begins k =
-    let begun = subst (λ (s : ModelState). IsWiredResult i.tries (steps w.program) shows sets gate limit (wired_moment (fresh_pass i m) ((steps w.program).start s) None w.devices 0 0) r.pass r.outcome.turns r.outcome.missed r.outcome.status r.outcome.devices) (begins ∙ sym opened) k in
-    subst (λ (n : ℕ). IsWiredResult n (steps w.program) shows sets gate limit (wired_moment (fresh_pass i m) ((steps w.program).start i.opening) None w.devices 0 0) r.pass r.outcome.turns r.outcome.missed r.outcome.status r.outcome.devices) losing begun
+    let begun = subst (λ (s : ModelState). IsWiredResult i.tries (steps w.program) shows sets gate limit (wired_moment (fresh_pass i m) ((steps w.program).start s) None w.devices 0 0) r.pass r.output.turns r.output.missed r.output.status r.output.devices) (begins ∙ sym opened) k in
+    subst (λ (n : ℕ). IsWiredResult n (steps w.program) shows sets gate limit (wired_moment (fresh_pass i m) ((steps w.program).start i.opening) None w.devices 0 0) r.pass r.output.turns r.output.missed r.output.status r.output.devices) losing begun
 
 pub wired-tell : {F1 F2 F3 F4 F5 : Type 0} {g1 : Ghosts F1} {g2 : Ghosts F2} {g3 : Ghosts F3} {g4 : Ghosts F4} {g5 : Ghosts F5} {D1 D2 D3 D4 D5 D6 : Type 0}
     (shows1 : Shows D1 Feed) (sets1 : Sets D1 Feed) (shows2 : Shows D2 Table) (sets2 : Sets D2 Table) (shows3 : Shows D3 Robot) (sets3 : Sets D3 Robot) (shows4 : Shows D4 Press) (sets4 : Sets D4 Press) (shows5 : Shows D5 Deposit) (sets5 : Sets D5 Deposit) (shows6 : Shows D6 Crane) (sets6 : Sets D6 Crane)
@@ -48,7 +48,7 @@ wired-tell {g1 = g1} {g2 = g2} {g3 = g3} {g4 = g4} {g5 = g5} shows1 sets1 shows2
       interlock = i;
       opened = k.opened;
       results = k.results;
-      outcomes = k.outcomes;
+      outputs = k.outputs;
       feed = given_as Feed (λ _. feed_steps) shows1 sets1 i tries limit (gate Feed) opening w.feed k.results.feed k.opened k.losing begin.feed k.given.feed.1;
       table = given_as Table (λ t. table_steps t.turn.points (g4.gives t.turn.gauge)) shows2 sets2 i tries limit (gate Table) opening w.table k.results.table k.opened k.losing begin.table k.given.table.1;
       robot = given_as Robot (λ p. robot_steps (robot_scales p.arm1.points p.arm2.points p.rotation.points) (gauges_of (g1.gives p.arm1.gauge) (g2.gives p.arm2.gauge) (g3.gives p.rotation.gauge))) shows3 sets3 i tries limit (gate Robot) opening w.robot k.results.robot k.opened k.losing begin.robot k.given.robot.1;
@@ -73,12 +73,12 @@ module _ {D1 D2 D3 D4 D5 D6 : Type 0} (c : CellScales) (gives : CellGauges)
   team = record {
     interlock = k.interlock;
     starts = subst IsStartState (sym k.opened) start;
-    feed = record { first = devices.feed; kept = k.results.feed.pass; turns = k.results.feed.outcome.turns; missed = k.results.feed.outcome.missed; status = k.results.feed.outcome.status; devices = k.results.feed.outcome.devices; ended = k.feed };
-    table = record { first = devices.table; kept = k.results.table.pass; turns = k.results.table.outcome.turns; missed = k.results.table.outcome.missed; status = k.results.table.outcome.status; devices = k.results.table.outcome.devices; ended = k.table };
-    robot = record { first = devices.robot; kept = k.results.robot.pass; turns = k.results.robot.outcome.turns; missed = k.results.robot.outcome.missed; status = k.results.robot.outcome.status; devices = k.results.robot.outcome.devices; ended = k.robot };
-    press = record { first = devices.press; kept = k.results.press.pass; turns = k.results.press.outcome.turns; missed = k.results.press.outcome.missed; status = k.results.press.outcome.status; devices = k.results.press.outcome.devices; ended = k.press };
-    deposit = record { first = devices.deposit; kept = k.results.deposit.pass; turns = k.results.deposit.outcome.turns; missed = k.results.deposit.outcome.missed; status = k.results.deposit.outcome.status; devices = k.results.deposit.outcome.devices; ended = k.deposit };
-    crane = record { first = devices.crane; kept = k.results.crane.pass; turns = k.results.crane.outcome.turns; missed = k.results.crane.outcome.missed; status = k.results.crane.outcome.status; devices = k.results.crane.outcome.devices; ended = k.crane };
+    feed = record { first = devices.feed; kept = k.results.feed.pass; turns = k.results.feed.output.turns; missed = k.results.feed.output.missed; status = k.results.feed.output.status; devices = k.results.feed.output.devices; ended = k.feed };
+    table = record { first = devices.table; kept = k.results.table.pass; turns = k.results.table.output.turns; missed = k.results.table.output.missed; status = k.results.table.output.status; devices = k.results.table.output.devices; ended = k.table };
+    robot = record { first = devices.robot; kept = k.results.robot.pass; turns = k.results.robot.output.turns; missed = k.results.robot.output.missed; status = k.results.robot.output.status; devices = k.results.robot.output.devices; ended = k.robot };
+    press = record { first = devices.press; kept = k.results.press.pass; turns = k.results.press.output.turns; missed = k.results.press.output.missed; status = k.results.press.output.status; devices = k.results.press.output.devices; ended = k.press };
+    deposit = record { first = devices.deposit; kept = k.results.deposit.pass; turns = k.results.deposit.output.turns; missed = k.results.deposit.output.missed; status = k.results.deposit.output.status; devices = k.results.deposit.output.devices; ended = k.deposit };
+    crane = record { first = devices.crane; kept = k.results.crane.pass; turns = k.results.crane.output.turns; missed = k.results.crane.output.missed; status = k.results.crane.output.status; devices = k.results.crane.output.devices; ended = k.crane };
     history = k.history;
     legal = subst (λ s. IsLegal s k.history) (sym k.opened) (k.lawful k.history [] (sym (append-nil k.history))).legal;
     feed_seen = k.seen Feed;
@@ -92,7 +92,7 @@ module _ {D1 D2 D3 D4 D5 D6 : Type 0} (c : CellScales) (gives : CellGauges)
   none_refused : NoneIsRefused r
   none_refused =
       let none : NoneEndsRefused c gives shows1 sets1 shows2 sets2 shows3 sets3 shows4 sets4 shows5 sets5 shows6 sets6 tries limit gate team = wired-unrefused c gives shows1 sets1 shows2 sets2 shows3 sets3 shows4 sets4 shows5 sets5 shows6 sets6 gate tries limit team in
-      let e = k.outcomes in
+      let e = k.outputs in
       record {
         feed = λ f. none.feed (sym (λ i. (e i).feed.status) ∙ f);
         table = λ f. none.table (sym (λ i. (e i).table.status) ∙ f);

@@ -47,10 +47,10 @@ use Rattle.cell_renewal.specs.declared.rounds.Round.{Round}
 abbrev pub going_gives : {P D S Sense Reading Act : Type 0} → (P → Steps S Sense Reading Act) →
     (D → Option Sense → D → Type 0) → (D → Told Act → D → Type 0) → GivesOf (GoingOn P S D) (GoingLeft P S D)
 going_gives steps shows sets w pass tries gate limit r =
-    (r.outcome.machine.program ≡ w.machine.program)
+    (r.output.machine.program ≡ w.machine.program)
     × IsGoingResult tries (steps w.machine.program) shows sets gate limit
-    (wired_moment pass w.machine.progress w.machine.stopped w.devices 0 0) r.pass r.outcome.turns r.outcome.missed
-    r.outcome.status r.outcome.devices r.outcome.machine.progress r.outcome.machine.stopped r.outcome.machine.left
+    (wired_moment pass w.machine.progress w.machine.stopped w.devices 0 0) r.pass r.output.turns r.output.missed
+    r.output.status r.output.devices r.output.machine.progress r.output.machine.stopped r.output.machine.left
 
 -- how it goes on with what was left (its `goes_on`)
 abbrev pub going_on : {P S D : Type 0} → GoesOnBy (GoingLeft P S D) (GoingOn P S D)
@@ -86,12 +86,12 @@ IsAtStart t opening w = (w.machine.progress ≡ t.start opening) × Runs w
 module _ {T R C D1 D2 D3 D4 D5 D6 H : Type 0} where
   -- none of the six ended so
   pub record NoneEnded (status : Status) (left : SixLeft T R C D1 D2 D3 D4 D5 D6 H) : Type 0 where
-    pub feed : left.outcomes.feed.status ≢ status
-    pub table : left.outcomes.table.status ≢ status
-    pub robot : left.outcomes.robot.status ≢ status
-    pub press : left.outcomes.press.status ≢ status
-    pub deposit : left.outcomes.deposit.status ≢ status
-    pub crane : left.outcomes.crane.status ≢ status
+    pub feed : left.outputs.feed.status ≢ status
+    pub table : left.outputs.table.status ≢ status
+    pub robot : left.outputs.robot.status ≢ status
+    pub press : left.outputs.press.status ≢ status
+    pub deposit : left.outputs.deposit.status ≢ status
+    pub crane : left.outputs.crane.status ≢ status
 
 module _ {T R C D1 D2 D3 D4 D5 D6 : Type 0} where
   -- all six run

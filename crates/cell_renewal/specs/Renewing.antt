@@ -80,15 +80,15 @@ module _ {W1 W2 W3 W4 W5 W6 A B C D E F H : Type 0} (ready1 : W1 → PassView �
     (goes5 : GoesOnBy E W5) (goes6 : GoesOnBy F W6) (mark : ℕ) where
   pub record GoOnAfter (left : Leave A B C D E F H) (workers : PerMachine W1 W2 W3 W4 W5 W6) (watch : H)
       (opening : ModelState) : Type 0 where
-    pub fine : AreAllFine how1 how2 how3 how4 how5 how6 left.outcomes
+    pub fine : AreAllFine how1 how2 how3 how4 how5 how6 left.outputs
     pub opens : OpensAfter mark left.end opening
-    pub goes_on : GoAllOn goes1 goes2 goes3 goes4 goes5 goes6 left.outcomes opening workers
+    pub goes_on : GoAllOn goes1 goes2 goes3 goes4 goes5 goes6 left.outputs opening workers
     pub watch_is : watch ≡ left.watch
     pub ready : AreReadyAt ready1 ready2 ready3 ready4 ready5 ready6 opening workers
 
   abbrev pub IsTurnedOver : Leave A B C D E F H → RoundEnd W1 W2 W3 W4 W5 W6 A B C D E F H → Type 0
   IsTurnedOver left (GoesOn workers watch opening) = GoOnAfter left workers watch opening
-  IsTurnedOver left (Ends last) = (last ≡ left) × (¬ AreAllFine how1 how2 how3 how4 how5 how6 left.outcomes)
+  IsTurnedOver left (Ends last) = (last ≡ left) × (¬ AreAllFine how1 how2 how3 how4 how5 how6 left.outputs)
 
 -- between two rounds: the workers, the watch, the state that the next interlock opens with, and the caller's sink
 pub record RoundMoment (W1 W2 W3 W4 W5 W6 H S : Type 0) : Type 0 where
@@ -102,7 +102,7 @@ abbrev pub round_in : {A B C D E F : Type 0} → SixRecord A B C D E F → Round
 round_in r = record { start = r.start; journals = r.journals; end = r.end }
 
 abbrev pub leave_of : {A B C D E F H : Type 0} → SixRecord A B C D E F → H → Leave A B C D E F H
-leave_of r watch = record { end = r.end; outcomes = r.outcomes; watch = watch }
+leave_of r watch = record { end = r.end; outputs = r.outputs; watch = watch }
 
 module _ {W1 W2 W3 W4 W5 W6 A B C D E F H S Fault : Type 0} (gives1 : GivesOf W1 A) (gives2 : GivesOf W2 B)
     (gives3 : GivesOf W3 C) (gives4 : GivesOf W4 D) (gives5 : GivesOf W5 E) (gives6 : GivesOf W6 F)
@@ -127,9 +127,9 @@ module _ {W1 W2 W3 W4 W5 W6 A B C D E F H S Fault : Type 0} (gives1 : GivesOf W1
     pub record TakesRound (before now : RoundMoment W1 W2 W3 W4 W5 W6 H S) : Type 0 where
       pub left : Leave A B C D E F H
       pub ends : EndsRound before left now.sink
-      pub fine : AreAllFine how1 how2 how3 how4 how5 how6 left.outcomes
+      pub fine : AreAllFine how1 how2 how3 how4 how5 how6 left.outputs
       pub opens : OpensAfter mark left.end now.opening
-      pub goes_on : GoAllOn goes1 goes2 goes3 goes4 goes5 goes6 left.outcomes now.opening now.workers
+      pub goes_on : GoAllOn goes1 goes2 goes3 goes4 goes5 goes6 left.outputs now.opening now.workers
       pub watch_is : now.watch ≡ left.watch
 
     -- Rounds, one after another. In the last one a worker didn't end fine, and this is what the six and the watch left.
@@ -138,4 +138,4 @@ module _ {W1 W2 W3 W4 W5 W6 A B C D E F H S Fault : Type 0} (gives1 : GivesOf W1
       pub last : RoundMoment W1 W2 W3 W4 W5 W6 H S
       pub come : ComesBy TakesRound first last
       pub ends : EndsRound last left sink
-      pub not_all_fine : ¬ AreAllFine how1 how2 how3 how4 how5 how6 left.outcomes
+      pub not_all_fine : ¬ AreAllFine how1 how2 how3 how4 how5 how6 left.outputs

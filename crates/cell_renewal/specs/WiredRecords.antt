@@ -22,28 +22,28 @@ use Rattle.cell_stations.specs.declared.press.PressProgram.{PressProgram}
 use Rattle.cell_stations.specs.declared.table.TableProgram.{TableProgram}
 use Rattle.cell_plant.specs.Names.{CellGauges, steps_by, NoneRefused}
 use Rattle.cell_threads.specs.Promises.{GivesOf}
-use Rattle.cell_threads.specs.Results.{SixResults, outcomes_in, seen_in}
+use Rattle.cell_threads.specs.Results.{SixResults, outputs_in, seen_in}
 use Rattle.cell_threads.specs.Six.{TellsSix}
 use Rattle.cell_threads.specs.Workers.{GateOf}
 use Rattle.cell_threads.specs.declared.per_machine.PerMachine.{PerMachine}
 use Rattle.cell_threads.specs.declared.six.SixRecord.{SixRecord}
 use Rattle.cell_renewal.specs.WiredTeams.{Shows, Sets}
 use Rattle.cell_renewal.specs.WiredWorkers.{IsWiredResult, wired_moment}
-use Rattle.cell_renewal.specs.declared.wired_worker.WiredOutcome.{WiredOutcome}
+use Rattle.cell_renewal.specs.declared.wired_worker.WiredOutput.{WiredOutput}
 use Rattle.cell_renewal.specs.declared.wired_worker.WiredWorker.{WiredWorker}
 
 -- what a `WiredWorker` promises to give back (its `gives_back`), by the steps of its program and by its devices
 abbrev pub wired_gives : {P D S Sense Reading Act : Type 0} → (P → Steps S Sense Reading Act) →
-    (D → Option Sense → D → Type 0) → (D → Told Act → D → Type 0) → GivesOf (WiredWorker P D) (WiredOutcome D)
+    (D → Option Sense → D → Type 0) → (D → Told Act → D → Type 0) → GivesOf (WiredWorker P D) (WiredOutput D)
 wired_gives steps shows sets w pass tries gate limit r =
     IsWiredResult tries (steps w.program) shows sets gate limit
-    (wired_moment pass ((steps w.program).start w.opening) None w.devices 0 0) r.pass r.outcome.turns
-    r.outcome.missed r.outcome.status r.outcome.devices
+    (wired_moment pass ((steps w.program).start w.opening) None w.devices 0 0) r.pass r.output.turns
+    r.output.missed r.output.status r.output.devices
 
 -- a machine's devices when its worker began, and what is left of it: by its cycles, from the start of its program, it
 -- has come to this pass, and ended so
 abbrev pub IsWiredEnd : {D : Type 0} → CellScales → CellGauges → (m : Machine) → Shows D m → Sets D m → ℕ → ℕ →
-    GateOf → InterlockView → D → PassView → WiredOutcome D → Type 0
+    GateOf → InterlockView → D → PassView → WiredOutput D → Type 0
 IsWiredEnd c gives m shows sets tries limit gate i first kept left =
     IsWiredResult tries (steps_by c gives m) shows sets gate limit
     (wired_moment (fresh_pass i m) ((steps_by c gives m).start i.opening) None first 0 0) kept left.turns
@@ -52,17 +52,17 @@ IsWiredEnd c gives m shows sets tries limit gate i first kept left =
 -- the record of six workers with devices
 abbrev pub WiredRecord : Type 0 → Type 0 → Type 0 → Type 0 → Type 0 → Type 0 → Type 0
 WiredRecord D1 D2 D3 D4 D5 D6 =
-    SixRecord (WiredOutcome D1) (WiredOutcome D2) (WiredOutcome D3) (WiredOutcome D4) (WiredOutcome D5)
-    (WiredOutcome D6)
+    SixRecord (WiredOutput D1) (WiredOutput D2) (WiredOutput D3) (WiredOutput D4) (WiredOutput D5)
+    (WiredOutput D6)
 
 -- no machine ended as refused
 pub record NoneIsRefused {D1 D2 D3 D4 D5 D6 : Type 0} (r : WiredRecord D1 D2 D3 D4 D5 D6) : Type 0 where
-  pub feed : r.outcomes.feed.status ≢ Refused
-  pub table : r.outcomes.table.status ≢ Refused
-  pub robot : r.outcomes.robot.status ≢ Refused
-  pub press : r.outcomes.press.status ≢ Refused
-  pub deposit : r.outcomes.deposit.status ≢ Refused
-  pub crane : r.outcomes.crane.status ≢ Refused
+  pub feed : r.outputs.feed.status ≢ Refused
+  pub table : r.outputs.table.status ≢ Refused
+  pub robot : r.outputs.robot.status ≢ Refused
+  pub press : r.outputs.press.status ≢ Refused
+  pub deposit : r.outputs.deposit.status ≢ Refused
+  pub crane : r.outputs.crane.status ≢ Refused
 
 module _ {D1 D2 D3 D4 D5 D6 : Type 0} (c : CellScales) (gives : CellGauges)
     (shows1 : Shows D1 Feed) (sets1 : Sets D1 Feed) (shows2 : Shows D2 Table) (sets2 : Sets D2 Table)
@@ -75,21 +75,21 @@ module _ {D1 D2 D3 D4 D5 D6 : Type 0} (c : CellScales) (gives : CellGauges)
       (gate : Machine → GateOf) (r : WiredRecord D1 D2 D3 D4 D5 D6) : Type 0 where
     pub interlock : InterlockView
     pub opened : interlock.opening ≡ opening
-    pub results : SixResults (WiredOutcome D1) (WiredOutcome D2) (WiredOutcome D3) (WiredOutcome D4)
-        (WiredOutcome D5) (WiredOutcome D6)
-    pub outcomes : r.outcomes ≡ outcomes_in results
+    pub results : SixResults (WiredOutput D1) (WiredOutput D2) (WiredOutput D3) (WiredOutput D4)
+        (WiredOutput D5) (WiredOutput D6)
+    pub outputs : r.outputs ≡ outputs_in results
     pub feed : IsWiredEnd c gives Feed shows1 sets1 tries limit (gate Feed) interlock devices.feed results.feed.pass
-        results.feed.outcome
+        results.feed.output
     pub table : IsWiredEnd c gives Table shows2 sets2 tries limit (gate Table) interlock devices.table
-        results.table.pass results.table.outcome
+        results.table.pass results.table.output
     pub robot : IsWiredEnd c gives Robot shows3 sets3 tries limit (gate Robot) interlock devices.robot
-        results.robot.pass results.robot.outcome
+        results.robot.pass results.robot.output
     pub press : IsWiredEnd c gives Press shows4 sets4 tries limit (gate Press) interlock devices.press
-        results.press.pass results.press.outcome
+        results.press.pass results.press.output
     pub deposit : IsWiredEnd c gives Deposit shows5 sets5 tries limit (gate Deposit) interlock devices.deposit
-        results.deposit.pass results.deposit.outcome
+        results.deposit.pass results.deposit.output
     pub crane : IsWiredEnd c gives Crane shows6 sets6 tries limit (gate Crane) interlock devices.crane
-        results.crane.pass results.crane.outcome
+        results.crane.pass results.crane.output
     pub history : List Event
     pub lawful : LawfulThroughout opening history
     pub seen : (m : Machine) → Waits m (seen_in results m) history

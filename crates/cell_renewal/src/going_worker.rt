@@ -34,7 +34,7 @@ impl<P: Program, D> Model for GoingWorker<P, D> {
 
 /// What is left of such a machine after its turns.
 #[derive(Drop)]
-pub struct GoingOutcome<P: Program, D> {
+pub struct GoingOutput<P: Program, D> {
     /// How many turns it took.
     pub turns: u32,
     /// In how many cycles its sensors showed nothing.
@@ -47,7 +47,7 @@ pub struct GoingOutcome<P: Program, D> {
     pub machine: Unwired<P>,
 }
 
-impl<P: Program, D> Model for GoingOutcome<P, D> {
+impl<P: Program, D> Model for GoingOutput<P, D> {
     ghost use Rattle.cell_renewal.specs.Going.{GoingLeft};
 
     ghost Value = { GoingLeft P P.Progress D };
@@ -97,16 +97,16 @@ impl<P: Program, D: Devices<Sense = P::Sense, Act = P::Act>> Worker for GoingWor
     ghost use Rattle.std.specs.Prelude.{◌≡◌};
     ghost use Rattle.cell_renewal.specs.WiredWorkers.{IsGoingResult, wired_moment};
 
-    type Outcome = GoingOutcome<P, D>;
+    type Output = GoingOutput<P, D>;
 
     ghost is_ready = { λ w pass. (pass.machine ≡ (P.steps w.machine.program).machine) × (pass.opening ≡ w.opening) };
 
     ghost gives_back = { λ w pass tries gate limit r.
-        (r.outcome.machine.program ≡ w.machine.program) × IsGoingResult tries (P.steps w.machine.program)
+        (r.output.machine.program ≡ w.machine.program) × IsGoingResult tries (P.steps w.machine.program)
         D.shows D.sets gate limit
         (wired_moment pass w.machine.progress w.machine.stopped w.devices 0 0)
-        r.pass r.outcome.turns r.outcome.missed r.outcome.status r.outcome.devices
-        r.outcome.machine.progress r.outcome.machine.stopped r.outcome.machine.left };
+        r.pass r.output.turns r.output.missed r.output.status r.output.devices
+        r.output.machine.progress r.output.machine.stopped r.output.machine.left };
 
     fn take_turns<G: Gate>(
         self,
@@ -115,7 +115,7 @@ impl<P: Program, D: Devices<Sense = P::Sense, Act = P::Act>> Worker for GoingWor
         pass: Pass,
         gate: &G,
         turns: u32,
-    ) -> WorkerResult<GoingOutcome<P, D>> {
+    ) -> WorkerResult<GoingOutput<P, D>> {
         let GoingWorker {
             machine,
             opening: _,
@@ -128,7 +128,7 @@ impl<P: Program, D: Devices<Sense = P::Sense, Act = P::Act>> Worker for GoingWor
         WorkerResult {
             pass,
             journal,
-            outcome: GoingOutcome {
+            output: GoingOutput {
                 turns: ending.turns,
                 missed: ending.missed,
                 status: ending.status,
@@ -153,18 +153,18 @@ impl<P: Program, D: Devices<Sense = P::Sense, Act = P::Act>> RenewedWorker for G
 
     fn leaves<G: Gate>(_gate: &G) {}
 
-    fn status(outcome: &GoingOutcome<P, D>) -> Status {
-        outcome.status
+    fn status(output: &GoingOutput<P, D>) -> Status {
+        output.status
     }
 
-    fn go_on(outcome: GoingOutcome<P, D>, opening: &State) -> GoingWorker<P, D> {
-        let GoingOutcome {
+    fn go_on(output: GoingOutput<P, D>, opening: &State) -> GoingWorker<P, D> {
+        let GoingOutput {
             turns: _,
             missed: _,
             status: _,
             devices,
             machine,
-        } = outcome;
+        } = output;
         GoingWorker::new(machine, opening, devices)
     }
 }

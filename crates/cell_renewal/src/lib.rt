@@ -10,8 +10,8 @@ pub mod rounds;
 pub mod wired_laws;
 pub mod wired_worker;
 
-pub use going_worker::{GoingOutcome, GoingWorker};
+pub use going_worker::{GoingOutput, GoingWorker};
 pub use renewed::{Renewal, RenewalFault, run_renewed};
 pub use renewed_worker::RenewedWorker;
 pub use rounds::{Leave, Round, RoundSink};
-pub use wired_worker::{Devices, WiredOutcome, WiredWorker};
+pub use wired_worker::{Devices, WiredOutput, WiredWorker};

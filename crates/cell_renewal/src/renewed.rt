@@ -69,7 +69,7 @@ pub fn run_renewed<R, W1, W2, W3, W4, W5, W6, H, G, S>(
     gate: &G,
     sink: &mut S,
 ) -> Result<
-    Leave<W1::Outcome, W2::Outcome, W3::Outcome, W4::Outcome, W5::Outcome, W6::Outcome, H>,
+    Leave<W1::Output, W2::Output, W3::Output, W4::Output, W5::Output, W6::Output, H>,
     RenewalFault<S::Fault>,
 >
 where
@@ -80,12 +80,12 @@ where
     W4: RenewedWorker + Send,
     W5: RenewedWorker + Send,
     W6: RenewedWorker + Send,
-    W1::Outcome: Send,
-    W2::Outcome: Send,
-    W3::Outcome: Send,
-    W4::Outcome: Send,
-    W5::Outcome: Send,
-    W6::Outcome: Send,
+    W1::Output: Send,
+    W2::Output: Send,
+    W3::Output: Send,
+    W4::Output: Send,
+    W5::Output: Send,
+    W6::Output: Send,
     H: Watching,
     G: Gate + Sync,
     S: RoundSink,
@@ -141,12 +141,12 @@ fn take_round<R, W1, W2, W3, W4, W5, W6, H, G, S>(
         W4,
         W5,
         W6,
-        W1::Outcome,
-        W2::Outcome,
-        W3::Outcome,
-        W4::Outcome,
-        W5::Outcome,
-        W6::Outcome,
+        W1::Output,
+        W2::Output,
+        W3::Output,
+        W4::Output,
+        W5::Output,
+        W6::Output,
         H,
     >,
     RenewalFault<S::Fault>,
@@ -159,12 +159,12 @@ where
     W4: RenewedWorker + Send,
     W5: RenewedWorker + Send,
     W6: RenewedWorker + Send,
-    W1::Outcome: Send,
-    W2::Outcome: Send,
-    W3::Outcome: Send,
-    W4::Outcome: Send,
-    W5::Outcome: Send,
-    W6::Outcome: Send,
+    W1::Output: Send,
+    W2::Output: Send,
+    W3::Output: Send,
+    W4::Output: Send,
+    W5::Output: Send,
+    W6::Output: Send,
     H: Watching,
     G: Gate + Sync,
     S: RoundSink,
@@ -193,7 +193,7 @@ fn run_round<R, W1, W2, W3, W4, W5, W6, H, G, S>(
     gate: &G,
     sink: &mut S,
 ) -> Result<
-    Leave<W1::Outcome, W2::Outcome, W3::Outcome, W4::Outcome, W5::Outcome, W6::Outcome, H>,
+    Leave<W1::Output, W2::Output, W3::Output, W4::Output, W5::Output, W6::Output, H>,
     RenewalFault<S::Fault>,
 >
 where
@@ -204,12 +204,12 @@ where
     W4: RenewedWorker + Send,
     W5: RenewedWorker + Send,
     W6: RenewedWorker + Send,
-    W1::Outcome: Send,
-    W2::Outcome: Send,
-    W3::Outcome: Send,
-    W4::Outcome: Send,
-    W5::Outcome: Send,
-    W6::Outcome: Send,
+    W1::Output: Send,
+    W2::Output: Send,
+    W3::Output: Send,
+    W4::Output: Send,
+    W5::Output: Send,
+    W6::Output: Send,
     H: Watching,
     G: Gate + Sync,
     S: RoundSink,
@@ -222,7 +222,7 @@ where
     ensures may_go_on { IfOk result (λ left. (next : ModelState) → OpensAfter renewal.mark left.end next
         → MayAllGoOn W1.machine W2.machine W3.machine W4.machine W5.machine W6.machine W1.left W2.left W3.left
         W4.left W5.left W6.left
-        left.outcomes next) }
+        left.outputs next) }
 {
     gate.begin();
     states_are_sound(&opening);
@@ -238,7 +238,7 @@ where
         start,
         journals,
         end,
-        outcomes,
+        outputs,
     } = record;
     let round = Round {
         start,
@@ -250,14 +250,14 @@ where
     }
     Ok(Leave {
         end,
-        outcomes,
+        outputs,
         watch,
     })
 }
 
 // What comes after a round that left this.
 fn turn_over<W1, W2, W3, W4, W5, W6, H>(
-    left: Leave<W1::Outcome, W2::Outcome, W3::Outcome, W4::Outcome, W5::Outcome, W6::Outcome, H>,
+    left: Leave<W1::Output, W2::Output, W3::Output, W4::Output, W5::Output, W6::Output, H>,
     mark: u32,
 ) -> RoundEnd<
     W1,
@@ -266,12 +266,12 @@ fn turn_over<W1, W2, W3, W4, W5, W6, H>(
     W4,
     W5,
     W6,
-    W1::Outcome,
-    W2::Outcome,
-    W3::Outcome,
-    W4::Outcome,
-    W5::Outcome,
-    W6::Outcome,
+    W1::Output,
+    W2::Output,
+    W3::Output,
+    W4::Output,
+    W5::Output,
+    W6::Output,
     H,
 >
 where
@@ -285,22 +285,22 @@ where
     requires may_go_on { (next : ModelState) → OpensAfter mark left.end next
         → MayAllGoOn W1.machine W2.machine W3.machine W4.machine W5.machine W6.machine W1.left W2.left W3.left
         W4.left W5.left W6.left
-        left.outcomes next }
+        left.outputs next }
     ensures { IsTurnedOver W1.is_ready W2.is_ready W3.is_ready W4.is_ready W5.is_ready W6.is_ready
         W1.ended W2.ended W3.ended W4.ended W5.ended W6.ended
         W1.goes_on W2.goes_on W3.goes_on W4.goes_on W5.goes_on W6.goes_on mark left result }
 {
-    let all_fine = are_all_fine::<W1, W2, W3, W4, W5, W6>(&left.outcomes);
+    let all_fine = are_all_fine::<W1, W2, W3, W4, W5, W6>(&left.outputs);
     if !all_fine {
         return RoundEnd::Ends(left);
     }
     let Leave {
         end,
-        outcomes,
+        outputs,
         watch,
     } = left;
     let opening = opening_after(&end, mark);
-    let workers = all_go_on(outcomes, &opening);
+    let workers = all_go_on(outputs, &opening);
     RoundEnd::GoesOn(workers, watch, opening)
 }
 
@@ -317,7 +317,7 @@ fn opening_after(end: &State, mark: u32) -> State
 
 // Whether each of the six ended fine.
 fn are_all_fine<W1, W2, W3, W4, W5, W6>(
-    each: &PerMachine<W1::Outcome, W2::Outcome, W3::Outcome, W4::Outcome, W5::Outcome, W6::Outcome>,
+    each: &PerMachine<W1::Output, W2::Output, W3::Output, W4::Output, W5::Output, W6::Output>,
 ) -> bool
 where
     W1: RenewedWorker,
@@ -337,15 +337,15 @@ where
 }
 
 // Whether a worker ended fine.
-fn is_fine<W: RenewedWorker>(outcome: &W::Outcome) -> bool
-    ensures { IsTrue result ↔ (W.ended outcome.now ≡ Fine) }
+fn is_fine<W: RenewedWorker>(output: &W::Output) -> bool
+    ensures { IsTrue result ↔ (W.ended output.now ≡ Fine) }
 {
-    matches!(W::status(outcome), Status::Fine)
+    matches!(W::status(output), Status::Fine)
 }
 
 // The six workers that go on.
 fn all_go_on<W1, W2, W3, W4, W5, W6>(
-    each: PerMachine<W1::Outcome, W2::Outcome, W3::Outcome, W4::Outcome, W5::Outcome, W6::Outcome>,
+    each: PerMachine<W1::Output, W2::Output, W3::Output, W4::Output, W5::Output, W6::Output>,
     opening: &State,
 ) -> PerMachine<W1, W2, W3, W4, W5, W6>
 where

@@ -17,32 +17,32 @@ pub trait RenewedWorker: Worker {
     ghost use Rattle.cell_threads.specs.declared.worker_result.WorkerResult.{WorkerResult};
 
     // Of what it leaves: the machine, the state that this machine has left, and how it ended.
-    ghost machine: { Self.Outcome → Machine };
+    ghost machine: { Self.Output → Machine };
 
-    ghost left: { Self.Outcome → ModelState };
+    ghost left: { Self.Output → ModelState };
 
-    ghost ended: { Self.Outcome → Status };
+    ghost ended: { Self.Output → Status };
 
     // The worker that goes on with what was left where an interlock opens with this state.
-    ghost goes_on: { Self.Outcome → ModelState → Self → Type 0 };
+    ghost goes_on: { Self.Output → ModelState → Self → Type 0 };
 
     /// What it gives back leaves its pass's machine, with the state after what its pass has seen. It
     /// does nothing.
     fn leaves<G: Gate>(gate: &G)
-        ensures { (w : Self) (pass : PassView) (tries limit : ℕ) (r : WorkerResult Self.Outcome)
+        ensures { (w : Self) (pass : PassView) (tries limit : ℕ) (r : WorkerResult Self.Output)
             → Self.is_ready w pass
             → Self.gives_back w pass tries (G.may_answer gate.now pass.machine) limit r
-            → Leaves (machine r.outcome) (left r.outcome) pass r.pass };
+            → Leaves (machine r.output) (left r.output) pass r.pass };
 
     /// How the worker ended that left this.
-    fn status(outcome: &Self::Outcome) -> Status
-        ensures { result ≡ ended outcome.now };
+    fn status(output: &Self::Output) -> Status
+        ensures { result ≡ ended output.now };
 
     /// The worker that goes on where an interlock opens with this state. What the machine knows of
     /// the state that it has left is so in this one.
-    fn go_on(outcome: Self::Outcome, opening: &State) -> Self
-        requires same { IsSameFor (machine outcome) (left outcome) opening.now }
-        ensures goes_on { goes_on outcome opening.now result }
-        ensures ready { (pass : PassView) → pass.machine ≡ machine outcome → pass.opening ≡ opening.now
+    fn go_on(output: Self::Output, opening: &State) -> Self
+        requires same { IsSameFor (machine output) (left output) opening.now }
+        ensures goes_on { goes_on output opening.now result }
+        ensures ready { (pass : PassView) → pass.machine ≡ machine output → pass.opening ≡ opening.now
             → Self.is_ready result pass };
 }

@@ -22,7 +22,7 @@ pub struct Leave<A, B, C, D, E, F, H> {
     /// The state that the interlock closed with.
     pub end: State,
     /// What each worker left.
-    pub outcomes: PerMachine<A, B, C, D, E, F>,
+    pub outputs: PerMachine<A, B, C, D, E, F>,
     /// The watch.
     pub watch: H,
 }

@@ -57,7 +57,7 @@ pub struct WiredWorker<P, D> {
 
 /// What is left of such a machine after its turns.
 #[derive(Drop)]
-pub struct WiredOutcome<D> {
+pub struct WiredOutput<D> {
     /// How many turns it took.
     pub turns: u32,
     /// In how many cycles its sensors showed nothing.
@@ -102,14 +102,14 @@ impl<P: Program, D: Devices<Sense = P::Sense, Act = P::Act>> Worker for WiredWor
     ghost use Rattle.std.specs.Prelude.{◌≡◌, None};
     ghost use Rattle.cell_renewal.specs.WiredWorkers.{IsWiredResult, wired_moment};
 
-    type Outcome = WiredOutcome<D>;
+    type Output = WiredOutput<D>;
 
     ghost is_ready = { λ w pass. (pass.machine ≡ (P.steps w.program).machine) × (pass.opening ≡ w.opening) };
 
     ghost gives_back = { λ w pass tries gate limit r.
         IsWiredResult tries (P.steps w.program) D.shows D.sets gate limit
         (wired_moment pass ((P.steps w.program).start w.opening) None w.devices 0 0)
-        r.pass r.outcome.turns r.outcome.missed r.outcome.status r.outcome.devices };
+        r.pass r.output.turns r.output.missed r.output.status r.output.devices };
 
     fn take_turns<G: Gate>(
         self,
@@ -118,7 +118,7 @@ impl<P: Program, D: Devices<Sense = P::Sense, Act = P::Act>> Worker for WiredWor
         pass: Pass,
         gate: &G,
         turns: u32,
-    ) -> WorkerResult<WiredOutcome<D>> {
+    ) -> WorkerResult<WiredOutput<D>> {
         let WiredWorker {
             program,
             opening,
@@ -131,7 +131,7 @@ impl<P: Program, D: Devices<Sense = P::Sense, Act = P::Act>> Worker for WiredWor
         WorkerResult {
             pass,
             journal,
-            outcome: WiredOutcome {
+            output: WiredOutput {
                 turns: ending.turns,
                 missed: ending.missed,
                 status: ending.status,
@@ -165,15 +165,15 @@ pub(crate) fn take_wired_turns<'a, P: Program, D: Devices<Sense = P::Sense, Act 
         missed: 0,
     };
     for cycle in 0..cycles {
-        if wired.stopped().is_some() {
-            return done.ending(status_of(wired.stopped()));
+        if wired.stopped_by().is_some() {
+            return done.ending(status_of(wired.stopped_by()));
         }
         if !gate.pass(machine, cycle) {
             return done.ending(Status::GateLimit);
         }
         done = take_cycle(wired, devices, gate, done);
     }
-    done.ending(status_of(wired.stopped()))
+    done.ending(status_of(wired.stopped_by()))
 }
 
 /// One cycle of a machine that runs, once its gate has let it begin: a turn if the sensors show

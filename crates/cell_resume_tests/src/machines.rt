@@ -130,7 +130,7 @@ impl<F1: Gauge, F2: Gauge, F3: Gauge, F4: Gauge, F5: Gauge> Machines<'_, F1, F2,
 
 fn state_left_by(feed: Wired<Resumed<FeedProgram>, PassLine<'_>>) -> State {
     let (feed, _) = feed.unwire();
-    feed.left()
+    feed.last_state()
 }
 
 /// The bytes of a cell at its start.

@@ -143,7 +143,7 @@ impl State {
     }
 
     /// Whether the cell is stopped.
-    pub fn stopped(&self) -> bool
+    pub fn is_stopped(&self) -> bool
         ensures { result ≡ self.now.stopped }
     {
         self.stopped

@@ -12,7 +12,7 @@ use std::alloc::Global;
 const BARRED: &str = "bb.bbb..bb.b.b..bb..b.b..b.b..bb..bb.b..b...b...bb.....";
 
 /// The answer to a machine's call at the bench.
-fn asked(bench: &mut Bench, machine: Machine, call: Call) -> Option<Answer> {
+fn answer_at(bench: &mut Bench, machine: Machine, call: Call) -> Option<Answer> {
     bench.seat(machine, false);
     match bench.ask(call) {
         Ok(Reply::Settled(answer, _)) => Some(answer),
@@ -27,7 +27,7 @@ fn done_of(bench: &mut Bench, first: usize, count: usize) -> usize {
     let mut done = 0usize;
     for at in first..last {
         let (machine, call) = round[at];
-        if asked(bench, machine, call) == Some(Answer::Done) {
+        if answer_at(bench, machine, call) == Some(Answer::Done) {
             done = done.saturating_add(1);
         }
     }
@@ -80,7 +80,7 @@ fn is_next_right(bench: &mut Bench, count: usize) -> bool {
             } else {
                 Answer::Done
             };
-            asked(bench, *machine, *call) == Some(wanted)
+            answer_at(bench, *machine, *call) == Some(wanted)
         }
         (next, letter) => next.is_none() && letter.is_none(),
     }
@@ -90,14 +90,14 @@ fn is_next_right(bench: &mut Bench, count: usize) -> bool {
 /// answer was right.
 fn is_stopped_well(bench: &mut Bench, count: usize) -> bool {
     let open = bench.state();
-    let stops = asked(bench, Machine::Watch, Call::Stop) == Some(Answer::Done);
+    let stops = answer_at(bench, Machine::Watch, Call::Stop) == Some(Answer::Done);
     let stopped = bench.state();
     stops
-        && stopped.stopped()
+        && stopped.is_stopped()
         && right_of(&open, &stopped) == 343
         && is_next_right(bench, count)
-        && asked(bench, Machine::Watch, Call::Resume) == Some(Answer::Done)
-        && !bench.state().stopped()
+        && answer_at(bench, Machine::Watch, Call::Resume) == Some(Answer::Done)
+        && !bench.state().is_stopped()
 }
 
 // The word after the round and after a round with a stop and a resume.

@@ -407,7 +407,7 @@ fn is_told(answer: Answer, told: &str) -> bool {
 
 /// The answer to a call on the state of a word, if state, word and bench have the same answer and
 /// the same state after it.
-fn answered(alloc: Global, word: u64, machine: Machine, call: Call) -> Option<Answer> {
+fn answer_to(alloc: Global, word: u64, machine: Machine, call: Call) -> Option<Answer> {
     let mut state = unpack(word)?;
     let mut bench = Bench::new(alloc, state);
     bench.seat(machine, false);
@@ -428,7 +428,7 @@ fn right_of(alloc: Global, word: u64, machine: Machine, rows: &[&str]) -> u32 {
             let Some(call) = calls.next() else {
                 return 0;
             };
-            let answer = answered(alloc, word, machine, *call);
+            let answer = answer_to(alloc, word, machine, *call);
             if answer.is_some_and(|answer| is_told(answer, told)) {
                 right = right.saturating_add(1);
             }
@@ -438,7 +438,7 @@ fn right_of(alloc: Global, word: u64, machine: Machine, rows: &[&str]) -> u32 {
 }
 
 fn is_stopped(word: u64) -> bool {
-    unpack(word).is_some_and(|state| state.stopped() && pack(&state) == word)
+    unpack(word).is_some_and(|state| state.is_stopped() && pack(&state) == word)
 }
 
 #[test]
@@ -635,7 +635,7 @@ const STEPS: &[(u64, Machine, Call, Answer, u64)] = &[
 #[test]
 fn stops_and_resumes(rt: HostRuntime) {
     for (word, machine, call, answer, next) in STEPS {
-        let told = answered(rt.alloc(), *word, *machine, *call);
+        let told = answer_to(rt.alloc(), *word, *machine, *call);
         assert!(rt; told == Some(*answer), "{word} {call:?}");
         let stepped = step_word(*word, *machine, *call);
         assert!(rt; stepped == Some((*answer, *next)), "{word} {call:?}");
@@ -657,7 +657,7 @@ const MARKED: &[(u64, Option<bool>)] = &[
 
 fn is_marked(word: u64, stopped: Option<bool>) -> bool {
     match unpack(word) {
-        Some(state) => stopped == Some(state.stopped()) && pack(&state) == word,
+        Some(state) => stopped == Some(state.is_stopped()) && pack(&state) == word,
         None => stopped.is_none(),
     }
 }
@@ -673,7 +673,7 @@ fn marks_of_words(rt: HostRuntime) {
 fn marks(places: [bool; 10], stopped: bool) -> Option<(bool, bool)> {
     let state = State::start(places, 0).ok()?;
     let marked = State::from_parts(state.zones(), state.full(), state.stamp(), stopped)?;
-    Some((state.stopped(), marked.stopped()))
+    Some((state.is_stopped(), marked.is_stopped()))
 }
 
 #[test]

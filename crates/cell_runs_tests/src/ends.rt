@@ -60,7 +60,7 @@ const FIRST: Row = Row {
 };
 
 // A plate is carried.
-fn carried() -> &'static [Row] {
+fn carry_rows() -> &'static [Row] {
     CARRIED
 }
 
@@ -107,7 +107,7 @@ const CARRIED: &[Row] = &[
 ];
 
 // A machine waits, gets Busy, or is worn.
-fn waiting() -> &'static [Row] {
+fn wait_rows() -> &'static [Row] {
     WAITING
 }
 
@@ -231,7 +231,7 @@ const WAITING: &[Row] = &[
 ];
 
 // The watch stops the cell.
-fn stopped() -> &'static [Row] {
+fn stop_rows() -> &'static [Row] {
     STOPPED
 }
 
@@ -473,7 +473,7 @@ fn is_met_by(alloc: Global, row: &Row, gauges: Gauges, on_lines: &RunRecord) -> 
 
 #[test]
 fn runs_end_so(rt: HostRuntime) -> Result<(), Fail> {
-    for rows in [carried(), waiting(), stopped()] {
+    for rows in [carry_rows(), wait_rows(), stop_rows()] {
         for row in rows {
             assert!(rt; is_met(rt.alloc(), row)?);
         }
@@ -516,7 +516,7 @@ const ASKED: [(u64, u64); 7] = [(2, 0), (2, 0), (0, 1), (2, 0), (2, 0), (0, 0), 
 // for memory. If the watch had no memory to resume, the others may be refused.
 fn lacks_but_memory(record: &RunRecord) -> bool {
     let stays_stopped = match record.end {
-        Some(end) => end.stopped(),
+        Some(end) => end.is_stopped(),
         None => false,
     };
     for machine in 0..7usize {

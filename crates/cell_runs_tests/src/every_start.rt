@@ -29,7 +29,7 @@ enum Order {
 const COUNT: usize = 3_000;
 
 // The next of a row of random numbers.
-fn drawn_after(number: u32) -> u32 {
+fn number_after(number: u32) -> u32 {
     number.wrapping_mul(1_664_525).wrapping_add(1_013_904_223)
 }
 
@@ -37,7 +37,7 @@ fn turns_in(alloc: Global, order: Order) -> Result<Vec<Turn>, Fail> {
     let mut turns = Vec::new(alloc);
     let mut number = 7;
     for at in 0..COUNT {
-        number = drawn_after(number);
+        number = number_after(number);
         let drawn = number >> 16;
         let (machine, busy) = match order {
             Order::InTurn => (WORKING[at % 6], false),

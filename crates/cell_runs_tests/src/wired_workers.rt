@@ -10,7 +10,7 @@ use cell_control::{CtlFault, Program, Told};
 use cell_devices::{CraneAct, DepositAct, FeedAct, Motor, PressAct, RobotAct, TableAct};
 use cell_haul::{CraneProgram, DepositProgram, FeedProgram};
 use cell_notes::Status;
-use cell_renewal::{Devices, WiredOutcome, WiredWorker};
+use cell_renewal::{Devices, WiredOutput, WiredWorker};
 use cell_robot::RobotProgram;
 use cell_rules::State;
 use cell_stations::{PressProgram, TableProgram};
@@ -89,13 +89,13 @@ fn still<P: Program>(
 }
 
 /// What is left of the six machines.
-type SixOutcomes = SixRecord<
-    WiredOutcome<Recorder<FeedSense, FeedAct>>,
-    WiredOutcome<Recorder<TableSense, TableAct>>,
-    WiredOutcome<Recorder<RobotSense, RobotAct>>,
-    WiredOutcome<Recorder<PressSense, PressAct>>,
-    WiredOutcome<Recorder<DepositSense, DepositAct>>,
-    WiredOutcome<Recorder<CraneSense, CraneAct>>,
+type SixOutputs = SixRecord<
+    WiredOutput<Recorder<FeedSense, FeedAct>>,
+    WiredOutput<Recorder<TableSense, TableAct>>,
+    WiredOutput<Recorder<RobotSense, RobotAct>>,
+    WiredOutput<Recorder<PressSense, PressAct>>,
+    WiredOutput<Recorder<DepositSense, DepositAct>>,
+    WiredOutput<Recorder<CraneSense, CraneAct>>,
 >;
 
 // The points of the arms and the gripper, of the robot's rotation, and of the table's.
@@ -115,7 +115,7 @@ fn run_by<R, F1, F2, F3, F4, F5>(
     points: AxisPoints,
     press: Recorder<PressSense, PressAct>,
     turns: u32,
-) -> Result<SixOutcomes, RunFault>
+) -> Result<SixOutputs, RunFault>
 where
     R: Threads + Wait + Sync,
     F1: Gauge + Send,
@@ -190,7 +190,7 @@ fn run_until<R: Threads + Wait + Sync>(
     good: u32,
     then: Option<PressSense>,
     turns: u32,
-) -> Result<Result<SixOutcomes, RunFault>, Fail> {
+) -> Result<Result<SixOutputs, RunFault>, Fail> {
     let opening = State::start([false; 10], 0)?;
     let points = AxisPoints {
         arm: Points::new(0, 1000, 0, 1000, 5)?,
@@ -254,15 +254,15 @@ const ROWS: &[Row] = &[
 
 // Whether a machine has had all its turns, in each of which its devices were read and set once, and
 // is fine.
-fn has_gone_on<S, A>(outcome: &WiredOutcome<Recorder<S, A>>, turns: u32) -> bool {
-    let devices = &outcome.devices;
-    (outcome.turns, outcome.missed, devices.reads, devices.sets) == (turns, 0, turns, turns)
-        && outcome.status == Status::Fine
+fn has_gone_on<S, A>(output: &WiredOutput<Recorder<S, A>>, turns: u32) -> bool {
+    let devices = &output.devices;
+    (output.turns, output.missed, devices.reads, devices.sets) == (turns, 0, turns, turns)
+        && output.status == Status::Fine
 }
 
 // Whether the machines other than the press have gone on.
-fn have_others_gone_on(run: &SixOutcomes, turns: u32) -> bool {
-    let six = &run.outcomes;
+fn have_others_gone_on(run: &SixOutputs, turns: u32) -> bool {
+    let six = &run.outputs;
     has_gone_on(&six.feed, turns)
         && has_gone_on(&six.table, turns)
         && has_gone_on(&six.robot, turns)
@@ -276,7 +276,7 @@ fn ends_so<R: Threads + Wait + Sync>(rt: &R, alloc: Global, row: &Row) -> Result
     let (good, then, limit, (turns, missed, status, motor, fault)) = *row;
     let run = run_until(rt, alloc, good, then, limit)??;
     let cycles = turns.saturating_add(missed);
-    let press = &run.outcomes.press;
+    let press = &run.outputs.press;
     let devices = &press.devices;
     let is_told = match devices.last {
         Some(told) => (told.act.press, told.fault) == (motor, fault),

@@ -7,7 +7,7 @@ use Rattle.cell_rules.specs.Names.{ModelState, own_events, Reached, event, Settl
 use Rattle.cell_rules.specs.declared.heard.LineFault.{LineFault}
 use Rattle.cell_rules.proofs.ProgramLemmas.{reached-moves, reached-settles, reached-waits}
 use Rattle.cell_rules.proofs.SeenLemmas.{own-push}
-use Rattle.cell_control.specs.Names.{fault_of, Steps, waits_out, outcome, Performed, PerformsCall, PerformsSensed, Turned, Turns, at_rest, turned}
+use Rattle.cell_control.specs.Names.{fault_of, Steps, waits_out, step_after_reply, Performed, PerformsCall, PerformsSensed, Turned, Turns, at_rest, turned}
 use Rattle.cell_control.specs.declared.fault.CtlFault.{CtlFault}
 use Rattle.cell_control.specs.declared.fault.CtlFault.TheVariants as fault
 use Rattle.cell_team.specs.Names.{HasCome, DrivesOn, program_with_stops, IsStoppedBy}
@@ -73,7 +73,7 @@ module _ {S Sense Reading Act : Type 0} (t : Steps S Sense Reading Act) (o : Mod
     not_again = λ f. not_again (fault_of r) r refl (the_fault (fault_of r) fault.Stopped f);
   }
 
-  answered : (p : S) (c : Call) (r : Result Reply LineFault) (before now : List Event) → (t.row p).call ≡ Some c → Sees t.machine c r before now → HasCome t o before p → StandsAs now (turned p (at_rest (t.rest p) (outcome t p r)))
+  answered : (p : S) (c : Call) (r : Result Reply LineFault) (before now : List Event) → (t.row p).call ≡ Some c → Sees t.machine c r before now → HasCome t o before p → StandsAs now (turned p (at_rest (t.rest p) (step_after_reply t p r)))
   answered p c (Ok (Settled Done stamp)) before now e seen k = fine now None (t.row p).next (reached-settles (program_with_stops t) (t.start o) p (t.row p).next t.machine c Done before now seen k e (inl refl)) (λ x f. cc) (λ f. cc)
   answered p c (Ok (Settled (Shown m b q) stamp)) before now e seen k =
       fine now None (t.after_inquiry p m b q) (reached-settles (program_with_stops t) (t.start o) p (t.after_inquiry p m b q) t.machine c (Shown m b q) before now seen k e (inl refl)) (λ x f. cc) (λ f. cc)

@@ -5,7 +5,7 @@ use Rattle.cell_calib.specs.declared.sense.SensorFault.{SensorFault}
 use Rattle.cell_rules.specs.declared.heard.LineFault.{LineFault}
 use Rattle.cell_interlock.specs.Views.{PassView}
 use Rattle.cell_interlock.specs.Lines.{PassAsks}
-use Rattle.cell_control.specs.Names.{Rig, Steps, outcome, Performed, PerformsCall, PerformsSensed, Turned, Turns, at_rest, turned}
+use Rattle.cell_control.specs.Names.{Rig, Steps, step_after_reply, Performed, PerformsCall, PerformsSensed, Turned, Turns, at_rest, turned}
 use Rattle.cell_control.specs.declared.fault.CtlFault.{CtlFault}
 use Rattle.cell_control.proofs.TurnMaps.{turn_either}
 use Rattle.cell_notes.specs.Names.{TurnCall}
@@ -28,11 +28,11 @@ module _ {S Sense Reading Act : Type 0} (t : Steps S Sense Reading Act) (same : 
   Asks c a = asks c a × (asked ≡ Some (c, a))
 
   abbrev led : S → Performed S Act
-  led p = at_rest (t.rest p) (outcome t p r)
+  led p = at_rest (t.rest p) (step_after_reply t p r)
 
   answered_call : (o : Option Call) (p : S) (reading : Reading) (x : Performed S Act) → PerformsCall t o Same Asks p reading x → x ≡ led p
   answered_call None p reading x h = absurd (nothing_is_asked _ (sym h.0.1 ∙ is))
-  answered_call (Some c) p reading x h = h.2 ∙ ap (λ a. at_rest (t.rest p) (outcome t p a)) (ap (answered r) (sym h.1.1 ∙ is))
+  answered_call (Some c) p reading x h = h.2 ∙ ap (λ a. at_rest (t.rest p) (step_after_reply t p a)) (ap (answered r) (sym h.1.1 ∙ is))
 
   answered_sensed : (sensed : Result Reading SensorFault) (p : S) (x : Performed S Act) → PerformsSensed t sensed Same Asks p x → x ≡ led p
   answered_sensed (Err fault) p x h = absurd (nothing_is_asked _ (sym h.0.1 ∙ is))
@@ -61,7 +61,7 @@ module _ {S Sense Reading Act State : Type 0} (tries : ℕ) (t : Steps S Sense R
 
   -- the machine's side after its turn
   pub side_answered : (call : Call) (r : Result Reply LineFault) → turn.asked ≡ Some (call, r)
-      → now.side ≡ side_moved rig (side_set t rig before.side (Some (call, r)) (turned before.side.progress (at_rest (t.rest before.side.progress) (outcome t before.side.progress r))))
+      → now.side ≡ side_moved rig (side_set t rig before.side (Some (call, r)) (turned before.side.progress (at_rest (t.rest before.side.progress) (step_after_reply t before.side.progress r))))
   side_answered call r is =
       let led = answered_turn t Stays Calls turn.asked call r is before.side.stopped before.side.progress acts.sense acts.turned acts.row in
       turn.row.moved ∙ ap (side_moved rig) (acts.is ∙ (λ i. side_set t rig before.side (is i) (led i)))

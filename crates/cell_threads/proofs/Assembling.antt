@@ -7,7 +7,7 @@ use Rattle.cell_interlock.specs.Fresh.{AreFresh, fresh_pass}
 use Rattle.cell_interlock.specs.declared.pass.Passes.{Passes}
 use Rattle.cell_interlock.specs.Ends.{ArePassesOf, IsEnd, pass_in}
 use Rattle.cell_threads.specs.Workers.{GateOf}
-use Rattle.cell_threads.specs.Results.{SixResults, outcomes_in, passes_in, seen_in}
+use Rattle.cell_threads.specs.Results.{SixResults, outputs_in, passes_in, seen_in}
 use Rattle.cell_threads.specs.Promises.{AreAllFresh, GiveBack, GivesOf, SixPasses, six_of}
 use Rattle.cell_threads.specs.Six.{TellsSix, six_fresh}
 use Rattle.cell_threads.specs.Watching.{HasWatched, HaveWorked, TellsWatched, WatchesOf, journal_with, seen_with}
@@ -78,15 +78,15 @@ module _ {W1 W2 W3 W4 W5 W6 A B C D E F H : Type 0} (gives1 : GivesOf W1 A) (giv
         let k = closed.audited in
         record { legal = k.legal; own = λ m. k.own m ∙ ap (map (event_by m)) (noted_by m); noted = λ m. k.noted m ∙ noted_by m; ends = k.ends }
 
-    told : r.start ≡ i.opening → r.outcomes ≡ outcomes_in results → TellsWatched gives1 gives2 gives3 gives4 gives5 gives6 watches workers watch i.opening i.tries limit gate r watched.outcome
-    told start outcomes =
+    told : r.start ≡ i.opening → r.outputs ≡ outputs_in results → TellsWatched gives1 gives2 gives3 gives4 gives5 gives6 watches workers watch i.opening i.tries limit gate r watched.output
+    told start outputs =
         record {
           interlock = i;
           opened = refl;
           losing = refl;
           results = results;
           given = given;
-          outcomes = outcomes;
+          outputs = outputs;
           watched = watched;
           watched_so = watched_so;
           watch_is = refl;
@@ -99,11 +99,11 @@ module _ {W1 W2 W3 W4 W5 W6 A B C D E F H : Type 0} (gives1 : GivesOf W1 A) (giv
           end = closed.reached;
         }
 
-    pub tells_watched : (opening : ModelState) (tries : ℕ) → i.opening ≡ opening → i.tries ≡ tries → r.start ≡ opening → r.outcomes ≡ outcomes_in results
-        → TellsWatched gives1 gives2 gives3 gives4 gives5 gives6 watches workers watch opening tries limit gate r watched.outcome
-    tells_watched opening tries opened losing start outcomes =
-        subst (λ n. TellsWatched gives1 gives2 gives3 gives4 gives5 gives6 watches workers watch opening n limit gate r watched.outcome) losing
-        (subst (λ s. TellsWatched gives1 gives2 gives3 gives4 gives5 gives6 watches workers watch s i.tries limit gate r watched.outcome) opened (told (start ∙ sym opened) outcomes))
+    pub tells_watched : (opening : ModelState) (tries : ℕ) → i.opening ≡ opening → i.tries ≡ tries → r.start ≡ opening → r.outputs ≡ outputs_in results
+        → TellsWatched gives1 gives2 gives3 gives4 gives5 gives6 watches workers watch opening tries limit gate r watched.output
+    tells_watched opening tries opened losing start outputs =
+        subst (λ n. TellsWatched gives1 gives2 gives3 gives4 gives5 gives6 watches workers watch opening n limit gate r watched.output) losing
+        (subst (λ s. TellsWatched gives1 gives2 gives3 gives4 gives5 gives6 watches workers watch s i.tries limit gate r watched.output) opened (told (start ∙ sym opened) outputs))
 
 -- a watch that does nothing: the record is of the six alone
 module _ {W1 W2 W3 W4 W5 W6 A B C D E F H : Type 0} (gives1 : GivesOf W1 A) (gives2 : GivesOf W2 B) (gives3 : GivesOf W3 C) (gives4 : GivesOf W4 D) (gives5 : GivesOf W5 E) (gives6 : GivesOf W6 F)
@@ -126,7 +126,7 @@ module _ {W1 W2 W3 W4 W5 W6 A B C D E F H : Type 0} (gives1 : GivesOf W1 A) (giv
         losing = k.losing;
         results = k.results;
         given = k.given;
-        outcomes = k.outcomes;
+        outputs = k.outputs;
         history = k.history;
         lawful = k.lawful;
         seen = λ m. subst (λ h. Waits m h k.history) (seen_alone m) (k.seen m);

@@ -56,13 +56,13 @@ module _ {A B C D E F : Type 0} where
       }
 
   -- what else each gave
-  abbrev pub outcomes_in : SixResults A B C D E F → PerMachine A B C D E F
-  outcomes_in results =
+  abbrev pub outputs_in : SixResults A B C D E F → PerMachine A B C D E F
+  outputs_in results =
       record {
-        feed = results.feed.outcome;
-        table = results.table.outcome;
-        robot = results.robot.outcome;
-        press = results.press.outcome;
-        deposit = results.deposit.outcome;
-        crane = results.crane.outcome;
+        feed = results.feed.output;
+        table = results.table.output;
+        robot = results.robot.output;
+        press = results.press.output;
+        deposit = results.deposit.output;
+        crane = results.crane.output;
       }

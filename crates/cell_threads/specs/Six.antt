@@ -6,7 +6,7 @@ use Rattle.cell_interlock.specs.Views.{PassView, InterlockView}
 use Rattle.cell_interlock.specs.Fresh.{fresh_pass}
 use Rattle.cell_threads.specs.Workers.{GateOf}
 use Rattle.cell_threads.specs.Promises.{AreReady, GiveBack, GivesOf, SixPasses}
-use Rattle.cell_threads.specs.Results.{SixResults, outcomes_in, seen_in}
+use Rattle.cell_threads.specs.Results.{SixResults, outputs_in, seen_in}
 use Rattle.cell_threads.specs.declared.per_machine.PerMachine.{PerMachine}
 use Rattle.cell_threads.specs.declared.six.SixRecord.{SixRecord}
 
@@ -42,7 +42,7 @@ pub record TellsSix {W1 W2 W3 W4 W5 W6 A B C D E F : Type 0} (gives1 : GivesOf W
   pub results : SixResults A B C D E F
   pub given : GiveBack gives1 gives2 gives3 gives4 gives5 gives6 workers
       (six_fresh interlock) interlock.tries gate limit results
-  pub outcomes : r.outcomes ≡ outcomes_in results
+  pub outputs : r.outputs ≡ outputs_in results
   pub history : List Event
   pub lawful : LawfulThroughout opening history
   pub seen : (m : Machine) → Waits m (seen_in results m) history

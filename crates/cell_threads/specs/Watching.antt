@@ -7,7 +7,7 @@ use Rattle.cell_interlock.specs.Views.{PassView, InterlockView}
 use Rattle.cell_interlock.specs.Fresh.{IsFresh, fresh_pass}
 use Rattle.cell_threads.specs.Workers.{GateOf, IsGivenBack}
 use Rattle.cell_threads.specs.Promises.{AreAllFresh, AreReady, GiveBack, GivesOf, SixPasses}
-use Rattle.cell_threads.specs.Results.{SixResults, journal_in, outcomes_in, seen_in}
+use Rattle.cell_threads.specs.Results.{SixResults, journal_in, outputs_in, seen_in}
 use Rattle.cell_threads.specs.Six.{six_fresh}
 use Rattle.cell_threads.specs.declared.per_machine.PerMachine.{PerMachine}
 use Rattle.cell_threads.specs.declared.six.SixRecord.{SixRecord}
@@ -21,7 +21,7 @@ WatchesOf H = H → PassView → ℕ → PassView → H → Type 0
 pub record HasWatched {H : Type 0} (watches : WatchesOf H) (tries : ℕ) (watch : H) (got : PassView)
     (back : WorkerResult H) : Type 0 where
   pub given : IsGivenBack got back.pass back.journal.items
-  pub does : watches watch got tries back.pass back.outcome
+  pub does : watches watch got tries back.pass back.output
 
 -- what the six and the watch need to begin over an interlock: each has a fresh pass of its machine, and the six are
 -- ready
@@ -67,10 +67,10 @@ pub record TellsWatched {W1 W2 W3 W4 W5 W6 A B C D E F H : Type 0} (gives1 : Giv
   pub results : SixResults A B C D E F
   pub given : GiveBack gives1 gives2 gives3 gives4 gives5 gives6 workers
       (six_fresh interlock) interlock.tries gate limit results
-  pub outcomes : r.outcomes ≡ outcomes_in results
+  pub outputs : r.outputs ≡ outputs_in results
   pub watched : WorkerResult H
   pub watched_so : HasWatched watches interlock.tries watch (fresh_pass interlock Watch) watched
-  pub watch_is : watch_after ≡ watched.outcome
+  pub watch_is : watch_after ≡ watched.output
   pub history : List Event
   pub lawful : LawfulThroughout opening history
   pub seen : (m : Machine) → Waits m (seen_with results watched.pass m) history

@@ -21,4 +21,4 @@ pub use per_machine::PerMachine;
 pub use six::{SixRecord, run_watched, run_workers};
 pub use watching::{NoWatch, Watching};
 pub use worker::Worker;
-pub use worker_result::{UnitOutcome, WorkerResult};
+pub use worker_result::{UnitOutput, WorkerResult};

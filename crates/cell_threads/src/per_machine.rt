@@ -3,7 +3,7 @@ ghost use Rattle.std.specs.Prelude.{◌≡◌, IfSome};
 ghost use Rattle.cell_types.specs.declared.machine.Machine.{Machine};
 ghost use Rattle.cell_types.specs.Journals.{journal_of};
 ghost use Rattle.cell_threads.specs.Promises.{six_of};
-ghost use Rattle.cell_threads.specs.Results.{AreAllThere, outcomes_in, passes_in};
+ghost use Rattle.cell_threads.specs.Results.{AreAllThere, outputs_in, passes_in};
 ghost use Rattle.cell_threads.specs.Watching.{journal_with};
 
 use crate::worker_result::WorkerResult;
@@ -100,7 +100,7 @@ pub(crate) fn into_parts<A, B, C, D, E, F>(
 ) -> (Journals, Passes, PerMachine<A, B, C, D, E, F>)
     ensures journals { (m : Machine) → journal_of result.0 m ≡ journal_with results journal.items m }
     ensures passes { result.1 ≡ passes_in results watch }
-    ensures outcomes { result.2 ≡ outcomes_in results }
+    ensures outputs { result.2 ≡ outputs_in results }
 {
     let PerMachine {
         feed,
@@ -128,13 +128,13 @@ pub(crate) fn into_parts<A, B, C, D, E, F>(
         crane: crane.pass,
         watch,
     };
-    let outcomes = PerMachine {
-        feed: feed.outcome,
-        table: table.outcome,
-        robot: robot.outcome,
-        press: press.outcome,
-        deposit: deposit.outcome,
-        crane: crane.outcome,
+    let outputs = PerMachine {
+        feed: feed.output,
+        table: table.output,
+        robot: robot.output,
+        press: press.output,
+        deposit: deposit.output,
+        crane: crane.output,
     };
-    (journals, passes, outcomes)
+    (journals, passes, outputs)
 }

@@ -28,7 +28,7 @@ pub struct SixRecord<A, B, C, D, E, F> {
     /// The state that the interlock closed with.
     pub end: State,
     /// What else each worker gave back.
-    pub outcomes: PerMachine<A, B, C, D, E, F>,
+    pub outputs: PerMachine<A, B, C, D, E, F>,
 }
 
 /// Runs six workers, whose machines are the six. Each takes up to `turns` turns in a thread of its
@@ -52,7 +52,7 @@ pub fn run_workers<R, W1, W2, W3, W4, W5, W6, G>(
     turns: u32,
     gate: &G,
 ) -> Result<
-    SixRecord<W1::Outcome, W2::Outcome, W3::Outcome, W4::Outcome, W5::Outcome, W6::Outcome>,
+    SixRecord<W1::Output, W2::Output, W3::Output, W4::Output, W5::Output, W6::Output>,
     RunFault,
 >
 where
@@ -63,12 +63,12 @@ where
     W4: Worker + Send,
     W5: Worker + Send,
     W6: Worker + Send,
-    W1::Outcome: Send,
-    W2::Outcome: Send,
-    W3::Outcome: Send,
-    W4::Outcome: Send,
-    W5::Outcome: Send,
-    W6::Outcome: Send,
+    W1::Output: Send,
+    W2::Output: Send,
+    W3::Output: Send,
+    W4::Output: Send,
+    W5::Output: Send,
+    W6::Output: Send,
     G: Gate + Sync,
     requires ready { AreReadyAt W1.is_ready W2.is_ready W3.is_ready W4.is_ready W5.is_ready W6.is_ready opening
         workers }
@@ -98,7 +98,7 @@ pub fn run_watched<R, W1, W2, W3, W4, W5, W6, H, G>(
     gate: &G,
 ) -> Result<
     (
-        SixRecord<W1::Outcome, W2::Outcome, W3::Outcome, W4::Outcome, W5::Outcome, W6::Outcome>,
+        SixRecord<W1::Output, W2::Output, W3::Output, W4::Output, W5::Output, W6::Output>,
         H,
     ),
     RunFault,
@@ -111,12 +111,12 @@ where
     W4: Worker + Send,
     W5: Worker + Send,
     W6: Worker + Send,
-    W1::Outcome: Send,
-    W2::Outcome: Send,
-    W3::Outcome: Send,
-    W4::Outcome: Send,
-    W5::Outcome: Send,
-    W6::Outcome: Send,
+    W1::Output: Send,
+    W2::Output: Send,
+    W3::Output: Send,
+    W4::Output: Send,
+    W5::Output: Send,
+    W6::Output: Send,
     H: Watching,
     G: Gate + Sync,
     requires ready { AreReadyAt W1.is_ready W2.is_ready W3.is_ready W4.is_ready W5.is_ready W6.is_ready opening
@@ -140,15 +140,15 @@ where
     let WorkerResult {
         pass,
         journal,
-        outcome: watch,
+        output: watch,
     } = watched;
-    let (journals, passes, outcomes) = into_parts(results, pass, journal);
+    let (journals, passes, outputs) = into_parts(results, pass, journal);
     let ended = interlock.close(passes);
     let record = SixRecord {
         start: opening,
         journals,
         end: ended.state,
-        outcomes,
+        outputs,
     };
     Ok((record, watch))
 }

@@ -33,7 +33,7 @@ pub(crate) struct WorkerPromise<W, G> {
     turns: u32,
 }
 
-impl<W: Worker, G: Gate> Promise<WorkerResult<W::Outcome>> for WorkerPromise<W, G> {
+impl<W: Worker, G: Gate> Promise<WorkerResult<W::Output>> for WorkerPromise<W, G> {
     ghost use Rattle.cell_threads.specs.Promises.{GivesBack};
 
     ghost kept_by = { λ p r. GivesBack W.gives_back p.worker.value p.pass.value p.interlock.value.tries
@@ -51,9 +51,9 @@ pub(crate) fn start<'s, E, W: Worker + Send + 's, G: Gate + Sync>(
     all_run: &mut bool,
     pass: Pass,
     worker: W,
-) -> Option<PromisedHandle<WorkerResult<W::Outcome>, WorkerPromise<W, G>>>
+) -> Option<PromisedHandle<WorkerResult<W::Output>, WorkerPromise<W, G>>>
 where
-    W::Outcome: Send,
+    W::Output: Send,
     requires table { pass.table ≡ context.now.interlock.now.table }
     requires fresh { pass.seen ≡ [] }
     requires ready { W.is_ready worker pass }

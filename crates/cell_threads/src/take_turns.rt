@@ -40,7 +40,7 @@ pub(crate) fn take_turns<P: Program, B: Part<Sense = P::Sense, Act = P::Act>, L:
     let machine = line.machine();
     let mut counts = Counts::none();
     for turn in 0..turns {
-        if unit.controller.stopped().is_some() {
+        if unit.controller.stopped_by().is_some() {
             return ending_of(unit, counts);
         }
         if !gate.pass(machine, turn) {
@@ -64,6 +64,6 @@ fn ending_of<P: Program, B: Part<Sense = P::Sense, Act = P::Act>>(
 {
     Ending {
         counts,
-        status: status_of(unit.controller.stopped()),
+        status: status_of(unit.controller.stopped_by()),
     }
 }

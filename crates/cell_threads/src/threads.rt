@@ -29,7 +29,7 @@ pub(crate) fn run_in_threads<R, W1, W2, W3, W4, W5, W6, H, G>(
     watch: H,
 ) -> Option<
     (
-        SixResults<W1::Outcome, W2::Outcome, W3::Outcome, W4::Outcome, W5::Outcome, W6::Outcome>,
+        SixResults<W1::Output, W2::Output, W3::Output, W4::Output, W5::Output, W6::Output>,
         WorkerResult<H>,
     ),
 >
@@ -41,12 +41,12 @@ where
     W4: Worker + Send,
     W5: Worker + Send,
     W6: Worker + Send,
-    W1::Outcome: Send,
-    W2::Outcome: Send,
-    W3::Outcome: Send,
-    W4::Outcome: Send,
-    W5::Outcome: Send,
-    W6::Outcome: Send,
+    W1::Output: Send,
+    W2::Output: Send,
+    W3::Output: Send,
+    W4::Output: Send,
+    W5::Output: Send,
+    W6::Output: Send,
     H: Watching,
     G: Gate + Sync,
     requires begins { MayBegin W1.is_ready W2.is_ready W3.is_ready W4.is_ready W5.is_ready W6.is_ready
@@ -61,12 +61,12 @@ where
         move |scope| -> Option<
             (
                 SixResults<
-                    W1::Outcome,
-                    W2::Outcome,
-                    W3::Outcome,
-                    W4::Outcome,
-                    W5::Outcome,
-                    W6::Outcome,
+                    W1::Output,
+                    W2::Output,
+                    W3::Output,
+                    W4::Output,
+                    W5::Output,
+                    W6::Output,
                 >,
                 WorkerResult<H>,
             ),
@@ -91,12 +91,12 @@ fn start_six<'s, E, W1, W2, W3, W4, W5, W6, G>(
     passes: SixPasses,
     workers: PerMachine<W1, W2, W3, W4, W5, W6>,
 ) -> PerMachine<
-    WorkerHandle<W1::Outcome, W1, G>,
-    WorkerHandle<W2::Outcome, W2, G>,
-    WorkerHandle<W3::Outcome, W3, G>,
-    WorkerHandle<W4::Outcome, W4, G>,
-    WorkerHandle<W5::Outcome, W5, G>,
-    WorkerHandle<W6::Outcome, W6, G>,
+    WorkerHandle<W1::Output, W1, G>,
+    WorkerHandle<W2::Output, W2, G>,
+    WorkerHandle<W3::Output, W3, G>,
+    WorkerHandle<W4::Output, W4, G>,
+    WorkerHandle<W5::Output, W5, G>,
+    WorkerHandle<W6::Output, W6, G>,
 >
 where
     W1: Worker + Send + 's,
@@ -105,12 +105,12 @@ where
     W4: Worker + Send + 's,
     W5: Worker + Send + 's,
     W6: Worker + Send + 's,
-    W1::Outcome: Send,
-    W2::Outcome: Send,
-    W3::Outcome: Send,
-    W4::Outcome: Send,
-    W5::Outcome: Send,
-    W6::Outcome: Send,
+    W1::Output: Send,
+    W2::Output: Send,
+    W3::Output: Send,
+    W4::Output: Send,
+    W5::Output: Send,
+    W6::Output: Send,
     G: Gate + Sync,
     requires fresh { AreAllFresh context.now.interlock.now passes }
     requires ready { AreReady W1.is_ready W2.is_ready W3.is_ready W4.is_ready W5.is_ready W6.is_ready workers passes }
@@ -141,15 +141,15 @@ where
 fn join_six<R, W1, W2, W3, W4, W5, W6, G>(
     rt: &R,
     started: PerMachine<
-        WorkerHandle<W1::Outcome, W1, G>,
-        WorkerHandle<W2::Outcome, W2, G>,
-        WorkerHandle<W3::Outcome, W3, G>,
-        WorkerHandle<W4::Outcome, W4, G>,
-        WorkerHandle<W5::Outcome, W5, G>,
-        WorkerHandle<W6::Outcome, W6, G>,
+        WorkerHandle<W1::Output, W1, G>,
+        WorkerHandle<W2::Output, W2, G>,
+        WorkerHandle<W3::Output, W3, G>,
+        WorkerHandle<W4::Output, W4, G>,
+        WorkerHandle<W5::Output, W5, G>,
+        WorkerHandle<W6::Output, W6, G>,
     >,
 ) -> Option<
-    SixResults<W1::Outcome, W2::Outcome, W3::Outcome, W4::Outcome, W5::Outcome, W6::Outcome>,
+    SixResults<W1::Output, W2::Output, W3::Output, W4::Output, W5::Output, W6::Output>,
 >
 where
     R: Threads,

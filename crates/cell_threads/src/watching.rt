@@ -28,7 +28,7 @@ pub trait Watching: Drop {
         requires fresh { pass.seen ≡ [] }
         requires own { pass.machine ≡ Watch }
         ensures given { IsGivenBack pass result.pass result.journal.items }
-        ensures watches { watches self pass interlock.now.tries result.pass result.outcome };
+        ensures watches { watches self pass interlock.now.tries result.pass result.output };
 }
 
 /// The watch that does nothing.
@@ -44,7 +44,7 @@ impl Watching for NoWatch {
         WorkerResult {
             pass,
             journal: Vec::new(alloc),
-            outcome: self,
+            output: self,
         }
     }
 }

@@ -1,7 +1,7 @@
 //! What a thread gets: a machine that takes its turns by a pass over an interlock.
 
 use crate::gate::Gate;
-use crate::worker_result::{UnitOutcome, WorkerResult, take_turns_by_pass};
+use crate::worker_result::{UnitOutput, WorkerResult, take_turns_by_pass};
 use cell_control::{Part, Program};
 use cell_interlock::{Interlock, Pass};
 use cell_unit::MachineUnit;
@@ -22,14 +22,14 @@ pub trait Worker: Drop {
     ghost use Rattle.cell_threads.specs.declared.worker_result.WorkerResult.{WorkerResult};
 
     /// What it gives back besides its pass and its journal.
-    type Outcome: Drop;
+    type Output: Drop;
 
     // It may begin by this pass.
     ghost is_ready: { Self → PassView → Type 0 };
 
     // What it gives back after its turns by this pass. Given are the number of tries of a call,
     // its gate, and the greatest number of turns. The default is anything.
-    ghost gives_back: { Self → PassView → ℕ → GateOf → ℕ → WorkerResult Self.Outcome → Type 0 } = { λ _ _ _ _ _ _. ⊤ };
+    ghost gives_back: { Self → PassView → ℕ → GateOf → ℕ → WorkerResult Self.Output → Type 0 } = { λ _ _ _ _ _ _. ⊤ };
 
     /// Takes its turns, at most `turns`, each once the gate lets it begin. Gives back the pass that
     /// it got, and a journal with an entry for each call that was settled by it.
@@ -40,7 +40,7 @@ pub trait Worker: Drop {
         pass: Pass,
         gate: &G,
         turns: u32,
-    ) -> WorkerResult<Self::Outcome>
+    ) -> WorkerResult<Self::Output>
         requires table { pass.table ≡ interlock.now.table }
         requires fresh { pass.seen ≡ [] }
         requires ready { is_ready self pass }
@@ -54,15 +54,15 @@ impl<P: Program, B: Part<Sense = P::Sense, Act = P::Act>> Worker for MachineUnit
     ghost use Rattle.cell_unit.specs.Sides.{UnitIsReady, unit_rig, unit_side, unit_table};
     ghost use Rattle.cell_threads.specs.Workers.{IsWorkerResult, worker_moment};
 
-    type Outcome = UnitOutcome<B>;
+    type Output = UnitOutput<B>;
 
     ghost is_ready = { λ unit pass. (pass.machine ≡ (unit_table P.steps unit).machine)
         × UnitIsReady P.steps unit pass.opening pass.seen };
 
     ghost gives_back = { λ unit pass tries gate limit r. IsWorkerResult tries (unit_table P.steps unit)
         (unit_rig B.rig B.make unit) gate limit
-        (worker_moment pass (unit_side B.state unit) no_counts) r.pass r.journal.items r.outcome.counts
-        r.outcome.status (B.state r.outcome.part) };
+        (worker_moment pass (unit_side B.state unit) no_counts) r.pass r.journal.items r.output.counts
+        r.output.status (B.state r.output.part) };
 
     fn take_turns<G: Gate>(
         self,
@@ -71,7 +71,7 @@ impl<P: Program, B: Part<Sense = P::Sense, Act = P::Act>> Worker for MachineUnit
         pass: Pass,
         gate: &G,
         turns: u32,
-    ) -> WorkerResult<UnitOutcome<B>> {
+    ) -> WorkerResult<UnitOutput<B>> {
         take_turns_by_pass(alloc, interlock, pass, self, gate, turns)
     }
 }

@@ -21,12 +21,12 @@ pub struct WorkerResult<T> {
     /// An entry for each call that was settled by the pass, the oldest first.
     pub journal: Vec<Entry>,
     /// What else the worker has to give.
-    pub outcome: T,
+    pub output: T,
 }
 
 /// What is left of a machine of a `Cell` after its turns.
 #[derive(Drop)]
-pub struct UnitOutcome<B> {
+pub struct UnitOutput<B> {
     /// Its counts of turns and replies.
     pub counts: Counts,
     /// Its status at the end.
@@ -43,15 +43,15 @@ pub(crate) fn take_turns_by_pass<P: Program, B: Part<Sense = P::Sense, Act = P::
     unit: MachineUnit<P, B>,
     gate: &G,
     turns: u32,
-) -> WorkerResult<UnitOutcome<B>>
+) -> WorkerResult<UnitOutput<B>>
     requires table { pass.table ≡ interlock.now.table }
     requires fresh { pass.seen ≡ [] }
     requires own { pass.machine ≡ (unit_table P.steps unit).machine }
     requires ready { UnitIsReady P.steps unit pass.opening pass.seen }
     ensures { IsWorkerResult interlock.now.tries (unit_table P.steps unit) (unit_rig B.rig B.make unit)
         (G.may_answer gate.now pass.machine) turns
-        (worker_moment pass (unit_side B.state unit) no_counts) result.pass result.journal.items result.outcome.counts
-        result.outcome.status (B.state result.outcome.part) }
+        (worker_moment pass (unit_side B.state unit) no_counts) result.pass result.journal.items result.output.counts
+        result.output.status (B.state result.output.part) }
 {
     let mut unit = unit;
     let mut line = PassLine::new(alloc, interlock, pass);
@@ -60,7 +60,7 @@ pub(crate) fn take_turns_by_pass<P: Program, B: Part<Sense = P::Sense, Act = P::
     WorkerResult {
         pass,
         journal,
-        outcome: UnitOutcome {
+        output: UnitOutput {
             counts: ending.counts,
             status: ending.status,
             part: unit.part,

@@ -4,7 +4,7 @@ use Rattle.cell_rules.specs.Types.{Machine, Posture, Call, Done, Shown, Refused,
 use Rattle.cell_calib.specs.declared.sense.SensorFault.{SensorFault}
 use Rattle.cell_rules.specs.Names.{ModelState, IsSound, event, reply, next, next_by, changed}
 use Rattle.cell_rules.specs.declared.heard.LineFault.{LineFault}
-use Rattle.cell_control.specs.Names.{fault_of, Rig, Steps, waits_out, outcome, Performed, PerformsCall, PerformsSensed, Turned, Turns, turned, at_rest}
+use Rattle.cell_control.specs.Names.{fault_of, Rig, Steps, waits_out, step_after_reply, Performed, PerformsCall, PerformsSensed, Turned, Turns, turned, at_rest}
 use Rattle.cell_control.specs.declared.fault.CtlFault.{CtlFault}
 use Rattle.cell_control.proofs.TurnMaps.{turn_either}
 use Rattle.cell_notes.specs.Asks.{TurnCall, done_in}
@@ -46,7 +46,7 @@ module _ {S Sense Reading Act State : Type 0} (t : Steps S Sense Reading Act) (r
   stays true f same nothing = quiet p (t.rest p) same nothing (keeps.rests z p b i)
   stays false f same nothing = quiet p (t.rest p) same nothing (keeps.rests z p b i)
 
-  asked_for : (c : Call) (r : Result Reply LineFault) → (t.row p).call ≡ Some c → IsSound z → Answers z t.machine busy c r y → asked ≡ Some (c, r) → After (turned p (at_rest (t.rest p) (outcome t p r)))
+  asked_for : (c : Call) (r : Result Reply LineFault) → (t.row p).call ≡ Some c → IsSound z → Answers z t.machine busy c r y → asked ≡ Some (c, r) → After (turned p (at_rest (t.rest p) (step_after_reply t p r)))
   asked_for c (Ok (Settled Done stamp)) e sound k a =
       let done : reply z t.machine c ≡ Done = sym k.1 in
       let is : y ≡ changed z t.machine c = k.3 ∙ ap (λ x. next_by x z t.machine c) done in
@@ -110,7 +110,7 @@ module _ {S Sense Reading Act : Type 0} (t : Steps S Sense Reading Act) (same : 
 
   told_by_step : (o : Option Call) (reading : Reading) (r : Performed S Act) → (t.row p).call ≡ o → t.senses s (Ok reading) → PerformsCall t o same asks p reading r → Q (act_or_rest (t.rest p) (turned p r).result)
   told_by_step None reading r e senses k = subst (λ x. Q (act_or_rest (t.rest p) (turned p x).result)) (sym k.1.2) (drives reading k.1.0 e senses k.1.1)
-  told_by_step (Some c) reading r e senses k = subst (λ x. Q (act_or_rest (t.rest p) (turned p x).result)) (sym k.2) (at_rest_is (outcome t p k.0))
+  told_by_step (Some c) reading r e senses k = subst (λ x. Q (act_or_rest (t.rest p) (turned p x).result)) (sym k.2) (at_rest_is (step_after_reply t p k.0))
 
   told_by_sensors : (sensed : Result Reading SensorFault) (r : Performed S Act) → t.senses s sensed → PerformsSensed t sensed same asks p r → Q (act_or_rest (t.rest p) (turned p r).result)
   told_by_sensors (Err fault) r senses k = subst (λ x. Q (act_or_rest (t.rest p) (turned p x).result)) (sym k.1) rests

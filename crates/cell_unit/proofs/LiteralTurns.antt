@@ -9,13 +9,13 @@ use Rattle.cell_calib.specs.declared.sense.SensorFault.{SensorFault}
 use Rattle.cell_rules.specs.Names.{ModelState, reply, next, Desk}
 use Rattle.cell_rules.specs.declared.heard.LineFault.{LineFault}
 use Rattle.cell_rules.specs.declared.heard.LineFault.TheVariants as line
-use Rattle.cell_control.specs.Names.{fault_of, Rig, waits_on, Steps, is_while_stopped, waits_out, outcome, Turned, Turns, at_rest, turned, stops_with}
+use Rattle.cell_control.specs.Names.{fault_of, Rig, waits_on, Steps, is_while_stopped, waits_out, step_after_reply, Turned, Turns, at_rest, turned, stops_with}
 use Rattle.cell_control.specs.declared.fault.CtlFault.{CtlFault}
 use Rattle.cell_control.specs.declared.fault.CtlFault.TheVariants as fault
 use Rattle.cell_control.proofs.TurnsByAnswers.{asked_own, drive_own, sensor_own}
 use Rattle.cell_notes.specs.Names.{TurnCall, settled_in, Notes, notes_with}
 use Rattle.cell_unit.specs.Names.{Side, ActsAndMoves, part_set, side_set, side_moved, Answers, Leads, UnitTurn}
-use Rattle.cell_unit.specs.UnitRows.{StatusRows, IsAsking, IsDriving, PartSays, Answered, SideRows, IsAnswered, IsRefusedMemory, UnitRows}
+use Rattle.cell_unit.specs.UnitRows.{StatusRows, IsAsking, IsDriving, PartSays, UnitAnswered, SideRows, IsAnswered, IsRefusedMemory, UnitRows}
 
 pub status-rows : StatusRows
 status-rows = record { runs = refl; sensor = λ f. refl; refused = λ r. refl; worn = refl; out_of_memory = refl; stopped = refl }
@@ -38,7 +38,7 @@ module _ {S Sense Reading Act State : Type 0} (t : Steps S Sense Reading Act) (r
   led a w = side_moved rig (side_set t rig before a w)
 
   abbrev answered_side : Call → Result Reply LineFault → Side S State
-  answered_side call r = led (Some (call, r)) (turned before.progress (at_rest (t.rest before.progress) (outcome t before.progress r)))
+  answered_side call r = led (Some (call, r)) (turned before.progress (at_rest (t.rest before.progress) (step_after_reply t before.progress r)))
 
   ends : (same : Type 0) (asks : Call → Result Reply LineFault → Type 0) (k : ActsAndMoves t rig same asks before asked now) (w : Turned S Act) (a : TurnCall) → k.acts.turned ≡ w → asked ≡ a → now ≡ led a w
   ends same asks k w a e f = k.moved ∙ ap (side_moved rig) k.acts.is ∙ ap (led asked) e ∙ ap (λ x. led x w) f
@@ -71,12 +71,12 @@ module _ {S Sense Reading Act State : Type 0} (t : Steps S Sense Reading Act) (r
       let own = row_from same asks k (Some f) e in
       (own.0.0, own.0.1, ends same asks k _ _ own.1 own.0.1)
 
-  answered_end : (answered : Result Reply LineFault) (reading : Reading) (call : Call) → IsAsking t rig before reading call → Answered t rig before answered asked now → (asked ≡ Some (call, answered)) × (now ≡ answered_side call answered)
+  answered_end : (answered : Result Reply LineFault) (reading : Reading) (call : Call) → IsAsking t rig before reading call → UnitAnswered t rig before answered asked now → (asked ≡ Some (call, answered)) × (now ≡ answered_side call answered)
   answered_end answered reading call i k =
       let own = asked_end ⊥ (λ c r. r ≡ answered) reading call i k in
       subst (λ r. (asked ≡ Some (call, r)) × (now ≡ answered_side call r)) own.1 (own.2, own.3)
 
-  refused_end : (b : Bool) (r : Refusal) (stamp : ℕ) (reading : Reading) (call : Call) → waits_out t before.progress r ≡ b → IsAsking t rig before reading call → Answered t rig before (Ok (Settled (answer.Refused r) stamp)) asked now
+  refused_end : (b : Bool) (r : Refusal) (stamp : ℕ) (reading : Reading) (call : Call) → waits_out t before.progress r ≡ b → IsAsking t rig before reading call → UnitAnswered t rig before (Ok (Settled (answer.Refused r) stamp)) asked now
       → (asked ≡ Some (call, Ok (Settled (answer.Refused r) stamp))) × (now ≡ led None (turned before.progress (at_rest (t.rest before.progress) (if b then Ok before.progress else Err (fault_of r)))))
   refused_end b r stamp reading call e i k =
       let own = answered_end (Ok (Settled (answer.Refused r) stamp)) reading call i k in

@@ -57,9 +57,9 @@ pub record IsDriving {S Sense Reading Act State : Type 0} (t : Steps S Sense Rea
   pub drives_only : (other : Act) → t.drives before.progress reading other → other ≡ act
 
 -- a turn over a line that answers so; and one over a line that is asked nothing
-abbrev pub Answered : {S Sense Reading Act State : Type 0} → Steps S Sense Reading Act → Rig State Sense Act
+abbrev pub UnitAnswered : {S Sense Reading Act State : Type 0} → Steps S Sense Reading Act → Rig State Sense Act
     → Side S State → Result Reply LineFault → TurnCall → Side S State → Type 0
-Answered t rig before answered asked now = ActsAndMoves t rig ⊥ (λ call r. r ≡ answered) before asked now
+UnitAnswered t rig before answered asked now = ActsAndMoves t rig ⊥ (λ call r. r ≡ answered) before asked now
 
 abbrev pub Alone : {S Sense Reading Act State : Type 0} → Steps S Sense Reading Act → Rig State Sense Act
     → Side S State → TurnCall → Side S State → Type 0
@@ -69,42 +69,42 @@ pub record SideRows {S Sense Reading Act State : Type 0} (t : Steps S Sense Read
     (before : Side S State) (asked : TurnCall) (now : Side S State) : Type 0 where
   -- the part notes a call that is done
   pub done : (reading : Reading) (call : Call) (stamp : ℕ) → IsAsking t rig before reading call
-      → Answered t rig before (Ok (Settled answer.Done stamp)) asked now
+      → UnitAnswered t rig before (Ok (Settled answer.Done stamp)) asked now
       → (asked ≡ Some (call, Ok (Settled answer.Done stamp)))
       × (now ≡ comes_to rig (t.row before.progress).next None
       (rig.notes before.part (event t.machine call answer.Done)) (t.rest before.progress))
   -- it notes nothing else
   pub shown : (reading : Reading) (call : Call) (owner : Option Machine) (flag : Bool) (posture : Posture) (stamp : ℕ)
       → IsAsking t rig before reading call
-      → Answered t rig before (Ok (Settled (answer.Shown owner flag posture) stamp)) asked now
+      → UnitAnswered t rig before (Ok (Settled (answer.Shown owner flag posture) stamp)) asked now
       → (asked ≡ Some (call, Ok (Settled (answer.Shown owner flag posture) stamp)))
       × (now ≡ comes_to rig (t.after_inquiry before.progress owner flag posture) None before.part
       (t.rest before.progress))
   pub waits : (reading : Reading) (call : Call) (r : Refusal) (stamp : ℕ)
       → waits_on (t.row before.progress).waits r ≡ true → IsAsking t rig before reading call
-      → Answered t rig before (Ok (Settled (answer.Refused r) stamp)) asked now
+      → UnitAnswered t rig before (Ok (Settled (answer.Refused r) stamp)) asked now
       → (asked ≡ Some (call, Ok (Settled (answer.Refused r) stamp)))
       × (now ≡ comes_to rig before.progress None before.part (t.rest before.progress))
   pub while_stopped : (reading : Reading) (call : Call) (stamp : ℕ) → IsAsking t rig before reading call
-      → Answered t rig before (Ok (Settled (answer.Refused Stopped) stamp)) asked now
+      → UnitAnswered t rig before (Ok (Settled (answer.Refused Stopped) stamp)) asked now
       → (asked ≡ Some (call, Ok (Settled (answer.Refused Stopped) stamp)))
       × (now ≡ comes_to rig before.progress None before.part (t.rest before.progress))
   pub refused : (reading : Reading) (call : Call) (stamp : ℕ) → waits_on (t.row before.progress).waits Jump ≡ false
       → IsAsking t rig before reading call
-      → Answered t rig before (Ok (Settled (answer.Refused Jump) stamp)) asked now
+      → UnitAnswered t rig before (Ok (Settled (answer.Refused Jump) stamp)) asked now
       → (asked ≡ Some (call, Ok (Settled (answer.Refused Jump) stamp)))
       × (now ≡ comes_to rig before.progress (Some (fault.Refused Jump)) before.part (t.rest before.progress))
   pub worn : (reading : Reading) (call : Call) (stamp : ℕ) → waits_on (t.row before.progress).waits NoStamp ≡ false
       → IsAsking t rig before reading call
-      → Answered t rig before (Ok (Settled (answer.Refused NoStamp) stamp)) asked now
+      → UnitAnswered t rig before (Ok (Settled (answer.Refused NoStamp) stamp)) asked now
       → (asked ≡ Some (call, Ok (Settled (answer.Refused NoStamp) stamp)))
       × (now ≡ comes_to rig before.progress (Some fault.Worn) before.part (t.rest before.progress))
   pub busy : (reading : Reading) (call : Call) (lost stamp : ℕ) → IsAsking t rig before reading call
-      → Answered t rig before (Ok (Busy lost stamp)) asked now
+      → UnitAnswered t rig before (Ok (Busy lost stamp)) asked now
       → (asked ≡ Some (call, Ok (Busy lost stamp))) × (now ≡ comes_to rig before.progress None before.part
       (t.rest before.progress))
   pub out_of_memory : (reading : Reading) (call : Call) → IsAsking t rig before reading call
-      → Answered t rig before (Err line.Memory) asked now
+      → UnitAnswered t rig before (Err line.Memory) asked now
       → (asked ≡ Some (call, Err line.Memory)) × (now ≡ comes_to rig before.progress (Some fault.Memory) before.part
       (t.rest before.progress))
   -- a step that drives asks nothing; neither does a machine that can't go on

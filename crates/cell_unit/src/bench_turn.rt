@@ -39,7 +39,7 @@ pub fn take_bench_turn<P: Program, B: Part<Sense = P::Sense, Act = P::Act>>(
     ensures program { unit_program unit.new ≡ unit_program unit.old }
     ensures make { B.make unit.new.part ≡ B.make unit.old.part }
 {
-    if unit.controller.stopped().is_some() {
+    if unit.controller.stopped_by().is_some() {
         return Ok(None);
     }
     notebook.make_room()?;

@@ -50,7 +50,7 @@ impl<P: Program, B: Part<Sense = P::Sense, Act = P::Act>> MachineUnit<P, B> {
     pub fn status(&self) -> Status
         ensures { result ≡ status_by (unit_side B.state self.now).stopped }
     {
-        status_of(self.controller.stopped())
+        status_of(self.controller.stopped_by())
     }
 }
 

@@ -33,7 +33,7 @@ pub(crate) fn no_room_guard(place: Place) -> Guard
 fn require_running(word: u64) -> Result<(), Refusal>
     ensures { result ≡ guards.checked word (guards.stopped ∷ []) }
 {
-    mark_pattern(true).refuses(Refusal::Stopped).pass(word)
+    mark_pattern(true).refuses(Refusal::Stopped).check(word)
 }
 
 /// A stamp has to be left. One comparison finds that out where the cell isn't stopped.
@@ -44,7 +44,7 @@ pub(crate) fn require_stamp(word: u64) -> Result<(), Refusal>
     if word >> STAMP_BIT < u64::from(LAST_STAMP) {
         return Ok(());
     }
-    worn_guard().pass(word)
+    worn_guard().check(word)
 }
 
 /// The caller has to be a party of the zone. Returns which one it is.
@@ -115,7 +115,7 @@ fn require_not_in_use(at: ZoneBits, machine: Machine) -> Result<(), Refusal>
         return Pattern::posture(Zone::Z6, Posture::Moving)
             .and(Pattern::place(Place::FeedEnd, true))
             .refuses(Refusal::InUse)
-            .pass(at.word);
+            .check(at.word);
     }
     Ok(())
 }
@@ -137,8 +137,8 @@ pub(crate) fn require_movable(word: u64, from: Place, to: Place) -> Result<(), R
 {
     Pattern::place(from, false)
         .refuses(Refusal::NoPlate)
-        .pass(word)?;
-    no_room_guard(to).pass(word)?;
+        .check(word)?;
+    no_room_guard(to).check(word)?;
     require_stamp(word)
 }
 
@@ -241,7 +241,7 @@ pub(crate) fn take(word: u64, machine: Machine, zone: Zone) -> Result<Pattern, R
     require_held(ZoneBits { word, zone }, party)?;
     Pattern::flag(zone, false)
         .refuses(Refusal::NoPlate)
-        .pass(word)?;
+        .check(word)?;
     require_stamp(word)?;
     Ok(take_pattern(zone, party))
 }
@@ -278,7 +278,7 @@ fn require_watch(machine: Machine) -> Result<(), Refusal>
 fn require_stopped(word: u64) -> Result<(), Refusal>
     ensures { result ≡ guards.checked word (guards.not_stopped ∷ []) }
 {
-    mark_pattern(false).refuses(Refusal::NotStopped).pass(word)
+    mark_pattern(false).refuses(Refusal::NotStopped).check(word)
 }
 
 #[inline(always)]

@@ -162,7 +162,7 @@ pub(crate) struct Guard {
 impl Guard {
     /// Refuses a word that matches the pattern.
     #[inline(always)]
-    pub fn pass(self, word: u64) -> Result<(), Refusal>
+    pub fn check(self, word: u64) -> Result<(), Refusal>
         ensures { result ≡ guards.checked word (self ∷ []) }
     {
         if self.pattern.stands_in(word) {

@@ -127,7 +127,7 @@ fn require_room(at: ZoneBits, place: Place) -> Result<(), Refusal>
     if at.is(Posture::OpenIn) {
         return Ok(());
     }
-    no_room_guard(place).pass(at.word)
+    no_room_guard(place).check(at.word)
 }
 
 /// All places inside the zone have to be empty if it becomes open inward.
@@ -164,17 +164,17 @@ fn require_end_clear_to_run(word: u64, machine: Machine, pose: Pose) -> Result<(
         return Ok(());
     }
     match machine {
-        Machine::Deposit => no_room_guard(Place::DepEnd).pass(word),
+        Machine::Deposit => no_room_guard(Place::DepEnd).check(word),
         Machine::Feed => {
             let at_end = Pattern::place(Place::FeedEnd, true);
             at_end
                 .and(Pattern::owner(Zone::Z1, None))
                 .refuses(Refusal::PlaceFull)
-                .pass(word)?;
+                .check(word)?;
             at_end
                 .and(Pattern::owner(Zone::Z1, Some(host(Zone::Z1))))
                 .refuses(Refusal::PlaceFull)
-                .pass(word)
+                .check(word)
         }
         _ => Ok(()),
     }

@@ -23,14 +23,14 @@ use Rattle.cell_plant.specs.Names.{CellGauges, PartOf, any_near, robot_axes, rob
 use Rattle.cell_plant.proofs.Gauged.{GiveAsMuch, table_as, robot_as, crane_as}
 use Rattle.cell_threads.specs.Lines.{Lines, passes}
 use Rattle.cell_threads.specs.Workers.{WorkerMoment, worker_moment, GateOf, TakesTurn, AreTaken, HasEnded, IsWorkerResult, AreCountsOf}
-use Rattle.cell_threads.specs.Results.{SixResults, journal_in, outcomes_in, seen_in}
+use Rattle.cell_threads.specs.Results.{SixResults, journal_in, outputs_in, seen_in}
 use Rattle.cell_parts.specs.declared.parts.feed.FeedPart.{FeedPart}
 use Rattle.cell_parts.specs.declared.parts.table.TablePart.{TablePart}
 use Rattle.cell_parts.specs.declared.parts.robot.RobotPart.{RobotPart}
 use Rattle.cell_parts.specs.declared.parts.press.PressPart.{PressPart}
 use Rattle.cell_parts.specs.declared.parts.deposit.DepositPart.{DepositPart}
 use Rattle.cell_parts.specs.declared.parts.crane.CranePart.{CranePart}
-use Rattle.cell_threads.specs.declared.worker_result.UnitOutcome.{UnitOutcome}
+use Rattle.cell_threads.specs.declared.worker_result.UnitOutput.{UnitOutput}
 use Rattle.cell_workers.specs.Results.{parts_in}
 use Rattle.cell_workers.specs.Records.{MomentOf, first_moment, TellsAnyWork, TellsWork, has_worker}
 
@@ -117,8 +117,8 @@ if_some P Q f (Some x) k = f x k
 -- what the workers of a cell gave back
 abbrev pub CellResults : Type 0
 CellResults =
-    SixResults (UnitOutcome FeedPart) (UnitOutcome TablePart) (UnitOutcome RobotPart)
-    (UnitOutcome PressPart) (UnitOutcome DepositPart) (UnitOutcome CranePart)
+    SixResults (UnitOutput FeedPart) (UnitOutput TablePart) (UnitOutput RobotPart)
+    (UnitOutput PressPart) (UnitOutput DepositPart) (UnitOutput CranePart)
 
 -- what a machine's worker gave back, by the machine's name; it began with a fresh pass of the interlock, at its
 -- machine's start
@@ -132,17 +132,17 @@ IsResultOf c gives i limit gate m kept journal did status stands =
 pub record AreWorkerResults (c : CellScales) (gives : CellGauges) (i : InterlockView) (limit : ℕ)
     (gate : Machine → GateOf) (results : CellResults) : Type 0 where
   pub feed : IsResultOf c gives i limit gate Feed results.feed.pass results.feed.journal.items
-      results.feed.outcome.counts results.feed.outcome.status results.feed.outcome.part.belt
+      results.feed.output.counts results.feed.output.status results.feed.output.part.belt
   pub table : IsResultOf c gives i limit gate Table results.table.pass results.table.journal.items
-      results.table.outcome.counts results.table.outcome.status results.table.outcome.part.plant
+      results.table.output.counts results.table.output.status results.table.output.part.plant
   pub robot : IsResultOf c gives i limit gate Robot results.robot.pass results.robot.journal.items
-      results.robot.outcome.counts results.robot.outcome.status results.robot.outcome.part.plant
+      results.robot.output.counts results.robot.output.status results.robot.output.part.plant
   pub press : IsResultOf c gives i limit gate Press results.press.pass results.press.journal.items
-      results.press.outcome.counts results.press.outcome.status results.press.outcome.part
+      results.press.output.counts results.press.output.status results.press.output.part
   pub deposit : IsResultOf c gives i limit gate Deposit results.deposit.pass results.deposit.journal.items
-      results.deposit.outcome.counts results.deposit.outcome.status results.deposit.outcome.part.belt
+      results.deposit.output.counts results.deposit.output.status results.deposit.output.part.belt
   pub crane : IsResultOf c gives i limit gate Crane results.crane.pass results.crane.journal.items
-      results.crane.outcome.counts results.crane.outcome.status results.crane.outcome.part.plant
+      results.crane.output.counts results.crane.output.status results.crane.output.part.plant
 
 module _ (c : CellScales) (gives : CellGauges) (i : InterlockView) (limit : ℕ) (gate : Machine → GateOf) where
   -- it began with a fresh pass, at the start of its machine
@@ -163,12 +163,12 @@ module _ (c : CellScales) (gives : CellGauges) (i : InterlockView) (limit : ℕ)
     last Watch = first_moment i Watch
 
     abbrev statuses : Machine → Status
-    statuses Feed = results.feed.outcome.status
-    statuses Table = results.table.outcome.status
-    statuses Robot = results.robot.outcome.status
-    statuses Press = results.press.outcome.status
-    statuses Deposit = results.deposit.outcome.status
-    statuses Crane = results.crane.outcome.status
+    statuses Feed = results.feed.output.status
+    statuses Table = results.table.output.status
+    statuses Robot = results.robot.output.status
+    statuses Press = results.press.output.status
+    statuses Deposit = results.deposit.output.status
+    statuses Crane = results.crane.output.status
     statuses Watch = Fine
 
     works : (m : Machine) → has_worker m ≡ true → HasEnded (passes i.tries) (steps_by c gives m) (rig_of c m) (gate m) limit (first_moment i m) (last m) (statuses m)
@@ -212,9 +212,9 @@ module _ (c : CellScales) (gives : CellGauges) (i : InterlockView) (limit : ℕ)
     module _ (history : List Event) (lawful : LawfulThroughout i.opening history) (seen : (m : Machine) → Waits m (seen_in results m) history)
         (journals : (m : Machine) → journal_of r.journals m ≡ noted i.opening (seen_in results m) m) (audited : IsAudited i.opening (journal_of r.journals) r.end history) where
       pub tells : r.start ≡ i.opening → r.end ≡ Some (after i.opening history)
-          → r.counts ≡ results.feed.outcome.counts ∷ results.table.outcome.counts ∷ results.robot.outcome.counts ∷ results.press.outcome.counts ∷ results.deposit.outcome.counts ∷ results.crane.outcome.counts ∷ no_counts ∷ []
-          → r.status ≡ results.feed.outcome.status ∷ results.table.outcome.status ∷ results.robot.outcome.status ∷ results.press.outcome.status ∷ results.deposit.outcome.status ∷ results.crane.outcome.status ∷ Fine ∷ []
-          → r.axes ≡ positions_in (parts_in (outcomes_in results)) → TellsWork c gives i.opening i.tries limit gate r
+          → r.counts ≡ results.feed.output.counts ∷ results.table.output.counts ∷ results.robot.output.counts ∷ results.press.output.counts ∷ results.deposit.output.counts ∷ results.crane.output.counts ∷ no_counts ∷ []
+          → r.status ≡ results.feed.output.status ∷ results.table.output.status ∷ results.robot.output.status ∷ results.press.output.status ∷ results.deposit.output.status ∷ results.crane.output.status ∷ Fine ∷ []
+          → r.axes ≡ positions_in (parts_in (outputs_in results)) → TellsWork c gives i.opening i.tries limit gate r
       tells start end counts status axes =
           record {
             interlock = i;

@@ -8,7 +8,7 @@ use Rattle.cell_calib.specs.declared.sense.CraneSense.{CraneSense}
 use Rattle.cell_rules.specs.Names.{ModelState, empty, start_state, noted}
 use Rattle.cell_rules.specs.declared.heard.LineFault.{LineFault}
 use Rattle.cell_interlock.specs.Lines.{PassAsks}
-use Rattle.cell_control.specs.Names.{Steps, outcome, Performed, PerformsSensed, Turned, Turns, at_rest, turned}
+use Rattle.cell_control.specs.Names.{Steps, step_after_reply, Performed, PerformsSensed, Turned, Turns, at_rest, turned}
 use Rattle.cell_devices.specs.declared.motor.Motor.{Motor}
 use Rattle.cell_devices.specs.declared.motor.Motor.TheVariants.{Off}
 use Rattle.cell_devices.specs.declared.act.CraneAct.{CraneAct}
@@ -259,7 +259,7 @@ turns_taken =
           told.motor_demands (λ off. on (ap (λ (a : Axis). a.motor) told.told ∙ off));
       claims = λ c tries lets before now turn stamp e is.
           let r : Result Reply LineFault = Ok (Settled Done stamp) in
-          let led : SideOf Press → SideOf Press = λ s. side_moved press_rig (side_set press_steps press_rig s (Some (Claim Z3, r)) (turned s.progress (at_rest (press_steps.rest s.progress) (outcome press_steps s.progress r)))) in
+          let led : SideOf Press → SideOf Press = λ s. side_moved press_rig (side_set press_steps press_rig s (Some (Claim Z3, r)) (turned s.progress (at_rest (press_steps.rest s.progress) (step_after_reply press_steps s.progress r)))) in
           side_answered tries press_steps press_rig (by_rule lets Press) before now turn (Claim Z3) r is ∙ ap led e;
       falls = λ c tries lets before now turn e. falls tries (by_rule lets Press) before now turn e;
     }

@@ -6,16 +6,16 @@ use Rattle.cell_parts.specs.declared.parts.robot.RobotPart.{RobotPart}
 use Rattle.cell_parts.specs.declared.parts.press.PressPart.{PressPart}
 use Rattle.cell_parts.specs.declared.parts.deposit.DepositPart.{DepositPart}
 use Rattle.cell_parts.specs.declared.parts.crane.CranePart.{CranePart}
-use Rattle.cell_threads.specs.declared.worker_result.UnitOutcome.{UnitOutcome}
+use Rattle.cell_threads.specs.declared.worker_result.UnitOutput.{UnitOutput}
 use Rattle.cell_threads.specs.declared.per_machine.PerMachine.{PerMachine}
 
 -- what is left of the machines of a cell
-abbrev pub CellOutcomes : Type 0
-CellOutcomes =
-    PerMachine (UnitOutcome FeedPart) (UnitOutcome TablePart) (UnitOutcome RobotPart)
-    (UnitOutcome PressPart) (UnitOutcome DepositPart) (UnitOutcome CranePart)
+abbrev pub CellOutputs : Type 0
+CellOutputs =
+    PerMachine (UnitOutput FeedPart) (UnitOutput TablePart) (UnitOutput RobotPart)
+    (UnitOutput PressPart) (UnitOutput DepositPart) (UnitOutput CranePart)
 
-abbrev pub parts_in : CellOutcomes → PlantState
+abbrev pub parts_in : CellOutputs → PlantState
 parts_in each =
     record {
       feed = each.feed.part.belt;

@@ -14,29 +14,29 @@ use cell_notes::{Counts, RunRecord, Status};
 use cell_parts::{CranePart, DepositPart, FeedPart, PressPart, RobotPart, TablePart};
 use cell_plant::Cell;
 use cell_rules::State;
-use cell_threads::{Gate, PerMachine, RunFault, SixRecord, UnitOutcome, run_workers};
+use cell_threads::{Gate, PerMachine, RunFault, SixRecord, UnitOutput, run_workers};
 use std::alloc::Global;
 use std::sync::Wait;
 use std::thread::Threads;
 
 // What is left of the machines of a cell.
-type CellOutcomes = PerMachine<
-    UnitOutcome<FeedPart>,
-    UnitOutcome<TablePart>,
-    UnitOutcome<RobotPart>,
-    UnitOutcome<PressPart>,
-    UnitOutcome<DepositPart>,
-    UnitOutcome<CranePart>,
+type CellOutputs = PerMachine<
+    UnitOutput<FeedPart>,
+    UnitOutput<TablePart>,
+    UnitOutput<RobotPart>,
+    UnitOutput<PressPart>,
+    UnitOutput<DepositPart>,
+    UnitOutput<CranePart>,
 >;
 
 // The record of six workers that are a cell's machines.
 type CellRecord = SixRecord<
-    UnitOutcome<FeedPart>,
-    UnitOutcome<TablePart>,
-    UnitOutcome<RobotPart>,
-    UnitOutcome<PressPart>,
-    UnitOutcome<DepositPart>,
-    UnitOutcome<CranePart>,
+    UnitOutput<FeedPart>,
+    UnitOutput<TablePart>,
+    UnitOutput<RobotPart>,
+    UnitOutput<PressPart>,
+    UnitOutput<DepositPart>,
+    UnitOutput<CranePart>,
 >;
 
 /// Runs a cell that was made for a start. Each machine takes up to `turns` turns in a thread of its
@@ -96,26 +96,26 @@ where
 // The record of a run, by that of its six workers.
 fn run_record_of(six: CellRecord) -> RunRecord
     ensures start { result.start ≡ six.start }
-    ensures counts { result.counts ≡ six.outcomes.feed.counts ∷ six.outcomes.table.counts ∷ six.outcomes.robot.counts
-        ∷ six.outcomes.press.counts ∷ six.outcomes.deposit.counts ∷ six.outcomes.crane.counts ∷ no_counts ∷ [] }
-    ensures status { result.status ≡ six.outcomes.feed.status ∷ six.outcomes.table.status ∷ six.outcomes.robot.status
-        ∷ six.outcomes.press.status ∷ six.outcomes.deposit.status ∷ six.outcomes.crane.status ∷ Status.Fine ∷ [] }
+    ensures counts { result.counts ≡ six.outputs.feed.counts ∷ six.outputs.table.counts ∷ six.outputs.robot.counts
+        ∷ six.outputs.press.counts ∷ six.outputs.deposit.counts ∷ six.outputs.crane.counts ∷ no_counts ∷ [] }
+    ensures status { result.status ≡ six.outputs.feed.status ∷ six.outputs.table.status ∷ six.outputs.robot.status
+        ∷ six.outputs.press.status ∷ six.outputs.deposit.status ∷ six.outputs.crane.status ∷ Status.Fine ∷ [] }
     ensures journals { result.journals ≡ six.journals }
     ensures end { result.end ≡ Some six.end }
-    ensures axes { result.axes ≡ positions_in (parts_in six.outcomes) }
+    ensures axes { result.axes ≡ positions_in (parts_in six.outputs) }
 {
     RunRecord {
         start: six.start,
-        counts: counts_of(&six.outcomes),
-        status: status_of(&six.outcomes),
-        axes: axes_of(&six.outcomes),
+        counts: counts_of(&six.outputs),
+        status: status_of(&six.outputs),
+        axes: axes_of(&six.outputs),
         end: Some(six.end),
         journals: six.journals,
     }
 }
 
 // The counts of each machine, in the order of `Machine::ALL`.
-fn counts_of(each: &CellOutcomes) -> [Counts; 7]
+fn counts_of(each: &CellOutputs) -> [Counts; 7]
     ensures { result ≡ each.now.feed.counts ∷ each.now.table.counts ∷ each.now.robot.counts ∷ each.now.press.counts
         ∷ each.now.deposit.counts ∷ each.now.crane.counts ∷ no_counts ∷ [] }
 {
@@ -131,7 +131,7 @@ fn counts_of(each: &CellOutcomes) -> [Counts; 7]
 }
 
 // The status of each machine, in the same order.
-fn status_of(each: &CellOutcomes) -> [Status; 7]
+fn status_of(each: &CellOutputs) -> [Status; 7]
     ensures { result ≡ each.now.feed.status ∷ each.now.table.status ∷ each.now.robot.status ∷ each.now.press.status
         ∷ each.now.deposit.status ∷ each.now.crane.status ∷ Status.Fine ∷ [] }
 {
@@ -147,7 +147,7 @@ fn status_of(each: &CellOutcomes) -> [Status; 7]
 }
 
 // The positions of the axes, in the order of reports.
-fn axes_of(each: &CellOutcomes) -> [i32; 8]
+fn axes_of(each: &CellOutputs) -> [i32; 8]
     ensures { result ≡ positions_in (parts_in each.now) }
 {
     [

@@ -67,17 +67,17 @@ const WALKED: u64 = 0x8ebe0a45669b9ad7;
 
 const CALLERS: [u8; 4] = [0, 1, 2, 15];
 
-fn mixed(sum: u64, value: u64) -> u64 {
+fn mix(sum: u64, value: u64) -> u64 {
     (sum ^ value).wrapping_mul(1_099_511_628_211)
 }
 
-fn mixed_reply(sum: u64, reply: Reply) -> u64 {
-    let sum = mixed(
-        mixed(mixed(sum, reply.next), u64::from(reply.answer)),
+fn mix_reply(sum: u64, reply: Reply) -> u64 {
+    let sum = mix(
+        mix(mix(sum, reply.next), u64::from(reply.answer)),
         u64::from(reply.owner),
     );
-    let sum = mixed(mixed(sum, u64::from(reply.zone)), u64::from(reply.posture));
-    mixed(sum, u64::from(reply.plate))
+    let sum = mix(mix(sum, u64::from(reply.zone)), u64::from(reply.posture));
+    mix(sum, u64::from(reply.plate))
 }
 
 // The lift, answered by the rules.
@@ -106,7 +106,7 @@ fn walks_as_c_does(rt: HostRuntime) -> Result<(), Fail> {
             }
             None => bare_reply(NO_CALL, pack(&plan, &layout, &state)),
         };
-        sum = mixed_reply(sum, reply);
+        sum = mix_reply(sum, reply);
     }
     assert_eq!(rt; sum, WALKED);
     Ok(())

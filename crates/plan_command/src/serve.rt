@@ -20,7 +20,7 @@ use crate::request::Request;
 use cell_shell::{Exit, fail, print, print_version, refuse_words, texts_or_exit, words_or_exit};
 use cell_text::{InputFault, read_up_to};
 use plan_document::{ProgrammedPlan, plan_of, read_plan};
-use plan_replay::{Answered, Outcome, ReplayFault, answer_script, start_of_script};
+use plan_replay::{ScriptAnswers, Outcome, ReplayFault, answer_script, start_of_script};
 use plan_rules::State;
 use plan_text::NamedPlan;
 use std::alloc::{AllocError, Global};
@@ -218,7 +218,7 @@ fn explore_from<W: Write>(
 }
 
 /// Prints answers. Returns `Well` if they were written and no record was refused.
-fn print_answers<W: Write>(writer: &mut W, answered: &Answered) -> Exit
+fn print_answers<W: Write>(writer: &mut W, answered: &ScriptAnswers) -> Exit
     ensures status { result ≢ Exit.Refused }
     ensures clean { result ≡ Exit.Well → answered.now.outcome ≡ Outcome.Clean }
     ensures written { result ≡ Exit.Well →

@@ -9,4 +9,4 @@ pub mod start;
 
 pub use opening::start_of_script;
 pub use replay::{MAX_RECORDS, answer_script};
-pub use script::{Answered, Outcome, ReplayFault, ScriptFault};
+pub use script::{ScriptAnswers, Outcome, ReplayFault, ScriptFault};

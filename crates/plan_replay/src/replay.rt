@@ -5,7 +5,7 @@ ghost use Rattle.plan_text.specs.Answers.{answer_text};
 ghost use Rattle.plan_replay.specs.Script as spec;
 
 use crate::request::read_request;
-use crate::script::{Answered, Outcome, ReplayFault, ScriptFault};
+use crate::script::{ScriptAnswers, Outcome, ReplayFault, ScriptFault};
 use crate::start::{plates, read_start};
 use csv::{ByteRecord, Reader, ReaderBuilder};
 use csv_rows::read_row;
@@ -25,7 +25,7 @@ pub fn answer_script(
     alloc: Global,
     named: &NamedPlan,
     script: &[u8],
-) -> Result<Answered, ReplayFault>
+) -> Result<ScriptAnswers, ReplayFault>
     ensures { IfOk result (λ answered. answered ≡ spec.script_answers named.now script.now) }
 {
     let mut reader = ReaderBuilder::new()
@@ -40,7 +40,7 @@ fn answer_rows<R: Read>(
     alloc: Global,
     named: &NamedPlan,
     reader: &mut Reader<R>,
-) -> Result<Answered, ReplayFault>
+) -> Result<ScriptAnswers, ReplayFault>
     requires { IsPlain reader.old }
     ensures { IfOk result (λ answered. (rows : List Row) → HasRows R.remaining reader.old rows →
         answered ≡ spec.rows_answers named.now rows) }
@@ -66,7 +66,7 @@ fn answer_later<R: Read>(
     reader: &mut Reader<R>,
     start: State,
     before: String,
-) -> Result<Answered, ReplayFault>
+) -> Result<ScriptAnswers, ReplayFault>
     requires { IsPlain reader.old }
     ensures { IfOk result (λ answered. (rows : List Row) → HasRows R.remaining reader.old rows →
         answered ≡ spec.with_text (string_bytes before) (spec.answers_of named.now 0 start rows)) }
@@ -91,7 +91,7 @@ fn answer_later<R: Read>(
 }
 
 /// The answers with the line of a fault, if the script is refused.
-fn end(before: String, outcome: Outcome) -> Result<Answered, ReplayFault>
+fn end(before: String, outcome: Outcome) -> Result<ScriptAnswers, ReplayFault>
     ensures { IfOk result (λ answered. answered
         ≡ spec.with_text (string_bytes before) (spec.ends outcome)) }
 {
@@ -99,7 +99,7 @@ fn end(before: String, outcome: Outcome) -> Result<Answered, ReplayFault>
     if let Outcome::Refused(fault) = outcome {
         push_fault(&mut text, fault)?;
     }
-    Ok(Answered { text, outcome })
+    Ok(ScriptAnswers { text, outcome })
 }
 
 /// Adds the line of a fault.

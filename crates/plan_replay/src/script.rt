@@ -45,12 +45,12 @@ pub enum Outcome {
 
 /// The text that answers a script, and how the script ended.
 #[derive(Debug, Drop)]
-pub struct Answered {
+pub struct ScriptAnswers {
     pub(crate) text: String,
     pub(crate) outcome: Outcome,
 }
 
-impl Model for Answered {
+impl Model for ScriptAnswers {
     ghost use Rattle.std.specs.Prelude.{string_bytes};
     ghost use Rattle.plan_replay.specs.Script.{Answers};
 
@@ -59,7 +59,7 @@ impl Model for Answered {
     ghost view = { λ a. record { text = string_bytes a.text; outcome = a.outcome } };
 }
 
-impl Answered {
+impl ScriptAnswers {
     /// The text: a line for each record, and the line of a fault if the script is refused.
     pub fn text(&self) -> &str
         ensures { result.now ≡ self.now.text }

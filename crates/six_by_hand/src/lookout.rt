@@ -43,7 +43,7 @@ impl Watching for Lookout {
         WorkerResult {
             pass,
             journal,
-            outcome: Lookout {
+            output: Lookout {
                 looks: looks.saturating_add(1),
                 stops: stops.saturating_add(u32::from(is_stopped)),
                 stops_in,
@@ -94,7 +94,7 @@ fn resume_if(line: &mut PassLine<'_>, is_stopped: bool)
 fn look(line: &mut PassLine<'_>) -> bool
     ensures { IsSamePass line.old.pass line.new.pass }
 {
-    line.survey().stopped()
+    line.survey().is_stopped()
 }
 
 // Makes a call, and says whether it is done.

@@ -111,7 +111,7 @@ where
         Ok(left) => left,
         Err(fault) => return Err(fault),
     };
-    let six = &left.outcomes;
+    let six = &left.outputs;
     let statuses = PerMachine {
         feed: six.feed.status,
         table: six.table.status,

@@ -33,7 +33,7 @@ impl<R: Rules> TableRule<(), View<R>, Origin<R, R::State>> for OneHistory<R> {
 }
 
 /// Says what a step tells.
-pub trait Told<S, V> {
+pub trait Telling<S, V> {
     ghost use Rattle.std.specs.Prelude.{ℕ};
     ghost use Rattle.atomic_table.specs.Table.{Step, Me};
 
@@ -41,7 +41,7 @@ pub trait Told<S, V> {
 }
 
 // The proof of a call at `Brand` picks `then` itself (as `ghosts-load_for` in `proofs/`), so this isn't read.
-impl<S, V> Told<S, V> for Brand {
+impl<S, V> Telling<S, V> for Brand {
     ghost use Rattle.std.specs.Prelude.{⊤};
 
     ghost then = { λ _ _ _ _. ⊤ };
@@ -52,7 +52,7 @@ pub struct Tells<A> {
     told: PhantomData<A>,
 }
 
-impl<S, V, A: Told<S, V>> Play<S, V> for Tells<A> {
+impl<S, V, A: Telling<S, V>> Play<S, V> for Tells<A> {
     ghost then = { A.then };
 }
 

@@ -6,13 +6,13 @@ ghost use Rattle.word_interlock.specs.Steps.{Loaded, Exchanged, IsReady};
 
 use crate::interlock::Interlock;
 use crate::pass::Pass;
-use crate::rule::{Tells, Told, View};
+use crate::rule::{Tells, Telling, View};
 use crate::rules::Rules;
 use atomic_table::Seat;
 use std::marker::Brand;
 
 impl<R: Rules> Interlock<R> {
-    fn load_for<A: Told<(), View<R>>>(&self, pass: &mut Pass<R>, call: R::Call) -> u64
+    fn load_for<A: Telling<(), View<R>>>(&self, pass: &mut Pass<R>, call: R::Call) -> u64
         requires told { (st : _) (me : _) (word : ℕ) (me' : _) → A.then st me word me'
             ↔ looked (R.book self.now.rules) self.now.rules call (view_of pass.old) word me' }
         requires same_interlock { pass.old.table ≡ self.now.table }
@@ -29,7 +29,7 @@ impl<R: Rules> Interlock<R> {
         self.load_for::<Brand>(pass, call)
     }
 
-    fn exchange_for<A: Told<(), View<R>>>(
+    fn exchange_for<A: Telling<(), View<R>>>(
         &self,
         pass: &mut Pass<R>,
         call: R::Call,
@@ -99,7 +99,7 @@ impl<R: Rules> Interlock<R> {
         self.rules.stamp_of(word)
     }
 
-    fn sync_for<A: Told<(), View<R>>>(&self, seat: &mut Seat<(), View<R>>) -> u64
+    fn sync_for<A: Telling<(), View<R>>>(&self, seat: &mut Seat<(), View<R>>) -> u64
         requires told { (st : _) (me : _) (word : ℕ) (me' : _) → A.then st me word me'
             ↔ gathered (R.book self.now.rules) self.now.rules me word me' }
         requires same_interlock { seat.old.table_id ≡ self.now.table }

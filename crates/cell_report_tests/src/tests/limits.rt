@@ -113,7 +113,7 @@ fn inquiries(rt: &impl Abort, alloc: Global, count: u32, last: &str) -> String {
 }
 
 /// The text for 65,536 inquiries and a last record, if the script has this outcome.
-fn told(rt: &impl Abort, alloc: Global, last: &str, outcome: Outcome) -> Option<Vec<u8>> {
+fn text_after(rt: &impl Abort, alloc: Global, last: &str, outcome: Outcome) -> Option<Vec<u8>> {
     let script = inquiries(rt, alloc, 65_536, last);
     let mut written = Vec::new(alloc);
     if replay(alloc, &mut script.as_bytes(), &mut written) == Ok(outcome) {
@@ -156,7 +156,7 @@ const TOO_MANY: &[&str] = &["watch,inquire,z1\n", "nothing\n"];
 #[test]
 fn answers_most_records(rt: HostRuntime) {
     let alloc = rt.alloc();
-    let mut text = told(&rt, alloc, "", Outcome::Clean).expect(&rt, "a clean script");
+    let mut text = text_after(&rt, alloc, "", Outcome::Clean).expect(&rt, "a clean script");
     let first = "0 0 start 0\n1 0 zone free 0 closed\n2 0 zone free 0 closed\n";
     let last = "\n65536 0 zone free 0 closed\n";
     assert!(rt; has_most_lines(text.as_slice(), first, last));
@@ -164,7 +164,7 @@ fn answers_most_records(rt: HostRuntime) {
     text.extend_from_slice("fault long\n".as_bytes())
         .expect(&rt, "memory");
     for last in TOO_MANY {
-        let long = told(&rt, alloc, last, LONG).expect(&rt, "a long script");
+        let long = text_after(&rt, alloc, last, LONG).expect(&rt, "a long script");
         assert!(rt; long.as_slice() == text.as_slice(), "{last}");
     }
 }

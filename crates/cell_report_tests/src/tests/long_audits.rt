@@ -104,7 +104,7 @@ fn is_explained(journals: &mut Journals, start: &State, events: &[Event]) -> boo
     true
 }
 
-fn changed(numbers: &mut Numbers, entry: Entry) -> Entry {
+fn with_change(numbers: &mut Numbers, entry: Entry) -> Entry {
     let Entry {
         mut call,
         mut answer,
@@ -135,7 +135,7 @@ enum Verdict {
     Wrong,
 }
 
-fn audited(alloc: Global, journals: &mut Journals, start: &State, end: &State) -> Verdict {
+fn verdict_on(alloc: Global, journals: &mut Journals, start: &State, end: &State) -> Verdict {
     match audit(alloc, journals, start, Some(end)) {
         Ok(events) if is_explained(journals, start, &events) => Verdict::Explained,
         Ok(_) | Err(AuditFault::Memory) => Verdict::Wrong,
@@ -144,7 +144,7 @@ fn audited(alloc: Global, journals: &mut Journals, start: &State, end: &State) -
 }
 
 /// Changes an entry, audits the journals, and restores the entry.
-fn audited_changed(
+fn verdict_on_change(
     alloc: Global,
     numbers: &mut Numbers,
     journals: &mut Journals,
@@ -156,8 +156,8 @@ fn audited_changed(
     let Some(entry) = journal_mut(journals, machine).get(place).copied() else {
         return Verdict::Explained;
     };
-    put(journals, machine, place, changed(numbers, entry));
-    let got = audited(alloc, journals, start, end);
+    put(journals, machine, place, with_change(numbers, entry));
+    let got = verdict_on(alloc, journals, start, end);
     put(journals, machine, place, entry);
     got
 }
@@ -197,7 +197,7 @@ fn audits_changed_entries(rt: HostRuntime) {
     let (mut journals, end) = run(&rt, rt.alloc(), &mut numbers, &start, 10_000);
     let mut refusals = 0u32;
     for _ in 0..200 {
-        let got = audited_changed(rt.alloc(), &mut numbers, &mut journals, &start, &end);
+        let got = verdict_on_change(rt.alloc(), &mut numbers, &mut journals, &start, &end);
         assert!(rt; got != Verdict::Wrong);
         if got == Verdict::Refused {
             refusals = refusals.saturating_add(1);

@@ -97,7 +97,7 @@ const STATUS: [Status; 7] = [
 
 /// A run in which all machines, all axes and all counts of a machine differ. Its end isn't known,
 /// so the report has no line about it.
-fn mixed(rt: &impl Abort, alloc: Global) -> RunRecord {
+fn mixed_run(rt: &impl Abort, alloc: Global) -> RunRecord {
     RunRecord {
         start: start_at(rt, PLACES, 1_048_575),
         counts: [
@@ -295,7 +295,7 @@ fn tells_runs(rt: HostRuntime) {
     let alloc = rt.alloc();
     assert!(rt; is_reported(alloc, &press_alone(&rt, alloc), None, PRESS_ALONE, ""));
     assert!(rt; is_reported(alloc, &busy(&rt, alloc), None, BUSY_TEXT, ""));
-    let run = mixed(&rt, alloc);
+    let run = mixed_run(&rt, alloc);
     for (audit, line) in AUDITS {
         assert!(rt; is_reported(alloc, &run, *audit, MIXED, line), "{line}");
     }

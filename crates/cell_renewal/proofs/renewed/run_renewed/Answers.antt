@@ -31,6 +31,6 @@ returns-in-Ends g c =
         ends = subst (λ l. EndsRound g.W1.Worker.gives_back g.W2.Worker.gives_back g.W3.Worker.gives_back g.W4.Worker.gives_back g.W5.Worker.gives_back g.W6.Worker.gives_back
             g.H.Watching.watches g.S.RoundSink.takes c.args.renewal.tries c.args.renewal.turns (g.G.Gate.may_answer c.args.gate.now)
             (record { workers = c.rounds.workers; watch = c.rounds.watch; opening = c.rounds.opening; sink = c.rounds.sink }) l c.take_round.new.sink) (sym over.0) k.1;
-        not_all_fine = subst (λ l. ¬ AreAllFine g.W1.RenewedWorker.ended g.W2.RenewedWorker.ended g.W3.RenewedWorker.ended g.W4.RenewedWorker.ended g.W5.RenewedWorker.ended g.W6.RenewedWorker.ended l.outcomes) (sym over.0) over.1;
+        not_all_fine = subst (λ l. ¬ AreAllFine g.W1.RenewedWorker.ended g.W2.RenewedWorker.ended g.W3.RenewedWorker.ended g.W4.RenewedWorker.ended g.W5.RenewedWorker.ended g.W6.RenewedWorker.ended l.outputs) (sym over.0) over.1;
       };
     }

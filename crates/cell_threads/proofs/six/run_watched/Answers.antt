@@ -44,5 +44,5 @@ returns-clause-work g c =
     let end = c.close-ended.result.state in
     let closed = subst (λ (p : Passes). IsEnd i.opening p end) parts.ensures.passes c.close-ended.ensures.end in
     tells_watched g.W1.Worker.gives_back g.W2.Worker.gives_back g.W3.Worker.gives_back g.W4.Worker.gives_back g.W5.Worker.gives_back g.W6.Worker.gives_back g.H.Watching.watches c.args.workers c.args.watch i c.args.turns gate back.results done.given back.watched done.watched_so
-    (record { start = c.args.opening; journals = parts.result.0; end = end; outcomes = parts.result.2 }) closed parts.ensures.journals
-    c.args.opening c.args.tries new.opening new.limit refl parts.ensures.outcomes
+    (record { start = c.args.opening; journals = parts.result.0; end = end; outputs = parts.result.2 }) closed parts.ensures.journals
+    c.args.opening c.args.tries new.opening new.limit refl parts.ensures.outputs

@@ -35,7 +35,7 @@ loop-turn-preserved g c =
       come = comes_by (record { opening = g.L.Line.opening; seen = g.L.Line.seen; asks = g.L.Line.asks }) g.P.Program.steps g.B.Part.rig (g.G.Gate.may_answer c.args.gate.now (g.L.Line.machine c.args.line.now))
           unit.controller.program c.args.unit.now.controller.program (g.B.Part.make unit.part) (g.B.Part.make c.args.unit.now.part) old.program old.make first before now old.come
           (record {
-            runs = not_stopped unit.controller.stopped c.stopped.result c.is_some.result c.stopped.ensures c.is_some.ensures c.if-is_some.false;
+            runs = not_stopped unit.controller.stopped c.stopped_by.result c.is_some.result c.stopped_by.ensures c.is_some.ensures c.if-is_some.false;
             let_in = rw (old.taken, sym c.machine-machine.ensures) c.if-not-pass.ensures;
             asked = c.turn.result;
             row = t.row;

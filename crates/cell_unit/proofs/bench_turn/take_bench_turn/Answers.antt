@@ -10,7 +10,7 @@ returns-clause-turn g c =
     let unit = c.args.unit.now in
     let asked = c.turn-asked.result in
     let row = c.turn-asked.ensures.row in
-    let runs : is_none unit.controller.stopped ≡ true = ap not (ap is_some (sym c.stopped.ensures) ∙ sym c.is_some.ensures ∙ c.if-is_some.false) in
+    let runs : is_none unit.controller.stopped ≡ true = ap not (ap is_some (sym c.stopped_by.ensures) ∙ sym c.is_some.ensures ∙ c.if-is_some.false) in
     taken_on (g.P.Program.steps unit.controller.program) (g.B.Part.rig (g.B.Part.make unit.part)) c.args.machine c.args.busy (desk_of c.args.bench.now) (desk_of c.seat.new.self) (desk_of c.turn-asked.new.line) _ _ asked
     c.requires.machine c.seat.ensures.desk runs
     (record {

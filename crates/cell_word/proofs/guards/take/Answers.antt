@@ -28,8 +28,8 @@ returns-in_err-party c = refused_by (by_parts c.args.word (parts c.args.machine 
 pub returns-in_err-require_held : goal.returns-in_err-require_held
 returns-in_err-require_held c = refused_by (row_at (goal.at.returns-in_err-require_held c).In_ok-party) c.require_held.ensures c.in_err-require_held.was c.from_residual-in_err-require_held.ensures.1
 
-pub returns-in_err-pass : goal.returns-in_err-pass
-returns-in_err-pass c = refused_by (past (row_at (goal.at.returns-in_err-pass c).In_ok-party) c.require_held.ensures c.in_ok-require_held.was) (asked c.args.word c.pass.ensures (c.refuses.ensures ∙ ap (λ p. guard p NoPlate) c.flag.ensures)) c.in_err-pass.was c.from_residual-in_err-pass.ensures.1
+pub returns-in_err-check : goal.returns-in_err-check
+returns-in_err-check c = refused_by (past (row_at (goal.at.returns-in_err-check c).In_ok-party) c.require_held.ensures c.in_ok-require_held.was) (asked c.args.word c.pass.ensures (c.refuses.ensures ∙ ap (λ p. guard p NoPlate) c.flag.ensures)) c.in_err-pass.was c.from_residual-in_err-pass.ensures.1
 
 pub returns-in_err-require_stamp : goal.returns-in_err-require_stamp
 returns-in_err-require_stamp c = refused_by (past (past (row_at (goal.at.returns-in_err-require_stamp c).In_ok-party) c.require_held.ensures c.in_ok-require_held.was) (asked c.args.word c.pass.ensures (c.refuses.ensures ∙ ap (λ p. guard p NoPlate) c.flag.ensures)) c.in_ok-pass.was) c.require_stamp.ensures c.in_err-require_stamp.was c.from_residual-in_err-require_stamp.ensures.1

@@ -12,7 +12,7 @@ use Rattle.cell_plant.specs.Names.{robot_gauges, robot_points, robot_axes, posit
 use Rattle.cell_plant.specs.Watch.{watch_at_start}
 use Rattle.cell_workers.specs.Records.{TellsWork}
 use Rattle.cell_threads.specs.Results.{seen_in}
-use Rattle.cell_workers.specs.Results.{CellOutcomes, parts_in}
+use Rattle.cell_workers.specs.Results.{CellOutputs, parts_in}
 use Rattle.cell_threads.specs.Workers.{worker_moment}
 use Rattle.cell_workers.proofs.Recording.{AreWorkerResults, fitted_result, is_result_of, ready_at_start, tells}
 use Rattle.cell_workers.proofs.Unrefused.{work-unrefused}
@@ -51,12 +51,12 @@ returns-in-Ok-clause-work g c =
     let given = k.given in
     let back : AreWorkerResults scales gives i turns gate results =
     record {
-      feed = is_result_of scales gives i turns gate Feed (fresh_pass i Feed) sides.feed results.feed.pass results.feed.journal.items results.feed.outcome.counts results.feed.outcome.status results.feed.outcome.part.belt refl (ap (λ (s : Sides). s.feed) begins) given.feed.1;
-      table = is_result_of scales gives i turns gate Table (fresh_pass i Table) sides.table results.table.pass results.table.journal.items results.table.outcome.counts results.table.outcome.status results.table.outcome.part.plant refl (ap (λ (s : Sides). s.table) begins) (fitted_result i.tries (λ s. table_steps s gives.turn) (table_rig scales.turn) (gate Table) turns (worker_moment (fresh_pass i Table) sides.table no_counts) results.table.pass results.table.journal.items results.table.outcome.counts results.table.outcome.status results.table.outcome.part.plant turn.points scales.turn fits.turn given.table.1);
-      robot = is_result_of scales gives i turns gate Robot (fresh_pass i Robot) sides.robot results.robot.pass results.robot.journal.items results.robot.outcome.counts results.robot.outcome.status results.robot.outcome.part.plant refl (ap (λ (s : Sides). s.robot) begins) (fitted_result i.tries (λ s. robot_steps s (robot_gauges gives)) (robot_rig (robot_axes scales)) (gate Robot) turns (worker_moment (fresh_pass i Robot) sides.robot no_counts) results.robot.pass results.robot.journal.items results.robot.outcome.counts results.robot.outcome.status results.robot.outcome.part.plant (points_of robot) (robot_points scales) robot_fits given.robot.1);
-      press = is_result_of scales gives i turns gate Press (fresh_pass i Press) sides.press results.press.pass results.press.journal.items results.press.outcome.counts results.press.outcome.status results.press.outcome.part refl (ap (λ (s : Sides). s.press) begins) given.press.1;
-      deposit = is_result_of scales gives i turns gate Deposit (fresh_pass i Deposit) sides.deposit results.deposit.pass results.deposit.journal.items results.deposit.outcome.counts results.deposit.outcome.status results.deposit.outcome.part.belt refl (ap (λ (s : Sides). s.deposit) begins) given.deposit.1;
-      crane = is_result_of scales gives i turns gate Crane (fresh_pass i Crane) sides.crane results.crane.pass results.crane.journal.items results.crane.outcome.counts results.crane.outcome.status results.crane.outcome.part.plant refl (ap (λ (s : Sides). s.crane) begins) (fitted_result i.tries (λ s. crane_steps s gives.gripper) (crane_rig scales.gripper) (gate Crane) turns (worker_moment (fresh_pass i Crane) sides.crane no_counts) results.crane.pass results.crane.journal.items results.crane.outcome.counts results.crane.outcome.status results.crane.outcome.part.plant gripper.points scales.gripper fits.gripper given.crane.1);
+      feed = is_result_of scales gives i turns gate Feed (fresh_pass i Feed) sides.feed results.feed.pass results.feed.journal.items results.feed.output.counts results.feed.output.status results.feed.output.part.belt refl (ap (λ (s : Sides). s.feed) begins) given.feed.1;
+      table = is_result_of scales gives i turns gate Table (fresh_pass i Table) sides.table results.table.pass results.table.journal.items results.table.output.counts results.table.output.status results.table.output.part.plant refl (ap (λ (s : Sides). s.table) begins) (fitted_result i.tries (λ s. table_steps s gives.turn) (table_rig scales.turn) (gate Table) turns (worker_moment (fresh_pass i Table) sides.table no_counts) results.table.pass results.table.journal.items results.table.output.counts results.table.output.status results.table.output.part.plant turn.points scales.turn fits.turn given.table.1);
+      robot = is_result_of scales gives i turns gate Robot (fresh_pass i Robot) sides.robot results.robot.pass results.robot.journal.items results.robot.output.counts results.robot.output.status results.robot.output.part.plant refl (ap (λ (s : Sides). s.robot) begins) (fitted_result i.tries (λ s. robot_steps s (robot_gauges gives)) (robot_rig (robot_axes scales)) (gate Robot) turns (worker_moment (fresh_pass i Robot) sides.robot no_counts) results.robot.pass results.robot.journal.items results.robot.output.counts results.robot.output.status results.robot.output.part.plant (points_of robot) (robot_points scales) robot_fits given.robot.1);
+      press = is_result_of scales gives i turns gate Press (fresh_pass i Press) sides.press results.press.pass results.press.journal.items results.press.output.counts results.press.output.status results.press.output.part refl (ap (λ (s : Sides). s.press) begins) given.press.1;
+      deposit = is_result_of scales gives i turns gate Deposit (fresh_pass i Deposit) sides.deposit results.deposit.pass results.deposit.journal.items results.deposit.output.counts results.deposit.output.status results.deposit.output.part.belt refl (ap (λ (s : Sides). s.deposit) begins) given.deposit.1;
+      crane = is_result_of scales gives i turns gate Crane (fresh_pass i Crane) sides.crane results.crane.pass results.crane.journal.items results.crane.output.counts results.crane.output.status results.crane.output.part.plant refl (ap (λ (s : Sides). s.crane) begins) (fitted_result i.tries (λ s. crane_steps s gives.gripper) (crane_rig scales.gripper) (gate Crane) turns (worker_moment (fresh_pass i Crane) sides.crane no_counts) results.crane.pass results.crane.journal.items results.crane.output.counts results.crane.output.status results.crane.output.part.plant gripper.points scales.gripper fits.gripper given.crane.1);
     } in
     let told = c.run_record_of.ensures in
     let six = c.in-Ok.six in
@@ -73,9 +73,9 @@ returns-in-Ok-clause-work g c =
     (subst (λ e. IsAudited c.args.opening (journal_of six.journals) e history) (sym told.end) k.audited)))
     (told.start ∙ k.start ∙ sym k.opened)
     (told.end ∙ ap (λ s. Some s) k.end ∙ ap (λ s. Some (after s history)) (sym k.opened))
-    (told.counts ∙ ap (λ (x : CellOutcomes). x.feed.counts ∷ x.table.counts ∷ x.robot.counts ∷ x.press.counts ∷ x.deposit.counts ∷ x.crane.counts ∷ no_counts ∷ []) k.outcomes)
-    (told.status ∙ ap (λ (x : CellOutcomes). x.feed.status ∷ x.table.status ∷ x.robot.status ∷ x.press.status ∷ x.deposit.status ∷ x.crane.status ∷ Fine ∷ []) k.outcomes)
-    (told.axes ∙ ap (λ (x : CellOutcomes). positions_in (parts_in x)) k.outcomes)))
+    (told.counts ∙ ap (λ (x : CellOutputs). x.feed.counts ∷ x.table.counts ∷ x.robot.counts ∷ x.press.counts ∷ x.deposit.counts ∷ x.crane.counts ∷ no_counts ∷ []) k.outputs)
+    (told.status ∙ ap (λ (x : CellOutputs). x.feed.status ∷ x.table.status ∷ x.robot.status ∷ x.press.status ∷ x.deposit.status ∷ x.crane.status ∷ Fine ∷ []) k.outputs)
+    (told.axes ∙ ap (λ (x : CellOutputs). positions_in (parts_in x)) k.outputs)))
 
 pub returns-in-Ok-clause-none_refused : goal.returns-in-Ok-clause-none_refused
 returns-in-Ok-clause-none_refused g c =

@@ -9,7 +9,7 @@ load-requires g c =
     let me = c.pass.inside.seat.me in let st : Step (Unit {0}) = step c.self.inside.table.shared.table_id.slots 0 0 0 none in (
       search rules,
       search rules,
-      load_allowed g.R.Rules.book g.met.R.Rules.lawful _ _ _ _ _ me _ c.args.call (g.A.Told.then st me) (ap (λ i. i.rules) c.self.view_is)
+      load_allowed g.R.Rules.book g.met.R.Rules.lawful _ _ _ _ _ me _ c.args.call (g.A.Telling.then st me) (ap (λ i. i.rules) c.self.view_is)
           (alone_as _ _ _ _ c.pass.invariant.alone c.pass.view_is) (λ word me' told. (c.requires.told st me word me').1 told),
     )
 
