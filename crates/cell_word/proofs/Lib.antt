@@ -4,7 +4,7 @@ pub mod Growing
 pub mod RoundTrip
 pub mod Windows
 pub mod Seen
-pub mod PartyFacts
+pub mod PartyLemmas
 pub mod Trying
 pub mod Turning
 pub mod SameAnswer

@@ -1,6 +1,6 @@
 use Rattle.cell_word.proofs.Names.{Bool, Some, List, [], ◌∷◌, sym, ap, ◌∙◌, Ok, Machine, Zone, Closed, Moving, AlreadyMine, Held, Shut, Claim, guest_of, same_machine, other_party, written, when, owner_is, posture_is, guard, first_refusal, unless, went_on, Guard, machine_of, opposite, is_guest}
 use Rattle.cell_word.specs.Guards as guards
-use Rattle.cell_word.proofs.PartyFacts.{other_is, guest_is, owner_by}
+use Rattle.cell_word.proofs.PartyLemmas.{other_is, guest_is, owner_by}
 use Rattle.cell_word.proofs.Trying.{by_parts, InTurn, ends, past, refused_by, renamed}
 use Rattle.cell_word.proofs.guards.claim.Goals as goal
 use Rattle.cell_word.proofs.guards.claim.Goals.{In_ok-party}

@@ -2,7 +2,7 @@ use Rattle.cell_word.proofs.Names.{◌≡◌, Option, Ok, List, [], ◌∷◌, m
 use Rattle.cell_rules.specs.Types.{all_postures}
 use Rattle.cell_word.specs.Changes as changes
 use Rattle.cell_word.specs.Guards as guards
-use Rattle.cell_word.proofs.PartyFacts.{other_is}
+use Rattle.cell_word.proofs.PartyLemmas.{other_is}
 use Rattle.cell_word.proofs.Trying.{by_parts, InTurn, ends, past, refused_by, renamed}
 use Rattle.cell_word.proofs.guards.give.Goals as goal
 use Rattle.cell_word.proofs.guards.give.Goals.{In_ok-party}

@@ -1,6 +1,6 @@
 use Rattle.cell_word.proofs.Names.{◌≡◌, List, [], ◌∷◌, sym, ap, ◌∙◌, Ok, Some, Machine, Zone, Closed, Moving, Yield, other_party, written, first_refusal, unless, went_on, Guard, machine_of, opposite, owner_is}
 use Rattle.cell_word.specs.Guards as guards
-use Rattle.cell_word.proofs.PartyFacts.{other_is, owner_by}
+use Rattle.cell_word.proofs.PartyLemmas.{other_is, owner_by}
 use Rattle.cell_word.proofs.Trying.{by_parts, InTurn, ends, past, refused_by, renamed}
 use Rattle.cell_word.proofs.guards.hand_over.Goals as goal
 use Rattle.cell_word.proofs.guards.hand_over.Goals.{In_ok-party}

@@ -1,6 +1,6 @@
 use Rattle.cell_word.proofs.Names.{List, [], ◌∷◌, sym, ap, ◌∙◌, Ok, None, Machine, Zone, Moving, Release, other_party, written, first_refusal, unless, went_on, Guard, machine_of, opposite}
 use Rattle.cell_word.specs.Guards as guards
-use Rattle.cell_word.proofs.PartyFacts.{other_is, owner_by}
+use Rattle.cell_word.proofs.PartyLemmas.{other_is, owner_by}
 use Rattle.cell_word.proofs.Trying.{by_parts, InTurn, ends, past, refused_by, renamed}
 use Rattle.cell_word.proofs.guards.release.Goals as goal
 use Rattle.cell_word.proofs.guards.release.Goals.{In_ok-party}

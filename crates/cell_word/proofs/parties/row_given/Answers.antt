@@ -1,5 +1,5 @@
 use Rattle.cell_word.proofs.Names.{ap, ◌∙◌, transfer_of}
-use Rattle.cell_word.proofs.PartyFacts.{given_by_party}
+use Rattle.cell_word.proofs.PartyLemmas.{given_by_party}
 use Rattle.cell_word.proofs.parties.row_given.Goals as goal
 
 pub returns-clause-row : goal.returns-clause-row

@@ -1,5 +1,5 @@
 use Rattle.cell_word.proofs.Names.{ap, ◌∙◌, giving_posture, transfer_of}
-use Rattle.cell_word.proofs.PartyFacts.{received_by_party}
+use Rattle.cell_word.proofs.PartyLemmas.{received_by_party}
 use Rattle.cell_word.proofs.parties.row_received.Goals as goal
 
 pub returns : goal.returns
