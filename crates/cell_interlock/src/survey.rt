@@ -8,9 +8,9 @@ use crate::pass::Pass;
 use cell_rules::State;
 
 impl Interlock {
-    /// The whole state at one moment, as the screen of a plant shows it. It is the state after all
-    /// that the pass has now seen. That begins with what the pass had seen, and has no new event of
-    /// its own machine. No call is made, and no memory is allocated: this is one load.
+    /// The whole state at one moment. It is the state after all that the pass has now seen. That
+    /// begins with what the pass had seen, and has no new event of its own machine. No call is
+    /// made, and no memory is allocated: this is one load.
     ///
     /// The pass was made with this interlock.
     pub fn survey(&self, pass: &mut Pass) -> State

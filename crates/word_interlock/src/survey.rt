@@ -8,9 +8,9 @@ use crate::pass::Pass;
 use crate::rules::Rules;
 
 impl<R: Rules> Interlock<R> {
-    /// The whole state at one moment, as the screen of a plant shows it. It is the state after all
-    /// that the pass has now seen. That begins with what the pass had seen, and has no new event of
-    /// its own actor. No call is made, and no memory is allocated: this is one load.
+    /// The whole state at one moment. It is the state after all that the pass has now seen. That
+    /// begins with what the pass had seen, and has no new event of its own actor. No call is made,
+    /// and no memory is allocated: this is one load.
     ///
     /// The pass was made with this interlock.
     pub fn survey(&self, pass: &mut Pass<R>) -> R::State
