@@ -71,7 +71,7 @@ def link(source, to):
         os.symlink(source, to)
 
 
-def proved(name, libraries):
+def proved_program(name, libraries):
     """The program that the variable of this name in capitals names, or else that of proved/. Since that isn't part of
     the repository, it is proved and built in a copy, whose other crates are links, so that they are built once."""
     if name.upper() in os.environ:
@@ -98,13 +98,13 @@ def proved(name, libraries):
 
 def auditors():
     """The programs that audit AUDITED entries."""
-    return [proved("audit", "cell_report cell_rules cell_types")], [plain("audits")]
+    return [proved_program("audit", "cell_report cell_rules cell_types")], [plain("audits")]
 
 
 # Inputs
 
 
-def given(name, text):
+def write_input(name, text):
     """An input, as a file of out/."""
     with open(f"{OUT}/{name}", "w", encoding="ascii") as to:
         to.write(text)
@@ -112,7 +112,7 @@ def given(name, text):
 
 
 def configuration(name, schedule):
-    return given(name, f'start = "1010100010"\nschedule = "{schedule}"\n')
+    return write_input(name, f'start = "1010100010"\nschedule = "{schedule}"\n')
 
 
 def letters(count):
@@ -127,7 +127,7 @@ def letters(count):
 def records(count):
     """A script with this many records after the first."""
     calls = [CALLS[number % len(CALLS)] for number in range(count)]
-    return given(f"records_{count}.csv", "\n".join(["start,0100000000", *calls, ""]))
+    return write_input(f"records_{count}.csv", "\n".join(["start,0100000000", *calls, ""]))
 
 
 # How the programs that audit do so: not at all, giving the events, or only looking for a fault.
@@ -136,13 +136,13 @@ NO_AUDIT, EVENTS, FAULT = range(3)
 
 def entries(exponent, audit):
     """What the programs that audit read: the exponent of the number of entries, and how they audit."""
-    return given(f"entries_{exponent}_{audit}", f"{exponent}{audit}")
+    return write_input(f"entries_{exponent}_{audit}", f"{exponent}{audit}")
 
 
 # Runs
 
 
-def said(words, source):
+def output_of(words, source):
     """What a program writes. It has to succeed."""
     with open(source, "rb") as it:
         ran = subprocess.run(words, stdin=it, stdout=subprocess.PIPE, check=False)
@@ -153,16 +153,16 @@ def said(words, source):
 
 def numbers(words, source):
     """The numbers that a program writes."""
-    return [*map(int, said(words, source).split())]
+    return [*map(int, output_of(words, source).split())]
 
 
 def compare(programs, source):
     """Ends the command where these don't write the same."""
-    if len({said(words, source) for words in programs}) > 1:
+    if len({output_of(words, source) for words in programs}) > 1:
         sys.exit(f"{COMMAND}: {' and '.join(' '.join(words) for words in programs)} differ on {source}")
 
 
-def spent(words, source, processors=None):
+def time_run(words, source, processors=None):
     """The nanoseconds of a run of the whole program, by the clock and of the processors. It has to succeed."""
     files = (source, os.O_RDONLY), (os.devnull, os.O_WRONLY)
     how = [(os.POSIX_SPAWN_OPEN, number, *file, 0) for number, file in enumerate(files)]
@@ -182,8 +182,8 @@ def in_turn(count, *calls):
 
 
 def times(count, runs, processors=None):
-    """What `spent` gives of each of these runs, in so many turns. A run has a program's words and its input."""
-    return in_turn(count, *(lambda run=run: spent(*run, processors) for run in runs))
+    """What `time_run` gives of each of these runs, in so many turns. A run has a program's words and its input."""
+    return in_turn(count, *(lambda run=run: time_run(*run, processors) for run in runs))
 
 
 def audits(count, programs, source):
@@ -250,7 +250,7 @@ class Machine:
         return f"{len(PROCESSORS)} processors ({model}), load {max(busy - own, 0) / clock:.1f}"
 
 
-def shown(figure):
+def text_of(figure):
     return f"{figure:,.0f}" if figure >= 100 else f"{figure:.1f}" if figure >= 10 else f"{figure:.2f}"
 
 
@@ -259,7 +259,7 @@ def ratio(pair, unit):
     if None in pair:
         return NONE
     # (instructions are whole numbers)
-    one, other = map("{:,.0f}".format if unit.startswith(("a ", "an ", "in ")) else shown, pair)
+    one, other = map("{:,.0f}".format if unit.startswith(("a ", "an ", "in ")) else text_of, pair)
     return f"{pair[0] / pair[1]:.2f}: {one} / {other} {unit}"
 
 

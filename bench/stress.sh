@@ -56,7 +56,7 @@ import sys
 sys.dont_write_bytecode = True
 sys.path.insert(0, sys.argv[1])
 import edits
-texts, why = edits.edited(sys.argv[2], sys.argv[3])
+texts, why = edits.edited_texts(sys.argv[2], sys.argv[3])
 if why:
     sys.exit(f"{sys.argv[3]}: {why}")
 for path, text in texts.items():

@@ -152,7 +152,7 @@ def word_of(name):
     return OTHER_WORDS.get(name.name) or name.name.lower().replace("_", "")
 
 
-def named(kind, name):
+def name_of(kind, name):
     """The name of this kind that is meant by a name, a number or a word of scripts."""
     if isinstance(name, str):
         for it in kind:
@@ -262,10 +262,10 @@ class Word:
 
     def ask(self, machine, verb, thing=None):
         """Makes a call, by names, numbers or words of scripts, and gives the reply."""
-        machine, verb = named(Machine, machine), named(Verb, verb)
+        machine, verb = name_of(Machine, machine), name_of(Verb, verb)
         if (verb in WITHOUT_OBJECT) != (thing is None):
             raise ValueError(f"{word_of(verb)} takes {'no' if thing else 'an'} object")
-        about = 0 if thing is None else named(Pose if verb == Verb.SET_POSE else Zone, thing)
+        about = 0 if thing is None else name_of(Pose if verb == Verb.SET_POSE else Zone, thing)
         with self.lock:
             if self.renews and self.stamp == LAST_STAMP:
                 self.value = self.restamped(0)
@@ -299,7 +299,7 @@ class Word:
 
     def is_full(self, place):
         """Whether a plate is at the place."""
-        return self.library.bagunjoki_is_full(self.value, named(Place, place))
+        return self.library.bagunjoki_is_full(self.value, name_of(Place, place))
 
     def full_places(self):
         """The places that are full."""

@@ -38,7 +38,7 @@ def note_of(call, lost, text):
     return lost << 34 | call << 28 | number << 20 | int(stamp)
 
 
-def judged(rows):
+def judge(rows):
     """How many calls a log has, and what is wrong with it, or None."""
     begun = steps.start_of(rows[0]) if rows else None
     if not begun:
@@ -63,7 +63,7 @@ def judged(rows):
 def main():
     if len(sys.argv) != 2 or sys.argv[1].startswith("--"):
         sys.exit(__doc__)
-    calls, wrong = judged(steps.records(sys.argv[1]))
+    calls, wrong = judge(steps.records(sys.argv[1]))
     print(f"wrong: {wrong}" if wrong else f"{calls} calls: one legal history has them all")
     sys.exit(1 if wrong else 0)
 

@@ -14,7 +14,7 @@ or 'press meet robot'. 'seen' shows what each has been told. After each step it 
 import sys
 
 import steps
-from steps import CALLS, KINDS, LAST_STAMP, LETTER, MACHINES, RIGHT, State, SystemState, Told, answer_words, call_of, fault_of, kept, reply_at, words
+from steps import CALLS, KINDS, LAST_STAMP, LETTER, MACHINES, RIGHT, State, SystemState, Told, answer_words, call_of, fault_of, first_equal, reply_at, words
 
 
 class Play:
@@ -41,22 +41,22 @@ class Play:
         if step in ("meet", "tell") and call is None and not pending and len(fields) > 2 and fields[2] in MACHINES:
             other = MACHINES.index(fields[2])
             if other != machine and not self.state.held[other]:
-                return self.met(machine, other) if step == "meet" else self.told(machine, other)
+                return self.meet(machine, other) if step == "meet" else self.tell(machine, other)
         return "no step"
 
-    def told(self, machine, other):
+    def tell(self, machine, other):
         """A receipt of the machine goes to the other."""
-        self.journals[other][1].append(Told(None, LETTER, self.seen(machine), 0))
+        self.journals[other][1].append(Told(None, LETTER, self.stamp_seen_by(machine), 0))
         return "told"
 
-    def met(self, machine, other):
+    def meet(self, machine, other):
         """Each tells the other, and loads."""
-        self.told(machine, other)
-        self.told(other, machine)
-        self.state = self.state.finding(machine, None).finding(other, None)
+        self.tell(machine, other)
+        self.tell(other, machine)
+        self.state = self.state.with_last_found(machine, None).with_last_found(other, None)
         return "met"
 
-    def seen(self, machine):
+    def stamp_seen_by(self, machine):
         """The stamp that the machine has seen."""
         return max((it.stamp for it in self.journals[machine][1]), default=self.word[1])
 
@@ -68,9 +68,9 @@ class Play:
         self.journals[machine][1].append(told)
         return answer_words(told)
 
-    def shown(self, fields):
+    def text_of_word(self, fields):
         """The word that the machine of a line has now."""
-        return steps.shown(self.state.word(MACHINES.index(fields[0]))) if fields and fields[0] in MACHINES else ""
+        return steps.text_of(self.state.word(MACHINES.index(fields[0]))) if fields and fields[0] in MACHINES else ""
 
 
 def play_steps(rows, kind, with_words):
@@ -81,7 +81,7 @@ def play_steps(rows, kind, with_words):
     play, lines = Play(kind, *begun), []
     for number, fields in enumerate(rows[1:], 1):
         line = f"{number} {play.step(fields)}"
-        lines.append(f"{line:<32} {play.shown(fields)}" if with_words else line)
+        lines.append(f"{line:<32} {play.text_of_word(fields)}" if with_words else line)
     return lines
 
 
@@ -95,7 +95,7 @@ def play_script(rows, with_words=False):
     state = State.start([it == "1" for it in digits]) if is_start else None
     if state is None or not (first.isascii() and first.isdigit()) or len(first) > 7 or int(first) > LAST_STAMP:
         return ["fault badstart"], False
-    word = (kept(state), int(first))
+    word = (first_equal(state), int(first))
     lines = [f"0 {word[1]} {version} {state.plates()}"]
     for number, fields in enumerate(rows[1:], 1):
         call = call_of(fields[1:])
@@ -103,7 +103,7 @@ def play_script(rows, with_words=False):
             return [*lines, f"fault badrow {number}"], False
         answer, word = reply_at(word, MACHINES.index(fields[0]), call)
         line = f"{number} {word[1]} {words(answer)}"
-        lines.append(f"{line:<32} {steps.shown(word)}" if with_words else line)
+        lines.append(f"{line:<32} {steps.text_of(word)}" if with_words else line)
     return lines, True
 
 
@@ -128,7 +128,7 @@ def play_class(play):
                     print(f"    {MACHINES[machine]:<8} {what}")
         elif fields:
             number += 1
-            print(f"{number} {play.step(fields)}\n    word {play.shown(fields)}")
+            print(f"{number} {play.step(fields)}\n    word {play.text_of_word(fields)}")
             fault = fault_of(play.word, play.tries, play.journals)
             if fault:
                 print(f"    no legal history: {fault}")

@@ -26,7 +26,7 @@ Told = namedtuple("Told", "call answer stamp lost since", defaults=[None])
 KEPT = {}
 
 
-def kept(state):
+def first_equal(state):
     """The same state, as it was met first. So equal states are one object."""
     return KEPT.setdefault(state.key(), state)
 
@@ -37,7 +37,7 @@ def start_of(fields):
     if fields[:1] != ["start"] or len(digits) != 10 or set(digits) - set("01") or tries not in map(str, range(1, 65)):
         return None
     state = State.start([it == "1" for it in digits])
-    return state and ((kept(state), 0), int(tries))
+    return state and ((first_equal(state), 0), int(tries))
 
 
 def call_of(fields):
@@ -52,7 +52,7 @@ def reply_at(word, machine, call):
     found = state.answer(machine, call)
     if not isinstance(found, State):
         return found, word
-    return (refusal(WORN), word) if stamp == LAST_STAMP else (DONE, (kept(found), stamp + 1))
+    return (refusal(WORN), word) if stamp == LAST_STAMP else (DONE, (first_equal(found), stamp + 1))
 
 
 class SystemState:
@@ -78,12 +78,12 @@ class SystemState:
         """The word that the machine loads."""
         return self.words[self.at(machine)]
 
-    def holding(self, machine, pending):
+    def with_pending(self, machine, pending):
         """The state in which the machine has this pending call, or none."""
         held = self.held[:machine] + (pending,) + self.held[machine + 1 :]
         return SystemState(self.kind, self.tries, self.words, held, self.found)
 
-    def finding(self, machine, word):
+    def with_last_found(self, machine, word):
         """The state in which the machine has found this word last."""
         found = self.found[:machine] + (word,) + self.found[machine + 1 :] if self.kind == ACCEPT_FORGETS else self.found
         return SystemState(self.kind, self.tries, self.words, self.held, found)
@@ -93,10 +93,10 @@ class SystemState:
         word = self.found[machine] or self.word(machine)
         if reply_at(word, machine, call)[0] == DONE:
             word = self.word(machine)
-        state = self.finding(machine, word)
+        state = self.with_last_found(machine, word)
         answer, new = reply_at(word, machine, call)
         if answer == DONE:
-            return state.holding(machine, Try(call, word, new, 0, word[1])), None
+            return state.with_pending(machine, Try(call, word, new, 0, word[1])), None
         return state, Told(call, answer, word[1], 0)
 
     def attempt(self, machine):
@@ -104,7 +104,7 @@ class SystemState:
         call, old, new, lost, since = self.held[machine]
         at = self.at(machine)
         found = self.words[at]
-        free = self.holding(machine, None).finding(machine, new if found == old else found)
+        free = self.with_pending(machine, None).with_last_found(machine, new if found == old else found)
         if found == old or self.kind == STORE:
             free.words = self.words[:at] + (new,) + self.words[at + 1 :]
         if found == old:
@@ -115,7 +115,7 @@ class SystemState:
             return free, Told(call, answer, found[1], lost)
         if lost == (1 if self.kind == BUSY_AFTER_ONE else self.tries):
             return free, Told(call, BUSY, found[1], lost, since)
-        return free.holding(machine, Try(call, found, new, lost, since)), None
+        return free.with_pending(machine, Try(call, found, new, lost, since)), None
 
     def ask(self, machine, call):
         """A whole call, with no other step in it. So it loses no exchange."""
@@ -162,7 +162,7 @@ def sentence(machine, told):
     return f"{MACHINES[machine]}, {CALLS[told.call]} was told '{answer_words(told)}'"
 
 
-def packed(word):
+def bits_of(word):
     """The 64 bits of docs/WORD.md."""
     state, stamp = word
     bits = stamp << 40 | state.stopped << 60
@@ -172,7 +172,7 @@ def packed(word):
     return bits | sum(1 << 30 + place for place in range(10) if state.full[place])
 
 
-def shown(word):
+def text_of(word):
     """A word for people: its bits, its stamp, and the zones and places that aren't as in an empty start."""
     state, stamp = word
     parts = [f"stamp {stamp}"]
@@ -181,7 +181,7 @@ def shown(word):
         if owner != NOBODY or posture != "closed":
             parts.append(f"z{zone + 1} {'free' if owner == NOBODY else MACHINES[owner]} {posture}" + " plate" * state.flag[zone])
     parts += [PLACES[place] for place in range(10) if state.full[place]] + ["stopped"] * state.stopped
-    return f"{packed(word):016x}  {', '.join(parts)}"
+    return f"{bits_of(word):016x}  {', '.join(parts)}"
 
 
 def records(path):

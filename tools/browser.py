@@ -15,7 +15,7 @@ NAMES = ["chromium", "chromium-browser", "google-chrome"]
 FLAGS = ["--headless", "--no-sandbox", "--disable-gpu", "--hide-scrollbars", "--no-first-run", "--remote-debugging-pipe"]
 
 
-def found():
+def find_browser():
     """The path of the browser, or None."""
     return next(filter(None, map(shutil.which, NAMES)), None)
 
@@ -31,7 +31,7 @@ class Browser:
             os.dup2(to_it, 3)
             os.dup2(from_it, 4)
 
-        command = [found(), *FLAGS, f"--user-data-dir={folder}"]
+        command = [find_browser(), *FLAGS, f"--user-data-dir={folder}"]
         quiet = {"stdin": subprocess.DEVNULL, "stdout": subprocess.DEVNULL, "stderr": subprocess.DEVNULL}
         self.process = subprocess.Popen(command, preexec_fn=connect, close_fds=False, **quiet)
         os.close(to_it)
@@ -123,7 +123,7 @@ class Browser:
 
 
 @contextlib.contextmanager
-def opened():
+def open_browser():
     """A browser with a home of its own, which goes with it."""
     folder = tempfile.mkdtemp()
     browser = Browser(folder)

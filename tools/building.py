@@ -72,7 +72,7 @@ class Building:
         self.begun = self.sum()
         return True
 
-    def reading(self):
+    def input_words(self):
         """The words by which rattle reads the crate over the libraries below it."""
         words = ["--crate-name", self.name, "src/main.rt" if self.is_program else "src/lib.rt"]
         for it in [f"{KIT}/rlibs/std.rlib", *self.rlibs]:
@@ -84,7 +84,7 @@ class Building:
 
     def words(self, _side_by_side, idle):
         how = ["--toolchain", f"{KIT}/toolchain"] if self.is_program else ["--statements"]
-        return ["rattle", "build", *self.reading(), *how, "--jobs", str(self.jobs(idle)), "-o", self.made]
+        return ["rattle", "build", *self.input_words(), *how, "--jobs", str(self.jobs(idle)), "-o", self.made]
 
     def jobs(self, idle):
         """How many jobs the crate has: a second one if it is long and a processor would be idle else, since it costs some 30 s of

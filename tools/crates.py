@@ -37,7 +37,7 @@ def rows(root):
     return found
 
 
-def listed(root):
+def crates_in(root):
     """The crates of crates.txt by name, each with the crates of the repository that it uses."""
     found = rows(root)
     return {name: [it for it in libraries if it in found] for name, libraries in found.items()}
@@ -150,7 +150,7 @@ class Running:
             how |= {"cwd": folder, "stdin": subprocess.DEVNULL, "stdout": to, "stderr": to, "env": {**os.environ, "TMPDIR": scratch}}
             self.commands[key] = subprocess.Popen(words, **how)
 
-    def ended(self, seconds):
+    def wait_for_any(self, seconds):
         """The statuses of the commands that have ended, by their keys. Waits for the first at most these seconds."""
         until = time.monotonic() + seconds
         while True:
@@ -346,7 +346,7 @@ class Order:
     """The crates to prove, those with the longest way above them first, and those that are proved."""
 
     def __init__(self, root, names, is_done):
-        self.uses, order, self.spent, self.done = listed(root), [], costs(), set()
+        self.uses, order, self.spent, self.done = crates_in(root), [], costs(), set()
         for name in names:
             order += [it for it in [*below(self.uses, name), name] if it not in order]
         self.urgent = sorted(order, key=lambda it: -ahead(self.uses, order, it, self.spent))
@@ -396,7 +396,7 @@ class Proving:
 
     def end(self):
         """Takes over what has been proved within a second. Answers a crate that failed."""
-        for name, status in self.running.ended(1).items():
+        for name, status in self.running.wait_for_any(1).items():
             self.places.pop(name).leave(status == 0)
             if status:
                 return name
@@ -415,7 +415,7 @@ def prove(root, names, folder, place_of=Place, limit=None, watch=lambda plan, do
     """Proves these crates and all below them, each in a place of its own, and answers None, or the crate that failed and the file of
     what was said of it. Where cores and memory allow, or at most by the limit, crates are worked at side by side. Those with the
     longest way above them come first, and get processors before others. Each second `watch` is called, as Progress.watch has it."""
-    order = Order(root, names, lambda name: place_of(root, listed(root), name, f"{folder}/{name}").is_done())
+    order = Order(root, names, lambda name: place_of(root, crates_in(root), name, f"{folder}/{name}").is_done())
     proving = Proving(root, order, folder, place_of)
     with contextlib.ExitStack() as ends:
         ends.callback(proving.stop)

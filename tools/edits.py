@@ -13,7 +13,7 @@ USING = re.compile(r"using\(([^)]*)\).*\]\n(?:\s*#\[.*\]\n)*\s*(?:pub(?:\([^)]*\
 FUNCTION = re.compile(r"^\s*(?:pub(?:\([^)]*\))? )?(?:const )?(?:unsafe )?(?:extern \"[^\"]*\" )?fn (\w+)")
 
 
-def edited(crate, edit):
+def edited_texts(crate, edit):
     """The texts of the files that this edit changes, by their paths in the crate, and why it can't be applied, or None."""
     path, old, texts, pairs = None, None, {}, 0
     with open(edit, encoding="utf-8") as lines:
@@ -68,7 +68,7 @@ def standing_on(crate, module):
     return answered
 
 
-def named(crate, said, texts):
+def goal_of(crate, said, texts):
     """The functions that the prover's first line may speak of, and the clause if it names one. `texts` are those of the files that an
     edit has changed."""
     place, clause = PLACE.search(said), CLAUSE.search(said)
@@ -93,5 +93,5 @@ def is_named(crate, edit, said):
     wanted = refused_by(edit)
     if wanted is None:
         return None
-    functions, clause = named(crate, said, edited(crate, edit)[0])
+    functions, clause = goal_of(crate, said, edited_texts(crate, edit)[0])
     return any(name in functions and (not clauses or clause is None or clause in clauses) for name, clauses in wanted)

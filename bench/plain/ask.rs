@@ -96,7 +96,7 @@ fn who(w: u64, z: usize) -> Option<Machine> {
 }
 
 // The refusals common to all calls that need the zone.
-fn held(w: u64, m: Machine, z: usize) -> Result<u64, Refusal> {
+fn require_held(w: u64, m: Machine, z: usize) -> Result<u64, Refusal> {
     let mine = code(m, z);
     if mine == 0 { Err(NotParty) } else if owner(w, z) != mine { Err(NotOwner(who(w, z))) } else { Ok(mine) }
 }
@@ -122,7 +122,7 @@ fn claim(w: u64, m: Machine, z: usize) -> Result<u64, Refusal> {
 fn give(w: u64, m: Machine, z: usize) -> Result<u64, Refusal> {
     unless(code(m, z) == 0, NotParty)?;
     not_stopped(w)?;
-    let mine = held(w, m, z)?;
+    let mine = require_held(w, m, z)?;
     unless(flag(w, z), PlateInZone(z))?;
     let Some((_, _, from, to)) = row(z, posture(w, z)).filter(|row| row.0 == m) else { return Err(WrongWay); };
     unless(!full(w, from), NoPlate)?;
@@ -131,7 +131,7 @@ fn give(w: u64, m: Machine, z: usize) -> Result<u64, Refusal> {
 }
 
 fn hand_over(w: u64, m: Machine, z: usize) -> Result<u64, Refusal> {
-    let mine = held(w, m, z)?;
+    let mine = require_held(w, m, z)?;
     unless(flag(w, z), PlateInZone(z))?;
     unless(posture(w, z) < IN, Shut(posture(w, z)))?;
     in_use(w, m, z)?;
@@ -139,14 +139,14 @@ fn hand_over(w: u64, m: Machine, z: usize) -> Result<u64, Refusal> {
 }
 
 fn take(w: u64, m: Machine, z: usize) -> Result<u64, Refusal> {
-    held(w, m, z)?;
+    require_held(w, m, z)?;
     unless(!flag(w, z), NoPlate)?;
     let to = row(z, posture(w, z)).map_or(0, |row| 1 << row.3);
     bump(w & !(4 << (5 * z)) | to)
 }
 
 fn release(w: u64, m: Machine, z: usize) -> Result<u64, Refusal> {
-    held(w, m, z)?;
+    require_held(w, m, z)?;
     unless(flag(w, z), PlateInZone(z))?;
     unless(posture(w, z) == MOVING, Shut(MOVING))?;
     in_use(w, m, z)?;
@@ -374,7 +374,7 @@ impl Numbers {
     }
 
     // Who calls, and what: now and then the watch stops all or resumes.
-    fn asked(&mut self) -> (Machine, Call) {
+    fn next_call(&mut self) -> (Machine, Call) {
         match self.below(64) {
             0 => (Watch, Stop),
             1 | 2 => (Watch, Resume),
@@ -416,7 +416,7 @@ fn digest(word: u64) -> u32 {
     let mut numbers = Numbers(1995);
     let mut digest = 0u32;
     for _ in 0..2_000_000 {
-        let (machine, call) = numbers.asked();
+        let (machine, call) = numbers.next_call();
         if let Reply::Settled(answer, stamp) = shared.ask(machine, call) {
             digest = digest.wrapping_mul(31).wrapping_add(number(answer)).wrapping_mul(31).wrapping_add(stamp);
         }

@@ -72,11 +72,11 @@ impl<P: Program> Seat<P> {
         match answer {
             Answer::Done => {
                 log.done += 1;
-                self.program.done();
+                self.program.finish_call();
             }
             Answer::Shown(at) => {
                 log.read += 1;
-                self.program.shown(at);
+                self.program.take_answer(at);
             }
             Answer::Refused(refusal) => {
                 log.refused += 1;
@@ -167,7 +167,7 @@ pub fn read_input() -> Result<Config, String> {
 }
 
 /// Reads the configuration from standard input, runs it, and writes the report.
-pub fn served(run: impl FnOnce(&Config, &mut Cell) -> State) -> ExitCode {
+pub fn serve(run: impl FnOnce(&Config, &mut Cell) -> State) -> ExitCode {
     let config = match read_input() {
         Ok(config) => config,
         Err(fault) => {

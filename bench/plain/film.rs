@@ -231,7 +231,7 @@ struct Seen {
 }
 
 /// The text if it isn't what was seen; then it is seen.
-fn told(seen: &mut String, text: String) -> String {
+fn text_if_new(seen: &mut String, text: String) -> String {
     if *seen == text {
         return String::new();
     }
@@ -254,7 +254,7 @@ impl Seen {
 }
 
 /// Owner, flag and posture of each zone, the places, the stamp and the mark, in one word.
-fn packed(state: &State) -> u64 {
+fn pack(state: &State) -> u64 {
     let mut word = u64::from(state.stamp) << 40 | u64::from(state.stopped) << 60;
     for (zone, at) in interlock::Zone::ALL.into_iter().zip(&state.zones) {
         let owner = match at.owner {
@@ -287,7 +287,7 @@ impl Film {
             Seen::of(&cell.crane),
             Seen::of(&cell.watch),
         ];
-        let mut text = format!("start;{:x}", packed(&config.start));
+        let mut text = format!("start;{:x}", pack(&config.start));
         for machine in &seen[..6] {
             let _ = write!(text, ";{},{}", machine.step, machine.part);
         }
@@ -298,7 +298,7 @@ impl Film {
 
     /// A turn of a machine, and its line.
     fn turn<P: Shown>(&mut self, seat: &mut Seat<P>, letter: char) {
-        let (before, word) = (seat.program.positions(), packed(&self.state));
+        let (before, word) = (seat.program.positions(), pack(&self.state));
         let (is_busy, state) = (letter.is_ascii_uppercase(), &mut self.state);
         let mut asked = ";".to_string();
         seat.turn(|machine, call| {
@@ -311,10 +311,10 @@ impl Film {
             Some((answer, state.stamp))
         });
         let seen = &mut self.seen[P::MACHINE as usize];
-        let step = told(&mut seen.step, step_of(seat));
-        let part = told(&mut seen.part, seat.program.part(&before));
+        let step = text_if_new(&mut seen.step, step_of(seat));
+        let part = text_if_new(&mut seen.part, seat.program.part(&before));
         let is_as_before = seen.asked == asked;
-        let word = if packed(state) == word { String::new() } else { format!("{:x}", packed(state)) };
+        let word = if pack(state) == word { String::new() } else { format!("{:x}", pack(state)) };
         self.text.push(letter);
         if !(is_as_before && step.is_empty() && part.is_empty() && word.is_empty()) {
             let _ = write!(self.text, ";{step};{asked};{word};{part}");

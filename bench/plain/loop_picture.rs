@@ -155,7 +155,7 @@ fn colour(owner: Option<Machine>) -> &'static str {
 
 /// The frames that are shown: from one plate that feed takes to the next, at equal intervals. With
 /// fewer than two such plates it is the whole run.
-fn sampled(frames: &[Frame]) -> Vec<&Frame> {
+fn sample(frames: &[Frame]) -> Vec<&Frame> {
     let takes: Vec<usize> = (0..frames.len()).filter(|at| frames[*at].takes).collect();
     let (from, to) = match takes[..] {
         [.., from, to] => (from, to - 1),
@@ -173,7 +173,7 @@ struct Picture<'a> {
 const REPEATS: &str = "dur=\"24s\" repeatCount=\"indefinite\" values=\"";
 
 impl Picture<'_> {
-    fn fixed(&mut self, text: &str) {
+    fn add_text(&mut self, text: &str) {
         self.text.push_str(text);
     }
 
@@ -195,82 +195,82 @@ impl Picture<'_> {
     }
 
     fn belts(&mut self) {
-        self.fixed("<rect x=\"362\" y=\"111\" width=\"354\" height=\"42\" rx=\"8\" fill=\"#e4e8ed\" stroke=\"#07b\">");
+        self.add_text("<rect x=\"362\" y=\"111\" width=\"354\" height=\"42\" rx=\"8\" fill=\"#e4e8ed\" stroke=\"#07b\">");
         self.attribute("stroke-width", |frame| if frame.feed_runs { "5" } else { "1" }.to_string());
-        self.fixed("</rect><rect x=\"318\" y=\"347\" width=\"398\" height=\"42\" rx=\"8\" fill=\"#e4e8ed\" stroke=\"#c7a\">");
+        self.add_text("</rect><rect x=\"318\" y=\"347\" width=\"398\" height=\"42\" rx=\"8\" fill=\"#e4e8ed\" stroke=\"#c7a\">");
         self.attribute("stroke-width", |frame| if frame.deposit_runs { "5" } else { "1" }.to_string());
-        self.fixed("</rect>");
+        self.add_text("</rect>");
     }
 
     fn zones(&mut self) {
         const PLACES: [(i32, i32, i32); 6] =
             [(370, 132, 34), (310, 167, 30), (104, 250, 46), (330, 368, 40), (680, 368, 37), (680, 132, 37)];
         for (number, (x, y, r)) in PLACES.into_iter().enumerate() {
-            self.fixed(&format!("<circle cx=\"{x}\" cy=\"{y}\" r=\"{r}\" opacity=\".5\">"));
+            self.add_text(&format!("<circle cx=\"{x}\" cy=\"{y}\" r=\"{r}\" opacity=\".5\">"));
             self.attribute("fill", |frame| colour(frame.state.zones[number].owner).to_string());
-            self.fixed("</circle>");
+            self.add_text("</circle>");
         }
     }
 
     fn table(&mut self) {
-        self.fixed("<circle cx=\"330\" cy=\"132\" r=\"29\" fill=\"#fff\" stroke=\"#0a7\" stroke-width=\"3\"/>");
-        self.fixed("<g transform=\"translate(330 132)\"><path d=\"M19 0h10\" stroke=\"#333\" stroke-width=\"6\">");
+        self.add_text("<circle cx=\"330\" cy=\"132\" r=\"29\" fill=\"#fff\" stroke=\"#0a7\" stroke-width=\"3\"/>");
+        self.add_text("<g transform=\"translate(330 132)\"><path d=\"M19 0h10\" stroke=\"#333\" stroke-width=\"6\">");
         self.transform("rotate", |frame| (frame.turn * 6 / 25).to_string());
-        self.fixed("</path></g><path d=\"M280 80v48\" stroke=\"#bbb\" stroke-width=\"7\"/>");
-        self.fixed("<rect x=\"272\" width=\"17\" height=\"8\" rx=\"2\" fill=\"#0a7\">");
+        self.add_text("</path></g><path d=\"M280 80v48\" stroke=\"#bbb\" stroke-width=\"7\"/>");
+        self.add_text("<rect x=\"272\" width=\"17\" height=\"8\" rx=\"2\" fill=\"#0a7\">");
         self.attribute("y", |frame| (124 - frame.lift * 2 / 25).to_string());
-        self.fixed("</rect>");
+        self.add_text("</rect>");
     }
 
     fn press(&mut self) {
-        self.fixed("<rect x=\"70\" y=\"216\" width=\"68\" height=\"68\" rx=\"6\" fill=\"#fff\" stroke=\"#d50\" stroke-width=\"3\"/>");
-        self.fixed("<path d=\"M63 356v102\" stroke=\"#bbb\" stroke-width=\"14\"/>");
-        self.fixed("<rect x=\"24\" y=\"342\" width=\"78\" height=\"14\" rx=\"3\" fill=\"#55606c\"/>");
-        self.fixed("<rect x=\"24\" width=\"78\" height=\"10\" rx=\"3\" fill=\"#d50\">");
+        self.add_text("<rect x=\"70\" y=\"216\" width=\"68\" height=\"68\" rx=\"6\" fill=\"#fff\" stroke=\"#d50\" stroke-width=\"3\"/>");
+        self.add_text("<path d=\"M63 356v102\" stroke=\"#bbb\" stroke-width=\"14\"/>");
+        self.add_text("<rect x=\"24\" y=\"342\" width=\"78\" height=\"14\" rx=\"3\" fill=\"#55606c\"/>");
+        self.add_text("<rect x=\"24\" width=\"78\" height=\"10\" rx=\"3\" fill=\"#d50\">");
         self.attribute("y", |frame| (444 - frame.press * 19 / 250).to_string());
-        self.fixed("</rect>");
+        self.add_text("</rect>");
     }
 
     fn arm(&mut self, width: i32, position: impl Fn(&Frame) -> i32) {
         let half = width / 2;
         let rail = format!("y=\"-{half}\" height=\"{width}\" rx=\"{half}\" fill=\"#ea0\"");
-        self.fixed(&format!("<rect width=\"70\" {rail}/><g>"));
+        self.add_text(&format!("<rect width=\"70\" {rail}/><g>"));
         self.transform("translate", |frame| (position(frame) * 11 / 100).to_string());
-        self.fixed(&format!("<rect x=\"-20\" width=\"90\" {rail}/>"));
-        self.fixed("<circle cx=\"70\" r=\"18\" fill=\"none\" stroke=\"#ea0\" stroke-width=\"3\"/></g>");
+        self.add_text(&format!("<rect x=\"-20\" width=\"90\" {rail}/>"));
+        self.add_text("<circle cx=\"70\" r=\"18\" fill=\"none\" stroke=\"#ea0\" stroke-width=\"3\"/></g>");
     }
 
     fn robot(&mut self) {
-        self.fixed("<g transform=\"translate(262 250)\"><g>");
+        self.add_text("<g transform=\"translate(262 250)\"><g>");
         self.transform("rotate", |frame| frame.angle1().to_string());
-        self.fixed("<g transform=\"rotate(-90)\">");
+        self.add_text("<g transform=\"rotate(-90)\">");
         self.arm(14, |frame| frame.arm2);
-        self.fixed("</g>");
+        self.add_text("</g>");
         self.arm(18, |frame| frame.arm1);
-        self.fixed("</g><circle r=\"24\" fill=\"#fff\" stroke=\"#ea0\" stroke-width=\"5\"/></g>");
+        self.add_text("</g><circle r=\"24\" fill=\"#fff\" stroke=\"#ea0\" stroke-width=\"5\"/></g>");
     }
 
     fn crane(&mut self) {
-        self.fixed("<path d=\"M680 98v304\" stroke=\"#55606c\" stroke-width=\"3\"/><g>");
+        self.add_text("<path d=\"M680 98v304\" stroke=\"#55606c\" stroke-width=\"3\"/><g>");
         self.transform("translate", |frame| format!("0 {}", frame.crane()));
-        self.fixed("<rect x=\"653\" y=\"357\" width=\"80\" height=\"22\" rx=\"5\" fill=\"#5be\" opacity=\".6\"/>");
-        self.fixed("<circle cx=\"680\" cy=\"368\" r=\"19\" fill=\"none\" stroke=\"#5be\" stroke-width=\"3\"/></g>");
-        self.fixed("<path d=\"M754 176v140\" stroke=\"#bbb\" stroke-width=\"7\"/>");
-        self.fixed("<rect x=\"746\" width=\"17\" height=\"8\" rx=\"2\" fill=\"#5be\">");
+        self.add_text("<rect x=\"653\" y=\"357\" width=\"80\" height=\"22\" rx=\"5\" fill=\"#5be\" opacity=\".6\"/>");
+        self.add_text("<circle cx=\"680\" cy=\"368\" r=\"19\" fill=\"none\" stroke=\"#5be\" stroke-width=\"3\"/></g>");
+        self.add_text("<path d=\"M754 176v140\" stroke=\"#bbb\" stroke-width=\"7\"/>");
+        self.add_text("<rect x=\"746\" width=\"17\" height=\"8\" rx=\"2\" fill=\"#5be\">");
         self.attribute("y", |frame| (312 - frame.gripper * 7 / 50).to_string());
-        self.fixed("</rect>");
+        self.add_text("</rect>");
     }
 
     fn plate(&mut self, number: usize) {
-        self.fixed("<g>");
+        self.add_text("<g>");
         self.transform("translate", |frame| plate(frame, number, |spot| format!("{} {}", spot.right, spot.down)));
-        self.fixed("<g transform=\"translate(262 250)\"><g>");
+        self.add_text("<g transform=\"translate(262 250)\"><g>");
         self.transform("rotate", |frame| plate(frame, number, |spot| spot.angle.to_string()));
-        self.fixed("<g>");
+        self.add_text("<g>");
         self.transform("translate", |frame| plate(frame, number, |spot| spot.reach.to_string()));
-        self.fixed("<circle r=\"14\" fill=\"#dfe4ea\" stroke=\"#16202c\" stroke-width=\"2\"/><circle r=\"12\" fill=\"#7a4b00\">");
+        self.add_text("<circle r=\"14\" fill=\"#dfe4ea\" stroke=\"#16202c\" stroke-width=\"2\"/><circle r=\"12\" fill=\"#7a4b00\">");
         self.attribute("opacity", |frame| plate(frame, number, |spot| u8::from(spot.is_forged).to_string()));
-        self.fixed("</circle></g></g></g></g>");
+        self.add_text("</circle></g></g></g></g>");
     }
 }
 
@@ -292,7 +292,7 @@ const NAMES: &str = "<g fill=\"#16202c\" font-weight=\"bold\"><text x=\"470\" y=
 
 /// The whole picture.
 pub fn picture(frames: &[Frame]) -> String {
-    let mut picture = Picture { text: HEAD.to_string(), frames: sampled(frames) };
+    let mut picture = Picture { text: HEAD.to_string(), frames: sample(frames) };
     picture.belts();
     picture.zones();
     picture.table();
@@ -302,6 +302,6 @@ pub fn picture(frames: &[Frame]) -> String {
     for number in 0..frames[0].plates().len() {
         picture.plate(number);
     }
-    picture.fixed(NAMES);
+    picture.add_text(NAMES);
     picture.text
 }

@@ -11,9 +11,9 @@ pub trait Program {
     /// The call of the step, if it has one.
     fn asks(&self) -> Option<(Call, Waits)>;
     /// The step's call was done.
-    fn done(&mut self);
+    fn finish_call(&mut self);
     /// The step's inquiry was answered.
-    fn shown(&mut self, _at: At) {}
+    fn take_answer(&mut self, _at: At) {}
     /// A step without a call: it sets its motors and moves for a tick. It ends in the turn in which
     /// all motors are off.
     fn drive(&mut self);
@@ -23,7 +23,7 @@ fn never(_: Refusal) -> bool {
     false
 }
 
-fn not_owned(refusal: Refusal) -> bool {
+fn is_not_owned(refusal: Refusal) -> bool {
     matches!(refusal, Refusal::NotOwner(_))
 }
 
@@ -31,11 +31,11 @@ fn place_full(refusal: Refusal) -> bool {
     refusal == Refusal::PlaceFull
 }
 
-fn held(refusal: Refusal) -> bool {
+fn is_held(refusal: Refusal) -> bool {
     matches!(refusal, Refusal::Held(_))
 }
 
-fn held_or_shut(refusal: Refusal) -> bool {
+fn is_held_or_shut(refusal: Refusal) -> bool {
     matches!(refusal, Refusal::Held(_) | Refusal::Shut(_))
 }
 
@@ -49,7 +49,7 @@ enum Motor {
 use Motor::{Minus, Off, Plus};
 
 /// The position of an axis after a tick, not below 0 or past its end.
-fn moved(position: i32, motor: Motor, end: i32) -> i32 {
+fn position_after(position: i32, motor: Motor, end: i32) -> i32 {
     match motor {
         Off => position,
         Plus => (position + 20).min(end),
@@ -170,17 +170,17 @@ impl Program for Feed {
             0 => (Call::Claim(Zone::Z6), never),
             1 => (Call::SetPose(Pose::Landing), never),
             2 => (Call::Release(Zone::Z6), never),
-            3 => (Call::Take(Zone::Z6), not_owned),
+            3 => (Call::Take(Zone::Z6), is_not_owned),
             4 | 9 => (Call::SetPose(Pose::Running), never),
             6 => (Call::Advance, never),
-            8 => (Call::Claim(Zone::Z1), held_or_shut),
+            8 => (Call::Claim(Zone::Z1), is_held_or_shut),
             11 => (Call::SetPose(Pose::Halted), never),
             12 => (Call::Give(Zone::Z1), never),
             _ => return None,
         })
     }
 
-    fn done(&mut self) {
+    fn finish_call(&mut self) {
         match self.step {
             3 => (self.entry, self.belt.entry) = (true, Some(0)),
             6 => {
@@ -237,17 +237,17 @@ impl Program for Deposit {
             1 => (Call::Claim(Zone::Z5), never),
             2 => (Call::SetPose(Pose::Landing), never),
             3 => (Call::Release(Zone::Z4), never),
-            4 => (Call::Take(Zone::Z4), not_owned),
+            4 => (Call::Take(Zone::Z4), is_not_owned),
             5 => (Call::SetPose(Pose::Running), never),
             8 => (Call::Advance, never),
             9 => (Call::SetPose(Pose::Offering), never),
             10 => (Call::Give(Zone::Z5), place_full),
-            11 => (Call::Claim(Zone::Z5), held),
+            11 => (Call::Claim(Zone::Z5), is_held),
             _ => return None,
         })
     }
 
-    fn done(&mut self) {
+    fn finish_call(&mut self) {
         match self.step {
             4 => (self.entry, self.belt.entry) = (true, Some(0)),
             8 => {
@@ -296,15 +296,15 @@ impl Program for Table {
             2 | 7 => (Call::SetPose(Pose::Turning), never),
             4 => (Call::SetPose(Pose::Loading), never),
             5 => (Call::Release(Zone::Z1), never),
-            6 => (Call::Take(Zone::Z1), not_owned),
+            6 => (Call::Take(Zone::Z1), is_not_owned),
             9 => (Call::SetPose(Pose::Unloading), never),
             10 => (Call::Give(Zone::Z2), place_full),
-            11 => (Call::Claim(Zone::Z2), held),
+            11 => (Call::Claim(Zone::Z2), is_held),
             _ => return None,
         })
     }
 
-    fn done(&mut self) {
+    fn finish_call(&mut self) {
         self.step = match self.step {
             1 if self.loaded => 7,
             11 => 2,
@@ -319,8 +319,8 @@ impl Program for Table {
             (until(self.lift >= 590, Plus), 500)
         };
         let rotation = self.gauge.drive(self.turn, target, 20);
-        self.lift = moved(self.lift, height, 600);
-        self.turn = moved(self.turn, rotation, 500);
+        self.lift = position_after(self.lift, height, 600);
+        self.turn = position_after(self.turn, rotation, 500);
         if height == Off && rotation == Off {
             self.step += 1;
         }
@@ -350,17 +350,17 @@ impl Program for Press {
             1 | 6 | 10 => (Call::SetPose(Pose::Travelling), never),
             3 => (Call::SetPose(Pose::Middle), never),
             4 => (Call::Release(Zone::Z3), never),
-            5 => (Call::Take(Zone::Z3), not_owned),
+            5 => (Call::Take(Zone::Z3), is_not_owned),
             8 => (Call::SetPose(Pose::Top), never),
             9 => (Call::Advance, never),
             12 => (Call::SetPose(Pose::Low), never),
             13 => (Call::Give(Zone::Z3), place_full),
-            14 => (Call::Claim(Zone::Z3), held),
+            14 => (Call::Claim(Zone::Z3), is_held),
             _ => return None,
         })
     }
 
-    fn done(&mut self) {
+    fn finish_call(&mut self) {
         self.step = match self.step {
             0 if self.forged => 10,
             0 if self.loaded => 6,
@@ -379,7 +379,7 @@ impl Program for Press {
             7 => until(top, Plus),
             _ => until(bottom, Minus),
         };
-        self.position = moved(self.position, motor, 1000);
+        self.position = position_after(self.position, motor, 1000);
         if motor == Off {
             self.step += 1;
         } else {
@@ -404,7 +404,7 @@ impl Crane {
     fn travel(&mut self, at: bool, on: Motor) {
         if self.gauge.is_high(self.gripper) {
             let motor = until(at, on);
-            self.travel = moved(self.travel, motor, 2000);
+            self.travel = position_after(self.travel, motor, 2000);
             if motor == Off {
                 self.step += 1;
             }
@@ -420,17 +420,17 @@ impl Program for Crane {
             3 => (Call::Inquire(Zone::Z5), never),
             7 => (Call::Take(Zone::Z5), never),
             8 => (Call::Release(Zone::Z5), never),
-            10 => (Call::Claim(Zone::Z6), held_or_shut),
+            10 => (Call::Claim(Zone::Z6), is_held_or_shut),
             14 => (Call::Give(Zone::Z6), never),
             _ => return None,
         })
     }
 
-    fn done(&mut self) {
+    fn finish_call(&mut self) {
         self.step = if self.step == 14 { 1 } else { self.step + 1 };
     }
 
-    fn shown(&mut self, at: At) {
+    fn take_answer(&mut self, at: At) {
         if at.owner == Some(Machine::Crane) && at.flag {
             self.step = 4;
         }
@@ -447,7 +447,7 @@ impl Program for Crane {
             _ => return self.step += 1,
         };
         let motor = self.gauge.drive(self.gripper, target, 50);
-        self.gripper = moved(self.gripper, motor, 1000);
+        self.gripper = position_after(self.gripper, motor, 1000);
         if motor == Off {
             self.step += 1;
         }
@@ -509,7 +509,7 @@ impl Robot {
         let [arm1, arm2, rotation] = &self.gauges;
         if arm1.is_retracted(self.arm1) && arm2.is_retracted(self.arm2) {
             let motor = rotation.drive(self.rotation, target, 40);
-            self.rotation = moved(self.rotation, motor, 2000);
+            self.rotation = position_after(self.rotation, motor, 2000);
             if motor == Off {
                 self.step += 1;
             }
@@ -518,7 +518,7 @@ impl Robot {
 
     fn move_arm1(&mut self, target: i32) {
         let motor = self.gauges[0].drive(self.arm1, target, 40);
-        self.arm1 = moved(self.arm1, motor, 1000);
+        self.arm1 = position_after(self.arm1, motor, 1000);
         if motor == Off {
             self.step += 1;
         }
@@ -526,7 +526,7 @@ impl Robot {
 
     fn move_arm2(&mut self, target: i32) {
         let motor = self.gauges[1].drive(self.arm2, target, 40);
-        self.arm2 = moved(self.arm2, motor, 1000);
+        self.arm2 = position_after(self.arm2, motor, 1000);
         if motor == Off {
             self.step += 1;
         }
@@ -541,18 +541,18 @@ impl Program for Robot {
             (Grasp, 2) => (Call::Inquire(Zone::Z2), never),
             (Grasp, 6) => (Call::Take(Zone::Z2), never),
             (Grasp, 7) => (Call::Release(Zone::Z2), never),
-            (Load, 2) => (Call::Claim(Zone::Z3), held_or_shut),
+            (Load, 2) => (Call::Claim(Zone::Z3), is_held_or_shut),
             (Load, 3) | (Unload, 2) => (Call::Inquire(Zone::Z3), never),
             (Load, 4) | (Unload, 7) => (Call::Release(Zone::Z3), never),
             (Load, 8) => (Call::Give(Zone::Z3), never),
             (Unload, 6) => (Call::Take(Zone::Z3), never),
-            (Put, 2) => (Call::Claim(Zone::Z4), held_or_shut),
+            (Put, 2) => (Call::Claim(Zone::Z4), is_held_or_shut),
             (Put, 6) => (Call::Give(Zone::Z4), never),
             _ => return None,
         })
     }
 
-    fn done(&mut self) {
+    fn finish_call(&mut self) {
         match (self.group, self.step) {
             (Grasp, 6) => self.arm1_loaded = true,
             (Load, 8) => (self.arm1_loaded, self.fed) = (false, true),
@@ -567,7 +567,7 @@ impl Program for Robot {
         }
     }
 
-    fn shown(&mut self, at: At) {
+    fn take_answer(&mut self, at: At) {
         let handed = at.owner == Some(Machine::Robot) && at.flag;
         self.step = match (self.group, self.step) {
             (Load, _) if at.posture == Posture::OpenIn => 5,
@@ -613,7 +613,7 @@ impl Program for Watch {
         Some((if self.has_stopped { Call::Resume } else { Call::Stop }, never))
     }
 
-    fn done(&mut self) {
+    fn finish_call(&mut self) {
         self.has_stopped = !self.has_stopped;
     }
 

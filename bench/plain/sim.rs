@@ -11,7 +11,7 @@ mod interlock;
 mod machines;
 mod toml;
 
-use cell::{Cell, served};
+use cell::{Cell, serve};
 use config::Config;
 use interlock::{Answer, Call, Machine, State};
 
@@ -50,5 +50,5 @@ fn run(config: &Config, cell: &mut Cell) -> State {
 }
 
 fn main() -> std::process::ExitCode {
-    served(run)
+    serve(run)
 }

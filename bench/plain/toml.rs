@@ -43,7 +43,7 @@ impl Table {
     }
 
     /// The table to which a header's key leads.
-    fn passed(&mut self, path: &[String]) -> Option<&mut Table> {
+    fn table_at(&mut self, path: &[String]) -> Option<&mut Table> {
         let mut table = self;
         for key in path {
             let next = table.entries.entry(key.clone()).or_insert_with(|| Value::Table(Table::new(Maker::Passed)));
@@ -82,7 +82,7 @@ impl Table {
     /// Opens the table of a header.
     fn open(&mut self, key: &[String], is_array: bool) -> Option<()> {
         let (last, path) = key.split_last()?;
-        let table = self.passed(path)?;
+        let table = self.table_at(path)?;
         let new = Table::new(Maker::Header);
         match table.entries.get_mut(last) {
             None if is_array => {
@@ -119,7 +119,7 @@ pub fn read(bytes: &[u8]) -> Option<Table> {
             root.open(&header, is_array)?;
         } else {
             let (key, value) = reader.pair(MAX_DEPTH)?;
-            root.passed(&header)?.put(key, value)?;
+            root.table_at(&header)?.put(key, value)?;
         }
         reader.spaces();
         if !reader.rest.is_empty() && !reader.rest.starts_with('#') && !reader.line_end() {

@@ -12,7 +12,7 @@ mod interlock;
 mod machines;
 mod toml;
 
-use cell::{Cell, Seat, served};
+use cell::{Cell, Seat, serve};
 use config::Config;
 use interlock::State;
 use machines::Program;
@@ -45,5 +45,5 @@ fn run(config: &Config, cell: &mut Cell, turns: u32) -> State {
 
 fn main() -> std::process::ExitCode {
     let turns = std::env::args().nth(1).and_then(|word| word.parse().ok()).unwrap_or(1000);
-    served(|config, cell| run(config, cell, turns))
+    serve(|config, cell| run(config, cell, turns))
 }

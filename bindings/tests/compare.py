@@ -39,7 +39,7 @@ def value(text, name):
     return int(re.search(rf"^{name} = (\d+)$", text, re.M)[1])
 
 
-def wanted(root):
+def of_crates(root):
     """The numbers of each kind as the crates have them."""
     numbers, replies = text_of(f"{root}/{NUMBERS}"), text_of(f"{root}/{REPLIES}")
     found = {it: table(numbers, f"{it}_number") for it in ("machine", "zone", "place", "posture", "pose", "verb")}
@@ -128,7 +128,7 @@ def wrong_words(root):
 
 def differences(root):
     """A line for each difference."""
-    numbers, limits, fields = wanted(root)
+    numbers, limits, fields = of_crates(root)
     said = wrong_words(root)
     for where, its in (("bagunjoki.h", of_header(root)), ("bagunjoki.py", of_module(root))):
         its_numbers, its_limits, its_fields = its

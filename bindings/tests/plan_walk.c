@@ -19,7 +19,7 @@ static const uint8_t PLAN_BYTES[] = {
 
 enum { CALLS = 100000 };
 
-static uint64_t mixed(uint64_t sum, uint64_t value) { return (sum ^ value) * 1099511628211u; }
+static uint64_t mix(uint64_t sum, uint64_t value) { return (sum ^ value) * 1099511628211u; }
 
 static uint64_t walk(void) {
     static const uint8_t callers[] = {0, 1, 2, BAGUNJOKI_PLAN_WATCH};
@@ -31,8 +31,8 @@ static uint64_t walk(void) {
         uint8_t machine = callers[drawn % 4], verb = drawn / 4 % 11, object = drawn / 64 % 6;
         bagunjoki_plan_reply reply = bagunjoki_plan_step(PLAN_BYTES, sizeof PLAN_BYTES, word, machine, verb, object);
         word = reply.next;
-        sum = mixed(mixed(mixed(sum, reply.next), reply.answer), reply.owner);
-        sum = mixed(mixed(mixed(sum, reply.zone), reply.posture), reply.plate);
+        sum = mix(mix(mix(sum, reply.next), reply.answer), reply.owner);
+        sum = mix(mix(mix(sum, reply.zone), reply.posture), reply.plate);
     }
     return sum;
 }

@@ -91,14 +91,14 @@ def differences(root):
 
 def press(trials, compiler, *flags):
     """Two threads at a press."""
-    program = trials.compiled(compiler, "examples/plan_press.c", *flags, library="bagunjoki_plan")
+    program = trials.compile(compiler, "examples/plan_press.c", *flags, library="bagunjoki_plan")
     said = trials.run([program])
     return "" if said == PRESS else trials.fail(f"it writes\n{said}and not\n{PRESS}")
 
 
 def walk(trials, compiler, *flags):
     """Random calls, answered as by plan_rules: the test of plan_c has the same sum."""
-    program = trials.compiled(compiler, "tests/plan_walk.c", *flags, library="bagunjoki_plan")
+    program = trials.compile(compiler, "tests/plan_walk.c", *flags, library="bagunjoki_plan")
     said, wanted = trials.run([program]).strip(), re.search(r"WALKED: u64 = (0x\w+)", text_of(f"{trials.root}/{TESTS}"))
     wanted = wanted[1].replace("_", "")
     return "100,000 calls" if said == wanted else trials.fail(f"the sum is {said} and not {wanted}")
@@ -107,7 +107,7 @@ def walk(trials, compiler, *flags):
 def memory(trials, compiler, *flags):
     """Each allocation of a call fails in turn, and nothing is lost."""
     wrapped = ["-Wl,--wrap=malloc", "-Wl,--wrap=realloc"]
-    program = trials.compiled(compiler, "tests/plan_memory.c", *wrapped, *flags, library="bagunjoki_plan")
+    program = trials.compile(compiler, "tests/plan_memory.c", *wrapped, *flags, library="bagunjoki_plan")
     return trials.run([program]).strip()
 
 

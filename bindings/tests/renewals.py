@@ -28,7 +28,7 @@ class RenewedPlan(check.Plan):
         return said
 
 
-def gone_on(journals):
+def continue_stamps(journals):
     """The journals with stamps that go on, and the stamps that the renewals have as changes."""
     last = {}
     for note in (note for journal in journals for note in journal):
@@ -48,7 +48,7 @@ def gone_on(journals):
 
 def judge(plan, journals, counts):
     """Looks for the legal history of a run."""
-    journals, renewals = gone_on(journals)
+    journals, renewals = continue_stamps(journals)
 
     class Renewed(check.History):
         """A history with renewals."""

@@ -75,7 +75,7 @@ static inline bagunjoki_reply ours(uint8_t machine, uint8_t verb, uint8_t object
 static inline bagunjoki_reply plain(uint8_t machine, uint8_t verb, uint8_t object) {
     return plain_ask(plain_step, &shared, machine, verb, object, 64);
 }
-static inline bagunjoki_reply tested(uint8_t machine, uint8_t verb, uint8_t object) {
+static inline bagunjoki_reply plain_with_test(uint8_t machine, uint8_t verb, uint8_t object) {
     return plain_ask(plain_tested_step, &shared, machine, verb, object, 64);
 }
 /* The nanoseconds of a call by one of these, which is inlined: calls that are done, or the robot's refused claim. */
@@ -104,10 +104,10 @@ static inline __attribute__((always_inline)) double by(asks *ask, bool is_refuse
     static __attribute__((noinline)) double name(unsigned calls) { return by(ask, is_refused, calls); }
 TIMED(done_ours, ours, false)
 TIMED(done_plain, plain, false)
-TIMED(done_tested, tested, false)
+TIMED(done_tested, plain_with_test, false)
 TIMED(refused_ours, ours, true)
 TIMED(refused_plain, plain, true)
-TIMED(refused_tested, tested, true)
+TIMED(refused_tested, plain_with_test, true)
 
 static const struct {
     char letter;

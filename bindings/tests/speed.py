@@ -15,7 +15,7 @@ ROWS = [
 ]
 
 
-def said(words):
+def output_of(words):
     return subprocess.run(words, stdout=subprocess.PIPE, stderr=subprocess.STDOUT, text=True, check=True).stdout
 
 
@@ -24,7 +24,7 @@ def instructions(program, letter):
     if not shutil.which("valgrind"):
         return None
     words = ["valgrind", "--tool=callgrind", "--callgrind-out-file=/dev/null", program]
-    counts = [int(re.search(r"Collected : (\d+)", said([*words, *more]))[1]) for more in ([letter], [letter, "twice"])]
+    counts = [int(re.search(r"Collected : (\d+)", output_of([*words, *more]))[1]) for more in ([letter], [letter, "twice"])]
     return (counts[1] - counts[0]) / 1_000_000
 
 
@@ -41,8 +41,8 @@ def run(root, prefix):
         for compiler in filter(shutil.which, ("gcc", "clang")):
             program = f"{room}/{compiler}"
             words = [compiler, "-std=c11", "-O2", f"-I{prefix}/include", f"{root}/bindings/tests/speed.c"]
-            said([*words, f"{prefix}/lib/libbagunjoki.a", "-o", program])
-            times = dict(re.findall(r"^(\w) ([\d.]+)", said([program]), re.M))
+            output_of([*words, f"{prefix}/lib/libbagunjoki.a", "-o", program])
+            times = dict(re.findall(r"^(\w) ([\d.]+)", output_of([program]), re.M))
             for what, ours, other, beside in ROWS:
                 time = [float(times[it]) for it in (ours, other)]
                 cost = [instructions(program, it) for it in (ours, other)]

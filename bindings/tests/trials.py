@@ -92,7 +92,7 @@ class Trials:
             raise Failed(f"{' '.join(words)}: status {ran.returncode}\n{ran.stdout}")
         return ran.stdout
 
-    def compiled(self, compiler, source, *flags, library="bagunjoki"):
+    def compile(self, compiler, source, *flags, library="bagunjoki"):
         """A program of this source, over the library."""
         to = f"{self.room}/{next(self.numbers)}_{os.path.basename(source).partition('.')[0]}"
         language = CPP if compiler in ("g++", "clang++") else C
@@ -121,7 +121,7 @@ def wants(found, wanted):
 
 
 def example_in_c(trials, compiler, source):
-    return wants(trials.run([trials.compiled(compiler, source)]), INTERIOR)
+    return wants(trials.run([trials.compile(compiler, source)]), INTERIOR)
 
 
 def example_by_pkg_config(trials):
@@ -143,7 +143,7 @@ def example_in_rust(trials):
 def press_in_c(trials, compiler):
     """The motor of examples/press.c is told the same as that of the crate press_by_hand."""
     crate = f"{trials.root}/crates/press_by_hand"
-    program = trials.compiled(compiler, "examples/press.c")
+    program = trials.compile(compiler, "examples/press.c")
     with open(f"{crate}/stdin", encoding="ascii") as lines, open(f"{crate}/stdout", encoding="ascii") as answers:
         found = trials.run([program], lines.read())
         wanted = [it for it in answers.read().split("\n") if not it.endswith("calls")]
@@ -168,11 +168,11 @@ def scripts(trials, words, **environment):
 
 
 def scripts_in_c(trials, compiler):
-    return scripts(trials, [trials.compiled(compiler, "tests/replay.c")])
+    return scripts(trials, [trials.compile(compiler, "tests/replay.c")])
 
 
 def as_in_plain_c(trials, compiler):
-    return trials.run([trials.compiled(compiler, "tests/speed.c"), "agree"])
+    return trials.run([trials.compile(compiler, "tests/speed.c"), "agree"])
 
 
 def python(trials, version):
@@ -208,7 +208,7 @@ def pythons():
 # Loads
 
 
-def judged(trials, program, calls, most, ways, status=0, **environment):
+def verdict_of(trials, program, calls, most, ways, status=0, **environment):
     """What check.py says of this number of calls, or renewals.py if the word is renewed."""
     judge = f"{trials.here}/tests/renewals.py" if "renewals" in ways else f"{trials.root}/bench/stress/check.py"
     words = [sys.executable, "-B", judge, "1", str(calls), str(most), program, *ways]
@@ -217,19 +217,19 @@ def judged(trials, program, calls, most, ways, status=0, **environment):
 
 def load(trials, program, calls, ways, **environment):
     """About this number of calls, of which check.py makes one legal history."""
-    said = judged(trials, program, calls, min(420_000, calls), ways, **environment).strip().split("\n")
+    said = verdict_of(trials, program, calls, min(420_000, calls), ways, **environment).strip().split("\n")
     return "; ".join(said[-2:] if "renewals" in ways else said[-1:])
 
 
-def planted(trials, program, ways):
+def find_bug(trials, program, ways):
     """A plain store instead of the exchange has to be found."""
-    said = judged(trials, program, 1_000_000, 70_000, ways, status=1)
+    said = verdict_of(trials, program, 1_000_000, 70_000, ways, status=1)
     if not re.search(r"^wrong, in", said, re.M):
         raise Failed(f"check.py says\n{said}")
     return "it was found"
 
 
-def worn_often(trials, program, rounds, least, **environment):
+def wear_often(trials, program, rounds, least, **environment):
     """Stamps begin again several times, and no call is worn."""
     said = trials.run([program, str(rounds)], **environment).strip()
     if int(re.search(r"(\d+) renewals", said)[1]) < least:
@@ -237,14 +237,14 @@ def worn_often(trials, program, rounds, least, **environment):
     return said
 
 
-def sanitized(trials, compiler, which, calls):
+def under_sanitizer(trials, compiler, which, calls):
     """Scripts and a load under a sanitizer, which sees what is compiled here, and not within the library."""
     flags = ["-g", "-fno-omit-frame-pointer", f"-fsanitize={which}", "-fno-sanitize-recover=all"]
-    replay = trials.compiled(compiler, "tests/replay.c", *flags)
-    stress = trials.compiled(compiler, "tests/stress.c", *flags)
-    wear = trials.compiled(compiler, "tests/wear.c", *flags)
+    replay = trials.compile(compiler, "tests/replay.c", *flags)
+    stress = trials.compile(compiler, "tests/stress.c", *flags)
+    wear = trials.compile(compiler, "tests/wear.c", *flags)
     scripts(trials, [replay])
-    worn_often(trials, wear, 100_000, 1, **STRICT_TSAN)
+    wear_often(trials, wear, 100_000, 1, **STRICT_TSAN)
     return load(trials, stress, calls, ["renewals"], **STRICT_TSAN)
 
 
@@ -279,19 +279,19 @@ def under_load(trials, compilers, calls):
     for compiler, ways in itertools.product(compilers, ([], ["processes"])):
         share, some = calls if compiler == compilers[0] else max(calls // 10, 7), max(calls // 10, 7)
         name = f"three processes, {compiler}" if ways else f"seven threads, {compiler}"
-        right = trials.compiled(compiler, "tests/stress.c")
+        right = trials.compile(compiler, "tests/stress.c")
         trials.attempt(name, load, trials, right, share, ways)
         trials.attempt(f"{name}, with renewals", load, trials, right, some, [*ways, "renewals"])
         for flag, what, more in PLANTS:
-            wrong = trials.compiled(compiler, "tests/stress.c", f"-D{flag}")
-            trials.attempt(f"{name}, with {what}", planted, trials, wrong, [*ways, *more])
+            wrong = trials.compile(compiler, "tests/stress.c", f"-D{flag}")
+            trials.attempt(f"{name}, with {what}", find_bug, trials, wrong, [*ways, *more])
     for compiler in compilers:
-        wear = trials.compiled(compiler, "tests/wear.c")
-        trials.attempt(f"worn several times, {compiler}", worn_often, trials, wear, 1_000_000, 3)
+        wear = trials.compile(compiler, "tests/wear.c")
+        trials.attempt(f"worn several times, {compiler}", wear_often, trials, wear, 1_000_000, 3)
     for compiler, which in itertools.product(compilers, ("address,undefined", "thread")):
         if can_sanitize(compiler, which):
             some = max(calls // 20, 7)
-            trials.attempt(f"{which} sanitizer, {compiler}", sanitized, trials, compiler, which, some)
+            trials.attempt(f"{which} sanitizer, {compiler}", under_sanitizer, trials, compiler, which, some)
         else:
             trials.absent.append(f"{which} sanitizer of {compiler}")
 

@@ -47,7 +47,7 @@ public class Word {
             stopped = (word >> 60 & 1) == 1;
         }
 
-        long packed() {
+        long pack() {
             long word = (long) stamp << 40 | (stopped ? 1L << 60 : 0);
             for (int z = 0; z < 6; z++) {
                 long code = owner[z] < 0 ? 0 : owner[z] == HOST[z] ? 1 : 2;
@@ -275,7 +275,7 @@ public class Word {
             if (m % 2 == 0) {
                 Thread.yield();
             }
-            long found = exchange(old, state.packed());
+            long found = exchange(old, state.pack());
             if (found == old) {
                 return lost + "," + state.stamp + " done";
             }
@@ -307,7 +307,7 @@ public class Word {
         for (int p = 0; p < 10; p++) {
             start.full[p] = PLACES.charAt(p) == '1';
         }
-        Word interlock = new Word(start.packed(), arguments.length > 1 && arguments[1].equals("store"));
+        Word interlock = new Word(start.pack(), arguments.length > 1 && arguments[1].equals("store"));
         CyclicBarrier all = new CyclicBarrier(7);
         String[] journals = new String[7];
         List<Thread> threads = new ArrayList<>();

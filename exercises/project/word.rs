@@ -101,7 +101,7 @@ impl Interlock {
 }
 
 /// A call of the machine, chosen by a number that looks random.
-fn chosen(machine: Machine, number: u64) -> Call {
+fn choose_call(machine: Machine, number: u64) -> Call {
     let own: Vec<Zone> = Zone::ALL.into_iter().filter(|it| PARTIES[*it as usize].contains(&machine)).collect();
     let zones = if own.is_empty() { Zone::ALL.to_vec() } else { own };
     let zone = zones[number as usize / 16 % zones.len()];
@@ -123,7 +123,7 @@ fn journal(interlock: &Interlock, machine: Machine, calls: u32) -> String {
     let (mut text, mut number) = (String::new(), machine as u64 + 1);
     for _ in 0..calls {
         number = number.wrapping_mul(6_364_136_223_846_793_005).wrapping_add(1_442_695_040_888_963_407);
-        let call = chosen(machine, number >> 33);
+        let call = choose_call(machine, number >> 33);
         let (lost, told) = interlock.ask(machine, call);
         let call = call.to_string().replace(' ', ",");
         text += &format!("{},{call},{lost},{told}\n", machine.word());
