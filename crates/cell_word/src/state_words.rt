@@ -73,6 +73,7 @@ fn is_lawful_zone(word: u64, zone: Zone) -> bool
 }
 
 /// The press has at most one plate, and no forged one while it is open inward.
+#[inline(always)]
 #[tactic(auto, using(crate::proofs::ZonesAtOnce::press_without_forged))]
 fn is_lawful_press(word: u64) -> bool
     ensures { result ≡ words.is_lawful_press word }
@@ -90,6 +91,7 @@ fn is_lawful_press(word: u64) -> bool
 }
 
 /// Whether no zone has a plate in it.
+#[inline(always)]
 #[tactic(auto, using(crate::proofs::ZonesAtOnce::clear_at_once))]
 fn are_clear_zones(word: u64) -> bool
     ensures { IsTrue result ↔ ((zone : Zone) → IsTrue (stands word (flag_is zone false))) }
@@ -99,6 +101,7 @@ fn are_clear_zones(word: u64) -> bool
 
 /// Whether each zone has a code that it may have, where no zone has a plate in it. All zones are
 /// tested at once: the bits of each are shifted down to its lowest.
+#[inline(always)]
 fn are_lawful_codes(word: u64) -> bool
     requires clear { (zone : Zone) → IsTrue (stands word (flag_is zone false)) }
     ensures { result ≡ list_all (words.is_lawful_zone word) all_zones }
@@ -114,16 +117,27 @@ fn are_lawful_codes(word: u64) -> bool
     (spare | barred | wrong_way) & ZONES == 0
 }
 
+/// Whether each zone, one after another, is as it may be.
+#[inline(never)]
+fn is_each_zone_lawful(word: u64) -> bool
+    ensures { result ≡ list_all (words.is_lawful_zone word) all_zones }
+{
+    Zone::ALL.iter().all(|zone| is_lawful_zone(word, *zone))
+}
+
+#[inline(always)]
 fn are_lawful_zones(word: u64) -> bool
     ensures { result ≡ list_all (words.is_lawful_zone word) all_zones }
 {
     if are_clear_zones(word) {
-        return are_lawful_codes(word);
+        are_lawful_codes(word)
+    } else {
+        is_each_zone_lawful(word)
     }
-    Zone::ALL.iter().all(|zone| is_lawful_zone(word, *zone))
 }
 
 /// Whether the bits above the mark, the zones and the press are as the masks allow.
+#[inline(always)]
 fn keeps_masks(word: u64) -> bool
     ensures { result ≡ words.is_state_word word }
 {
@@ -131,6 +145,7 @@ fn keeps_masks(word: u64) -> bool
 }
 
 /// Whether a word is a sound state's.
+#[inline(always)]
 pub(crate) fn is_state_word(word: u64) -> bool
     ensures { IsTrue result ↔ ((state : ModelState) × IsSound state × (packed state ≡ word)) }
 {

@@ -135,6 +135,7 @@ pub fn step_sound(word: u64, machine: Machine, call: Call) -> (Answer, u64)
 
 /// Makes a call on a word. Returns the interlock's answer and the word of the state after it: the
 /// same word unless the answer is Done. `None` if the word is no sound state's.
+#[inline(always)]
 pub fn step_word(word: u64, machine: Machine, call: Call) -> Option<(Answer, u64)>
     ensures some { (state : ModelState) → IsSound state → packed state ≡ word
         → result ≡ Some (reply state machine call, packed (next state machine call)) }
