@@ -16,7 +16,7 @@ use cell_rules::State;
 use fault::SixFault;
 use lookout::Lookout;
 use rounds::Audits;
-use six::{AxisPoints, Plan, SixStatuses, drive};
+use six::{AxisPoints, RoundPlan, SixStatuses, drive};
 use std::env;
 
 // The full places at the start: a plate is at the feed belt's entry.
@@ -26,7 +26,7 @@ const PLACES: [bool; 10] = [
 
 // In these turns the plate gets round once, and not twice, in whichever order the threads go on. The
 // mark is low, so that stamps begin again.
-const PLAN: Plan = Plan {
+const PLAN: RoundPlan = RoundPlan {
     rounds: 12,
     turns: 100,
     mark: 10,
@@ -34,7 +34,7 @@ const PLAN: Plan = Plan {
 
 // With a word after the program's name: until some million calls are done. With two numbers: this many
 // rounds, of this many turns each.
-const LONG: Plan = Plan {
+const LONG: RoundPlan = RoundPlan {
     rounds: 400,
     turns: 100_000,
     mark: 300_000,
@@ -91,7 +91,7 @@ fn tell(
 }
 
 // The plan that two words ask for, or one, or none.
-fn plan_of(rounds: Option<String>, turns: Option<String>) -> Plan {
+fn plan_of(rounds: Option<String>, turns: Option<String>) -> RoundPlan {
     match (rounds, turns) {
         (None, _) => PLAN,
         (Some(rounds), Some(turns)) => plan_by(rounds.as_str(), turns.as_str()).unwrap_or(LONG),
@@ -100,8 +100,8 @@ fn plan_of(rounds: Option<String>, turns: Option<String>) -> Plan {
 }
 
 // The plan by two numbers.
-fn plan_by(rounds: &str, turns: &str) -> Option<Plan> {
-    Some(Plan {
+fn plan_by(rounds: &str, turns: &str) -> Option<RoundPlan> {
+    Some(RoundPlan {
         rounds: rounds.parse::<u32>().ok()?,
         turns: turns.parse::<u32>().ok()?,
         mark: LONG.mark,

@@ -37,13 +37,13 @@ pub struct AxisPoints {
 /// How many rounds there are, of how many turns of each machine. A stamp that has passed the mark
 /// begins again at 0.
 #[derive(Clone, Copy)]
-pub struct Plan {
+pub struct RoundPlan {
     pub rounds: u32,
     pub turns: u32,
     pub mark: u32,
 }
 
-impl Plan {
+impl RoundPlan {
     // How its rounds are renewed.
     fn renewal(self) -> Renewal
         ensures tries { result.tries ≡ 8 }
@@ -70,7 +70,7 @@ pub fn drive<R, F1, F2, F3, F4, F5>(
     opening: State,
     gauges: (F1, F2, F3, F4, F5),
     points: AxisPoints,
-    plan: Plan,
+    plan: RoundPlan,
     audits: &mut Audits,
 ) -> Result<(SixStatuses, Lookout), RenewalFault<AuditFault>>
 where
