@@ -1,17 +1,7 @@
 -- The audits of the examples. Their entries are in order, except one list that is only noted.
-use Rattle.std.proofs.Common.{◌≡◌, ℕ, ◌<◌, ◌≤◌, nat_le, Bool, true, false, ◌&&◌, inl, inr, List, [], ◌∷◌, Option, Some, None, refl, ap, arith}
-use Rattle.std.specs.List.{list_all}
-use Rattle.std.proofs.lemmas.Bool.{and_parts, leb-true}
-use Rattle.cell_rules.specs.Types.{Feed, Press, Z6, Refused, AlreadyMine, NotParty}
+use Rattle.cell_report.proofs.Names.{◌≡◌, ℕ, ◌<◌, ◌≤◌, nat_le, Bool, true, false, ◌&&◌, inl, inr, List, [], ◌∷◌, Option, Some, None, refl, ap, arith, list_all, and_parts, leb-true, Feed, Press, Z6, Refused, AlreadyMine, NotParty, ModelState, is_full, zone_at, empty, start_state, Noted, all_noted, done_at, done_stamps, greatest, key_at, stamp_of, InOrder, AllFit, HasNoTwice, HasStamps, IsGap, IsMisfit, IsTooEarly, IsTwice, MissesEnd, All-contains, AllPass-from_list_all, In, contains_from_in}
 use Rattle.cell_types.specs.declared.place.Place.TheVariants as place
-use Rattle.cell_rules.specs.Names.{ModelState, is_full, zone_at, empty, start_state}
-use Rattle.cell_report.specs.declared.ordered.Noted.{Noted}
-use Rattle.cell_report.specs.Order.{all_noted, done_at, done_stamps, greatest, key_at, stamp_of, InOrder}
-use Rattle.cell_report.specs.AuditFaults.{AllFit, HasNoTwice, HasStamps, IsGap, IsMisfit, IsTooEarly, IsTwice, MissesEnd}
 use Rattle.cell_report.specs.AuditExamples.{FaultExamples, OrderExamples, asks_early, backwards, early_pair, feed_claims, feed_errs, journals_of, noted, one_left_out, opening, press_errs, reached, refused_later, two_err, two_pairs, with_plate}
-use Rattle.std.proofs.lemmas.List.Elements.{All-contains}
-use Rattle.std.proofs.lemmas.List.Sums.{AllPass-from_list_all}
-use Rattle.cell_report.proofs.Members.{In, contains_from_in}
 use Rattle.cell_report.proofs.Rising.{Rises, from_rises}
 use Rattle.cell_report.proofs.Times.{gap_after, gap_tells, twice_after, twice_tells}
 use Rattle.cell_report.proofs.Checks.{gap_is, gapless, no_twice, rising_stamps, twice_is, within_top}

@@ -1,11 +1,5 @@
 -- What the tests of the stamps say of all entries.
-use Rattle.std.proofs.Common.{◌≡◌, ℕ, ◌<◌, ◌≤◌, max, nat_eq, cond, ◌&&◌, inl, inr, List, [], ◌∷◌, All, get_or, refl, sym, ap, ◌∙◌, subst, arith}
-use Rattle.std.specs.List.Sorted.{IsNonDecreasing}
-use Rattle.std.proofs.lemmas.List.Sorted.{sum_by-IsPermutation}
-use Rattle.cell_report.specs.declared.ordered.Noted.{Noted}
-use Rattle.cell_report.specs.Order.{InOrder, key_at, is_done_noted, done_at, done_stamps, greatest}
-use Rattle.cell_report.specs.AuditFaults.{times, IsTwice, HasNoTwice, IsGap, HasNoGap}
-use Rattle.cell_report.proofs.Members.{In, in_at, in_permutation, in_permutation_back}
+use Rattle.cell_report.proofs.Names.{◌≡◌, ℕ, ◌<◌, ◌≤◌, max, nat_eq, cond, ◌&&◌, inl, inr, List, [], ◌∷◌, All, get_or, refl, sym, ap, ◌∙◌, subst, arith, IsNonDecreasing, sum_by-IsPermutation, Noted, InOrder, key_at, is_done_noted, done_at, done_stamps, greatest, times, IsTwice, HasNoTwice, IsGap, HasNoGap, In, in_at, in_permutation, in_permutation_back}
 use Rattle.cell_report.proofs.Rising.{rises_from, from_rises, done_ups, from_done}
 use Rattle.cell_report.proofs.Times.{stands, stands_done, times_is}
 

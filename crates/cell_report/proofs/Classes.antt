@@ -1,12 +1,6 @@
 -- Two rising lists that have the same entries of each key in the same order are the same.
-use Rattle.std.proofs.Common.{◌≡◌, ◌≤◌, Bool, true, false, cond, inl, inr, List, [], ◌∷◌, filter, refl, sym, ap, ◌∙◌, subst, arith}
+use Rattle.cell_report.proofs.Names.{◌≡◌, ◌≤◌, Bool, true, false, cond, inl, inr, List, [], ◌∷◌, filter, refl, sym, ap, ◌∙◌, subst, arith, ties, cases_Bool, cond_both, nat_tests, Noted, key_at, In, in_filter, from_filter}
 use Rattle.std.specs.Ordering.{nat_cmp, is_lt}
-use Rattle.std.specs.List.Sorted.{ties}
-use Rattle.std.proofs.lemmas.Bool.{cases_Bool, cond_both}
-use Rattle.std.proofs.lemmas.Bool.Decides.{nat_tests}
-use Rattle.cell_report.specs.declared.ordered.Noted.{Noted}
-use Rattle.cell_report.specs.Order.{key_at}
-use Rattle.cell_report.proofs.Members.{In, in_filter, from_filter}
 use Rattle.cell_report.proofs.Rising.{Rises}
 
 abbrev pub is_below : Noted → Noted → Bool

@@ -1,11 +1,5 @@
 -- If there is a history, every entry fits.
-use Rattle.std.proofs.Common.{◌≡◌, ◌+◌, ◌≤◌, inl, inr, true, List, [], ◌∷◌, ◌++◌, map, refl, sym, ap, ◌∙◌, subst, arith, append_assoc, append-nil}
-use Rattle.std.proofs.lemmas.Bool.{cases_lt}
-use Rattle.cell_rules.specs.Types.{Machine, Event, Entry}
-use Rattle.cell_rules.specs.Names.{ModelState, reply, next, after, IsLegal, is_done_answer, noted}
-use Rattle.cell_report.specs.declared.ordered.Noted.{Noted}
-use Rattle.cell_report.specs.Order.{noted_from, all_noted, event_of, key_at, is_done_noted, done_stamps}
-use Rattle.cell_report.proofs.Members.{In, in_append_right, in_append_cases, in_filter}
+use Rattle.cell_report.proofs.Names.{◌≡◌, ◌+◌, ◌≤◌, inl, inr, true, List, [], ◌∷◌, ◌++◌, map, refl, sym, ap, ◌∙◌, subst, arith, append_assoc, append-nil, cases_lt, Machine, Event, Entry, ModelState, reply, next, after, IsLegal, is_done_answer, noted, Noted, noted_from, all_noted, event_of, key_at, is_done_noted, done_stamps, In, in_append_right, in_append_cases, in_filter}
 use Rattle.cell_report.proofs.Own.{is_of, same_itself, own_entries}
 use Rattle.cell_report.proofs.Rising.{Rises, done_rank, from_done}
 use Rattle.cell_report.proofs.Turns.{in_turn_from_rises}

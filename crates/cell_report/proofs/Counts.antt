@@ -1,12 +1,5 @@
 -- The Done entries of a history, by stamp.
-use Rattle.std.proofs.Common.{◌≡◌, ℕ, ◌+◌, ◌<◌, ◌≤◌, nat_eq, true, cond, ◌&&◌, inl, inr, List, [], ◌∷◌, ◌++◌, refl, sym, ap, ◌∙◌, subst, arith}
-use Rattle.std.proofs.lemmas.Bool.{cases_lt}
-use Rattle.std.proofs.lemmas.List.Sums.{sum_by-append, sum_by-cons}
-use Rattle.cell_rules.specs.Types.{Machine, Feed, Table, Robot, Press, Deposit, Crane, Watch, Event, same_machine, Entry}
-use Rattle.cell_rules.specs.Names.{ModelState, after, IsLegal, is_done_answer, noted, entry_of, state_left}
-use Rattle.cell_report.specs.declared.ordered.Noted.{Noted}
-use Rattle.cell_report.specs.Order.{noted_after, noted_from, all_noted, is_done_noted, done_at}
-use Rattle.cell_report.proofs.Members.{In, in_kept, from_filter}
+use Rattle.cell_report.proofs.Names.{◌≡◌, ℕ, ◌+◌, ◌<◌, ◌≤◌, nat_eq, true, cond, ◌&&◌, inl, inr, List, [], ◌∷◌, ◌++◌, refl, sym, ap, ◌∙◌, subst, arith, cases_lt, sum_by-append, sum_by-cons, Machine, Feed, Table, Robot, Press, Deposit, Crane, Watch, Event, same_machine, Entry, ModelState, after, IsLegal, is_done_answer, noted, entry_of, state_left, Noted, noted_after, noted_from, all_noted, is_done_noted, done_at, In, in_kept, from_filter}
 use Rattle.cell_report.proofs.Own.{is_of, same_itself, own_entries}
 use Rattle.cell_report.proofs.Times.{tick, eq_cases}
 use Rattle.cell_report.proofs.Runs.{next_cases}

@@ -1,3 +1,4 @@
+mod Names
 pub mod Members
 pub mod Own
 pub mod Rising

@@ -1,18 +1,7 @@
 -- The next run of several journals.
-use Rattle.std.specs.Option.{MatchOption}
-use Rattle.std.proofs.lemmas.Bool.{cases_lt}
-use Rattle.std.proofs.Common.{◌+◌, ◌-◌, Bool, true, Option, None, Some, append-nil, ◌≡◌, ℕ, zero, suc, ◌<◌, ◌≤◌, inl, inr, List, [], ◌∷◌, ◌++◌, length, replicate, map, get_or, set, refl, sym, ap, ◌∙◌, subst, arith, append_assoc, length-append}
-use Rattle.std.specs.List.Sorted.{IsNonDecreasingBy}
-use Rattle.cell_rules.specs.Types.{Machine, Feed, Table, Robot, Press, Deposit, Crane, Watch, Entry}
-use Rattle.cell_report.specs.declared.ordered.Noted.{Noted}
+use Rattle.cell_report.proofs.Names.{MatchOption, cases_lt, ◌+◌, ◌-◌, Bool, true, Option, None, Some, append-nil, ◌≡◌, ℕ, zero, suc, ◌<◌, ◌≤◌, inl, inr, List, [], ◌∷◌, ◌++◌, length, replicate, map, get_or, set, refl, sym, ap, ◌∙◌, subst, arith, append_assoc, length-append, IsNonDecreasingBy, Machine, Feed, Table, Robot, Press, Deposit, Crane, Watch, Entry, Noted, Rest, key_of, key_at, in_order, noted_after, noted_from, all_noted, noted_in_turn, all_in_turn, first_key, last_key, IsFirstLeast}
+use Rattle.cell_report.proofs.Names.{left_of, left_of_all, AllRise, IsRun, IsMerged, get_or-map, length-map, nil_from_length, IsNonDecreasingBy-short, In, in_append_right, in_append_cases, in_append_all}
 use Rattle.cell_report.specs.declared.rests.Run.{Run}
-use Rattle.cell_report.specs.declared.rests.Rest.{Rest}
-use Rattle.cell_report.specs.Order.{key_of, key_at, in_order, noted_after, noted_from, all_noted}
-use Rattle.cell_report.specs.InTurn.{noted_in_turn, all_in_turn, first_key, last_key, IsFirstLeast}
-use Rattle.cell_report.specs.Merged.{left_of, left_of_all, AllRise, IsRun, IsMerged}
-use Rattle.std.proofs.lemmas.List.{get_or-map, length-map, nil_from_length}
-use Rattle.std.proofs.lemmas.List.Sorted.{IsNonDecreasingBy-short}
-use Rattle.cell_report.proofs.Members.{In, in_append_right, in_append_cases, in_append_all}
 use Rattle.cell_report.proofs.Rising.{RisesBy, Rises, rises_from, from_rises, in_map}
 use Rattle.cell_report.proofs.Runs.{in_from}
 use Rattle.cell_report.proofs.Turns.{in_turn_from_rises}

@@ -1,12 +1,6 @@
 -- Entries have one order, and journals one fault.
-use Rattle.std.proofs.Common.{◌≡◌, ◌≢◌, ℕ, ◌<◌, inl, inr, List, [], ◌∷◌, ◌++◌, map, Option, sym, ap, ◌∙◌, subst, refl, arith}
-use Rattle.std.proofs.lemmas.Bool.{cases_lt}
-use Rattle.cell_rules.specs.Names.{ModelState, next, after}
-use Rattle.cell_report.specs.declared.ordered.Noted.{Noted}
-use Rattle.cell_report.specs.declared.audit_faults.AuditFault.{AuditFault}
+use Rattle.cell_report.proofs.Names.{◌≡◌, ◌≢◌, ℕ, ◌<◌, inl, inr, List, [], ◌∷◌, ◌++◌, map, Option, sym, ap, ◌∙◌, subst, refl, arith, cases_lt, ModelState, next, after, Noted, AuditFault, all_noted, event_of, key_at, AllFit, Fits, HasNoGap, HasNoTwice, IsFaultOf, IsGap, IsMisfit, IsTwice, MissesEnd}
 use Rattle.cell_report.specs.declared.audit_faults.AuditFault.TheVariants.{Twice, Gap, Differs, End, Memory}
-use Rattle.cell_report.specs.Order.{all_noted, event_of, key_at}
-use Rattle.cell_report.specs.AuditFaults.{AllFit, Fits, HasNoGap, HasNoTwice, IsFaultOf, IsGap, IsMisfit, IsTwice, MissesEnd}
 use Rattle.cell_report.specs.AuditLaws.{FaultIsOne, OrderIsOne}
 use Rattle.cell_report.proofs.Rising.{rises_from}
 use Rattle.cell_report.proofs.Classes.{same_classes}

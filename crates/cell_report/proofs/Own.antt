@@ -1,11 +1,5 @@
 -- The entries of one machine among all.
-use Rattle.std.proofs.Common.{◌≡◌, ◌+◌, length, Bool, true, false, cond, List, [], ◌∷◌, ◌++◌, map, filter, refl, sym, ap, ◌∙◌, subst, append-nil}
-use Rattle.std.proofs.lemmas.Bool.{cond_both}
-use Rattle.std.proofs.lemmas.List.{length-append, length-map}
-use Rattle.std.proofs.lemmas.List.Elements.{filter-append}
-use Rattle.cell_rules.specs.Types.{Machine, Feed, Table, Robot, Press, Deposit, Crane, Watch, Entry, same_machine, one_machine}
-use Rattle.cell_report.specs.declared.ordered.Noted.{Noted}
-use Rattle.cell_report.specs.Order.{noted_after, noted_from, all_noted}
+use Rattle.cell_report.proofs.Names.{◌≡◌, ◌+◌, length, Bool, true, false, cond, List, [], ◌∷◌, ◌++◌, map, filter, refl, sym, ap, ◌∙◌, subst, append-nil, cond_both, length-append, length-map, filter-append, Machine, Feed, Table, Robot, Press, Deposit, Crane, Watch, Entry, same_machine, one_machine, Noted, noted_after, noted_from, all_noted}
 
 abbrev pub is_of : Machine → Noted → Bool
 is_of m x = same_machine x.machine m

@@ -1,12 +1,6 @@
 -- The entries of a journal, read one by one.
-use Rattle.std.proofs.Common.{◌≡◌, ℕ, ◌+◌, ◌<◌, nat_le, max, Bool, ◌&&◌, List, [], ◌∷◌, ◌++◌, length, take, get_or, sym, ap, ◌∙◌, arith, append-nil, append_assoc}
-use Rattle.std.specs.List.{list_all}
-use Rattle.std.proofs.lemmas.Bool.Decides.{nat_tests}
-use Rattle.std.proofs.lemmas.List.{take_more}
+use Rattle.cell_report.proofs.Names.{◌≡◌, ℕ, ◌+◌, ◌<◌, nat_le, max, Bool, ◌&&◌, List, [], ◌∷◌, ◌++◌, length, take, get_or, sym, ap, ◌∙◌, arith, append-nil, append_assoc, list_all, nat_tests, take_more, Machine, Entry, Noted, key_of, noted_after, noted_from}
 use Rattle.std.proofs.lemmas.List.Folds.{list_all_more}
-use Rattle.cell_rules.specs.Types.{Machine, Entry}
-use Rattle.cell_report.specs.declared.ordered.Noted.{Noted}
-use Rattle.cell_report.specs.Order.{key_of, noted_after, noted_from}
 
 noted_from-push : (m : Machine) (earlier es : List Entry) (e : Entry) → noted_from m earlier (es ++ e ∷ []) ≡ noted_from m earlier es ++ noted_after m (earlier ++ es) e ∷ []
 noted_from-push m earlier [] e = ap (λ l. noted_after m l e ∷ []) (sym (append-nil earlier))

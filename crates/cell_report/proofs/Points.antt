@@ -1,13 +1,5 @@
 -- If the stamps pass their tests, an entry that fits has the stamp of its point.
-use Rattle.std.proofs.Common.{◌≡◌, ℕ, ◌+◌, ◌*◌, ◌<◌, ◌≤◌, true, false, cond, nat_eq, ◌&&◌, ◌⊎◌, inl, inr, List, [], ◌∷◌, ◌++◌, refl, sym, ap, ◌∙◌, subst, arith, append_assoc}
-use Rattle.std.specs.Prelude.{⊤}
-use Rattle.std.proofs.lemmas.Bool.{cases_lt}
-use Rattle.std.proofs.lemmas.List.Sums.{sum_by-append}
-use Rattle.cell_rules.specs.Names.{ModelState, reply, next, is_done_answer}
-use Rattle.cell_report.specs.declared.ordered.Noted.{Noted}
-use Rattle.cell_report.specs.Order.{key_at, is_done_noted, done_stamps, greatest}
-use Rattle.cell_report.specs.AuditFaults.{HasStamps, Fits, AllFit}
-use Rattle.cell_report.proofs.Members.{In, in_append_left, in_append_right, in_append_cases, in_append_all, in_permutation_back}
+use Rattle.cell_report.proofs.Names.{◌≡◌, ℕ, ◌+◌, ◌*◌, ◌<◌, ◌≤◌, true, false, cond, nat_eq, ◌&&◌, ◌⊎◌, inl, inr, List, [], ◌∷◌, ◌++◌, refl, sym, ap, ◌∙◌, subst, arith, append_assoc, ⊤, cases_lt, sum_by-append, ModelState, reply, next, is_done_answer, Noted, key_at, is_done_noted, done_stamps, greatest, HasStamps, Fits, AllFit, In, in_append_left, in_append_right, in_append_cases, in_append_all, in_permutation_back}
 use Rattle.cell_report.proofs.Rising.{Rises, rises_from, done_rank, other_rank, from_done, to_done}
 use Rattle.cell_report.proofs.Times.{stands, stands_done, stands_in, in_stands}
 use Rattle.cell_report.proofs.Checks.{counted, greatest_in}

@@ -1,12 +1,5 @@
 -- Entries that are put in the order one by one.
-use Rattle.std.proofs.Common.{◌≡◌, ◌<◌, ◌≤◌, nat_le, true, cond, inl, inr, List, [], ◌∷◌, ◌++◌, filter, refl, sym, ap, ◌∙◌, arith}
-use Rattle.std.specs.List.Sorted.{IsPermutation}
-use Rattle.std.proofs.lemmas.Bool.{leb-true, leb-false, le-leb, lt-leb, cond-true, cond-false, cond_both, cases_Bool}
-use Rattle.std.proofs.lemmas.Bool.Decides.{nat_tests}
-use Rattle.std.proofs.lemmas.List.Sorted.{IsPermutation-refl, IsPermutation-cons, IsPermutation-middle, IsPermutation-trans}
-use Rattle.cell_report.specs.declared.ordered.Noted.{Noted}
-use Rattle.cell_report.specs.Order.{InOrder, key_at, put, in_order}
-use Rattle.cell_report.proofs.Members.{In, in_permutation_back}
+use Rattle.cell_report.proofs.Names.{◌≡◌, ◌<◌, ◌≤◌, nat_le, true, cond, inl, inr, List, [], ◌∷◌, ◌++◌, filter, refl, sym, ap, ◌∙◌, arith, IsPermutation, leb-true, leb-false, le-leb, lt-leb, cond-true, cond-false, cond_both, cases_Bool, nat_tests, IsPermutation-refl, IsPermutation-cons, IsPermutation-middle, IsPermutation-trans, Noted, InOrder, key_at, put, in_order, In, in_permutation_back}
 use Rattle.cell_report.proofs.Rising.{Rises, from_rises}
 use Rattle.cell_report.proofs.Classes.{ties_with}
 

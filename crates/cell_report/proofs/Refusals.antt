@@ -1,14 +1,6 @@
 -- Journals that an audit refuses have no history.
-use Rattle.std.proofs.Common.{◌≡◌, ◌≢◌, ℕ, ◌<◌, ◌≤◌, max, inl, inr, List, ◌∷◌, ◌++◌, [], map, Option, Some, None, Result, Ok, Err, IfErr, IfSome, refl, ap, ◌∙◌, subst, arith, true}
-use Rattle.std.proofs.lemmas.Bool.{cases_lt}
-use Rattle.cell_rules.specs.Types.{Machine, Event, Entry}
-use Rattle.cell_rules.specs.Names.{ModelState, next, after, IsLegal, is_done_answer, noted, IsAudited, EndsIn, HasNoHistory}
-use Rattle.cell_report.specs.declared.ordered.Noted.{Noted}
-use Rattle.cell_report.specs.declared.audit_faults.AuditFault.{AuditFault}
+use Rattle.cell_report.proofs.Names.{◌≡◌, ◌≢◌, ℕ, ◌<◌, ◌≤◌, max, inl, inr, List, ◌∷◌, ◌++◌, [], map, Option, Some, None, Result, Ok, Err, IfErr, IfSome, refl, ap, ◌∙◌, subst, arith, true, cases_lt, Machine, Event, Entry, ModelState, next, after, IsLegal, is_done_answer, noted, IsAudited, EndsIn, HasNoHistory, Noted, AuditFault, all_noted, event_of, greatest, is_done_noted, done_stamps, Fits, AllFit, HasStamps, IsFault, end_stamp, top_of, In, in_permutation, in_permutation_back}
 use Rattle.cell_report.specs.declared.audit_faults.AuditFault.TheVariants.{Twice, Gap, Differs, End, Memory}
-use Rattle.cell_report.specs.Order.{all_noted, event_of, greatest, is_done_noted, done_stamps}
-use Rattle.cell_report.specs.AuditFaults.{Fits, AllFit, HasStamps, IsFault, end_stamp, top_of}
-use Rattle.cell_report.proofs.Members.{In, in_permutation, in_permutation_back}
 use Rattle.cell_report.proofs.Rising.{to_done}
 use Rattle.cell_report.proofs.Times.{stands_done, stands_in}
 use Rattle.cell_report.proofs.Checks.{greatest_below}

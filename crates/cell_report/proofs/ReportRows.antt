@@ -1,7 +1,6 @@
 -- The reports of the examples.
-use Rattle.std.proofs.Common.{refl}
+use Rattle.cell_report.proofs.Names.{refl, report_text}
 use Rattle.std.specs.Fmt.{digits}
-use Rattle.cell_report.specs.Report.{report_text}
 use Rattle.cell_report.specs.ReportExamples.{ReportsAreMet}
 
 pub reports_are_met : ReportsAreMet

@@ -1,13 +1,8 @@
 -- The lines of a report, in order.
-use Rattle.std.proofs.Common.{ℕ, ℤ, pos, ◌≡◌, ◌<◌, ◌+◌, List, [], ◌∷◌, ◌++◌, length, map, drop, get_or, codes, refl, sym, ap, ap₂, ◌∙◌, append_assoc}
-use Rattle.std.proofs.lemmas.List.{append-nil, drop_more}
-use Rattle.cell_rules.specs.Types.{all_machines, all_zones, Machine}
-use Rattle.cell_rules.specs.ModelState.{ModelState}
-use Rattle.std.specs.List.{concat, flat_map, zip}
+use Rattle.cell_report.proofs.Names.{ℕ, ℤ, pos, ◌≡◌, ◌<◌, ◌+◌, List, [], ◌∷◌, ◌++◌, length, map, drop, get_or, codes, refl, sym, ap, ap₂, ◌∙◌, append_assoc, append-nil, drop_more, all_machines, all_zones, Machine, ModelState, concat, flat_map, zip, axes_line, axis_names, axis_words, end_lines, machine_line, places_line, places_word, spaced, text_of_lines, zone_line}
 use Rattle.std.specs.Fmt.{signed_decimal}
 use Rattle.cell_notes.specs.declared.counts.Counts.{Counts}
 use Rattle.cell_notes.specs.declared.status.Status.{Status}
-use Rattle.cell_report.specs.Report.{axes_line, axis_names, axis_words, end_lines, machine_line, places_line, places_word, spaced, text_of_lines, zone_line}
 
 pub text_of_lines-append : (a b : List (List ℕ)) → text_of_lines (a ++ b) ≡ text_of_lines a ++ text_of_lines b
 text_of_lines-append [] b = refl

@@ -1,12 +1,5 @@
 -- From one entry to the next.
-use Rattle.std.proofs.Common.{◌≡◌, ℕ, List, [], ◌∷◌, ◌++◌, map, refl, sym, ap, ◌∙◌, subst, append_assoc}
-use Rattle.std.proofs.lemmas.List.{map-append}
-use Rattle.cell_types.specs.declared.answer.Event.{Event}
-use Rattle.cell_rules.specs.Names.{ModelState, next, after}
-use Rattle.cell_report.specs.declared.ordered.Noted.{Noted}
-use Rattle.cell_report.specs.Order.{event_of}
-use Rattle.cell_report.specs.AuditFaults.{Fits, AllFit, IsMisfit}
-use Rattle.cell_report.specs.Retraced.{Retraced}
+use Rattle.cell_report.proofs.Names.{◌≡◌, ℕ, List, [], ◌∷◌, ◌++◌, map, refl, sym, ap, ◌∙◌, subst, append_assoc, map-append, Event, ModelState, next, after, Noted, event_of, Fits, AllFit, IsMisfit, Retraced}
 
 after-append : (s : ModelState) (h k : List Event) → after s (h ++ k) ≡ after (after s h) k
 after-append s [] k = refl

@@ -1,15 +1,5 @@
 -- Entries in their order, by recursion.
-use Rattle.std.proofs.Common.{◌≡◌, ◌++◌, ℕ, zero, suc, ◌≤◌, true, false, inl, inr, List, [], ◌∷◌, get_or, map, filter, refl, ap, subst, arith}
-use Rattle.std.specs.Prelude.{⊤}
-use Rattle.std.specs.List.Sorted.{IsNonDecreasingBy}
-use Rattle.std.proofs.lemmas.Bool.{cond_both}
-use Rattle.std.proofs.lemmas.List.{map-append}
-use Rattle.std.proofs.lemmas.List.Elements.{filter-append}
-use Rattle.cell_rules.specs.Types.{Answer, Done, Shown, Refused}
-use Rattle.cell_rules.specs.History.{is_done_answer}
-use Rattle.cell_report.specs.declared.ordered.Noted.{Noted}
-use Rattle.cell_report.specs.Order.{key_at, rank, is_done_noted, stamp_of, done_stamps}
-use Rattle.cell_report.proofs.Members.{In, in_at, contains_from_in, in_filter, from_filter}
+use Rattle.cell_report.proofs.Names.{◌≡◌, ◌++◌, ℕ, zero, suc, ◌≤◌, true, false, inl, inr, List, [], ◌∷◌, get_or, map, filter, refl, ap, subst, arith, ⊤, IsNonDecreasingBy, cond_both, map-append, filter-append, Answer, Done, Shown, Refused, is_done_answer, Noted, key_at, rank, is_done_noted, stamp_of, done_stamps, In, in_at, contains_from_in, in_filter, from_filter}
 
 -- each element's key is not above those after it
 abbrev pub RisesBy : {X : Type 0} → (X → ℕ) → List X → Type 0

@@ -1,10 +1,5 @@
 -- The states of a legal history, and at which point each entry was noted.
-use Rattle.std.proofs.Common.{◌≡◌, ◌+◌, ◌*◌, ◌≤◌, Bool, true, false, cond, ◌⊎◌, inl, inr, List, [], ◌∷◌, ◌++◌, refl, sym, ap, ◌∙◌, subst, arith}
-use Rattle.cell_rules.specs.Types.{Machine, Call, Answer, Done, Shown, Refused, Event, same_machine, one_machine, Entry}
-use Rattle.cell_rules.specs.Names.{ModelState, reply, next, next_by, after, IsLegal, is_done_answer, noted, entry_of, state_left}
-use Rattle.cell_report.specs.declared.ordered.Noted.{Noted}
-use Rattle.cell_report.specs.Order.{noted_from, rank}
-use Rattle.cell_report.proofs.Members.{In}
+use Rattle.cell_report.proofs.Names.{◌≡◌, ◌+◌, ◌*◌, ◌≤◌, Bool, true, false, cond, ◌⊎◌, inl, inr, List, [], ◌∷◌, ◌++◌, refl, sym, ap, ◌∙◌, subst, arith, Machine, Call, Answer, Done, Shown, Refused, Event, same_machine, one_machine, Entry, ModelState, reply, next, next_by, after, IsLegal, is_done_answer, noted, entry_of, state_left, Noted, noted_from, rank, In}
 use Rattle.cell_report.proofs.Rising.{Rises, done_rank, other_rank}
 
 by_answer : (a : Answer) (s : ModelState) (m : Machine) (c : Call) → ((is_done_answer a ≡ true) × ((next_by a s m c).stamp ≡ s.stamp + 1)) ⊎ ((is_done_answer a ≡ false) × (next_by a s m c ≡ s))

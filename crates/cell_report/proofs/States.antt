@@ -1,11 +1,7 @@
 -- Two states are the same if they have the same in each zone and place, the same stamp, and the same mark.
-use Rattle.std.proofs.Common.{◌≡◌, nat_eq, Bool, true, false, ◌&&◌, Option, Some, None, refl, ap, ◌∙◌, subst}
+use Rattle.cell_report.proofs.Names.{◌≡◌, nat_eq, Bool, true, false, ◌&&◌, Option, Some, None, refl, ap, ◌∙◌, subst, option_eq, and_parts, eqb-true, eq-eqb, Machine, Posture, Closed, Moving, OpenIn, OpenOut, same_machine, same_posture, one_machine, one_posture, ZoneMap, zone_map, PlaceSet, place_set, ModelState, model_state}
 use Rattle.std.proofs.Math.Bool.{beq}
-use Rattle.std.specs.Option.{option_eq}
 use Rattle.std.specs.Cmp.{booleans_Decides}
-use Rattle.std.proofs.lemmas.Bool.{and_parts, eqb-true, eq-eqb}
-use Rattle.cell_rules.specs.Types.{Machine, Posture, Closed, Moving, OpenIn, OpenOut, same_machine, same_posture, one_machine, one_posture}
-use Rattle.cell_rules.specs.Names.{ZoneMap, zone_map, PlaceSet, place_set, ModelState, model_state}
 use Rattle.cell_rules.specs.declared.zones.ZoneState.{ZoneState}
 use Rattle.cell_report.proofs.Own.{same_itself}
 

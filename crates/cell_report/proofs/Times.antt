@@ -1,16 +1,8 @@
 -- How often a number occurs in a non-decreasing list.
-use Rattle.std.proofs.Common.{zero-add, ◌≡◌, ◌≢◌, ℕ, ◌+◌, ◌-◌, ◌<◌, ◌≤◌, max, nat_eq, nat_lt, Bool, true, false, cond, ◌&&◌, ◌⊎◌, inl, inr, List, [], ◌∷◌, map, filter, Option, Some, None, refl, sym, ap, ◌∙◌, subst, arith, drop, length, get_or, All, MatchOption}
-use Rattle.std.proofs.lemmas.Bool.{cases_eq, cases_lt, cond_both, eqb-true, eq-eqb, ne_eqb, lt-ltb, le-ltb}
+use Rattle.cell_report.proofs.Names.{zero-add, ◌≡◌, ◌≢◌, ℕ, ◌+◌, ◌-◌, ◌<◌, ◌≤◌, max, nat_eq, nat_lt, Bool, true, false, cond, ◌&&◌, ◌⊎◌, inl, inr, List, [], ◌∷◌, map, filter, Option, Some, None, refl, sym, ap, ◌∙◌, subst, arith, drop, length, get_or, All, cases_eq, cases_lt, cond_both, eqb-true, eq-eqb, ne_eqb, lt-ltb, le-ltb, at_drop_more, at_drop_all, sum_by-cons, All-contains, option_eq, IsNonDecreasing, Noted, is_done_noted, stamp_of, done_at, done_stamps, times, IsTwice, HasNoTwice, IsGap}
+use Rattle.cell_report.proofs.Names.{HasNoGap, In, contains_from_in}
+use Rattle.std.proofs.Common.{MatchOption}
 use Rattle.std.proofs.lemmas.Option.{same_Some}
-use Rattle.std.proofs.lemmas.List.{at_drop_more, at_drop_all}
-use Rattle.std.proofs.lemmas.List.Sums.{sum_by-cons}
-use Rattle.std.proofs.lemmas.List.Elements.{All-contains}
-use Rattle.std.specs.Option.{option_eq}
-use Rattle.std.specs.List.Sorted.{IsNonDecreasing}
-use Rattle.cell_report.specs.declared.ordered.Noted.{Noted}
-use Rattle.cell_report.specs.Order.{is_done_noted, stamp_of, done_at, done_stamps}
-use Rattle.cell_report.specs.AuditFaults.{times, IsTwice, HasNoTwice, IsGap, HasNoGap}
-use Rattle.cell_report.proofs.Members.{In, contains_from_in}
 use Rattle.cell_report.proofs.Rising.{Ups, rises_from}
 
 abbrev pub tick : Bool → ℕ

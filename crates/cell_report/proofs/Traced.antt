@@ -1,19 +1,8 @@
 -- One entry more of a trace.
-use Rattle.std.specs.Option.{MatchOption, is_some}
+use Rattle.cell_report.proofs.Names.{MatchOption, is_some, Result, Ok, Err, append-nil, ◌≡◌, ℕ, max, true, false, Option, Some, None, List, [], ◌∷◌, ◌++◌, ◌+◌, zero, suc, map, replicate, refl, sym, ap, subst, ◌∙◌, arith, append_assoc, fold_push, map-append, replicate_more, replicate-append-replicate, Noted, Event, ModelState, next, Trace, Fits, IsMisfit, Retraced, IsTrace, IsTraceOf, Repeats, InOrder, event_of, stamp_of, done_stamps, greatest}
 use Rattle.std.specs.Result.{IfOk}
-use Rattle.std.proofs.Common.{Result, Ok, Err, append-nil, ◌≡◌, ℕ, max, true, false, Option, Some, None, List, [], ◌∷◌, ◌++◌, ◌+◌, zero, suc, map, replicate, refl, sym, ap, subst, ◌∙◌, arith, append_assoc}
-use Rattle.std.proofs.lemmas.List.Sums.{fold_push}
-use Rattle.std.proofs.lemmas.List.{map-append, replicate_more, replicate-append-replicate}
-use Rattle.cell_report.specs.declared.ordered.Noted.{Noted}
-use Rattle.cell_types.specs.declared.answer.Event.{Event}
-use Rattle.cell_rules.specs.Names.{ModelState, next}
-use Rattle.cell_report.specs.declared.traces.Trace.{Trace}
-use Rattle.cell_report.specs.AuditFaults.{Fits, IsMisfit}
-use Rattle.cell_report.specs.Retraced.{Retraced}
-use Rattle.cell_report.specs.Traces.{IsTrace, IsTraceOf, Repeats}
 use Rattle.cell_report.proofs.Rising.{done_stamps-append}
 use Rattle.cell_report.proofs.Retraces.{retraced_more, misfit_stays}
-use Rattle.cell_report.specs.Order.{InOrder, event_of, stamp_of, done_stamps, greatest}
 
 -- a trace whose stamps have one entry more than what fits
 pub record IsStamped (holds : List Event → Type 0) (start : ModelState) (least : ℕ) (before : List Noted) (x : Noted) (t : Trace) : Type 0 where

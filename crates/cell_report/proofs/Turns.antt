@@ -1,13 +1,5 @@
 -- Which entries of a journal are in turn.
-use Rattle.std.proofs.Common.{◌≡◌, ℕ, ◌≤◌, get_or, nat_le, true, inl, inr, List, [], ◌∷◌, ◌++◌, refl, sym, ap, ◌∙◌, arith}
-use Rattle.std.specs.List.{list_all}
-use Rattle.std.proofs.lemmas.Bool.{leb-true, le-leb}
-use Rattle.cell_rules.specs.Types.{Machine, Entry}
-use Rattle.cell_report.specs.declared.ordered.Noted.{Noted}
-use Rattle.cell_report.specs.Order.{key_of, key_at, noted_after, noted_from}
-use Rattle.std.proofs.lemmas.List.Elements.{All-contains}
-use Rattle.std.proofs.lemmas.List.Sums.{AllPass-from_list_all, list_all-from_AllPass}
-use Rattle.cell_report.proofs.Members.{In, in_at, contains_from_in, in_append_left, in_append_right, in_append_all}
+use Rattle.cell_report.proofs.Names.{◌≡◌, ℕ, ◌≤◌, get_or, nat_le, true, inl, inr, List, [], ◌∷◌, ◌++◌, refl, sym, ap, ◌∙◌, arith, list_all, leb-true, le-leb, Machine, Entry, Noted, key_of, key_at, noted_after, noted_from, All-contains, AllPass-from_list_all, list_all-from_AllPass, In, in_at, contains_from_in, in_append_left, in_append_right, in_append_all}
 use Rattle.cell_report.proofs.Rising.{Rises}
 
 low_of : (d : Entry) (earlier : List Entry) (k : ℕ) → In d earlier → list_all (λ e. nat_le (key_of e) k) earlier ≡ true → key_of d ≤ k

@@ -1,5 +1,4 @@
-use Rattle.std.proofs.Common.{arith}
-use Rattle.cell_types.specs.Journals.{journal_of}
+use Rattle.cell_report.proofs.Names.{arith, journal_of}
 use Rattle.cell_report.proofs.Own.{all_length}
 use Rattle.cell_report.proofs.audits.room.Goals as goal
 

@@ -1,7 +1,4 @@
-use Rattle.std.proofs.Common.{List, sym, subst}
-use Rattle.cell_types.specs.Journals.{journal_of}
-use Rattle.cell_report.specs.declared.ordered.Noted.{Noted}
-use Rattle.cell_report.specs.Order.{InOrder, all_noted, in_order}
+use Rattle.cell_report.proofs.Names.{List, sym, subst, journal_of, Noted, InOrder, all_noted, in_order}
 use Rattle.cell_report.proofs.Puts.{in_order_is}
 use Rattle.cell_report.proofs.Traced.{trace_in_order}
 use Rattle.cell_report.proofs.audits.trace_of.Goals as goal

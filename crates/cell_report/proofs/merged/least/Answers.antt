@@ -1,5 +1,4 @@
-use Rattle.std.proofs.Common.{ap, arith}
-use Rattle.cell_report.specs.declared.rests.Rest.{Rest}
+use Rattle.cell_report.proofs.Names.{ap, arith, Rest}
 use Rattle.cell_report.proofs.NextLeast.{least_moves, least_stays}
 use Rattle.cell_report.proofs.merged.least.Goals as goal
 use Rattle.cell_report.proofs.merged.least.Goals.{then-rests-place, else-rests-place}

@@ -1,7 +1,4 @@
-use Rattle.std.proofs.Common.{rules, subst, List}
-use Rattle.std.proofs.lemmas.List.Sorted.{IsNonDecreasingBy-from_sort_by_key, answers_always}
-use Rattle.cell_report.specs.declared.ordered.Noted.{Noted}
-use Rattle.cell_report.specs.Order.{InOrder, key_at}
+use Rattle.cell_report.proofs.Names.{rules, subst, List, IsNonDecreasingBy-from_sort_by_key, answers_always, Noted, InOrder, key_at}
 use Rattle.cell_report.proofs.ordered.all_sorted.Goals as goal
 
 pub returns : goal.returns

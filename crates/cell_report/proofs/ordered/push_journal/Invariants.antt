@@ -1,5 +1,4 @@
-use Rattle.std.proofs.Common.{◌≡◌, ◌++◌, [], take}
-use Rattle.cell_report.specs.Order.{noted_from}
+use Rattle.cell_report.proofs.Names.{◌≡◌, ◌++◌, [], take, noted_from}
 use Rattle.cell_report.proofs.Placed.{IsLatest}
 use Rattle.cell_report.proofs.ordered.push_journal.Given as goal
 

@@ -1,7 +1,4 @@
-use Rattle.std.proofs.Common.{◌≡◌, ◌+◌, [], ◌++◌, ◌∙◌, length, get_or, pos, rules, arith, codes, sym, ap, subst, append-nil}
-use Rattle.std.proofs.lemmas.List.{get_or-map}
-use Rattle.std.proofs.lemmas.Result.{on_ok_weaker}
-use Rattle.cell_report.specs.Report.{axis_names}
+use Rattle.cell_report.proofs.Names.{◌≡◌, ◌+◌, [], ◌++◌, ◌∙◌, length, get_or, pos, rules, arith, codes, sym, ap, subst, append-nil, get_or-map, on_ok_weaker, axis_names}
 use Rattle.cell_report.proofs.Reports.{axes_from, axes_from-more, axes_told, axis_text, told_more}
 use Rattle.cell_report.proofs.report.push_axes.Goals as goal
 use Rattle.cell_report.proofs.report.push_axes.Goals.{In_ok-push_axis}

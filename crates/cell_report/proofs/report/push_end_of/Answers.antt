@@ -1,5 +1,4 @@
-use Rattle.std.proofs.Common.{◌∙◌, refl}
-use Rattle.std.proofs.lemmas.Result.{on_ok_weaker}
+use Rattle.cell_report.proofs.Names.{◌∙◌, refl, on_ok_weaker}
 use Rattle.cell_report.proofs.Reports.{end_told, one_more}
 use Rattle.cell_report.proofs.report.push_end_of.Goals as goal
 

@@ -1,5 +1,4 @@
-use Rattle.std.proofs.Common.{◌≡◌, ◌++◌}
-use Rattle.cell_report.specs.Report.{machine_lines, text_of_lines}
+use Rattle.cell_report.proofs.Names.{◌≡◌, ◌++◌, machine_lines, text_of_lines}
 use Rattle.cell_report.proofs.Reports.{machines_from}
 use Rattle.cell_report.proofs.report.push_machines.Given as goal
 

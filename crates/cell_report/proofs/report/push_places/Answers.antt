@@ -1,8 +1,4 @@
-use Rattle.std.proofs.Common.{◌+◌, ◌++◌, map, drop, refl, sym, ap, ◌∙◌, append_assoc}
-use Rattle.std.specs.List.{concat}
-use Rattle.std.proofs.lemmas.List.{drop_more}
-use Rattle.cell_rules.specs.Types.{Place, flag_word, all_places}
-use Rattle.cell_rules.specs.ModelState.{is_full}
+use Rattle.cell_report.proofs.Names.{◌+◌, ◌++◌, map, drop, refl, sym, ap, ◌∙◌, append_assoc, concat, drop_more, Place, flag_word, all_places, is_full}
 use Rattle.cell_report.proofs.report.push_places.Goals as goal
 
 pub places-preserved : goal.places-preserved

@@ -1,8 +1,4 @@
-use Rattle.std.proofs.Common.{◌≡◌, ◌++◌, map, drop}
-use Rattle.std.specs.List.{concat}
-use Rattle.cell_rules.specs.Types.{flag_word, all_places}
-use Rattle.cell_rules.specs.ModelState.{is_full}
-use Rattle.cell_report.specs.Report.{places_word}
+use Rattle.cell_report.proofs.Names.{◌≡◌, ◌++◌, map, drop, concat, flag_word, all_places, is_full, places_word}
 use Rattle.cell_report.proofs.report.push_places.Given as goal
 
 abbrev pub invariant-places : goal.invariant-places

@@ -1,6 +1,4 @@
-use Rattle.std.proofs.Common.{◌∙◌, ◌∷◌, []}
-use Rattle.std.proofs.lemmas.Result.{on_ok_weaker}
-use Rattle.cell_report.specs.Report.{audit_line, axes_line, end_lines, machine_lines, report_text, stamp_line, start_line, version_line, where_known}
+use Rattle.cell_report.proofs.Names.{◌∙◌, ◌∷◌, [], on_ok_weaker, audit_line, axes_line, end_lines, machine_lines, report_text, stamp_line, start_line, version_line, where_known}
 use Rattle.cell_report.proofs.Reports.{one_more, report_told}
 use Rattle.cell_report.proofs.report.push_report.Goals as goal
 

@@ -1,7 +1,4 @@
-use Rattle.std.proofs.Common.{ap, map}
-use Rattle.std.proofs.lemmas.List.{drop_more}
-use Rattle.cell_types.specs.Everything.{all_zones}
-use Rattle.cell_report.specs.Report.{text_of_lines, zone_line}
+use Rattle.cell_report.proofs.Names.{ap, map, drop_more, all_zones, text_of_lines, zone_line}
 use Rattle.cell_report.proofs.Reports.{told_more}
 use Rattle.cell_report.proofs.report.push_zones.Goals as goal
 

@@ -1,6 +1,4 @@
-use Rattle.std.proofs.Common.{◌≡◌, ◌++◌, map, drop}
-use Rattle.cell_types.specs.Everything.{all_zones}
-use Rattle.cell_report.specs.Report.{text_of_lines, zone_line}
+use Rattle.cell_report.proofs.Names.{◌≡◌, ◌++◌, map, drop, all_zones, text_of_lines, zone_line}
 use Rattle.cell_report.proofs.report.push_zones.Given as goal
 
 abbrev pub invariant-zones : goal.invariant-zones

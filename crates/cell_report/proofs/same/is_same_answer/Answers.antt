@@ -1,5 +1,4 @@
-use Rattle.std.proofs.Common.{◌≡◌, arith}
-use Rattle.std.proofs.lemmas.Grind.{common_steps}
+use Rattle.cell_report.proofs.Names.{◌≡◌, arith, common_steps}
 use Rattle.cell_report.proofs.same.is_same_answer.Goals as goal
 
 pub returns-in-Refused-Refused : goal.returns-in-Refused-Refused

@@ -1,5 +1,4 @@
-use Rattle.std.proofs.Common.{◌+◌, Some, None, ◌∙◌, arith}
-use Rattle.std.proofs.lemmas.Bool.{cond-true, cond-false, lt-ltb, le-ltb}
+use Rattle.cell_report.proofs.Names.{◌+◌, Some, None, ◌∙◌, arith, cond-true, cond-false, lt-ltb, le-ltb}
 use Rattle.cell_report.proofs.Times.{gap_tells, gap_here, gap_end}
 use Rattle.cell_report.proofs.stamps.least_gap.Goals as goal
 

@@ -1,6 +1,4 @@
-use Rattle.std.proofs.Common.{◌≡◌, ◌++◌, [], ◌∷◌, ap, arith, ◌∙◌, append_assoc}
-use Rattle.std.proofs.lemmas.List.{replicate_more}
-use Rattle.cell_rules.specs.Journal.{event_by}
+use Rattle.cell_report.proofs.Names.{◌≡◌, ◌++◌, [], ◌∷◌, ap, arith, ◌∙◌, append_assoc, replicate_more, event_by}
 use Rattle.cell_report.proofs.keepers.VecEventKeeper.keep.Goals as goal
 
 pub loop-preserved : goal.loop-preserved

@@ -1,6 +1,4 @@
-use Rattle.std.proofs.Common.{ap, ◌∙◌}
-use Rattle.cell_report.specs.Order.{in_order}
-use Rattle.cell_types.specs.Journals.{journal_of}
+use Rattle.cell_report.proofs.Names.{ap, ◌∙◌, in_order, journal_of}
 use Rattle.cell_report.proofs.NextLeast.{all_left}
 use Rattle.cell_report.proofs.rests.Merge.new.Goals as goal
 

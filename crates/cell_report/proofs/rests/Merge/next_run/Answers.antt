@@ -1,6 +1,4 @@
-use Rattle.std.proofs.Common.{◌≡◌, ap, subst, arith}
-use Rattle.cell_report.specs.declared.rests.Rest.{Rest}
-use Rattle.cell_report.specs.InTurn.{IsFirstLeast}
+use Rattle.cell_report.proofs.Names.{◌≡◌, ap, subst, arith, Rest, IsFirstLeast}
 use Rattle.cell_report.proofs.NextLeast.{next_of_copy, still_first}
 use Rattle.cell_report.proofs.rests.Merge.next_run.Goals as goal
 

@@ -1,7 +1,4 @@
-use Rattle.std.proofs.Common.{◌++◌, sym, ap, subst, ◌∙◌, append-nil, append_assoc}
-use Rattle.cell_report.specs.Order.{in_order}
-use Rattle.cell_report.specs.Merged.{run_of, left_of_all, IsMerged, IsInTurn}
-use Rattle.cell_report.specs.Traces.{IsTrace}
+use Rattle.cell_report.proofs.Names.{◌++◌, sym, ap, subst, ◌∙◌, append-nil, append_assoc, in_order, run_of, left_of_all, IsMerged, IsInTurn, IsTrace}
 use Rattle.cell_report.proofs.NextLeast.{none_rise}
 use Rattle.cell_report.proofs.traces.Trace.follow_merged.Goals as goal
 

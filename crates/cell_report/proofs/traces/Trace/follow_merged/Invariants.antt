@@ -1,7 +1,4 @@
-use Rattle.std.proofs.Common.{◌≡◌, ℕ, List, [], ◌++◌, length}
-use Rattle.cell_report.specs.declared.ordered.Noted.{Noted}
-use Rattle.cell_report.specs.Merged.{IsInTurn, left_of_all, rest_of}
-use Rattle.cell_report.specs.Traces.{IsTrace}
+use Rattle.cell_report.proofs.Names.{◌≡◌, ℕ, List, [], ◌++◌, length, Noted, IsInTurn, left_of_all, rest_of, IsTrace}
 use Rattle.cell_report.proofs.traces.Trace.follow_merged.Given as goal
 
 abbrev pub invariant-loop-run : goal.invariant-loop-run

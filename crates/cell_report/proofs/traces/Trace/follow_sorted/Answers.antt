@@ -1,6 +1,4 @@
-use Rattle.std.proofs.Common.{sym, subst}
-use Rattle.std.proofs.lemmas.List.{take_more, take_all}
-use Rattle.cell_report.specs.Traces.{IsTrace}
+use Rattle.cell_report.proofs.Names.{sym, subst, take_more, take_all, IsTrace}
 use Rattle.cell_report.proofs.traces.Trace.follow_sorted.Goals as goal
 
 pub loop-noted-preserved : goal.loop-noted-preserved

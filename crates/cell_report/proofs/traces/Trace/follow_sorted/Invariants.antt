@@ -1,5 +1,4 @@
-use Rattle.std.proofs.Common.{ℕ, [], take}
-use Rattle.cell_report.specs.Traces.{IsTrace}
+use Rattle.cell_report.proofs.Names.{ℕ, [], take, IsTrace}
 use Rattle.cell_report.proofs.traces.Trace.follow_sorted.Given as goal
 
 abbrev pub invariant-loop-noted : goal.invariant-loop-noted

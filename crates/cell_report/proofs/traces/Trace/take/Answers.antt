@@ -1,5 +1,4 @@
-use Rattle.std.proofs.Common.{◌∙◌, ap, sym, append-nil}
-use Rattle.cell_report.specs.declared.traces.Trace.{Trace}
+use Rattle.cell_report.proofs.Names.{◌∙◌, ap, sym, append-nil, Trace}
 use Rattle.cell_report.proofs.Traced.{IsStamped, stamped, fit_more, fit_stays, none_from}
 use Rattle.cell_report.proofs.traces.Trace.take.Goals as goal
 use Rattle.cell_report.proofs.traces.Trace.take.Goals.{then-is_done+in_ok-push, else-is_done}

@@ -1,5 +1,4 @@
-use Rattle.std.proofs.Common.{◌-◌, arith}
-use Rattle.cell_report.specs.InTurn.{noted_in_turn}
+use Rattle.cell_report.proofs.Names.{◌-◌, arith, noted_in_turn}
 use Rattle.cell_report.proofs.Traced.{told_rest}
 use Rattle.cell_report.proofs.traces.Trace.take_run.Goals as goal
 

@@ -1,6 +1,4 @@
-use Rattle.std.proofs.Common.{ℕ, List, ◌++◌, replicate}
-use Rattle.cell_report.specs.declared.ordered.Noted.{Noted}
-use Rattle.cell_report.specs.Traces.{IsTrace}
+use Rattle.cell_report.proofs.Names.{ℕ, List, ◌++◌, replicate, Noted, IsTrace}
 use Rattle.cell_report.proofs.traces.Trace.take_run.Given as goal
 
 abbrev pub invariant-loop-taken : goal.invariant-loop-taken
