@@ -1,24 +1,8 @@
 -- The crane may go on at each step that is in step with a state.
-use Rattle.std.proofs.Common.{◌≡◌, true, List, ℕ, ℤ}
-use Rattle.cell_rules.specs.Types.{Crane, Z5, Z6, OpenIn, OpenOut, Event}
-use Rattle.cell_calib.specs.Scale.{Scale}
-use Rattle.cell_rules.specs.Names.{ModelState, after, IsLegal}
-use Rattle.cell_rules.proofs.Tables.{and_left, and_right}
-use Rattle.cell_control.specs.Demands.{HoldsIn}
-use Rattle.cell_control.proofs.Facts.{AreSo, found}
-use Rattle.cell_haul.specs.Names.{gripper_zone, crane_steps}
-use Rattle.cell_haul.specs.declared.crane.CraneStep.{CraneStep}
-use Rattle.cell_haul.specs.declared.crane.CraneStep.TheVariants.{RaiseToFetch, TravelToDeposit, AwaitPlate}
-use Rattle.cell_haul.specs.declared.crane.CraneStep.TheVariants.{LowerToPlate, GripPlate, RaiseWithPlate}
-use Rattle.cell_haul.specs.declared.crane.CraneStep.TheVariants.{ReleaseDeposit, TravelToFeed, ClaimFeed, LowerToFeed}
-use Rattle.cell_haul.specs.declared.crane.CraneStep.TheVariants.{DropPlate, RaiseFromFeed}
-use Rattle.cell_haul.specs.declared.crane.CraneProgress.{CraneProgress}
-use Rattle.cell_haul.specs.declared.crane.CraneStep.TheVariants.{TakePlate, GivePlate}
+use Rattle.cell_resume.proofs.Names.{◌≡◌, true, List, ℕ, ℤ, Crane, Z5, Z6, OpenIn, OpenOut, Event, Scale, ModelState, after, IsLegal, and_left, and_right, HoldsIn, AreSo, found, gripper_zone, crane_steps, CraneStep, CraneProgress, is_kept, IsResumable, Kept, kept_of}
+use Rattle.cell_haul.specs.declared.crane.CraneStep.TheVariants.{RaiseToFetch, TravelToDeposit, AwaitPlate, LowerToPlate, GripPlate, RaiseWithPlate, ReleaseDeposit, TravelToFeed, ClaimFeed, LowerToFeed, DropPlate, RaiseFromFeed, TakePlate, GivePlate}
 use Rattle.cell_haul.proofs.CraneFacts.{CraneKnows, facts_at, crane-knowing, crane_begins}
-use Rattle.cell_resume.specs.Keeping.{is_kept}
 use Rattle.cell_resume.specs.CraneKeeps.{deposit, feed, has_zones, in_step}
-use Rattle.cell_resume.specs.Resuming.{IsResumable}
-use Rattle.cell_resume.proofs.Keeping.{Kept, kept_of}
 
 knows_at : (s : CraneStep) (z : ModelState) → Kept (deposit s) Crane z Z5 → Kept (feed s) Crane z Z6 → AreSo Crane z (facts_at s)
 knows_at RaiseToFetch z k1 k2 = tt

@@ -1,27 +1,12 @@
 -- What the crane knows at its step tells that it is in step, and the other way round.
-use Rattle.std.proofs.Common.{◌≡◌, Bool, true, refl, sym, ◌∙◌, ℕ, ℤ, false, if◌then◌else◌, Option, Some}
-use Rattle.cell_rules.specs.Types.{Machine, Crane, Z5, Z6}
+use Rattle.cell_resume.proofs.Names.{◌≡◌, Bool, true, refl, sym, ◌∙◌, ℕ, ℤ, false, if◌then◌else◌, Option, Some, Machine, Crane, Z5, Z6, Scale, ModelState, is_full, implies, and_left, and_right, and_both, AreSo, first_step, crane_start, crane_steps, CraneStep, CraneProgress, KnowingMore, is_kept, Kept, kept_of, of_kept, one_flag, own_flag}
 use Rattle.cell_types.specs.declared.place.Place.TheVariants.{Crane as OnCrane}
-use Rattle.cell_calib.specs.Scale.{Scale}
-use Rattle.cell_rules.specs.Names.{ModelState, is_full, implies}
-use Rattle.cell_rules.proofs.Tables.{and_left, and_right, and_both}
-use Rattle.cell_control.proofs.Facts.{AreSo}
-use Rattle.cell_haul.specs.Names.{row_at, step_after_inquiry, first_step, crane_start, after_done, is_done}
-use Rattle.cell_haul.specs.Names.{crane_steps}
-use Rattle.cell_haul.specs.declared.crane.CraneStep.{CraneStep}
-use Rattle.cell_haul.specs.declared.crane.CraneStep.TheVariants.{RaiseToFetch, TravelToDeposit, AwaitPlate}
-use Rattle.cell_haul.specs.declared.crane.CraneStep.TheVariants.{LowerToPlate, GripPlate, RaiseWithPlate}
-use Rattle.cell_haul.specs.declared.crane.CraneStep.TheVariants.{ReleaseDeposit, TravelToFeed, ClaimFeed, LowerToFeed}
-use Rattle.cell_haul.specs.declared.crane.CraneStep.TheVariants.{DropPlate, RaiseFromFeed}
-use Rattle.cell_haul.specs.declared.crane.CraneProgress.{CraneProgress}
-use Rattle.cell_haul.specs.declared.crane.CraneStep.TheVariants.{TakePlate, GivePlate}
+use Rattle.cell_haul.specs.Names.{row_at, step_after_inquiry, after_done, is_done}
+use Rattle.cell_haul.specs.declared.crane.CraneStep.TheVariants.{RaiseToFetch, TravelToDeposit, AwaitPlate, LowerToPlate, GripPlate, RaiseWithPlate, ReleaseDeposit, TravelToFeed, ClaimFeed, LowerToFeed, DropPlate, RaiseFromFeed, TakePlate, GivePlate}
 use Rattle.cell_haul.proofs.CraneFacts.{CraneKnows, facts_at}
 use Rattle.cell_team.proofs.Shares as shares
 use Rattle.cell_team.proofs.CraneTeam as team
-use Rattle.cell_team.proofs.Reaching.{KnowingMore}
-use Rattle.cell_resume.specs.Keeping.{is_kept}
 use Rattle.cell_resume.specs.CraneKeeps.{deposit, feed, has_zones, has_plates, in_step, magnet_at}
-use Rattle.cell_resume.proofs.Keeping.{Kept, kept_of, of_kept, one_flag, own_flag}
 use Rattle.cell_resume.proofs.CraneResumes.{crane_resumable}
 
 shares_of : (s : CraneStep) (z : ModelState) → Kept (deposit s) Crane z Z5 → Kept (feed s) Crane z Z6 → shares.AreSo Crane z (team.shares_at s)

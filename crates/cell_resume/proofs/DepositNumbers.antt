@@ -1,19 +1,9 @@
 -- The number of a step of the deposit belt leads back to the step, with its notes.
-use Rattle.std.proofs.Common.{◌≡◌, Bool, true, Some, refl, ap, ◌∙◌}
-use Rattle.std.specs.Prelude.{option_map, slice_get}
+use Rattle.cell_resume.proofs.Names.{◌≡◌, Bool, true, Some, refl, ap, ◌∙◌, option_map, slice_get, DepEntry, DepEnd, ModelState, is_full, same_flag, and_left, and_right, DepositStep, DepositProgress, one_flag}
 use denote.Enum.Declared.{tag_of}
-use Rattle.cell_types.specs.declared.place.Place.TheVariants.{DepEntry, DepEnd}
-use Rattle.cell_rules.specs.Names.{ModelState, is_full, same_flag}
-use Rattle.cell_rules.proofs.Tables.{and_left, and_right}
 use Rattle.cell_haul.specs.contracts.deposit.DepositStep.{the_type}
-use Rattle.cell_haul.specs.declared.deposit.DepositStep.{DepositStep}
-use Rattle.cell_haul.specs.declared.deposit.DepositStep.TheVariants.{ClaimEntry, PoseLanding, ReleaseEntry, TakePlate}
-use Rattle.cell_haul.specs.declared.deposit.DepositStep.TheVariants.{StartRun, RunIn, RunOut, MoveOn, PoseOffering}
-use Rattle.cell_haul.specs.declared.deposit.DepositStep.TheVariants.{GivePlate, ClaimBack}
-use Rattle.cell_haul.specs.declared.deposit.DepositProgress.{DepositProgress}
-use Rattle.cell_haul.specs.declared.deposit.DepositStep.TheVariants.{ClaimExit}
+use Rattle.cell_haul.specs.declared.deposit.DepositStep.TheVariants.{ClaimEntry, PoseLanding, ReleaseEntry, TakePlate, StartRun, RunIn, RunOut, MoveOn, PoseOffering, GivePlate, ClaimBack, ClaimExit}
 use Rattle.cell_resume.specs.DepositKeeps.{has_zones, has_plates, in_step, steps, progress_at}
-use Rattle.cell_resume.proofs.Keeping.{one_flag}
 
 -- each step is found by its number
 found : (s : DepositStep) → slice_get steps (tag_of the_type s) ≡ Some s

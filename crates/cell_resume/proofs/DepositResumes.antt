@@ -1,21 +1,8 @@
 -- The deposit belt may go on at each step that is in step with a state.
-use Rattle.std.proofs.Common.{◌≡◌, true, refl}
-use Rattle.cell_rules.specs.Types.{Deposit, Z4, Z5, Moving}
-use Rattle.cell_rules.specs.Names.{ModelState, after}
-use Rattle.cell_rules.proofs.Tables.{and_left, and_right}
-use Rattle.cell_control.proofs.Facts.{AreSo, seen_held, seen_in}
-use Rattle.cell_haul.specs.Names.{deposit_steps}
-use Rattle.cell_haul.specs.declared.deposit.DepositStep.{DepositStep}
-use Rattle.cell_haul.specs.declared.deposit.DepositStep.TheVariants.{ClaimEntry, PoseLanding, ReleaseEntry, TakePlate}
-use Rattle.cell_haul.specs.declared.deposit.DepositStep.TheVariants.{StartRun, RunIn, RunOut, MoveOn, PoseOffering}
-use Rattle.cell_haul.specs.declared.deposit.DepositStep.TheVariants.{GivePlate, ClaimBack}
-use Rattle.cell_haul.specs.declared.deposit.DepositProgress.{DepositProgress}
-use Rattle.cell_haul.specs.declared.deposit.DepositStep.TheVariants.{ClaimExit}
+use Rattle.cell_resume.proofs.Names.{◌≡◌, true, refl, Deposit, Z4, Z5, Moving, ModelState, after, and_left, and_right, AreSo, seen_held, seen_in, deposit_steps, DepositStep, DepositProgress, is_kept, IsResumable, Kept, kept_of}
+use Rattle.cell_haul.specs.declared.deposit.DepositStep.TheVariants.{ClaimEntry, PoseLanding, ReleaseEntry, TakePlate, StartRun, RunIn, RunOut, MoveOn, PoseOffering, GivePlate, ClaimBack, ClaimExit}
 use Rattle.cell_haul.proofs.DepositFacts.{DepositKnows, facts_at, deposit-knowing, drives_at}
-use Rattle.cell_resume.specs.Keeping.{is_kept}
 use Rattle.cell_resume.specs.DepositKeeps.{entry, exit, has_zones, in_step}
-use Rattle.cell_resume.specs.Resuming.{IsResumable}
-use Rattle.cell_resume.proofs.Keeping.{Kept, kept_of}
 
 knows_at : (s : DepositStep) (z : ModelState) → Kept (entry s) Deposit z Z4 → Kept (exit s) Deposit z Z5 → AreSo Deposit z (facts_at s)
 knows_at ClaimEntry z k1 k2 = tt

@@ -1,21 +1,10 @@
 -- What the deposit belt knows at its step tells that it is in step, and the other way round.
-use Rattle.std.proofs.Common.{◌≡◌, Bool, true, refl, sym, ◌∙◌}
-use Rattle.cell_rules.specs.Types.{Deposit, Z4, Z5, DepEntry}
-use Rattle.cell_rules.specs.Names.{ModelState, is_full, same_flag}
-use Rattle.cell_rules.proofs.Tables.{and_left, and_right, and_both}
-use Rattle.cell_control.proofs.Facts.{AreSo}
-use Rattle.cell_haul.specs.declared.deposit.DepositStep.{DepositStep}
-use Rattle.cell_haul.specs.declared.deposit.DepositStep.TheVariants.{ClaimEntry, PoseLanding, ReleaseEntry, TakePlate}
-use Rattle.cell_haul.specs.declared.deposit.DepositStep.TheVariants.{StartRun, RunIn, RunOut, MoveOn, PoseOffering}
-use Rattle.cell_haul.specs.declared.deposit.DepositStep.TheVariants.{GivePlate, ClaimBack}
-use Rattle.cell_haul.specs.declared.deposit.DepositProgress.{DepositProgress}
-use Rattle.cell_haul.specs.declared.deposit.DepositStep.TheVariants.{ClaimExit}
+use Rattle.cell_resume.proofs.Names.{◌≡◌, Bool, true, refl, sym, ◌∙◌, Deposit, Z4, Z5, DepEntry, ModelState, is_full, same_flag, and_left, and_right, and_both, AreSo, DepositStep, DepositProgress, is_kept, Kept, kept_of, of_kept, one_flag, own_flag}
+use Rattle.cell_haul.specs.declared.deposit.DepositStep.TheVariants.{ClaimEntry, PoseLanding, ReleaseEntry, TakePlate, StartRun, RunIn, RunOut, MoveOn, PoseOffering, GivePlate, ClaimBack, ClaimExit}
 use Rattle.cell_haul.proofs.DepositFacts.{DepositKnows, facts_at}
 use Rattle.cell_team.proofs.Shares as shares
 use Rattle.cell_team.proofs.DepositTeam as team
-use Rattle.cell_resume.specs.Keeping.{is_kept}
 use Rattle.cell_resume.specs.DepositKeeps.{entry, exit, has_zones, has_plates, in_step}
-use Rattle.cell_resume.proofs.Keeping.{Kept, kept_of, of_kept, one_flag, own_flag}
 use Rattle.cell_resume.proofs.DepositResumes.{deposit_resumable}
 
 shares_of : (s : DepositStep) (z : ModelState) → Kept (entry s) Deposit z Z4 → Kept (exit s) Deposit z Z5 → shares.AreSo Deposit z (team.shares_at s)

@@ -1,17 +1,9 @@
 -- The number of a step of the feed belt leads back to the step, with its notes.
-use Rattle.std.proofs.Common.{◌≡◌, Bool, true, Some, refl, ap, ◌∙◌}
-use Rattle.std.specs.Prelude.{option_map, slice_get}
+use Rattle.cell_resume.proofs.Names.{◌≡◌, Bool, true, Some, refl, ap, ◌∙◌, option_map, slice_get, FeedEntry, FeedEnd, ModelState, is_full, same_flag, and_left, and_right, FeedStep, FeedProgress, one_flag}
 use denote.Enum.Declared.{tag_of}
-use Rattle.cell_types.specs.declared.place.Place.TheVariants.{FeedEntry, FeedEnd}
-use Rattle.cell_rules.specs.Names.{ModelState, is_full, same_flag}
-use Rattle.cell_rules.proofs.Tables.{and_left, and_right}
 use Rattle.cell_haul.specs.contracts.feed.FeedStep.{the_type}
-use Rattle.cell_haul.specs.declared.feed.FeedStep.{FeedStep}
-use Rattle.cell_haul.specs.declared.feed.FeedStep.TheVariants.{StartIn, ClaimExit, StartOut, Halt}
-use Rattle.cell_haul.specs.declared.feed.FeedProgress.{FeedProgress}
-use Rattle.cell_haul.specs.declared.feed.FeedStep.TheVariants.{ClaimEntry, PoseLanding, ReleaseEntry, TakePlate, RunIn, MoveOn, RunOut, GivePlate}
+use Rattle.cell_haul.specs.declared.feed.FeedStep.TheVariants.{StartIn, ClaimExit, StartOut, Halt, ClaimEntry, PoseLanding, ReleaseEntry, TakePlate, RunIn, MoveOn, RunOut, GivePlate}
 use Rattle.cell_resume.specs.FeedKeeps.{has_zones, has_plates, in_step, steps, progress_at}
-use Rattle.cell_resume.proofs.Keeping.{one_flag}
 
 -- each step is found by its number
 found : (s : FeedStep) → slice_get steps (tag_of the_type s) ≡ Some s

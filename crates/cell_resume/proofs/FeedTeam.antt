@@ -1,20 +1,11 @@
 -- What the feed belt knows at its step tells that it is in step, and the other way round.
-use Rattle.std.proofs.Common.{◌≡◌, Bool, true, refl, ◌∙◌}
-use Rattle.cell_rules.specs.Types.{Feed, Z6, Z1}
-use Rattle.cell_rules.specs.ModelState.{ModelState}
-use Rattle.cell_rules.proofs.Tables.{and_left, and_right, and_both}
-use Rattle.cell_control.proofs.Facts.{AreSo}
-use Rattle.cell_haul.specs.declared.feed.FeedStep.{FeedStep}
-use Rattle.cell_haul.specs.declared.feed.FeedStep.TheVariants.{StartIn, ClaimExit, StartOut, Halt}
-use Rattle.cell_haul.specs.declared.feed.FeedProgress.{FeedProgress}
-use Rattle.cell_haul.specs.declared.feed.FeedStep.TheVariants.{ClaimEntry, PoseLanding, ReleaseEntry, TakePlate, RunIn, MoveOn, RunOut, GivePlate}
+use Rattle.cell_resume.proofs.Names.{◌≡◌, Bool, true, refl, ◌∙◌, Feed, Z6, Z1, ModelState, and_left, and_right, and_both, AreSo, FeedStep, FeedProgress, is_kept, Kept, kept_of, of_kept, own_flag}
+use Rattle.cell_haul.specs.declared.feed.FeedStep.TheVariants.{StartIn, ClaimExit, StartOut, Halt, ClaimEntry, PoseLanding, ReleaseEntry, TakePlate, RunIn, MoveOn, RunOut, GivePlate}
 use Rattle.cell_haul.proofs.FeedFacts.{FeedKnows, facts_at}
 use Rattle.cell_haul.proofs.FeedFacts as known
 use Rattle.cell_team.proofs.Shares as shares
 use Rattle.cell_team.proofs.FeedTeam as team
-use Rattle.cell_resume.specs.Keeping.{is_kept}
 use Rattle.cell_resume.specs.FeedKeeps.{entry, exit, has_zones, has_plates, in_step}
-use Rattle.cell_resume.proofs.Keeping.{Kept, kept_of, of_kept, own_flag}
 use Rattle.cell_resume.proofs.FeedResumes.{feed_resumable}
 
 shares_of : (s : FeedStep) (z : ModelState) → Kept (entry s) Feed z Z6 → Kept (exit s) Feed z Z1 → shares.AreSo Feed z (team.shares_at s)

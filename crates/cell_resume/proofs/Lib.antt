@@ -1,3 +1,4 @@
+mod Names
 pub mod Keeping
 pub mod DemandsMet
 pub mod TeamTested

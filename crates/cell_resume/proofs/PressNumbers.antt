@@ -1,23 +1,12 @@
 -- The number of a step of the press leads back to the step, with its notes.
-use Rattle.std.proofs.Common.{◌≡◌, Bool, true, Some, refl, ap, ◌∙◌, ℕ, ◌+◌, ◌*◌, ◌<◌, nat_eq, if◌then◌else◌, arith}
-use Rattle.std.specs.Prelude.{option_map, slice_get}
+use Rattle.cell_resume.proofs.Names.{◌≡◌, Bool, true, Some, refl, ap, ◌∙◌, ℕ, ◌+◌, ◌*◌, ◌<◌, nat_eq, if◌then◌else◌, arith, option_map, slice_get, PressIn, PressOut, ModelState, is_full, same_flag, and_left, and_right, PressStep, PressProgress, one_flag}
 use Rattle.std.proofs.lemmas.Nat.{div-mul-add, mod-mul-add}
 use denote.Enum.Declared.{tag_of}
-use Rattle.cell_types.specs.declared.place.Place.TheVariants.{PressIn, PressOut}
-use Rattle.cell_rules.specs.Names.{ModelState, is_full, same_flag}
-use Rattle.cell_rules.proofs.Tables.{and_left, and_right}
 use Rattle.cell_devices.specs.declared.motor.Direction.{Direction}
 use Rattle.cell_devices.specs.declared.motor.Direction.TheVariants.{Plus as Upward, Minus as Downward}
 use Rattle.cell_stations.specs.contracts.press.PressStep.{the_type}
-use Rattle.cell_stations.specs.declared.press.PressStep.{PressStep}
-use Rattle.cell_stations.specs.declared.press.PressStep.TheVariants.{ClaimFirst, LeaveForMiddle, MoveToMiddle}
-use Rattle.cell_stations.specs.declared.press.PressStep.TheVariants.{PoseMiddle, ReleaseInterior, TakePlate}
-use Rattle.cell_stations.specs.declared.press.PressStep.TheVariants.{LeaveForTop, MoveToTop, PoseTop, Forge}
-use Rattle.cell_stations.specs.declared.press.PressStep.TheVariants.{LeaveForBottom, MoveToBottom, PoseLow, GivePlate}
-use Rattle.cell_stations.specs.declared.press.PressStep.TheVariants.{ClaimBack}
-use Rattle.cell_stations.specs.declared.press.PressProgress.{PressProgress}
+use Rattle.cell_stations.specs.declared.press.PressStep.TheVariants.{ClaimFirst, LeaveForMiddle, MoveToMiddle, PoseMiddle, ReleaseInterior, TakePlate, LeaveForTop, MoveToTop, PoseTop, Forge, LeaveForBottom, MoveToBottom, PoseLow, GivePlate, ClaimBack}
 use Rattle.cell_resume.specs.PressKeeps.{has_zones, has_plates, in_step, steps, bit_of, direction_of, progress_at}
-use Rattle.cell_resume.proofs.Keeping.{one_flag}
 
 -- each step is found by its number
 found : (s : PressStep) → slice_get steps (tag_of the_type s) ≡ Some s

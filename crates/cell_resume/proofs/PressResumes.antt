@@ -1,21 +1,8 @@
 -- The press may go on at each step that is in step with a state.
-use Rattle.std.proofs.Common.{◌≡◌, true, refl}
-use Rattle.cell_rules.specs.Types.{Press, Z3, Moving}
-use Rattle.cell_rules.specs.Names.{ModelState, after}
-use Rattle.cell_rules.proofs.Tables.{and_left}
-use Rattle.cell_control.proofs.Facts.{AreSo, seen_held, seen_in}
-use Rattle.cell_stations.specs.Names.{press_steps}
-use Rattle.cell_stations.specs.declared.press.PressStep.{PressStep}
-use Rattle.cell_stations.specs.declared.press.PressStep.TheVariants.{ClaimFirst, LeaveForMiddle, MoveToMiddle}
-use Rattle.cell_stations.specs.declared.press.PressStep.TheVariants.{PoseMiddle, ReleaseInterior, TakePlate}
-use Rattle.cell_stations.specs.declared.press.PressStep.TheVariants.{LeaveForTop, MoveToTop, PoseTop, Forge}
-use Rattle.cell_stations.specs.declared.press.PressStep.TheVariants.{LeaveForBottom, MoveToBottom, PoseLow, GivePlate}
-use Rattle.cell_stations.specs.declared.press.PressStep.TheVariants.{ClaimBack}
-use Rattle.cell_stations.specs.declared.press.PressProgress.{PressProgress}
+use Rattle.cell_resume.proofs.Names.{◌≡◌, true, refl, Press, Z3, Moving, ModelState, after, and_left, AreSo, seen_held, seen_in, press_steps, PressStep, PressProgress, IsResumable, Kept, kept_of}
+use Rattle.cell_stations.specs.declared.press.PressStep.TheVariants.{ClaimFirst, LeaveForMiddle, MoveToMiddle, PoseMiddle, ReleaseInterior, TakePlate, LeaveForTop, MoveToTop, PoseTop, Forge, LeaveForBottom, MoveToBottom, PoseLow, GivePlate, ClaimBack}
 use Rattle.cell_stations.proofs.PressFacts.{PressKnows, facts_at, press-knowing, drives_at}
 use Rattle.cell_resume.specs.PressKeeps.{interior, has_zones, in_step}
-use Rattle.cell_resume.specs.Resuming.{IsResumable}
-use Rattle.cell_resume.proofs.Keeping.{Kept, kept_of}
 
 knows_at : (s : PressStep) (z : ModelState) → Kept (interior s) Press z Z3 → AreSo Press z (facts_at s)
 knows_at ClaimFirst z k1 = tt

@@ -1,21 +1,10 @@
 -- What the press knows at its step tells that it is in step, and the other way round.
-use Rattle.std.proofs.Common.{◌≡◌, Bool, true, refl, sym, ◌∙◌}
-use Rattle.cell_rules.specs.Types.{Press, Z3, PressIn}
-use Rattle.cell_rules.specs.Names.{ModelState, is_full, same_flag}
-use Rattle.cell_rules.proofs.Tables.{and_left, and_right, and_both}
-use Rattle.cell_control.proofs.Facts.{AreSo}
-use Rattle.cell_stations.specs.declared.press.PressStep.{PressStep}
-use Rattle.cell_stations.specs.declared.press.PressStep.TheVariants.{ClaimFirst, LeaveForMiddle, MoveToMiddle}
-use Rattle.cell_stations.specs.declared.press.PressStep.TheVariants.{PoseMiddle, ReleaseInterior, TakePlate}
-use Rattle.cell_stations.specs.declared.press.PressStep.TheVariants.{LeaveForTop, MoveToTop, PoseTop, Forge}
-use Rattle.cell_stations.specs.declared.press.PressStep.TheVariants.{LeaveForBottom, MoveToBottom, PoseLow, GivePlate}
-use Rattle.cell_stations.specs.declared.press.PressStep.TheVariants.{ClaimBack}
-use Rattle.cell_stations.specs.declared.press.PressProgress.{PressProgress}
+use Rattle.cell_resume.proofs.Names.{◌≡◌, Bool, true, refl, sym, ◌∙◌, Press, Z3, PressIn, ModelState, is_full, same_flag, and_left, and_right, and_both, AreSo, PressStep, PressProgress, Kept, kept_of, of_kept, one_flag, own_flag}
+use Rattle.cell_stations.specs.declared.press.PressStep.TheVariants.{ClaimFirst, LeaveForMiddle, MoveToMiddle, PoseMiddle, ReleaseInterior, TakePlate, LeaveForTop, MoveToTop, PoseTop, Forge, LeaveForBottom, MoveToBottom, PoseLow, GivePlate, ClaimBack}
 use Rattle.cell_stations.proofs.PressFacts.{PressKnows, facts_at}
 use Rattle.cell_team.proofs.Shares as shares
 use Rattle.cell_team.proofs.PressTeam as team
 use Rattle.cell_resume.specs.PressKeeps.{interior, has_zones, has_plates, in_step}
-use Rattle.cell_resume.proofs.Keeping.{Kept, kept_of, of_kept, one_flag, own_flag}
 use Rattle.cell_resume.proofs.PressResumes.{press_resumable}
 
 shares_of : (s : PressStep) (z : ModelState) → Kept (interior s) Press z Z3 → shares.AreSo Press z (team.shares_at s)

@@ -1,26 +1,10 @@
 -- The number of a step of the robot leads back to the step, with its notes.
-use Rattle.std.proofs.Common.{◌≡◌, Bool, true, Some, refl, ap, ◌∙◌, false, nat_eq}
-use Rattle.std.specs.Prelude.{option_map, slice_get}
-use Rattle.std.proofs.lemmas.Bool.{eqb-true}
+use Rattle.cell_resume.proofs.Names.{◌≡◌, Bool, true, Some, refl, ap, ◌∙◌, false, nat_eq, option_map, slice_get, eqb-true, Arm1, Arm2, ModelState, is_full, one_if, same_flag, and_left, and_right, RobotStep, RobotProgress, RobotNotes, one_flag}
 use denote.Enum.Declared.{tag_of}
-use Rattle.cell_types.specs.declared.place.Place.TheVariants.{Arm1, Arm2}
-use Rattle.cell_rules.specs.Names.{ModelState, is_full, one_if, same_flag}
-use Rattle.cell_rules.proofs.Tables.{and_left, and_right}
 use Rattle.cell_robot.specs.contracts.robot.RobotStep.{the_type}
-use Rattle.cell_robot.specs.declared.robot.RobotStep.{RobotStep}
-use Rattle.cell_robot.specs.declared.robot.RobotStep.TheVariants.{TurnToTable, AwaitPlate, ReachTable, GripPlate}
-use Rattle.cell_robot.specs.declared.robot.RobotStep.TheVariants.{LeaveTable, TakePlate, ReleaseTable, TurnToLoad}
-use Rattle.cell_robot.specs.declared.robot.RobotStep.TheVariants.{ClaimPress, InspectPress, ReleasePress, ReachToLoad}
-use Rattle.cell_robot.specs.declared.robot.RobotStep.TheVariants.{DropInPress, LeaveLoaded, GiveToPress, TurnToUnload}
-use Rattle.cell_robot.specs.declared.robot.RobotStep.TheVariants.{AwaitForged, ReachToUnload, GripForged}
-use Rattle.cell_robot.specs.declared.robot.RobotStep.TheVariants.{LeaveUnloaded, TakeForged, ReleaseUnloaded}
-use Rattle.cell_robot.specs.declared.robot.RobotStep.TheVariants.{TurnToDeposit, ClaimDeposit, ReachDeposit}
-use Rattle.cell_robot.specs.declared.robot.RobotStep.TheVariants.{DropOnDeposit, LeaveDeposit, GiveToDeposit}
-use Rattle.cell_robot.specs.declared.robot.RobotProgress.{RobotProgress}
-use Rattle.cell_robot.specs.declared.robot.RobotNotes.{RobotNotes}
+use Rattle.cell_robot.specs.declared.robot.RobotStep.TheVariants.{TurnToTable, AwaitPlate, ReachTable, GripPlate, LeaveTable, TakePlate, ReleaseTable, TurnToLoad, ClaimPress, InspectPress, ReleasePress, ReachToLoad, DropInPress, LeaveLoaded, GiveToPress, TurnToUnload, AwaitForged, ReachToUnload, GripForged, LeaveUnloaded, TakeForged, ReleaseUnloaded, TurnToDeposit, ClaimDeposit, ReachDeposit, DropOnDeposit, LeaveDeposit, GiveToDeposit}
 use Rattle.cell_robot.specs.declared.robot.RobotMagnets.{RobotMagnets}
 use Rattle.cell_resume.specs.RobotKeeps.{has_zones, has_plates, inside, notes_of, magnet1_at, magnet2_at, magnets_at, is_noted, has_magnets, in_step, steps, standing, progress_at}
-use Rattle.cell_resume.proofs.Keeping.{one_flag}
 
 -- each step is found by its number
 found : (s : RobotStep) → slice_get steps (tag_of the_type s) ≡ Some s

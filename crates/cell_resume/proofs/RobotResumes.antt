@@ -1,26 +1,8 @@
 -- The robot may go on at each step that is in step with a state.
-use Rattle.std.proofs.Common.{◌≡◌, true, List}
-use Rattle.cell_rules.specs.Types.{Robot, Z2, Z3, Z4, OpenIn, OpenOut, Event}
-use Rattle.cell_rules.specs.Names.{ModelState, after, IsLegal}
-use Rattle.cell_rules.proofs.Tables.{and_left, and_right}
-use Rattle.cell_control.specs.Demands.{HoldsIn}
-use Rattle.cell_control.proofs.Facts.{AreSo, found}
-use Rattle.cell_robot.specs.Names.{RobotScales, RobotGauges, notes_at, arm1_zone, arm2_zone, robot_steps}
-use Rattle.cell_robot.specs.declared.robot.RobotStep.{RobotStep}
-use Rattle.cell_robot.specs.declared.robot.RobotStep.TheVariants.{TurnToTable, AwaitPlate, ReachTable, GripPlate}
-use Rattle.cell_robot.specs.declared.robot.RobotStep.TheVariants.{LeaveTable, TakePlate, ReleaseTable, TurnToLoad}
-use Rattle.cell_robot.specs.declared.robot.RobotStep.TheVariants.{ClaimPress, InspectPress, ReleasePress, ReachToLoad}
-use Rattle.cell_robot.specs.declared.robot.RobotStep.TheVariants.{DropInPress, LeaveLoaded, GiveToPress, TurnToUnload}
-use Rattle.cell_robot.specs.declared.robot.RobotStep.TheVariants.{AwaitForged, ReachToUnload, GripForged}
-use Rattle.cell_robot.specs.declared.robot.RobotStep.TheVariants.{LeaveUnloaded, TakeForged, ReleaseUnloaded}
-use Rattle.cell_robot.specs.declared.robot.RobotStep.TheVariants.{TurnToDeposit, ClaimDeposit, ReachDeposit}
-use Rattle.cell_robot.specs.declared.robot.RobotStep.TheVariants.{DropOnDeposit, LeaveDeposit, GiveToDeposit}
-use Rattle.cell_robot.specs.declared.robot.RobotProgress.{RobotProgress}
+use Rattle.cell_resume.proofs.Names.{◌≡◌, true, List, Robot, Z2, Z3, Z4, OpenIn, OpenOut, Event, ModelState, after, IsLegal, and_left, and_right, HoldsIn, AreSo, found, RobotScales, RobotGauges, notes_at, arm1_zone, arm2_zone, robot_steps, RobotStep, RobotProgress, is_kept, IsResumable, Kept, kept_of}
+use Rattle.cell_robot.specs.declared.robot.RobotStep.TheVariants.{TurnToTable, AwaitPlate, ReachTable, GripPlate, LeaveTable, TakePlate, ReleaseTable, TurnToLoad, ClaimPress, InspectPress, ReleasePress, ReachToLoad, DropInPress, LeaveLoaded, GiveToPress, TurnToUnload, AwaitForged, ReachToUnload, GripForged, LeaveUnloaded, TakeForged, ReleaseUnloaded, TurnToDeposit, ClaimDeposit, ReachDeposit, DropOnDeposit, LeaveDeposit, GiveToDeposit}
 use Rattle.cell_robot.proofs.RobotFacts.{RobotKnows, facts_at, robot-knowing, at_choice}
-use Rattle.cell_resume.specs.Keeping.{is_kept}
 use Rattle.cell_resume.specs.RobotKeeps.{table, interior, deposit, has_zones, in_step}
-use Rattle.cell_resume.specs.Resuming.{IsResumable}
-use Rattle.cell_resume.proofs.Keeping.{Kept, kept_of}
 
 knows_at : (s : RobotStep) (z : ModelState) → Kept (table s) Robot z Z2 → Kept (interior s) Robot z Z3 → Kept (deposit s) Robot z Z4 → AreSo Robot z (facts_at s)
 knows_at TurnToTable z k1 k2 k3 = tt

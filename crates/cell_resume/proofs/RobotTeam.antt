@@ -1,30 +1,10 @@
 -- What the robot knows at its step tells that it is in step, and the other way round.
-use Rattle.std.proofs.Common.{◌≡◌, Bool, true, refl, sym, ◌∙◌, false, if◌then◌else◌, Option, Some}
-use Rattle.std.proofs.lemmas.Bool.{eqb-true, eq-eqb}
-use Rattle.cell_rules.specs.Types.{Machine, Robot, Z2, Z3, Z4, Arm1, Arm2, Posture, OpenIn}
-use Rattle.cell_rules.specs.Names.{ModelState, is_full, one_if, same_flag}
-use Rattle.cell_rules.proofs.Tables.{and_left, and_right, and_both}
-use Rattle.cell_control.proofs.Facts.{AreSo}
-use Rattle.cell_robot.specs.Names.{RobotScales, RobotGauges, choice, row_at, step_after_inquiry, notes_at}
-use Rattle.cell_robot.specs.Names.{robot_start, after_done, is_done, robot_steps}
-use Rattle.cell_robot.specs.declared.robot.RobotStep.{RobotStep}
-use Rattle.cell_robot.specs.declared.robot.RobotStep.TheVariants.{TurnToTable, AwaitPlate, ReachTable, GripPlate}
-use Rattle.cell_robot.specs.declared.robot.RobotStep.TheVariants.{LeaveTable, TakePlate, ReleaseTable, TurnToLoad}
-use Rattle.cell_robot.specs.declared.robot.RobotStep.TheVariants.{ClaimPress, InspectPress, ReleasePress, ReachToLoad}
-use Rattle.cell_robot.specs.declared.robot.RobotStep.TheVariants.{DropInPress, LeaveLoaded, GiveToPress, TurnToUnload}
-use Rattle.cell_robot.specs.declared.robot.RobotStep.TheVariants.{AwaitForged, ReachToUnload, GripForged}
-use Rattle.cell_robot.specs.declared.robot.RobotStep.TheVariants.{LeaveUnloaded, TakeForged, ReleaseUnloaded}
-use Rattle.cell_robot.specs.declared.robot.RobotStep.TheVariants.{TurnToDeposit, ClaimDeposit, ReachDeposit}
-use Rattle.cell_robot.specs.declared.robot.RobotStep.TheVariants.{DropOnDeposit, LeaveDeposit, GiveToDeposit}
-use Rattle.cell_robot.specs.declared.robot.RobotNotes.{RobotNotes}
-use Rattle.cell_robot.specs.declared.robot.RobotProgress.{RobotProgress}
+use Rattle.cell_resume.proofs.Names.{◌≡◌, Bool, true, refl, ◌∙◌, false, if◌then◌else◌, Option, Some, eqb-true, eq-eqb, Machine, Robot, Z2, Z3, Z4, Arm1, Arm2, Posture, OpenIn, ModelState, is_full, one_if, same_flag, and_left, and_right, and_both, AreSo, RobotScales, RobotGauges, choice, row_at, step_after_inquiry, notes_at, robot_start, after_done, is_done, robot_steps, RobotStep, RobotNotes, RobotProgress, KnowingMore, is_kept, Kept, kept_of, of_kept, one_flag, own_flag}
+use Rattle.cell_robot.specs.declared.robot.RobotStep.TheVariants.{TurnToTable, AwaitPlate, ReachTable, GripPlate, LeaveTable, TakePlate, ReleaseTable, TurnToLoad, ClaimPress, InspectPress, ReleasePress, ReachToLoad, DropInPress, LeaveLoaded, GiveToPress, TurnToUnload, AwaitForged, ReachToUnload, GripForged, LeaveUnloaded, TakeForged, ReleaseUnloaded, TurnToDeposit, ClaimDeposit, ReachDeposit, DropOnDeposit, LeaveDeposit, GiveToDeposit}
 use Rattle.cell_robot.proofs.RobotFacts.{RobotKnows, facts_at}
 use Rattle.cell_team.proofs.Shares as shares
 use Rattle.cell_team.proofs.RobotTeam as team
-use Rattle.cell_team.proofs.Reaching.{KnowingMore}
-use Rattle.cell_resume.specs.Keeping.{is_kept}
 use Rattle.cell_resume.specs.RobotKeeps.{table, interior, deposit, has_zones, has_plates, in_step, inside, magnet1_at, magnet2_at, is_noted}
-use Rattle.cell_resume.proofs.Keeping.{Kept, kept_of, of_kept, one_flag, own_flag}
 use Rattle.cell_resume.proofs.RobotResumes.{robot_resumable}
 
 shares_of : (s : RobotStep) (z : ModelState) → Kept (table s) Robot z Z2 → Kept (interior s) Robot z Z3 → Kept (deposit s) Robot z Z4 → shares.AreSo Robot z (team.shares_at s)

@@ -1,18 +1,11 @@
 -- Machines that are in step stay so, and none of them is refused.
-use Rattle.std.proofs.Common.{List}
-use Rattle.cell_rules.specs.Types.{Feed, Table, Robot, Press, Deposit, Crane, Watch, Event}
-use Rattle.cell_calib.specs.Line.{IsReading}
-use Rattle.cell_rules.specs.Names.{ModelState, IsSound, after, IsLegal, own_events}
+use Rattle.cell_resume.proofs.Names.{List, Feed, Table, Robot, Press, Deposit, Crane, Watch, Event, IsReading, ModelState, IsSound, after, IsLegal, own_events, crane_steps, deposit_steps, feed_steps, near_lines, robot_steps, press_steps, table_steps, OwnYieldless, AreYieldless, own_yieldless, yieldless, reached_both, Team, AreInStep}
 use Rattle.cell_rules.proofs.Histories.{sound-after}
 use Rattle.cell_parts.specs.Axes.{CellScales}
-use Rattle.cell_haul.specs.Names.{crane_steps, deposit_steps, feed_steps}
-use Rattle.cell_robot.specs.RobotProgram.{near_lines, robot_steps}
-use Rattle.cell_stations.specs.Names.{press_steps, table_steps}
 use Rattle.cell_haul.proofs.CraneFacts.{CraneKnows, crane-knowing}
 use Rattle.cell_robot.proofs.RobotFacts.{RobotKnows, robot-knowing}
 use Rattle.cell_team.specs.Team as programs
 use Rattle.cell_team.specs.Names.{robot_points, programs_of, program_with_stops, HaveComeFrom, first_team}
-use Rattle.cell_team.proofs.Reaching.{OwnYieldless, AreYieldless, own_yieldless, yieldless, reached_both}
 use Rattle.cell_team.proofs.CraneTeam as crane
 use Rattle.cell_team.proofs.DepositTeam as deposit
 use Rattle.cell_team.proofs.FeedTeam as feed
@@ -20,8 +13,6 @@ use Rattle.cell_team.proofs.PressTeam as press
 use Rattle.cell_team.proofs.RobotTeam as robot
 use Rattle.cell_team.proofs.TableTeam as table
 use Rattle.cell_team.proofs.Together.{AllKnow, all_begin, all_know, all_heeded, sound_start}
-use Rattle.cell_resume.specs.declared.team.Team.{Team}
-use Rattle.cell_resume.specs.Teams.{AreInStep}
 use Rattle.cell_resume.specs.Laws.{steps_of, NoResumedMachineIsRefused, ResumedMachinesStayInStep, MachinesAreInStep}
 use Rattle.cell_resume.proofs.CraneTeam.{MagnetSo, magnet_kept, magnet_begins, crane_knows, crane_magnets, crane_stands}
 use Rattle.cell_resume.proofs.DepositTeam.{deposit_knows, deposit_stands}

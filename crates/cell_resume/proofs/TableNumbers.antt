@@ -1,20 +1,9 @@
 -- The number of a step of the table leads back to the step, with its notes.
-use Rattle.std.proofs.Common.{◌≡◌, Bool, true, Some, refl, ap, ◌∙◌}
-use Rattle.std.specs.Prelude.{option_map, slice_get}
+use Rattle.cell_resume.proofs.Names.{◌≡◌, Bool, true, Some, refl, ap, ◌∙◌, option_map, slice_get, ModelState, is_full, and_right, TableStep, ClaimEntry, ClaimExit, LeaveForLoading, MoveToLoading, PoseLoading, ReleaseEntry, LeaveForUnloading, MoveToUnloading, PoseUnloading, TableProgress, TakePlate, GivePlate, ClaimBack, one_flag}
 use denote.Enum.Declared.{tag_of}
 use Rattle.cell_types.specs.declared.place.Place.TheVariants.{Table as OnTable}
-use Rattle.cell_rules.specs.ModelState.{ModelState, is_full}
-use Rattle.cell_rules.proofs.Tables.{and_right}
 use Rattle.cell_stations.specs.contracts.table.TableStep.{the_type}
-use Rattle.cell_stations.specs.declared.table.TableStep.{TableStep}
-use Rattle.cell_stations.specs.declared.table.TableStep.TheVariants.{ClaimEntry, ClaimExit, LeaveForLoading}
-use Rattle.cell_stations.specs.declared.table.TableStep.TheVariants.{MoveToLoading, PoseLoading, ReleaseEntry}
-use Rattle.cell_stations.specs.declared.table.TableStep.TheVariants.{LeaveForUnloading, MoveToUnloading}
-use Rattle.cell_stations.specs.declared.table.TableStep.TheVariants.{PoseUnloading}
-use Rattle.cell_stations.specs.declared.table.TableProgress.{TableProgress}
-use Rattle.cell_stations.specs.declared.table.TableStep.TheVariants.{TakePlate, GivePlate, ClaimBack}
 use Rattle.cell_resume.specs.TableKeeps.{has_zones, has_plates, in_step, steps, progress_at}
-use Rattle.cell_resume.proofs.Keeping.{one_flag}
 
 -- each step is found by its number
 found : (s : TableStep) → slice_get steps (tag_of the_type s) ≡ Some s

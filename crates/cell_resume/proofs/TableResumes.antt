@@ -1,24 +1,7 @@
 -- The table may go on at each step that is in step with a state.
-use Rattle.std.proofs.Common.{◌≡◌, true, refl, ℕ, ℤ}
+use Rattle.cell_resume.proofs.Names.{◌≡◌, true, refl, ℕ, ℤ, Z1, Z2, Moving, Scale, ModelState, after, and_left, and_right, AreSo, seen_held, seen_in, table_steps, TableStep, ClaimEntry, ClaimExit, LeaveForLoading, MoveToLoading, PoseLoading, ReleaseEntry, LeaveForUnloading, MoveToUnloading, PoseUnloading, TableProgress, TakePlate, GivePlate, ClaimBack, TableKnows, facts_at, table-knowing, drives_at, is_kept, IsResumable, Kept, kept_of}
 use Rattle.cell_types.specs.declared.machine.Machine.TheVariants.{Table as TableMachine}
-use Rattle.cell_rules.specs.Types.{Z1, Z2, Moving}
-use Rattle.cell_calib.specs.Scale.{Scale}
-use Rattle.cell_rules.specs.Names.{ModelState, after}
-use Rattle.cell_rules.proofs.Tables.{and_left, and_right}
-use Rattle.cell_control.proofs.Facts.{AreSo, seen_held, seen_in}
-use Rattle.cell_stations.specs.Names.{table_steps}
-use Rattle.cell_stations.specs.declared.table.TableStep.{TableStep}
-use Rattle.cell_stations.specs.declared.table.TableStep.TheVariants.{ClaimEntry, ClaimExit, LeaveForLoading}
-use Rattle.cell_stations.specs.declared.table.TableStep.TheVariants.{MoveToLoading, PoseLoading, ReleaseEntry}
-use Rattle.cell_stations.specs.declared.table.TableStep.TheVariants.{LeaveForUnloading, MoveToUnloading}
-use Rattle.cell_stations.specs.declared.table.TableStep.TheVariants.{PoseUnloading}
-use Rattle.cell_stations.specs.declared.table.TableProgress.{TableProgress}
-use Rattle.cell_stations.specs.declared.table.TableStep.TheVariants.{TakePlate, GivePlate, ClaimBack}
-use Rattle.cell_stations.proofs.TableFacts.{TableKnows, facts_at, table-knowing, drives_at}
-use Rattle.cell_resume.specs.Keeping.{is_kept}
 use Rattle.cell_resume.specs.TableKeeps.{entry, exit, has_zones, in_step}
-use Rattle.cell_resume.specs.Resuming.{IsResumable}
-use Rattle.cell_resume.proofs.Keeping.{Kept, kept_of}
 
 knows_at : (s : TableStep) (z : ModelState) → Kept (entry s) TableMachine z Z1 → Kept (exit s) TableMachine z Z2 → AreSo TableMachine z (facts_at s)
 knows_at ClaimEntry z k1 k2 = tt

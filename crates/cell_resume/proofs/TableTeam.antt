@@ -1,24 +1,9 @@
 -- What the table knows at its step tells that it is in step, and the other way round.
-use Rattle.std.proofs.Common.{◌≡◌, Bool, true, refl, sym, ◌∙◌, ℕ, ℤ}
+use Rattle.cell_resume.proofs.Names.{◌≡◌, Bool, true, refl, sym, ◌∙◌, ℕ, ℤ, Z1, Z2, Scale, ModelState, and_left, and_right, and_both, AreSo, TableStep, ClaimEntry, ClaimExit, LeaveForLoading, MoveToLoading, PoseLoading, ReleaseEntry, LeaveForUnloading, MoveToUnloading, PoseUnloading, TableProgress, TakePlate, GivePlate, ClaimBack, TableKnows, facts_at, is_kept, Kept, kept_of, of_kept, one_flag, own_flag}
 use Rattle.cell_types.specs.declared.machine.Machine.TheVariants.{Table as TableMachine}
-use Rattle.cell_rules.specs.Types.{Z1, Z2}
-use Rattle.cell_calib.specs.Scale.{Scale}
-use Rattle.cell_rules.specs.ModelState.{ModelState}
-use Rattle.cell_rules.proofs.Tables.{and_left, and_right, and_both}
-use Rattle.cell_control.proofs.Facts.{AreSo}
-use Rattle.cell_stations.specs.declared.table.TableStep.{TableStep}
-use Rattle.cell_stations.specs.declared.table.TableStep.TheVariants.{ClaimEntry, ClaimExit, LeaveForLoading}
-use Rattle.cell_stations.specs.declared.table.TableStep.TheVariants.{MoveToLoading, PoseLoading, ReleaseEntry}
-use Rattle.cell_stations.specs.declared.table.TableStep.TheVariants.{LeaveForUnloading, MoveToUnloading}
-use Rattle.cell_stations.specs.declared.table.TableStep.TheVariants.{PoseUnloading}
-use Rattle.cell_stations.specs.declared.table.TableProgress.{TableProgress}
-use Rattle.cell_stations.specs.declared.table.TableStep.TheVariants.{TakePlate, GivePlate, ClaimBack}
-use Rattle.cell_stations.proofs.TableFacts.{TableKnows, facts_at}
 use Rattle.cell_team.proofs.Shares as shares
 use Rattle.cell_team.proofs.TableTeam as team
-use Rattle.cell_resume.specs.Keeping.{is_kept}
 use Rattle.cell_resume.specs.TableKeeps.{entry, exit, has_zones, has_plates, in_step}
-use Rattle.cell_resume.proofs.Keeping.{Kept, kept_of, of_kept, one_flag, own_flag}
 use Rattle.cell_resume.proofs.TableResumes.{table_resumable}
 
 shares_of : (s : TableStep) (z : ModelState) → Kept (entry s) TableMachine z Z1 → Kept (exit s) TableMachine z Z2 → shares.AreSo TableMachine z (team.shares_at s)

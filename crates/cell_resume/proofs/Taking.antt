@@ -1,14 +1,6 @@
 -- What it means to take a checkpoint back.
-use Rattle.std.proofs.Common.{◌≡◌, ◌≢◌, ◌↔◌, Some, Result, Ok, Err, refl, sym, ap, ◌∙◌, subst}
-use Rattle.cell_rules.specs.Names.{ModelState, IsSound}
+use Rattle.cell_resume.proofs.Names.{◌≡◌, ◌≢◌, ◌↔◌, Some, Result, Ok, Err, refl, sym, ap, ◌∙◌, subst, ModelState, IsSound, Team, Checkpoint, ResumeFault, NoState, Stood, stood, IsCheckpointOf, IsWrong, team_in}
 use Rattle.cell_word.specs.Layout.{packed}
-use Rattle.cell_resume.specs.declared.team.Team.{Team}
-use Rattle.cell_resume.specs.declared.checkpoint.Checkpoint.{Checkpoint}
-use Rattle.cell_resume.specs.declared.fault.ResumeFault.{ResumeFault}
-use Rattle.cell_resume.specs.declared.fault.ResumeFault.TheVariants.{NoState}
-use Rattle.cell_resume.specs.Teams.{Stood, stood}
-use Rattle.cell_resume.specs.Checkpoints.{IsCheckpointOf, IsWrong}
-use Rattle.cell_resume.specs.TeamTest.{team_in}
 use Rattle.cell_resume.proofs.TeamTested.{team_tested, tested_team, tested_wrong}
 
 one_state : (a b : ModelState) → Some a ≡ Some b → a ≡ b

@@ -1,16 +1,7 @@
 -- What the test of six machines tells.
-use Rattle.std.proofs.Common.{◌≡◌, Bool, true, false, if◌then◌else◌, Option, Some, None, Result, Ok, Err, refl, sym, ap, ◌∙◌, subst}
-use Rattle.cell_types.specs.declared.machine.Machine.{Machine}
+use Rattle.cell_resume.proofs.Names.{◌≡◌, Bool, true, false, if◌then◌else◌, Option, Some, None, Result, Ok, Err, refl, sym, ap, ◌∙◌, subst, Machine, ModelState, Team, Checkpoint, ResumeFault, NoState, NoStep, NotInStep, AreInStep, AreNumbersOf, NamesNoStep, NamesStepAstray, IsWrong, then_test, team_in}
 use Rattle.cell_types.specs.declared.machine.Machine.TheVariants as machine
-use Rattle.cell_rules.specs.ModelState.{ModelState}
-use Rattle.cell_resume.specs.declared.team.Team.{Team}
-use Rattle.cell_resume.specs.declared.checkpoint.Checkpoint.{Checkpoint}
-use Rattle.cell_resume.specs.declared.fault.ResumeFault.{ResumeFault}
-use Rattle.cell_resume.specs.declared.fault.ResumeFault.TheVariants.{NoState, NoStep, NotInStep}
-use Rattle.cell_resume.specs.Teams.{AreInStep}
-use Rattle.cell_resume.specs.Checkpoints.{AreNumbersOf, NamesNoStep, NamesStepAstray, IsWrong}
 use Rattle.cell_resume.specs.Testing.{tested}
-use Rattle.cell_resume.specs.TeamTest.{then_test, team_in}
 
 -- ---- the test of one machine
 

@@ -1,6 +1,4 @@
-use Rattle.std.proofs.Common.{sym, ap, ◌∙◌, subst, Ok}
-use Rattle.cell_resume.specs.Checkpoints.{IsWrong}
-use Rattle.cell_resume.specs.Teams.{stood}
+use Rattle.cell_resume.proofs.Names.{sym, ap, ◌∙◌, subst, Ok, IsWrong, stood}
 use Rattle.cell_resume.proofs.TeamTested.{team_tested}
 use Rattle.cell_resume.proofs.Taking.{one_fault, one_cell, taken, given, refused, is_state, has_state}
 use Rattle.cell_resume.proofs.checkpoint.Checkpoint.resume.Goals as goal
