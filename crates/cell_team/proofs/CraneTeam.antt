@@ -1,17 +1,9 @@
 -- The crane is never refused.
-use Rattle.std.proofs.Common.{◌≡◌, ℕ, ℤ, Bool, true, false, if◌then◌else◌, List, [], ◌∷◌, Option, Some, None, refl, sym, ap, ◌∙◌, subst}
-use Rattle.std.specs.Prelude.{⊤}
-use Rattle.cell_rules.specs.Types.{Machine, Feed, Crane, Z5, Z6, FeedEntry, Posture, Closed, Moving, OpenIn, Call, Inquire, PlaceFull, Done, Shown, transfer_of, same_posture}
+use Rattle.cell_team.proofs.Names.{◌≡◌, ℕ, ℤ, Bool, true, false, if◌then◌else◌, List, [], ◌∷◌, Option, Some, None, refl, sym, ap, ◌∙◌, subst, ⊤, Machine, Feed, Crane, Z5, Z6, FeedEntry, Posture, Closed, Moving, OpenIn, Call, Inquire, PlaceFull, Done, Shown, transfer_of, same_posture, Scale, has, ModelState, is_full, IsSound, implies, is_owned_by, is_received_by, owns, owner_of, posture_at, given_by, reply, changed, filled, IsStartState, owned_as, take_owned, full-foreign, Never, first_step}
+use Rattle.cell_team.proofs.Names.{crane_start, crane_steps, CraneStep, CraneProgress}
 use Rattle.cell_types.specs.declared.place.Place.TheVariants.{Crane as OnCrane}
-use Rattle.cell_calib.specs.Scale.{Scale}
-use Rattle.cell_rules.specs.Names.{has, ModelState, is_full, IsSound, implies, is_owned_by, is_received_by, owns, owner_of, posture_at, given_by, reply, changed, filled, IsStartState}
-use Rattle.cell_rules.proofs.Holders.{owned_as, take_owned}
-use Rattle.cell_rules.proofs.OwnSide.{full-foreign}
-use Rattle.cell_control.specs.declared.row.Waits.TheVariants.{Never}
-use Rattle.cell_haul.specs.Names.{row_at, row_of, step_after_inquiry, first_step, after_done, is_done, crane_start, crane_steps}
-use Rattle.cell_haul.specs.declared.crane.CraneStep.{CraneStep}
-use Rattle.cell_haul.specs.declared.crane.CraneStep.TheVariants.{RaiseToFetch, TravelToDeposit, AwaitPlate, LowerToPlate, GripPlate, RaiseWithPlate, ReleaseDeposit, TravelToFeed, ClaimFeed, LowerToFeed, DropPlate, RaiseFromFeed, TakePlate, GivePlate}
-use Rattle.cell_haul.specs.declared.crane.CraneProgress.{CraneProgress}
+use Rattle.cell_haul.specs.Names.{row_at, row_of, step_after_inquiry, after_done, is_done}
+use Rattle.cell_haul.specs.declared.crane.CraneStep.TheVariants.{RaiseToFetch, AwaitPlate, LowerToPlate, GripPlate, RaiseWithPlate, ReleaseDeposit, TravelToFeed, ClaimFeed, LowerToFeed, DropPlate, RaiseFromFeed, TakePlate, GivePlate}
 use Rattle.cell_haul.proofs.CraneFacts as known
 use Rattle.cell_control.proofs.Facts as facts
 use Rattle.cell_team.proofs.Waiting.{Heeds, none_only, unless, claim_in, take_own, give_only, release_only}

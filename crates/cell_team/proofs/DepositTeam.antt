@@ -1,17 +1,8 @@
 -- The deposit belt is never refused, and leaves room for a plate of the robot.
-use Rattle.std.proofs.Common.{◌≡◌, ◌&&◌, Bool, true, false, not, if◌then◌else◌, List, [], ◌∷◌, Option, Some, None, refl, sym, ap, ◌∙◌, subst}
-use Rattle.std.specs.Prelude.{⊤, ◌||◌}
-use Rattle.std.specs.Bool.{then_some}
-use Rattle.cell_rules.specs.Types.{Deposit, Z4, Z5, DepEntry, DepEnd, Closed, Moving, OpenIn, OpenOut, Landing, Running, Offering, Call, Claim, Give, Take, PlaceFull, Done, transfer_of, same_posture}
-use Rattle.cell_rules.specs.Names.{has, ModelState, is_full, IsSound, owns, posture_at, given_by, runs_onto_plate, reply, changed, emptied, filled, IsStartState}
-use Rattle.cell_rules.proofs.Holders.{take_owned}
-use Rattle.cell_rules.proofs.Tables.{and_left, and_right, and_both}
-use Rattle.cell_rules.proofs.OwnSide.{full-foreign}
-use Rattle.cell_control.specs.declared.row.Waits.TheVariants.{UntilRoom}
-use Rattle.cell_haul.specs.Names.{with_plates, by_plates, deposit_start, deposit_steps}
-use Rattle.cell_haul.specs.declared.deposit.DepositStep.{DepositStep}
+use Rattle.cell_team.proofs.Names.{◌≡◌, ◌&&◌, Bool, true, false, not, if◌then◌else◌, List, [], ◌∷◌, Option, Some, None, refl, sym, ap, ◌∙◌, subst, ⊤, ◌||◌, then_some, Deposit, Z4, Z5, DepEntry, DepEnd, Closed, Moving, OpenIn, OpenOut, Landing, Running, Offering, Call, Claim, Give, Take, PlaceFull, Done, transfer_of, same_posture, has, ModelState, is_full, IsSound, owns, posture_at, given_by, runs_onto_plate, reply, changed, emptied, filled, IsStartState, take_owned, and_left, and_right}
+use Rattle.cell_team.proofs.Names.{and_both, full-foreign, UntilRoom, deposit_start, deposit_steps, DepositStep, DepositProgress}
+use Rattle.cell_haul.specs.Names.{with_plates, by_plates}
 use Rattle.cell_haul.specs.declared.deposit.DepositStep.TheVariants.{ClaimEntry, PoseLanding, ReleaseEntry, TakePlate, StartRun, RunIn, RunOut, MoveOn, PoseOffering, GivePlate, ClaimBack, ClaimExit}
-use Rattle.cell_haul.specs.declared.deposit.DepositProgress.{DepositProgress}
 use Rattle.cell_haul.specs.DepositProgram.{row_at, row_of, after_done}
 use Rattle.cell_haul.proofs.DepositFacts as known
 use Rattle.cell_control.proofs.Facts as facts

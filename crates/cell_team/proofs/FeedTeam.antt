@@ -1,18 +1,9 @@
 -- The feed belt is never refused, and leaves room for a plate of the crane.
-use Rattle.std.proofs.Common.{◌≡◌, ◌&&◌, Bool, true, false, not, if◌then◌else◌, List, [], ◌∷◌, Option, Some, None, refl, sym, ap, subst}
-use Rattle.std.specs.Prelude.{⊤}
-use Rattle.std.specs.Bool.{then_some}
-use Rattle.cell_rules.specs.Types.{Feed, Z1, Z6, FeedEntry, FeedEnd, Posture, Closed, Moving, OpenIn, Landing, Running, Halted, Call, Claim, Give, PlaceFull, Done, transfer_of, same_posture}
+use Rattle.cell_team.proofs.Names.{◌≡◌, ◌&&◌, Bool, true, false, not, if◌then◌else◌, List, [], ◌∷◌, Option, Some, None, refl, sym, ap, subst, ⊤, then_some, Feed, Z1, Z6, FeedEntry, FeedEnd, Posture, Closed, Moving, OpenIn, Landing, Running, Halted, Call, Claim, Give, PlaceFull, Done, transfer_of, same_posture, ModelState, zone_at, is_full, IsSound, is_received_by, owns, owner_of, posture_at, given_by, runs_onto_plate, reply, changed, IsStartState, owned_as, take_owned, and_left, and_right}
+use Rattle.cell_team.proofs.Names.{Never, feed_start, feed_steps, FeedStep, FeedProgress}
 use Rattle.cell_types.specs.declared.machine.Machine.TheVariants.{Table as TableMachine}
 use Rattle.cell_types.specs.declared.place.Place.TheVariants.{Table as OnTable}
-use Rattle.cell_rules.specs.Names.{ModelState, zone_at, is_full, IsSound, is_received_by, owns, owner_of, posture_at, given_by, runs_onto_plate, reply, changed, IsStartState}
-use Rattle.cell_rules.proofs.Holders.{owned_as, take_owned}
-use Rattle.cell_rules.proofs.Tables.{and_left, and_right}
-use Rattle.cell_control.specs.declared.row.Waits.TheVariants.{Never}
-use Rattle.cell_haul.specs.Names.{feed_start, feed_steps}
-use Rattle.cell_haul.specs.declared.feed.FeedStep.{FeedStep}
 use Rattle.cell_haul.specs.declared.feed.FeedStep.TheVariants.{StartIn, ClaimExit, StartOut, Halt, ClaimEntry, PoseLanding, ReleaseEntry, TakePlate, RunIn, MoveOn, RunOut, GivePlate}
-use Rattle.cell_haul.specs.declared.feed.FeedProgress.{FeedProgress}
 use Rattle.cell_haul.specs.FeedProgram.{with_plates, by_plates, row_at, row_of, after_done}
 use Rattle.cell_haul.proofs.FeedFacts as known
 use Rattle.cell_team.proofs.Waiting.{Heeds, Clears, HasRoom, unless, has_room, first_claim, claim_in, take_back, give_only, release_only, pose_only, advance_only}

@@ -1,3 +1,4 @@
+mod Names
 pub mod Waiting
 pub mod Shares
 pub mod Reaching

@@ -1,19 +1,9 @@
 -- The press is never refused.
-use Rattle.std.proofs.Common.{◌≡◌, ◌&&◌, Bool, true, false, not, List, [], ◌∷◌, Option, Some, None, refl, sym, ap, ◌∙◌, subst}
-use Rattle.std.specs.Prelude.{⊤, ◌||◌}
-use Rattle.cell_rules.specs.Types.{Press, Zone, Z3, PressIn, PressOut, Closed, Moving, OpenIn, OpenOut, Travelling, Middle, Low, Top, Call, Claim, Give, Take, SetPose, NotOwner, Done, transfer_of, same_posture}
-use Rattle.std.specs.Bool.{then_some}
+use Rattle.cell_team.proofs.Names.{◌≡◌, ◌&&◌, Bool, true, false, not, List, [], ◌∷◌, Option, Some, None, refl, sym, ap, ◌∙◌, subst, ⊤, ◌||◌, Press, Zone, Z3, PressIn, PressOut, Closed, Moving, OpenIn, OpenOut, Travelling, Middle, Low, Top, Call, Claim, Give, Take, SetPose, NotOwner, Done, transfer_of, same_posture, then_some, Off, Plus, Minus, has, ModelState, is_full, IsSound, owns, owner_of, posture_at, given_by, moves_at, reply, changed, emptied, filled, IsStartState, take_owned, and_left}
+use Rattle.cell_team.proofs.Names.{and_right, and_both, full-foreign, Never, UntilRoom, PressStep, PressProgress}
 use Rattle.cell_devices.specs.declared.motor.Motor.{Motor}
-use Rattle.cell_devices.specs.declared.motor.Motor.TheVariants.{Off, Plus, Minus}
-use Rattle.cell_rules.specs.Names.{has, ModelState, is_full, IsSound, owns, owner_of, posture_at, given_by, moves_at, reply, changed, emptied, filled, IsStartState}
-use Rattle.cell_rules.proofs.Holders.{take_owned}
-use Rattle.cell_rules.proofs.Tables.{and_left, and_right, and_both}
-use Rattle.cell_rules.proofs.OwnSide.{full-foreign}
-use Rattle.cell_control.specs.declared.row.Waits.TheVariants.{Never, UntilRoom}
 use Rattle.cell_stations.specs.Names.{with_plates, by_plates, row_at, after_motor, press_start, press_steps}
-use Rattle.cell_stations.specs.declared.press.PressStep.{PressStep}
-use Rattle.cell_stations.specs.declared.press.PressStep.TheVariants.{ClaimFirst, LeaveForMiddle, MoveToMiddle, PoseMiddle, ReleaseInterior, TakePlate, LeaveForTop, MoveToTop, PoseTop, Forge, LeaveForBottom, MoveToBottom, PoseLow, GivePlate, ClaimBack}
-use Rattle.cell_stations.specs.declared.press.PressProgress.{PressProgress}
+use Rattle.cell_stations.specs.declared.press.PressStep.TheVariants.{ClaimFirst, MoveToMiddle, PoseMiddle, ReleaseInterior, TakePlate, LeaveForTop, MoveToTop, PoseTop, Forge, LeaveForBottom, MoveToBottom, PoseLow, GivePlate, ClaimBack}
 use Rattle.cell_stations.specs.PressProgram.{row_of}
 use Rattle.cell_stations.proofs.PressFacts as known
 use Rattle.cell_control.proofs.Facts as facts

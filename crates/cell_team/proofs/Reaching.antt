@@ -1,16 +1,7 @@
 -- What a reached step knows of the state, if nobody hands over an empty zone.
-use Rattle.std.proofs.Common.{◌≡◌, ℕ, zero, suc, Bool, true, false, cond, if◌then◌else◌, inl, inr, List, [], ◌∷◌, Option, Some, None, Ok, Err, refl, sym, ap, ◌∙◌, subst}
-use Rattle.std.specs.Prelude.{⊤}
-use Rattle.cell_rules.specs.Types.{Machine, Watch, Zone, Z1, Z2, Z3, Z4, Z5, Z6, Posture, Call, Yield, Answer, Done, Shown, Refused, Event, same_machine, one_machine}
-use Rattle.cell_rules.specs.Names.{ModelState, IsSound, is_party, yield_refusal, reply, next, next_by, changed, after, IsLegal, own_events, is_done_answer, Program, MovesIn, Reached}
-use Rattle.cell_rules.proofs.Done.{yield_done}
-use Rattle.cell_rules.proofs.Tables.{and_left}
-use Rattle.cell_rules.proofs.Holders.{same_machine-self}
-use Rattle.cell_rules.proofs.Soundness.{done_none, next_keeps}
-use Rattle.cell_control.specs.Names.{fault_of, Steps, waits_out, after_answer}
-use Rattle.cell_control.specs.declared.fault.CtlFault.{CtlFault}
+use Rattle.cell_team.proofs.Names.{◌≡◌, ℕ, zero, suc, Bool, true, false, cond, if◌then◌else◌, inl, inr, List, [], ◌∷◌, Option, Some, None, Ok, Err, refl, sym, ap, ◌∙◌, subst, ⊤, Machine, Watch, Zone, Z1, Posture, Call, Yield, Answer, Done, Shown, Refused, Event, same_machine, one_machine, ModelState, IsSound, is_party, yield_refusal, reply, next, next_by, changed, after, IsLegal, own_events, is_done_answer, Program, MovesIn, Reached, yield_done, and_left, same_machine-self, done_none}
+use Rattle.cell_team.proofs.Names.{next_keeps, fault_of, Steps, waits_out, after_answer, CtlFault, LeadsOrStays, program_with_stops}
 use Rattle.cell_control.proofs.StepLemmas.{Knowing}
-use Rattle.cell_team.specs.Team.{LeadsOrStays, program_with_stops}
 use Rattle.cell_team.proofs.Shares.{yields, IsYieldless, no_both}
 
 -- in no state of a history an empty zone is handed over

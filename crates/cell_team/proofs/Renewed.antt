@@ -1,19 +1,12 @@
 -- A renewal keeps what each machine knows, so after any number of them none is refused.
-use Rattle.std.proofs.Common.{ℕ, zero, suc, List, [], ◌∷◌, refl, sym, subst}
-use Rattle.cell_types.specs.declared.machine.Machine.{Machine}
-use Rattle.cell_calib.specs.Line.{IsReading}
-use Rattle.cell_rules.specs.Names.{ModelState, IsSound, after, restamped, IsSameFor}
-use Rattle.cell_rules.proofs.Histories.{sound-after}
+use Rattle.cell_team.proofs.Names.{ℕ, zero, suc, List, [], ◌∷◌, refl, sym, subst, Machine, IsReading, ModelState, IsSound, after, restamped, IsSameFor, sound-after, CellScales, near_lines, Team, robot_points, programs_of, StandAfter}
 use Rattle.cell_rules.proofs.Restamps.{restamped_sound}
-use Rattle.cell_parts.specs.Axes.{CellScales}
-use Rattle.cell_robot.specs.RobotProgram.{near_lines}
 use Rattle.cell_haul.proofs.CraneFacts as crane_facts
 use Rattle.cell_haul.proofs.DepositFacts as deposit_facts
 use Rattle.cell_haul.proofs.FeedFacts as feed_facts
 use Rattle.cell_robot.proofs.RobotFacts as robot_facts
 use Rattle.cell_stations.proofs.PressFacts as press_facts
 use Rattle.cell_stations.proofs.TableFacts as table_facts
-use Rattle.cell_team.specs.Names.{Team, robot_points, programs_of, StandAfter}
 use Rattle.cell_team.specs.Renewals.{NoRenewedMachineIsRefused}
 use Rattle.cell_team.proofs.Shares.{Share, Clear, Loaded, Lent, Stands, IsSo, AreSo}
 use Rattle.cell_team.proofs.Together.{AllKnow, all_begin, all_know, all_heeded, sound_start}

@@ -1,16 +1,8 @@
 -- The robot is never refused.
-use Rattle.std.proofs.Common.{◌≡◌, ◌+◌, ◌&&◌, Bool, true, false, not, if◌then◌else◌, List, [], ◌∷◌, Option, Some, None, refl, sym, ap, ◌∙◌, subst, arith}
-use Rattle.std.specs.Prelude.{⊤, ◌||◌}
-use Rattle.cell_rules.specs.Types.{Machine, Robot, Deposit, Z2, Z3, Z4, Arm1, Arm2, PressIn, PressOut, DepEntry, Posture, Closed, Moving, OpenIn, OpenOut, Call, Give, Take, Release, Inquire, PlaceFull, Done, Shown, transfer_of, same_posture}
-use Rattle.cell_rules.specs.Names.{has, ModelState, zone_at, is_full, one_if, IsSound, is_owned_by, is_open, is_received_by, owns, owner_of, posture_at, given_by, reply, changed, emptied, filled, IsStartState}
-use Rattle.cell_rules.proofs.Holders.{owned_as, take_owned}
-use Rattle.cell_rules.proofs.Tables.{and_left, implied}
-use Rattle.cell_rules.proofs.OwnSide.{full-foreign}
-use Rattle.cell_control.specs.declared.row.Waits.TheVariants.{Never}
-use Rattle.cell_robot.specs.Names.{RobotScales, RobotGauges, row_at, row_of, step_after_inquiry, after_done, is_done, robot_start, robot_steps}
-use Rattle.cell_robot.specs.declared.robot.RobotStep.{RobotStep}
+use Rattle.cell_team.proofs.Names.{◌≡◌, ◌+◌, ◌&&◌, Bool, true, false, not, if◌then◌else◌, List, [], ◌∷◌, Option, Some, None, refl, sym, ap, ◌∙◌, subst, arith, ⊤, ◌||◌, Machine, Robot, Deposit, Z2, Z3, Z4, Arm1, Arm2, PressIn, PressOut, DepEntry, Posture, Closed, Moving, OpenIn, OpenOut, Call, Give, Take, Release, Inquire, PlaceFull, Done, Shown, transfer_of, same_posture, has, ModelState, zone_at, is_full, one_if, IsSound, is_owned_by, is_open, is_received_by, owns, owner_of, posture_at}
+use Rattle.cell_team.proofs.Names.{given_by, reply, changed, emptied, filled, IsStartState, owned_as, take_owned, and_left, implied, full-foreign, Never, robot_steps, RobotStep, RobotProgress}
+use Rattle.cell_robot.specs.Names.{RobotScales, RobotGauges, row_at, row_of, step_after_inquiry, after_done, is_done, robot_start}
 use Rattle.cell_robot.specs.declared.robot.RobotStep.TheVariants.{TurnToTable, AwaitPlate, ReachTable, GripPlate, LeaveTable, TakePlate, ReleaseTable, TurnToLoad, ClaimPress, InspectPress, ReleasePress, ReachToLoad, DropInPress, LeaveLoaded, GiveToPress, TurnToUnload, AwaitForged, ReachToUnload, GripForged, LeaveUnloaded, TakeForged, ReleaseUnloaded, TurnToDeposit, ClaimDeposit, ReachDeposit, DropOnDeposit, LeaveDeposit, GiveToDeposit}
-use Rattle.cell_robot.specs.declared.robot.RobotProgress.{RobotProgress}
 use Rattle.cell_team.specs.RobotPlates.{has_plates}
 use Rattle.cell_robot.proofs.RobotFacts as known
 use Rattle.cell_control.proofs.Facts as facts

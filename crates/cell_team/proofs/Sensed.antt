@@ -1,12 +1,6 @@
 -- Another check of the sensors leads a program to the same steps.
-use Rattle.std.proofs.Common.{ℕ, zero, suc, List, [], ◌∷◌, Option, Result}
-use Rattle.cell_rules.specs.Types.{Answer, Done, Shown, Refused, Event}
-use Rattle.cell_calib.specs.declared.sense.SensorFault.{SensorFault}
-use Rattle.cell_rules.specs.Names.{ModelState, own_events, MovesIn, Reached}
-use Rattle.cell_control.specs.Names.{Steps, with_senses}
-use Rattle.cell_control.specs.declared.fault.CtlFault.{CtlFault}
+use Rattle.cell_team.proofs.Names.{ℕ, zero, suc, List, [], ◌∷◌, Option, Result, Answer, Done, Shown, Refused, Event, SensorFault, ModelState, own_events, MovesIn, Reached, Steps, with_senses, CtlFault, DrivesOn, LeadsOrStays, HasCome, program_with_stops, IsStoppedBy}
 use Rattle.cell_control.specs.declared.fault.CtlFault.TheVariants as fault
-use Rattle.cell_team.specs.Names.{DrivesOn, LeadsOrStays, HasCome, program_with_stops, IsStoppedBy}
 use Rattle.cell_team.proofs.Turned.{Stands}
 
 module _ {S Sense Reading Act : Type 0} (t : Steps S Sense Reading Act) (senses : Sense → Result Reading SensorFault → Type 0) where

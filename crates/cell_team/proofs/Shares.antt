@@ -1,15 +1,9 @@
 -- What a machine may know of the plates in its zones; no other machine changes it, if none yields.
-use Rattle.std.proofs.Common.{◌≡◌, Bool, true, false, ◌||◌, not, is_none, if◌then◌else◌, Option, Some, None, List, [], ◌∷◌, refl, sym, ap, ◌∙◌, subst}
-use Rattle.std.specs.Prelude.{⊤}
-use Rattle.cell_rules.specs.Types.{Machine, Zone, Transfer, Posture, Closed, Call, Claim, Give, Yield, Take, Release, SetPose, Advance, Inquire, Stop, Resume, Answer, Done, Shown, Refused, host_of, guest_of, transfer_of, same_machine}
-use Rattle.cell_rules.specs.Names.{ModelState, zone_at, IsSound, implies, is_owned_by, is_open, is_received_by, is_onto_full, owns, owner_of, posture_at, reply, next, next_by, changed, posed, halted, is_belt_of}
+use Rattle.cell_team.proofs.Names.{◌≡◌, Bool, true, false, ◌||◌, not, is_none, if◌then◌else◌, Option, Some, None, List, [], ◌∷◌, refl, sym, ap, ◌∙◌, subst, ⊤, Machine, Zone, Transfer, Posture, Closed, Call, Claim, Give, Yield, Take, Release, SetPose, Advance, Inquire, Stop, Resume, Answer, Done, Shown, Refused, host_of, guest_of, transfer_of, same_machine, ModelState, zone_at, IsSound, implies, is_owned_by, is_open, is_received_by, is_onto_full, owns, owner_of, posture_at, reply, next, next_by}
+use Rattle.cell_team.proofs.Names.{changed, posed, halted, is_belt_of, implied, and_left, zone_in-map, put_cases, owner_is, owned_as, claim_unowned, take_owned, zone-foreign, posture-foreign}
 use Rattle.cell_rules.specs.declared.zones.ZoneState.{ZoneState}
-use Rattle.cell_rules.proofs.Tables.{implied, and_left}
-use Rattle.cell_rules.proofs.Puts.{zone_in-map, put_cases}
-use Rattle.cell_rules.proofs.Holders.{owner_is, owned_as, claim_unowned, take_owned}
 use Rattle.cell_rules.proofs.Kept.{claimed, released}
 use Rattle.cell_rules.proofs.Plates.{given, taken}
-use Rattle.cell_rules.proofs.OwnSide.{zone-foreign, posture-foreign}
 use Rattle.cell_control.proofs.Facts.{handed}
 
 -- a call hands over no empty zone

@@ -1,18 +1,8 @@
 -- No machine is stopped by a refusal: before it, all machines had come to steps of theirs.
-use Rattle.std.proofs.Common.{◌≡◌, Bool, true, false, ◌||◌, if◌then◌else◌, List, [], ◌∷◌, ◌++◌, Ok, Err, refl, sym, subst}
-use Rattle.cell_rules.specs.Types.{Refusal, Worn, Refused, Event}
-use Rattle.cell_calib.specs.Line.{IsReading}
-use Rattle.cell_rules.specs.Names.{ModelState, after, IsLegal, own_events, IsStartState, Program, Reached, event}
-use Rattle.cell_rules.proofs.Histories.{legal-left}
-use Rattle.cell_rules.proofs.SeenLemmas.{legal-right, own-append}
+use Rattle.cell_team.proofs.Names.{◌≡◌, Bool, true, false, ◌||◌, if◌then◌else◌, List, [], ◌∷◌, ◌++◌, Ok, Err, refl, sym, subst, Refusal, Worn, Refused, Event, IsReading, ModelState, after, IsLegal, own_events, IsStartState, Program, Reached, event, legal-left, legal-right, own-append, fault_of, Steps, waits_out, CellScales, crane_steps, deposit_steps, feed_steps, near_lines, robot_steps, Team, robot_points, programs_of, program_with_stops, HasCome, HaveCome, is_worn, IsHeeded, AreHeeded}
+use Rattle.cell_team.proofs.Names.{IsStoppedBy, AreUnstopped, NoMachineIsStopped}
 use Rattle.cell_control.specs.declared.fault.CtlFault.TheVariants as fault
-use Rattle.cell_control.specs.Names.{fault_of, Steps, waits_out}
-use Rattle.cell_parts.specs.Axes.{CellScales}
-use Rattle.cell_haul.specs.Names.{crane_steps, deposit_steps, feed_steps}
-use Rattle.cell_robot.specs.RobotProgram.{near_lines, robot_steps}
 use Rattle.cell_stations.specs.Names.{press_steps, table_steps}
-use Rattle.cell_team.specs.Names.{Team, robot_points, programs_of, program_with_stops, HasCome, HaveCome, is_worn, IsHeeded, AreHeeded, IsStoppedBy, AreUnstopped}
-use Rattle.cell_team.specs.Heeded.{NoMachineIsStopped}
 use Rattle.cell_team.proofs.Together.{none-refused}
 
 -- by the first of its events a program has come to some step

@@ -1,18 +1,9 @@
 -- The table is never refused, and leaves room for a plate of the feed belt.
-use Rattle.std.proofs.Common.{◌≡◌, ℕ, ℤ, ◌&&◌, Bool, true, false, not, if◌then◌else◌, List, [], ◌∷◌, Option, Some, None, refl, sym, ap, ◌∙◌, subst}
-use Rattle.std.specs.Prelude.{⊤}
+use Rattle.cell_team.proofs.Names.{◌≡◌, ℕ, ℤ, ◌&&◌, Bool, true, false, not, if◌then◌else◌, List, [], ◌∷◌, Option, Some, None, refl, sym, ap, ◌∙◌, subst, ⊤, Zone, Z1, Z2, Closed, Moving, OpenIn, OpenOut, Turning, Loading, Unloading, Call, Claim, Done, transfer_of, same_posture, Scale, has, ModelState, is_full, IsSound, owns, posture_at, given_by, moves_at, reply, changed, emptied, filled, IsStartState, take_owned, full-foreign, UntilRoom, TableStep, TableProgress}
 use Rattle.cell_types.specs.declared.machine.Machine.TheVariants.{Table as TableMachine}
-use Rattle.cell_rules.specs.Types.{Zone, Z1, Z2, Closed, Moving, OpenIn, OpenOut, Turning, Loading, Unloading, Call, Claim, Done, transfer_of, same_posture}
 use Rattle.cell_types.specs.declared.place.Place.TheVariants.{Table as OnTable}
-use Rattle.cell_calib.specs.Scale.{Scale}
-use Rattle.cell_rules.specs.Names.{has, ModelState, is_full, IsSound, owns, posture_at, given_by, moves_at, reply, changed, emptied, filled, IsStartState}
-use Rattle.cell_rules.proofs.Holders.{take_owned}
-use Rattle.cell_rules.proofs.OwnSide.{full-foreign}
-use Rattle.cell_control.specs.declared.row.Waits.TheVariants.{UntilRoom}
 use Rattle.cell_stations.specs.Names.{with_plate, by_plate, row_of, after_done, is_off, table_start, table_steps}
-use Rattle.cell_stations.specs.declared.table.TableStep.{TableStep}
 use Rattle.cell_stations.specs.declared.table.TableStep.TheVariants.{ClaimEntry, ClaimExit, LeaveForLoading, MoveToLoading, PoseLoading, ReleaseEntry, LeaveForUnloading, MoveToUnloading, PoseUnloading, TakePlate, GivePlate, ClaimBack}
-use Rattle.cell_stations.specs.declared.table.TableProgress.{TableProgress}
 use Rattle.cell_stations.specs.TableProgram.{row_at}
 use Rattle.cell_stations.proofs.TableFacts as known
 use Rattle.cell_control.proofs.Facts as facts

@@ -1,14 +1,6 @@
 -- None of the six machines is refused.
-use Rattle.std.proofs.Common.{◌≡◌, Bool, true, false, ◌&&◌, not, List, refl, sym, subst}
-use Rattle.cell_rules.specs.Types.{Feed, Table, Robot, Press, Deposit, Crane, Watch, Event}
-use Rattle.cell_calib.specs.Line.{IsReading}
-use Rattle.cell_rules.specs.Names.{PlaceSet, ModelState, zone_at, IsSound, after, IsLegal, own_events, IsStart, IsStartState, start_state}
+use Rattle.cell_team.proofs.Names.{◌≡◌, Bool, true, false, ◌&&◌, not, List, refl, sym, subst, Feed, Table, Robot, Press, Deposit, Crane, Watch, Event, IsReading, PlaceSet, ModelState, zone_at, IsSound, after, IsLegal, own_events, IsStart, IsStartState, start_state, each_zone, sound-after, CellScales, crane_steps, deposit_steps, feed_steps, notes_at, near_lines, robot_steps, Team, robot_points, programs_of, program_with_stops, HaveComeFrom, first_team, AreHeeded, NoMachineIsRefused}
 use Rattle.cell_rules.proofs.Lawful.{lawful_in, sound_from}
-use Rattle.cell_rules.proofs.Puts.{each_zone}
-use Rattle.cell_rules.proofs.Histories.{sound-after}
-use Rattle.cell_parts.specs.Axes.{CellScales}
-use Rattle.cell_haul.specs.Names.{crane_steps, deposit_steps, feed_steps}
-use Rattle.cell_robot.specs.RobotProgram.{notes_at, near_lines, robot_steps}
 use Rattle.cell_stations.specs.Names.{press_steps, table_steps}
 use Rattle.cell_haul.proofs.CraneFacts as crane_facts
 use Rattle.cell_haul.proofs.DepositFacts as deposit_facts
@@ -16,8 +8,6 @@ use Rattle.cell_haul.proofs.FeedFacts as feed_facts
 use Rattle.cell_robot.proofs.RobotFacts as robot_facts
 use Rattle.cell_stations.proofs.PressFacts as press_facts
 use Rattle.cell_stations.proofs.TableFacts as table_facts
-use Rattle.cell_team.specs.Names.{Team, robot_points, programs_of, program_with_stops, HaveComeFrom, first_team, AreHeeded}
-use Rattle.cell_team.specs.Heeded.{NoMachineIsRefused}
 use Rattle.cell_team.proofs.Waiting.{heeded}
 use Rattle.cell_team.proofs.Reaching.{OwnYieldless, AreYieldless, own_yieldless, yieldless, reached_both}
 use Rattle.cell_team.proofs.CraneTeam as crane

@@ -1,16 +1,10 @@
 -- Each turn over a line keeps that its machine stands at a step of its program.
-use Rattle.std.proofs.Common.{◌≡◌, ◌≢◌, Bool, true, false, if◌then◌else◌, inl, inr, List, [], ◌∷◌, ◌++◌, append_assoc, Option, Some, None, Result, Ok, Err, refl, sym, ap, ◌∙◌, subst}
+use Rattle.cell_team.proofs.Names.{◌≡◌, ◌≢◌, Bool, true, false, if◌then◌else◌, inl, inr, List, [], ◌∷◌, ◌++◌, append_assoc, Option, Some, None, Result, Ok, Err, refl, sym, ap, ◌∙◌, subst, Machine, Call, Refusal, Worn, Done, Shown, Refused, Event, Reply, Settled, Busy, SensorFault, ModelState, own_events, Reached, event, Settles, Waits, SeenAfter, own-push, fault_of, Steps, waits_out, step_after_reply, Performed, PerformsCall, PerformsSensed, Turned, Turns, at_rest, turned, CtlFault, HasCome}
+use Rattle.cell_team.proofs.Names.{DrivesOn, program_with_stops, IsStoppedBy}
 use Rattle.std.proofs.lemmas.List.{append_cancel_right}
-use Rattle.cell_rules.specs.Types.{Machine, Call, Refusal, Worn, Done, Shown, Refused, Event, Reply, Settled, Busy}
-use Rattle.cell_calib.specs.declared.sense.SensorFault.{SensorFault}
-use Rattle.cell_rules.specs.Names.{ModelState, own_events, Reached, event, Settles, Waits, SeenAfter}
 use Rattle.cell_rules.specs.declared.heard.LineFault.{LineFault}
 use Rattle.cell_rules.proofs.ProgramLemmas.{reached-moves, reached-settles, reached-waits}
-use Rattle.cell_rules.proofs.SeenLemmas.{own-push}
-use Rattle.cell_control.specs.Names.{fault_of, Steps, waits_out, step_after_reply, Performed, PerformsCall, PerformsSensed, Turned, Turns, at_rest, turned}
-use Rattle.cell_control.specs.declared.fault.CtlFault.{CtlFault}
 use Rattle.cell_control.specs.declared.fault.CtlFault.TheVariants as fault
-use Rattle.cell_team.specs.Names.{HasCome, DrivesOn, program_with_stops, IsStoppedBy}
 
 -- a machine has come to its step by its events; if a refusal has stopped it, then at this step; and it has no later
 -- turn

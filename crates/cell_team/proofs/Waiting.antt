@@ -1,19 +1,11 @@
 -- Calls that are refused only where a step waits, or as worn: for each call, what its caller has to know.
-use Rattle.std.proofs.Common.{◌≡◌, Bool, true, false, ◌&&◌, ◌||◌, not, is_none, unwrap_or, Option, Some, None, refl, sym, ap, subst}
-use Rattle.std.specs.Prelude.{⊤}
-use Rattle.std.specs.Bool.{then_some}
+use Rattle.cell_team.proofs.Names.{◌≡◌, Bool, true, false, ◌&&◌, ◌||◌, not, is_none, unwrap_or, Option, Some, None, refl, sym, ap, subst, ⊤, then_some, Machine, Zone, Z1, Z2, Z3, Z4, Z5, Z6, Transfer, Place, Posture, Moving, OpenIn, Pose, Call, Claim, Give, Yield, Take, Release, SetPose, Inquire, Refusal, NotParty, Held, AlreadyMine, Shut, NotOwner, PlateInZone, NoPlate, PlaceFull, WrongWay, Jump, NotAtWork, NoPose, Worn, Stopped, Refused, host_of, guest_of, posture_of, own_move_of}
+use Rattle.cell_team.proofs.Names.{same_machine, same_posture, ModelState, zone_at, is_full, is_party, is_open, owns, owner_of, posture_at, refusal, reply, done_unless, none_or, none_then_not, all_zones, from_zones, all_pass, waits_on, is_while_stopped, Never, UntilOwner, UntilFreeAndOpen, UntilFree, is_worn}
 use Rattle.std.specs.Option.{option_eq}
-use Rattle.cell_rules.specs.Types.{Machine, Zone, Z1, Z2, Z3, Z4, Z5, Z6, Transfer, Place, Posture, Moving, OpenIn, Pose, Call, Claim, Give, Yield, Take, Release, SetPose, Advance, Inquire, Stop, Resume, Refusal, NotParty, Held, AlreadyMine, Shut, NotOwner, PlateInZone, NoPlate, PlaceFull, WrongWay, Jump, NotAtWork, NoPose, Worn, Stopped, Refused, host_of, guest_of, posture_of, own_move_of, same_machine, same_posture}
 use Rattle.cell_types.specs.Everything.{all_zones as every_zone}
-use Rattle.cell_rules.specs.Names.{ModelState, zone_at, is_full, is_party, is_open, owns, owner_of, posture_at, refusal, reply, done_unless}
 use Rattle.cell_rules.specs.Refusals
 use Rattle.cell_rules.specs.Refusals.{◌or◌}
-use Rattle.cell_rules.proofs.Done.{none_or, none_then_not}
-use Rattle.cell_rules.proofs.Tables.{all_zones, from_zones, all_pass}
-use Rattle.cell_control.specs.Names.{waits_on, is_while_stopped}
 use Rattle.cell_control.specs.declared.row.Waits.{Waits}
-use Rattle.cell_control.specs.declared.row.Waits.TheVariants.{Never, UntilOwner, UntilRoom, UntilFreeAndOpen, UntilFree}
-use Rattle.cell_team.specs.Heeded.{is_worn}
 
 -- a step that waits so stays on the refusal, or it is worn
 abbrev pub is_waited : Waits → Refusal → Bool

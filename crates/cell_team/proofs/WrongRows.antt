@@ -1,38 +1,21 @@
 -- For each wrong row a history from a start in which it is refused.
-use Rattle.std.proofs.Common.{◌≡◌, ◌≤◌, pos, ◌≤ℤ◌, ◌-ℤ◌, Bool, true, false, ◌&&◌, inl, List, [], ◌∷◌, Some, None, refl, arith, suc}
+use Rattle.cell_team.proofs.Names.{◌≡◌, ◌≤◌, pos, ◌≤ℤ◌, ◌-ℤ◌, Bool, true, false, ◌&&◌, inl, List, [], ◌∷◌, Some, None, refl, arith, suc, Machine, Z1, Z2, Z3, Z4, Z5, Z6, Closed, OpenOut, Turning, Loading, Travelling, Middle, Low, Landing, Running, Offering, Unloading, Call, Claim, Give, Take, Release, SetPose, Inquire, Held, AlreadyMine, Shut, NotOwner, PlateInZone, NoPlate, PlaceFull, Done, Shown, Event, ModelState, size_of, PlaceSet, empty, insert_place, has, event, IsStartState, start_state}
+use Rattle.cell_team.proofs.Names.{Program, Reached, Off, Steps, CraneProgress, CraneStep, DepositProgress, DepositStep, FeedProgress, FeedStep, RobotProgress, RobotStep, PressProgress, PressStep, TableProgress, TableStep, Programs, Team, scales, program_with_stops, NoneIsRefused}
 use Rattle.std.specs.Int.Signed.{le_z_yes}
 use Rattle.std.proofs.lemmas.Int.{ints}
-use Rattle.cell_rules.specs.Types.{Machine, Z1, Z2, Z3, Z4, Z5, Z6, Closed, OpenOut, Turning, Loading, Travelling, Middle, Low, Landing, Running, Offering, Unloading, Call, Claim, Give, Take, Release, SetPose, Inquire, Held, AlreadyMine, Shut, NotOwner, PlateInZone, NoPlate, PlaceFull, Done, Shown, Event}
 use Rattle.cell_types.specs.declared.machine.Machine.TheVariants as machine
 use Rattle.cell_types.specs.declared.place.Place.TheVariants as place
-use Rattle.cell_rules.specs.Names.{ModelState, size_of, PlaceSet, empty, insert_place, has, event, IsStartState, start_state, Program, Reached}
 use Rattle.cell_devices.specs.Names.{StopsAt}
-use Rattle.cell_devices.specs.declared.motor.Motor.TheVariants.{Off}
 use Rattle.cell_devices.specs.declared.stops.Stop.{Stop}
 use Rattle.cell_devices.specs.declared.stops.TheConstants.{TURN_LOADING, TURN_UNLOADING, ROTATION_ARM1_PRESS, ROTATION_ARM2_DEPOSIT, GRIPPER_TRAVEL, GRIPPER_DEPOSIT}
 use Rattle.cell_devices.specs.declared.motor.Direction.TheVariants.{Minus as Downward}
 use Rattle.cell_devices.proofs.DriveLemmas.{stops_there}
-use Rattle.cell_control.specs.Names.{Steps}
-use Rattle.cell_haul.specs.declared.crane.CraneProgress.{CraneProgress}
-use Rattle.cell_haul.specs.declared.crane.CraneStep.{CraneStep}
-use Rattle.cell_haul.specs.declared.deposit.DepositProgress.{DepositProgress}
-use Rattle.cell_haul.specs.declared.deposit.DepositStep.{DepositStep}
-use Rattle.cell_haul.specs.declared.feed.FeedProgress.{FeedProgress}
-use Rattle.cell_haul.specs.declared.feed.FeedStep.{FeedStep}
 use Rattle.cell_haul.specs.declared.crane.CraneStep.TheVariants as crane_step
 use Rattle.cell_haul.specs.declared.deposit.DepositStep.TheVariants as deposit_step
 use Rattle.cell_haul.specs.declared.feed.FeedStep.TheVariants as feed_step
-use Rattle.cell_robot.specs.declared.robot.RobotProgress.{RobotProgress}
-use Rattle.cell_robot.specs.declared.robot.RobotStep.{RobotStep}
 use Rattle.cell_robot.specs.declared.robot.RobotStep.TheVariants as robot_step
-use Rattle.cell_stations.specs.declared.press.PressProgress.{PressProgress}
-use Rattle.cell_stations.specs.declared.press.PressStep.{PressStep}
-use Rattle.cell_stations.specs.declared.table.TableProgress.{TableProgress}
-use Rattle.cell_stations.specs.declared.table.TableStep.{TableStep}
 use Rattle.cell_stations.specs.declared.press.PressStep.TheVariants as press_step
 use Rattle.cell_stations.specs.declared.table.TableStep.TheVariants as table_step
-use Rattle.cell_team.specs.Names.{Programs, Team, scales, program_with_stops}
-use Rattle.cell_team.specs.Heeded.{NoneIsRefused}
 use Rattle.cell_team.specs.WrongPrograms as wrong
 use Rattle.cell_team.specs.WrongPrograms.{by_feed, by_table, by_robot, by_press, by_deposit, by_crane, RightRows, WrongProgramsAreRefused}
 use Rattle.cell_team.proofs.Together.{none-refused}
