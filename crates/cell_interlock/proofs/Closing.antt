@@ -1,20 +1,6 @@
 -- All passes come together at the end.
-use Rattle.std.proofs.Common.{◌≡◌, List, [], ◌∷◌, Some, sym, ◌∙◌, subst}
-use Rattle.cell_types.specs.declared.machine.Machine.{Machine}
-use Rattle.cell_types.specs.declared.machine.Machine.TheVariants.{Feed, Table, Robot, Press, Deposit, Crane, Watch}
-use Rattle.cell_types.specs.declared.answer.Event.{Event}
-use Rattle.cell_rules.specs.ModelState.{ModelState}
-use Rattle.cell_rules.specs.History.{after}
-use Rattle.cell_rules.specs.Audited.{IsAudited}
-use Rattle.cell_rules.specs.Seen.{Waits}
-use Rattle.cell_rules.proofs.Told.{told}
-use Rattle.word_interlock.specs.Views.{view_of}
+use Rattle.cell_interlock.proofs.Names.{◌≡◌, List, [], ◌∷◌, Some, sym, ◌∙◌, subst, Machine, Feed, Table, Robot, Press, Deposit, Crane, Watch, Event, ModelState, after, IsAudited, Waits, told, view_of, cell_book, EnginePass, pass_from, HasPart, IsEnd, ArePassesOf, journals_by, pass_in, InterlockView, Passes}
 use Rattle.word_interlock.specs.Bunches as engine
-use Rattle.cell_interlock.specs.Book.{cell_book}
-use Rattle.cell_interlock.specs.Engine.{EnginePass, pass_from}
-use Rattle.cell_interlock.specs.Ends.{HasPart, IsEnd, ArePassesOf, journals_by, pass_in}
-use Rattle.cell_interlock.specs.Views.{InterlockView}
-use Rattle.cell_interlock.specs.declared.pass.Passes.{Passes}
 use Rattle.cell_interlock.proofs.Instance.{after_here, legal_here, lawful_here, waits_here}
 
 -- the part of a pass in the history

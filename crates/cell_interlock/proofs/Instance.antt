@@ -1,27 +1,11 @@
 -- What the engine says by the rules of the cell, in the words of the cell.
-use Rattle.std.proofs.Common.{rules, ◌≡◌, ◌≢◌, ℕ, ◌+◌, ◌≤◌, true, false, List, [], ◌∷◌, Ok, refl, sym, ap, ◌∙◌, subst}
-use Rattle.cell_types.specs.declared.machine.Machine.{Machine}
-use Rattle.cell_types.specs.declared.call.Call.{Call}
-use Rattle.cell_types.specs.declared.answer.Answer.{Answer}
-use Rattle.cell_types.specs.declared.answer.Answer.TheVariants.{Done, Shown, Refused}
-use Rattle.cell_types.specs.declared.answer.Event.{Event}
-use Rattle.cell_rules.specs.ModelState.{ModelState}
-use Rattle.cell_rules.specs.Reply.{reply, next}
-use Rattle.cell_rules.specs.History.{after, IsLegal, is_done_answer}
-use Rattle.cell_rules.specs.Laws.{LawfulThroughout}
-use Rattle.cell_rules.specs.Seen.{event, Settles, Waits, SeenAfter}
-use Rattle.cell_rules.proofs.Histories.{legal-left}
+use Rattle.cell_interlock.proofs.Names.{rules, ◌≡◌, ◌≢◌, ℕ, ◌+◌, ◌≤◌, true, false, List, [], ◌∷◌, Ok, refl, sym, ap, ◌∙◌, subst, Machine, Call, Answer, Done, Shown, Refused, Event, ModelState, reply, next, after, IsLegal, is_done_answer, LawfulThroughout, event, Settles, Waits, SeenAfter, legal-left, cell_book, EnginePass, EngineTry, pass_from, try_from, reply_from, IsSamePass, IsSettled, HasSeenMore, IsUnmade, HasChanges, IsOvertaken, IsPending, IsLost, IsBusy, Replied}
 use Rattle.word_interlock.specs.History as engine
 use Rattle.word_interlock.specs.Seen as engine_seen
 use Rattle.word_interlock.specs.Calls as engine_calls
 use Rattle.word_interlock.specs.Tries as engine_tries
 use Rattle.word_interlock.specs.declared.reply.Reply.{Reply as EngineReply}
 use Rattle.word_interlock.specs.declared.reply.Reply.TheVariants.{Settled as EngineSettled, Busy as EngineBusy}
-use Rattle.cell_interlock.specs.Book.{cell_book}
-use Rattle.cell_interlock.specs.Engine.{EnginePass, EngineTry, pass_from, try_from, reply_from}
-use Rattle.cell_interlock.specs.Seen.{IsSamePass, IsSettled, HasSeenMore, IsUnmade, HasChanges, IsOvertaken}
-use Rattle.cell_interlock.specs.Tries.{IsPending, IsLost, IsBusy}
-use Rattle.cell_interlock.specs.Lines.{Replied}
 use Rattle.cell_interlock.proofs.Settled.{lawful_history, settled, replied}
 
 -- ---- histories

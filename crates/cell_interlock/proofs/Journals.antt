@@ -1,27 +1,9 @@
 -- The journal of a line grows by the calls that its pass settles.
-use Rattle.std.proofs.Common.{◌≡◌, ℕ, Bool, if◌then◌else◌, Result, Ok, Err, List, [], ◌∷◌, ◌++◌, sym, ap, ◌∙◌, subst, append-nil}
+use Rattle.cell_interlock.proofs.Names.{◌≡◌, ℕ, Bool, if◌then◌else◌, Result, Ok, Err, List, [], ◌∷◌, ◌++◌, sym, ap, ◌∙◌, subst, append-nil, Machine, Call, Answer, Event, Entry, Reply, Settled, Busy, ModelState, IsSound, next, after, IsLegal, own_events, entry_of, noted, event, Waits, SeenAfter, same_as_itself, after-push, noted-waits, PassView, IsSamePass, HasSeenMore, IsLine, Replied, PassAsks}
 use Rattle.std.proofs.Props.{props}
 use Rattle.std.proofs.Math.Logic.{∥∥₁_elim, ∥∥₁_map}
-use Rattle.cell_types.specs.declared.machine.Machine.{Machine}
-use Rattle.cell_types.specs.declared.call.Call.{Call}
-use Rattle.cell_types.specs.declared.answer.Answer.{Answer}
-use Rattle.cell_types.specs.declared.answer.Event.{Event}
-use Rattle.cell_types.specs.declared.journal.Entry.{Entry}
-use Rattle.cell_types.specs.declared.reply.Reply.{Reply}
-use Rattle.cell_types.specs.declared.reply.Reply.TheVariants.{Settled, Busy}
 use Rattle.cell_rules.specs.declared.heard.LineFault.{LineFault}
-use Rattle.cell_rules.specs.ModelState.{ModelState}
-use Rattle.cell_rules.specs.Sound.{IsSound}
-use Rattle.cell_rules.specs.Reply.{next}
-use Rattle.cell_rules.specs.History.{after, IsLegal, own_events}
-use Rattle.cell_rules.specs.Journal.{entry_of, noted}
-use Rattle.cell_rules.specs.Seen.{event, Waits, SeenAfter}
 use Rattle.cell_rules.proofs.Notes.{noted-append, noted-foreign}
-use Rattle.cell_rules.proofs.SeenLemmas.{same_as_itself, after-push}
-use Rattle.cell_rules.proofs.Told.{noted-waits}
-use Rattle.cell_interlock.specs.Views.{PassView}
-use Rattle.cell_interlock.specs.Seen.{IsSamePass, HasSeenMore}
-use Rattle.cell_interlock.specs.Lines.{IsLine, Replied, PassAsks}
 use Rattle.cell_interlock.proofs.Settled.{point_waits}
 
 -- the journal of a pass

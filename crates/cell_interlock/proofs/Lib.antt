@@ -1,3 +1,4 @@
+mod Names
 pub mod Settled
 pub mod Instance
 pub mod Journals

@@ -1,24 +1,11 @@
 -- Receipts put calls in order.
-use Rattle.std.proofs.Common.{◌≡◌, ℕ, List, Ok, refl, sym, ap, ◌∙◌, subst}
-use Rattle.cell_types.specs.declared.machine.Machine.{Machine}
-use Rattle.cell_types.specs.declared.call.Call.{Call}
-use Rattle.cell_types.specs.declared.answer.Answer.{Answer}
-use Rattle.cell_types.specs.declared.answer.Event.{Event}
-use Rattle.cell_types.specs.declared.reply.Reply.{Reply}
-use Rattle.cell_types.specs.declared.reply.Reply.TheVariants.{Settled, Busy}
-use Rattle.cell_rules.specs.ModelState.{ModelState}
-use Rattle.cell_rules.specs.History.{after, IsLegal, is_done_answer}
-use Rattle.cell_rules.specs.Seen.{event, BeginsWith, SeenAfter}
+use Rattle.cell_interlock.proofs.Names.{◌≡◌, ℕ, List, Ok, refl, sym, ap, ◌∙◌, subst, Machine, Call, Answer, Event, Reply, Settled, Busy, ModelState, after, IsLegal, is_done_answer, event, BeginsWith, SeenAfter, cell_book, reply_from, IfSettled, IsStampedAfter, stamp_in, StandsBefore, ReceiptsOrderCalls, ReceiptsRaiseStamps}
 use Rattle.word_interlock.specs.Calls as engine_calls
 use Rattle.word_interlock.specs.Order as engine_order
 use Rattle.word_interlock.specs.declared.reply.Reply.{Reply as EngineReply}
 use Rattle.word_interlock.specs.declared.reply.Reply.TheVariants.{Settled as EngineSettled, Busy as EngineBusy}
 use Rattle.word_interlock.proofs.Ordering as engine
-use Rattle.cell_interlock.specs.Book.{cell_book}
 use Rattle.cell_interlock.specs.BookKept.{cell_is_rule_book}
-use Rattle.cell_interlock.specs.Engine.{reply_from}
-use Rattle.cell_interlock.specs.Calls.{IfSettled, IsStampedAfter, stamp_in}
-use Rattle.cell_interlock.specs.Order.{StandsBefore, ReceiptsOrderCalls, ReceiptsRaiseStamps}
 use Rattle.cell_interlock.proofs.Instance.{after_here, legal_there, settles_there}
 
 -- what came back, for the engine

@@ -1,32 +1,12 @@
 -- The examples of what a call may and may not leave of its pass.
-use Rattle.std.proofs.Common.{◌≡◌, ℕ, ◌+◌, ◌<◌, ◌≤◌, true, List, [], ◌∷◌, ◌++◌, length, None, inr, refl, sym, ap, ◌∙◌, arith}
-use Rattle.std.proofs.lemmas.List.{same_from_push}
+use Rattle.cell_interlock.proofs.Names.{◌≡◌, ℕ, ◌+◌, ◌<◌, ◌≤◌, true, List, [], ◌∷◌, ◌++◌, length, None, inr, refl, sym, ap, ◌∙◌, arith, same_from_push, Machine, Feed, Table, Press, Watch, Zone, Z3, Release, Stop, Done, Refused, Stopped, Event, ModelState, IsSound, IsLegal, Holds, changes_by_others, LawfulThroughout, needs, Waits, zone_at, PassView, InterlockView, IsSettled, HasSeenMore, HasChanges, StandsBefore, Passes}
 use Rattle.atomic_table.specs.Seated.{TableId}
-use Rattle.cell_types.specs.declared.machine.Machine.{Machine}
-use Rattle.cell_types.specs.declared.machine.Machine.TheVariants.{Feed, Table, Press, Watch}
-use Rattle.cell_types.specs.declared.zone.Zone.{Zone}
-use Rattle.cell_types.specs.declared.zone.Zone.TheVariants.{Z3}
-use Rattle.cell_types.specs.declared.call.Call.TheVariants.{Release, Stop}
-use Rattle.cell_types.specs.declared.answer.Answer.TheVariants.{Done, Refused}
-use Rattle.cell_types.specs.declared.answer.Refusal.TheVariants.{Stopped}
-use Rattle.cell_types.specs.declared.answer.Event.{Event}
 use Rattle.cell_rules.specs.declared.zones.ZoneState.{ZoneState}
-use Rattle.cell_rules.specs.ModelState.{ModelState}
-use Rattle.cell_rules.specs.Sound.{IsSound}
-use Rattle.cell_rules.specs.History.{IsLegal, Holds, changes_by_others}
-use Rattle.cell_rules.specs.Laws.{LawfulThroughout}
-use Rattle.cell_rules.specs.Rights.{needs}
-use Rattle.cell_rules.specs.Seen.{Waits}
-use Rattle.cell_rules.specs.Names.{zone_at}
 use Rattle.cell_rules.proofs.Lawful.{lawful_in, sound_from}
 use Rattle.cell_rules.proofs.Puts.{each_zone}
 use Rattle.cell_rules.proofs.Quiet.{changes-append}
-use Rattle.cell_interlock.specs.Views.{PassView, InterlockView}
 use Rattle.cell_interlock.specs.Fresh.{IsFresh, AreFresh}
-use Rattle.cell_interlock.specs.Seen.{IsSettled, HasSeenMore, HasChanges}
-use Rattle.cell_interlock.specs.Order.{StandsBefore}
 use Rattle.cell_interlock.specs.OutcomeExamples.{opened, claim, claimed, released, by_feed, again_by_feed, by_table, by_robot, by_watch, barred, press_pass, watch_pass, after_claim, AskExamples, LookExamples, AttemptExamples, MoreExamples, ChangeExamples, AnswerExamples, OrderExamples, StampExamples, ReceiptExamples, FreshExamples, LineExamples, OutcomeExamples}
-use Rattle.cell_interlock.specs.declared.pass.Passes.{Passes}
 use Rattle.cell_interlock.proofs.Settled.{lawful_history, settled, replied}
 
 sound : IsSound opened

@@ -1,26 +1,9 @@
 -- A call that was answered after a legal history.
-use Rattle.std.proofs.Common.{◌≡◌, ◌≤◌, ◌+◌, ℕ, List, [], ◌∷◌, ◌++◌, sym, ap, ◌∙◌, subst}
-use Rattle.std.proofs.lemmas.List.{append_cancel_right}
-use Rattle.cell_types.specs.declared.machine.Machine.{Machine}
-use Rattle.cell_types.specs.declared.call.Call.{Call}
-use Rattle.cell_types.specs.declared.answer.Answer.{Answer}
-use Rattle.cell_types.specs.declared.answer.Event.{Event}
-use Rattle.cell_types.specs.declared.reply.Reply.TheVariants.{Settled}
-use Rattle.cell_rules.specs.ModelState.{ModelState}
-use Rattle.cell_rules.specs.Sound.{IsSound}
-use Rattle.cell_rules.specs.Reply.{reply}
-use Rattle.cell_rules.specs.History.{after, IsLegal, own_events}
-use Rattle.cell_rules.specs.Laws.{Lawful, LawfulThroughout, RightLasts}
-use Rattle.cell_rules.specs.Seen.{event, Settles, Waits}
-use Rattle.cell_rules.specs.Rights.{KeepsItsOwn}
-use Rattle.cell_rules.proofs.Histories.{throughout}
+use Rattle.cell_interlock.proofs.Names.{◌≡◌, ◌≤◌, ◌+◌, ℕ, List, [], ◌∷◌, ◌++◌, sym, ap, ◌∙◌, subst, append_cancel_right, Machine, Call, Answer, Event, Settled, ModelState, IsSound, reply, after, IsLegal, own_events, Lawful, LawfulThroughout, event, Settles, Waits, KeepsItsOwn, throughout, legal-append, own-push, waits-foreign, PassView, IsSamePass, IsSettled, Replied}
+use Rattle.cell_rules.specs.Laws.{RightLasts}
 use Rattle.cell_rules.proofs.Assembly.{lawful}
 use Rattle.cell_rules.proofs.Keepers.{right_lasts}
 use Rattle.cell_rules.proofs.Owners.{never_disowned}
-use Rattle.cell_rules.proofs.SeenLemmas.{legal-append, own-push, waits-foreign}
-use Rattle.cell_interlock.specs.Views.{PassView}
-use Rattle.cell_interlock.specs.Seen.{IsSamePass, IsSettled}
-use Rattle.cell_interlock.specs.Lines.{Replied}
 
 pub lawful_history : (o : ModelState) (h : List Event) → IsSound o → IsLegal o h → LawfulThroughout o h
 lawful_history o h k l = throughout o (Lawful o) (lawful o k) h l

@@ -1,5 +1,4 @@
-use Rattle.std.proofs.Common.{sym, ap, ◌∙◌, List, [], ◌∷◌, ◌++◌}
-use Rattle.cell_types.specs.declared.journal.Entry.{Entry}
+use Rattle.cell_interlock.proofs.Names.{sym, ap, ◌∙◌, List, [], ◌∷◌, ◌++◌, Entry}
 use Rattle.cell_interlock.proofs.Journals.{entry-settled, entry-busy}
 use Rattle.cell_interlock.proofs.pass_line.ask_and_note.Goals as goal
 

@@ -1,7 +1,4 @@
-use Rattle.std.proofs.Common.{subst}
-use Rattle.cell_interlock.specs.Views.{PassView}
-use Rattle.cell_interlock.specs.Engine.{pass_from}
-use Rattle.cell_interlock.specs.Seen.{HasSeenMore}
+use Rattle.cell_interlock.proofs.Names.{subst, PassView, pass_from, HasSeenMore}
 use Rattle.cell_interlock.proofs.Instance.{more_here}
 use Rattle.cell_interlock.proofs.interlock.Interlock.accept.Goals as goal
 

@@ -1,8 +1,4 @@
-use Rattle.std.proofs.Common.{subst}
-use Rattle.cell_interlock.specs.Views.{TryView}
-use Rattle.cell_interlock.specs.Engine.{pass_from, try_from}
-use Rattle.cell_interlock.specs.Seen.{IsSettled}
-use Rattle.cell_interlock.specs.Tries.{IsLost, IsBusy}
+use Rattle.cell_interlock.proofs.Names.{subst, TryView, pass_from, try_from, IsSettled, IsLost, IsBusy}
 use Rattle.cell_interlock.proofs.Instance.{settled_here, lost_here, busy_here}
 use Rattle.cell_interlock.proofs.interlock.Interlock.attempt.Goals as goal
 

@@ -1,13 +1,6 @@
-use Rattle.std.proofs.Common.{List, ◌∷◌, sym, ap, ◌∙◌, subst}
-use Rattle.cell_types.specs.declared.machine.Machine.{Machine}
-use Rattle.cell_types.specs.declared.answer.Event.{Event}
-use Rattle.cell_rules.specs.ModelState.{ModelState}
+use Rattle.cell_interlock.proofs.Names.{List, ◌∷◌, sym, ap, ◌∙◌, subst, Machine, Event, ModelState, view_of, cell_book, InterlockView, IsEnd}
 use Rattle.word_interlock.specs.declared.views.ActorView.{ActorView}
-use Rattle.word_interlock.specs.Views.{view_of}
 use Rattle.word_interlock.specs.Bunches as engine
-use Rattle.cell_interlock.specs.Book.{cell_book}
-use Rattle.cell_interlock.specs.Views.{InterlockView}
-use Rattle.cell_interlock.specs.Ends.{IsEnd}
 use Rattle.cell_interlock.specs.declared.rules.CellRules.{CellRules}
 use Rattle.cell_interlock.proofs.Closing.{end_here}
 use Rattle.cell_interlock.proofs.interlock.Interlock.close.Goals as goal

@@ -1,12 +1,4 @@
-use Rattle.std.proofs.Common.{Ok, sym, subst}
-use Rattle.cell_types.specs.declared.reply.Reply.{Reply}
-use Rattle.cell_rules.specs.Laws.{LawfulThroughout}
-use Rattle.cell_rules.specs.Seen.{event, SeenAfter}
-use Rattle.cell_interlock.specs.Views.{PassView}
-use Rattle.cell_interlock.specs.Engine.{pass_from}
-use Rattle.cell_interlock.specs.Seen.{IsSamePass}
-use Rattle.cell_interlock.specs.Calls.{IfSettled, IsStampedAfter, stamp_in}
-use Rattle.cell_interlock.specs.Order.{StandsBefore}
+use Rattle.cell_interlock.proofs.Names.{Ok, sym, subst, Reply, LawfulThroughout, event, SeenAfter, PassView, pass_from, IsSamePass, IfSettled, IsStampedAfter, stamp_in, StandsBefore}
 use Rattle.cell_interlock.proofs.Instance.{lawful_here, same_here, seen_here}
 use Rattle.cell_interlock.proofs.Order.{order_here, stamps_here}
 use Rattle.cell_interlock.proofs.interlock.Interlock.tell.Goals as goal

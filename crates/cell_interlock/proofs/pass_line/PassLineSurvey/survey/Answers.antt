@@ -1,7 +1,4 @@
-use Rattle.std.proofs.Common.{ap, ◌∙◌, subst}
-use Rattle.cell_rules.specs.Seen.{Waits}
-use Rattle.cell_interlock.specs.Seen.{HasSeenMore}
-use Rattle.cell_interlock.specs.Lines.{LineView}
+use Rattle.cell_interlock.proofs.Names.{ap, ◌∙◌, subst, Waits, HasSeenMore, LineView}
 use Rattle.cell_interlock.proofs.Journals.{line_surveys}
 use Rattle.cell_interlock.proofs.pass_line.PassLineSurvey.survey.Goals as goal
 
