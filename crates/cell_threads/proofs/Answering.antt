@@ -1,17 +1,5 @@
 -- A worker's turn, by what came back from its call.
-use Rattle.std.proofs.Common.{◌≡◌, ℕ, Option, Some, None, Result, Ok, Err, sym, ap, ◌∙◌}
-use Rattle.cell_rules.specs.Types.{Call, Reply}
-use Rattle.cell_calib.specs.declared.sense.SensorFault.{SensorFault}
-use Rattle.cell_rules.specs.declared.heard.LineFault.{LineFault}
-use Rattle.cell_interlock.specs.Views.{PassView}
-use Rattle.cell_interlock.specs.Lines.{PassAsks}
-use Rattle.cell_control.specs.Names.{Rig, Steps, step_after_reply, Performed, PerformsCall, PerformsSensed, Turned, Turns, at_rest, turned}
-use Rattle.cell_control.specs.declared.fault.CtlFault.{CtlFault}
-use Rattle.cell_control.proofs.TurnMaps.{turn_either}
-use Rattle.cell_notes.specs.Names.{TurnCall}
-use Rattle.cell_unit.specs.Sides.{Side, Acts, side_set, side_moved}
-use Rattle.cell_threads.specs.Lines.{passes}
-use Rattle.cell_threads.specs.Workers.{GateOf, WorkerMoment, TakesTurn}
+use Rattle.cell_threads.proofs.Names.{◌≡◌, ℕ, Option, Some, None, Result, Ok, Err, sym, ap, ◌∙◌, Call, Reply, SensorFault, LineFault, PassView, PassAsks, Rig, Steps, step_after_reply, Performed, PerformsCall, PerformsSensed, Turned, Turns, at_rest, turned, CtlFault, turn_either, TurnCall, Side, Acts, side_set, side_moved, passes, GateOf, WorkerMoment, TakesTurn}
 
 abbrev answered : Result Reply LineFault → TurnCall → Result Reply LineFault
 answered r None = r

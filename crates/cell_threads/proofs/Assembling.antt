@@ -1,14 +1,7 @@
 -- The record of what six workers and their watch gave back, whichever they are.
-use Rattle.std.proofs.Common.{◌≡◌, ℕ, Some, refl, sym, ap, subst, ◌∙◌, map}
-use Rattle.cell_rules.specs.Types.{Machine, Feed, Table, Robot, Press, Deposit, Crane, Watch, journal_of}
-use Rattle.cell_rules.specs.Names.{ModelState, noted, event_by, Waits, IsAudited}
-use Rattle.cell_interlock.specs.Views.{PassView, InterlockView}
+use Rattle.cell_threads.proofs.Names.{◌≡◌, ℕ, Some, refl, sym, ap, subst, ◌∙◌, map, Machine, Feed, Table, Robot, Press, Deposit, Crane, Watch, journal_of, ModelState, noted, event_by, Waits, IsAudited, PassView, InterlockView, Passes, ArePassesOf, IsEnd, pass_in, GateOf, AreAllFresh, GiveBack, GivesOf, SixPasses, six_of}
 use Rattle.cell_interlock.specs.Fresh.{AreFresh, fresh_pass}
-use Rattle.cell_interlock.specs.declared.pass.Passes.{Passes}
-use Rattle.cell_interlock.specs.Ends.{ArePassesOf, IsEnd, pass_in}
-use Rattle.cell_threads.specs.Workers.{GateOf}
 use Rattle.cell_threads.specs.Results.{SixResults, outputs_in, passes_in, seen_in}
-use Rattle.cell_threads.specs.Promises.{AreAllFresh, GiveBack, GivesOf, SixPasses, six_of}
 use Rattle.cell_threads.specs.Six.{TellsSix, six_fresh}
 use Rattle.cell_threads.specs.Watching.{HasWatched, HaveWorked, TellsWatched, WatchesOf, journal_with, seen_with}
 use Rattle.cell_threads.specs.declared.per_machine.PerMachine.{PerMachine}

@@ -1,28 +1,12 @@
 -- A worker's first turns. With no turns left, or a shut gate, there is none; the first turn is given by the call of its
 -- step.
-use Rattle.std.proofs.Common.{◌≡◌, ◌≢◌, ℕ, ◌+◌, ◌*◌, ◌<◌, ◌≤◌, true, false, ◌⊎◌, inl, inr, List, [], ◌∷◌, ◌++◌, map, Option, Some, None, Result, Ok, Err, refl, sym, ap, subst, ◌∙◌, arith, below_more}
+use Rattle.cell_threads.proofs.Names.{◌≡◌, ◌≢◌, ℕ, ◌+◌, ◌*◌, ◌<◌, ◌≤◌, true, false, ◌⊎◌, inl, inr, List, [], ◌∷◌, ◌++◌, map, Option, Some, None, Result, Ok, Err, refl, sym, ap, subst, ◌∙◌, arith, below_more, Machine, Call, Refusal, Done, Shown, Refused, Event, Entry, Reply, Settled, Busy, SensorFault, ModelState, one_if, own_events, noted, event_by, event, LineFault, PassView, PassAsks, Rig, Steps, Performed, PerformsCall, PerformsSensed, Turned, Turns, CtlFault, turn_either, TurnCall}
+use Rattle.cell_threads.proofs.Names.{came_back, is_busy_reply, counts_with, Counts, Status, Fine, GateLimit, status_of, passes, GateOf, WorkerMoment, TakesTurn, AreTaken, HasCome, HasEnded, Ends, last_of, answers_in, HasAtMost, HasStatusBy}
 use Rattle.std.proofs.Math.Nat.{add-mul}
 use Rattle.std.specs.Prelude.{⊤}
-use Rattle.cell_rules.specs.Types.{Machine, Call, Refusal, Done, Shown, Refused, Event, Entry, Reply, Settled, Busy}
-use Rattle.cell_calib.specs.declared.sense.SensorFault.{SensorFault}
-use Rattle.cell_rules.specs.Names.{ModelState, one_if, own_events, noted, event_by, event}
-use Rattle.cell_rules.specs.declared.heard.LineFault.{LineFault}
 use Rattle.cell_rules.proofs.Notes.{events_of_noted}
-use Rattle.cell_interlock.specs.Views.{PassView}
-use Rattle.cell_interlock.specs.Lines.{PassAsks}
-use Rattle.cell_control.specs.Names.{Rig, Steps, Performed, PerformsCall, PerformsSensed, Turned, Turns}
-use Rattle.cell_control.specs.declared.fault.CtlFault.{CtlFault}
 use Rattle.cell_control.specs.declared.fault.CtlFault.TheVariants as fault
-use Rattle.cell_control.proofs.TurnMaps.{turn_either}
-use Rattle.cell_notes.specs.Names.{TurnCall, came_back, is_busy_reply, counts_with}
-use Rattle.cell_notes.specs.declared.counts.Counts.{Counts}
-use Rattle.cell_notes.specs.declared.status.Status.{Status}
-use Rattle.cell_notes.specs.declared.status.Status.TheVariants.{Fine, GateLimit}
 use Rattle.cell_notes.specs.declared.status.Status.TheVariants as status
-use Rattle.cell_unit.specs.Statuses.{status_of}
-use Rattle.cell_threads.specs.Lines.{passes}
-use Rattle.cell_threads.specs.Workers.{GateOf, WorkerMoment, TakesTurn, AreTaken, HasCome, HasEnded, Ends, last_of}
-use Rattle.cell_threads.specs.Laws.{answers_in, HasAtMost, HasStatusBy}
 use Rattle.cell_threads.proofs.Passes.{by_turn}
 use Rattle.cell_threads.proofs.Turning.{all_along}
 

@@ -1,3 +1,4 @@
+mod Names
 pub mod Turning
 pub mod Passes
 pub mod Assembling

@@ -1,23 +1,11 @@
 -- A worker's turns over a line to an interlock, stated for its pass; and their effect on its journal.
-use Rattle.std.proofs.Common.{◌≡◌, ℕ, ◌+◌, Bool, true, false, cond, List, [], ◌∷◌, ◌++◌, map, count_by, Some, None, Result, Ok, Err, refl, sym, ap, subst, ◌∙◌, arith}
+use Rattle.cell_threads.proofs.Names.{◌≡◌, ℕ, ◌+◌, Bool, true, false, cond, List, [], ◌∷◌, ◌++◌, map, count_by, Some, None, Result, Ok, Err, refl, sym, ap, subst, ◌∙◌, arith, Call, Answer, Done, Shown, Refused, Entry, Reply, Settled, Busy, one_if, is_done_answer, noted, LineFault, PassView, LineView, LineAsks, PassAsks, Rig, Steps, turn_either, TurnCall, came_back, is_done_reply, is_read_reply, is_refused_reply, no_counts, counts_with, Counts, Status, Acts, Lines, passes, WorkerMoment}
+use Rattle.cell_threads.proofs.Names.{worker_moment, GateOf, TakesTurn, AreTaken, HasCome, HasEnded, IsWorkerResult, AreCountsOf, last_of, is_shown_answer, is_refused_answer}
 use Rattle.std.proofs.lemmas.List.Sums.{sum_by-append}
-use Rattle.cell_rules.specs.Types.{Call, Answer, Done, Shown, Refused, Entry, Reply, Settled, Busy}
-use Rattle.cell_rules.specs.Names.{one_if, is_done_answer, noted}
-use Rattle.cell_rules.specs.declared.heard.LineFault.{LineFault}
-use Rattle.cell_interlock.specs.Views.{PassView}
-use Rattle.cell_interlock.specs.Lines.{LineView, LineAsks, PassAsks}
 use Rattle.cell_interlock.specs.Seen.{IsSamePass}
 use Rattle.cell_interlock.proofs.Journals.{journal_by, journal-settled, journal-busy}
-use Rattle.cell_control.specs.Names.{Rig, Steps}
-use Rattle.cell_control.proofs.TurnMaps.{turn_either}
-use Rattle.cell_notes.specs.Names.{TurnCall, came_back, is_done_reply, is_read_reply, is_refused_reply, no_counts, counts_with}
-use Rattle.cell_notes.specs.declared.counts.Counts.{Counts}
-use Rattle.cell_notes.specs.declared.status.Status.{Status}
-use Rattle.cell_unit.specs.Sides.{Acts}
 use Rattle.cell_unit.proofs.Turning.{acts_map}
-use Rattle.cell_threads.specs.Lines.{Lines, passes}
 use Rattle.cell_threads.proofs.Turning.{all_along}
-use Rattle.cell_threads.specs.Workers.{WorkerMoment, worker_moment, GateOf, TakesTurn, AreTaken, HasCome, HasEnded, IsWorkerResult, AreCountsOf, last_of, is_shown_answer, is_refused_answer}
 
 -- the opening, the history seen and the calls of a worker's line
 abbrev pub line_views : Lines LineView

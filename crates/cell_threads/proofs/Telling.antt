@@ -1,16 +1,5 @@
 -- What the turns of a worker say.
-use Rattle.std.proofs.Common.{◌≡◌, ℕ, ◌≤◌, Bool, true, false, inl, inr, Some, None, Ok, Err, refl, sym, ap, subst, ◌∙◌, arith}
-use Rattle.cell_rules.specs.Types.{Busy}
-use Rattle.cell_rules.specs.Names.{noted}
-use Rattle.cell_control.specs.Names.{Rig, Steps}
-use Rattle.cell_interlock.specs.Views.{PassView}
-use Rattle.cell_notes.specs.declared.counts.Counts.{Counts}
-use Rattle.cell_notes.specs.declared.status.Status.{Status}
-use Rattle.cell_notes.specs.declared.status.Status.TheVariants.{Fine, GateLimit}
-use Rattle.cell_unit.specs.Sides.{Side}
-use Rattle.cell_threads.specs.Lines.{passes}
-use Rattle.cell_threads.specs.Workers.{GateOf, WorkerMoment, Ends, HasEnded}
-use Rattle.cell_threads.specs.Laws.{answers_in, gate_by, HadTurns, IsFirst, WorkersTellTurns, WorkersEnd, TurnsAreTaken}
+use Rattle.cell_threads.proofs.Names.{◌≡◌, ℕ, ◌≤◌, Bool, true, false, inl, inr, Some, None, Ok, Err, refl, sym, ap, subst, ◌∙◌, arith, Busy, noted, Rig, Steps, PassView, Counts, Status, Fine, GateLimit, Side, passes, GateOf, WorkerMoment, Ends, HasEnded, answers_in, gate_by, HadTurns, IsFirst, WorkersTellTurns, WorkersEnd, TurnsAreTaken}
 use Rattle.cell_threads.proofs.Passes.{come_counts}
 use Rattle.cell_threads.proofs.Answering.{side_answered, line_unchanged}
 use Rattle.cell_threads.proofs.FirstSteps.{within, ends_fine, ends_kept_out, has_status_by, fine_at_once, shut_at_once, ends_begun, answers_along, let_in_along, few_along, still, shut_still, stays, once, own_at_first, noted_at_most, busy_lost, busy_counted}

@@ -1,14 +1,5 @@
 -- A worker's turns, one by one.
-use Rattle.std.proofs.Common.{◌≡◌, ℕ, Bool, true, false, List, [], ◌+◌, ◌∷◌, ◌++◌, Option, Some, None, refl, sym, ap, ◌∙◌, subst}
-use Rattle.std.specs.Option.{is_some}
-use Rattle.cell_control.specs.Names.{Rig, Steps}
-use Rattle.cell_control.specs.declared.fault.CtlFault.{CtlFault}
-use Rattle.cell_notes.specs.Names.{TurnCall, AreBelow, counts_with}
-use Rattle.cell_notes.specs.declared.counts.Counts.{Counts}
-use Rattle.cell_notes.proofs.CountLemmas.{below_with}
-use Rattle.cell_unit.specs.Sides.{Side}
-use Rattle.cell_threads.specs.Lines.{Lines}
-use Rattle.cell_threads.specs.Workers.{WorkerMoment, worker_moment, GateOf, AreTaken, ComesBy, TakesTurn, HasCome, last_of}
+use Rattle.cell_threads.proofs.Names.{◌≡◌, ℕ, Bool, true, false, List, [], ◌+◌, ◌∷◌, ◌++◌, Option, Some, None, refl, sym, ap, ◌∙◌, subst, is_some, Rig, Steps, CtlFault, TurnCall, AreBelow, counts_with, Counts, below_with, Side, Lines, WorkerMoment, worker_moment, GateOf, AreTaken, ComesBy, TakesTurn, HasCome, last_of}
 
 -- whatever a turn is
 module _ {M : Type 0} (Turn : M → M → Type 0) where

@@ -1,7 +1,4 @@
-use Rattle.std.proofs.Common.{refl, sym, subst, ◌∙◌}
-use Rattle.cell_interlock.specs.Ends.{ArePassesOf, IsEnd}
-use Rattle.cell_interlock.specs.declared.pass.Passes.{Passes}
-use Rattle.cell_threads.specs.Promises.{AreAllFresh, AreReady, SixPasses}
+use Rattle.cell_threads.proofs.Names.{refl, sym, subst, ◌∙◌, ArePassesOf, IsEnd, Passes, AreAllFresh, AreReady, SixPasses}
 use Rattle.cell_threads.proofs.Assembling.{all_fresh, fresh_six, own_passes, tells_watched, worked_by_fresh}
 use Rattle.cell_threads.proofs.six.run_watched.Goals as goal
 

@@ -1,8 +1,4 @@
-use Rattle.std.proofs.Common.{◌∙◌, ◌+◌, sym, ap, subst, refl}
-use Rattle.cell_notes.specs.Notes.{no_counts, AreBelow}
-use Rattle.cell_notes.proofs.CountLemmas.{none_below}
-use Rattle.cell_unit.specs.Sides.{side_of}
-use Rattle.cell_threads.specs.Workers.{worker_moment}
+use Rattle.cell_threads.proofs.Names.{◌∙◌, ◌+◌, sym, ap, subst, refl, no_counts, AreBelow, none_below, side_of, worker_moment}
 use Rattle.cell_threads.proofs.Turning.{has_begun_as, comes_by, few_more, one_turn_more, not_stopped}
 use Rattle.cell_threads.proofs.take_turns.take_turns.Goals as goal
 

@@ -1,7 +1,4 @@
-use Rattle.std.proofs.Common.{◌≡◌, ◌+◌}
-use Rattle.cell_notes.specs.Notes.{no_counts, AreBelow}
-use Rattle.cell_unit.specs.Sides.{IsReady, side_of}
-use Rattle.cell_threads.specs.Workers.{HasCome, worker_moment}
+use Rattle.cell_threads.proofs.Names.{◌≡◌, ◌+◌, no_counts, AreBelow, IsReady, side_of, HasCome, worker_moment}
 use Rattle.cell_threads.proofs.take_turns.take_turns.Given as goal
 
 abbrev pub invariant-loop-turn : goal.invariant-loop-turn

@@ -1,8 +1,4 @@
-use Rattle.std.proofs.Common.{◌∙◌, ap, subst, refl}
-use Rattle.cell_interlock.specs.Views.{PassView}
-use Rattle.cell_notes.specs.Notes.{no_counts}
-use Rattle.cell_unit.specs.Sides.{side_of}
-use Rattle.cell_threads.specs.Workers.{IsWorkerResult, worker_moment}
+use Rattle.cell_threads.proofs.Names.{◌∙◌, ap, subst, refl, PassView, no_counts, side_of, IsWorkerResult, worker_moment}
 use Rattle.cell_threads.proofs.Passes.{gives_back}
 use Rattle.cell_threads.proofs.worker_result.take_turns_by_pass.Goals as goal
 
