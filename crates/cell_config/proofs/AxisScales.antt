@@ -1,11 +1,5 @@
 -- The scales of axes: raw values that are wide enough, and a tolerance within its limits, make one.
-use Rattle.std.proofs.Common.{◌≡◌, ◌<◌, ◌≤◌, ℕ, ℤ, pos, ◌-ℤ◌, ◌≤ℤ◌, Result, Ok, Err, IfOk, MatchResult, refl, arith}
-use Rattle.std.proofs.lemmas.Int.{ints}
-use Rattle.toml.specs.Data.{Members}
-use Rattle.cell_calib.specs.Names.{Curved, Scale, pairs_of}
-use Rattle.cell_parts.specs.Axes.{IsAxisScale}
-use Rattle.cell_config.specs.Settings.{IsAxisEnd, axis_scale, pairs_at, raw_at, section_of, tol_at}
-use Rattle.cell_config.specs.declared.fault.ConfigFault.{ConfigFault}
+use Rattle.cell_config.proofs.Names.{◌≡◌, ◌<◌, ◌≤◌, ℕ, ℤ, pos, ◌-ℤ◌, ◌≤ℤ◌, Result, Ok, Err, IfOk, MatchResult, refl, arith, ints, Members, Curved, Scale, pairs_of, IsAxisScale, IsAxisEnd, axis_scale, pairs_at, raw_at, section_of, tol_at, ConfigFault}
 
 pub record IsRaw (end : ℤ) (raw : ℕ × ℕ) : Type 0 where
   pub fits : raw.1 < 65536

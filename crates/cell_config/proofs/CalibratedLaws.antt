@@ -1,27 +1,9 @@
 -- Settings that were read: their scales fit the axes, and their curves are near the lines.
-use Rattle.std.proofs.Common.{◌≡◌, ◌≤◌, ℕ, nat_le, ℤ, pos, negsuc, ◌-ℤ◌, ◌≤ℤ◌, Bool, true, false, cond, List, [], ◌∷◌, length, map, codes, Option, Some, None, Result, Ok, Err, inl, inr, refl, subst, arith}
-use Rattle.std.proofs.lemmas.Int.{ints}
-use Rattle.std.proofs.lemmas.Bool.Decides.{nat_tests}
-use Rattle.std.specs.Prelude.{int_lt}
+use Rattle.cell_config.proofs.Names.{◌≡◌, ◌≤◌, ℕ, nat_le, ℤ, pos, negsuc, ◌-ℤ◌, ◌≤ℤ◌, Bool, true, false, cond, List, [], ◌∷◌, length, map, codes, Option, Some, None, Result, Ok, Err, inl, inr, refl, subst, arith, ints, nat_tests, int_lt, filter_map, list_all, ok_or, is_utf8, Data, Members, as_integer, as_table, get_member, parse_document, ModelState, Scale, IsCurve, Pair, ends_of, is_curve, curve_of_pass, Turn, IsAxisScale, arm_end, rotation_end, turn_end, gripper_end, AreCalibrated, IsCurveOf}
+use Rattle.cell_config.proofs.Names.{is_known, IsAxisEnd, Section, Settings, axis_scale, byte_limit, curve_of, curve_within, default_section, is_measured, measured_of, number_within, pair_of, pairs_at, pairs_in, raw_at, raw_within, schedule_at, section_at, section_by, section_of, sections_at, settings_in, settings_of, start_at, tol_at, wide_enough, ◌>>=◌, demand, of_kind, optional, ConfigFault, Long, Range, Text, Unknown}
 use Rattle.std.specs.Int.Signed.{lt_z_no}
 use Rattle.std.proofs.lemmas.Float.{T_from_false}
-use Rattle.std.specs.List.{filter_map, list_all}
-use Rattle.std.specs.Option.{ok_or}
-use Rattle.std.specs.Str.{is_utf8}
-use Rattle.toml.specs.Data.{Data, Members, as_integer, as_table, get_member}
-use Rattle.toml.specs.Parse.{parse_document}
-use Rattle.cell_rules.specs.ModelState.{ModelState}
-use Rattle.cell_calib.specs.Names.{Scale, IsCurve, Pair, ends_of, is_curve}
-use Rattle.cell_calib.proofs.CurveTestLemmas.{curve_of_pass}
-use Rattle.cell_notes.specs.declared.schedule.Turn.{Turn}
-use Rattle.cell_parts.specs.Axes.{IsAxisScale, arm_end, rotation_end, turn_end, gripper_end}
 use Rattle.cell_config.proofs.AxisScales.{IsRaw, IsTol, axis_made, default_raw}
-use Rattle.cell_config.specs.ConfigLaws.{AreCalibrated, IsCurveOf}
-use Rattle.cell_config.specs.Keys.{is_known}
-use Rattle.cell_config.specs.Settings.{IsAxisEnd, Section, Settings, axis_scale, byte_limit, curve_of, curve_within, default_section, is_measured, measured_of, number_within, pair_of, pairs_at, pairs_in, raw_at, raw_within, schedule_at, section_at, section_by, section_of, sections_at, settings_in, settings_of, start_at, tol_at, wide_enough}
-use Rattle.cell_config.specs.Steps.{◌>>=◌, demand, of_kind, optional}
-use Rattle.cell_config.specs.declared.fault.ConfigFault.{ConfigFault}
-use Rattle.cell_config.specs.declared.fault.ConfigFault.TheVariants.{Long, Range, Text, Unknown}
 
 -- ---- steps that were taken
 

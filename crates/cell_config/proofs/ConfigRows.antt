@@ -1,8 +1,6 @@
 -- What the example configurations say.
-use Rattle.std.proofs.Common.{rules}
-use Rattle.std.specs.Str.{chars, is_utf8}
+use Rattle.cell_config.proofs.Names.{rules, chars, is_utf8, settings_of}
 use Rattle.toml.proofs.OnLiterals.{toml_on_literals}
-use Rattle.cell_config.specs.Settings.{settings_of}
 use Rattle.cell_config.specs.ConfigExamples.{ConfigsAreMet}
 
 pub configs_are_met : ConfigsAreMet

@@ -1,15 +1,6 @@
 -- Whether the pairs of some values make a curve.
-use Rattle.std.proofs.Common.{◌≡◌, suc, ◌<◌, ◌∙◌, ◌∷◌, [], List, length, map, cond, Bool, true, false, Option, Some, None, is_some, Ok, Err, sym, ap, refl, arith}
-use Rattle.std.specs.List.{filter_map, list_all, cons_option}
-use Rattle.std.proofs.lemmas.List.{length-map}
-use Rattle.toml.specs.Data.{Data, Items, array, as_array}
-use Rattle.toml.specs.View.{view, items_of, items_view}
-use Rattle.toml.specs.declared.value.Value.{Value}
-use Rattle.cell_calib.specs.Names.{Scale, Pair, HasCount, IsCurve, is_curve}
-use Rattle.cell_calib.proofs.CurveTestLemmas.{passes_as_curve, curve_of_pass}
+use Rattle.cell_config.proofs.Names.{◌≡◌, suc, ◌<◌, ◌∙◌, ◌∷◌, [], List, length, map, cond, Bool, true, false, Option, Some, None, is_some, Ok, Err, sym, ap, refl, arith, filter_map, list_all, cons_option, length-map, Data, Items, array, as_array, view, items_of, items_view, Value, Scale, Pair, HasCount, IsCurve, is_curve, passes_as_curve, curve_of_pass, curve_of, curve_within, is_measured, is_pair, measured_of, pairs_in, values_in, Range}
 use Rattle.cell_config.proofs.Tests.{both_hold, not_true}
-use Rattle.cell_config.specs.Settings.{curve_of, curve_within, is_measured, is_pair, measured_of, pairs_in, values_in}
-use Rattle.cell_config.specs.declared.fault.ConfigFault.TheVariants.{Range}
 
 pub by_fit : (s : Scale) (values : List Data) (b : Bool) → list_all is_measured values ≡ b → curve_within s values ≡ cond b (curve_of s (filter_map measured_of values)) (Err Range)
 by_fit s values b e = ap (λ (t : Bool). cond t (curve_of s (filter_map measured_of values)) (Err Range)) e

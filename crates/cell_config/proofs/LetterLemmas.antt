@@ -1,15 +1,6 @@
 -- A text of letters, and one with a character that is no letter. Every letter is ASCII.
-use Rattle.std.proofs.Common.{arith, zero, suc, subst, take, take_all, ◌+◌, ℕ, ◌≡◌, ◌<◌, ◌≤◌, ◌∙◌, ◌++◌, ◌∷◌, [], ◌&&◌, List, length, get_or, true, false, Option, Some, None, is_some, Ok, Err, sym, ap, ap₂, refl, lt-ltb, le-ltb}
-use Rattle.std.specs.List.{filter_map, list_all, cons_option, slice_index}
-use Rattle.std.specs.Str.{chars, IsAscii, IsUtf8}
-use Rattle.std.proofs.lemmas.Str.{chars-IsAscii, encodes-IsAscii, encodes-chars}
-use Rattle.std.proofs.lemmas.List.{take_more}
-use Rattle.std.proofs.lemmas.List.Elements.{filter_map-append}
-use Rattle.std.proofs.lemmas.List.Folds.{list_all-append, list_all_at}
-use Rattle.cell_notes.specs.declared.schedule.Turn.{Turn}
+use Rattle.cell_config.proofs.Names.{arith, zero, suc, subst, take, take_all, ◌+◌, ℕ, ◌≡◌, ◌<◌, ◌≤◌, ◌∙◌, ◌++◌, ◌∷◌, [], ◌&&◌, List, length, get_or, true, false, Option, Some, None, is_some, Ok, Err, sym, ap, ap₂, refl, lt-ltb, le-ltb, filter_map, list_all, cons_option, slice_index, chars, IsAscii, IsUtf8, chars-IsAscii, encodes-IsAscii, encodes-chars, take_more, filter_map-append, list_all-append, list_all_at, Turn, is_letter, max_letters, turn_of, turns_of, Range, Letter}
 use Rattle.cell_config.proofs.Tests.{both_hold, not_true}
-use Rattle.cell_config.specs.Letters.{is_letter, max_letters, turn_of, turns_of}
-use Rattle.cell_config.specs.declared.fault.ConfigFault.TheVariants.{Range, Letter}
 
 pub turns_of-long : (text : List ℕ) → max_letters < length (chars text) → turns_of text ≡ Err Range
 turns_of-long text long = rw (lt-ltb max_letters (length (chars text)) long) refl

@@ -1,3 +1,4 @@
+mod Names
 mod Tests
 mod LetterLemmas
 pub mod Turns

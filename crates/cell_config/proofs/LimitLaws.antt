@@ -1,12 +1,5 @@
 -- The limits of a configuration.
-use Rattle.std.proofs.Common.{◌≡◌, ◌≢◌, ◌<◌, ◌≤◌, ℕ, nat_le, nat_lt, Bool, true, false, cond, List, length, chars, Ok, Err, refl, arith}
-use Rattle.std.specs.List.{filter_map, list_all}
-use Rattle.std.proofs.lemmas.Bool.Decides.{nat_tests}
-use Rattle.cell_notes.specs.declared.schedule.Turn.{Turn}
-use Rattle.cell_config.specs.ConfigLaws.{LetterLimits, TextLimits}
-use Rattle.cell_config.specs.Letters.{is_letter, turn_of}
-use Rattle.cell_config.specs.Settings.{settings_of}
-use Rattle.cell_config.specs.declared.fault.ConfigFault.TheVariants.{Range, Letter}
+use Rattle.cell_config.proofs.Names.{◌≡◌, ◌≢◌, ◌<◌, ◌≤◌, ℕ, nat_le, nat_lt, Bool, true, false, cond, List, length, chars, Ok, Err, refl, arith, filter_map, list_all, nat_tests, Turn, LetterLimits, TextLimits, is_letter, turn_of, settings_of, Range, Letter}
 
 above : (n most : ℕ) → most < n → nat_le n most ≡ false
 above n most h = grind (arith, nat_tests)

@@ -1,13 +1,5 @@
 -- Values that are read one after another.
-use Rattle.std.proofs.Common.{◌≡◌, ℕ, ◌+◌, ◌<◌, ◌∙◌, ◌++◌, ◌∷◌, [], ◌&&◌, List, length, map, take, get_or, set, Bool, true, false, Option, Some, sym, ap, ap₂, arith}
-use Rattle.std.specs.List.{filter_map, list_all, cons_option}
-use Rattle.std.proofs.lemmas.List.{length-map, get_or-map, take_more, take_more_set}
-use Rattle.std.proofs.lemmas.List.Elements.{filter_map-append}
-use Rattle.std.proofs.lemmas.List.Folds.{list_all_at, list_all_more}
-use Rattle.toml.specs.Data.{Data}
-use Rattle.toml.specs.View.{view}
-use Rattle.toml.specs.declared.value.Value.{Value}
-use Rattle.cell_calib.specs.Curve.{Pair}
+use Rattle.cell_config.proofs.Names.{◌≡◌, ℕ, ◌+◌, ◌<◌, ◌∙◌, ◌++◌, ◌∷◌, [], ◌&&◌, List, length, map, take, get_or, set, Bool, true, false, Option, Some, sym, ap, ap₂, arith, filter_map, list_all, cons_option, length-map, get_or-map, take_more, take_more_set, filter_map-append, list_all_at, list_all_more, Data, view, Value, Pair}
 
 within_views : (vs : List Value) (i : ℕ) → i < length vs → i < length (map view vs)
 within_views vs i h = omega (arith, length-map vs view)

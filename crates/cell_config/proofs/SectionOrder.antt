@@ -1,8 +1,5 @@
 -- The first section that is refused: those before it are taken.
-use Rattle.std.proofs.Common.{◌≡◌, Result, Ok, Err, IsOk, MatchResult, refl}
-use Rattle.toml.specs.Data.{Members}
-use Rattle.cell_config.specs.Settings.{sections_at}
-use Rattle.cell_config.specs.RefusedSections.{IsFirstRefusal, IsRefusal, section_by_key}
+use Rattle.cell_config.proofs.Names.{◌≡◌, Result, Ok, Err, IsOk, MatchResult, refl, Members, sections_at, IsFirstRefusal, IsRefusal, section_by_key}
 use Rattle.cell_config.specs.declared.refused_sections.SectionFault.{SectionFault}
 use Rattle.cell_config.specs.declared.refused_sections.SectionKey.{SectionKey}
 use Rattle.cell_config.specs.declared.refused_sections.SectionKey.TheVariants.{Arm1, Arm2, Rotation, Turn, Gripper}

@@ -1,22 +1,8 @@
 -- The settings in some bytes, by the number of bytes and what TOML makes of them.
-use Rattle.std.proofs.Common.{ℕ, ◌≡◌, ◌≢◌, ◌<◌, ◌≤◌, ◌∙◌, ◌+◌, List, [], ◌∷◌, length, map, take, Bool, true, false, Some, None, Result, Ok, Err, MatchResult, IsUtf8, sym, ap, refl, arith, le-leb, inl, inr}
-use Rattle.std.proofs.lemmas.Bool.{cases_lt, lt-leb}
-use Rattle.std.specs.Option.{ok_or}
-use Rattle.std.specs.Str.{is_utf8}
-use Rattle.std.proofs.lemmas.List.{length-take, take_all}
-use Rattle.std.proofs.lemmas.Str.{IsUtf8-from_is_utf8, is_utf8-from_IsUtf8}
-use Rattle.toml.specs.Data.{Members}
-use Rattle.toml.specs.Parse.{parse_document}
-use Rattle.cell_config.specs.Steps.{◌>>=◌, demand}
-use Rattle.cell_rules.specs.ModelState.{ModelState}
-use Rattle.cell_calib.specs.Names.{Scale, Curved, Pair, pairs_of}
-use Rattle.cell_notes.specs.declared.schedule.Turn.{Turn}
-use Rattle.cell_config.specs.Keys.{is_known}
-use Rattle.cell_config.specs.Settings.{Section, Settings, byte_limit, schedule_at, sections_at, settings_in, settings_of, start_at}
+use Rattle.cell_config.proofs.Names.{ℕ, ◌≡◌, ◌≢◌, ◌<◌, ◌≤◌, ◌∙◌, ◌+◌, List, [], ◌∷◌, length, map, take, Bool, true, false, Some, None, Result, Ok, Err, MatchResult, IsUtf8, sym, ap, refl, arith, le-leb, inl, inr, cases_lt, lt-leb, ok_or, is_utf8, length-take, take_all, IsUtf8-from_is_utf8, is_utf8-from_IsUtf8, Members, parse_document, ◌>>=◌, demand, ModelState, Scale, Curved, Pair, pairs_of, Turn, is_known, Section, Settings, byte_limit, schedule_at, sections_at, settings_in, settings_of}
+use Rattle.cell_config.proofs.Names.{start_at, ConfigFault, Read, Long, Text, Memory}
 use Rattle.cell_config.specs.Configured.{Refuses, Says, shown}
 use Rattle.cell_config.specs.declared.configuration.Config.{Config}
-use Rattle.cell_config.specs.declared.fault.ConfigFault.{ConfigFault}
-use Rattle.cell_config.specs.declared.fault.ConfigFault.TheVariants.{Read, Long, Text, Memory}
 
 pub settings_of-long : (bytes : List ℕ) → byte_limit < length bytes → settings_of bytes ≡ Err Long
 unfolding settings_of

@@ -1,6 +1,4 @@
-use Rattle.std.proofs.Common.{◌≡◌, true, sym, rules}
-use Rattle.toml.specs.View.{table_view}
-use Rattle.cell_config.specs.Keys.{is_known}
+use Rattle.cell_config.proofs.Names.{◌≡◌, true, sym, rules, table_view, is_known}
 use Rattle.cell_config.proofs.SettingsLemmas.{settings_made}
 use Rattle.cell_config.proofs.configuration.config_in.Goals as goal
 

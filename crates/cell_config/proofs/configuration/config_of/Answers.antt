@@ -1,5 +1,4 @@
-use Rattle.std.proofs.Common.{◌∙◌, sym, arith}
-use Rattle.std.proofs.lemmas.Bool.{false≢true}
+use Rattle.cell_config.proofs.Names.{◌∙◌, sym, arith, false≢true}
 use Rattle.cell_config.proofs.SettingsLemmas.{settings_of-long, settings_of-no_text, settings_of-table}
 use Rattle.cell_config.proofs.configuration.config_of.Goals as goal
 

@@ -1,6 +1,5 @@
-use Rattle.std.proofs.Common.{◌∙◌, ap}
+use Rattle.cell_config.proofs.Names.{◌∙◌, ap, settings_of}
 use Rattle.std.proofs.lemmas.Option.{IfSome_then}
-use Rattle.cell_config.specs.Settings.{settings_of}
 use Rattle.cell_config.proofs.SettingsLemmas.{says_from, settings_of-prefix}
 use Rattle.cell_config.proofs.configuration.read_config.Goals as goal
 

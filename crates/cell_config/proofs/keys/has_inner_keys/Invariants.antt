@@ -1,6 +1,4 @@
-use Rattle.std.proofs.Common.{◌≡◌}
-use Rattle.toml.specs.View.{members_view, table_view}
-use Rattle.cell_config.specs.Keys.{has_inner_keys}
+use Rattle.cell_config.proofs.Names.{◌≡◌, members_view, table_view, has_inner_keys}
 use Rattle.cell_config.proofs.keys.has_inner_keys.Given as goal
 
 abbrev pub invariant-keys : goal.invariant-keys

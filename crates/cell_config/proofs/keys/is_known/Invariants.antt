@@ -1,6 +1,4 @@
-use Rattle.std.proofs.Common.{◌≡◌}
-use Rattle.toml.specs.View.{members_view, table_view}
-use Rattle.cell_config.specs.Keys.{is_known}
+use Rattle.cell_config.proofs.Names.{◌≡◌, members_view, table_view, is_known}
 use Rattle.cell_config.proofs.keys.is_known.Given as goal
 
 abbrev pub invariant-entries : goal.invariant-entries

@@ -1,10 +1,7 @@
-use Rattle.std.proofs.Common.{◌∙◌, sym, rules, tests}
-use Rattle.std.proofs.lemmas.Iterator.{YieldsList-from_slice}
+use Rattle.cell_config.proofs.Names.{◌∙◌, sym, rules, tests, YieldsList-from_slice, YieldsList-from_copied, is_letter_of}
 use Rattle.std.proofs.lemmas.Iterator.Adapters.{option_map_id}
-use Rattle.std.proofs.lemmas.Iterator.Consumers.{YieldsList-from_copied}
 use Rattle.std.proofs.lemmas.Iterator.Search.{find_from_yields_List}
 use Rattle.cell_rules.specs.Types.{all_machines}
-use Rattle.cell_config.specs.Letters.{is_letter_of}
 use Rattle.cell_config.proofs.letters.machine_of.Goals as goal
 
 pub returns : goal.returns

@@ -1,6 +1,4 @@
-use Rattle.std.proofs.Common.{◌≡◌, Err, IsOk, rules}
-use Rattle.toml.specs.View.{table_view}
-use Rattle.cell_config.specs.RefusedSections.{section_by_key}
+use Rattle.cell_config.proofs.Names.{◌≡◌, Err, IsOk, rules, table_view, section_by_key}
 use Rattle.cell_config.specs.declared.refused_sections.SectionKey.TheVariants.{Arm1, Arm2, Rotation, Turn}
 use Rattle.cell_config.proofs.SectionOrder.{third, fourth, last_checked, told}
 use Rattle.cell_config.proofs.refused_sections.check_sections.Goals as goal

@@ -1,9 +1,4 @@
-use Rattle.std.proofs.Common.{◌≡◌, ◌∙◌, true, false, map, refl, sym, rules, arith}
-use Rattle.std.proofs.lemmas.List.{length-map}
-use Rattle.std.specs.List.{filter_map}
-use Rattle.toml.specs.View.{view}
-use Rattle.cell_config.specs.Settings.{measured_of}
-use Rattle.cell_config.specs.RefusedSections.{HasCurveFault}
+use Rattle.cell_config.proofs.Names.{◌≡◌, ◌∙◌, true, false, map, refl, sym, rules, arith, length-map, filter_map, view, measured_of, HasCurveFault}
 use Rattle.cell_config.proofs.CurveChoices.{beyond_count}
 use Rattle.cell_config.proofs.refused_sections.curve_fault.Goals as goal
 

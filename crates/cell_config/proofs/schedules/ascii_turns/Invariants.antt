@@ -1,5 +1,4 @@
-use Rattle.std.proofs.Common.{◌≡◌, ◌<◌, ℕ, None, length, slice_index_or}
-use Rattle.cell_config.specs.Letters.{turn_of}
+use Rattle.cell_config.proofs.Names.{◌≡◌, ◌<◌, ℕ, None, length, slice_index_or, turn_of}
 use Rattle.cell_config.proofs.schedules.ascii_turns.Given as goal
 
 abbrev pub invariant-loop-code : goal.invariant-loop-code

@@ -1,8 +1,4 @@
-use Rattle.std.proofs.Common.{◌∙◌, ◌≤◌, length, nat_lt, ap, arith, sym, subst, le-ltb}
-use Rattle.std.specs.Str.{chars}
-use Rattle.std.proofs.lemmas.Iterator.{YieldsList-from_chars}
-use Rattle.std.proofs.lemmas.Iterator.Consumers.{count_from_yields_List}
-use Rattle.std.proofs.lemmas.Str.{encodes-chars, length-le-encodes}
+use Rattle.cell_config.proofs.Names.{◌∙◌, ◌≤◌, length, nat_lt, ap, arith, sym, subst, le-ltb, chars, YieldsList-from_chars, count_from_yields_List, encodes-chars, length-le-encodes}
 use Rattle.cell_config.proofs.schedules.is_too_long.Goals as goal
 
 pub returns-then-text-gt-MAX_LETTERS : goal.returns-then-text-gt-MAX_LETTERS

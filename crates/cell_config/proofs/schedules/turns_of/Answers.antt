@@ -1,5 +1,4 @@
-use Rattle.std.proofs.Common.{rules, ◌∙◌, ◌≤◌, length, chars, sym, ltb-true, ltb-false}
-use Rattle.cell_config.specs.Letters.{max_letters}
+use Rattle.cell_config.proofs.Names.{rules, ◌∙◌, ◌≤◌, length, chars, sym, ltb-true, ltb-false, max_letters}
 use Rattle.cell_config.proofs.LetterLemmas.{byte_is_letter, byte_pushed, turns_of-bytes, turns_of-long, turns_of-not_ascii, turns_of-other_byte}
 use Rattle.cell_config.proofs.schedules.turns_of.Goals as goal
 

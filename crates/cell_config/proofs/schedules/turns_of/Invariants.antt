@@ -1,6 +1,4 @@
-use Rattle.std.proofs.Common.{◌≡◌, true, take}
-use Rattle.std.specs.List.{filter_map, list_all}
-use Rattle.cell_config.specs.Letters.{is_letter, turn_of}
+use Rattle.cell_config.proofs.Names.{◌≡◌, true, take, filter_map, list_all, is_letter, turn_of}
 use Rattle.cell_config.proofs.schedules.turns_of.Given as goal
 
 abbrev pub invariant-letters : goal.invariant-letters

@@ -1,6 +1,4 @@
-use Rattle.std.proofs.Common.{◌≡◌, false, true, rules, sym}
-use Rattle.toml.specs.View.{view}
-use Rattle.cell_config.specs.Settings.{is_pair}
+use Rattle.cell_config.proofs.Names.{◌≡◌, false, true, rules, sym, view, is_pair}
 use Rattle.cell_config.proofs.MeasuredLemmas.{fails_at, passes_at}
 use Rattle.cell_config.proofs.sections.are_pairs.Goals as goal
 

@@ -1,5 +1,4 @@
-use Rattle.std.proofs.Common.{refl}
-use Rattle.std.proofs.lemmas.Bool.{false≢true}
+use Rattle.cell_config.proofs.Names.{refl, false≢true}
 use Rattle.cell_config.proofs.CurveChoices.{curve_made, no_curve}
 use Rattle.cell_config.proofs.sections.curve_of.Goals as goal
 

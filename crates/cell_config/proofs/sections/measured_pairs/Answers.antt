@@ -1,6 +1,4 @@
-use Rattle.std.proofs.Common.{◌≡◌, false, true, Some, rules, arith, ◌∙◌, length-set}
-use Rattle.toml.specs.View.{view}
-use Rattle.cell_config.specs.Settings.{is_measured, measured_of}
+use Rattle.cell_config.proofs.Names.{◌≡◌, false, true, Some, rules, arith, ◌∙◌, length-set, view, is_measured, measured_of}
 use Rattle.cell_config.proofs.MeasuredLemmas.{fails_at, pair_put, passes_at}
 use Rattle.cell_config.proofs.sections.measured_pairs.Goals as goal
 

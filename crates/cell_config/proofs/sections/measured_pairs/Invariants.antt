@@ -1,7 +1,4 @@
-use Rattle.std.proofs.Common.{◌≡◌, length, map, take, true}
-use Rattle.std.specs.List.{filter_map, list_all}
-use Rattle.toml.specs.View.{view}
-use Rattle.cell_config.specs.Settings.{is_measured, measured_of}
+use Rattle.cell_config.proofs.Names.{◌≡◌, length, map, take, true, filter_map, list_all, view, is_measured, measured_of}
 use Rattle.cell_config.proofs.sections.measured_pairs.Given as goal
 
 abbrev pub invariant-values : goal.invariant-values

@@ -1,8 +1,4 @@
-use Rattle.std.proofs.Common.{List, [], ◌∷◌, ◌≡◌, ◌<◌, ◌≤◌, ◌∙◌, Option, None, ℤ, length, refl, sym, ap, arith}
-use Rattle.toml.specs.Data.{Data, Items, string, integer, array, item, no_items}
-use Rattle.toml.specs.View.{items_view, view}
-use Rattle.toml.specs.declared.value.Value.{Value}
-use Rattle.cell_config.specs.Settings.{pair_of}
+use Rattle.cell_config.proofs.Names.{List, [], ◌∷◌, ◌≡◌, ◌<◌, ◌≤◌, ◌∙◌, Option, None, ℤ, length, refl, sym, ap, arith, Data, Items, string, integer, array, item, no_items, items_view, view, Value, pair_of}
 use Rattle.cell_config.proofs.CurveChoices.{array_is}
 use Rattle.cell_config.proofs.sections.pair_of.Goals as goal
 

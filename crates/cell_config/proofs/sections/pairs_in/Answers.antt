@@ -1,6 +1,4 @@
-use Rattle.std.proofs.Common.{◌≡◌, ◌∙◌, true, false, sym}
-use Rattle.toml.specs.Data.{array}
-use Rattle.toml.specs.View.{items_view, view}
+use Rattle.cell_config.proofs.Names.{◌≡◌, ◌∙◌, true, false, sym, array, items_view, view}
 use Rattle.cell_config.proofs.CurveChoices.{array_is, pairs_found}
 use Rattle.cell_config.proofs.sections.pairs_in.Goals as goal
 

@@ -1,5 +1,4 @@
-use Rattle.std.proofs.Common.{◌≡◌, Ok, pos, of_z, to_z, w32, refl, rules}
-use Rattle.cell_config.specs.Settings.{axis_scale}
+use Rattle.cell_config.proofs.Names.{◌≡◌, Ok, pos, of_z, to_z, w32, refl, rules, axis_scale}
 use Rattle.cell_config.proofs.AxisScales.{axis_made}
 use Rattle.cell_config.proofs.sections.points_of.Goals as goal
 

@@ -1,5 +1,4 @@
-use Rattle.std.proofs.Common.{◌≡◌, List, [], ◌∷◌, length, map, get_or, refl, arith}
-use Rattle.cell_calib.specs.Names.{Curved, Scale}
+use Rattle.cell_config.proofs.Names.{◌≡◌, List, [], ◌∷◌, length, map, get_or, refl, arith, Curved, Scale}
 use Rattle.cell_config.proofs.sections.points_of_curves.Goals as goal
 
 -- the scales of five curves, one by one

@@ -1,5 +1,4 @@
-use Rattle.std.proofs.Common.{arith}
-use Rattle.std.proofs.lemmas.Int.{ints}
+use Rattle.cell_config.proofs.Names.{arith, ints}
 use Rattle.cell_config.proofs.sections.raw_within.Goals as goal
 
 pub overflow_sub-from : goal.overflow_sub-from

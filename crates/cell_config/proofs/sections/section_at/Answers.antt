@@ -1,6 +1,4 @@
-use Rattle.std.proofs.Common.{◌≡◌, None, Some, of_z, to_z, w32, refl, rules}
-use Rattle.toml.specs.Data.{as_table, get_member}
-use Rattle.toml.specs.View.{table_view, view}
+use Rattle.cell_config.proofs.Names.{◌≡◌, None, Some, of_z, to_z, w32, refl, rules, as_table, get_member, table_view, view}
 use Rattle.cell_config.proofs.AxisScales.{default_raw}
 use Rattle.cell_config.proofs.sections.section_at.Goals as goal
 

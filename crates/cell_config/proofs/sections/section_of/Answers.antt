@@ -1,5 +1,4 @@
-use Rattle.std.proofs.Common.{◌≡◌, of_z, to_z, w32, sym, rules}
-use Rattle.toml.specs.View.{table_view}
+use Rattle.cell_config.proofs.Names.{◌≡◌, of_z, to_z, w32, sym, rules, table_view}
 use Rattle.cell_config.proofs.AxisScales.{axis_kept, section_told}
 use Rattle.cell_config.proofs.sections.section_of.Goals as goal
 
