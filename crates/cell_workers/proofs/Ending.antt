@@ -1,13 +1,6 @@
 -- The end of a record.
-use Rattle.std.proofs.Common.{◌≡◌, ◌≢◌, ℕ, Bool, true, false, inl, inr, ⊎_elim, ◌⊎◌, List, [], ◌∷◌, ◌++◌, cond, get_or, map, Option, Some, None, refl, sym, ap, subst, ◌∙◌}
-use Rattle.cell_rules.specs.Types.{Machine, Feed, Table, Robot, Press, Deposit, Crane, Watch, Z3, Release, Done, Refused, NotOwner, Event, Entry, journal_of, same_machine}
-use Rattle.cell_rules.specs.Names.{ModelState, empty, start_state, after, own_events, event_by, reply, IsAudited, BeginsWith}
+use Rattle.cell_workers.proofs.Names.{◌≡◌, ◌≢◌, ℕ, Bool, true, false, inl, inr, ⊎_elim, ◌⊎◌, List, [], ◌∷◌, ◌++◌, cond, get_or, map, Option, Some, None, refl, sym, ap, subst, ◌∙◌, Machine, Feed, Table, Robot, Press, Deposit, Crane, Watch, Z3, Release, Done, Refused, NotOwner, Event, Entry, journal_of, same_machine, ModelState, empty, start_state, after, own_events, event_by, reply, IsAudited, BeginsWith, RunRecord, CellScales, GateOf, TellsAnyWork, EndsAreReached, by_rule, press_released}
 use Rattle.cell_rules.proofs.Lasting.{own_head}
-use Rattle.cell_notes.specs.declared.run_record.RunRecord.{RunRecord}
-use Rattle.cell_parts.specs.Axes.{CellScales}
-use Rattle.cell_threads.specs.Workers.{GateOf}
-use Rattle.cell_workers.specs.Records.{TellsAnyWork}
-use Rattle.cell_workers.specs.Laws.{EndsAreReached, by_rule, press_released}
 
 same_itself : (m : Machine) → same_machine m m ≡ true
 same_itself Feed = refl

@@ -1,27 +1,12 @@
 -- A turn of a press that drives.
-use Rattle.std.proofs.Common.{◌≡◌, ℕ, pos, ◌≤ℤ◌, ◌+◌, false, ◌&&◌, ◌||◌, if◌then◌else◌, Some, None, Ok, Err, refl, ap, subst, ◌∙◌, arith}
+use Rattle.cell_workers.proofs.Names.{◌≡◌, ℕ, pos, ◌≤ℤ◌, ◌+◌, false, ◌&&◌, ◌||◌, if◌then◌else◌, Some, None, Ok, Err, refl, ap, subst, ◌∙◌, arith, Press, PassAsks, Turns, turned, Off, Minus, press_steps, checked, press_rig, PressShows, counts_with, Counts, Acts, side_set, side_moved, SideOf, passes, answers_in, GateOf, TakesTurn, MomentOf, press_at}
 use Rattle.std.proofs.lemmas.Bool.{false_from_ne_true}
 use Rattle.std.proofs.lemmas.Int.{ints}
-use Rattle.cell_rules.specs.Types.{Press}
 use Rattle.cell_calib.specs.declared.sense.PressSense.{PressSense}
 use Rattle.cell_calib.specs.declared.sense.SensorFault.TheVariants.{Clash}
-use Rattle.cell_interlock.specs.Lines.{PassAsks}
-use Rattle.cell_control.specs.Names.{Turns, turned}
 use Rattle.cell_control.proofs.TurnsByAnswers.{drive_own}
 use Rattle.cell_devices.specs.declared.act.PressAct.{PressAct}
-use Rattle.cell_devices.specs.declared.motor.Motor.TheVariants.{Off, Minus}
-use Rattle.cell_stations.specs.Names.{press_steps, checked}
 use Rattle.cell_stations.specs.declared.press.PressStep.TheVariants.{MoveToBottom}
-use Rattle.cell_parts.specs.Names.{press_rig, PressShows}
-use Rattle.cell_notes.specs.Names.{counts_with}
-use Rattle.cell_notes.specs.declared.counts.Counts.{Counts}
-use Rattle.cell_unit.specs.Sides.{Acts, side_set, side_moved}
-use Rattle.cell_plant.specs.CellStates.{SideOf}
-use Rattle.cell_threads.specs.Lines.{passes}
-use Rattle.cell_threads.specs.Laws.{answers_in}
-use Rattle.cell_threads.specs.Workers.{GateOf, TakesTurn}
-use Rattle.cell_workers.specs.Records.{MomentOf}
-use Rattle.cell_workers.specs.Laws.{press_at}
 
 abbrev falling : SideOf Press
 falling = press_at MoveToBottom 1000 Off

@@ -1,29 +1,13 @@
 -- What the six workers of a cell gave back, stated for their machines by name; and the record of it.
-use Rattle.std.proofs.Common.{◌≡◌, ℕ, true, List, [], ◌∷◌, Option, Some, None, IfSome, Result, refl, sym, ap, subst, ◌∙◌}
-use Rattle.cell_rules.specs.Types.{Machine, Feed, Table, Robot, Press, Deposit, Crane, Watch, Event, Entry, journal_of}
-use Rattle.cell_calib.specs.declared.sense.SensorFault.{SensorFault}
-use Rattle.cell_rules.specs.Names.{noted, Waits, ModelState, after, IsAudited, LawfulThroughout}
-use Rattle.cell_interlock.specs.Views.{PassView, InterlockView}
-use Rattle.cell_interlock.specs.Fresh.{fresh_pass}
-use Rattle.cell_control.specs.Names.{Rig, Steps, IsReached, with_senses}
+use Rattle.cell_workers.proofs.Names.{◌≡◌, ℕ, true, List, [], ◌∷◌, Option, Some, None, IfSome, Result, refl, sym, ap, subst, ◌∙◌, Machine, Feed, Table, Robot, Press, Deposit, Crane, Watch, Event, Entry, journal_of, SensorFault, noted, Waits, ModelState, after, IsAudited, LawfulThroughout, PassView, InterlockView, fresh_pass, Rig, Steps, IsReached, with_senses, crane_steps, robot_steps, table_steps, no_counts, Counts, RunRecord, Status, Fine, IsReady, CellScales, table_rig, robot_rig, crane_rig}
+use Rattle.cell_workers.proofs.Names.{CellGauges, PartOf, any_near, robot_axes, robot_gauges, robot_points, steps_by, rig_of, SideOf, side_in, sides_at_start, positions_in, Lines, passes, WorkerMoment, worker_moment, GateOf, TakesTurn, AreTaken, HasEnded, IsWorkerResult, AreCountsOf, SixResults, journal_in, outputs_in, seen_in, parts_in, MomentOf, first_moment, TellsAnyWork, TellsWork, has_worker}
 use Rattle.cell_control.specs.declared.fault.CtlFault.{CtlFault}
 use Rattle.cell_control.proofs.StepLemmas.{reached_first}
-use Rattle.cell_haul.specs.CraneProgram.{Senses as CraneSenses, crane_steps}
-use Rattle.cell_robot.specs.RobotProgram.{Senses as RobotSenses, robot_steps}
-use Rattle.cell_stations.specs.TableProgram.{Senses as TableSenses, table_steps}
-use Rattle.cell_notes.specs.Names.{no_counts}
-use Rattle.cell_notes.specs.declared.counts.Counts.{Counts}
-use Rattle.cell_notes.specs.declared.run_record.RunRecord.{RunRecord}
-use Rattle.cell_notes.specs.declared.status.Status.{Status}
-use Rattle.cell_notes.specs.declared.status.Status.TheVariants.{Fine}
-use Rattle.cell_unit.specs.Sides.{IsReady}
+use Rattle.cell_haul.specs.CraneProgram.{Senses as CraneSenses}
+use Rattle.cell_robot.specs.RobotProgram.{Senses as RobotSenses}
+use Rattle.cell_stations.specs.TableProgram.{Senses as TableSenses}
 use Rattle.cell_unit.proofs.Turning.{acts_still}
-use Rattle.cell_parts.specs.Names.{CellScales, table_rig, robot_rig, crane_rig}
-use Rattle.cell_plant.specs.Names.{CellGauges, PartOf, any_near, robot_axes, robot_gauges, robot_points, steps_by, rig_of, SideOf, side_in, sides_at_start, positions_in}
 use Rattle.cell_plant.proofs.Gauged.{GiveAsMuch, table_as, robot_as, crane_as}
-use Rattle.cell_threads.specs.Lines.{Lines, passes}
-use Rattle.cell_threads.specs.Workers.{WorkerMoment, worker_moment, GateOf, TakesTurn, AreTaken, HasEnded, IsWorkerResult, AreCountsOf}
-use Rattle.cell_threads.specs.Results.{SixResults, journal_in, outputs_in, seen_in}
 use Rattle.cell_parts.specs.declared.parts.feed.FeedPart.{FeedPart}
 use Rattle.cell_parts.specs.declared.parts.table.TablePart.{TablePart}
 use Rattle.cell_parts.specs.declared.parts.robot.RobotPart.{RobotPart}
@@ -31,8 +15,6 @@ use Rattle.cell_parts.specs.declared.parts.press.PressPart.{PressPart}
 use Rattle.cell_parts.specs.declared.parts.deposit.DepositPart.{DepositPart}
 use Rattle.cell_parts.specs.declared.parts.crane.CranePart.{CranePart}
 use Rattle.cell_threads.specs.declared.worker_result.UnitOutput.{UnitOutput}
-use Rattle.cell_workers.specs.Results.{parts_in}
-use Rattle.cell_workers.specs.Records.{MomentOf, first_moment, TellsAnyWork, TellsWork, has_worker}
 
 -- if less is known of the sensors, a worker has still worked
 module _ {L S Sense Reading Act State : Type 0} (lines : Lines L) (t : Steps S Sense Reading Act) (rig : Rig State Sense Act) (gate : GateOf) (senses : Sense → Result Reading SensorFault → Type 0) (f : (s : Sense) (r : Result Reading SensorFault) → t.senses s r → senses s r) where

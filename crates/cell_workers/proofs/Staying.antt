@@ -1,21 +1,7 @@
 -- The record of workers that end at once.
-use Rattle.std.proofs.Common.{◌≡◌, ℕ, true, [], map, None, refl, sym, ap, subst}
-use Rattle.cell_rules.specs.Types.{Machine, Feed, Table, Robot, Press, Deposit, Crane, Watch}
-use Rattle.cell_rules.specs.Names.{ModelState, event_by, EndsIn, Lawful}
+use Rattle.cell_workers.proofs.Names.{◌≡◌, ℕ, true, [], map, None, refl, sym, ap, subst, Machine, Feed, Table, Robot, Press, Deposit, Crane, Watch, ModelState, event_by, EndsIn, Lawful, InterlockView, no_counts, RunRecord, Status, Fine, CellScales, steps_of, rig_of, passes, HasEnded, Ends, AreCountsOf, MomentOf, first_moment, TellsAnyWork, has_worker, Rule, by_rule, TellsNothingDone, stays}
 use Rattle.cell_rules.proofs.Assembly.{lawful}
 use Rattle.cell_rules.proofs.Histories.{throughout}
-use Rattle.cell_interlock.specs.Views.{InterlockView}
-use Rattle.cell_notes.specs.Names.{no_counts}
-use Rattle.cell_notes.specs.declared.run_record.RunRecord.{RunRecord}
-use Rattle.cell_notes.specs.declared.status.Status.{Status}
-use Rattle.cell_notes.specs.declared.status.Status.TheVariants.{Fine}
-use Rattle.cell_parts.specs.Axes.{CellScales}
-use Rattle.cell_plant.specs.Machines.{steps_of, rig_of}
-use Rattle.cell_threads.specs.Lines.{passes}
-use Rattle.cell_threads.specs.Workers.{HasEnded, Ends, AreCountsOf}
-use Rattle.cell_workers.specs.Records.{MomentOf, first_moment, TellsAnyWork, has_worker}
-use Rattle.cell_workers.specs.Laws.{Rule, by_rule, TellsNothingDone}
-use Rattle.cell_threads.proofs.FirstSteps.{stays}
 
 module _ (c : CellScales) (opening : ModelState) (tries limit : ℕ) (lets : Rule) (r : RunRecord) (status : Status) where
   -- a worker may end at once, with this status

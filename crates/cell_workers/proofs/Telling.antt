@@ -1,45 +1,22 @@
 -- What a record of six workers says.
-use Rattle.std.proofs.Common.{◌≡◌, ℕ, ℤ, pos, true, false, inl, inr, [], ◌∷◌, map, get_or, Option, Some, None, Result, Ok, Err, refl, sym, ap, subst, ◌∙◌, arith}
-use Rattle.std.specs.Prelude.{slice_get}
-use Rattle.cell_rules.specs.Types.{Machine, Feed, Table, Robot, Press, Deposit, Crane, Watch, Z3, Call, Claim, Done, Event, Reply, Settled, Busy, all_machines, journal_of}
+use Rattle.cell_workers.proofs.Names.{◌≡◌, ℕ, ℤ, pos, true, false, inl, inr, [], ◌∷◌, map, get_or, Option, Some, None, Result, Ok, Err, refl, sym, ap, subst, ◌∙◌, arith, slice_get, Machine, Feed, Table, Robot, Press, Deposit, Crane, Watch, Z3, Call, Claim, Done, Event, Reply, Settled, Busy, all_machines, journal_of, SensorFault, ModelState, empty, start_state, noted, LineFault, PassAsks, Steps, step_after_reply, Performed, PerformsSensed, Turned, Turns, at_rest, turned, Off, crane_start}
+use Rattle.cell_workers.proofs.Names.{crane_steps, robot_start, press_steps, moved_to, press_rig, crane_rig, CellScales, crane_end, act_or_rest, noting, side_set, side_moved, done_in, no_counts, Counts, RunRecord, Status, Fine, GateLimit, SideOf, steps_of, rig_of, positions_in, passes, GateOf, TakesTurn, HasEnded, AreCountsOf, MomentOf, first_moment, parts_at_ends, TellsAnyWork, has_worker, HadTurns, HasAtMost, Rule, by_rule, TellsNothingDone, first_call, TellsFirstTurns, RecordsTellTurns}
+use Rattle.cell_workers.proofs.Names.{RecordsKeepTries, WorkersEnd, TurnsAreTaken, within, ends_fine, ends_kept_out, has_status_by, answers_along, let_in_along, few_along, once, own_at_first, noted_at_most, busy_lost, busy_counted}
 use Rattle.cell_calib.specs.Names.{Scale, IsReading}
-use Rattle.cell_calib.specs.declared.sense.SensorFault.{SensorFault}
 use Rattle.cell_calib.specs.declared.sense.CraneSense.{CraneSense}
-use Rattle.cell_rules.specs.Names.{ModelState, empty, start_state, noted}
-use Rattle.cell_rules.specs.declared.heard.LineFault.{LineFault}
-use Rattle.cell_interlock.specs.Lines.{PassAsks}
-use Rattle.cell_control.specs.Names.{Steps, step_after_reply, Performed, PerformsSensed, Turned, Turns, at_rest, turned}
 use Rattle.cell_devices.specs.declared.motor.Motor.{Motor}
-use Rattle.cell_devices.specs.declared.motor.Motor.TheVariants.{Off}
 use Rattle.cell_devices.specs.declared.act.CraneAct.{CraneAct}
-use Rattle.cell_haul.specs.Names.{crane_start, crane_steps}
 use Rattle.cell_haul.specs.declared.crane.CraneProgress.{CraneProgress}
 use Rattle.cell_haul.specs.declared.crane.CraneReading.{CraneReading}
-use Rattle.cell_robot.specs.RobotProgram.{robot_start}
-use Rattle.cell_stations.specs.PressProgram.{press_steps}
-use Rattle.cell_parts.specs.Names.{moved_to, press_rig, crane_rig, CellScales, crane_end}
 use Rattle.cell_parts.specs.declared.axis.Axis.{Axis}
 use Rattle.cell_parts.specs.declared.plant.CranePlant.{CranePlant}
-use Rattle.cell_unit.specs.Sides.{act_or_rest, noting, side_set, side_moved}
-use Rattle.cell_notes.specs.Names.{done_in, no_counts}
-use Rattle.cell_notes.specs.declared.counts.Counts.{Counts}
-use Rattle.cell_notes.specs.declared.run_record.RunRecord.{RunRecord}
-use Rattle.cell_notes.specs.declared.status.Status.{Status}
-use Rattle.cell_notes.specs.declared.status.Status.TheVariants.{Fine, GateLimit}
-use Rattle.cell_plant.specs.Names.{SideOf, steps_of, rig_of, positions_in}
 use Rattle.cell_plant.proofs.Resting.{moves_rest}
-use Rattle.cell_threads.specs.Lines.{passes}
-use Rattle.cell_threads.specs.Workers.{GateOf, TakesTurn, HasEnded, AreCountsOf}
-use Rattle.cell_workers.specs.Records.{MomentOf, first_moment, parts_at_ends, TellsAnyWork, has_worker}
-use Rattle.cell_threads.specs.Laws.{HadTurns, HasAtMost}
-use Rattle.cell_workers.specs.Laws.{Rule, by_rule, TellsNothingDone, first_call, TellsFirstTurns, RecordsTellTurns, RecordsKeepTries, WorkersEnd, TurnsAreTaken}
 use Rattle.cell_threads.proofs.Passes.{come_same, come_counts}
 use Rattle.cell_workers.proofs.Ending.{ended_at_opening}
 use Rattle.cell_threads.proofs.Answering.{side_answered, line_unchanged}
 use Rattle.cell_workers.proofs.Falling.{falls}
 use Rattle.cell_workers.proofs.Staying.{told}
 use Rattle.cell_threads.proofs.Telling.{no_turn_left as stays_without_turns, never_let_in as stays_if_shut}
-use Rattle.cell_threads.proofs.FirstSteps.{within, ends_fine, ends_kept_out, has_status_by, answers_along, let_in_along, few_along, once, own_at_first, noted_at_most, busy_lost, busy_counted}
 
 -- equal lists of the machines' values have equal values for each machine
 each_same : {A : Type 0} → (f g : Machine → A) → map f all_machines ≡ map g all_machines → (m : Machine) → f m ≡ g m

@@ -1,19 +1,6 @@
-use Rattle.std.proofs.Common.{◌≡◌, ℕ, [], ◌∷◌, Some, ◌∙◌, refl, sym, ap, subst}
-use Rattle.cell_rules.specs.Types.{Feed, Table, Robot, Press, Deposit, Crane, Journals, journal_of}
-use Rattle.cell_rules.specs.Names.{ModelState, after, noted, LawfulThroughout, IsAudited}
-use Rattle.cell_interlock.specs.Fresh.{fresh_pass}
-use Rattle.cell_haul.specs.Names.{feed_steps, deposit_steps, crane_steps}
-use Rattle.cell_notes.specs.Names.{no_counts}
-use Rattle.cell_notes.specs.declared.status.Status.TheVariants.{Fine}
-use Rattle.cell_robot.specs.RobotProgram.{gauges_of, robot_steps}
-use Rattle.cell_stations.specs.Names.{press_steps, table_steps}
-use Rattle.cell_parts.specs.Rigs.{table_rig, robot_rig, crane_rig}
-use Rattle.cell_plant.specs.Names.{robot_gauges, robot_points, robot_axes, positions_in, cell_gauges, cell_scales, points_of, sides_of, Sides, sides_at_start}
+use Rattle.cell_workers.proofs.Names.{◌≡◌, ℕ, [], ◌∷◌, Some, ◌∙◌, refl, sym, ap, subst, Feed, Table, Robot, Press, Deposit, Crane, Journals, journal_of, ModelState, after, noted, LawfulThroughout, IsAudited, fresh_pass, feed_steps, deposit_steps, crane_steps, no_counts, Fine, gauges_of, robot_steps, press_steps, table_steps, table_rig, robot_rig, crane_rig, robot_gauges, robot_points, robot_axes, positions_in, cell_gauges, cell_scales, points_of, sides_of, Sides, sides_at_start, TellsWork}
+use Rattle.cell_workers.proofs.Names.{seen_in, CellOutputs, parts_in, worker_moment}
 use Rattle.cell_plant.specs.Watch.{watch_at_start}
-use Rattle.cell_workers.specs.Records.{TellsWork}
-use Rattle.cell_threads.specs.Results.{seen_in}
-use Rattle.cell_workers.specs.Results.{CellOutputs, parts_in}
-use Rattle.cell_threads.specs.Workers.{worker_moment}
 use Rattle.cell_workers.proofs.Recording.{AreWorkerResults, fitted_result, is_result_of, ready_at_start, tells}
 use Rattle.cell_workers.proofs.Unrefused.{work-unrefused}
 use Rattle.cell_workers.proofs.run.run_cell.Goals as goal
