@@ -1,25 +1,9 @@
 -- A machine that goes on from a step of its program stands at a step to which it has come from there.
-use Rattle.std.proofs.Common.{◌≡◌, ℕ, zero, suc, Bool, true, false, ◌||◌, if◌then◌else◌, inl, inr, List, [], ◌∷◌, ◌++◌, Option, Some, None, Result, Ok, Err, refl, sym, ap, ◌∙◌, subst}
-use Rattle.std.proofs.lemmas.List.{append_assoc}
-use Rattle.cell_rules.specs.Types.{Machine, Call, Answer, Done, Shown, Refused, Refusal, Worn, Event, Reply, Settled}
-use Rattle.cell_rules.specs.Types.{Busy}
-use Rattle.cell_calib.specs.declared.sense.SensorFault.{SensorFault}
-use Rattle.cell_rules.specs.Names.{ModelState, after, IsLegal, own_events, Program, MovesIn, Reached, event, Waits}
-use Rattle.cell_rules.specs.declared.heard.LineFault.{LineFault}
+use Rattle.cell_renewal.proofs.Names.{◌≡◌, ℕ, zero, suc, Bool, true, false, ◌||◌, if◌then◌else◌, inl, inr, List, [], ◌∷◌, ◌++◌, Option, Some, None, Result, Ok, Err, refl, sym, ap, ◌∙◌, subst, append_assoc, Machine, Call, Answer, Done, Shown, Refusal, Event, Reply, Settled, Busy, SensorFault, ModelState, after, IsLegal, own_events, Program, MovesIn, Reached, event, Waits, LineFault, PassView, InterlockView, fresh_pass, HasSeenMore, fault_of, Steps, waits_out, step_after_reply, Performed}
+use Rattle.cell_renewal.proofs.Names.{PerformsCall, PerformsSensed, Turned, Turns, at_rest, CtlFault, Told, DrivesOn, LeadsOrStays, HasComeFrom, program_with_stops, is_worn, IsHeeded, IsStoppedBy, Stands, stands_later, GateOf, AreTaken, ComesBy, WiredMoment, TakesCycle, wired_moment}
+use Rattle.cell_rules.specs.Types.{Refused, Worn}
 use Rattle.cell_rules.proofs.SeenLemmas.{legal-right, own-append}
-use Rattle.cell_interlock.specs.Views.{PassView, InterlockView}
-use Rattle.cell_interlock.specs.Fresh.{fresh_pass}
-use Rattle.cell_interlock.specs.Seen.{HasSeenMore}
-use Rattle.cell_control.specs.Names.{fault_of, Steps, waits_out, step_after_reply, Performed, PerformsCall, PerformsSensed}
-use Rattle.cell_control.specs.Names.{Turned, Turns, at_rest}
-use Rattle.cell_control.specs.declared.fault.CtlFault.{CtlFault}
-use Rattle.cell_control.specs.declared.told.Told.{Told}
 use Rattle.cell_control.specs.declared.fault.CtlFault.TheVariants as fault
-use Rattle.cell_team.specs.Names.{DrivesOn, LeadsOrStays, HasComeFrom, program_with_stops, is_worn, IsHeeded}
-use Rattle.cell_team.specs.Names.{IsStoppedBy}
-use Rattle.cell_team.proofs.Turned.{Stands, stands_later}
-use Rattle.cell_threads.specs.Workers.{GateOf, AreTaken, ComesBy}
-use Rattle.cell_renewal.specs.WiredWorkers.{WiredMoment, TakesCycle, wired_moment}
 use Rattle.cell_renewal.proofs.WiredUnrefused.{wired_stands}
 
 -- the same program, but that it begins at this step

@@ -1,3 +1,4 @@
+mod Names
 pub mod WiredTurning
 pub mod WiredEnding
 pub mod WiredPress

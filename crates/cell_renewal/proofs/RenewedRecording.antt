@@ -1,19 +1,6 @@
 -- Rounds of six workers that go on, by the six programs: none ends as refused, and none as worn while stamps are left.
-use Rattle.std.proofs.Common.{◌≡◌, ◌≢◌, ◌≤◌, ◌<◌, ◌+◌, ◌*◌, ℕ, zero, suc, false, List, [], Option, None, Result, inl, inr, ⊎_elim, refl, sym, ap, ◌∙◌, subst, arith}
-use Rattle.std.specs.Prelude.{length}
-use Rattle.std.proofs.Math.Nat.{lt_of_not-le}
-use Rattle.std.proofs.lemmas.List.{append-nil}
-use Rattle.cell_rules.specs.Types.{Machine, Feed, Table, Robot, Press, Deposit, Crane, Watch, Event, same_machine}
-use Rattle.cell_calib.specs.declared.gauge.Gauge.{Ghosts}
-use Rattle.cell_rules.specs.Names.{ModelState, last_stamp, IsSound, IsStartState, after, IsLegal, done_count}
-use Rattle.cell_rules.specs.Names.{own_events, restamped}
-use Rattle.cell_rules.proofs.Histories.{sound-after}
-use Rattle.cell_rules.proofs.Restamps.{restamped_sound}
-use Rattle.cell_interlock.specs.Views.{InterlockView}
-use Rattle.cell_interlock.specs.Fresh.{fresh_pass}
-use Rattle.cell_control.specs.declared.fault.CtlFault.{CtlFault}
-use Rattle.cell_haul.specs.Names.{deposit_steps, feed_steps}
-use Rattle.cell_haul.specs.declared.crane.CraneProgram.{CraneProgram}
+use Rattle.cell_renewal.proofs.Names.{◌≡◌, ◌≢◌, ◌≤◌, ◌<◌, ◌+◌, ◌*◌, ℕ, zero, suc, false, List, [], Option, None, Result, inl, inr, refl, sym, ap, ◌∙◌, subst, arith, length, append-nil, Machine, Feed, Table, Robot, Press, Deposit, Crane, Watch, Event, same_machine, Ghosts, ModelState, last_stamp, IsSound, after, IsLegal, done_count, own_events, restamped, sound-after, restamped_sound, InterlockView, fresh_pass, CtlFault, deposit_steps, feed_steps, CraneProgram, press_steps, PressProgress}
+use Rattle.cell_renewal.proofs.Names.{TableProgram, Refused, Worn, CellScales, CellGauges, ProgressOf, steps_of, programs_of, HaveComeFrom, StandAfter, Stands, TellsWatched, WatchesOf, GateOf, SixRecord, all_along, GoingLeft, GoingOn, OpensAfter, RoundMoment, TakesRound, AllRun, GoingSix, NoneIsRefusedThrough, NoneIsWornThrough, SixLeft, MakesAtMost, by_crane, by_robot, by_table, going_gives, going_on, Shows, Sets}
 use Rattle.cell_haul.specs.declared.crane.CraneProgress.{CraneProgress}
 use Rattle.cell_haul.specs.declared.deposit.DepositProgram.{DepositProgram}
 use Rattle.cell_haul.specs.declared.deposit.DepositProgress.{DepositProgress}
@@ -21,28 +8,10 @@ use Rattle.cell_haul.specs.declared.feed.FeedProgram.{FeedProgram}
 use Rattle.cell_haul.specs.declared.feed.FeedProgress.{FeedProgress}
 use Rattle.cell_robot.specs.declared.robot.RobotProgram.{RobotProgram}
 use Rattle.cell_robot.specs.declared.robot.RobotProgress.{RobotProgress}
-use Rattle.cell_stations.specs.Names.{press_steps}
 use Rattle.cell_stations.specs.declared.press.PressProgram.{PressProgram}
-use Rattle.cell_stations.specs.declared.press.PressProgress.{PressProgress}
-use Rattle.cell_stations.specs.declared.table.TableProgram.{TableProgram}
 use Rattle.cell_stations.specs.declared.table.TableProgress.{TableProgress}
-use Rattle.cell_notes.specs.declared.status.Status.{Status}
-use Rattle.cell_notes.specs.declared.status.Status.TheVariants.{Fine, Refused, Worn}
-use Rattle.cell_parts.specs.Axes.{CellScales}
-use Rattle.cell_plant.specs.Machines.{CellGauges, ProgressOf, steps_by, steps_of}
-use Rattle.cell_team.specs.Names.{Team, programs_of, HaveComeFrom, StandAfter}
 use Rattle.cell_team.proofs.Together.{sound_start}
-use Rattle.cell_team.proofs.Turned.{Stands}
 use Rattle.cell_threads.specs.Results.{SixResults, outputs_in}
-use Rattle.cell_threads.specs.Watching.{TellsWatched, WatchesOf, seen_with}
-use Rattle.cell_threads.specs.Workers.{GateOf, ComesBy}
-use Rattle.cell_threads.specs.declared.six.SixRecord.{SixRecord}
-use Rattle.cell_threads.proofs.Turning.{all_along}
-use Rattle.cell_renewal.specs.Going.{GoesOnFrom, GoingLeft, GoingOn}
-use Rattle.cell_renewal.specs.Renewing.{OpensAfter, RoundMoment, TakesRound, RunsRenewed}
-use Rattle.cell_renewal.specs.RenewedRecords.{AllRun, AreAtStart, GoingSix, NoneEnded, NoneIsRefusedThrough, NoneIsWornThrough, Runs, SixLeft, MakesAtMost, by_crane, by_robot, by_table, going_gives, going_on}
-use Rattle.cell_renewal.specs.WiredTeams.{Shows, Sets}
-use Rattle.cell_renewal.specs.declared.rounds.Leave.{Leave}
 use Rattle.cell_renewal.specs.declared.rounds.Round.{Round}
 use Rattle.cell_renewal.proofs.GoingStands.{from_step}
 use Rattle.cell_renewal.proofs.RenewedTeams.{all_come, none_refused, stands_near, team_of}

@@ -1,24 +1,6 @@
 -- One machine's round: where it stands after it, and that it is worn only when the stamps are used up.
-use Rattle.std.proofs.Common.{◌≡◌, ◌≢◌, ◌≤◌, ◌<◌, ℕ, ◌+◌, List, Option, Some, None, inl, inr, refl, sym, ap, ◌∙◌, subst, arith}
-use Rattle.std.specs.Prelude.{length}
-use Rattle.cell_rules.specs.Types.{Refusal, Event}
-use Rattle.cell_rules.specs.Names.{ModelState, last_stamp, IsSound, IsLegal, own_events, done_count, Waits}
-use Rattle.cell_interlock.specs.Views.{InterlockView}
-use Rattle.cell_interlock.specs.Fresh.{fresh_pass}
-use Rattle.cell_control.specs.Names.{Steps}
-use Rattle.cell_control.specs.declared.fault.CtlFault.{CtlFault}
-use Rattle.cell_control.specs.declared.told.Told.{Told}
+use Rattle.cell_renewal.proofs.Names.{◌≡◌, ◌≢◌, ◌≤◌, ℕ, ◌+◌, List, Option, Some, None, refl, sym, ◌∙◌, subst, arith, length, Refusal, Event, last_stamp, IsSound, IsLegal, own_events, done_count, Waits, InterlockView, fresh_pass, Steps, CtlFault, Told, Status, Fine, Refused, Sensor, Worn, Memory, Stands, GateOf, ComesBy, Ends, WorkerResult, within, ended, GoingLeft, GoingOn, Runs, going_gives, TakesCycle, wired_moment}
 use Rattle.cell_control.specs.declared.fault.CtlFault.TheVariants as fault
-use Rattle.cell_notes.specs.declared.status.Status.{Status}
-use Rattle.cell_notes.specs.declared.status.Status.TheVariants.{Fine, GateLimit, Refused, Sensor, Worn, Memory}
-use Rattle.cell_team.proofs.Turned.{Stands}
-use Rattle.cell_threads.specs.Workers.{GateOf, ComesBy, Ends}
-use Rattle.cell_threads.specs.declared.worker_result.WorkerResult.{WorkerResult}
-use Rattle.cell_threads.proofs.FirstSteps.{within}
-use Rattle.cell_threads.proofs.FirstSteps.{ended}
-use Rattle.cell_renewal.specs.Going.{GoingLeft, GoingOn}
-use Rattle.cell_renewal.specs.RenewedRecords.{Runs, going_gives}
-use Rattle.cell_renewal.specs.WiredWorkers.{TakesCycle, wired_moment}
 use Rattle.cell_renewal.proofs.GoingStands.{from_step, going_stands}
 use Rattle.cell_renewal.proofs.Wearing.{wears-last}
 

@@ -1,18 +1,7 @@
 -- What each machine leaves after a round may go on where the next interlock opens.
-use Rattle.std.proofs.Common.{◌≡◌, ℕ, List, [], inl, inr, sym, ap, ◌∙◌, subst}
-use Rattle.std.proofs.lemmas.List.{append-nil}
-use Rattle.cell_rules.specs.Types.{Machine, Feed, Table, Robot, Press, Deposit, Crane, Event}
-use Rattle.cell_rules.specs.Names.{ModelState, IsSound, after, IsLegal, restamped, IsSameFor, Waits}
+use Rattle.cell_renewal.proofs.Names.{◌≡◌, ℕ, List, [], inl, inr, sym, ap, ◌∙◌, subst, append-nil, Machine, Feed, Table, Robot, Press, Deposit, Crane, Event, ModelState, IsSound, after, IsLegal, restamped, IsSameFor, Waits, PassView, InterlockView, fresh_pass, IsSamePass, GateOf, TellsWatched, WatchesOf, PerMachine, SixRecord, OpensAfter, Leaves, MayGoOn, MayAllGoOn}
 use Rattle.cell_rules.proofs.Restamps.{same_after}
-use Rattle.cell_interlock.specs.Views.{PassView, InterlockView}
-use Rattle.cell_interlock.specs.Fresh.{fresh_pass}
-use Rattle.cell_interlock.specs.Seen.{IsSamePass}
-use Rattle.cell_threads.specs.Workers.{GateOf}
 use Rattle.cell_threads.specs.Promises.{GivesOf}
-use Rattle.cell_threads.specs.Watching.{TellsWatched, WatchesOf}
-use Rattle.cell_threads.specs.declared.per_machine.PerMachine.{PerMachine}
-use Rattle.cell_threads.specs.declared.six.SixRecord.{SixRecord}
-use Rattle.cell_renewal.specs.Renewing.{OpensAfter, Leaves, MayGoOn, MayAllGoOn}
 
 -- whichever stamp it is
 opened_stamp : (mark : ℕ) (end next : ModelState) → OpensAfter mark end next → (stamp : ℕ) × (next ≡ restamped end stamp)

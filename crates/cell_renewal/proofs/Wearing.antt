@@ -1,33 +1,12 @@
 -- A worker that goes on is worn only by the last stamp.
-use Rattle.std.proofs.Common.{◌≡◌, ℕ, suc, ◌+◌, ◌≤◌, ◌<◌, Bool, true, false, cond, if◌then◌else◌, inl, inr, List, [], ◌∷◌, ◌++◌, Option, Some, None, Result, Ok, Err, refl, sym, ap, ◌∙◌, subst, arith}
-use Rattle.std.specs.Prelude.{length}
+use Rattle.cell_renewal.proofs.Names.{◌≡◌, ℕ, suc, ◌+◌, ◌≤◌, ◌<◌, Bool, true, false, cond, if◌then◌else◌, inl, inr, List, [], ◌∷◌, ◌++◌, Option, Some, None, Result, Ok, Err, refl, sym, ap, ◌∙◌, subst, arith, length, length-append, append_assoc, Machine, Feed, Table, Robot, Press, Deposit, Crane, Watch, same_machine, Call, Refusal, Done, Shown, Event, Reply, Settled, Busy, SensorFault, ModelState, last_stamp, one_if, IsSound, reply, after, IsLegal, own_events, is_done, done_count, event}
+use Rattle.cell_renewal.proofs.Names.{BeginsWith, LineFault, legal-left, sound-after, stamps_only_wear, PassView, PassAsks, IsSamePass, fault_of, Steps, waits_out, step_after_reply, Performed, PerformsCall, PerformsSensed, Turned, Turns, at_rest, turned, answered, CtlFault, Told, turn_either, Status, GateOf, ComesBy, Ends, all_along, asks_same, unchanged_pass, WiredMoment, TakesWiredTurn, RestsUnread, TakesCycle}
 use Rattle.std.proofs.Math.Nat.{lt_of_not-le}
-use Rattle.std.proofs.lemmas.List.{length-append, append_assoc}
 use Rattle.std.proofs.lemmas.List.Sums.{sum_by-append}
-use Rattle.cell_rules.specs.Types.{Machine, Feed, Table, Robot, Press, Deposit, Crane, Watch, same_machine, Call}
-use Rattle.cell_rules.specs.Types.{Refusal, Worn, Done, Shown, Refused, Event, Reply, Settled, Busy}
-use Rattle.cell_calib.specs.declared.sense.SensorFault.{SensorFault}
-use Rattle.cell_rules.specs.Names.{ModelState, last_stamp, one_if, IsSound, reply, after, IsLegal, own_events}
-use Rattle.cell_rules.specs.Names.{is_done, done_count, event, BeginsWith}
-use Rattle.cell_rules.specs.declared.heard.LineFault.{LineFault}
-use Rattle.cell_rules.proofs.Histories.{legal-left, sound-after}
-use Rattle.cell_rules.proofs.Restamps.{stamps_only_wear}
+use Rattle.cell_rules.specs.Types.{Worn, Refused}
 use Rattle.cell_rules.proofs.Stamps.{stamp-after}
-use Rattle.cell_interlock.specs.Views.{PassView}
-use Rattle.cell_interlock.specs.Lines.{PassAsks}
-use Rattle.cell_interlock.specs.Seen.{IsSamePass}
-use Rattle.cell_control.specs.Names.{fault_of, Steps, waits_out, step_after_reply, Performed, PerformsCall, PerformsSensed}
-use Rattle.cell_control.specs.Names.{Turned, Turns, at_rest, turned, answered}
-use Rattle.cell_control.specs.declared.fault.CtlFault.{CtlFault}
-use Rattle.cell_control.specs.declared.told.Told.{Told}
 use Rattle.cell_control.specs.declared.fault.CtlFault.TheVariants as fault
-use Rattle.cell_control.proofs.TurnMaps.{turn_either}
-use Rattle.cell_notes.specs.declared.status.Status.{Status}
 use Rattle.cell_notes.specs.declared.status.Status.TheVariants as status
-use Rattle.cell_threads.specs.Workers.{GateOf, ComesBy, Ends}
-use Rattle.cell_threads.proofs.Turning.{all_along}
-use Rattle.cell_threads.proofs.Passes.{asks_same, unchanged_pass}
-use Rattle.cell_renewal.specs.WiredWorkers.{WiredMoment, TakesWiredTurn, RestsUnread, TakesCycle}
 use Rattle.cell_renewal.specs.Wearing.{ChangesAreCalls, WearsLast}
 
 -- a machine was refused as worn after some part of what its pass has seen

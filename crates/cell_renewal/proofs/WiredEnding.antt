@@ -1,19 +1,7 @@
 -- How a worker with devices of your own ends.
-use Rattle.std.proofs.Common.{◌≡◌, ◌≢◌, ◌<◌, ◌+◌, ◌⊎◌, inl, inr, ⊎_elim, ℕ, true, false, List, [], ◌∷◌, Option, Some, None, Result, Ok, Err, refl, sym, ap, subst, ◌∙◌, below_more, arith}
-use Rattle.cell_rules.specs.Types.{Call, Reply}
-use Rattle.cell_rules.specs.declared.heard.LineFault.{LineFault}
-use Rattle.cell_interlock.specs.Views.{PassView}
-use Rattle.cell_control.specs.Names.{Steps, Performed, Turned, Turns, turned, answered}
-use Rattle.cell_control.specs.declared.fault.CtlFault.{CtlFault}
-use Rattle.cell_control.specs.declared.told.Told.{Told}
+use Rattle.cell_renewal.proofs.Names.{◌≡◌, ◌≢◌, ◌<◌, ◌+◌, ◌⊎◌, inl, inr, ⊎_elim, ℕ, true, false, List, [], ◌∷◌, Option, Some, None, Result, Ok, Err, refl, sym, ap, subst, ◌∙◌, below_more, arith, Call, Reply, LineFault, PassView, Steps, Performed, Turned, Turns, turned, answered, CtlFault, Told, Status, Fine, GateLimit, Sensor, Refused, Worn, Memory, GateOf, AreTaken, Ends, last_of, all_along, WiredMoment, TakesWiredTurn, TakesCycle, IsWiredResult, wired_moment, AreToldToRest, WiredWorkerEnds}
 use Rattle.cell_control.specs.declared.fault.CtlFault.TheVariants as cause
-use Rattle.cell_notes.specs.declared.status.Status.{Status}
-use Rattle.cell_notes.specs.declared.status.Status.TheVariants.{Fine, GateLimit, Sensor, Refused, Worn, Memory}
 use Rattle.cell_unit.specs.Statuses.{status_of}
-use Rattle.cell_threads.specs.Workers.{GateOf, AreTaken, Ends, last_of}
-use Rattle.cell_threads.proofs.Turning.{all_along}
-use Rattle.cell_renewal.specs.WiredWorkers.{WiredMoment, TakesWiredTurn, TakesCycle, IsWiredResult, wired_moment}
-use Rattle.cell_renewal.specs.WiredLaws.{AreToldToRest, WiredWorkerEnds}
 
 -- no turn was taken, or there is a last one
 pub last_turn : {M : Type 0} → (Turn : M → M → Type 0) (first : M) (turns : List M) → AreTaken Turn first turns → (last_of first turns ≡ first) ⊎ ((before : M) × Turn before (last_of first turns))

@@ -1,24 +1,10 @@
 -- Cycles of a press with devices of your own.
-use Rattle.std.proofs.Common.{◌≡◌, ◌≢◌, ℕ, ◌+◌, Bool, true, false, inl, inr, Option, Some, None, Result, Err, refl, sym, ap, subst, ◌∙◌}
-use Rattle.std.specs.Prelude.{IsSomeAnd}
-use Rattle.cell_rules.specs.Types.{Press, Call, Reply, Z3}
+use Rattle.cell_renewal.proofs.Names.{◌≡◌, ◌≢◌, ℕ, ◌+◌, Bool, true, false, inl, inr, Option, Some, None, Result, Err, refl, sym, ap, subst, ◌∙◌, IsSomeAnd, Press, Call, Reply, Z3, SensorFault, Holds, PressMoves, LineFault, PassAsks, PerformsSensed, Turned, Turns, turned, answered, CtlFault, Told, press_steps, checked, PressProgress, GateOf, WiredMoment, TakesCycle, WiredPressTurns, told_clash, told_unread}
 use Rattle.cell_calib.specs.declared.sense.PressSense.{PressSense}
-use Rattle.cell_calib.specs.declared.sense.SensorFault.{SensorFault}
 use Rattle.cell_calib.specs.declared.sense.SensorFault.TheVariants.{Clash}
-use Rattle.cell_rules.specs.Names.{Holds, PressMoves}
-use Rattle.cell_rules.specs.declared.heard.LineFault.{LineFault}
-use Rattle.cell_interlock.specs.Lines.{PassAsks}
-use Rattle.cell_control.specs.Names.{PerformsSensed, Turned, Turns, turned, answered}
-use Rattle.cell_control.specs.declared.fault.CtlFault.{CtlFault}
 use Rattle.cell_control.specs.declared.fault.CtlFault.TheVariants.{Sensor}
-use Rattle.cell_control.specs.declared.told.Told.{Told}
 use Rattle.cell_devices.specs.declared.act.PressAct.{PressAct}
 use Rattle.cell_devices.specs.declared.motor.Motor.TheVariants.{Off}
-use Rattle.cell_stations.specs.Names.{press_steps, checked}
-use Rattle.cell_stations.specs.declared.press.PressProgress.{PressProgress}
-use Rattle.cell_threads.specs.Workers.{GateOf}
-use Rattle.cell_renewal.specs.WiredWorkers.{WiredMoment, TakesCycle}
-use Rattle.cell_renewal.specs.WiredLaws.{WiredPressTurns, told_clash, told_unread}
 
 clash_by : (middle : Bool) → checked (record { bottom = true; middle = middle; top = true }) ≡ Err Clash
 clash_by true = refl

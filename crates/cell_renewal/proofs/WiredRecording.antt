@@ -1,31 +1,9 @@
 -- What a record tells of six workers with devices of your own, by what each gave back.
-use Rattle.std.proofs.Common.{◌≡◌, ◌≢◌, ℕ, List, [], ◌∷◌, Option, None, refl, sym, ◌∙◌, subst}
-use Rattle.std.specs.List.{All}
-use Rattle.std.proofs.lemmas.List.{append-nil}
+use Rattle.cell_renewal.proofs.Names.{◌≡◌, ◌≢◌, ℕ, List, [], ◌∷◌, Option, None, refl, sym, ◌∙◌, subst, All, append-nil, Machine, Feed, Table, Robot, Press, Deposit, Crane, Ghosts, IsLegal, ModelState, IsStartState, InterlockView, fresh_pass, Steps, Told, crane_steps, deposit_steps, feed_steps, CraneProgram, press_steps, table_steps, TableProgram, Status, Fine, Refused, CellScales, CellGauges, GateOf, PerMachine, WorkerResult, NoneEndsRefused, Sets, Shows, WiredTeam, IsWiredResult, wired_moment}
 use Rattle.std.proofs.lemmas.List.Elements.{All-head, All-tail}
-use Rattle.cell_rules.specs.Types.{Machine, Feed, Table, Robot, Press, Deposit, Crane}
-use Rattle.cell_calib.specs.declared.gauge.Gauge.{Ghosts}
-use Rattle.cell_rules.specs.Names.{IsLegal, ModelState, IsStartState}
-use Rattle.cell_interlock.specs.Views.{InterlockView}
-use Rattle.cell_interlock.specs.Fresh.{fresh_pass}
-use Rattle.cell_control.specs.Names.{Steps}
-use Rattle.cell_control.specs.declared.told.Told.{Told}
-use Rattle.cell_haul.specs.Names.{crane_steps, deposit_steps, feed_steps}
-use Rattle.cell_haul.specs.declared.crane.CraneProgram.{CraneProgram}
 use Rattle.cell_robot.specs.Names.{gauges_of, robot_scales, robot_steps}
 use Rattle.cell_robot.specs.declared.robot.RobotProgram.{RobotProgram}
-use Rattle.cell_stations.specs.Names.{press_steps, table_steps}
-use Rattle.cell_stations.specs.declared.table.TableProgram.{TableProgram}
-use Rattle.cell_notes.specs.declared.status.Status.{Status}
-use Rattle.cell_notes.specs.declared.status.Status.TheVariants.{Fine, Refused}
-use Rattle.cell_parts.specs.Axes.{CellScales}
-use Rattle.cell_plant.specs.Machines.{CellGauges}
-use Rattle.cell_threads.specs.Workers.{GateOf}
-use Rattle.cell_threads.specs.declared.per_machine.PerMachine.{PerMachine}
-use Rattle.cell_threads.specs.declared.worker_result.WorkerResult.{WorkerResult}
 use Rattle.cell_renewal.specs.WiredRecords.{RefusedIsFound, NoneIsRefused, NoneRecordedRefused, TellsWired, WiredRecord, WiredRecordsTell, WiredSix, wired_gives}
-use Rattle.cell_renewal.specs.WiredTeams.{NoneEndsRefused, Sets, Shows, WiredTeam}
-use Rattle.cell_renewal.specs.WiredWorkers.{IsWiredResult, wired_moment}
 use Rattle.cell_renewal.specs.declared.wired_worker.WiredOutput.{WiredOutput}
 use Rattle.cell_renewal.specs.declared.wired_worker.WiredWorker.{WiredWorker}
 use Rattle.cell_renewal.proofs.WiredUnrefused.{wired-unrefused}

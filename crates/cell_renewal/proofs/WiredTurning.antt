@@ -1,13 +1,5 @@
 -- The cycles of a worker with devices of your own, one by one.
-use Rattle.std.proofs.Common.{◌≡◌, ℕ, Option, Some, None, refl, subst, inl, arith}
-use Rattle.cell_control.specs.Names.{Steps}
-use Rattle.cell_control.specs.declared.fault.CtlFault.{CtlFault}
-use Rattle.cell_control.specs.declared.told.Told.{Told}
-use Rattle.cell_notes.specs.declared.status.Status.{Status}
-use Rattle.cell_unit.specs.Statuses.{status_of}
-use Rattle.cell_threads.specs.Workers.{GateOf, ComesBy, Ends}
-use Rattle.cell_threads.proofs.Turning.{comes_on}
-use Rattle.cell_renewal.specs.WiredWorkers.{WiredMoment, TakesCycle}
+use Rattle.cell_renewal.proofs.Names.{◌≡◌, ℕ, Option, subst, Steps, Told, GateOf, ComesBy, comes_on, WiredMoment, TakesCycle}
 
 -- a program keeps its calibrations, and a line its tries
 module _ {P S Sense Reading Act D : Type 0} (steps : P → Steps S Sense Reading Act) (shows : D → Option Sense → D → Type 0) (sets : D → Told Act → D → Type 0) (gate : GateOf) where

@@ -1,25 +1,7 @@
 -- A worker with devices of your own stands at a step of its program after each turn, so none of six ends as refused.
-use Rattle.std.proofs.Common.{◌≡◌, ℕ, ◌+◌, false, inl, inr, Option, None, Result, Ok, Err, refl, sym, ap, ◌∙◌, subst}
-use Rattle.cell_rules.specs.Types.{Machine, Feed, Table, Robot, Press, Deposit, Crane, Watch, same_machine, Call, Reply}
-use Rattle.cell_rules.specs.declared.heard.LineFault.{LineFault}
-use Rattle.cell_rules.specs.ModelState.{ModelState}
-use Rattle.cell_interlock.specs.Views.{PassView}
-use Rattle.cell_interlock.specs.Lines.{PassAsks}
-use Rattle.cell_interlock.specs.Seen.{IsSamePass}
-use Rattle.cell_control.specs.Names.{Steps, Turned, Turns, answered}
-use Rattle.cell_control.specs.declared.fault.CtlFault.{CtlFault}
-use Rattle.cell_control.specs.declared.told.Told.{Told}
-use Rattle.cell_control.proofs.TurnMaps.{turn_either}
-use Rattle.cell_parts.specs.Axes.{CellScales}
-use Rattle.cell_plant.specs.Machines.{CellGauges, ProgressOf, steps_by}
+use Rattle.cell_renewal.proofs.Names.{◌≡◌, ℕ, ◌+◌, false, inl, inr, Option, None, Result, Ok, Err, refl, sym, ap, ◌∙◌, subst, Machine, Feed, Table, Robot, Press, Deposit, Crane, Watch, same_machine, Call, Reply, LineFault, ModelState, PassView, PassAsks, IsSamePass, Steps, Turned, Turns, answered, CtlFault, Told, turn_either, CellScales, CellGauges, ProgressOf, steps_by, Stands, Sees, sees_of, stands_on, stands_later, GateOf, ComesBy, all_along, asks_same, unchanged_pass, ended, WiredMoment}
+use Rattle.cell_renewal.proofs.Names.{TakesWiredTurn, TakesCycle, Shows, Sets, WiredTeam, NoneEndsRefused, NoWiredWorkerIsRefused}
 use Rattle.cell_plant.proofs.Standing.{none_refused_by}
-use Rattle.cell_team.proofs.Turned.{Stands, Sees, sees_of, stands_on, stands_later}
-use Rattle.cell_threads.specs.Workers.{GateOf, ComesBy}
-use Rattle.cell_threads.proofs.Turning.{all_along}
-use Rattle.cell_threads.proofs.Passes.{asks_same, unchanged_pass}
-use Rattle.cell_threads.proofs.FirstSteps.{ended}
-use Rattle.cell_renewal.specs.WiredWorkers.{WiredMoment, TakesWiredTurn, TakesCycle}
-use Rattle.cell_renewal.specs.WiredTeams.{Shows, Sets, WiredTeam, NoneEndsRefused, NoWiredWorkerIsRefused}
 
 -- what a pass sees of its call
 seen_after : (tries : ℕ) (m : Machine) (v w : PassView) (c : Call) (r : Result Reply LineFault) → v.machine ≡ m → PassAsks tries v c r w → Sees m c r v.seen w.seen

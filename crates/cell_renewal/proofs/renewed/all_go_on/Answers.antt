@@ -1,6 +1,4 @@
-use Rattle.std.proofs.Common.{sym}
-use Rattle.cell_types.specs.declared.machine.Machine.TheVariants.{Feed, Table, Robot, Press, Deposit, Crane}
-use Rattle.cell_interlock.specs.Fresh.{fresh_pass}
+use Rattle.cell_renewal.proofs.Names.{sym, Feed, Table, Robot, Press, Deposit, Crane, fresh_pass}
 use Rattle.cell_renewal.proofs.renewed.all_go_on.Goals as goal
 
 pub returns-clause-ready : goal.returns-clause-ready

@@ -1,6 +1,4 @@
-use Rattle.std.proofs.Common.{sym, subst}
-use Rattle.cell_threads.proofs.Turning.{comes_on}
-use Rattle.cell_renewal.specs.Renewing.{AreAllFine, EndsRound, IsTurnedOver, TakesRound}
+use Rattle.cell_renewal.proofs.Names.{sym, subst, comes_on, AreAllFine, EndsRound, IsTurnedOver, TakesRound}
 use Rattle.cell_renewal.proofs.renewed.run_renewed.Goals as goal
 
 pub rounds-preserved : goal.rounds-preserved

@@ -1,6 +1,5 @@
-use Rattle.cell_threads.specs.Workers.{ComesBy}
+use Rattle.cell_renewal.proofs.Names.{ComesBy, TakesRound}
 use Rattle.cell_threads.specs.Six.{AreReadyAt}
-use Rattle.cell_renewal.specs.Renewing.{TakesRound}
 use Rattle.cell_renewal.proofs.renewed.run_renewed.Given as goal
 
 abbrev pub invariant-rounds : goal.invariant-rounds

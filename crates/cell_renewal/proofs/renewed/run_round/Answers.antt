@@ -1,6 +1,4 @@
-use Rattle.std.proofs.Common.{refl}
-use Rattle.cell_types.specs.declared.machine.Machine.TheVariants.{Feed, Table, Robot, Press, Deposit, Crane}
-use Rattle.cell_interlock.specs.Fresh.{fresh_pass}
+use Rattle.cell_renewal.proofs.Names.{refl, Feed, Table, Robot, Press, Deposit, Crane, fresh_pass}
 use Rattle.cell_renewal.proofs.Renewing.{all_may_go_on}
 use Rattle.cell_renewal.proofs.renewed.run_round.Goals as goal
 

@@ -1,6 +1,4 @@
-use Rattle.std.proofs.Common.{◌∙◌, arith, subst}
-use Rattle.cell_threads.proofs.Passes.{same_after}
-use Rattle.cell_renewal.specs.WiredWorkers.{TakesCycle, wired_moment}
+use Rattle.cell_renewal.proofs.Names.{◌∙◌, arith, subst, same_after, TakesCycle, wired_moment}
 use Rattle.cell_renewal.proofs.WiredTurning.{wired_comes_by}
 use Rattle.cell_renewal.proofs.wired_worker.take_wired_turns.Goals as goal
 

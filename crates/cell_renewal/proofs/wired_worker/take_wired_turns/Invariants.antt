@@ -1,7 +1,4 @@
-use Rattle.std.proofs.Common.{◌≡◌, ◌+◌}
-use Rattle.cell_interlock.specs.Seen.{IsSamePass}
-use Rattle.cell_threads.specs.Workers.{ComesBy}
-use Rattle.cell_renewal.specs.WiredWorkers.{TakesCycle, wired_moment}
+use Rattle.cell_renewal.proofs.Names.{◌≡◌, ◌+◌, IsSamePass, ComesBy, TakesCycle, wired_moment}
 use Rattle.cell_renewal.proofs.wired_worker.take_wired_turns.Given as goal
 
 abbrev pub invariant-loop-cycle : goal.invariant-loop-cycle

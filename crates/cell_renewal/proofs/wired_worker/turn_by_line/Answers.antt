@@ -1,6 +1,4 @@
-use Rattle.std.proofs.Common.{◌≡◌, ap}
-use Rattle.cell_control.proofs.TurnMaps.{turn_either, turn_map}
-use Rattle.cell_threads.proofs.Passes.{asks_same, unchanged_pass}
+use Rattle.cell_renewal.proofs.Names.{◌≡◌, ap, turn_either, turn_map, asks_same, unchanged_pass}
 use Rattle.cell_renewal.proofs.wired_worker.turn_by_line.Goals as goal
 
 pub returns-clause-same : goal.returns-clause-same

@@ -1,5 +1,4 @@
-use Rattle.std.proofs.Common.{refl, sym, subst}
-use Rattle.cell_rules.specs.Restamping.{IsSameFor}
+use Rattle.cell_renewal.proofs.Names.{refl, sym, subst, IsSameFor}
 use Rattle.cell_renewal.proofs.going_worker.GoingWorker.at_start.Goals as goal
 
 pub new-worker-requires : goal.new-worker-requires
