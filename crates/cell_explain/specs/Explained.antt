@@ -3,11 +3,11 @@ use Rattle.std.specs.Prelude.{ℕ, ◌≡◌, List, ◌++◌, codes, Option, Res
 use Rattle.std.specs.Fmt.{decimal}
 use Rattle.std.specs.Io.KnownBytes.{Appends, Keeps}
 use Rattle.cell_text.specs.Output.{WrotePrefix}
+use Rattle.csv_rows.specs.declared.script_end.Outcome.{Outcome}
+use Rattle.csv_rows.specs.declared.script_end.Outcome.TheVariants as outcome
+use Rattle.csv_rows.specs.declared.script_end.ScriptFault.{ScriptFault}
+use Rattle.csv_rows.specs.declared.script_end.ScriptFault.TheVariants.{NoStart, BadStart, BadRow, Long}
 use Rattle.cell_replay.specs.Script.{script_outcome}
-use Rattle.cell_replay.specs.declared.script.Outcome.{Outcome}
-use Rattle.cell_replay.specs.declared.script.Outcome.TheVariants as outcome
-use Rattle.cell_replay.specs.declared.script.ScriptFault.{ScriptFault}
-use Rattle.cell_replay.specs.declared.script.ScriptFault.TheVariants.{NoStart, BadStart, BadRow, Long}
 use Rattle.cell_config.specs.ConfigWords.{config_fault_text}
 use Rattle.cell_config.specs.Settings.{Settings, settings_of}
 use Rattle.cell_config.specs.declared.fault.ConfigFault.{ConfigFault}

@@ -10,11 +10,12 @@ use Rattle.csv.specs.declared.parser.State.TheVariants as st
 use Rattle.cell_types.specs.declared.answer.Event.{Event}
 use Rattle.cell_rules.specs.Names.{ModelState, IsLegal, next, reply, IsStartState}
 use Rattle.csv_rows.specs.Rows.{Row}
+use Rattle.csv_rows.specs.ScriptEnd.{end_text, max_records}
+use Rattle.csv_rows.specs.declared.script_end.Outcome.TheVariants.{Clean}
 use Rattle.cell_replay.specs.Requests.{request, request_of}
-use Rattle.cell_replay.specs.Script.{byte_limit, end_of, end_text, event_lines, events_from, history_of, is_cut_of, lines_from, max_records, outcome_from, requests_in, rows_events, rows_lines, rows_outcome, rows_start, script_events, script_lines, script_outcome, script_rows, script_start, script_text, start_line, used}
+use Rattle.cell_replay.specs.Script.{byte_limit, end_of, event_lines, events_from, history_of, is_cut_of, lines_from, outcome_from, requests_in, rows_events, rows_lines, rows_outcome, rows_start, script_events, script_lines, script_outcome, script_rows, script_start, script_text, start_line, used}
 use Rattle.cell_replay.specs.Versions.{has_call, version_word}
 use Rattle.cell_replay.specs.declared.request.Request.{Request}
-use Rattle.cell_replay.specs.declared.script.Outcome.TheVariants.{Clean}
 use Rattle.cell_replay.specs.declared.version.Version.{Version}
 use Rattle.cell_replay.specs.declared.version.Version.TheVariants.{First, Second}
 use Rattle.cell_replay.proofs.Requests.{request_of-written}

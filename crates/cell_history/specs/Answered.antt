@@ -3,10 +3,11 @@ use Rattle.std.specs.Prelude.{◌≡◌, ◌≤◌, ◌∷◌, List, length, Ok}
 use Rattle.std.specs.List.{concat}
 use Rattle.cell_types.specs.declared.answer.Event.{Event}
 use Rattle.cell_rules.specs.Names.{ModelState, IsLegal, IsStartState}
-use Rattle.cell_replay.specs.Script.{event_lines, max_records, start_line}
+use Rattle.csv_rows.specs.ScriptEnd.{max_records}
+use Rattle.csv_rows.specs.declared.script_end.Outcome.TheVariants.{Clean}
+use Rattle.cell_replay.specs.Script.{event_lines, start_line}
 use Rattle.cell_replay.specs.Script.{script_events, script_outcome, script_start, script_text}
 use Rattle.cell_replay.specs.declared.script_start.Start.{Start}
-use Rattle.cell_replay.specs.declared.script.Outcome.TheVariants.{Clean}
 use Rattle.cell_history.specs.Scripts.{script_of, version_for}
 
 -- the start of a history's script

@@ -10,8 +10,8 @@ use Rattle.cell_parts.specs.Axes.{CellScales}
 use Rattle.cell_plant.specs.Machines.{any_near}
 use Rattle.cell_config.specs.ConfigWords.{config_fault_text}
 use Rattle.cell_config.specs.declared.fault.ConfigFault.TheVariants.{Missing}
+use Rattle.csv_rows.specs.declared.script_end.Outcome.TheVariants.{Clean}
 use Rattle.cell_replay.specs.Script.{script_outcome, script_text}
-use Rattle.cell_replay.specs.declared.script.Outcome.TheVariants.{Clean}
 use Rattle.cell_report.specs.Report.{report_text}
 use Rattle.cell_threads.specs.Faults.{run_fault_text}
 use Rattle.cell_threads.specs.declared.fault.RunFault.TheVariants.{Spawn}

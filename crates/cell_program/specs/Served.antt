@@ -1,11 +1,11 @@
 -- What a run of the program has done.
 use Rattle.std.specs.Prelude.{◌≡◌, ℕ, true, List, codes, ◌⊎◌, Option, Some, None, Ok, Err, IfSome}
 use Rattle.std.specs.Io.KnownBytes.{Appends}
+use Rattle.csv_rows.specs.declared.script_end.Outcome.TheVariants.{Clean, Refused}
+use Rattle.csv_rows.specs.declared.script_end.ScriptFault.{ScriptFault}
 use Rattle.cell_replay.specs.Faults.{WrotePrefix, WroteLines}
 use Rattle.cell_replay.specs.Script.{max_bytes_read, script_lines, script_outcome, script_text}
 use Rattle.cell_report.specs.Report.{report_text}
-use Rattle.cell_replay.specs.declared.script.Outcome.TheVariants.{Clean, Refused}
-use Rattle.cell_replay.specs.declared.script.ScriptFault.{ScriptFault}
 use Rattle.cell_report.specs.declared.audit_faults.AuditFault.{AuditFault}
 use Rattle.cell_report.specs.declared.audit_faults.AuditFault.TheVariants.{Memory as AuditMemory}
 use Rattle.cell_rules.specs.ModelState.{ModelState}

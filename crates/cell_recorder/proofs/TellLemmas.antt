@@ -8,7 +8,7 @@ use Rattle.cell_parts.specs.Axes.{CellScales}
 use Rattle.cell_calib.specs.Curve.{pairs_of}
 use Rattle.cell_plant.specs.Machines.{CellGauges, on_curves}
 use Rattle.cell_notes.specs.declared.run_record.RunRecord.{RunRecord}
-use Rattle.cell_replay.specs.Script.{max_records}
+use Rattle.csv_rows.specs.ScriptEnd.{max_records}
 use Rattle.cell_history.specs.Scripts.{script_of}
 use Rattle.cell_config.specs.Configured.{Says, in_order, shown}
 use Rattle.cell_config.specs.Settings.{settings_of}

@@ -4,8 +4,8 @@ use Rattle.std.specs.List.{concat}
 use Rattle.cell_rules.specs.Types.{Machine, journal_of}
 use Rattle.cell_rules.specs.Journal.{noted}
 use Rattle.cell_notes.specs.declared.run_record.RunRecord.{RunRecord}
+use Rattle.csv_rows.specs.declared.script_end.Outcome.TheVariants.{Clean}
 use Rattle.cell_replay.specs.Script.{event_lines, script_events, script_outcome, script_text, start_line}
-use Rattle.cell_replay.specs.declared.script.Outcome.TheVariants.{Clean}
 use Rattle.cell_history.specs.Answered.{start_of}
 use Rattle.cell_recorder.specs.Recorded.{IsHistoryOf, TellsPacedRun, WasRecorded}
 

@@ -5,7 +5,7 @@ use Rattle.cell_rules.specs.Types.{Event, journal_of}
 use Rattle.cell_rules.specs.Names.{IsAudited, IsStartState}
 use Rattle.cell_text.specs.Output.{WrotePrefix}
 use Rattle.cell_notes.specs.declared.run_record.RunRecord.{RunRecord}
-use Rattle.cell_replay.specs.Script.{max_records}
+use Rattle.csv_rows.specs.ScriptEnd.{max_records}
 use Rattle.cell_history.specs.Scripts.{script_of}
 use Rattle.cell_config.specs.Configured.{Says}
 use Rattle.cell_config.specs.ConfigWords.{config_fault_text}

@@ -6,12 +6,13 @@ use Rattle.std.proofs.Math.Seq.{drop-append_seam}
 use Rattle.std.proofs.lemmas.List.{take-append-drop, take-append-le, take_all}
 use Rattle.std.proofs.lemmas.List.Folds.{concat-append}
 use Rattle.std.proofs.lemmas.Option.{same_Some}
+use Rattle.csv_rows.specs.ScriptEnd.{end_text}
+use Rattle.csv_rows.specs.declared.script_end.Outcome.{Outcome}
 use Rattle.cell_replay.specs.Faults.{WrotePrefix, WroteLines}
-use Rattle.cell_replay.specs.Script.{end_text, script_lines, script_outcome, script_text}
+use Rattle.cell_replay.specs.Script.{script_lines, script_outcome, script_text}
 use Rattle.cell_replay.specs.Writing.{IsGrown, WritesScript}
-use Rattle.cell_replay.specs.declared.script.Outcome.{Outcome}
-use Rattle.cell_replay.specs.declared.script.ReplayFault.{ReplayFault}
-use Rattle.cell_replay.specs.declared.script.ReplayFault.TheVariants.{Read, Write, Memory}
+use Rattle.cell_replay.specs.declared.fault.ReplayFault.{ReplayFault}
+use Rattle.cell_replay.specs.declared.fault.ReplayFault.TheVariants.{Read, Write, Memory}
 use Rattle.cell_replay.proofs.Writings.{prefix-more, kept-none}
 
 -- The bytes of the output only grow.

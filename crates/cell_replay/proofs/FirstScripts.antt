@@ -10,18 +10,19 @@ use Rattle.cell_rules.specs.Names.{ModelState, next, after}
 use Rattle.cell_rules.specs.FirstVersion as rules
 use Rattle.cell_rules.proofs.FirstVersion as stays
 use Rattle.csv_rows.specs.Rows.{Row}
+use Rattle.csv_rows.specs.ScriptEnd.{end_text, max_records}
+use Rattle.csv_rows.specs.declared.script_end.ScriptFault.{ScriptFault}
+use Rattle.csv_rows.specs.declared.script_end.ScriptFault.TheVariants.{NoStart}
+use Rattle.csv_rows.specs.declared.script_end.Outcome.{Outcome}
 use Rattle.cell_replay.specs.Requests.{call_of, request_of}
-use Rattle.cell_replay.specs.Script.{end_of, end_text, event_line, event_lines, events_from, history_of, is_cut_of, line_of, lines_from, max_records, outcome_from, requests_in, rows_lines, rows_outcome, script_lines, script_outcome, script_rows, script_text, start_by, start_fields, start_in, start_of_version}
+use Rattle.cell_replay.specs.Script.{end_of, event_line, event_lines, events_from, history_of, is_cut_of, line_of, lines_from, outcome_from, requests_in, rows_lines, rows_outcome, script_lines, script_outcome, script_rows, script_text, start_by, start_fields, start_in, start_of_version}
 use Rattle.cell_replay.specs.FirstVersion as first
 use Rattle.cell_replay.specs.FirstVersion.{IsOfFirstVersion, begins_with_start2, call_of as first_call_of, request_of as first_request_of, requests_in as first_requests_in, history_of as first_history_of, after as first_after, start_in as first_start_in, script_text as first_script_text}
 use Rattle.cell_replay.specs.Writing.{WritesScript}
 use Rattle.cell_replay.specs.declared.request.Request.{Request}
 use Rattle.cell_replay.specs.declared.version.Version.TheVariants.{First, Second}
 use Rattle.cell_replay.specs.declared.script_start.Start.{Start}
-use Rattle.cell_replay.specs.declared.script.ScriptFault.{ScriptFault}
-use Rattle.cell_replay.specs.declared.script.ScriptFault.TheVariants.{NoStart}
-use Rattle.cell_replay.specs.declared.script.Outcome.{Outcome}
-use Rattle.cell_replay.specs.declared.script.ReplayFault.{ReplayFault}
+use Rattle.cell_replay.specs.declared.fault.ReplayFault.{ReplayFault}
 use Rattle.cell_replay.proofs.Requests.{request_of-written}
 use Rattle.cell_replay.proofs.Scripts.{IsState0, start_fields-record0}
 

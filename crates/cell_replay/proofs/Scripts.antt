@@ -9,14 +9,15 @@ use Rattle.std.proofs.lemmas.List.FromFn.{length-enumerate_from}
 use Rattle.cell_rules.specs.Types.{Event, PressIn, PressOut}
 use Rattle.cell_rules.specs.Names.{ModelState, last_stamp, size_of, PlaceSet, has, IsLegal, IsStartState, IsStart, places_of, start_state, is_start, places_in}
 use Rattle.csv_rows.specs.Rows.{Row}
+use Rattle.csv_rows.specs.Numbers.{number_in}
+use Rattle.csv_rows.specs.ScriptEnd.{max_records}
+use Rattle.csv_rows.specs.declared.script_end.ScriptFault.{ScriptFault}
+use Rattle.csv_rows.specs.declared.script_end.ScriptFault.TheVariants.{NoStart, BadStart, BadRow, Long}
+use Rattle.csv_rows.specs.declared.script_end.Outcome.TheVariants.{Clean, Refused}
 use Rattle.cell_replay.specs.Versions.{version_of}
 use Rattle.cell_replay.specs.declared.version.Version.{Version}
 use Rattle.cell_replay.specs.declared.script_start.Start.{Start}
-use Rattle.csv_rows.specs.Numbers.{number_in}
-use Rattle.cell_replay.specs.Script.{event_line, event_lines, events_from, is_cut_of, lines_from, max_records, outcome_from, requests_in, rows_lines, rows_outcome, rows_start, script_events, script_lines, script_outcome, script_rows, script_start, start_by, start_fields, start_in, start_of, start_of_version}
-use Rattle.cell_replay.specs.declared.script.ScriptFault.{ScriptFault}
-use Rattle.cell_replay.specs.declared.script.ScriptFault.TheVariants.{NoStart, BadStart, BadRow, Long}
-use Rattle.cell_replay.specs.declared.script.Outcome.TheVariants.{Clean, Refused}
+use Rattle.cell_replay.specs.Script.{event_line, event_lines, events_from, is_cut_of, lines_from, outcome_from, requests_in, rows_lines, rows_outcome, rows_start, script_events, script_lines, script_outcome, script_rows, script_start, start_by, start_fields, start_in, start_of, start_of_version}
 use Rattle.cell_replay.proofs.Lines.{legal-history_of, length-history_of, length-requests_in}
 
 -- The events.

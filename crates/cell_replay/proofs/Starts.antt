@@ -3,10 +3,10 @@ use Rattle.std.proofs.Common.{ℕ, ◌≡◌, ◌<◌, ◌≤◌, List, [], ◌�
 use Rattle.std.proofs.lemmas.Option.{same_Some}
 use Rattle.csv.specs.Records.{field_at}
 use Rattle.cell_rules.specs.StartDigits.{places_in}
-use Rattle.cell_replay.specs.Versions.{version_of}
 use Rattle.csv_rows.specs.Numbers.{number_in}
+use Rattle.csv_rows.specs.declared.script_end.ScriptFault.TheVariants.{NoStart, BadStart}
+use Rattle.cell_replay.specs.Versions.{version_of}
 use Rattle.cell_replay.specs.Script.{start_by, start_fields, start_in, start_of}
-use Rattle.cell_replay.specs.declared.script.ScriptFault.TheVariants.{NoStart, BadStart}
 
 pub start_in-none : (fs : List (List ℕ)) → field_at fs 0 ≡ None → start_in fs ≡ Err NoStart
 unfolding field_at start_in

@@ -12,17 +12,18 @@ use Rattle.std.proofs.lemmas.Bool.{lt-ltb, le-ltb, eq-eqb, ne_eqb}
 use Rattle.cell_rules.specs.Types.{answer_text, Answer}
 use Rattle.cell_rules.specs.Names.{ModelState, next, reply}
 use Rattle.csv_rows.specs.Rows.{Row}
+use Rattle.csv_rows.specs.ScriptEnd.{end_text, max_records}
+use Rattle.csv_rows.specs.declared.script_end.ScriptFault.{ScriptFault}
+use Rattle.csv_rows.specs.declared.script_end.ScriptFault.TheVariants.{BadRow, Long, NoStart}
+use Rattle.csv_rows.specs.declared.script_end.Outcome.{Outcome}
+use Rattle.csv_rows.specs.declared.script_end.Outcome.TheVariants.{Refused}
 use Rattle.cell_replay.specs.Requests.{request_of}
 use Rattle.cell_replay.specs.declared.request.Request.{Request}
 use Rattle.cell_replay.specs.declared.version.Version.{Version}
 use Rattle.cell_replay.specs.declared.script_start.Start.{Start}
-use Rattle.cell_replay.specs.Script.{end_of, end_text, events_from, is_cut_of, script_lines, script_outcome, script_rows, script_text, line_of, lines_from, max_records, outcome_from, requests_in, rows_lines, rows_outcome, start_in, start_line}
-use Rattle.cell_replay.specs.declared.script.ScriptFault.{ScriptFault}
-use Rattle.cell_replay.specs.declared.script.ScriptFault.TheVariants.{BadRow, Long, NoStart}
-use Rattle.cell_replay.specs.declared.script.Outcome.{Outcome}
-use Rattle.cell_replay.specs.declared.script.Outcome.TheVariants.{Refused}
-use Rattle.cell_replay.specs.declared.script.ReplayFault.{ReplayFault}
-use Rattle.cell_replay.specs.declared.script.ReplayFault.TheVariants.{Read, Write, Memory}
+use Rattle.cell_replay.specs.Script.{end_of, events_from, is_cut_of, script_lines, script_outcome, script_rows, script_text, line_of, lines_from, outcome_from, requests_in, rows_lines, rows_outcome, start_in, start_line}
+use Rattle.cell_replay.specs.declared.fault.ReplayFault.{ReplayFault}
+use Rattle.cell_replay.specs.declared.fault.ReplayFault.TheVariants.{Read, Write, Memory}
 use Rattle.cell_replay.specs.Faults.{Leaves, WrotePrefix, WroteLines, replay_fault_of}
 use Rattle.cell_text.specs.declared.input.InputFault.{InputFault}
 use Rattle.cell_text.specs.declared.input.InputFault.TheVariants as input

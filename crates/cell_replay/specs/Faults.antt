@@ -6,8 +6,8 @@ pub use Rattle.cell_text.specs.Output.{WrotePrefix}
 use Rattle.cell_replay.specs.Script.{script_lines, script_text}
 use Rattle.cell_text.specs.declared.input.InputFault.{InputFault}
 use Rattle.cell_text.specs.declared.input.InputFault.TheVariants as input
-use Rattle.cell_replay.specs.declared.script.ReplayFault.{ReplayFault}
-use Rattle.cell_replay.specs.declared.script.ReplayFault.TheVariants.{Read, Write, Memory}
+use Rattle.cell_replay.specs.declared.fault.ReplayFault.{ReplayFault}
+use Rattle.cell_replay.specs.declared.fault.ReplayFault.TheVariants.{Read, Write, Memory}
 
 -- some first lines were written, each whole
 abbrev pub WroteLines : Option (List ℕ) → Option (List ℕ) → List (List ℕ) → Type 0

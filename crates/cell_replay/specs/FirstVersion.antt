@@ -14,13 +14,14 @@ use Rattle.cell_rules.specs.Types.{answer_text, call_fields, all_zones, all_pose
 use Rattle.cell_rules.specs.Names.{ModelState, plates_of}
 use Rattle.cell_rules.specs.FirstVersion.{next, reply}
 use Rattle.csv_rows.specs.Rows.{Row}
+use Rattle.csv_rows.specs.ScriptEnd.{end_text, max_records}
+use Rattle.csv_rows.specs.declared.script_end.ScriptFault.{ScriptFault}
+use Rattle.csv_rows.specs.declared.script_end.ScriptFault.TheVariants.{NoStart, Long}
+use Rattle.csv_rows.specs.declared.script_end.Outcome.TheVariants.{Refused}
 use Rattle.cell_replay.specs.Requests.{machine_of, request_by}
-use Rattle.cell_replay.specs.Script.{end_of, end_text, is_cut_of, line_of, max_records}
+use Rattle.cell_replay.specs.Script.{end_of, is_cut_of, line_of}
 use Rattle.cell_replay.specs.Script.{script_rows, start_fields}
 use Rattle.cell_replay.specs.declared.request.Request.{Request}
-use Rattle.cell_replay.specs.declared.script.ScriptFault.{ScriptFault}
-use Rattle.cell_replay.specs.declared.script.ScriptFault.TheVariants.{NoStart, Long}
-use Rattle.cell_replay.specs.declared.script.Outcome.TheVariants.{Refused}
 
 abbrev pub all_calls : List Call
 all_calls =

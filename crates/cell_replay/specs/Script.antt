@@ -1,5 +1,5 @@
 -- The answer to a script, by its version.
-use Rattle.std.specs.Prelude.{ℕ, ◌+◌, ◌-◌, ◌==◌, Bool, List, [], ◌∷◌, ◌++◌, length, map, take, drop, codes}
+use Rattle.std.specs.Prelude.{ℕ, ◌+◌, ◌-◌, ◌==◌, Bool, List, [], ◌∷◌, ◌++◌, length, map, take, drop}
 use Rattle.std.specs.Prelude.{nat_lt, Option, Some, None, Result, Ok, Err, if◌then◌else◌}
 use Rattle.std.specs.Fmt.{decimal}
 use Rattle.std.specs.List.{concat, enumerate_from}
@@ -10,22 +10,20 @@ use Rattle.cell_rules.specs.Names.{ModelState, plates_of, PlaceSet, places_of, s
 use Rattle.cell_rules.specs.Names.{reply, after}
 use Rattle.csv_rows.specs.Numbers.{number_in}
 use Rattle.csv_rows.specs.Rows.{Row}
+use Rattle.csv_rows.specs.ScriptEnd.{end_text, max_records}
+use Rattle.csv_rows.specs.declared.script_end.ScriptFault.{ScriptFault}
+use Rattle.csv_rows.specs.declared.script_end.ScriptFault.TheVariants.{NoStart, BadStart, BadRow, Long}
+use Rattle.csv_rows.specs.declared.script_end.Outcome.{Outcome}
+use Rattle.csv_rows.specs.declared.script_end.Outcome.TheVariants.{Clean, Refused}
 use Rattle.cell_replay.specs.Requests.{request_of}
 use Rattle.cell_replay.specs.Versions.{version_of, version_word}
 use Rattle.cell_replay.specs.declared.request.Request.{Request}
 use Rattle.cell_replay.specs.declared.version.Version.{Version}
 use Rattle.cell_replay.specs.declared.script_start.Start.{Start}
-use Rattle.cell_replay.specs.declared.script.ScriptFault.{ScriptFault}
-use Rattle.cell_replay.specs.declared.script.ScriptFault.TheVariants.{NoStart, BadStart, BadRow, Long}
-use Rattle.cell_replay.specs.declared.script.Outcome.{Outcome}
-use Rattle.cell_replay.specs.declared.script.Outcome.TheVariants.{Clean, Refused}
 
--- the most bytes of a script that are used, and the most records after record 0 that are answered
+-- the most bytes of a script that are used
 abbrev pub byte_limit : ℕ
 byte_limit = 4194304
-
-abbrev pub max_records : ℕ
-max_records = 65536
 
 -- one byte more shows whether there are more than are used
 abbrev pub max_bytes_read : ℕ
@@ -121,17 +119,6 @@ outcome_from is_cut (Err fault) answered count = Refused fault
 abbrev pub rows_outcome : Bool → List Row → Outcome
 rows_outcome is_cut rows =
     outcome_from is_cut (rows_start is_cut rows) (length (rows_events is_cut rows)) (length (drop 1 rows))
-
-abbrev pub fault_text : ScriptFault → List ℕ
-fault_text NoStart = codes "nostart"
-fault_text BadStart = codes "badstart"
-fault_text (BadRow number) = codes "badrow " ++ decimal number
-fault_text Long = codes "long"
-
--- the last line of a refused script
-abbrev pub end_text : Outcome → List ℕ
-end_text Clean = []
-end_text (Refused fault) = codes "fault " ++ (fault_text fault ++ 10 ∷ [])
 
 -- there are more bytes than are used
 abbrev pub is_cut_of : List ℕ → Bool

@@ -2,10 +2,10 @@
 use Rattle.std.specs.Prelude.{◌≡◌, ℕ, Bool, true, false, List, [], ◌∷◌, ◌++◌, codes}
 use Rattle.std.specs.List.{concat}
 use Rattle.csv_rows.specs.Rows.{Row}
+use Rattle.csv_rows.specs.declared.script_end.ScriptFault.TheVariants.{NoStart, BadStart, BadRow, Long}
+use Rattle.csv_rows.specs.declared.script_end.Outcome.{Outcome}
+use Rattle.csv_rows.specs.declared.script_end.Outcome.TheVariants.{Clean, Refused}
 use Rattle.cell_replay.specs.Script.{rows_lines, rows_outcome, script_outcome, script_text, used}
-use Rattle.cell_replay.specs.declared.script.ScriptFault.TheVariants.{NoStart, BadStart, BadRow, Long}
-use Rattle.cell_replay.specs.declared.script.Outcome.{Outcome}
-use Rattle.cell_replay.specs.declared.script.Outcome.TheVariants.{Clean, Refused}
 
 abbrev pub IsAnswered : List ℕ → List ℕ → Outcome → Type 0
 IsAnswered script text outcome = (script_text script ≡ text) × (script_outcome script ≡ outcome)

@@ -5,6 +5,7 @@ use Rattle.csv.specs.Records.{fields_of}
 use Rattle.csv.specs.Records.{Row as ByteRow}
 use Rattle.cell_rules.specs.Names.{ModelState}
 use Rattle.csv_rows.specs.Rows.{HasRows, IsPlain, Row}
+use Rattle.csv_rows.specs.declared.script_end.Outcome.{Outcome}
 use Rattle.cell_replay.specs.Held.{left_to}
 use Rattle.cell_replay.specs.Records.{GivesRow, RowsLeft}
 use Rattle.cell_replay.specs.Script.{byte_limit, is_cut_of, rows_lines, rows_outcome}
@@ -12,8 +13,7 @@ use Rattle.cell_replay.specs.Writing.{Writes, WritesNext, lines_left, outcome_le
 use Rattle.cell_replay.specs.declared.lent.LentReader.{Ghosts as Lent}
 use Rattle.cell_replay.specs.declared.lent.Origin.{Ghosts as Known}
 use Rattle.cell_replay.specs.declared.records.Records.{Records}
-use Rattle.cell_replay.specs.declared.script.Outcome.{Outcome}
-use Rattle.cell_replay.specs.declared.script.ReplayFault.{ReplayFault}
+use Rattle.cell_replay.specs.declared.fault.ReplayFault.{ReplayFault}
 use Rattle.cell_replay.specs.declared.version.Version.{Version}
 
 -- the records in the bytes of a script that are used

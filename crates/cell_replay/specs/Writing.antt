@@ -7,13 +7,14 @@ use Rattle.std.specs.Io.KnownBytes.{Appends, Keeps}
 use Rattle.cell_types.specs.Answers.{answer_text}
 use Rattle.cell_rules.specs.Names.{ModelState, next, reply}
 use Rattle.csv_rows.specs.Rows.{Row}
+use Rattle.csv_rows.specs.ScriptEnd.{end_text, max_records}
+use Rattle.csv_rows.specs.declared.script_end.Outcome.{Outcome}
 use Rattle.cell_replay.specs.declared.request.Request.{Request}
 use Rattle.cell_replay.specs.declared.version.Version.{Version}
-use Rattle.cell_replay.specs.Script.{end_of, end_text, script_outcome, script_text, line_of, max_records, requests_in}
+use Rattle.cell_replay.specs.Script.{end_of, script_outcome, script_text, line_of, requests_in}
 use Rattle.cell_replay.specs.Faults.{Leaves, WrotePrefix, WroteLines}
-use Rattle.cell_replay.specs.declared.script.Outcome.{Outcome}
-use Rattle.cell_replay.specs.declared.script.ReplayFault.{ReplayFault}
-use Rattle.cell_replay.specs.declared.script.ReplayFault.TheVariants.{Read, Write, Memory}
+use Rattle.cell_replay.specs.declared.fault.ReplayFault.{ReplayFault}
+use Rattle.cell_replay.specs.declared.fault.ReplayFault.TheVariants.{Read, Write, Memory}
 
 -- the lines of requests that are made in order, after a number of earlier ones
 unfoldable pub lines_after : ℕ → ModelState → List Request → List (List ℕ)

@@ -4,27 +4,26 @@ ghost use Rattle.std.specs.Prelude.{◌≡◌, ◌<◌, ◌++◌, ℕ, List, Som
 ghost use Rattle.std.specs.Io.KnownBytes.{Keeps};
 ghost use Rattle.cell_types.specs.Answers.{answer_text};
 ghost use Rattle.cell_rules.specs.ModelState.{ModelState};
+ghost use Rattle.csv_rows.specs.ScriptEnd.{max_records};
 ghost use Rattle.cell_replay.specs.Script as script;
-ghost use Rattle.cell_replay.specs.Script.{line_of, max_records, start_line};
+ghost use Rattle.cell_replay.specs.Script.{line_of, start_line};
 ghost use Rattle.cell_replay.specs.ScriptRecords.{ArePlain, ForLeft, HasLeft, WritesFirst, WritesFrom};
 ghost use Rattle.cell_replay.specs.ScriptRecords.{WritesLater, WritesRows};
 ghost use Rattle.cell_replay.specs.Writing.{WritesLine};
 ghost use Rattle.cell_replay.specs.declared.version.Version.{Version};
 
+use crate::fault::ReplayFault;
 use crate::lent::{LentReader, Origin};
 use crate::records::Records;
 use crate::request::read_request;
-use crate::script::{Outcome, ReplayFault, ScriptFault};
 use crate::script_start::{Start, read_start};
 use crate::version::Version;
 use cell_rules::{State, apply};
 use cell_text::{WriteFault, flush, write_bytes};
 use cell_types::Answer;
+use csv_rows::{MAX_RECORDS, Outcome, ScriptFault};
 use std::alloc::{AllocError, Global};
 use std::io::Write;
-
-/// The most records after record 0 that are answered.
-pub const MAX_RECORDS: u32 = 65_536;
 
 /// Writes the lines of the records that are left, the first of which is record 0. Returns how the
 /// script ends.

@@ -9,7 +9,7 @@ ghost use Rattle.cell_replay.specs.FirstVersion as first;
 ghost use Rattle.cell_replay.specs.FirstVersion.{IsOfFirstVersion};
 ghost use Rattle.cell_replay.specs.ScriptExamples.{ScriptsAreMet};
 
-use crate::script::{Outcome, ScriptFault};
+use csv_rows::{Outcome, ScriptFault};
 
 /// A script's events are a legal history from the start in record 0, which is a valid start.
 #[tactic(auto, using(crate::proofs::Scripts::script_laws))]

@@ -3,18 +3,18 @@
 
 mod answers;
 mod buffered;
+pub mod fault;
 pub mod laws;
 mod lent;
 mod limited;
 mod records;
 pub mod replay_script;
 mod request;
-pub mod script;
 mod script_start;
 mod version;
 
-pub use answers::MAX_RECORDS;
+pub use csv_rows::{MAX_RECORDS, Outcome, ScriptFault};
+pub use fault::ReplayFault;
 pub use limited::MAX_BYTES;
 pub use replay_script::replay;
-pub use script::{Outcome, ReplayFault, ScriptFault};
 pub use version::Version;

@@ -1,6 +1,6 @@
 //! Replays a script.
 
-ghost use Rattle.std.specs.Prelude.{◌≡◌, ◌++◌, ℕ, List, None, Some, IfOk, IfErr, IfSome, OnOk, string_bytes};
+ghost use Rattle.std.specs.Prelude.{◌≡◌, ℕ, List, None, Some, IfOk, IfErr, IfSome, OnOk};
 ghost use Rattle.std.specs.Io.KnownBytes.{Appends};
 ghost use Rattle.cell_replay.specs.Faults.{Leaves};
 ghost use Rattle.cell_text.specs.Input.{TakesAtMost};
@@ -8,17 +8,18 @@ ghost use Rattle.cell_replay.specs.FirstVersion as first;
 ghost use Rattle.cell_replay.specs.FirstVersion.{IsOfFirstVersion};
 ghost use Rattle.cell_replay.specs.Held.{contents_of, note_of, output_of, taken_by};
 ghost use Rattle.cell_replay.specs.ScriptRecords.{ArePlain, HasRecords, records_used};
-ghost use Rattle.cell_replay.specs.Script.{end_text, fault_text, max_bytes_read, script_outcome, script_text};
+ghost use Rattle.cell_replay.specs.Script.{max_bytes_read, script_outcome, script_text};
 ghost use Rattle.cell_replay.specs.Writing.{WritesEnd, WritesScript};
 
 use crate::answers::answer_rows;
 use crate::buffered::BufferedWriter;
+use crate::fault::ReplayFault;
 use crate::lent::{LentReader, LentWriter, Origin};
 use crate::limited::LimitedReader;
 use crate::records::Records;
-use crate::script::{Outcome, ReplayFault};
 use cell_text::write_bytes;
-use std::alloc::{AllocError, Global};
+use csv_rows::{Outcome, push_end};
+use std::alloc::Global;
 use std::io::{Read, Write};
 use std::marker::Brand;
 
@@ -159,15 +160,5 @@ fn write_end<W: Write>(
     match write_bytes(writer, line.as_str().as_bytes()) {
         Ok(()) => Ok(outcome),
         Err(_) => Err(ReplayFault::Write),
-    }
-}
-
-/// Appends the last line of a script that is refused.
-fn push_end(text: &mut String, outcome: Outcome) -> Result<(), AllocError>
-    ensures { OnOk result (string_bytes text.new ≡ string_bytes text.old ++ end_text outcome) }
-{
-    match outcome {
-        Outcome::Clean => Ok(()),
-        Outcome::Refused(fault) => writeln!(text, "fault {fault}"),
     }
 }

@@ -4,11 +4,10 @@ ghost use Rattle.std.specs.Prelude.{◌≡◌, drop};
 ghost use Rattle.csv.specs.Records.{fields_of};
 ghost use Rattle.cell_replay.specs.Script as script;
 
-use crate::script::ScriptFault;
 use crate::version::Version;
 use cell_rules::{PLACES, State, read_places};
 use csv::ByteRecord;
-use csv_rows::read_number;
+use csv_rows::{ScriptFault, read_number};
 
 /// The start with these places and this stamp; `BadStart` if one is absent, or both make no start.
 fn start_of(places: Option<[bool; PLACES]>, stamp: Option<u32>) -> Result<State, ScriptFault>

@@ -1,3 +1,4 @@
 pub mod Digits
 mod RecordLemmas
 pub mod RowsTaken
+pub mod ScriptEndRows

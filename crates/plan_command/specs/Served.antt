@@ -2,8 +2,8 @@
 use Rattle.std.specs.Prelude.{◌≡◌, ℕ, List, Option, IfSome}
 use Rattle.std.specs.Io.KnownBytes.{Appends}
 use Rattle.plan_text.specs.Named.{Named}
+use Rattle.csv_rows.specs.declared.script_end.Outcome.TheVariants.{Clean}
 use Rattle.plan_replay.specs.Script.{script_answers}
-use Rattle.plan_replay.specs.declared.script.Outcome.TheVariants.{Clean}
 use Rattle.plan_command.specs.Input.{script_in}
 
 -- by some plan with names each record of a script was answered, and the answers were written, and nothing else

@@ -20,7 +20,7 @@ use crate::request::Request;
 use cell_shell::{Exit, fail, print, print_version, refuse_words, texts_or_exit, words_or_exit};
 use cell_text::{InputFault, read_up_to};
 use plan_document::{ProgrammedPlan, plan_of, read_plan};
-use plan_replay::{ScriptAnswers, Outcome, ReplayFault, answer_script, start_of_script};
+use plan_replay::{Outcome, ScriptAnswers, answer_script, start_of_script};
 use plan_rules::State;
 use plan_text::NamedPlan;
 use std::alloc::{AllocError, Global};
@@ -174,17 +174,7 @@ fn replay_script<W: Write>(alloc: Global, named: &NamedPlan, script: &[u8], writ
 {
     match answer_script(alloc, named, script) {
         Ok(answered) => print_answers(writer, &answered),
-        Err(fault) => fail_to_replay(writer, fault),
-    }
-}
-
-/// Prints that a script wasn't read.
-fn fail_to_replay<W: Write>(writer: &mut W, fault: ReplayFault) -> Exit
-    ensures { result ≡ Exit.Failed }
-{
-    match fault {
-        ReplayFault::Read => fail(writer, "read"),
-        ReplayFault::Memory => fail(writer, "memory"),
+        Err(fault) => fail_to_read(writer, fault),
     }
 }
 
@@ -199,7 +189,7 @@ fn explore_script<W: Write>(
     match start_of_script(alloc, &plan.named, script) {
         Ok(Ok(opening)) => explore_from(alloc, plan, &opening, writer),
         Ok(Err(fault)) => fail(writer, fault),
-        Err(fault) => fail_to_replay(writer, fault),
+        Err(fault) => fail_to_read(writer, fault),
     }
 }
 

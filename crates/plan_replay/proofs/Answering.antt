@@ -1,6 +1,6 @@
 -- What the answers to records come to, record by record.
-use Rattle.std.proofs.Common.{ℕ, ◌≡◌, ◌<◌, ◌≤◌, ◌+◌, ◌++◌, List, [], ◌∷◌, Option, Some, None, Result, Ok, Err, IfOk, refl, sym, ◌∙◌, ap, append_assoc, arith}
-use Rattle.std.specs.Prelude.{nat_lt, true, false}
+use Rattle.std.proofs.Common.{ℕ, ◌≡◌, ◌<◌, ◌+◌, ◌++◌, List, [], ◌∷◌, Some, None, Result, Ok, Err, IfOk, refl, sym, ◌∙◌, ap, append_assoc, arith}
+use Rattle.std.specs.Prelude.{nat_lt, true}
 use Rattle.std.proofs.lemmas.Bool.Decides.{nat_tests}
 use Rattle.plan_types.specs.Table.{PlanTable}
 use Rattle.plan_types.specs.declared.answer.Answer.{Answer}
@@ -9,12 +9,13 @@ use Rattle.plan_rules.specs.Reply.{next, reply}
 use Rattle.plan_text.specs.Named.{Named}
 use Rattle.plan_text.specs.Answers.{answer_text}
 use Rattle.csv_rows.specs.Rows.{Row}
+use Rattle.csv_rows.specs.ScriptEnd.{max_records}
+use Rattle.csv_rows.specs.declared.script_end.ScriptFault.TheVariants.{BadRow, Long}
+use Rattle.csv_rows.specs.declared.script_end.Outcome.{Outcome}
+use Rattle.csv_rows.specs.declared.script_end.Outcome.TheVariants.{Clean, Refused}
 use Rattle.plan_replay.specs.Requests.{request_of}
-use Rattle.plan_replay.specs.Script.{Answers, answers_of, answer_by, ends, line_of, max_records, with_text}
+use Rattle.plan_replay.specs.Script.{Answers, answers_of, ends, line_of, with_text}
 use Rattle.plan_replay.specs.declared.request.Request.{Request}
-use Rattle.plan_replay.specs.declared.script.ScriptFault.TheVariants.{BadRow, Long}
-use Rattle.plan_replay.specs.declared.script.Outcome.{Outcome}
-use Rattle.plan_replay.specs.declared.script.Outcome.TheVariants.{Clean, Refused}
 
 pub with_text-twice : (a b : List ℕ) (x : Answers) → with_text (a ++ b) x ≡ with_text a (with_text b x)
 with_text-twice a b x = ap (λ (t : List ℕ). record { text = t; outcome = x.outcome }) (append_assoc a b x.text)

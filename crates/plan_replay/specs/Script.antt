@@ -1,11 +1,14 @@
 -- The answers to a script, by a plan with names.
-use Rattle.std.specs.Prelude.{ℕ, ◌+◌, Bool, List, [], ◌∷◌, ◌++◌, codes, count_by, nat_lt, Option, Some, None}
+use Rattle.std.specs.Prelude.{ℕ, ◌+◌, List, [], ◌∷◌, ◌++◌, codes, count_by, nat_lt, Option, Some, None}
 use Rattle.std.specs.Prelude.{Result, Ok, Err, if◌then◌else◌}
 use Rattle.std.specs.Fmt.{decimal}
 use Rattle.csv.specs.Reading.{default_config, records, strip_bom}
-use Rattle.cell_text.specs.declared.input.InputFault.{InputFault}
-use Rattle.cell_text.specs.declared.input.InputFault.TheVariants as input
 use Rattle.csv_rows.specs.Rows.{Row}
+use Rattle.csv_rows.specs.ScriptEnd.{end_text, max_records}
+use Rattle.csv_rows.specs.declared.script_end.ScriptFault.{ScriptFault}
+use Rattle.csv_rows.specs.declared.script_end.ScriptFault.TheVariants.{NoStart, BadRow, Long}
+use Rattle.csv_rows.specs.declared.script_end.Outcome.{Outcome}
+use Rattle.csv_rows.specs.declared.script_end.Outcome.TheVariants.{Clean, Refused}
 use Rattle.plan_types.specs.Table.{place_count}
 use Rattle.plan_rules.specs.declared.state.State.{State}
 use Rattle.plan_rules.specs.Reply.{next, reply}
@@ -14,16 +17,6 @@ use Rattle.plan_text.specs.Answers.{answer_text}
 use Rattle.plan_replay.specs.Requests.{request_of}
 use Rattle.plan_replay.specs.Starts.{start_in}
 use Rattle.plan_replay.specs.declared.request.Request.{Request}
-use Rattle.plan_replay.specs.declared.script.ScriptFault.{ScriptFault}
-use Rattle.plan_replay.specs.declared.script.ScriptFault.TheVariants.{NoStart, BadStart, BadRow, Long}
-use Rattle.plan_replay.specs.declared.script.Outcome.{Outcome}
-use Rattle.plan_replay.specs.declared.script.Outcome.TheVariants.{Clean, Refused}
-use Rattle.plan_replay.specs.declared.script.ReplayFault.{ReplayFault}
-use Rattle.plan_replay.specs.declared.script.ReplayFault.TheVariants.{Read, Memory}
-
--- the most records after record 0 that are answered
-abbrev pub max_records : ℕ
-max_records = 65536
 
 -- the text that answers a script, and how the script ends
 pub record Answers : Type 0 where
@@ -32,17 +25,6 @@ pub record Answers : Type 0 where
 
 abbrev pub with_text : List ℕ → Answers → Answers
 with_text before a = record { text = before ++ a.text; outcome = a.outcome }
-
-abbrev pub fault_text : ScriptFault → List ℕ
-fault_text NoStart = codes "nostart"
-fault_text BadStart = codes "badstart"
-fault_text (BadRow number) = codes "badrow " ++ decimal number
-fault_text Long = codes "long"
-
--- the last line of a refused script
-abbrev pub end_text : Outcome → List ℕ
-end_text Clean = []
-end_text (Refused fault) = codes "fault " ++ (fault_text fault ++ 10 ∷ [])
 
 -- no further record is answered
 abbrev pub ends : Outcome → Answers
@@ -91,8 +73,3 @@ rows_start n (row ∷ rows) = start_in (place_count n.plan) row
 
 abbrev pub script_start : Named → List ℕ → Result State ScriptFault
 script_start n script = rows_start n (records default_config (strip_bom script))
-
--- the fault of a replay that couldn't read its records
-abbrev pub replay_fault_of : InputFault → ReplayFault
-replay_fault_of input.Read = Read
-replay_fault_of input.Memory = Memory

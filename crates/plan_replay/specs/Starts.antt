@@ -1,6 +1,6 @@
 -- The start in record 0.
-use Rattle.std.specs.Prelude.{ℕ, ◌==◌, ◌&&◌, ◌||◌, Bool, List, [], ◌∷◌, length, map, get_or, codes}
-use Rattle.std.specs.Prelude.{nat_eq, nat_lt, nat_le, Option, Some, None, Result, Ok, Err, if◌then◌else◌}
+use Rattle.std.specs.Prelude.{ℕ, ◌&&◌, ◌||◌, Bool, List, length, map, get_or, codes}
+use Rattle.std.specs.Prelude.{nat_eq, nat_lt, nat_le, Option, Some, None, Result, Err, if◌then◌else◌}
 use Rattle.std.specs.List.{list_all, range_with_len}
 use Rattle.std.specs.Option.{ok_or, option_and_then}
 use Rattle.std.specs.Str.{bytes_eq}
@@ -9,8 +9,8 @@ use Rattle.csv_rows.specs.Numbers.{number_in}
 use Rattle.csv_rows.specs.Rows.{Row}
 use Rattle.plan_rules.specs.declared.state.State.{State}
 use Rattle.plan_rules.specs.State.{start_state, last_stamp}
-use Rattle.plan_replay.specs.declared.script.ScriptFault.{ScriptFault}
-use Rattle.plan_replay.specs.declared.script.ScriptFault.TheVariants.{NoStart, BadStart}
+use Rattle.csv_rows.specs.declared.script_end.ScriptFault.{ScriptFault}
+use Rattle.csv_rows.specs.declared.script_end.ScriptFault.TheVariants.{NoStart, BadStart}
 
 -- the digit of a place is 1
 abbrev pub is_one : List ℕ → ℕ → Bool

@@ -7,6 +7,7 @@ pub mod request;
 pub mod script;
 pub mod start;
 
+pub use csv_rows::{MAX_RECORDS, Outcome, ScriptFault};
 pub use opening::start_of_script;
-pub use replay::{MAX_RECORDS, answer_script};
-pub use script::{ScriptAnswers, Outcome, ReplayFault, ScriptFault};
+pub use replay::answer_script;
+pub use script::ScriptAnswers;

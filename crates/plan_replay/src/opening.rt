@@ -3,10 +3,10 @@ ghost use Rattle.std.specs.Prelude.{◌≡◌, List, IfOk};
 ghost use Rattle.csv_rows.specs.Rows.{HasRows, IsPlain, Row};
 ghost use Rattle.plan_replay.specs.Script as spec;
 
-use crate::script::{ReplayFault, ScriptFault};
 use crate::start::read_start;
+use cell_text::InputFault;
 use csv::{ByteRecord, Reader, ReaderBuilder};
-use csv_rows::read_row;
+use csv_rows::{ScriptFault, read_row};
 use plan_rules::State;
 use plan_text::NamedPlan;
 use std::alloc::Global;
@@ -17,7 +17,7 @@ pub fn start_of_script(
     alloc: Global,
     named: &NamedPlan,
     script: &[u8],
-) -> Result<Result<State, ScriptFault>, ReplayFault>
+) -> Result<Result<State, ScriptFault>, InputFault>
     ensures { IfOk result (λ start. start ≡ spec.script_start named.now script.now) }
 {
     let mut reader = ReaderBuilder::new()
@@ -32,7 +32,7 @@ fn start_of_rows<R: Read>(
     alloc: Global,
     named: &NamedPlan,
     reader: &mut Reader<R>,
-) -> Result<Result<State, ScriptFault>, ReplayFault>
+) -> Result<Result<State, ScriptFault>, InputFault>
     requires { IsPlain reader.old }
     ensures { IfOk result (λ start. (rows : List Row) → HasRows R.remaining reader.old rows →
         start ≡ spec.rows_start named.now rows) }

@@ -5,18 +5,16 @@ ghost use Rattle.plan_text.specs.Answers.{answer_text};
 ghost use Rattle.plan_replay.specs.Script as spec;
 
 use crate::request::read_request;
-use crate::script::{ScriptAnswers, Outcome, ReplayFault, ScriptFault};
+use crate::script::ScriptAnswers;
 use crate::start::{plates, read_start};
+use cell_text::InputFault;
 use csv::{ByteRecord, Reader, ReaderBuilder};
-use csv_rows::read_row;
+use csv_rows::{MAX_RECORDS, Outcome, ScriptFault, push_end, read_row};
 use plan_rules::{State, apply};
 use plan_text::NamedPlan;
 use plan_types::Answer;
 use std::alloc::{AllocError, Global};
 use std::io::Read;
-
-/// The most records after record 0 that are answered.
-pub const MAX_RECORDS: u32 = 65_536;
 
 /// Answers a script: a line for each record, and the line of a fault if the script is refused.
 ///
@@ -25,7 +23,7 @@ pub fn answer_script(
     alloc: Global,
     named: &NamedPlan,
     script: &[u8],
-) -> Result<ScriptAnswers, ReplayFault>
+) -> Result<ScriptAnswers, InputFault>
     ensures { IfOk result (λ answered. answered ≡ spec.script_answers named.now script.now) }
 {
     let mut reader = ReaderBuilder::new()
@@ -40,7 +38,7 @@ fn answer_rows<R: Read>(
     alloc: Global,
     named: &NamedPlan,
     reader: &mut Reader<R>,
-) -> Result<ScriptAnswers, ReplayFault>
+) -> Result<ScriptAnswers, InputFault>
     requires { IsPlain reader.old }
     ensures { IfOk result (λ answered. (rows : List Row) → HasRows R.remaining reader.old rows →
         answered ≡ spec.rows_answers named.now rows) }
@@ -66,7 +64,7 @@ fn answer_later<R: Read>(
     reader: &mut Reader<R>,
     start: State,
     before: String,
-) -> Result<ScriptAnswers, ReplayFault>
+) -> Result<ScriptAnswers, InputFault>
     requires { IsPlain reader.old }
     ensures { IfOk result (λ answered. (rows : List Row) → HasRows R.remaining reader.old rows →
         answered ≡ spec.with_text (string_bytes before) (spec.answers_of named.now 0 start rows)) }
@@ -91,23 +89,13 @@ fn answer_later<R: Read>(
 }
 
 /// The answers with the line of a fault, if the script is refused.
-fn end(before: String, outcome: Outcome) -> Result<ScriptAnswers, ReplayFault>
+fn end(before: String, outcome: Outcome) -> Result<ScriptAnswers, InputFault>
     ensures { IfOk result (λ answered. answered
         ≡ spec.with_text (string_bytes before) (spec.ends outcome)) }
 {
     let mut text = before;
-    if let Outcome::Refused(fault) = outcome {
-        push_fault(&mut text, fault)?;
-    }
+    push_end(&mut text, outcome)?;
     Ok(ScriptAnswers { text, outcome })
-}
-
-/// Adds the line of a fault.
-fn push_fault(text: &mut String, fault: ScriptFault) -> Result<(), AllocError>
-    ensures { OnOk result (string_bytes text.new
-        ≡ string_bytes text.old ++ spec.end_text (Outcome.Refused fault)) }
-{
-    writeln!(text, "fault {fault}")
 }
 
 /// Adds the line of record 0.

@@ -5,9 +5,8 @@ ghost use Rattle.csv.specs.Records.{fields_of};
 ghost use Rattle.plan_types.specs.Table.{place_count};
 ghost use Rattle.plan_replay.specs.Starts as spec;
 
-use crate::script::ScriptFault;
 use csv::ByteRecord;
-use csv_rows::read_number;
+use csv_rows::{ScriptFault, read_number};
 use plan_rules::{LAST_STAMP, State};
 use plan_text::NamedPlan;
 use plan_types::MAX_PLACES;

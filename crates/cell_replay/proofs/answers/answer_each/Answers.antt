@@ -1,8 +1,9 @@
 use Rattle.std.proofs.Common.{◌≡◌, ◌++◌, ◌∷◌, ◌∙◌, refl, [], ap, sym, Ok, Err, arith}
 use Rattle.std.proofs.KnownBytes.{Appends-kept, Appends-nil}
 use Rattle.std.specs.List.{concat}
-use Rattle.cell_replay.specs.Script.{is_cut_of, max_records}
-use Rattle.cell_replay.specs.declared.script.ReplayFault.TheVariants.{Write}
+use Rattle.csv_rows.specs.ScriptEnd.{max_records}
+use Rattle.cell_replay.specs.Script.{is_cut_of}
+use Rattle.cell_replay.specs.declared.fault.ReplayFault.TheVariants.{Write}
 use Rattle.cell_replay.proofs.Writings.{line-more, lines-step, one-fails, one-stops, writes-after, writes-through}
 use Rattle.cell_replay.proofs.answers.answer_each.Goals as goal
 

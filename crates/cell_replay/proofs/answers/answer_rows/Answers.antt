@@ -1,7 +1,7 @@
 use Rattle.std.proofs.Common.{◌≡◌, ◌∙◌, ap, sym, true, false, rules, cond, Ok, Err, refl}
 use Rattle.csv.specs.Records.{fields_of}
+use Rattle.csv_rows.specs.declared.script_end.ScriptFault.TheVariants.{Long, NoStart}
 use Rattle.cell_replay.specs.Script.{is_cut_of, rows_lines, rows_outcome, start_in, start_line}
-use Rattle.cell_replay.specs.declared.script.ScriptFault.TheVariants.{Long, NoStart}
 use Rattle.cell_replay.proofs.Writings.{rows-empty, rows-refused, rows-started, rows-unstarted, writes-residual}
 use Rattle.cell_replay.proofs.answers.answer_rows.Goals as goal
 

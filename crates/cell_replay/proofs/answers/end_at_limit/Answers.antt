@@ -1,9 +1,10 @@
 use Rattle.std.proofs.Common.{◌≡◌, ◌∙◌, ap, Ok, Err, true, false, rules, refl}
 use Rattle.std.proofs.KnownBytes.{Appends-nil}
 use Rattle.csv.specs.Records.{fields_of}
-use Rattle.cell_replay.specs.Script.{end_of, is_cut_of, max_records}
+use Rattle.csv_rows.specs.ScriptEnd.{max_records}
+use Rattle.cell_replay.specs.Script.{end_of, is_cut_of}
 use Rattle.cell_replay.specs.Writing.{lines_left, outcome_left}
-use Rattle.cell_replay.specs.declared.script.ReplayFault.TheVariants.{Write}
+use Rattle.cell_replay.specs.declared.fault.ReplayFault.TheVariants.{Write}
 use Rattle.cell_replay.proofs.Writings.{flushed, writes-end, writes-long, writes-residual}
 use Rattle.cell_replay.proofs.answers.end_at_limit.Goals as goal
 

@@ -1,4 +1,4 @@
-use Rattle.std.proofs.Common.{◌≡◌, ◌∙◌, ap, sym, refl, true, false, rules}
+use Rattle.std.proofs.Common.{◌≡◌, ◌∙◌, ap, sym, true, false, rules}
 use Rattle.csv.specs.Records.{fields_of}
 use Rattle.plan_replay.specs.Script.{rows_start}
 use Rattle.csv_rows.proofs.RowsTaken.{takes-none, takes-some}

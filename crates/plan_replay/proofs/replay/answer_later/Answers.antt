@@ -1,11 +1,12 @@
 use Rattle.std.proofs.Common.{◌≡◌, ◌∙◌, ◌∷◌, ap, sym, refl, true, false, rules, arith, string_bytes, None, Some}
 use Rattle.csv.specs.Records.{fields_of}
-use Rattle.plan_replay.specs.Requests.{request_of}
-use Rattle.plan_replay.specs.Script.{answers_of, max_records}
-use Rattle.plan_replay.specs.declared.script.ScriptFault.TheVariants.{BadRow, Long}
-use Rattle.plan_replay.specs.declared.script.Outcome.TheVariants.{Clean, Refused}
-use Rattle.plan_replay.proofs.Answering.{answers_of-bad, answers_of-long, answers_of-none, ended, ok_more, one_answered}
+use Rattle.csv_rows.specs.ScriptEnd.{max_records}
+use Rattle.csv_rows.specs.declared.script_end.ScriptFault.TheVariants.{BadRow, Long}
+use Rattle.csv_rows.specs.declared.script_end.Outcome.TheVariants.{Clean, Refused}
 use Rattle.csv_rows.proofs.RowsTaken.{takes-none, takes-some}
+use Rattle.plan_replay.specs.Requests.{request_of}
+use Rattle.plan_replay.specs.Script.{answers_of}
+use Rattle.plan_replay.proofs.Answering.{answers_of-bad, answers_of-long, answers_of-none, ended, ok_more, one_answered}
 use Rattle.plan_replay.proofs.replay.answer_later.Goals as goal
 
 pub rows-init : goal.rows-init
