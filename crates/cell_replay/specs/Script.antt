@@ -27,7 +27,7 @@ byte_limit = 4194304
 
 -- one byte more shows whether there are more than are used
 abbrev pub max_bytes_read : ℕ
-max_bytes_read = 4194305
+max_bytes_read = byte_limit + 1
 
 abbrev pub start_at : PlaceSet → ℕ → Result ModelState ScriptFault
 start_at full stamp = if is_start full stamp then Ok (start_state full stamp) else Err BadStart

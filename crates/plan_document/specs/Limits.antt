@@ -1,6 +1,10 @@
 -- How many bytes are read of a plan.
-use Rattle.std.specs.Prelude.{ℕ}
+use Rattle.std.specs.Prelude.{ℕ, ◌+◌}
 
--- one byte more than a plan may have, which shows whether there are more
+-- the most bytes of a document
+abbrev pub byte_limit : ℕ
+byte_limit = 65536
+
+-- one byte more shows whether there are more
 abbrev pub max_bytes_read : ℕ
-max_bytes_read = 65537
+max_bytes_read = byte_limit + 1

@@ -2,11 +2,12 @@
 ghost use Rattle.std.specs.Prelude.{◌≡◌};
 ghost use Rattle.plan_document.specs.declared.fault.Wrong.TheVariants.{Memory as NoMemory};
 
+use crate::reading::MAX_BYTES;
 use std::alloc::{AllocError, AllocFailed};
 use std::fmt;
 
 /// The most characters of a text that are shown.
-const MOST_SHOWN: usize = 40;
+const MAX_SHOWN: usize = 40;
 
 /// What is said of a text that is no name.
 const NO_NAME: &str =
@@ -307,14 +308,14 @@ struct Quoted<'a> {
 impl fmt::Display for Quoted<'_> {
     fn fmt<W: fmt::Write>(&self, f: &mut fmt::Formatter<W>) -> fmt::Result {
         f.write_str("\"")?;
-        for letter in self.text.chars().take(MOST_SHOWN) {
+        for letter in self.text.chars().take(MAX_SHOWN) {
             if letter == ' ' || letter.is_ascii_graphic() {
                 f.write_char(letter)?;
             } else {
                 f.write_str("?")?;
             }
         }
-        if self.text.chars().nth(MOST_SHOWN).is_some() {
+        if self.text.chars().nth(MAX_SHOWN).is_some() {
             f.write_str("..")?;
         }
         f.write_str("\"")
@@ -400,7 +401,7 @@ impl fmt::Display for PlanTextFault {
         match self {
             PlanTextFault::Read => f.write_str("read"),
             PlanTextFault::Memory => f.write_str("memory"),
-            PlanTextFault::Long => f.write_str("plan long: it has more than 65536 bytes"),
+            PlanTextFault::Long => write!(f, "plan long: it has more than {MAX_BYTES} bytes"),
             PlanTextFault::NoToml { line, message } => {
                 let message = message.as_str();
                 write!(f, "plan line {line}: it is no TOML: {message}")

@@ -12,7 +12,7 @@ use toml_parser::text::{first, skip_blank, skip_ws};
 use toml_parser::{ParseError, dotted_key};
 
 /// The most steps from a document to a value that a fault is about.
-const MOST_STEPS: usize = 6;
+const MAX_STEPS: usize = 6;
 
 /// What ends a line.
 const LINE_END: u8 = b'\n';
@@ -123,7 +123,7 @@ struct Search<'a> {
     text: &'a str,
     steps: &'a [Step<'a>],
     /// By the steps before an array: how many of its heads, `[[..]]`, there were.
-    heads: [usize; MOST_STEPS],
+    heads: [usize; MAX_STEPS],
     /// How many first steps lead to the place.
     taken: usize,
     /// How many bytes are before the place.
@@ -135,7 +135,7 @@ impl<'a> Search<'a> {
         Search {
             text,
             steps,
-            heads: [0; MOST_STEPS],
+            heads: [0; MAX_STEPS],
             taken: 0,
             before: None,
         }
