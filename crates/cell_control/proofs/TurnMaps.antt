@@ -3,9 +3,8 @@ use Rattle.std.proofs.Common.{◌≡◌, subst, Option, Some, None, Result, Ok, 
 use Rattle.cell_rules.specs.Types.{Call, Reply}
 use Rattle.cell_calib.specs.declared.sense.SensorFault.{SensorFault}
 use Rattle.cell_rules.specs.declared.heard.LineFault.{LineFault}
-use Rattle.cell_control.specs.Names.{Steps, Performed, PerformsCall, PerformsSensed, Turned, Turns, turned}
+use Rattle.cell_control.specs.Names.{Steps, Performed, PerformsCall, PerformsSensed, Turned, Turns}
 use Rattle.cell_control.specs.declared.fault.CtlFault.{CtlFault}
-use Rattle.cell_control.specs.Turns.{Performs}
 
 module _ {S Sense Reading Act : Type 0} (t : Steps S Sense Reading Act) (same same' : Type 0) (asks asks' : Call → Result Reply LineFault → Type 0) (f : same → same') (g : (c : Call) (r : Result Reply LineFault) → asks c r → asks' c r) where
   call_map : (o : Option Call) (p : S) (reading : Reading) (r : Performed S Act) → PerformsCall t o same asks p reading r → PerformsCall t o same' asks' p reading r
@@ -34,11 +33,7 @@ module _ {S Sense Reading Act : Type 0} (t : Steps S Sense Reading Act) (same : 
   turn_either (Some fault) p s w h = f h.0
   turn_either None p s w h = sensed_either h.1.sensed p h.0 h.1.performs
 
--- a turn by an equal sense, and one of a controller that runs
+-- a turn by an equal sense
 module _ {S Sense Reading Act : Type 0} (t : Steps S Sense Reading Act) (same : Type 0) (asks : Call → Result Reply LineFault → Type 0) where
   pub turn_of_sense : (stopped : Option CtlFault) (p : S) (s s' : Sense) (w : Turned S Act) → s ≡ s' → Turns t same asks stopped p s w → Turns t same asks stopped p s' w
   turn_of_sense stopped p s s' w e h = subst (λ (x : Sense). Turns t same asks stopped p x w) e h
-
-  pub turn_of_performed : (stopped : Option CtlFault) (p : S) (s : Sense) (r : Performed S Act) (w : Turned S Act) → stopped ≡ None → Performs t same asks p s r → w ≡ turned p r → Turns t same asks stopped p s w
-  turn_of_performed None p s r w runs h e = (r, h, e)
-  turn_of_performed (Some fault) p s r w runs h e = cc

@@ -1,13 +1,20 @@
 -- A controller, and what a turn leaves of it.
-use Rattle.std.specs.Prelude.{◌≡◌, List, Option, None, Result}
+use Rattle.std.specs.Prelude.{◌≡◌, List, Option, Some, None, Result}
 use Rattle.cell_rules.specs.Types.{Machine, Call, Event, Reply}
 use Rattle.cell_rules.specs.Names.{ModelState}
+use Rattle.cell_rules.specs.Seen.{heard_after}
 use Rattle.cell_rules.specs.declared.heard.LineFault.{LineFault}
 use Rattle.cell_rules.specs.declared.heard.Heard.{Heard}
 use Rattle.cell_control.specs.declared.controller.Controller.{Controller}
+use Rattle.cell_control.specs.declared.controller.TakenTurn.{TakenTurn}
 use Rattle.cell_control.specs.declared.fault.CtlFault.{CtlFault}
 use Rattle.cell_control.specs.Steps.{Steps, GoesOn, IsReached}
-use Rattle.cell_control.specs.Turns.{HearsTurn, Turns}
+use Rattle.cell_control.specs.Turns.{HearsTurn, Reads, Turns, answered}
+
+-- a line is asked, and has heard what came back
+abbrev pub AsksAndHears : {L : Type 0} → (L → Call → Result Reply LineFault → L → Type 0) → (L → Heard) → L → L → Call
+    → Result Reply LineFault → Type 0
+AsksAndHears asks heard before now c r = asks before c r now × (heard now ≡ heard_after (heard before) c r)
 
 module _ {P S Sense Reading Act : Type 0} where
   -- its program, its step with its notes, and what has stopped it
@@ -38,6 +45,14 @@ module _ {P S Sense Reading Act : Type 0} where
   TurnsBy steps same asks c sense result now =
       Turns (steps c.program) same asks c.stopped c.progress sense
       (record { result = result; progress = now.progress; stopped = now.stopped })
+
+  -- a turn as it was taken, by what its sensors may show: it also tells what it asked, if anything
+  abbrev pub TakesTurnBy : (P → Steps S Sense Reading Act) → (Sense → Type 0) → Type 0
+      → (Call → Result Reply LineFault → Type 0) → Controller P S Sense Reading Act → TakenTurn Act
+      → Controller P S Sense Reading Act → Type 0
+  TakesTurnBy steps shows same asks c taken now =
+      Reads shows (λ sense. TurnsBy steps (same × (taken.asked ≡ None)) (λ q r. asks q r × (taken.asked ≡ Some (q, r)))
+      c sense (answered taken.told.act taken.told.fault) now)
 
   abbrev pub HearsBy : (P → Steps S Sense Reading Act) → Controller P S Sense Reading Act → Sense → Heard → Heard
       → Type 0

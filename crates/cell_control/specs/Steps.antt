@@ -112,3 +112,8 @@ pub record IsReached {S Sense Reading Act : Type 0} (t : Steps S Sense Reading A
 abbrev pub with_senses : {S Sense Reading Act : Type 0} → Steps S Sense Reading Act
     → (Sense → Result Reading SensorFault → Type 0) → Steps S Sense Reading Act
 with_senses t senses = record t { senses = senses }
+
+-- what its motors demand with these commands, at a step that asks nothing, holds of each legal history that reaches it
+abbrev pub MeetsDemandsOnceReached : {S Sense Reading Act : Type 0} → Steps S Sense Reading Act → S → Act → Type 0
+MeetsDemandsOnceReached t p act = (t.row p).call ≡ None → (opening : ModelState) (seen : List Event)
+    → IsSound opening → IsLegal opening seen → IsReached t opening seen p → t.motor_demands p act opening seen

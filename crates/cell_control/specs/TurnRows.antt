@@ -30,8 +30,8 @@ stops_with p f = record { result = Err f; progress = p; stopped = Some f }
 
 -- ---- what comes back from a call of a controller that runs
 
-abbrev pub TurnAnswered : {S Sense Reading Act : Type 0} → Steps S Sense Reading Act → S → Sense → Result Reply LineFault
-    → Turned S Act → Type 0
+abbrev pub TurnAnswered : {S Sense Reading Act : Type 0} → Steps S Sense Reading Act → S → Sense
+    → Result Reply LineFault → Turned S Act → Type 0
 TurnAnswered t p s answered w = Turns t ⊥ (λ call r. r ≡ answered) None p s w
 
 -- a refusal on which the step doesn't stay stops it with this fault

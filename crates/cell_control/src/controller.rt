@@ -1,11 +1,10 @@
 //! The controller that performs any machine's program, a step a turn.
 ghost use Rattle.std.specs.Prelude.{◌≡◌, ◌≢◌, Some, None, [], IfOk};
-ghost use Rattle.cell_rules.specs.Seen.{heard_after};
-ghost use Rattle.cell_control.specs.Controllers.{MeetsDemands, GoesOnBy, HasReached, HearsBy};
-ghost use Rattle.cell_control.specs.Controllers.{OwnsLine, TurnsBy, program_in, rest_in, step_in};
-ghost use Rattle.cell_control.specs.Controllers.{stopped_in};
+ghost use Rattle.cell_control.specs.Controllers.{AsksAndHears, GoesOnBy, HasReached, HearsBy};
+ghost use Rattle.cell_control.specs.Controllers.{MeetsDemands, OwnsLine, TakesTurnBy, TurnsBy};
+ghost use Rattle.cell_control.specs.Controllers.{program_in, rest_in, step_in, stopped_in};
 ghost use Rattle.cell_control.specs.Steps.{GoesOn, IsReached, step_after_reply};
-ghost use Rattle.cell_control.specs.Turns.{Performs, Reads, HearsOnce, answered};
+ghost use Rattle.cell_control.specs.Turns.{Performs, Reads, HearsOnce};
 
 use crate::fault::CtlFault;
 use crate::part::{Sensors, Values};
@@ -68,8 +67,7 @@ impl<P: Program> Controller<P> {
         requires own { OwnsLine P.steps self.old (L.machine line.old) }
         requires reached { HasReached P.steps self.old (L.opening line.old) (L.seen line.old) }
         ensures row { TurnsBy P.steps (line.new ≡ line.old)
-            (λ c r. L.asks line.old c r line.new × (L.heard line.new ≡ heard_after (L.heard line.old) c r))
-            self.old sense.now result self.new }
+            (AsksAndHears L.asks L.heard line.old line.new) self.old sense.now result self.new }
         ensures heard { HearsBy P.steps self.old sense.now (L.heard line.old) (L.heard line.new) }
         ensures own { L.machine line.new ≡ L.machine line.old }
         ensures opening { L.opening line.new ≡ L.opening line.old }
@@ -95,11 +93,8 @@ impl<P: Program> Controller<P> {
     ) -> TakenTurn<P::Act>
         requires own { OwnsLine P.steps self.old (L.machine line.old) }
         requires reached { HasReached P.steps self.old (L.opening line.old) (L.seen line.old) }
-        ensures row { Reads (S.shows sensors.now) (λ sense. TurnsBy P.steps
-            ((line.new ≡ line.old) × (result.asked ≡ None))
-            (λ c r. (L.asks line.old c r line.new × (L.heard line.new ≡ heard_after (L.heard line.old) c r))
-            × (result.asked ≡ Some (c, r)))
-            self.old sense (answered result.told.act result.told.fault) self.new) }
+        ensures row { TakesTurnBy P.steps (S.shows sensors.now) (line.new ≡ line.old)
+            (AsksAndHears L.asks L.heard line.old line.new) self.old result self.new }
         ensures heard { Reads (S.shows sensors.now) (λ sense.
             HearsBy P.steps self.old sense (L.heard line.old) (L.heard line.new)) }
         ensures own { L.machine line.new ≡ L.machine line.old }
@@ -111,19 +106,22 @@ impl<P: Program> Controller<P> {
         ensures motor_demands { result.told.fault ≡ None
             → MeetsDemands P.steps self.old result.told.act (L.opening line.new) (L.seen line.new) }
     {
-        if self.stopped.is_some() {
+        let (asked, performed) = if self.stopped.is_some() {
             // each turn reads its sensors
             let _ = sensors.read();
-            return TakenTurn::new(None, Told::after(CtlFault::Stopped, self.rest()));
-        }
-        let (asked, performed) = perform(&self.program, self.progress, line, sensors);
+            (None, Err(CtlFault::Stopped))
+        } else {
+            perform(&self.program, self.progress, line, sensors)
+        };
         match performed {
             Ok((progress, act)) => {
                 self.progress = progress;
                 TakenTurn::new(asked, Told::well(act))
             }
             Err(fault) => {
-                self.stopped = Some(fault);
+                if self.stopped.is_none() {
+                    self.stopped = Some(fault);
+                }
                 TakenTurn::new(asked, Told::after(fault, self.rest()))
             }
         }
@@ -162,8 +160,7 @@ fn perform<P: Program, L: Line, S: Sensors<Sense = P::Sense>>(
     requires reached { IsReached (P.steps program.now) (L.opening line.old) (L.seen line.old) progress }
     ensures row { Reads (S.shows sensors.now) (λ sense. Performs (P.steps program.now)
         ((line.new ≡ line.old) × (result.0 ≡ None))
-        (λ c r. (L.asks line.old c r line.new × (L.heard line.new ≡ heard_after (L.heard line.old) c r))
-        × (result.0 ≡ Some (c, r)))
+        (λ c r. AsksAndHears L.asks L.heard line.old line.new c r × (result.0 ≡ Some (c, r)))
         progress sense result.1) }
     ensures heard { Reads (S.shows sensors.now) (λ sense. HearsOnce (P.steps program.now) progress
         sense (L.heard line.old) (L.heard line.new)) }

@@ -21,12 +21,10 @@ use cell_types::{Machine, Posture};
 /// `rest` depends on the notes, so that a magnet stays as it was switched. After a fault the
 /// actuators are set to `rest` too: all motors are off, and the part keeps its own magnets.
 pub trait Program: Drop {
-    ghost use Rattle.std.specs.Prelude.{◌≡◌, List, None};
+    ghost use Rattle.std.specs.Prelude.{◌≡◌, List};
     ghost use Rattle.cell_types.specs.declared.answer.Event.{Event};
     ghost use Rattle.cell_rules.specs.ModelState.{ModelState};
-    ghost use Rattle.cell_rules.specs.Sound.{IsSound};
-    ghost use Rattle.cell_rules.specs.History.{IsLegal};
-    ghost use Rattle.cell_control.specs.Steps.{Steps, IsReached};
+    ghost use Rattle.cell_control.specs.Steps.{Steps, MeetsDemandsOnceReached};
 
     /// A step, with the machine's notes.
     type Progress: Copy;
@@ -70,10 +68,7 @@ pub trait Program: Drop {
     /// meets what its motors demand.
     fn drive(&self, progress: Self::Progress, reading: Self::Reading) -> Self::Act
         ensures drives { (steps self.now).drives progress reading result }
-        ensures motor_demands { ((steps self.now).row progress).call ≡ None
-            → (opening : ModelState) (seen : List Event) → IsSound opening → IsLegal opening seen
-            → IsReached (steps self.now) opening seen progress
-            → (steps self.now).motor_demands progress result opening seen };
+        ensures motor_demands { MeetsDemandsOnceReached (steps self.now) progress result };
 
     /// The next step after a drive, by its reading and its commands.
     fn after_drive(
