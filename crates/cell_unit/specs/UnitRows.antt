@@ -182,3 +182,15 @@ pub record UnitRows {S Sense Reading Act State : Type 0} (t : Steps S Sense Read
   pub drives : (reading : Reading) (act : Act) (busy : Bool) → IsDriving t rig before reading act
       → UnitTurn t rig busy old new before now notes notes' asked
       → Drives t rig reading act old new before now notes notes' asked
+
+-- ---- each turn has its rows
+
+abbrev pub EachHasSideRows : {S Sense Reading Act State : Type 0} → Steps S Sense Reading Act → Rig State Sense Act
+    → Type 0
+EachHasSideRows {S = S} {State = State} t rig =
+    (before now : Side S State) (asked : TurnCall) → SideRows t rig before asked now
+
+abbrev pub EachHasUnitRows : {S Sense Reading Act State : Type 0} → Steps S Sense Reading Act → Rig State Sense Act
+    → Type 0
+EachHasUnitRows {S = S} {State = State} t rig = (old new : Desk) (before now : Side S State) (notes notes' : Notes)
+    (asked : TurnCall) → UnitRows t rig old new before now notes notes' asked

@@ -4,9 +4,14 @@ use Rattle.std.specs.Option.{is_none}
 use Rattle.cell_rules.specs.Types.{Machine, Call, Reply, Settled, Busy}
 use Rattle.cell_rules.specs.Names.{ModelState, reply, next, Desk}
 use Rattle.cell_rules.specs.declared.heard.LineFault.{LineFault}
+use Rattle.cell_rules.specs.declared.bench.Bench.{Bench}
+use Rattle.cell_rules.specs.BenchView.{desk_of}
 use Rattle.cell_control.specs.Names.{Rig, Steps}
 use Rattle.cell_notes.specs.Names.{TurnCall, settled_in, Notes, notes_with}
-use Rattle.cell_unit.specs.Sides.{Side, Acts, ActsAndMoves, DemandsHold}
+use Rattle.cell_notes.specs.Notes.{notes_of}
+use Rattle.cell_notes.specs.declared.notebook.Notebook.{Notebook}
+use Rattle.cell_unit.specs.declared.unit.MachineUnit.{MachineUnit}
+use Rattle.cell_unit.specs.Sides.{Side, Acts, ActsAndMoves, DemandsHold, unit_table, unit_rig, unit_side}
 
 -- A call is answered by the state, and changes it. If the turn finds the interlock busy, the answer is Busy; if out of
 -- memory, the call isn't made. In both cases nothing changes.
@@ -26,8 +31,8 @@ Taken t rig busy z before asked y now =
     ActsAndMoves t rig (y ≡ z) (λ c r. Answers z t.machine busy c r y) before asked now
 
 -- a machine is passed over, and all stays as it is
-pub record PassedOver {S State : Type 0} (z : ModelState) (before : Side S State) (asked : TurnCall) (y : ModelState)
-    (now : Side S State) : Type 0 where
+pub record LeavesAllAsItIs {S State : Type 0} (z : ModelState) (before : Side S State) (asked : TurnCall)
+    (y : ModelState) (now : Side S State) : Type 0 where
   pub asked_nothing : asked ≡ None
   pub same : y ≡ z
   pub stays : now ≡ before
@@ -36,7 +41,7 @@ pub record PassedOver {S State : Type 0} (z : ModelState) (before : Side S State
 abbrev pub Leads : {S Sense Reading Act State : Type 0} → Bool → Steps S Sense Reading Act → Rig State Sense Act
     → Bool → ModelState → Side S State → TurnCall → ModelState → Side S State → Type 0
 Leads true t rig busy z before asked y now = Taken t rig busy z before asked y now
-Leads false t rig busy z before asked y now = PassedOver z before asked y now
+Leads false t rig busy z before asked y now = LeavesAllAsItIs z before asked y now
 
 -- over a bench, by what was asked: the history has it, the notebook a turn that is taken, and the motors' demands hold
 pub record UnitTurn {S Sense Reading Act State : Type 0} (t : Steps S Sense Reading Act) (rig : Rig State Sense Act)
@@ -47,6 +52,15 @@ pub record UnitTurn {S Sense Reading Act State : Type 0} (t : Steps S Sense Read
   pub history : new.history ≡ old.history ++ settled_in t.machine asked
   pub motor_demands : DemandsHold t rig before asked now new.opening new.history
   pub noted : notes' ≡ (if is_none before.stopped then notes_with notes asked else notes)
+
+-- what such a turn is of a unit, by its program's table and its part's rig
+abbrev pub TakesBenchTurn : {P B Make S Sense Reading Act State : Type 0} → (P → Steps S Sense Reading Act)
+    → (Make → Rig State Sense Act) → (B → Make) → (B → State) → Bool → Bench → Bench
+    → MachineUnit P B S Sense Reading Act → MachineUnit P B S Sense Reading Act → Notebook → Notebook
+    → TurnCall → Type 0
+TakesBenchTurn steps rig make state busy bench bench' unit unit' notebook notebook' =
+    UnitTurn (unit_table steps unit) (unit_rig rig make unit) busy (desk_of bench) (desk_of bench')
+    (unit_side state unit) (unit_side state unit') (notes_of notebook) (notes_of notebook')
 
 -- nothing has changed
 pub record Untouched {S State : Type 0} (old new : Desk) (before now : Side S State) (notes notes' : Notes)

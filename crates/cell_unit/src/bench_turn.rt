@@ -2,8 +2,8 @@
 ghost use Rattle.std.specs.Prelude.{◌≡◌, ◌≢◌, None, IsOk, IfOk, OnErr};
 ghost use Rattle.cell_rules.specs.BenchView.{desk_of};
 ghost use Rattle.cell_notes.specs.Notes.{HasRoom, HasSpare, notes_of};
-ghost use Rattle.cell_unit.specs.Sides.{UnitIsReady, unit_program, unit_rig, unit_side, unit_table};
-ghost use Rattle.cell_unit.specs.UnitTurns.{UnitTurn, Untouched};
+ghost use Rattle.cell_unit.specs.Sides.{UnitIsReady, unit_program, unit_side, unit_table};
+ghost use Rattle.cell_unit.specs.UnitTurns.{TakesBenchTurn, Untouched};
 
 use crate::fault::SimFault;
 use crate::unit::MachineUnit;
@@ -27,9 +27,8 @@ pub fn take_bench_turn<P: Program, B: Part<Sense = P::Sense, Act = P::Act>>(
     requires machine { (unit_table P.steps unit.old).machine ≡ machine }
     requires ready { UnitIsReady P.steps unit.old (desk_of bench.old).opening (desk_of bench.old).history }
     requires room { HasRoom notebook.old.counts }
-    ensures turn { IfOk result (UnitTurn (unit_table P.steps unit.old) (unit_rig B.rig B.make unit.old) busy
-        (desk_of bench.old) (desk_of bench.new) (unit_side B.state unit.old) (unit_side B.state unit.new)
-        (notes_of notebook.old) (notes_of notebook.new)) }
+    ensures turn { IfOk result (TakesBenchTurn P.steps B.rig B.make B.state busy
+        bench.old bench.new unit.old unit.new notebook.old notebook.new) }
     ensures failed { OnErr result (Untouched
         (desk_of bench.old) (desk_of bench.new) (unit_side B.state unit.old) (unit_side B.state unit.new)
         (notes_of notebook.old) (notes_of notebook.new)) }

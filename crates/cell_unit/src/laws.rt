@@ -1,9 +1,6 @@
 //! Laws of a machine's status and turn. Each is the contract of a function with an empty body.
-ghost use Rattle.cell_rules.specs.Benches.{Desk};
-ghost use Rattle.cell_notes.specs.Asks.{TurnCall};
-ghost use Rattle.cell_notes.specs.Notes.{Notes};
-ghost use Rattle.cell_unit.specs.Sides.{Side, unit_rig, unit_table};
-ghost use Rattle.cell_unit.specs.UnitRows.{StatusRows, SideRows, UnitRows};
+ghost use Rattle.cell_unit.specs.Sides.{unit_rig, unit_table};
+ghost use Rattle.cell_unit.specs.UnitRows.{EachHasSideRows, EachHasUnitRows, StatusRows};
 
 use crate::unit::MachineUnit;
 use cell_control::{Part, Program};
@@ -19,8 +16,7 @@ pub fn status_by_faults()
 pub fn sides_by_answers<P: Program, B: Part<Sense = P::Sense, Act = P::Act>>(
     unit: &MachineUnit<P, B>,
 )
-    ensures { (before now : Side P.Progress B.State) (asked : TurnCall)
-        → SideRows (unit_table P.steps unit.now) (unit_rig B.rig B.make unit.now) before asked now }
+    ensures { EachHasSideRows (unit_table P.steps unit.now) (unit_rig B.rig B.make unit.now) }
 {}
 
 /// The effect of any machine's turn over a bench, on the machine, the bench and the notebook, and
@@ -28,6 +24,5 @@ pub fn sides_by_answers<P: Program, B: Part<Sense = P::Sense, Act = P::Act>>(
 pub fn turns_at_a_bench<P: Program, B: Part<Sense = P::Sense, Act = P::Act>>(
     unit: &MachineUnit<P, B>,
 )
-    ensures { (old new : Desk) (before now : Side P.Progress B.State) (notes after : Notes) (asked : TurnCall)
-        → UnitRows (unit_table P.steps unit.now) (unit_rig B.rig B.make unit.now) old new before now notes after asked }
+    ensures { EachHasUnitRows (unit_table P.steps unit.now) (unit_rig B.rig B.make unit.now) }
 {}
