@@ -13,7 +13,7 @@ use Rattle.cell_haul.specs.declared.crane.CraneStep.TheVariants.{RaiseToFetch, A
 use Rattle.cell_haul.specs.declared.crane.CraneReading.{CraneReading}
 use Rattle.cell_haul.specs.declared.crane.CraneProgress.{CraneProgress}
 use Rattle.cell_haul.specs.CraneProgram.{after_act}
-use Rattle.cell_haul.specs.CraneExamples.{begins_with, rows_by, scale, at, told, awaits, CraneRowsAreMet}
+use Rattle.cell_haul.specs.CraneExamples.{begins_with, rows_by, scale, at, act_of, awaits, CraneRowsAreMet}
 
 begins : (points : Scale) (s : ModelState) (loaded : Bool) → (rows_by points).start (record s { full = record s.full { crane = loaded } }) ≡ begins_with loaded
 begins points s false = refl
@@ -29,7 +29,7 @@ acts_one points p r a b at_a at_b =
     let travel : b.travel ≡ a.travel = at_b.travel ∙ sym at_a.travel in
     let height : b.height ≡ a.height = drives_one (gripper_stop p.step) points.tol r.gripper a.height b.height at_a.height at_b.height in
     let magnet : b.magnet ≡ a.magnet = at_b.magnet ∙ sym at_a.magnet in
-    ap (λ t. told t b.height b.magnet) travel ∙ ap (λ h. told a.travel h b.magnet) height ∙ ap (λ m. told a.travel a.height m) magnet
+    ap (λ t. act_of t b.height b.magnet) travel ∙ ap (λ h. act_of a.travel h b.magnet) height ∙ ap (λ m. act_of a.travel a.height m) magnet
 
 drive_row : (step : CraneStep) (magnet : Bool) (r : CraneReading) (act : CraneAct) (next : CraneProgress) → (row_of (at step magnet)).call ≡ None → Acts scale (at step magnet) r act → after_act (at step magnet) r act ≡ next → DriveRow (rows_by scale) (at step magnet) r act next
 drive_row step magnet r act next asks_nothing acts leads = record { asks_nothing = asks_nothing; drives = acts; drives_only = λ other d. acts_one scale (at step magnet) r act other acts d; leads = leads }

@@ -24,8 +24,8 @@ abbrev pub at : CraneStep → Bool → CraneProgress
 at step magnet = record { step = step; magnet = magnet }
 
 -- the commands to travel, height and magnet
-abbrev pub told : Motor → Motor → Bool → CraneAct
-told travel height magnet = record { travel = travel; height = height; magnet = magnet }
+abbrev pub act_of : Motor → Motor → Bool → CraneAct
+act_of travel height magnet = record { travel = travel; height = height; magnet = magnet }
 
 abbrev pub shown : Bool → Bool → ℕ → CraneSense
 shown deposit feed gripper = record { deposit = deposit; feed = feed; gripper = gripper }
@@ -77,47 +77,49 @@ Drives step magnet reading act next = DriveRow (rows_by scale) (at step magnet) 
 
 -- the gripper goes to 900 to travel, to 100 at the deposit belt and to 300 at the feed belt
 pub record GripperDrives (magnet : Bool) : Type 0 where
-  pub raise_to_fetch : Drives RaiseToFetch magnet (high_at 854) (told Off Plus magnet) RaiseToFetch
-  pub raise_to_fetch_too_far : Drives RaiseToFetch magnet (high_at 946) (told Off Minus magnet) RaiseToFetch
-  pub raise_to_fetch_there_first : Drives RaiseToFetch magnet (high_at 855) (told Off Off magnet) TravelToDeposit
-  pub raise_to_fetch_there_last : Drives RaiseToFetch magnet (high_at 945) (told Off Off magnet) TravelToDeposit
-  pub lower_to_plate : Drives LowerToPlate magnet (low_at 146) (told Off Minus magnet) LowerToPlate
-  pub lower_to_plate_too_far : Drives LowerToPlate magnet (low_at 54) (told Off Plus magnet) LowerToPlate
-  pub lower_to_plate_there_first : Drives LowerToPlate magnet (low_at 55) (told Off Off magnet) GripPlate
-  pub lower_to_plate_there_last : Drives LowerToPlate magnet (low_at 145) (told Off Off magnet) GripPlate
-  pub raise_with_plate : Drives RaiseWithPlate magnet (high_at 854) (told Off Plus magnet) RaiseWithPlate
-  pub raise_with_plate_too_far : Drives RaiseWithPlate magnet (high_at 946) (told Off Minus magnet) RaiseWithPlate
-  pub raise_with_plate_there_first : Drives RaiseWithPlate magnet (high_at 855) (told Off Off magnet) TakePlate
-  pub raise_with_plate_there_last : Drives RaiseWithPlate magnet (high_at 945) (told Off Off magnet) TakePlate
-  pub lower_to_feed : Drives LowerToFeed magnet (low_at 346) (told Off Minus magnet) LowerToFeed
-  pub lower_to_feed_too_far : Drives LowerToFeed magnet (low_at 254) (told Off Plus magnet) LowerToFeed
-  pub lower_to_feed_there_first : Drives LowerToFeed magnet (low_at 255) (told Off Off magnet) DropPlate
-  pub lower_to_feed_there_last : Drives LowerToFeed magnet (low_at 345) (told Off Off magnet) DropPlate
-  pub raise_from_feed : Drives RaiseFromFeed magnet (high_at 854) (told Off Plus magnet) RaiseFromFeed
-  pub raise_from_feed_too_far : Drives RaiseFromFeed magnet (high_at 946) (told Off Minus magnet) RaiseFromFeed
-  pub raise_from_feed_there_first : Drives RaiseFromFeed magnet (high_at 855) (told Off Off magnet) GivePlate
-  pub raise_from_feed_there_last : Drives RaiseFromFeed magnet (high_at 945) (told Off Off magnet) GivePlate
+  pub raise_to_fetch : Drives RaiseToFetch magnet (high_at 854) (act_of Off Plus magnet) RaiseToFetch
+  pub raise_to_fetch_too_far : Drives RaiseToFetch magnet (high_at 946) (act_of Off Minus magnet) RaiseToFetch
+  pub raise_to_fetch_there_first : Drives RaiseToFetch magnet (high_at 855) (act_of Off Off magnet) TravelToDeposit
+  pub raise_to_fetch_there_last : Drives RaiseToFetch magnet (high_at 945) (act_of Off Off magnet) TravelToDeposit
+  pub lower_to_plate : Drives LowerToPlate magnet (low_at 146) (act_of Off Minus magnet) LowerToPlate
+  pub lower_to_plate_too_far : Drives LowerToPlate magnet (low_at 54) (act_of Off Plus magnet) LowerToPlate
+  pub lower_to_plate_there_first : Drives LowerToPlate magnet (low_at 55) (act_of Off Off magnet) GripPlate
+  pub lower_to_plate_there_last : Drives LowerToPlate magnet (low_at 145) (act_of Off Off magnet) GripPlate
+  pub raise_with_plate : Drives RaiseWithPlate magnet (high_at 854) (act_of Off Plus magnet) RaiseWithPlate
+  pub raise_with_plate_too_far : Drives RaiseWithPlate magnet (high_at 946) (act_of Off Minus magnet) RaiseWithPlate
+  pub raise_with_plate_there_first : Drives RaiseWithPlate magnet (high_at 855) (act_of Off Off magnet) TakePlate
+  pub raise_with_plate_there_last : Drives RaiseWithPlate magnet (high_at 945) (act_of Off Off magnet) TakePlate
+  pub lower_to_feed : Drives LowerToFeed magnet (low_at 346) (act_of Off Minus magnet) LowerToFeed
+  pub lower_to_feed_too_far : Drives LowerToFeed magnet (low_at 254) (act_of Off Plus magnet) LowerToFeed
+  pub lower_to_feed_there_first : Drives LowerToFeed magnet (low_at 255) (act_of Off Off magnet) DropPlate
+  pub lower_to_feed_there_last : Drives LowerToFeed magnet (low_at 345) (act_of Off Off magnet) DropPlate
+  pub raise_from_feed : Drives RaiseFromFeed magnet (high_at 854) (act_of Off Plus magnet) RaiseFromFeed
+  pub raise_from_feed_too_far : Drives RaiseFromFeed magnet (high_at 946) (act_of Off Minus magnet) RaiseFromFeed
+  pub raise_from_feed_there_first : Drives RaiseFromFeed magnet (high_at 855) (act_of Off Off magnet) GivePlate
+  pub raise_from_feed_there_last : Drives RaiseFromFeed magnet (high_at 945) (act_of Off Off magnet) GivePlate
 
 -- the crane travels only while the gripper is high; otherwise it stays, even at the switch that it travels to
 pub record TravelDrives (magnet : Bool) (gripper : ℕ) : Type 0 where
-  pub to_deposit : Drives TravelToDeposit magnet (high_at gripper) (told Minus Off magnet) TravelToDeposit
+  pub to_deposit : Drives TravelToDeposit magnet (high_at gripper) (act_of Minus Off magnet) TravelToDeposit
   pub to_deposit_at_feed : Drives TravelToDeposit magnet (reads false true gripper true)
-      (told Minus Off magnet) TravelToDeposit
-  pub to_deposit_there : Drives TravelToDeposit magnet (reads true false gripper true) (told Off Off magnet) AwaitPlate
-  pub to_deposit_low : Drives TravelToDeposit magnet (low_at gripper) (told Off Off magnet) TravelToDeposit
+      (act_of Minus Off magnet) TravelToDeposit
+  pub to_deposit_there : Drives TravelToDeposit magnet (reads true false gripper true) (act_of Off Off magnet)
+      AwaitPlate
+  pub to_deposit_low : Drives TravelToDeposit magnet (low_at gripper) (act_of Off Off magnet) TravelToDeposit
   pub to_deposit_there_low : Drives TravelToDeposit magnet (reads true false gripper false)
-      (told Off Off magnet) TravelToDeposit
-  pub to_feed : Drives TravelToFeed magnet (high_at gripper) (told Plus Off magnet) TravelToFeed
+      (act_of Off Off magnet) TravelToDeposit
+  pub to_feed : Drives TravelToFeed magnet (high_at gripper) (act_of Plus Off magnet) TravelToFeed
   pub to_feed_at_deposit : Drives TravelToFeed magnet (reads true false gripper true)
-      (told Plus Off magnet) TravelToFeed
-  pub to_feed_there : Drives TravelToFeed magnet (reads false true gripper true) (told Off Off magnet) ClaimFeed
-  pub to_feed_low : Drives TravelToFeed magnet (low_at gripper) (told Off Off magnet) TravelToFeed
-  pub to_feed_there_low : Drives TravelToFeed magnet (reads false true gripper false) (told Off Off magnet) TravelToFeed
+      (act_of Plus Off magnet) TravelToFeed
+  pub to_feed_there : Drives TravelToFeed magnet (reads false true gripper true) (act_of Off Off magnet) ClaimFeed
+  pub to_feed_low : Drives TravelToFeed magnet (low_at gripper) (act_of Off Off magnet) TravelToFeed
+  pub to_feed_there_low : Drives TravelToFeed magnet (reads false true gripper false) (act_of Off Off magnet)
+      TravelToFeed
 
 -- two steps switch the magnet, at any position of the crane
 pub record MagnetSteps (magnet : Bool) (reading : CraneReading) : Type 0 where
-  pub grips : Drives GripPlate magnet reading (told Off Off true) RaiseWithPlate
-  pub drops : Drives DropPlate magnet reading (told Off Off false) RaiseFromFeed
+  pub grips : Drives GripPlate magnet reading (act_of Off Off true) RaiseWithPlate
+  pub drops : Drives DropPlate magnet reading (act_of Off Off false) RaiseFromFeed
 
 -- gauges that give 3, 804 or 805 at every raw value; at 100, 3316 and 3320 these are near the line
 abbrev pub gives_only : ℕ → ℕ → ℤ → Type 0
@@ -158,13 +160,13 @@ HoldsOpen opening seen z q = Holds opening seen Crane z × (posture_by_events op
 -- while the gripper is driven at a belt, the crane holds the belt's zone; raising it before travel demands no zone
 pub record GripperDemands (points : Scale) (magnet on : Bool) (travel height : Motor) (opening : ModelState)
     (seen : List Event) : Type 0 where
-  pub lower_to_plate : (rows_by points).motor_demands (at LowerToPlate magnet) (told travel height on) opening seen
+  pub lower_to_plate : (rows_by points).motor_demands (at LowerToPlate magnet) (act_of travel height on) opening seen
       → HoldsOpen opening seen Z5 OpenOut
   pub raise_with_plate : (rows_by points).motor_demands (at RaiseWithPlate magnet)
-      (told travel height on) opening seen → HoldsOpen opening seen Z5 OpenOut
-  pub lower_to_feed : (rows_by points).motor_demands (at LowerToFeed magnet) (told travel height on) opening seen
+      (act_of travel height on) opening seen → HoldsOpen opening seen Z5 OpenOut
+  pub lower_to_feed : (rows_by points).motor_demands (at LowerToFeed magnet) (act_of travel height on) opening seen
       → HoldsOpen opening seen Z6 OpenIn
-  pub raise_from_feed : (rows_by points).motor_demands (at RaiseFromFeed magnet) (told travel height on) opening seen
+  pub raise_from_feed : (rows_by points).motor_demands (at RaiseFromFeed magnet) (act_of travel height on) opening seen
       → HoldsOpen opening seen Z6 OpenIn
 
 -- all rows; in a step that asks, both motors are off, and the magnet is as it was
@@ -177,6 +179,6 @@ pub record CraneRowsAreMet : Type 0 where
   pub checks : CraneChecks
   pub no_other_answers : (points : Scale) → NoOtherAnswers (rows_by points)
   pub rests : (points : Scale) (step : CraneStep) (magnet : Bool)
-      → (rows_by points).rest (at step magnet) ≡ told Off Off magnet
+      → (rows_by points).rest (at step magnet) ≡ act_of Off Off magnet
   pub demands : (points : Scale) (magnet on : Bool) (travel height : Motor) (opening : ModelState) (seen : List Event)
       → height ≢ Off → GripperDemands points magnet on travel height opening seen

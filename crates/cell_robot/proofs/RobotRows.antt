@@ -23,7 +23,7 @@ use Rattle.cell_robot.specs.declared.robot.RobotMagnets.{RobotMagnets}
 use Rattle.cell_robot.specs.declared.robot.RobotProgress.{RobotProgress}
 use Rattle.cell_robot.specs.declared.robot.RobotReading.{RobotReading}
 use Rattle.cell_robot.specs.RobotProgram.{is_off, rotation_stop, turns}
-use Rattle.cell_robot.specs.RobotExamples.{noted, magnets, at, told, rows_by, begins_with, for_plate, for_room, EndRows, RobotAsks, scales, TurnRows, Arm1Rows, Arm2Rows, Arm1BackRows, Arm2BackRows, RobotDrives, RobotChecks, RobotDemandRows, RobotRowsAreMet, reads}
+use Rattle.cell_robot.specs.RobotExamples.{noted, magnets, at, act_of, rows_by, begins_with, for_plate, for_room, EndRows, RobotAsks, scales, TurnRows, Arm1Rows, Arm2Rows, Arm1BackRows, Arm2BackRows, RobotDrives, RobotChecks, RobotDemandRows, RobotRowsAreMet, reads}
 
 begins : (points : RobotScales) (s : ModelState) (arm1 press_in press_out arm2 : Bool)
     → (rows_by points).start (record s { full = record s.full { arm1 = arm1; press_in = press_in; press_out = press_out; arm2 = arm2 } }) ≡ begins_with arm1 press_in press_out arm2
@@ -88,11 +88,11 @@ acts_one points p r a b at_a at_b =
     let turn : b.rotation ≡ a.rotation = drives_one (turns_to p.step r.retracted) points.rotation.tol r.rotation a.rotation b.rotation at_a.rotation at_b.rotation in
     let magnet1 : b.magnet1 ≡ a.magnet1 = at_b.magnet1 ∙ sym at_a.magnet1 in
     let magnet2 : b.magnet2 ≡ a.magnet2 = at_b.magnet2 ∙ sym at_a.magnet2 in
-    ap (λ m. told m b.arm2 b.rotation (magnets b.magnet1 b.magnet2)) first
-    ∙ ap (λ m. told a.arm1 m b.rotation (magnets b.magnet1 b.magnet2)) second
-    ∙ ap (λ m. told a.arm1 a.arm2 m (magnets b.magnet1 b.magnet2)) turn
-    ∙ ap (λ m. told a.arm1 a.arm2 a.rotation (magnets m b.magnet2)) magnet1
-    ∙ ap (λ m. told a.arm1 a.arm2 a.rotation (magnets a.magnet1 m)) magnet2
+    ap (λ m. act_of m b.arm2 b.rotation (magnets b.magnet1 b.magnet2)) first
+    ∙ ap (λ m. act_of a.arm1 m b.rotation (magnets b.magnet1 b.magnet2)) second
+    ∙ ap (λ m. act_of a.arm1 a.arm2 m (magnets b.magnet1 b.magnet2)) turn
+    ∙ ap (λ m. act_of a.arm1 a.arm2 a.rotation (magnets m b.magnet2)) magnet1
+    ∙ ap (λ m. act_of a.arm1 a.arm2 a.rotation (magnets a.magnet1 m)) magnet2
 
 -- what a step does: its row, the stops to which it drives both arms and the rotation, and whether it turns
 record Sheet : Type 0 where
@@ -114,9 +114,9 @@ leads_on turns retracted first second turn = (not turns || retracted) && (is_off
 
 drive_row : (p q : RobotProgress) (arm1 arm2 rotation : Option Stop) → sheet_of p ≡ goes_to arm1 arm2 rotation q → (r : RobotReading) (first second turn : Motor)
     → DrivesTo arm1 (pos 5) r.arm1 first → DrivesTo arm2 (pos 6) r.arm2 second → DrivesTo (if r.retracted then rotation else None) (pos 7) r.rotation turn
-    → DriveRow (rows_by scales) p r (told first second turn q.magnets) (if leads_on (is_some rotation) r.retracted first second turn then q else p)
+    → DriveRow (rows_by scales) p r (act_of first second turn q.magnets) (if leads_on (is_some rotation) r.retracted first second turn then q else p)
 drive_row p q arm1 arm2 rotation e r first second turn at_arm1 at_arm2 at_rotation =
-    let acts : Acts scales p r (told first second turn q.magnets) =
+    let acts : Acts scales p r (act_of first second turn q.magnets) =
     record {
       arm1 = subst (λ (s : Sheet). DrivesTo s.arm1 (pos 5) r.arm1 first) (sym e) at_arm1;
       arm2 = subst (λ (s : Sheet). DrivesTo s.arm2 (pos 6) r.arm2 second) (sym e) at_arm2;
@@ -127,7 +127,7 @@ drive_row p q arm1 arm2 rotation e r first second turn at_arm1 at_arm2 at_rotati
     record {
       asks_nothing = ap (λ (s : Sheet). s.row.call) e;
       drives = acts;
-      drives_only = λ other d. acts_one scales p r (told first second turn q.magnets) other acts d;
+      drives_only = λ other d. acts_one scales p r (act_of first second turn q.magnets) other acts d;
       leads = ap (λ (s : Sheet). if leads_on s.turns r.retracted first second turn then s.row.next else p) e;
     }
 
@@ -192,7 +192,7 @@ reaches2_by stop step next below first last above turn retracted n m e f =
     let row = λ (read : ℕ) (motor : Motor) (d : StopsAt stop (pos 6) (pos read) motor). drive_row (at step n m) (at next n m) None (Some stop) None e (reads 0 read turn retracted) Off motor Off refl d (stands_still retracted _ _) in
     record { out = row _ _ k.up; from = row _ _ k.from; to = row _ _ k.to; back = row _ _ k.down }
 
--- an arm that is drawn back
+-- an arm that is retracted
 leaves1_by : (step next : RobotStep) (turn : ℕ) (retracted : Bool) (n : RobotNotes) (m : RobotMagnets) → sheet_of (at step n m) ≡ goes_to (Some RETRACTED) None None (at next n m) → Arm1BackRows step next turn retracted n m
 leaves1_by step next turn retracted n m e =
     let row = λ (read : ℕ) (motor : Motor) (d : StopsAt RETRACTED (pos 5) (pos read) motor). drive_row (at step n m) (at next n m) (Some RETRACTED) None None e (reads read 0 turn retracted) motor Off Off d refl (stands_still retracted _ _) in
@@ -204,7 +204,7 @@ leaves2_by step next turn retracted n m e =
     record { out = row _ _ (goes_minus RETRACTED (pos 6) (pos 35) (le_z_yes tt) (lt_z_yes tt)); near_end = row _ _ (stops_there RETRACTED (pos 6) (pos 34) (record { not_below = le_z_yes tt; not_above = le_z_yes tt })); at_end = row _ _ (stops_there RETRACTED (pos 6) (pos 0) (record { not_below = le_z_yes tt; not_above = le_z_yes tt })) }
 
 -- a step that switches a magnet
-switches : (p q : RobotProgress) → sheet_of p ≡ goes_to None None None q → (r : RobotReading) → DriveRow (rows_by scales) p r (told Off Off Off q.magnets) q
+switches : (p q : RobotProgress) → sheet_of p ≡ goes_to None None None q → (r : RobotReading) → DriveRow (rows_by scales) p r (act_of Off Off Off q.magnets) q
 switches p q e r = drive_row p q None None None e r Off Off Off refl refl (stands_still r.retracted _ _)
 
 drives : (turn : ℕ) (retracted : Bool) (r : RobotReading) (n : RobotNotes) (first second : Bool) → RobotDrives turn retracted r n first second

@@ -36,8 +36,8 @@ abbrev pub at : RobotStep → RobotNotes → RobotMagnets → RobotProgress
 at step notes on = record { step = step; notes = notes; magnets = on }
 
 -- the commands to both arms, the rotation and the magnets
-abbrev pub told : Motor → Motor → Motor → RobotMagnets → RobotAct
-told first second turn on = record {
+abbrev pub act_of : Motor → Motor → Motor → RobotMagnets → RobotAct
+act_of first second turn on = record {
   arm1 = first;
   arm2 = second;
   rotation = turn;
@@ -161,45 +161,45 @@ Drives step reading act next n m = DriveRow (rows_by scales) (at step n m) readi
 -- out, the motor is off too, and the step isn't done
 pub record TurnRows (step next : RobotStep) (below first last above : ℕ) (n : RobotNotes) (m : RobotMagnets)
     : Type 0 where
-  pub up : Drives step (reads 0 0 below true) (told Off Off Plus m) step n m
-  pub from : Drives step (reads 0 0 first true) (told Off Off Off m) next n m
-  pub to : Drives step (reads 0 0 last true) (told Off Off Off m) next n m
-  pub down : Drives step (reads 0 0 above true) (told Off Off Minus m) step n m
-  pub held_below : Drives step (reads 46 0 below false) (told Off Off Off m) step n m
-  pub held_there : Drives step (reads 0 45 first false) (told Off Off Off m) step n m
-  pub held_above : Drives step (reads 46 45 above false) (told Off Off Off m) step n m
+  pub up : Drives step (reads 0 0 below true) (act_of Off Off Plus m) step n m
+  pub from : Drives step (reads 0 0 first true) (act_of Off Off Off m) next n m
+  pub to : Drives step (reads 0 0 last true) (act_of Off Off Off m) next n m
+  pub down : Drives step (reads 0 0 above true) (act_of Off Off Minus m) step n m
+  pub held_below : Drives step (reads 46 0 below false) (act_of Off Off Off m) step n m
+  pub held_there : Drives step (reads 0 45 first false) (act_of Off Off Off m) step n m
+  pub held_above : Drives step (reads 46 45 above false) (act_of Off Off Off m) step n m
 
 -- steps that put out an arm or draw it back, at any rotation
 pub record Arm1Rows (step next : RobotStep) (below first last above : ℕ) (turn : ℕ) (retracted : Bool)
     (n : RobotNotes) (m : RobotMagnets) : Type 0 where
-  pub out : Drives step (reads below 0 turn retracted) (told Plus Off Off m) step n m
-  pub from : Drives step (reads first 0 turn retracted) (told Off Off Off m) next n m
-  pub to : Drives step (reads last 0 turn retracted) (told Off Off Off m) next n m
-  pub back : Drives step (reads above 0 turn retracted) (told Minus Off Off m) step n m
+  pub out : Drives step (reads below 0 turn retracted) (act_of Plus Off Off m) step n m
+  pub from : Drives step (reads first 0 turn retracted) (act_of Off Off Off m) next n m
+  pub to : Drives step (reads last 0 turn retracted) (act_of Off Off Off m) next n m
+  pub back : Drives step (reads above 0 turn retracted) (act_of Minus Off Off m) step n m
 
 pub record Arm2Rows (step next : RobotStep) (below first last above : ℕ) (turn : ℕ) (retracted : Bool)
     (n : RobotNotes) (m : RobotMagnets) : Type 0 where
-  pub out : Drives step (reads 0 below turn retracted) (told Off Plus Off m) step n m
-  pub from : Drives step (reads 0 first turn retracted) (told Off Off Off m) next n m
-  pub to : Drives step (reads 0 last turn retracted) (told Off Off Off m) next n m
-  pub back : Drives step (reads 0 above turn retracted) (told Off Minus Off m) step n m
+  pub out : Drives step (reads 0 below turn retracted) (act_of Off Plus Off m) step n m
+  pub from : Drives step (reads 0 first turn retracted) (act_of Off Off Off m) next n m
+  pub to : Drives step (reads 0 last turn retracted) (act_of Off Off Off m) next n m
+  pub back : Drives step (reads 0 above turn retracted) (act_of Off Minus Off m) step n m
 
 pub record Arm1BackRows (step next : RobotStep) (turn : ℕ) (retracted : Bool) (n : RobotNotes) (m : RobotMagnets)
     : Type 0 where
-  pub out : Drives step (reads 36 0 turn retracted) (told Minus Off Off m) step n m
-  pub near_end : Drives step (reads 35 0 turn retracted) (told Off Off Off m) next n m
-  pub at_end : Drives step (reads 0 0 turn retracted) (told Off Off Off m) next n m
+  pub out : Drives step (reads 36 0 turn retracted) (act_of Minus Off Off m) step n m
+  pub near_end : Drives step (reads 35 0 turn retracted) (act_of Off Off Off m) next n m
+  pub at_end : Drives step (reads 0 0 turn retracted) (act_of Off Off Off m) next n m
 
 pub record Arm2BackRows (step next : RobotStep) (turn : ℕ) (retracted : Bool) (n : RobotNotes) (m : RobotMagnets)
     : Type 0 where
-  pub out : Drives step (reads 0 35 turn retracted) (told Off Minus Off m) step n m
-  pub near_end : Drives step (reads 0 34 turn retracted) (told Off Off Off m) next n m
-  pub at_end : Drives step (reads 0 0 turn retracted) (told Off Off Off m) next n m
+  pub out : Drives step (reads 0 35 turn retracted) (act_of Off Minus Off m) step n m
+  pub near_end : Drives step (reads 0 34 turn retracted) (act_of Off Off Off m) next n m
+  pub at_end : Drives step (reads 0 0 turn retracted) (act_of Off Off Off m) next n m
 
 -- a step that switches a magnet, by any reading
 abbrev pub Switches : RobotStep → RobotMagnets → RobotReading → RobotStep → RobotMagnets → RobotNotes → Type 0
 Switches step before reading next now n =
-    DriveRow (rows_by scales) (at step n before) reading (told Off Off Off now) (at next n now)
+    DriveRow (rows_by scales) (at step n before) reading (act_of Off Off Off now) (at next n now)
 
 pub record RobotDrives (turn : ℕ) (retracted : Bool) (r : RobotReading) (n : RobotNotes) (first second : Bool)
     : Type 0 where
@@ -296,5 +296,5 @@ pub record RobotRowsAreMet : Type 0 where
   pub checks : RobotChecks
   pub no_other_answers : (points : RobotScales) → NoOtherAnswers (rows_by points)
   pub rests : (points : RobotScales) (step : RobotStep) (n : RobotNotes) (m : RobotMagnets)
-      → (rows_by points).rest (at step n m) ≡ told Off Off Off m
+      → (rows_by points).rest (at step n m) ≡ act_of Off Off Off m
   pub demands : RobotDemandRows

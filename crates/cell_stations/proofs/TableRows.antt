@@ -15,7 +15,7 @@ use Rattle.cell_stations.specs.declared.table.TableStep.TheVariants.{MoveToLoadi
 use Rattle.cell_stations.specs.declared.table.TableReading.{TableReading}
 use Rattle.cell_stations.specs.declared.table.TableProgress.{TableProgress}
 use Rattle.cell_stations.specs.TableProgram.{row_at}
-use Rattle.cell_stations.specs.TableExamples.{begins_with, rows_by, scale, at, told, TableAsks, TableDrives, TableChecks, TableRowsAreMet}
+use Rattle.cell_stations.specs.TableExamples.{begins_with, rows_by, scale, at, act_of, TableAsks, TableDrives, TableChecks, TableRowsAreMet}
 
 begins : (points : Scale) (s : ModelState) (loaded : Bool) → (rows_by points).start (record s { full = record s.full { table = loaded } }) ≡ begins_with loaded
 begins points s false = refl
@@ -41,7 +41,7 @@ acts_one : (points : Scale) (step : TableStep) (r : TableReading) (a b : TableAc
 acts_one points step r a b at_a at_b =
     let height : b.height ≡ a.height = at_b.height ∙ sym at_a.height in
     let rotation : b.rotation ≡ a.rotation = drives_one (rotation_stop step) points.tol r.turn a.rotation b.rotation at_a.rotation at_b.rotation in
-    ap (λ h. told h b.rotation) height ∙ ap (λ m. told a.height m) rotation
+    ap (λ h. act_of h b.rotation) height ∙ ap (λ m. act_of a.height m) rotation
 
 drive_row : (loaded : Bool) (step : TableStep) (r : TableReading) (act : TableAct) (next : TableProgress) → (row_of (at step loaded)).call ≡ None → Acts scale step r act → after_act (at step loaded) act ≡ next → DriveRow (rows_by scale) (at step loaded) r act next
 drive_row loaded step r act next asks_nothing acts leads = record { asks_nothing = asks_nothing; drives = acts; drives_only = λ other d. acts_one scale step r act other acts d; leads = leads }

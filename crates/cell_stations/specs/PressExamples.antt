@@ -24,8 +24,8 @@ abbrev pub at : PressStep → Bool → Bool → Direction → PressProgress
 at step loaded forged direction = record { step = step; loaded = loaded; forged = forged; direction = direction }
 
 -- the command to the motor, and the switches
-abbrev pub told : Motor → PressAct
-told motor = record { press = motor }
+abbrev pub act_of : Motor → PressAct
+act_of motor = record { press = motor }
 
 abbrev pub switches : Bool → Bool → Bool → PressSense
 switches bottom middle top = record { bottom = bottom; middle = middle; top = top }
@@ -77,30 +77,31 @@ pub record PressAsks (loaded forged : Bool) (d : Direction) : Type 0 where
       (at LeaveForMiddle loaded forged d)
 
 pub record PressDrives (loaded forged : Bool) (d : Direction) : Type 0 where
-  pub to_middle_at_bottom : DriveRow press_steps (at MoveToMiddle loaded forged d) at_bottom (told Plus)
+  pub to_middle_at_bottom : DriveRow press_steps (at MoveToMiddle loaded forged d) at_bottom (act_of Plus)
       (at MoveToMiddle loaded forged Upward)
-  pub to_middle_at_top : DriveRow press_steps (at MoveToMiddle loaded forged d) at_top (told Minus)
+  pub to_middle_at_top : DriveRow press_steps (at MoveToMiddle loaded forged d) at_top (act_of Minus)
       (at MoveToMiddle loaded forged Downward)
-  pub to_middle_on_its_way_up : DriveRow press_steps (at MoveToMiddle loaded forged Upward) between (told Plus)
+  pub to_middle_on_its_way_up : DriveRow press_steps (at MoveToMiddle loaded forged Upward) between (act_of Plus)
       (at MoveToMiddle loaded forged Upward)
-  pub to_middle_on_its_way_down : DriveRow press_steps (at MoveToMiddle loaded forged Downward) between (told Minus)
+  pub to_middle_on_its_way_down : DriveRow press_steps (at MoveToMiddle loaded forged Downward) between (act_of Minus)
       (at MoveToMiddle loaded forged Downward)
-  pub to_middle_there : DriveRow press_steps (at MoveToMiddle loaded forged d) at_middle (told Off)
+  pub to_middle_there : DriveRow press_steps (at MoveToMiddle loaded forged d) at_middle (act_of Off)
       (at PoseMiddle loaded forged d)
-  pub to_top_at_bottom : DriveRow press_steps (at MoveToTop loaded forged d) at_bottom (told Plus)
+  pub to_top_at_bottom : DriveRow press_steps (at MoveToTop loaded forged d) at_bottom (act_of Plus)
       (at MoveToTop loaded forged Upward)
-  pub to_top_at_middle : DriveRow press_steps (at MoveToTop loaded forged d) at_middle (told Plus)
+  pub to_top_at_middle : DriveRow press_steps (at MoveToTop loaded forged d) at_middle (act_of Plus)
       (at MoveToTop loaded forged Upward)
-  pub to_top_on_its_way : DriveRow press_steps (at MoveToTop loaded forged d) between (told Plus)
+  pub to_top_on_its_way : DriveRow press_steps (at MoveToTop loaded forged d) between (act_of Plus)
       (at MoveToTop loaded forged Upward)
-  pub to_top_there : DriveRow press_steps (at MoveToTop loaded forged d) at_top (told Off) (at PoseTop loaded forged d)
-  pub to_bottom_at_top : DriveRow press_steps (at MoveToBottom loaded forged d) at_top (told Minus)
+  pub to_top_there : DriveRow press_steps (at MoveToTop loaded forged d) at_top (act_of Off)
+      (at PoseTop loaded forged d)
+  pub to_bottom_at_top : DriveRow press_steps (at MoveToBottom loaded forged d) at_top (act_of Minus)
       (at MoveToBottom loaded forged Downward)
-  pub to_bottom_at_middle : DriveRow press_steps (at MoveToBottom loaded forged d) at_middle (told Minus)
+  pub to_bottom_at_middle : DriveRow press_steps (at MoveToBottom loaded forged d) at_middle (act_of Minus)
       (at MoveToBottom loaded forged Downward)
-  pub to_bottom_on_its_way : DriveRow press_steps (at MoveToBottom loaded forged d) between (told Minus)
+  pub to_bottom_on_its_way : DriveRow press_steps (at MoveToBottom loaded forged d) between (act_of Minus)
       (at MoveToBottom loaded forged Downward)
-  pub to_bottom_there : DriveRow press_steps (at MoveToBottom loaded forged d) at_bottom (told Off)
+  pub to_bottom_there : DriveRow press_steps (at MoveToBottom loaded forged d) at_bottom (act_of Off)
       (at PoseLow loaded forged d)
 
 pub record PressChecks : Type 0 where
@@ -120,7 +121,7 @@ pub record PressRowsAreMet : Type 0 where
   pub drives : (loaded forged : Bool) (d : Direction) → PressDrives loaded forged d
   pub checks : PressChecks
   pub no_other_answers : NoOtherAnswers press_steps
-  pub rests : (p : PressProgress) → press_steps.rest p ≡ told Off
+  pub rests : (p : PressProgress) → press_steps.rest p ≡ act_of Off
   pub demands : (p : PressProgress) (motor : Motor) (opening : ModelState) (seen : List Event) → motor ≢ Off
-      → press_steps.motor_demands p (told motor) opening seen
+      → press_steps.motor_demands p (act_of motor) opening seen
       → Holds opening seen Press Z3 × (posture_by_events opening seen Z3 ≡ Moving)

@@ -24,8 +24,8 @@ use Rattle.cell_stations.specs.TableProgram.{table_steps}
 abbrev pub at : TableStep → Bool → TableProgress
 at step loaded = record { step = step; loaded = loaded }
 
-abbrev pub told : Motor → Motor → TableAct
-told height rotation = record { height = height; rotation = rotation }
+abbrev pub act_of : Motor → Motor → TableAct
+act_of height rotation = record { height = height; rotation = rotation }
 
 abbrev pub shown : Bool → Bool → ℕ → TableSense
 shown bottom top turn = record { bottom = bottom; top = top; turn = turn }
@@ -69,30 +69,30 @@ abbrev pub scale : Scale
 scale = record { raw_lo = 100; raw_hi = 4100; at_lo = pos 0; at_hi = pos 500; tol = pos 5 }
 
 pub record TableDrives (loaded : Bool) : Type 0 where
-  pub to_loading : DriveRow (rows_by scale) (at MoveToLoading loaded) (reads false false 16) (told Minus Minus)
+  pub to_loading : DriveRow (rows_by scale) (at MoveToLoading loaded) (reads false false 16) (act_of Minus Minus)
       (at MoveToLoading loaded)
-  pub to_loading_at_top : DriveRow (rows_by scale) (at MoveToLoading loaded) (reads false true 500) (told Minus Minus)
+  pub to_loading_at_top : DriveRow (rows_by scale) (at MoveToLoading loaded) (reads false true 500) (act_of Minus Minus)
       (at MoveToLoading loaded)
-  pub to_loading_turned : DriveRow (rows_by scale) (at MoveToLoading loaded) (reads false false 15) (told Minus Off)
+  pub to_loading_turned : DriveRow (rows_by scale) (at MoveToLoading loaded) (reads false false 15) (act_of Minus Off)
       (at MoveToLoading loaded)
-  pub to_loading_lowered : DriveRow (rows_by scale) (at MoveToLoading loaded) (reads true false 16) (told Off Minus)
+  pub to_loading_lowered : DriveRow (rows_by scale) (at MoveToLoading loaded) (reads true false 16) (act_of Off Minus)
       (at MoveToLoading loaded)
-  pub to_loading_there : DriveRow (rows_by scale) (at MoveToLoading loaded) (reads true false 15) (told Off Off)
+  pub to_loading_there : DriveRow (rows_by scale) (at MoveToLoading loaded) (reads true false 15) (act_of Off Off)
       (at PoseLoading loaded)
-  pub to_unloading : DriveRow (rows_by scale) (at MoveToUnloading loaded) (reads false false 484) (told Plus Plus)
+  pub to_unloading : DriveRow (rows_by scale) (at MoveToUnloading loaded) (reads false false 484) (act_of Plus Plus)
       (at MoveToUnloading loaded)
   pub to_unloading_at_bottom : DriveRow (rows_by scale) (at MoveToUnloading loaded) (reads true false 0)
-      (told Plus Plus) (at MoveToUnloading loaded)
+      (act_of Plus Plus) (at MoveToUnloading loaded)
   pub to_unloading_turned : DriveRow (rows_by scale) (at MoveToUnloading loaded) (reads false false 485)
-      (told Plus Off) (at MoveToUnloading loaded)
+      (act_of Plus Off) (at MoveToUnloading loaded)
   pub to_unloading_lifted : DriveRow (rows_by scale) (at MoveToUnloading loaded) (reads false true 484)
-      (told Off Plus) (at MoveToUnloading loaded)
+      (act_of Off Plus) (at MoveToUnloading loaded)
   pub to_unloading_too_far : DriveRow (rows_by scale) (at MoveToUnloading loaded) (reads false true 516)
-      (told Off Minus) (at MoveToUnloading loaded)
+      (act_of Off Minus) (at MoveToUnloading loaded)
   pub to_unloading_there_first : DriveRow (rows_by scale) (at MoveToUnloading loaded) (reads false true 485)
-      (told Off Off) (at PoseUnloading loaded)
+      (act_of Off Off) (at PoseUnloading loaded)
   pub to_unloading_there_last : DriveRow (rows_by scale) (at MoveToUnloading loaded) (reads false true 515)
-      (told Off Off) (at PoseUnloading loaded)
+      (act_of Off Off) (at PoseUnloading loaded)
 
 -- a gauge that gives 3 at every raw value; at 100 this is near the line
 abbrev pub three : ℕ → ℤ → Type 0
@@ -131,7 +131,7 @@ pub record TableRowsAreMet : Type 0 where
   pub drives : (loaded : Bool) → TableDrives loaded
   pub checks : TableChecks
   pub no_other_answers : (points : Scale) → NoOtherAnswers (rows_by points)
-  pub rests : (points : Scale) (p : TableProgress) → (rows_by points).rest p ≡ told Off Off
+  pub rests : (points : Scale) (p : TableProgress) → (rows_by points).rest p ≡ act_of Off Off
   pub demands : (points : Scale) (p : TableProgress) (height rotation : Motor) (opening : ModelState)
       (seen : List Event) → (height ≢ Off) ⊎ (rotation ≢ Off)
-      → (rows_by points).motor_demands p (told height rotation) opening seen → DemandsBoth opening seen
+      → (rows_by points).motor_demands p (act_of height rotation) opening seen → DemandsBoth opening seen
