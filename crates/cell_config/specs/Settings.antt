@@ -1,6 +1,7 @@
 -- What a configuration says, or its first fault.
 use Rattle.std.specs.Prelude.{ℕ, ℤ, pos, negsuc, ◌-ℤ◌, ◌<ℤ◌, ◌≤ℤ◌, Bool, List, [], ◌∷◌, length, codes, nat_le, int_lt}
-use Rattle.std.specs.Prelude.{int_le, ◌&&◌, map, is_some, Option, Some, None, Result, Ok, Err, if◌then◌else◌}
+use Rattle.std.specs.Prelude.{◌≡◌, int_le, ◌&&◌, map, take, is_some, true, false, Option, Some, None, Result, Ok, Err}
+use Rattle.std.specs.Prelude.{MatchOption, if◌then◌else◌}
 use Rattle.std.specs.List.{filter_map, list_all}
 use Rattle.std.specs.Option.{ok_or, option_and_then}
 use Rattle.std.specs.Str.{is_utf8}
@@ -112,6 +113,11 @@ measured_of value = option_and_then measured_in (pair_of value)
 
 abbrev pub is_measured : Data → Bool
 is_measured value = is_some (measured_of value)
+
+-- the first pairs, as many as are counted, are those of the values; none, since one of these isn't measured
+abbrev pub GivesMeasured : List Data → ℕ → Option (List Pair) → Type 0
+GivesMeasured values count given = MatchOption given (list_all is_measured values ≡ false)
+    (λ pairs. (list_all is_measured values ≡ true) × (take count pairs ≡ filter_map measured_of values))
 
 abbrev pub curve_of : Scale → List Pair → Result (List Pair) ConfigFault
 curve_of s pairs = if is_curve s pairs then Ok pairs else Err Range

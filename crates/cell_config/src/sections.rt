@@ -1,8 +1,8 @@
 //! The sections: how the five potentiometers are calibrated.
 
-ghost use Rattle.std.specs.Prelude.{◌≡◌, pos, ◌-ℤ◌, ◌≤ℤ◌, ◌≤◌, true, false, Ok, Err, IfOk, MatchOption};
-ghost use Rattle.std.specs.Prelude.{MatchResult, length, map, option_map, take};
-ghost use Rattle.std.specs.List.{filter_map, list_all};
+ghost use Rattle.std.specs.Prelude.{◌≡◌, pos, ◌-ℤ◌, ◌≤ℤ◌, ◌≤◌, true, false, Ok, Err, IfOk};
+ghost use Rattle.std.specs.Prelude.{MatchResult, length, map, option_map};
+ghost use Rattle.std.specs.List.{list_all};
 ghost use Rattle.cell_calib.specs.Curve.{pairs_of};
 ghost use Rattle.toml.specs.View.{table_view, view};
 ghost use Rattle.cell_parts.specs.Axes.{IsAxisScale};
@@ -139,11 +139,7 @@ pub fn pairs_in(value: &Value) -> Option<&[Value]>
 /// An array that begins with the measured pairs of some values, or none if one doesn't fit.
 pub fn measured_pairs(values: &[Value]) -> Option<[(u16, i32); MAX_PAIRS]>
     requires { length values.now ≤ 32 }
-    ensures { MatchOption result
-        (list_all settings.is_measured (map view values.now) ≡ false)
-        (λ pairs. (list_all settings.is_measured (map view values.now) ≡ true)
-        × (take (length values.now) pairs
-        ≡ filter_map settings.measured_of (map view values.now))) }
+    ensures { settings.GivesMeasured (map view values.now) (length values.now) result }
 {
     let mut pairs = [(0, 0); MAX_PAIRS];
     'values: for i in 0..values.len() {
