@@ -1,1 +1,2 @@
 pub mod Gauges
+pub mod Seen

@@ -9,6 +9,7 @@ ghost use Rattle.cell_plant.specs.Frames.{SeesBeginning, SeesRun};
 ghost use Rattle.cell_plant.specs.Machines.{on_curves};
 ghost use Rattle.cell_config.specs.Configured.{AreAxisScales, AreCurvesOf, in_order};
 ghost use Rattle.cell_configured.specs.Gauges.{gauges_by, scales_by_points};
+ghost use Rattle.cell_configured.specs.Seen.{SeesConfigured, SeesItsBeginning};
 
 use crate::gauges::{CellPoints, cell_with_gauges};
 use crate::gauges_on;
@@ -47,12 +48,8 @@ pub fn simulate_shown<W: Watcher>(
     requires start { IsStartState config.now.start }
     requires points { AreAxisScales config.now.points }
     requires curves { AreCurvesOf config.now.points config.now.curves }
-    ensures run { IfOk result (λ run. (c : CellScales) × ((config.now.points ≡ in_order c)
-        × SeesRun W.sees c (on_curves (map pairs_of config.now.curves)) config.now.start
-        schedule.now watcher.old watcher.new run)) }
-    ensures ended { IfErr result (λ fault. (c : CellScales) × ((config.now.points ≡ in_order c)
-        × SeesBeginning W.sees c (on_curves (map pairs_of config.now.curves)) config.now.start
-        schedule.now watcher.old watcher.new fault)) }
+    ensures run { IfOk result (SeesConfigured W.sees config.now schedule.now watcher.old watcher.new) }
+    ensures ended { IfErr result (SeesItsBeginning W.sees config.now schedule.now watcher.old watcher.new) }
 {
     let (points, gauges) = gauges_on!(config.curves);
     show_with_gauges(alloc, gauges, points, config.start, schedule, watcher)

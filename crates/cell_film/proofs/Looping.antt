@@ -1,5 +1,5 @@
 -- What a watcher that keeps frames has after a run, and what `serve` says of a picture that loops.
-use Rattle.std.proofs.Common.{◌≡◌, ℕ, List, [], ◌∷◌, ◌++◌, append-nil, append_assoc, inr, Option, Some, None, Result, Ok, Err, OnOk, IfOk, IfSome, map, take, sym, ◌∙◌, subst}
+use Rattle.std.proofs.Common.{◌≡◌, ℕ, List, [], ◌∷◌, ◌++◌, append-nil, append_assoc, inr, Option, Some, None, Result, Ok, Err, OnOk, IfOk, IfSome, take, sym, ◌∙◌, subst}
 use Rattle.std.specs.Io.KnownBytes.{Appends}
 use Rattle.std.specs.declared.alloc.AllocError.{AllocError}
 use Rattle.cell_text.specs.Input.{TakesAtMost}
@@ -7,7 +7,7 @@ use Rattle.cell_text.specs.Output.{WrotePrefix}
 use Rattle.cell_notes.specs.declared.schedule.Turn.{Turn}
 use Rattle.cell_notes.specs.declared.run_record.RunRecord.{RunRecord}
 use Rattle.cell_rules.specs.ModelState.{ModelState}
-use Rattle.cell_calib.specs.Names.{Pair, pairs_of, Scale}
+use Rattle.cell_calib.specs.Names.{Pair, Scale}
 use Rattle.cell_parts.specs.Axes.{CellScales}
 use Rattle.cell_config.specs.Configured.{Says, in_order, shown}
 use Rattle.cell_config.specs.Settings.{max_bytes_read}
@@ -15,7 +15,7 @@ use Rattle.cell_config.specs.declared.configuration.Config.{Config}
 use Rattle.cell_plant.specs.Names.{on_curves, IsShown, SeesRun, frames_of}
 use Rattle.cell_plant.specs.declared.frame.Frame.{Frame}
 use Rattle.cell_loop.specs.Pictures.{IsPictureOf}
-use Rattle.cell_film.specs.Loops.{AreFramesOf, IsLoopOf, LoopFails, WasLooped}
+use Rattle.cell_film.specs.Loops.{AreFramesOf, IsLoopOf, IsPictureFrom, LoopFails, WasLooped}
 use Rattle.cell_film.specs.Pages.{max_turns}
 use Rattle.cell_film.specs.Served.{Loops}
 use Rattle.cell_shell.specs.Printed.{Prints}
@@ -53,9 +53,6 @@ pub picture_kept : {S : Type 0} (bytes : S → List ℕ) (points : List Scale) (
     → IfOk r (λ text. (x : List Frame) × (AreFramesOf points curves opening schedule x × IsPictureOf x (bytes text)))
 picture_kept bytes points curves opening schedule given frames (Ok text) seen same k = (frames, (seen, subst (λ x. IsPictureOf x (bytes text)) same k))
 picture_kept bytes points curves opening schedule given frames (Err e) seen same k = tt
-
-abbrev pub IsPictureFrom : Config → List ℕ → Type 0
-IsPictureFrom config text = (frames : List Frame) × (AreFramesOf config.points (map pairs_of config.curves) config.start config.schedule.items frames × IsPictureOf frames text)
 
 loop_of : (bytes : List ℕ) (config : Config) (text : List ℕ) → Says bytes (Ok config) → IsPictureFrom config text → IsLoopOf bytes text
 loop_of bytes config text says k = record { settings = shown config; said = says; frames = k.0; seen = k.1.0; picture = k.1.1 }

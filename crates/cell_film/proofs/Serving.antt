@@ -1,21 +1,15 @@
 -- What `serve` says of a film, by how it ends.
-use Rattle.std.proofs.Common.{◌≡◌, inr, ℕ, List, length, Option, Some, None, Ok, IfSome, map}
+use Rattle.std.proofs.Common.{inr, ℕ, List, Option, Some, None, Ok, IfSome}
 use Rattle.std.specs.Io.KnownBytes.{Appends}
 use Rattle.cell_text.specs.Input.{TakesAtMost}
 use Rattle.cell_text.specs.Output.{WrotePrefix}
 use Rattle.cell_shell.specs.Printed.{Prints}
 use Rattle.cell_shell.proofs.Serving.{printed}
-use Rattle.cell_calib.specs.Curve.{pairs_of}
 use Rattle.cell_config.specs.Configured.{Says, shown}
 use Rattle.cell_config.specs.Settings.{max_bytes_read}
 use Rattle.cell_config.specs.declared.configuration.Config.{Config}
-use Rattle.cell_film.specs.Pages.{FilmFails, IsFilmOf, ShowsConfigured, WasFilmed, page_text}
+use Rattle.cell_film.specs.Pages.{FilmFails, IsFilmOf, IsPageOf, WasFilmed}
 use Rattle.cell_film.specs.Served.{Films}
-
--- ---- the page of a configuration
-
-abbrev pub IsPageOf : Config → List ℕ → Type 0
-IsPageOf config page = (lines : List ℕ) × (ShowsConfigured config.points (map pairs_of config.curves) config.start config.schedule.items lines × (page ≡ page_text lines (length config.schedule.items)))
 
 film_of : (bytes : List ℕ) (config : Config) (page : List ℕ) → Says bytes (Ok config) → IsPageOf config page → IsFilmOf bytes page
 film_of bytes config page says k = record { settings = shown config; said = says; lines = k.0; shown = k.1.0; page = k.1.1 }

@@ -1,10 +1,10 @@
 -- The picture that loops.
-use Rattle.std.specs.Prelude.{◌≡◌, ℕ, List, take, codes, Option, Ok, Err, IfSome, ◌⊎◌}
+use Rattle.std.specs.Prelude.{◌≡◌, ℕ, List, map, take, codes, Option, Ok, Err, IfSome, ◌⊎◌}
 use Rattle.std.specs.Io.KnownBytes.{Appends}
 use Rattle.cell_text.specs.Output.{WrotePrefix}
 use Rattle.cell_notes.specs.declared.schedule.Turn.{Turn}
 use Rattle.cell_rules.specs.ModelState.{ModelState}
-use Rattle.cell_calib.specs.Names.{Pair, Scale}
+use Rattle.cell_calib.specs.Names.{Pair, pairs_of, Scale}
 use Rattle.cell_parts.specs.Axes.{CellScales}
 use Rattle.cell_plant.specs.Names.{cell_at_start, frames_of, on_curves, Step, IsRunBy}
 use Rattle.cell_plant.specs.declared.frame.Frame.{Frame}
@@ -12,6 +12,7 @@ use Rattle.cell_loop.specs.Pictures.{IsPictureOf}
 use Rattle.cell_config.specs.Configured.{Says, in_order}
 use Rattle.cell_config.specs.ConfigWords.{config_fault_text}
 use Rattle.cell_config.specs.Settings.{Settings, settings_of}
+use Rattle.cell_config.specs.declared.configuration.Config.{Config}
 use Rattle.cell_config.specs.declared.fault.ConfigFault.{ConfigFault}
 use Rattle.cell_shell.specs.Faults.{fault_line}
 use Rattle.cell_film.specs.Pages.{max_turns}
@@ -25,6 +26,12 @@ pub record AreFramesOf (points : List Scale) (curves : List (List Pair)) (openin
   pub steps : List Step
   pub run : IsRunBy scales (on_curves curves) (cell_at_start opening) (take max_turns schedule) steps
   pub seen : frames ≡ frames_of opening (take max_turns schedule) steps
+
+-- a text is the picture of the frames of a configuration's run
+abbrev pub IsPictureFrom : Config → List ℕ → Type 0
+IsPictureFrom config text = (frames : List Frame)
+    × (AreFramesOf config.points (map pairs_of config.curves) config.start config.schedule.items frames
+    × IsPictureOf frames text)
 
 -- a text is the picture of the frames of the run of the configuration that the bytes give
 pub record IsLoopOf (bytes text : List ℕ) : Type 0 where

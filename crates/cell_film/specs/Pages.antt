@@ -1,17 +1,18 @@
 -- The page of a film.
-use Rattle.std.specs.Prelude.{◌≡◌, ℕ, List, [], ◌++◌, length, take, codes, nat_lt, Option, Ok, Err, IfSome, ◌⊎◌}
+use Rattle.std.specs.Prelude.{◌≡◌, ℕ, List, [], ◌++◌, length, map, take, codes, nat_lt, Option, Ok, Err, IfSome, ◌⊎◌}
 use Rattle.std.specs.Prelude.{if◌then◌else◌}
 use Rattle.std.specs.Fmt.{decimal}
 use Rattle.std.specs.Io.KnownBytes.{Appends}
 use Rattle.cell_text.specs.Output.{WrotePrefix}
 use Rattle.cell_notes.specs.declared.schedule.Turn.{Turn}
 use Rattle.cell_rules.specs.ModelState.{ModelState}
-use Rattle.cell_calib.specs.Names.{Pair, Scale}
+use Rattle.cell_calib.specs.Names.{Pair, pairs_of, Scale}
 use Rattle.cell_parts.specs.Axes.{CellScales}
 use Rattle.cell_plant.specs.Names.{cell_at_start, frames_of, CellGauges, on_curves, Step, IsRunBy}
 use Rattle.cell_config.specs.Configured.{Says, in_order}
 use Rattle.cell_config.specs.ConfigWords.{config_fault_text}
 use Rattle.cell_config.specs.Settings.{Settings, settings_of}
+use Rattle.cell_config.specs.declared.configuration.Config.{Config}
 use Rattle.cell_config.specs.declared.fault.ConfigFault.{ConfigFault}
 use Rattle.cell_shell.specs.Faults.{fault_line}
 use Rattle.cell_film.specs.Lines.{film_lines}
@@ -44,6 +45,12 @@ pub record ShowsConfigured (points : List Scale) (curves : List (List Pair)) (op
   pub scales : CellScales
   pub fits : points ≡ in_order scales
   pub shown : ShowsRun scales (on_curves curves) opening (take max_turns schedule) lines
+
+-- a text is the page of a configuration's run
+abbrev pub IsPageOf : Config → List ℕ → Type 0
+IsPageOf config text = (lines : List ℕ)
+    × (ShowsConfigured config.points (map pairs_of config.curves) config.start config.schedule.items lines
+    × (text ≡ page_text lines (length config.schedule.items)))
 
 -- a text is the page of the run of the configuration that the bytes give
 pub record IsFilmOf (bytes text : List ℕ) : Type 0 where

@@ -1,14 +1,12 @@
 //! The film of a configuration's run.
 
-ghost use Rattle.std.specs.Prelude.{◌≡◌, ◌++◌, List, ℕ, IfOk, IfErr, OnOk, length, map, take};
+ghost use Rattle.std.specs.Prelude.{◌≡◌, ◌++◌, IfOk, IfErr, OnOk, map, take};
 ghost use Rattle.std.specs.Prelude.{string_bytes};
 ghost use Rattle.cell_calib.specs.Curve.{pairs_of};
 ghost use Rattle.cell_rules.specs.Start.{IsStartState};
-ghost use Rattle.cell_parts.specs.Axes.{CellScales};
-ghost use Rattle.cell_plant.specs.Frames.{SeesBeginning, SeesRun};
-ghost use Rattle.cell_plant.specs.Machines.{on_curves};
-ghost use Rattle.cell_config.specs.Configured.{AreAxisScales, AreCurvesOf, in_order};
-ghost use Rattle.cell_film.specs.Pages.{ShowsConfigured, cut_line, max_turns, page_text};
+ghost use Rattle.cell_config.specs.Configured.{AreAxisScales, AreCurvesOf};
+ghost use Rattle.cell_configured.specs.Seen.{SeesConfigured, SeesItsBeginning};
+ghost use Rattle.cell_film.specs.Pages.{IsPageOf, ShowsConfigured, cut_line, max_turns, page_text};
 
 use crate::film::FilmWriter;
 use crate::page_head::PAGE_HEAD;
@@ -27,10 +25,7 @@ pub fn film_configured(alloc: Global, config: &Config) -> Result<String, AllocEr
     requires start { IsStartState config.now.start }
     requires points { AreAxisScales config.now.points }
     requires curves { AreCurvesOf config.now.points config.now.curves }
-    ensures { IfOk result (λ page. (lines : List ℕ)
-        × (ShowsConfigured config.now.points (map pairs_of config.now.curves)
-        config.now.start config.now.schedule.items lines
-        × (string_bytes page ≡ page_text lines (length config.now.schedule.items)))) }
+    ensures { IfOk result (λ page. IsPageOf config.now (string_bytes page)) }
 {
     let lines = lines_configured(alloc, config)?;
     page_with(alloc, &lines, config.schedule.len())
@@ -63,12 +58,10 @@ pub fn show_configured<W: Watcher>(
     requires start { IsStartState config.now.start }
     requires points { AreAxisScales config.now.points }
     requires curves { AreCurvesOf config.now.points config.now.curves }
-    ensures run { IfOk result (λ run. (c : CellScales) × ((config.now.points ≡ in_order c)
-        × SeesRun W.sees c (on_curves (map pairs_of config.now.curves)) config.now.start
-        (take max_turns config.now.schedule.items) watcher.old watcher.new run)) }
-    ensures ended { IfErr result (λ fault. (c : CellScales) × ((config.now.points ≡ in_order c)
-        × SeesBeginning W.sees c (on_curves (map pairs_of config.now.curves)) config.now.start
-        (take max_turns config.now.schedule.items) watcher.old watcher.new fault)) }
+    ensures run { IfOk result (SeesConfigured W.sees config.now
+        (take max_turns config.now.schedule.items) watcher.old watcher.new) }
+    ensures ended { IfErr result (SeesItsBeginning W.sees config.now
+        (take max_turns config.now.schedule.items) watcher.old watcher.new) }
 {
     let shown = first_turns(config.schedule.as_slice());
     simulate_shown(alloc, config, shown, watcher)

@@ -1,12 +1,9 @@
 //! The picture that loops, of a configuration's run.
 
-ghost use Rattle.std.specs.Prelude.{List, IfOk, map, string_bytes};
-ghost use Rattle.cell_calib.specs.Curve.{pairs_of};
+ghost use Rattle.std.specs.Prelude.{IfOk, string_bytes};
 ghost use Rattle.cell_rules.specs.Start.{IsStartState};
 ghost use Rattle.cell_config.specs.Configured.{AreAxisScales, AreCurvesOf};
-ghost use Rattle.cell_plant.specs.declared.frame.Frame.{Frame};
-ghost use Rattle.cell_loop.specs.Pictures.{IsPictureOf};
-ghost use Rattle.cell_film.specs.Loops.{AreFramesOf};
+ghost use Rattle.cell_film.specs.Loops.{IsPictureFrom};
 
 use crate::configured::show_configured;
 use cell_config::Config;
@@ -20,10 +17,7 @@ pub fn loop_configured(alloc: Global, config: &Config) -> Result<String, AllocEr
     requires start { IsStartState config.now.start }
     requires points { AreAxisScales config.now.points }
     requires curves { AreCurvesOf config.now.points config.now.curves }
-    ensures { IfOk result (λ text. (frames : List Frame)
-        × (AreFramesOf config.now.points (map pairs_of config.now.curves) config.now.start
-        config.now.schedule.items frames
-        × IsPictureOf frames (string_bytes text))) }
+    ensures { IfOk result (λ text. IsPictureFrom config.now (string_bytes text)) }
 {
     let mut frames = LoopFrames::new(alloc);
     match show_configured(alloc, config, &mut frames) {
