@@ -4,7 +4,7 @@ pub use Rattle.cell_types.specs.CallWords.{call_fields, call_text, verb_of}
 pub use Rattle.cell_types.specs.Everything.{all_machines, all_places, all_poses, all_postures, all_zones}
 pub use Rattle.cell_types.specs.Journals.{journal_of}
 pub use Rattle.cell_types.specs.Refusals.{number_of}
-pub use Rattle.cell_types.specs.Same.{one_machine, one_place, one_posture, one_zone, same_machine, same_place}
+pub use Rattle.cell_types.specs.Same.{one_machine, one_posture, same_machine, same_place}
 pub use Rattle.cell_types.specs.Same.{same_pose, same_posture, same_zone}
 pub use Rattle.cell_types.specs.Tables.{guest_of, host_of, posture_of, transfer_of}
 pub use Rattle.cell_types.specs.Ways.{keeper_of, own_move_of}

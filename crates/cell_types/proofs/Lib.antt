@@ -3,3 +3,4 @@ pub mod WayLemmas
 pub mod WordLemmas
 pub mod RefusalLemmas
 pub mod NumberLemmas
+pub mod SameLemmas

@@ -11,8 +11,6 @@ use Rattle.cell_types.specs.contracts.place.PlacePartialEq.TheImpl.{ghosts as pl
 use Rattle.cell_types.specs.contracts.posture.PosturePartialEq.TheImpl.{ghosts as posture_ghosts}
 use Rattle.cell_types.specs.contracts.pose.PosePartialEq.TheImpl.{ghosts as pose_ghosts}
 use Rattle.cell_types.specs.contracts.machine.Machine.{the_type as machine_type}
-use Rattle.cell_types.specs.contracts.zone.Zone.{the_type as zone_type}
-use Rattle.cell_types.specs.contracts.place.Place.{the_type as place_type}
 use Rattle.cell_types.specs.contracts.posture.Posture.{the_type as posture_type}
 use denote.Enum.Bare.{same_true}
 
@@ -33,12 +31,6 @@ same_pose a b = pose_ghosts.eq a b
 
 pub one_machine : (a b : Machine) → same_machine a b ≡ true → a ≡ b
 one_machine a b e = same_true machine_type tt a b e
-
-pub one_zone : (a b : Zone) → same_zone a b ≡ true → a ≡ b
-one_zone a b e = same_true zone_type tt a b e
-
-pub one_place : (a b : Place) → same_place a b ≡ true → a ≡ b
-one_place a b e = same_true place_type tt a b e
 
 pub one_posture : (a b : Posture) → same_posture a b ≡ true → a ≡ b
 one_posture a b e = same_true posture_type tt a b e

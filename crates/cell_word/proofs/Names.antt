@@ -12,7 +12,8 @@ pub use Rattle.cell_rules.specs.Names.{order_of, posed, put_each, put_zone, refu
 pub use Rattle.cell_rules.specs.Reply.{other_party}
 pub use Rattle.cell_rules.specs.Types.{Advance, AlreadyMine, Answer, Arm1, Arm2, Call, Claim, Closed, DepEnd, DepEntry, Deposit, Done, Feed, FeedEnd, FeedEntry, Give, Held, InUse, Inquire, Jump, Machine, Moving, NoPlate, NoPose, NotAtWork}
 pub use Rattle.cell_rules.specs.Types.{NotOwner, NotParty, NotStopped, OpenIn, OpenOut, Place, PlaceFull, PlateInZone, Pose, Posture, Press, PressIn, PressOut, Refusal, Refused, Release, Resume, Robot, Running, SetPose, Shown, Shut, Stop}
-pub use Rattle.cell_rules.specs.Types.{Stopped, Take, Transfer, Watch, Worn, WrongWay, Yield, Z1, Z2, Z3, Z4, Z5, Z6, Zone, all_places, guest_of, host_of, one_machine, one_place, one_posture, one_zone, own_move_of, posture_of, same_machine}
+pub use Rattle.cell_rules.specs.Types.{Stopped, Take, Transfer, Watch, Worn, WrongWay, Yield, Z1, Z2, Z3, Z4, Z5, Z6, Zone, all_places, guest_of, host_of, one_machine, one_posture, own_move_of, posture_of, same_machine}
+pub use Rattle.cell_types.proofs.SameLemmas.{one_place, one_zone}
 pub use Rattle.cell_rules.specs.Types.{same_place, same_pose, same_posture, same_zone, transfer_of}
 pub use Rattle.cell_rules.specs.ZoneMap.{everywhere, free_zone}
 pub use Rattle.cell_rules.specs.declared.zones.ZoneState.{ZoneState}

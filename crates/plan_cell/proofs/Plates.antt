@@ -11,7 +11,8 @@ use Rattle.cell_types.specs.declared.posture.Posture.{Posture}
 use Rattle.cell_types.specs.declared.call.Call.TheVariants.{Give, Take}
 use Rattle.cell_types.specs.declared.answer.Refusal.TheVariants.{PlaceFull}
 use Rattle.cell_types.specs.declared.answer.Answer.TheVariants.{Done}
-use Rattle.cell_types.specs.Same.{same_machine, same_zone, one_zone}
+use Rattle.cell_types.specs.Same.{same_machine, same_zone}
+use Rattle.cell_types.proofs.SameLemmas.{one_zone}
 use Rattle.cell_types.specs.Tables.{transfer_of}
 use Rattle.cell_rules.specs.declared.zones.ZoneState.{ZoneState}
 use Rattle.cell_rules.specs.ZoneMap.{put_zone}
