@@ -23,6 +23,10 @@ model_state zones full stamp stopped = record { zones = zones; full = full; stam
 abbrev pub last_stamp : ℕ
 last_stamp = 1048575
 
+-- the most plates of a start
+abbrev pub max_plates : ℕ
+max_plates = 6
+
 abbrev pub zone_at : ModelState → Zone → ZoneState
 zone_at s z = zone_in s.zones z
 

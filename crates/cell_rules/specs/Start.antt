@@ -3,7 +3,7 @@ use Rattle.std.specs.Prelude.{◌≡◌, ℕ, ◌≤◌, Bool, false, ◌&&◌, 
 use Rattle.cell_types.specs.declared.place.Place.TheVariants.{PressIn, PressOut}
 use Rattle.cell_rules.specs.ZoneMap.{free_zone, everywhere}
 use Rattle.cell_rules.specs.PlaceSet.{PlaceSet, place_set, has}
-use Rattle.cell_rules.specs.ModelState.{ModelState, model_state, size_of, last_stamp}
+use Rattle.cell_rules.specs.ModelState.{ModelState, model_state, size_of, last_stamp, max_plates}
 
 -- the set that ten flags give, in the order of the places
 abbrev pub places_of : List Bool → PlaceSet
@@ -13,9 +13,9 @@ places_of flags =
     (slice_index_or flags 6 false) (slice_index_or flags 7 false) (slice_index_or flags 8 false)
     (slice_index_or flags 9 false)
 
--- at most six plates, not both places of the press, and a stamp in range
+-- not too many plates, not both places of the press, and a stamp in range
 pub record IsStart (full : PlaceSet) (stamp : ℕ) : Type 0 where
-  pub six_plates_at_most : size_of full ≤ 6
+  pub six_plates_at_most : size_of full ≤ max_plates
   pub one_in_press_at_most : IsFalse (has full PressIn && has full PressOut)
   pub stamp_in_range : stamp ≤ last_stamp
 

@@ -25,5 +25,5 @@ pub use line::{Line, Survey};
 pub use places::Places;
 pub use stamp::LAST_STAMP;
 pub use start_digits::{PLACES, read_places};
-pub use state::{StartFault, State};
+pub use state::{MAX_PLATES, StartFault, State};
 pub use zones::{ZoneState, Zones};

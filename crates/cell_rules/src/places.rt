@@ -4,6 +4,7 @@ ghost use Rattle.cell_rules.specs.PlaceSet.{has, put_place};
 ghost use Rattle.cell_rules.specs.ModelState.{size_of};
 ghost use Rattle.cell_rules.specs.Start.{places_of};
 
+use crate::start_digits::PLACES;
 use cell_types::Place;
 use std::marker::Model;
 
@@ -46,7 +47,7 @@ impl Model for Places {
 
 impl Places {
     /// The set of ten flags, in the order of the places.
-    pub fn from_flags(flags: [bool; 10]) -> Places
+    pub fn from_flags(flags: [bool; PLACES]) -> Places
         ensures { result ≡ places_of flags }
     {
         Places {

@@ -12,9 +12,13 @@ use crate::changes::other_party;
 use crate::places::Places;
 use crate::sound::is_sound;
 use crate::stamp::LAST_STAMP;
+use crate::start_digits::PLACES;
 use crate::zones::{ZoneState, Zones};
 use cell_types::{Call, Machine, Place, Posture, Zone, own_move, transfer};
 use std::marker::Model;
+
+/// The most plates of a start.
+pub const MAX_PLATES: u32 = 6;
 
 /// A state of the interlock.
 #[derive(Clone, Copy, Debug, PartialEq, Eq)]
@@ -48,12 +52,12 @@ pub enum StartFault {
 impl State {
     /// The start with these places and this stamp. `BadStart` if more than six places have plates,
     /// or both of the press, or if the stamp is past the last one.
-    pub fn start(places: [bool; 10], stamp: u32) -> Result<State, StartFault>
+    pub fn start(places: [bool; PLACES], stamp: u32) -> Result<State, StartFault>
         ensures ok { IsOk result ↔ IsStart (places_of places) stamp }
         ensures value { IfOk result (λ s. s ≡ start_state (places_of places) stamp) }
     {
         let full = Places::from_flags(places);
-        if full.len() <= 6
+        if full.len() <= MAX_PLATES
             && !(full.contains(Place::PressIn) && full.contains(Place::PressOut))
             && stamp <= LAST_STAMP
         {
