@@ -1,5 +1,9 @@
 -- Each machine's invariant holds of its side in every state of a run.
-use Rattle.cell_plant.proofs.Names.{◌≡◌, Bool, true, false, None, refl, sym, ap, ◌∙◌, subst, Machine, Feed, same_machine, one_machine, ModelState, IsSound, RunsClear, clear_next, next_keeps, none_runs, Keeping, Changes, takes_keeps, takes_changes, others_keep, by_call, CellScales, CellGauges, ProgressOf, PartOf, any_near, steps_by, steps_of, rig_of, SideOf, CellState, Step, TakesTurn, LeadsIf, goes_on}
+use Rattle.cell_plant.proofs.Names.{◌≡◌, Bool, true, false, None, refl, sym, ap, ◌∙◌, subst, Machine, Feed, same_machine, one_machine, ModelState, IsSound, RunsClear, clear_next, next_keeps, none_runs, Keeping, Changes, takes_keeps, takes_changes, others_keep, by_call, CellScales, CellGauges, ProgressOf, PartOf, any_near, steps_by, steps_of, rig_of, SideOf, CellState, Step, TakesTurn, LeadsIfBy, goes_on}
+
+-- a turn that is taken or not, by gauges that may give any position near their lines
+abbrev pub LeadsIf : Bool → CellScales → Machine → Bool → CellState → Step → Type 0
+LeadsIf taken c = LeadsIfBy taken c (any_near c)
 
 -- each program is its machine's
 pub own_program_by : (c : CellScales) (gives : CellGauges) (m : Machine) → (steps_by c gives m).machine ≡ m

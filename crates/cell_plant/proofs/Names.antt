@@ -71,7 +71,7 @@ pub use Rattle.cell_plant.specs.FrameExamples.{Fails, FrameExamples, ShownExampl
 pub use Rattle.cell_plant.specs.Frames.{FilmsAreSafe, IsCut, IsSafeFrame, result_of}
 pub use Rattle.cell_plant.specs.GaugeLaws.{HasOneRun, RunsAreByGauges, SaysOneThing}
 pub use Rattle.cell_plant.specs.Moments.{AllNotes, first_notes}
-pub use Rattle.cell_plant.specs.Names.{AreRefusedAsWorn, CellGauges, CellState, GiveOne, GivesOne, HadMemory, IsAtRest, IsOfLiteralRun, IsOfOneStop, IsRecordOf, IsRefusedAsWorn, IsRun, IsRunBy, IsSafeRun, IsSafeState, IsSafelySet, IsShown, Keeps, LeadsBy, LeadsIf, LeadsIfBy, NoneRefused, PartOf, ProgressOf, RunMoment, SayTheSame, SeesBeginning, SeesRun, SideOf, Sides, Step, StepsOn, TakesTurn, TakesTurnBy, TellsRun, any_near, asks}
+pub use Rattle.cell_plant.specs.Names.{AreRefusedAsWorn, CellGauges, CellState, GiveOne, GivesOne, HadMemory, IsAtRest, IsOfLiteralRun, IsOfOneStop, IsRecordOf, IsRecordSoFar, IsRefusedAsWorn, IsRun, IsRunBy, IsSafeRun, IsSafeState, IsSafelySet, IsShown, LeadsBy, LeadsIfBy, NoneRefused, PartOf, ProgressOf, RunMoment, SayTheSame, SeesBeginning, SeesRun, SideOf, Sides, Step, StepsOn, TakesTurn, TakesTurnBy, TellsRun, any_near, asks}
 pub use Rattle.cell_plant.specs.Names.{at_entered, at_first, at_last, at_press_stopped, cell_at_start, cell_scales, counts_in, counts_of, end_of, errand_of, events_in, first_moment, five_gauges, frame_of, frames_after, frames_of, goes_on, is_told, is_turn_of, opening, plant_of, points_of, positions_in, rig_of, robot_axes, robot_gauges, robot_points, schedule, side_in, sides_at_start, sides_of, starts, state_at, statuses_in, steps, steps_by, steps_of, turn_of, watch_noting, watch_rig, watch_steps}
 pub use Rattle.cell_plant.specs.RecordExamples.{AreJournals, IsOfApart, IsOfLegalHistory, IsOfNoTurn, IsRecord, IsUnread, RecordExamples, Tells, WrongRecords, counts_by, done_entry, first_stop, journal_by, journals_apart, last_apart, open_too_early, refused_entry, steps_apart, stop_entry, with_feed_counts}
 pub use Rattle.cell_plant.specs.Resting.{StoppedMachinesRest}

@@ -1,7 +1,7 @@
 -- The progress of a simulation: the run so far, and what was noted of it.
 use Rattle.cell_plant.proofs.Names.{◌≡◌, ℕ, ◌<◌, ◌≤◌, Bool, true, false, ◌&&◌, cond, List, [], ◌∷◌, ◌++◌, append-nil, length, take, map, count_by, Some, None, Result, Ok, Err, refl, sym, ap, ◌∙◌, subst, if◌then◌else◌, arith, length-take-le, count_by-le-length, Machine, Feed, Table, Robot, Press, Deposit, Crane, Watch, Call, Answer, Event, Entry, Reply, Settled, Busy, all_machines, same_machine, ModelState, noted, entry_of, after, IsLegal}
 use Rattle.cell_plant.proofs.Names.{IsStartState, LineFault, after-append, noted-append, legal-append, turn_either, TurnCall, is_done_reply, is_read_reply, is_refused_reply, is_busy_reply, settled_in, Notes, no_notes, HasRoom, counts_with, notes_with, at_machine, in_order, Counts, RunRecord, Turn, entries_in, Answers, CellScales, CellGauges, steps_by, CellState, plant_of, cell_at_start, Step, TakesTurnBy, LeadsIfBy, LeadsBy, goes_on, IsRunBy, end_of}
-use Rattle.cell_plant.proofs.Names.{is_turn_of, is_told, counts_in, events_in, positions_in, TellsRun, RunMoment, StepsOn, Keeps, first_moment, state_at, statuses_in}
+use Rattle.cell_plant.proofs.Names.{is_turn_of, is_told, counts_in, events_in, positions_in, TellsRun, RunMoment, StepsOn, IsRecordSoFar, first_moment, state_at, statuses_in}
 use Rattle.cell_parts.specs.Axes.{AreCellScales}
 use Rattle.cell_plant.proofs.Gauged.{run_near}
 use Rattle.cell_plant.proofs.KeptRuns.{own_program_by}
@@ -173,7 +173,7 @@ taken-length i ts h = length-take-le i ts (omega arith)
 by_machine : {A : Type 0} → (f g : Machine → A) → ((n : Machine) → f n ≡ g n) → map f all_machines ≡ map g all_machines
 by_machine f g e = rw (e Feed, e Table, e Robot, e Press, e Deposit, e Crane, e Watch) refl
 
-pub tells : {G : Type 0} → (gives : G → CellGauges) (turns : List Turn) (m : RunMoment G) (r : RunRecord) → AreCellScales m.scales → IsStartState m.opening → RunSoFar gives turns m → Keeps m m.opening r → TellsRun m.scales (gives m.gauges) m.opening turns r
+pub tells : {G : Type 0} → (gives : G → CellGauges) (turns : List Turn) (m : RunMoment G) (r : RunRecord) → AreCellScales m.scales → IsStartState m.opening → RunSoFar gives turns m → IsRecordSoFar m m.opening r → TellsRun m.scales (gives m.gauges) m.opening turns r
 tells gives turns m r scales start g k =
     let lawful = run-lawful m.scales (gives m.gauges) (cell_at_start m.opening) turns g.steps g.run in
     record {
@@ -192,6 +192,6 @@ tells gives turns m r scales start g k =
       reached = lawful.1;
     }
 
-pub told_steps : {G : Type 0} → (gives : G → CellGauges) (turns : List Turn) (m : RunMoment G) (r : RunRecord) (scales : AreCellScales m.scales) (starts : IsStartState m.opening) (g : RunSoFar gives turns m) (k : Keeps m m.opening r) → (tells gives turns m r scales starts g k).steps ≡ g.steps
+pub told_steps : {G : Type 0} → (gives : G → CellGauges) (turns : List Turn) (m : RunMoment G) (r : RunRecord) (scales : AreCellScales m.scales) (starts : IsStartState m.opening) (g : RunSoFar gives turns m) (k : IsRecordSoFar m m.opening r) → (tells gives turns m r scales starts g k).steps ≡ g.steps
 unfolding tells
 told_steps gives turns m r scales starts g k = refl

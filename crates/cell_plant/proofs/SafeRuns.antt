@@ -1,11 +1,11 @@
 -- Every state of a run is safe: together the machines' invariants meet all demands, so nothing collides.
 use Rattle.cell_plant.proofs.Names.{◌≡◌, Bool, true, false, inl, inr, Option, Some, None, List, [], ◌∷◌, refl, sym, ap, ◌∙◌, subst, Machine, Feed, Table, Robot, Press, Deposit, Crane, Watch, Event, PlaceSet, ModelState, RunsClear, IsStartState, start_state, IsReading, CraneSense, RobotSense, Rig, Steps, Turned, CraneAct, RobotAct, crane_steps, CraneProgress, CraneReading, RobotScales, near_lines, robot_rest, robot_steps}
 use Rattle.cell_plant.proofs.Names.{RobotProgress, RobotReading, press_steps, table_steps, TurnCall, Turn, noting, act_or_rest, table_rig, robot_rig, press_rig, crane_rig, AreCellScales, LetsGo, Arm1MayLetGo, Arm2MayLetGo, CraneMayLetGo, PlateFalls, DrivesPastEnd, StaysWithin, set_robot, set_crane, PositionDemands, GripperErrand, MotorDemands, AllDemandsMet, nothing_collides, sound_start, robot_points, robot_axes, CellState, plant_of}
-use Rattle.cell_plant.proofs.Names.{cell_at_start, Step, TakesTurn, LeadsIf, goes_on, IsRun, errand_of, IsSafeState, IsSafelySet, IsSafeRun, EveryRunIsSafe}
+use Rattle.cell_plant.proofs.Names.{cell_at_start, Step, TakesTurn, goes_on, IsRun, errand_of, IsSafeState, IsSafelySet, IsSafeRun, EveryRunIsSafe}
 use Rattle.cell_notes.specs.Names.{done_in}
 use Rattle.cell_unit.specs.Sides.{Side, side_set}
 use Rattle.cell_parts.specs.Names.{CellScales}
-use Rattle.cell_plant.proofs.KeptRuns.{CellInv, step_keeps}
+use Rattle.cell_plant.proofs.KeptRuns.{CellInv, LeadsIf, step_keeps}
 use Rattle.cell_plant.proofs.CellKeeps.{InvOf, ToldOf, keeping_of, starts}
 use Rattle.cell_plant.proofs.CraneKeeps.{gripper-down, gripper-driven, travels-high, crane-ends, crane-lets-go}
 use Rattle.cell_plant.proofs.Magnets.{still_on}

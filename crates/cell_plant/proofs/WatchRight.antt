@@ -1,9 +1,9 @@
 -- The watch's note is the mark in every state of a run, so the watch is refused only as worn.
 use Rattle.cell_plant.proofs.Names.{◌≡◌, ℕ, Bool, true, false, if◌then◌else◌, List, [], ◌∷◌, Option, Some, None, Result, Ok, Err, refl, sym, ap, ◌∙◌, subst, arith, ⊤, nat_lt, then_some, Machine, Watch, Call, Stop, Resume, Refused, Answer, Refusal, Worn, Stopped, NotStopped, Reply, Settled, SensorFault, ModelState, last_stamp, reply, done_unless, IsStartState, LineFault, ◌or◌, Rig, Steps, Performed, PerformsCall, PerformsSensed, Turned}
-use Rattle.cell_plant.proofs.Names.{Turns, CtlFault, TurnCall, Turn, Keeping, CellScales, ProgressOf, PartOf, steps_of, rig_of, CellState, cell_at_start, Step, LeadsIf, IsRun, goes_on, watch_steps, IsRefusedAsWorn, AreRefusedAsWorn, NotesTheMark, NotesThroughout, WatchNotesTheMark, sound_start}
+use Rattle.cell_plant.proofs.Names.{Turns, CtlFault, TurnCall, Turn, Keeping, CellScales, ProgressOf, PartOf, steps_of, rig_of, CellState, cell_at_start, Step, IsRun, goes_on, watch_steps, IsRefusedAsWorn, AreRefusedAsWorn, NotesTheMark, NotesThroughout, WatchNotesTheMark, sound_start}
 use Rattle.std.specs.Prelude.{not}
 use Rattle.cell_unit.specs.UnitTurns.{Answers}
-use Rattle.cell_plant.proofs.KeptRuns.{CellInv, step_keeps}
+use Rattle.cell_plant.proofs.KeptRuns.{CellInv, LeadsIf, step_keeps}
 use Rattle.cell_plant.proofs.SafeRuns.{clear_start}
 use Rattle.cell_plant.proofs.WatchKeeps.{WatchInv, watch-keeping}
 

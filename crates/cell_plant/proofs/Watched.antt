@@ -1,5 +1,5 @@
 -- The progress of a simulation that a watcher sees.
-use Rattle.cell_plant.proofs.Names.{◌≡◌, ◌≢◌, ◌∙◌, ◌-◌, ◌<◌, ℕ, List, [], ◌∷◌, ◌++◌, drop, length, Some, None, Result, Ok, refl, sym, ap, subst, arith, length-drop, ModelState, IsStartState, TurnCall, RunRecord, Turn, CellScales, CellState, cell_at_start, SeesRun, SeesBeginning, IsShown, frame_of, frames_of, frames_after, RunMoment, StepsOn, Keeps, first_moment, state_at, CellGauges, Step, IsRunBy, Frame, SeenFault, IsCut, result_of}
+use Rattle.cell_plant.proofs.Names.{◌≡◌, ◌≢◌, ◌∙◌, ◌-◌, ◌<◌, ℕ, List, [], ◌∷◌, ◌++◌, drop, length, Some, None, Result, Ok, refl, sym, ap, subst, arith, length-drop, ModelState, IsStartState, TurnCall, RunRecord, Turn, CellScales, CellState, cell_at_start, SeesRun, SeesBeginning, IsShown, frame_of, frames_of, frames_after, RunMoment, StepsOn, IsRecordSoFar, first_moment, state_at, CellGauges, Step, IsRunBy, Frame, SeenFault, IsCut, result_of}
 use Rattle.cell_parts.specs.Axes.{AreCellScales}
 use Rattle.cell_plant.specs.declared.watcher.SeenFault.TheVariants.{Memory}
 use Rattle.cell_plant.proofs.RunSoFar.{RunSoFar, at_start, next_by, next_steps, tells, told_steps}
@@ -61,18 +61,18 @@ module _ {W E G : Type 0} (sees : W → Frame → Result (Unit {0}) E → W → 
         (subst (λ c. Watched w v (turns ++ t ∷ []) result (by c before.gauges before.opening)) (sym o.scales) next_watched)))
 
   -- the whole run, and a run that is cut
-  sees_whole : (turns : List Turn) (m : RunMoment G) (w v : W) (r : RunRecord) → AreCellScales m.scales → IsStartState m.opening → Watched w v turns (Ok tt) m → Keeps m m.opening r → SeesRun sees m.scales (gives m.gauges) m.opening turns w v r
+  sees_whole : (turns : List Turn) (m : RunMoment G) (w v : W) (r : RunRecord) → AreCellScales m.scales → IsStartState m.opening → Watched w v turns (Ok tt) m → IsRecordSoFar m m.opening r → SeesRun sees m.scales (gives m.gauges) m.opening turns w v r
   sees_whole turns m w v r scales start g k =
       record { tells = tells gives turns m r scales start g.run k; seen = rw (told_steps gives turns m r scales start g.run k) g.seen }
 
   pub sees_all : (c : CellScales) (five : G) (opening : ModelState) (turns all : List Turn) (m : RunMoment G) (w v : W) (r : RunRecord) → turns ≡ all → m.scales ≡ c → m.gauges ≡ five → m.opening ≡ opening → AreCellScales c → IsStartState opening
-      → Watched w v turns (Ok tt) m → Keeps m opening r → SeesRun sees c (gives five) opening all w v r
+      → Watched w v turns (Ok tt) m → IsRecordSoFar m opening r → SeesRun sees c (gives five) opening all w v r
   sees_all c five opening turns all m w v r e f fits o scales start g k =
       subst (λ ts. SeesRun sees c (gives five) opening ts w v r) e
       (subst (λ z. SeesRun sees c (gives five) z turns w v r) o
       (subst (λ x. SeesRun sees c (gives x) m.opening turns w v r) fits
       (subst (λ x. SeesRun sees x (gives m.gauges) m.opening turns w v r) f
-      (sees_whole turns m w v r (subst AreCellScales (sym f) scales) (subst IsStartState (sym o) start) g (subst (λ z. Keeps m z r) (sym o) k)))))
+      (sees_whole turns m w v r (subst AreCellScales (sym f) scales) (subst IsStartState (sym o) start) g (subst (λ z. IsRecordSoFar m z r) (sym o) k)))))
 
   pub sees_some : (c : CellScales) (five : G) (opening : ModelState) (turns rest all : List Turn) (m : RunMoment G) (w v : W) (fault : SeenFault E) → all ≡ turns ++ rest → IsCut fault rest → m.scales ≡ c → m.gauges ≡ five → m.opening ≡ opening
       → Watched w v turns (result_of fault) m → SeesBeginning sees c (gives five) opening all w v fault

@@ -64,7 +64,7 @@ pub record StepsOn {G : Type 0} (gives : G → CellGauges) (t : Turn) (before no
   pub opening : now.opening ≡ before.opening
 
 -- the record of the run so far
-pub record Keeps {G : Type 0} (m : RunMoment G) (opening : ModelState) (r : RunRecord) : Type 0 where
+pub record IsRecordSoFar {G : Type 0} (m : RunMoment G) (opening : ModelState) (r : RunRecord) : Type 0 where
   pub start : r.start ≡ opening
   pub counts : r.counts ≡ map (λ n. (at_machine m.notes n).counts) all_machines
   pub status : r.status ≡ in_order (statuses_in (state_at m))

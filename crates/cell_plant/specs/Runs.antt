@@ -58,9 +58,6 @@ IsRunBy c gives w (t ∷ ts) [] = ⊥
 abbrev pub TakesTurn : CellScales → Machine → Bool → CellState → Step → Type 0
 TakesTurn c = TakesTurnBy c (any_near c)
 
-abbrev pub LeadsIf : Bool → CellScales → Machine → Bool → CellState → Step → Type 0
-LeadsIf taken c = LeadsIfBy taken c (any_near c)
-
 abbrev pub IsRun : CellScales → CellState → List Turn → List Step → Type 0
 IsRun c = IsRunBy c (any_near c)
 

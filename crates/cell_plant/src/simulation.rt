@@ -8,7 +8,7 @@ ghost use Rattle.cell_parts.specs.Axes.{AreCellScales};
 ghost use Rattle.cell_plant.specs.Cells.{IsMadeFor, TellsRun, cell_gauges, cell_scales, five_gauges};
 ghost use Rattle.cell_plant.specs.CellStates.{plant_of, statuses_in};
 ghost use Rattle.cell_plant.specs.Frames.{SeesRun, SeesBeginning, frame_of};
-ghost use Rattle.cell_plant.specs.Moments.{StepsOn, Keeps, first_moment, state_at};
+ghost use Rattle.cell_plant.specs.Moments.{IsRecordSoFar, StepsOn, first_moment, state_at};
 ghost use Rattle.cell_notes.specs.ByMachine.{at_machine};
 ghost use Rattle.cell_plant.specs.Records.{NoneRefused, positions_in};
 ghost use Rattle.cell_plant.specs.Simulations.{given_by};
@@ -260,7 +260,7 @@ impl<F1: Gauge, F2: Gauge, F3: Gauge, F4: Gauge, F5: Gauge> Simulation<F1, F2, F
 
     // The record of the run so far. It takes the journals: no notebook has one after that.
     fn take_record(&mut self, alloc: Global, start: State) -> RunRecord
-        ensures { Keeps self.old start result }
+        ensures { IsRecordSoFar self.old start result }
     {
         let status = self.status().in_order();
         let axes = axes_of(&self.plant());
