@@ -3,5 +3,6 @@ pub mod Faults
 pub mod Printed
 pub mod Words
 pub mod Versions
+pub mod Asked
 pub mod Served
 pub mod ShellExamples

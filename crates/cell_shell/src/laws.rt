@@ -2,7 +2,7 @@
 
 ghost use Rattle.cell_shell.specs.ShellExamples.{ShellIsMet};
 
-/// Examples: the exit statuses, a fault's line, and which words ask for the version.
+/// Examples: the exit statuses, a fault's line, and which words ask for the version, and for help.
 pub fn shell_is_met()
     ensures { ShellIsMet }
 {}

@@ -1,6 +1,7 @@
 //! The shell of the programs: their words, how they end, what they print of faults, and their version.
 #![tactic(auto)]
 
+pub mod asked;
 pub mod exit;
 pub mod faults;
 pub mod laws;
@@ -8,6 +9,7 @@ pub mod printing;
 pub mod version;
 pub mod words;
 
+pub use asked::{Asked, asked_of};
 pub use exit::Exit;
 pub use faults::fail;
 pub use printing::{print, print_prefix};

@@ -123,3 +123,21 @@ pub fn texts_or_exit<'w, W: Write>(
         Err(_) => Err(fail(writer, "memory")),
     }
 }
+
+/// Serves a program by the texts of the words that it was started with. Without them it prints why, as
+/// far as the writer takes it, and gives the status of the exit.
+#[macro_export]
+macro_rules! with_texts {
+    ($alloc:expr, $env:expr, $writer:expr, $status_of:path, |$texts:ident| $served:expr) => {
+        match $crate::words_or_exit($alloc, $env, $writer) {
+            Ok(words) => match $crate::texts_or_exit($alloc, &words, $writer) {
+                Ok(texts) => {
+                    let $texts = texts.as_slice();
+                    $served
+                }
+                Err(exit) => $status_of(exit),
+            },
+            Err(exit) => $status_of(exit),
+        }
+    };
+}
