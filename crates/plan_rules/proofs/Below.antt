@@ -1,31 +1,13 @@
--- What is computed of the numbers below a number.
-use Rattle.std.proofs.Common.{◌≡◌, ◌≢◌, ℕ, zero, suc, ◌+◌, ◌<◌, ◌≤◌, ◌⊎◌, inl, inr, Bool, true, false, ◌||◌, Option, Some, None, refl, ap, ◌∙◌, add-one, arith}
-use Rattle.std.specs.Option.{option_or}
-use Rattle.std.proofs.lemmas.Bool.{cases_lt}
-use Rattle.plan_types.specs.Below.{first_below, any_below, sum_below}
-
-pub first_below_more : {A : Type 0} (f : ℕ → Option A) (n : ℕ) → first_below f (n + 1) ≡ option_or (first_below f n) (f n)
-first_below_more f n = ap (first_below f) (add-one n)
+-- Tests and sums of the numbers below a number.
+use Rattle.std.proofs.Common.{◌≡◌, ◌≢◌, ℕ, zero, suc, ◌+◌, ◌<◌, ◌≤◌, inl, inr, Bool, true, false, ◌||◌, refl, ap, ◌∙◌, add-one, arith}
+use Rattle.plan_types.specs.Below.{any_below, sum_below}
+use Rattle.plan_types.proofs.Below.{below_next}
 
 pub any_below_more : (f : ℕ → Bool) (n : ℕ) → any_below f (n + 1) ≡ (any_below f n || f n)
 any_below_more f n = ap (any_below f) (add-one n)
 
 pub sum_below_more : (f : ℕ → ℕ) (n : ℕ) → sum_below f (n + 1) ≡ sum_below f n + f n
 sum_below_more f n = ap (sum_below f) (add-one n)
-
--- below the next number
-pub below_next : (i n : ℕ) → i < suc n → (i < n) ⊎ (i ≡ n)
-below_next i n l = elim (cases_lt i n) [ inl h ↦ inl h | inr h ↦ inr (omega arith) ]
-
-none_both : {A : Type 0} (a b : Option A) → option_or a b ≡ None → (a ≡ None) × (b ≡ None)
-none_both None b e = (refl, e)
-none_both (Some x) b e = cc
-
-pub first_below_none : {A : Type 0} (f : ℕ → Option A) (n : ℕ) → first_below f n ≡ None → (i : ℕ) → i < n → f i ≡ None
-first_below_none f zero e i l = absurd (omega arith)
-first_below_none f (suc n) e i l =
-    let h = none_both (first_below f n) (f n) e in
-    elim (below_next i n l) [ inl k ↦ first_below_none f n h.0 i k | inr k ↦ ap f k ∙ h.1 ]
 
 -- sums of two functions that are the same at each number below, or at each but one
 pub sum_below_same : (f g : ℕ → ℕ) (n : ℕ) → ((j : ℕ) → j < n → g j ≡ f j) → sum_below g n ≡ sum_below f n

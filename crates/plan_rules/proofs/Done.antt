@@ -12,7 +12,7 @@ use Rattle.plan_rules.specs.State.{zone_at, owner_of, posture_at, is_full}
 use Rattle.plan_rules.specs.Sound.{is_open, is_owned_by}
 use Rattle.plan_rules.specs.Refusals as refusals
 use Rattle.plan_rules.specs.Refusals.{◌or◌, owns}
-use Rattle.plan_rules.proofs.Below.{first_below_none}
+use Rattle.plan_types.proofs.Below.{first_below_none}
 use Rattle.plan_rules.proofs.Zones.{both_true, owner_is}
 
 pub none_or : (a b : Option Refusal) → (a or b) ≡ None → (a ≡ None) × (b ≡ None)

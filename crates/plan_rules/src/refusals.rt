@@ -292,7 +292,7 @@ impl State {
         unowned.then_some(Refusal::NotOwner(self.zone(zone).owner))
     }
 
-    #[tactic(auto, using(crate::proofs::Below::first_below_more))]
+    #[tactic(auto, using(plan_types::proofs::Below::first_below_more))]
     fn any_unowned_by_pose(&self, plan: &Plan, machine: u8, pose: u8) -> Option<Refusal>
         ensures { result
             ≡ refusals.first_zone plan.now (refusals.unowned_by_pose plan.now self.now machine pose) }
@@ -311,7 +311,7 @@ impl State {
         under.then_some(Refusal::PlateInZone(zone))
     }
 
-    #[tactic(auto, using(crate::proofs::Below::first_below_more))]
+    #[tactic(auto, using(plan_types::proofs::Below::first_below_more))]
     fn any_plate_under_pose(&self, plan: &Plan, machine: u8, pose: u8) -> Option<Refusal>
         ensures { result
             ≡ refusals.first_zone plan.now (refusals.plate_under_pose plan.now self.now machine pose) }
@@ -357,7 +357,7 @@ impl State {
         opens.then_some(Refusal::PlaceFull)
     }
 
-    #[tactic(auto, using(crate::proofs::Below::first_below_more))]
+    #[tactic(auto, using(plan_types::proofs::Below::first_below_more))]
     fn any_opens_onto_plate(&self, plan: &Plan, pose: u8) -> Option<Refusal>
         ensures { result
             ≡ refusals.first_zone plan.now (refusals.opens_onto_plate plan.now self.now pose) }
