@@ -1,7 +1,7 @@
 -- The robot may go on at each step that is in step with a state.
-use Rattle.cell_resume.proofs.Names.{◌≡◌, true, List, Robot, Z2, Z3, Z4, OpenIn, OpenOut, Event, ModelState, after, IsLegal, and_left, and_right, HoldsIn, AreSo, found, RobotScales, RobotGauges, notes_at, arm1_zone, arm2_zone, robot_steps, RobotStep, RobotProgress, is_kept, IsResumable, Kept, kept_of}
+use Rattle.cell_resume.proofs.Names.{◌≡◌, true, Robot, Z2, Z3, Z4, ModelState, and_left, and_right, AreSo, RobotScales, RobotGauges, notes_at, robot_steps, RobotStep, RobotProgress, is_kept, IsResumable, Kept, kept_of}
 use Rattle.cell_robot.specs.declared.robot.RobotStep.TheVariants.{TurnToTable, AwaitPlate, ReachTable, GripPlate, LeaveTable, TakePlate, ReleaseTable, TurnToLoad, ClaimPress, InspectPress, ReleasePress, ReachToLoad, DropInPress, LeaveLoaded, GiveToPress, TurnToUnload, AwaitForged, ReachToUnload, GripForged, LeaveUnloaded, TakeForged, ReleaseUnloaded, TurnToDeposit, ClaimDeposit, ReachDeposit, DropOnDeposit, LeaveDeposit, GiveToDeposit}
-use Rattle.cell_robot.proofs.RobotFacts.{RobotKnows, facts_at, robot-knowing, at_choice}
+use Rattle.cell_robot.proofs.RobotFacts.{RobotKnows, facts_at, robot-knowing, at_choice, first_holds, second_holds}
 use Rattle.cell_resume.specs.RobotKeeps.{table, interior, deposit, has_zones, in_step}
 
 knows_at : (s : RobotStep) (z : ModelState) → Kept (table s) Robot z Z2 → Kept (interior s) Robot z Z3 → Kept (deposit s) Robot z Z4 → AreSo Robot z (facts_at s)
@@ -36,21 +36,6 @@ knows_at GiveToDeposit z k1 k2 k3 = ((k3.0, k3.1), tt)
 
 zone_facts : (p : RobotProgress) (z : ModelState) → has_zones p.step z ≡ true → AreSo Robot z (facts_at p.step)
 zone_facts p z e = knows_at p.step z (kept_of (table p.step) Robot z Z2 (and_left _ _ e)) (kept_of (interior p.step) Robot z Z3 (and_left _ _ (and_right (is_kept (table p.step) Robot z Z2) _ e))) (kept_of (deposit p.step) Robot z Z4 (and_right (is_kept (interior p.step) Robot z Z3) _ (and_right (is_kept (table p.step) Robot z Z2) _ e)))
-
--- in each step the robot holds the zones of its arms
-first_holds : (s : RobotStep) (o : ModelState) (h : List Event) → IsLegal o h → AreSo Robot (after o h) (facts_at s) → HoldsIn Robot o h (arm1_zone s)
-first_holds ReachTable o h legal k = found o h Robot Z2 OpenOut legal k.0
-first_holds LeaveTable o h legal k = found o h Robot Z2 OpenOut legal k.0
-first_holds ReachToLoad o h legal k = found o h Robot Z3 OpenIn legal k.0
-first_holds LeaveLoaded o h legal k = found o h Robot Z3 OpenIn legal k.0
-first_holds _ o h legal k = tt
-
-second_holds : (s : RobotStep) (o : ModelState) (h : List Event) → IsLegal o h → AreSo Robot (after o h) (facts_at s) → HoldsIn Robot o h (arm2_zone s)
-second_holds ReachToUnload o h legal k = found o h Robot Z3 OpenOut legal k.0
-second_holds LeaveUnloaded o h legal k = found o h Robot Z3 OpenOut legal k.0
-second_holds ReachDeposit o h legal k = found o h Robot Z4 OpenIn legal k.0
-second_holds LeaveDeposit o h legal k = found o h Robot Z4 OpenIn legal k.0
-second_holds _ o h legal k = tt
 
 pub robot_resumable : (points : RobotScales) (gives : RobotGauges) → IsResumable (robot_steps points gives) in_step RobotKnows
 robot_resumable points gives = record {

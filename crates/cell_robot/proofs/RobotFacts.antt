@@ -128,14 +128,14 @@ robot-knowing points gives = record {
 }
 
 -- so in each step the robot holds the zones of its arms
-first_holds : (s : RobotStep) (o : ModelState) (h : List Event) → IsLegal o h → AreSo Robot (after o h) (facts_at s) → HoldsIn Robot o h (arm1_zone s)
+pub first_holds : (s : RobotStep) (o : ModelState) (h : List Event) → IsLegal o h → AreSo Robot (after o h) (facts_at s) → HoldsIn Robot o h (arm1_zone s)
 first_holds ReachTable o h legal k = found o h Robot Z2 OpenOut legal k.0
 first_holds LeaveTable o h legal k = found o h Robot Z2 OpenOut legal k.0
 first_holds ReachToLoad o h legal k = found o h Robot Z3 OpenIn legal k.0
 first_holds LeaveLoaded o h legal k = found o h Robot Z3 OpenIn legal k.0
 first_holds _ o h legal k = tt
 
-second_holds : (s : RobotStep) (o : ModelState) (h : List Event) → IsLegal o h → AreSo Robot (after o h) (facts_at s) → HoldsIn Robot o h (arm2_zone s)
+pub second_holds : (s : RobotStep) (o : ModelState) (h : List Event) → IsLegal o h → AreSo Robot (after o h) (facts_at s) → HoldsIn Robot o h (arm2_zone s)
 second_holds ReachToUnload o h legal k = found o h Robot Z3 OpenOut legal k.0
 second_holds LeaveUnloaded o h legal k = found o h Robot Z3 OpenOut legal k.0
 second_holds ReachDeposit o h legal k = found o h Robot Z4 OpenIn legal k.0
