@@ -9,13 +9,14 @@ ghost use Rattle.cell_shell.specs.Words.{texts_of};
 ghost use Rattle.cell_config.specs.Settings.{max_bytes_read};
 ghost use Rattle.cell_explore.specs.Requests.{request_of};
 
-use crate::every_start::{MAX_PLATES, every_start};
+use crate::every_start::every_start;
 use crate::request;
 use crate::request::Request;
 use crate::schedule::ScheduleFault;
 use crate::screen::screen_of;
 use crate::timing::tell_time;
 use cell_config::read_config;
+use cell_rules::MAX_PLATES;
 use cell_shell::{fail, print, print_version, refuse_words, texts_or_exit, words_or_exit};
 use std::alloc::{AllocError, Global};
 use std::env::Env;
