@@ -5,16 +5,13 @@ ghost use Rattle.cell_replay.specs.Versions.{version_of};
 use crate::fields::{Field, MAX_FIELDS};
 use crate::records::{Record, line_ends, record_at};
 use cell_replay::Version;
-use cell_rules::{LAST_STAMP, read_places};
+use cell_rules::{LAST_STAMP, MAX_PLATES, PLACES, read_places};
 use cell_types::Machine;
 use csv_rows::read_number;
 use std::alloc::{AllocError, Global};
 
 /// What a start looks like.
 const EXAMPLE: &str = "a script begins with a start, such as start,0000000000";
-
-/// The most plates of a start.
-const MAX_PLATES: usize = 6;
 
 /// Adds why a script has no start.
 pub fn push_no_start(alloc: Global, words: &mut String, script: &[u8]) -> Result<(), AllocError> {
@@ -133,14 +130,14 @@ fn push_bad_fields(
 /// Adds why a field isn't ten digits.
 fn push_places(words: &mut String, places: Field<'_>) -> Result<(), AllocError> {
     let count = places.bytes.len();
-    if count == 0 || count == 10 || !are_digits(places.bytes) {
+    if count == 0 || count == PLACES || !are_digits(places.bytes) {
         return places.push_wrong(
             words,
             "; the places are ten digits 0 or 1, one for each of p1 to p10",
         );
     }
     places.push_place(words)?;
-    if count < 10 {
+    if count < PLACES {
         return write!(
             words,
             " has {count} of ten digits; a spreadsheet drops zeros at the front, so make the field a text"
@@ -166,10 +163,8 @@ fn is_stamp(field: &[u8]) -> bool {
 
 /// Adds why a field is no stamp.
 fn push_stamp(words: &mut String, stamp: Field<'_>) -> Result<(), AllocError> {
-    stamp.push_wrong(
-        words,
-        "; a stamp has one to seven digits and is from 0 to 1048575",
-    )
+    stamp.push_wrong(words, "; a stamp has one to seven digits and is from 0 to ")?;
+    write!(words, "{LAST_STAMP}")
 }
 
 /// Adds why places with plates make no start.
@@ -181,7 +176,7 @@ fn push_plates(words: &mut String, places: Field<'_>) -> Result<(), AllocError> 
 /// Adds why these digits make no start.
 pub fn push_plate_count(words: &mut String, digits: &[u8]) -> Result<(), AllocError> {
     let plates = digits.iter().filter(|digit| **digit == b'1').count();
-    if plates > MAX_PLATES {
+    if plates > MAX_PLATES as usize {
         return write!(words, " has {plates} plates; a start has at most six");
     }
     words.push_str(" has plates in both p5 and p6; the press holds one")
