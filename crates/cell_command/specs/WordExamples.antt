@@ -1,7 +1,7 @@
 -- Words with what they ask for, and words that are refused.
 use Rattle.std.specs.Prelude.{◌≡◌, List, [], ◌∷◌, codes, false}
 use Rattle.clap.specs.Words.{Text, takes}
-use Rattle.cell_command.specs.Words.{mode_of, program, AreTaken}
+use Rattle.cell_command.specs.Words.{mode_of, program, AreTaken, AskForHelp}
 use Rattle.cell_command.specs.declared.words.Mode.{Mode}
 use Rattle.cell_command.specs.declared.words.Mode.TheVariants.{Replay, Sim, Run}
 
@@ -11,6 +11,10 @@ AskAfterName words mode = AreTaken (codes "cell" ∷ words) × (mode_of (codes "
 
 abbrev pub AreRefused : List Text → Type 0
 AreRefused words = takes program (codes "cell" ∷ words) ≡ false
+
+-- `clap` gives its help for these words after the program's name
+abbrev pub AskForHelpAfterName : List Text → Type 0
+AskForHelpAfterName words = AskForHelp (codes "cell" ∷ words)
 
 abbrev pub run_with : Text → Text → List Text
 run_with flag number = codes "run" ∷ flag ∷ number ∷ []
@@ -34,3 +38,11 @@ pub record WordsAreMet : Type 0 where
   pub flag_of_run : AreRefused (codes "sim" ∷ codes "--turns" ∷ codes "3" ∷ [])
   pub other_word : AreRefused (codes "go" ∷ [])
   pub word_more : AreRefused (codes "replay" ∷ codes "replay" ∷ [])
+  pub help : AskForHelpAfterName (codes "--help" ∷ [])
+  pub help_by_letter : AskForHelpAfterName (codes "-h" ∷ [])
+  pub help_of_word : AskForHelpAfterName (codes "sim" ∷ codes "--help" ∷ [])
+  pub help_of_other_word : ¬ AskForHelpAfterName (codes "go" ∷ codes "--help" ∷ [])
+  pub help_of_two_words : ¬ AskForHelpAfterName (codes "sim" ∷ codes "run" ∷ codes "--help" ∷ [])
+  pub help_before_words : AskForHelpAfterName (codes "--help" ∷ codes "go" ∷ codes "--version" ∷ [])
+  pub version_before_help : ¬ AskForHelpAfterName (codes "--version" ∷ codes "--help" ∷ [])
+  pub version_of_word : AreRefused (codes "sim" ∷ codes "--version" ∷ [])

@@ -7,5 +7,5 @@ pub mod refusal;
 pub mod words;
 
 pub use cell_shell::words_of;
-pub use refusal::{refuse, refuse_with_help};
+pub use refusal::{refuse, refuse_in_own_words};
 pub use words::{Mode, read_words};

@@ -6,7 +6,7 @@ ghost use Rattle.clap.specs.Words.{kind_of};
 ghost use Rattle.cell_text.specs.Output.{WrotePrefix};
 ghost use Rattle.cell_shell.specs.Faults.{fault_line};
 
-use cell_shell::{Exit, fail, print};
+use cell_shell::{Exit, fail, print, refuse_words};
 use cell_text::flush;
 use clap::Error;
 use clap::error::ErrorKind;
@@ -31,16 +31,25 @@ pub fn refuse<W: Write>(writer: &mut W, error: Error) -> Exit
     exit
 }
 
-/// Does what `refuse` does, with another help than `clap`'s.
-pub fn refuse_with_help<W: Write>(writer: &mut W, error: Error, help: &str) -> Exit
+/// Does what `refuse` does, with a program's own help and its own line for other words: `clap`'s name
+/// the program `cell`. Other words are `Refused` though their line isn't written.
+pub fn refuse_in_own_words<W: Write>(
+    writer: &mut W,
+    error: Error,
+    help: &str,
+    other_words: &str,
+) -> Exit
     ensures help { result ≡ Exit.Well → (kind_of error ≡ ErrorKind.DisplayHelp)
         × Appends (W.contents writer.old) (W.contents writer.new) help.now }
+    ensures other { result ≡ Exit.Refused →
+        WrotePrefix (W.contents writer.old) (W.contents writer.new) other_words.now }
     ensures memory { kind_of error ≡ ErrorKind.OutOfMemory → result ≡ Exit.Failed }
     ensures line { kind_of error ≡ ErrorKind.OutOfMemory →
         WrotePrefix (W.contents writer.old) (W.contents writer.new) (fault_line (codes "memory")) }
 {
     match error.kind() {
+        ErrorKind::OutOfMemory => fail(writer, "memory"),
         ErrorKind::DisplayHelp => print(writer, help.as_bytes()),
-        _ => refuse(writer, error),
+        _ => refuse_words(writer, other_words),
     }
 }

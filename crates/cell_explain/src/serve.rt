@@ -4,6 +4,7 @@ ghost use Rattle.std.specs.Prelude.{◌≡◌, ◌≢◌, ◌≤◌, ◌⊎◌, 
 ghost use Rattle.std.specs.Io.KnownBytes.{Appends, Keeps};
 ghost use Rattle.clap.specs.Words.{kind_of};
 ghost use Rattle.cell_text.specs.Input.{TakesAtMost};
+ghost use Rattle.cell_text.specs.Output.{WrotePrefix};
 ghost use Rattle.cell_shell.specs.Versions.{AskForVersion, version_line};
 ghost use Rattle.cell_shell.specs.Words.{texts_of};
 ghost use Rattle.cell_command.specs.Words.{AreTaken, AskForHelp};
@@ -11,8 +12,8 @@ ghost use Rattle.cell_replay.specs.Script.{max_bytes_read};
 ghost use Rattle.cell_explain.specs.Served.{AskOfConfig, AskOfScript, ExplainsConfig, ExplainsScript};
 
 use crate::explain::{explain_configuration, explain_script};
-use cell_command::{Mode, read_words, refuse_with_help};
-use cell_shell::{Exit, asks_for_version, print_version, texts_or_exit, words_or_exit};
+use cell_command::{Mode, read_words, refuse_in_own_words};
+use cell_shell::{Exit, asks_for_version, print_version, with_texts};
 use clap::error::ErrorKind;
 use std::alloc::Global;
 use std::env::Env;
@@ -28,6 +29,10 @@ or writing failed, or memory ran out.
 Example:
   explain replay < examples/interior.csv
 ";
+
+/// What is printed for other words.
+const OTHER_WORDS: &str =
+    "error: the only arguments are replay, sim, run, --turns N, --tries N, --help and --version\n";
 
 /// The exit status if reading or writing failed, or memory ran out.
 pub const FAILED: u8 = 3;
@@ -90,6 +95,10 @@ pub fn serve<R: Read, W: Write>(alloc: Global, words: &[&str], reader: &mut R, w
     ensures help { ¬ AreTaken (texts_of words.now) → ¬ AskForVersion (texts_of words.now) →
         result ≡ 0 → Appends (W.contents writer.old) (W.contents writer.new) HELP.now }
 
+    // Status 2 says that a line of other words was printed, or a prefix of it.
+    ensures line { result ≡ 2 →
+        WrotePrefix (W.contents writer.old) (W.contents writer.new) OTHER_WORDS.now }
+
     // At most one byte more is read than a script may have, and nothing for words that `clap`
     // doesn't take.
     ensures read { TakesAtMost (R.remaining reader.old) (R.remaining reader.new) max_bytes_read }
@@ -111,13 +120,15 @@ fn refuse<W: Write>(writer: &mut W, error: clap::Error) -> u8
     ensures status { result ≤ 3 }
     ensures help { result ≡ 0 → (kind_of error ≡ ErrorKind.DisplayHelp)
         × Appends (W.contents writer.old) (W.contents writer.new) HELP.now }
+    ensures line { result ≡ 2 →
+        WrotePrefix (W.contents writer.old) (W.contents writer.new) OTHER_WORDS.now }
     ensures told { result ≢ 1 }
     ensures memory { kind_of error ≡ ErrorKind.OutOfMemory →
         (result ≡ 3) × Keeps (W.contents writer.old) (W.contents writer.new) }
 {
     match error.kind() {
         ErrorKind::OutOfMemory => FAILED,
-        _ => status_of(refuse_with_help(writer, error, HELP)),
+        _ => status_of(refuse_in_own_words(writer, error, HELP, OTHER_WORDS)),
     }
 }
 
@@ -144,12 +155,11 @@ pub fn start<E: Env, R: Read, W: Write>(
     ensures status { result ≤ 3 }
     ensures read { TakesAtMost (R.remaining reader.old) (R.remaining reader.new) max_bytes_read }
 {
-    let words = match words_or_exit(alloc, env, writer) {
-        Ok(words) => words,
-        Err(exit) => return status_of(exit),
-    };
-    match texts_or_exit(alloc, &words, writer) {
-        Ok(texts) => serve(alloc, texts.as_slice(), reader, writer),
-        Err(exit) => status_of(exit),
-    }
+    with_texts!(
+        alloc,
+        env,
+        writer,
+        status_of,
+        |texts| serve(alloc, texts, reader, writer)
+    )
 }

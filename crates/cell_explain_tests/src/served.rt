@@ -70,6 +70,9 @@ fn serves(rt: HostRuntime) {
     }
 }
 
+const OTHER_WORDS: &str =
+    "error: the only arguments are replay, sim, run, --turns N, --tries N, --help and --version\n";
+
 /// Words that explain nothing, the exit status, and how the text begins.
 const OTHERS: &[(&[&str], u8, &str)] = &[
     (
@@ -88,11 +91,18 @@ const OTHERS: &[(&[&str], u8, &str)] = &[
         "Says what is wrong with an input that `cell` refuses",
     ),
     (&["explain", "--version"], 0, "explain "),
-    (&["explain", "-V"], 2, "error: "),
-    (&["explain", "sim", "--version"], 2, "error: "),
-    (&["explain", "simulate"], 2, "error: "),
-    (&["explain", "replay", "replay"], 2, "error: "),
-    (&["explain", "run", "--turns", "0"], 2, "error: "),
+    (
+        &["explain", "help"],
+        0,
+        "Says what is wrong with an input that `cell` refuses",
+    ),
+    (&["explain", "-V"], 2, OTHER_WORDS),
+    (&["explain", "sim", "--version"], 2, OTHER_WORDS),
+    (&["explain", "--version", "--help"], 2, OTHER_WORDS),
+    (&["explain", "simulate"], 2, OTHER_WORDS),
+    (&["explain", "simulate", "--help"], 2, OTHER_WORDS),
+    (&["explain", "replay", "replay"], 2, OTHER_WORDS),
+    (&["explain", "run", "--turns", "0"], 2, OTHER_WORDS),
 ];
 
 /// Whether words are answered with this status and a text that begins so, and nothing is read.
@@ -134,25 +144,27 @@ fn is_silent(alloc: Global, words: &[&str], bytes: &str) -> bool {
     answered == 3 && written.is_empty()
 }
 
-/// Words and an input, of which something is written: all that a writer takes that takes less.
-const WRITTEN: &[(&[&str], &str, &str)] = &[
-    (&["explain"], BAD_SCRIPT, OF_BAD_SCRIPT),
-    (&["explain", "sim"], BAD_CONFIG, OF_BAD_CONFIG),
+/// Words, an input and a status, with which something is written: all that a writer takes that takes
+/// less.
+const WRITTEN: &[(&[&str], &str, u8, &str)] = &[
+    (&["explain"], BAD_SCRIPT, 3, OF_BAD_SCRIPT),
+    (&["explain", "sim"], BAD_CONFIG, 3, OF_BAD_CONFIG),
     (
         &["explain", "--help"],
         "",
+        3,
         "Says what is wrong with an input",
     ),
-    (&["explain", "--version"], "", "explain "),
-    (&["explain", "simulate"], "", "error: "),
+    (&["explain", "--version"], "", 3, "explain "),
+    (&["explain", "simulate"], "", 2, OTHER_WORDS),
 ];
 
-/// Whether the status is 3 for a writer that takes this number of bytes, and it got the first of this
-/// text.
-fn is_cut(alloc: Global, words: &[&str], input: &str, text: &str, left: usize) -> bool {
+/// Whether the status is this for a writer that takes this number of bytes, and it got the first of
+/// this text.
+fn is_cut(alloc: Global, words: &[&str], input: &str, status: u8, text: &str, left: usize) -> bool {
     let mut writer = FailingWriter::new(alloc, left);
     let answered = serve(alloc, words, &mut input.as_bytes(), &mut writer);
-    answered == 3
+    answered == status
         && writer.taken.len() == left
         && text.as_bytes().starts_with(writer.taken.as_slice())
 }
@@ -161,9 +173,15 @@ fn is_cut(alloc: Global, words: &[&str], input: &str, text: &str, left: usize) -
 fn fails_with_reader_and_writer(rt: HostRuntime) {
     assert!(rt; is_silent(rt.alloc(), &["explain"], BAD_SCRIPT));
     assert!(rt; is_silent(rt.alloc(), &["explain", "sim"], BAD_CONFIG));
-    for (words, input, text) in WRITTEN {
-        assert!(rt; is_cut(rt.alloc(), words, input, text, 0), "{words:?}");
-        assert!(rt; is_cut(rt.alloc(), words, input, text, 7), "{words:?}");
+    for (words, input, status, text) in WRITTEN {
+        assert!(rt;
+            is_cut(rt.alloc(), words, input, *status, text, 0),
+            "{words:?}"
+        );
+        assert!(rt;
+            is_cut(rt.alloc(), words, input, *status, text, 7),
+            "{words:?}"
+        );
     }
 }
 

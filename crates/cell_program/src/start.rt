@@ -5,7 +5,7 @@ ghost use Rattle.cell_text.specs.Input.{TakesAtMost};
 ghost use Rattle.cell_replay.specs.Script.{max_bytes_read};
 
 use crate::serve::serve;
-use cell_shell::{texts_or_exit, words_or_exit};
+use cell_shell::{Exit, with_texts};
 use std::alloc::Global;
 use std::env::Env;
 use std::io::{Read, Write};
@@ -26,12 +26,11 @@ where
     ensures status { result ≤ 2 }
     ensures read { TakesAtMost (R.remaining reader.old) (R.remaining reader.new) max_bytes_read }
 {
-    let words = match words_or_exit(alloc, env, writer) {
-        Ok(words) => words,
-        Err(exit) => return exit.status(),
-    };
-    match texts_or_exit(alloc, &words, writer) {
-        Ok(texts) => serve(rt, alloc, texts.as_slice(), reader, writer),
-        Err(exit) => exit.status(),
-    }
+    with_texts!(
+        alloc,
+        env,
+        writer,
+        Exit::status,
+        |texts| serve(rt, alloc, texts, reader, writer)
+    )
 }

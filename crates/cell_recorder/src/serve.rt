@@ -2,10 +2,8 @@
 
 ghost use Rattle.std.specs.Prelude.{◌≡◌, ◌≤◌, ◌<◌, ◌⊎◌, ℕ, codes, IfOk};
 ghost use Rattle.std.specs.Io.KnownBytes.{Appends};
-ghost use Rattle.clap.specs.Words.{kind_of};
 ghost use Rattle.cell_text.specs.Input.{TakesAtMost};
 ghost use Rattle.cell_text.specs.Output.{WrotePrefix};
-ghost use Rattle.cell_shell.specs.Faults.{fault_line};
 ghost use Rattle.cell_shell.specs.Printed.{Prints};
 ghost use Rattle.cell_shell.specs.Versions.{AskForVersion, version_line};
 ghost use Rattle.cell_config.specs.Settings.{max_bytes_read};
@@ -13,11 +11,9 @@ ghost use Rattle.cell_command.specs.Words.{AreTaken, AskForHelp, texts_of};
 ghost use Rattle.cell_recorder.specs.Served.{AskForHistory, Records, run_words as run_words_of};
 
 use crate::record::record;
-use cell_command::{Mode, read_words, refuse_with_help};
-use cell_shell::{
-    Exit, asks_for_version, fail, print_version, refuse_words, texts_or_exit, words_or_exit,
-};
-use clap::error::ErrorKind;
+use cell_command::{Mode, read_words, refuse_in_own_words};
+use cell_replay::MAX_RECORDS;
+use cell_shell::{Exit, asks_for_version, fail, print_version, with_texts};
 use std::alloc::{AllocError, Global};
 use std::env::Env;
 use std::io::{Read, Write};
@@ -42,6 +38,9 @@ read, write or start of a thread, or no memory.
 Example:
   history < examples/six_workers.toml
 ";
+
+// The help names this number.
+const _: () = prove!(MAX_RECORDS == 65_536);
 
 /// What is printed for other words.
 const OTHER_WORDS: &str =
@@ -89,6 +88,10 @@ where
         ¬ AskForVersion (texts_of words.now) → result ≡ 0 →
         Appends (W.contents writer.old) (W.contents writer.new) HELP.now }
 
+    // Status 2 says that a line of other words was printed, or a prefix of it.
+    ensures line { result ≡ 2 →
+        WrotePrefix (W.contents writer.old) (W.contents writer.new) OTHER_WORDS.now }
+
     // At most one byte more is read than a configuration may have.
     ensures read { TakesAtMost (R.remaining reader.old) (R.remaining reader.new) max_bytes_read }
 {
@@ -103,22 +106,7 @@ where
         // (never: the word `run` stands before the flags)
         Ok(Mode::Replay) => Exit::Failed.status(),
         Ok(Mode::Sim) => Exit::Failed.status(),
-        Err(error) => refuse(writer, error).status(),
-    }
-}
-
-/// Prints the help, or why words are refused, and returns how the program ends: `Well` for help, `Failed` if memory ran
-/// out. For other words `clap` would show the usage of `cell run`, so they have a line of their own.
-fn refuse<W: Write>(writer: &mut W, error: clap::Error) -> Exit
-    ensures help { result ≡ Exit.Well → (kind_of error ≡ ErrorKind.DisplayHelp)
-        × Appends (W.contents writer.old) (W.contents writer.new) HELP.now }
-    ensures memory { kind_of error ≡ ErrorKind.OutOfMemory → result ≡ Exit.Failed }
-    ensures line { kind_of error ≡ ErrorKind.OutOfMemory →
-        WrotePrefix (W.contents writer.old) (W.contents writer.new) (fault_line (codes "memory")) }
-{
-    match error.kind() {
-        ErrorKind::DisplayHelp | ErrorKind::OutOfMemory => refuse_with_help(writer, error, HELP),
-        _ => refuse_words(writer, OTHER_WORDS),
+        Err(error) => refuse_in_own_words(writer, error, HELP, OTHER_WORDS).status(),
     }
 }
 
@@ -150,12 +138,11 @@ where
     ensures status { result ≤ 2 }
     ensures read { TakesAtMost (R.remaining reader.old) (R.remaining reader.new) max_bytes_read }
 {
-    let words = match words_or_exit(alloc, env, writer) {
-        Ok(words) => words,
-        Err(exit) => return exit.status(),
-    };
-    match texts_or_exit(alloc, &words, writer) {
-        Ok(texts) => serve(rt, alloc, texts.as_slice(), reader, writer),
-        Err(exit) => exit.status(),
-    }
+    with_texts!(
+        alloc,
+        env,
+        writer,
+        Exit::status,
+        |texts| serve(rt, alloc, texts, reader, writer)
+    )
 }

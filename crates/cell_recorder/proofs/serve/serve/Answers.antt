@@ -34,4 +34,4 @@ pub returns-clause-records : goal.returns-clause-records
 returns-clause-records g c = λ turns tries k.
     let asked = subst (AskForRun turns tries) (sym (ap texts_of c.as_slice.ensures.value ∙ c.in-Ok.ensures)) k in
     let none = no_room _ c.in-Err.error c.in-Err.ensures.refused asked.0 in
-    no_memory turns tries c.refuse.result _ c.status-in-Err.ensures (c.refuse.ensures.memory none) _ _ _ (c.refuse.ensures.line none)
+    no_memory turns tries c.refuse_in_own_words.result _ c.status-in-Err.ensures (c.refuse_in_own_words.ensures.memory none) _ _ _ (c.refuse_in_own_words.ensures.line none)
