@@ -4,6 +4,8 @@ ghost use Rattle.std.specs.Prelude.{◌≡◌};
 ghost use Rattle.cell_shell.specs.Words.{texts_of};
 ghost use Rattle.cell_explore.specs.Requests as requests;
 
+use cell_shell::{Asked, asked_of};
+
 /// What the program does.
 #[derive(Clone, Copy, PartialEq, Eq, Debug)]
 pub enum Request {
@@ -17,27 +19,30 @@ pub enum Request {
     Version,
 }
 
+/// The words of this program alone that may follow its name.
+const OWN: &[&str] = &["--all"];
+
 /// What the words ask for. The first is the program's name. Alone it asks for the start of a
-/// configuration, with `--all` after it for all starts, with `--help` or `-h` for help, with
-/// `--version` for the version; `None` for other words.
+/// configuration, with `--all` after it for all starts; which words ask for help and for the version
+/// is that of every program (`asked_of`). `None` for other words.
 pub fn request_of(words: &[&str]) -> Option<Request>
     ensures { result ≡ requests.request_of (texts_of words.now) }
 {
-    match words {
-        [_] => Some(Request::Start),
-        [_, word] => request_by(word),
-        _ => None,
+    match (asked_of(words, OWN), words) {
+        (Asked::Help, _) => Some(Request::Help),
+        (Asked::Version, _) => Some(Request::Version),
+        (Asked::Other, [_]) => Some(Request::Start),
+        (Asked::Other, [_, word]) => request_by(word),
+        (Asked::Other, _) => None,
     }
 }
 
-/// What a word after the program's name asks for.
+/// What a word of this program alone asks for.
 fn request_by(word: &str) -> Option<Request>
     ensures { result ≡ requests.request_by word.now }
 {
     match word {
-        "--help" | "-h" => Some(Request::Help),
         "--all" => Some(Request::All),
-        "--version" => Some(Request::Version),
         _ => None,
     }
 }

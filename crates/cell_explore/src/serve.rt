@@ -17,7 +17,7 @@ use crate::screen::screen_of;
 use crate::timing::tell_time;
 use cell_config::read_config;
 use cell_rules::MAX_PLATES;
-use cell_shell::{fail, print, print_version, refuse_words, texts_or_exit, words_or_exit};
+use cell_shell::{Exit, fail, print, print_version, refuse_words, with_texts};
 use std::alloc::{AllocError, Global};
 use std::env::Env;
 use std::io::{Read, Write};
@@ -111,8 +111,8 @@ pub fn serve<T: Threads + Sync, C: Clock, R: Read, W: Write, P: Write>(
 ) -> u8
     ensures status { result ≤ 2 }
 
-    // With `--help` or `-h` after the name: status 0 says that help was printed, status 1 that a
-    // prefix was. With `--version`: the same of the version.
+    // If they ask for help, status 0 says that help was printed, status 1 that a prefix was. For the
+    // version it says the same.
     ensures help { request_of (texts_of words.now) ≡ Some Request.Help →
         Prints result (W.contents writer.old) (W.contents writer.new) HELP.now }
     ensures version { request_of (texts_of words.now) ≡ Some Request.Version →
@@ -154,12 +154,11 @@ where
     ensures status { result ≤ 2 }
     ensures read { TakesAtMost (R.remaining reader.old) (R.remaining reader.new) max_bytes_read }
 {
-    let words = match words_or_exit(alloc, env, writer) {
-        Ok(words) => words,
-        Err(exit) => return exit.status(),
-    };
-    match texts_or_exit(alloc, &words, writer) {
-        Ok(texts) => serve(rt, clock, alloc, texts.as_slice(), reader, writer, progress),
-        Err(exit) => exit.status(),
-    }
+    with_texts!(
+        alloc,
+        env,
+        writer,
+        Exit::status,
+        |texts| serve(rt, clock, alloc, texts, reader, writer, progress)
+    )
 }

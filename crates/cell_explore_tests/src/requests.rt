@@ -20,9 +20,15 @@ const ROWS: &[(&[&str], Option<Request>)] = &[
     (&["explore", "-V"], None),
     (&["explore", "-H"], None),
     (&["explore", "--all", "--all"], None),
-    (&["explore", "--all", "--help"], None),
-    (&["explore", "--help", "--help"], None),
+    (&["explore", "--all", "--help"], Some(Request::Help)),
+    (&["explore", "--all", "-h", "all"], Some(Request::Help)),
+    (&["explore", "--help", "--help"], Some(Request::Help)),
+    (&["explore", "-h", "all", "--version"], Some(Request::Help)),
+    (&["explore", "all", "--help"], None),
+    (&["explore", "--all", "--all", "--help"], None),
     (&["explore", "--version", "--all"], None),
+    (&["explore", "--version", "--help"], None),
+    (&["explore", "--all", "--version"], None),
     (&["explore", "explore"], None),
 ];
 

@@ -6,13 +6,13 @@ use Rattle.std.specs.Bool.{then_some}
 use Rattle.std.specs.Prelude.{nat_eq}
 use Rattle.plan_types.specs.Below.{first_below}
 
--- the most bytes of both together: a plan of 65,536 and a script of 4,194,304
+-- the most bytes of both together: those of a plan, and those of a script
 abbrev pub byte_limit : ℕ
-byte_limit = 4259840
+byte_limit = 65536 + 4194304
 
 -- one byte more shows whether there are more
 abbrev pub max_bytes_read : ℕ
-max_bytes_read = 4259841
+max_bytes_read = byte_limit + 1
 
 -- a line that begins with `start,` begins after the first `at` bytes
 abbrev pub is_begin : List ℕ → ℕ → Bool

@@ -3,8 +3,11 @@ ghost use Rattle.std.specs.Prelude.{◌≡◌, ◌<◌, ◌≤◌, length};
 ghost use Rattle.plan_types.specs.Below.{first_below};
 ghost use Rattle.plan_command.specs.Input as spec;
 
+/// The most bytes of a script.
+const MAX_SCRIPT_BYTES: usize = 4_194_304;
+
 /// The most bytes of a plan and a script together.
-pub const MAX_BYTES: usize = 4_259_840;
+pub const MAX_BYTES: usize = plan_document::MAX_BYTES + MAX_SCRIPT_BYTES;
 
 /// What a script begins with.
 const BEGIN: &[u8] = b"start,";

@@ -3,6 +3,8 @@ ghost use Rattle.std.specs.Prelude.{◌≡◌};
 ghost use Rattle.cell_shell.specs.Words.{texts_of};
 ghost use Rattle.plan_command.specs.Requests as requests;
 
+use cell_shell::{Asked, asked_of};
+
 /// What the program does.
 #[derive(Clone, Copy, PartialEq, Eq, Debug)]
 pub enum Request {
@@ -20,17 +22,23 @@ pub enum Request {
     Version,
 }
 
-/// What the words ask for: two words, of which the first is the program's name. `None` for other words.
+/// The words of this program alone that may follow its name.
+const OWN: &[&str] = &["check", "replay", "explore", "header"];
+
+/// What the words ask for. The first is the program's name, and one of its own words follows; which words ask for help
+/// and for the version is that of every program (`asked_of`). `None` for other words.
 pub fn request_of(words: &[&str]) -> Option<Request>
     ensures { result ≡ requests.request_of (texts_of words.now) }
 {
-    match words {
-        [_, word] => request_by(word),
-        _ => None,
+    match (asked_of(words, OWN), words) {
+        (Asked::Help, _) => Some(Request::Help),
+        (Asked::Version, _) => Some(Request::Version),
+        (Asked::Other, [_, word]) => request_by(word),
+        (Asked::Other, _) => None,
     }
 }
 
-/// What a word after the program's name asks for.
+/// What a word of this program alone asks for.
 fn request_by(word: &str) -> Option<Request>
     ensures { result ≡ requests.request_by word.now }
 {
@@ -39,8 +47,6 @@ fn request_by(word: &str) -> Option<Request>
         "replay" => Some(Request::Replay),
         "explore" => Some(Request::Explore),
         "header" => Some(Request::Header),
-        "--help" | "-h" => Some(Request::Help),
-        "--version" => Some(Request::Version),
         _ => None,
     }
 }

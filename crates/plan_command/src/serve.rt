@@ -17,7 +17,7 @@ use crate::input::{MAX_BYTES, plan_length};
 use crate::report::report_of;
 use crate::request;
 use crate::request::Request;
-use cell_shell::{Exit, fail, print, print_version, refuse_words, texts_or_exit, words_or_exit};
+use cell_shell::{Exit, fail, print, print_version, refuse_words, with_texts};
 use cell_text::{InputFault, read_up_to};
 use plan_document::{ProgrammedPlan, plan_of, read_plan};
 use plan_replay::{Outcome, ScriptAnswers, answer_script, start_of_script};
@@ -226,8 +226,8 @@ fn print_answers<W: Write>(writer: &mut W, answered: &ScriptAnswers) -> Exit
 pub fn serve<R: Read, W: Write>(alloc: Global, words: &[&str], reader: &mut R, writer: &mut W) -> u8
     ensures status { result ≤ 2 }
 
-    // With `--help` or `-h` after the name: status 0 says that help was printed, status 1 that a prefix was. With
-    // `--version`: the same of the version.
+    // If they ask for help, status 0 says that help was printed, status 1 that a prefix was. For the version it says
+    // the same.
     ensures help { request_of (texts_of words.now) ≡ Some Request.Help →
         Prints result (W.contents writer.old) (W.contents writer.new) HELP.now }
     ensures version { request_of (texts_of words.now) ≡ Some Request.Version →
@@ -268,12 +268,11 @@ pub fn start<E: Env, R: Read, W: Write>(
     ensures status { result ≤ 2 }
     ensures read { TakesAtMost (R.remaining reader.old) (R.remaining reader.new) max_bytes_read }
 {
-    let words = match words_or_exit(alloc, env, writer) {
-        Ok(words) => words,
-        Err(exit) => return exit.status(),
-    };
-    match texts_or_exit(alloc, &words, writer) {
-        Ok(texts) => serve(alloc, texts.as_slice(), reader, writer),
-        Err(exit) => exit.status(),
-    }
+    with_texts!(
+        alloc,
+        env,
+        writer,
+        Exit::status,
+        |texts| serve(alloc, texts, reader, writer)
+    )
 }

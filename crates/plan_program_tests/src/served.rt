@@ -17,6 +17,11 @@ const ROWS: &[(&[&[u8]], u8, &str)] = &[
     (&[], 2, OTHER_WORDS),
     (&[b"./plan", b"sim"], 2, OTHER_WORDS),
     (&[b"./plan", b"check", b"check"], 2, OTHER_WORDS),
+    (&[b"./plan", b"checks", b"--help"], 2, OTHER_WORDS),
+    (&[b"./plan", b"check", b"replay", b"--help"], 2, OTHER_WORDS),
+    (&[b"./plan", b"--version", b"--help"], 2, OTHER_WORDS),
+    (&[b"./plan", b"check", b"--version"], 2, OTHER_WORDS),
+    (&[b"./plan", b"help"], 2, OTHER_WORDS),
     (&[b"./plan", b""], 2, OTHER_WORDS),
     (&[b"./plan", b"\xff"], 2, NO_TEXT),
     (&[b"bad\xff", b"checks"], 2, OTHER_WORDS),
@@ -36,6 +41,32 @@ fn serves(rt: HostRuntime) {
         assert!(rt;
             found == status && written.as_slice() == text.as_bytes(),
             "{row:?}"
+        );
+    }
+}
+
+/// Arguments that ask for help.
+const HELPS: &[&[&[u8]]] = &[
+    &[b"./plan", b"--help"],
+    &[b"./plan", b"-h", b"checks"],
+    &[b"./plan", b"check", b"--help"],
+    &[b"./plan", b"replay", b"-h"],
+    &[b"./plan", b"explore", b"--help", b"--version"],
+    &[b"./plan", b"header", b"--help"],
+];
+
+#[test]
+fn helps(rt: HostRuntime) {
+    for arguments in HELPS {
+        let mut reader = PRESS.as_bytes();
+        let mut written = Vec::new(rt.alloc());
+        let status = run(rt.alloc(), arguments, &mut reader, &mut written);
+        let is_help = written
+            .as_slice()
+            .starts_with(b"Reads a plan of a plant, in TOML");
+        assert!(rt;
+            status == 0 && is_help && reader.len() == PRESS.len(),
+            "{arguments:?}"
         );
     }
 }
