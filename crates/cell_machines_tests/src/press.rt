@@ -4,7 +4,9 @@ ghost use Rattle.cell_types.specs.declared.machine.Machine.TheVariants.{Press};
 ghost use Rattle.cell_control.specs.Steps.{IsReached};
 ghost use Rattle.cell_stations.specs.PressProgram.{press_steps};
 
-use super::common::{EMPTY, NO_ROOM, NOT_YET, ROBOTS, guest_asks, is_last, position_after, start_of};
+use super::common::{
+    EMPTY, NO_ROOM, NOT_YET, ROBOTS, guest_asks, is_last, position_after, start_of,
+};
 use cell_calib::{PressSense, SensorFault};
 use cell_rules::{Bench, Heard, Line, State};
 use cell_stations::{CtlFault, PressCtl, PressProgram};
@@ -81,7 +83,13 @@ fn alone(alloc: Global, start: State, turns: u32) -> Option<Run> {
 
 /// The end of a run in which the robot asks twice after a number of turns, and more turns follow.
 /// A press that stopped in the first turns does nothing in the others.
-fn end_of_visit(alloc: Global, start: State, turns: u32, calls: (Call, Call), more: u32) -> Option<Run> {
+fn end_of_visit(
+    alloc: Global,
+    start: State,
+    turns: u32,
+    calls: (Call, Call),
+    more: u32,
+) -> Option<Run> {
     let mut press = PressCtl::new(&start, PressProgram);
     let mut bench = Bench::new(alloc, start);
     let waits_at = go_on(&mut press, &mut bench, 1000, turns).unwrap_or(0);

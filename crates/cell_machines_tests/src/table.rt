@@ -6,7 +6,9 @@ ghost use Rattle.cell_calib.specs.Line.{IsReading};
 ghost use Rattle.cell_control.specs.Steps.{IsReached};
 ghost use Rattle.cell_stations.specs.TableProgram.{table_steps};
 
-use super::common::{EMPTY, NO_ROOM, NOT_YET, ROBOTS, guest_asks, is_last, position_after, start_of};
+use super::common::{
+    EMPTY, NO_ROOM, NOT_YET, ROBOTS, guest_asks, is_last, position_after, start_of,
+};
 use cell_calib::{Calibration, Gauge, Points, SensorFault, TableSense, line_at};
 use cell_devices::Motor;
 use cell_rules::{Bench, Heard, Line, State};

@@ -93,7 +93,11 @@ fn a_stopped_machine_is_a_failure(rt: HostRuntime) {
 }
 
 /// A configuration with this start and this schedule.
-pub fn config_with_schedule(alloc: Global, start: &str, schedule: &str) -> Result<String, AllocError> {
+pub fn config_with_schedule(
+    alloc: Global,
+    start: &str,
+    schedule: &str,
+) -> Result<String, AllocError> {
     let mut config = String::from_str(alloc, "start = \"")?;
     config.push_str(start)?;
     config.push_str("\"\nschedule = \"")?;

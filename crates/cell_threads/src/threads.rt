@@ -60,14 +60,7 @@ where
         rt,
         move |scope| -> Option<
             (
-                SixResults<
-                    W1::Output,
-                    W2::Output,
-                    W3::Output,
-                    W4::Output,
-                    W5::Output,
-                    W6::Output,
-                >,
+                SixResults<W1::Output, W2::Output, W3::Output, W4::Output, W5::Output, W6::Output>,
                 WorkerResult<H>,
             ),
         >
@@ -148,9 +141,7 @@ fn join_six<R, W1, W2, W3, W4, W5, W6, G>(
         WorkerHandle<W5::Output, W5, G>,
         WorkerHandle<W6::Output, W6, G>,
     >,
-) -> Option<
-    SixResults<W1::Output, W2::Output, W3::Output, W4::Output, W5::Output, W6::Output>,
->
+) -> Option<SixResults<W1::Output, W2::Output, W3::Output, W4::Output, W5::Output, W6::Output>>
 where
     R: Threads,
     W1: Worker,

@@ -6,7 +6,7 @@ ghost use Rattle.word_interlock.specs.Steps.{Loaded, Exchanged, IsReady};
 
 use crate::interlock::Interlock;
 use crate::pass::Pass;
-use crate::rule::{Tells, Telling, View};
+use crate::rule::{Telling, Tells, View};
 use crate::rules::Rules;
 use atomic_table::Seat;
 use std::marker::Brand;
