@@ -4,7 +4,7 @@ use Rattle.word_interlock.specs.Bunches as engine
 use Rattle.cell_interlock.proofs.Instance.{after_here, legal_here, lawful_here, waits_here}
 
 -- the part of a pass in the history
-part_here : (o : ModelState) (h : List Event) (p : EnginePass) (m : Machine) → engine.HasPart cell_book o h (view_of p) → p.actor ≡ m → HasPart o h m (pass_from p)
+pub part_here : (o : ModelState) (h : List Event) (p : EnginePass) (m : Machine) → engine.HasPart cell_book o h (view_of p) → p.actor ≡ m → HasPart o h m (pass_from p)
 part_here o h p m f named = record {
   opened = f.opened;
   seen = subst (λ (k : Machine). Waits k p.seen h) named (waits_here p.actor p.seen h f.seen);

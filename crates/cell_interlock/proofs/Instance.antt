@@ -1,11 +1,18 @@
 -- What the engine says by the rules of the cell, in the words of the cell.
-use Rattle.cell_interlock.proofs.Names.{rules, ◌≡◌, ◌≢◌, ℕ, ◌+◌, ◌≤◌, true, false, List, [], ◌∷◌, Ok, refl, sym, ap, ◌∙◌, subst, Machine, Call, Answer, Done, Shown, Refused, Event, ModelState, reply, next, after, IsLegal, is_done_answer, LawfulThroughout, event, Settles, Waits, SeenAfter, legal-left, cell_book, EnginePass, EngineTry, pass_from, try_from, reply_from, IsSamePass, IsSettled, HasSeenMore, IsUnmade, HasChanges, IsOvertaken, IsPending, IsLost, IsBusy, Replied}
+use Rattle.cell_interlock.proofs.Names.{rules, ◌≡◌, ◌≢◌, ℕ, true, false, List, [], ◌∷◌, Ok, refl, sym, ap, ◌∙◌, subst, Machine, Call, Answer, Done, Shown, Refused, Event, ModelState, reply, next, after, IsLegal, is_done_answer, LawfulThroughout, event, Settles, Waits, SeenAfter, legal-left, cell_book, EnginePass, EngineTry, pass_from, try_from, reply_from, IsSamePass, IsSettled, HasSeenMore, IsUnmade, HasChanges, IsOvertaken, IsPending, IsLost, IsBusy, Told, IsTimed, IsLookTimed, Replied}
 use Rattle.word_interlock.specs.History as engine
 use Rattle.word_interlock.specs.Seen as engine_seen
 use Rattle.word_interlock.specs.Calls as engine_calls
 use Rattle.word_interlock.specs.Tries as engine_tries
+use Rattle.word_interlock.specs.Timing as engine_timing
+use Rattle.word_interlock.specs.Asked as engine_asked
 use Rattle.word_interlock.specs.declared.reply.Reply.{Reply as EngineReply}
 use Rattle.word_interlock.specs.declared.reply.Reply.TheVariants.{Settled as EngineSettled, Busy as EngineBusy}
+use Rattle.word_interlock.specs.declared.tries.Look.{Look as EngineLook}
+use Rattle.word_interlock.specs.declared.tries.Look.TheVariants.{Settled as LookSettled, Pending}
+use Rattle.cell_interlock.specs.declared.rules.CellRules.{CellRules}
+use Rattle.cell_interlock.specs.Looks.{look_from}
+use Rattle.cell_interlock.specs.Tries.{Looked, after_look}
 use Rattle.cell_interlock.proofs.Settled.{lawful_history, settled, replied}
 
 -- ---- histories
@@ -92,6 +99,19 @@ pub pending_here : (v : EnginePass) (c : Call) (most : ℕ) (t : EngineTry) → 
 pending_here v c most t f =
     record { unmade = unmade_here v c t.pass f.unmade; call = f.call; tries = f.tries; lost = f.lost; since = f.since }
 
+-- a look, by its result
+pub looked_here : (v : EnginePass) (c : Call) (most : ℕ) (look : EngineLook CellRules ModelState Machine Call Answer Event) → engine_tries.Looked cell_book v c most look → Looked (pass_from v) c most (look_from look)
+looked_here v c most (LookSettled a stamp w) f = (settled_here v c a stamp w f.0, isnt_done a f.1)
+looked_here v c most (Pending t) f = pending_here v c most t f
+
+pub look_timed_here : (heard : Told) (v : EnginePass) (c : Call) (look : EngineLook CellRules ModelState Machine Call Answer Event) → engine_timing.IsLookTimed cell_book heard v c look → IsLookTimed heard (pass_from v) c (look_from look)
+look_timed_here heard v c (LookSettled a stamp w) f = f
+look_timed_here heard v c (Pending t) f = f
+
+pub pass_after_look : (look : EngineLook CellRules ModelState Machine Call Answer Event) → after_look (look_from look) ≡ pass_from (engine_tries.after_look look)
+pass_after_look (LookSettled a stamp w) = refl
+pass_after_look (Pending t) = refl
+
 pub lost_here : (t u : EngineTry) → engine_tries.IsLost cell_book t u → IsLost (try_from t) (try_from u)
 lost_here t u f = search (rules, unmade_here, changes_here)
 
@@ -100,21 +120,24 @@ busy_here t lost stamp w f = search (rules, more_here, overtaken_here)
 
 -- ---- a whole call
 
--- the clauses of the engine's `ask`
-pub record EngineReplied (v : EnginePass) (c : Call) (tries : ℕ) (r : EngineReply Answer) (w : EnginePass) : Type 0 where
-  pub pass : engine_seen.IsSamePass v w
-  pub lawful : engine.IsLawful cell_book v.opening w.seen
-  pub seen : engine_calls.SeenAfter cell_book v.actor c r v.opening v.seen w.seen
-  pub answer : engine_calls.IfSettled r (λ a. engine_seen.AnswersAtItsPoint cell_book v c a w)
-  pub right : engine_calls.IfSettled r (λ a. engine_seen.WaitsToItsPoint cell_book v c a w)
-  pub busy : engine_calls.IfBusy r (λ lost. engine_seen.IsOvertaken cell_book v v.seen c tries lost w)
-  pub one_load : w.loads ≡ v.loads + 1
-  pub few_exchanges : w.exchanges ≤ v.exchanges + tries
-  pub all_lost : engine_calls.IfBusy r (λ n. w.exchanges ≡ v.exchanges + n)
-  pub since : engine_calls.IfBusy r (engine_seen.HasChanges cell_book v.actor w.since w.seen)
+pub timed_here : (heard : Told) (v : EnginePass) (c : Call) (r : EngineReply Answer) (w : EnginePass) → engine_timing.IsTimed cell_book heard v c r w → IsTimed heard (pass_from v) c (reply_from r) (pass_from w)
+timed_here heard v c (EngineSettled a stamp) w f = f
+timed_here heard v c (EngineBusy lost stamp) w f = f
 
-pub replied_here : (v : EnginePass) (c : Call) (tries : ℕ) (r : EngineReply Answer) (w : EnginePass) → EngineReplied v c tries r w → Replied (pass_from v) c tries (reply_from r) (pass_from w)
-replied_here v c tries (EngineSettled a stamp) w f =
+pub replied_here : (heard : Told) (v : EnginePass) (c : Call) (tries : ℕ) (r : EngineReply Answer) (w : EnginePass) → engine_asked.Asked cell_book heard v c tries r w → Replied heard (pass_from v) c tries (reply_from r) (pass_from w)
+replied_here heard v c tries (EngineSettled a stamp) w f =
     let s = settled_here v c a stamp w record { pass = f.pass; lawful = f.lawful; seen = f.seen.0; stamped = f.seen.1; answer = f.answer; right = f.right } in
-    replied (pass_from v) (pass_from w) c tries a stamp s f.one_load f.few_exchanges
-replied_here v c tries (EngineBusy lost stamp) w f = search (rules, same_here, lawful_here, waits_here, overtaken_here, changes_here)
+    replied heard (pass_from v) (pass_from w) c tries a stamp s f.one_load f.few_exchanges f.real_time
+replied_here heard v c tries (EngineBusy lost stamp) w f = record {
+  pass = same_here v w f.pass;
+  lawful = lawful_here v.opening w.seen f.lawful;
+  seen = seen_here v.actor c (EngineBusy lost stamp) v.opening v.seen w.seen f.seen;
+  answer = tt;
+  right = tt;
+  busy = overtaken_here v v.seen c tries lost w f.busy;
+  one_load = f.one_load;
+  few_exchanges = f.few_exchanges;
+  all_lost = f.all_lost;
+  since = changes_here v.actor w.since w.seen lost f.since;
+  real_time = f.real_time;
+}

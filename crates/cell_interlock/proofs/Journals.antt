@@ -30,10 +30,10 @@ pub entry-busy : (v w : PassView) → IsSamePass v w → Waits v.machine v.seen 
 entry-busy v w same waits = same_journal v w same ∙ noted-waits v.opening v.machine v.seen w.seen waits
 
 -- likewise for a line's call
-pub journal-settled : (v w : PassView) (c : Call) (tries : ℕ) (a : Answer) (stamp : ℕ) → Replied v c tries (Settled a stamp) w → journal_by w ≡ journal_by v ++ record { call = c; answer = a; stamp = stamp } ∷ []
+pub journal-settled : (v w : PassView) (c : Call) (tries : ℕ) (a : Answer) (stamp : ℕ) → Replied [] v c tries (Settled a stamp) w → journal_by w ≡ journal_by v ++ record { call = c; answer = a; stamp = stamp } ∷ []
 journal-settled v w c tries a stamp f = entry-settled v w c a stamp f.pass f.seen
 
-pub journal-busy : (v w : PassView) (c : Call) (tries lost stamp : ℕ) → Replied v c tries (Busy lost stamp) w → journal_by w ≡ journal_by v
+pub journal-busy : (v w : PassView) (c : Call) (tries lost stamp : ℕ) → Replied [] v c tries (Busy lost stamp) w → journal_by w ≡ journal_by v
 journal-busy v w c tries lost stamp f = entry-busy v w f.pass f.seen.0
 
 -- ---- the invariant of a line

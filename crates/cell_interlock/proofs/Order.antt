@@ -1,7 +1,8 @@
 -- Receipts put calls in order.
-use Rattle.cell_interlock.proofs.Names.{◌≡◌, ℕ, List, Ok, refl, sym, ap, ◌∙◌, subst, Machine, Call, Answer, Event, Reply, Settled, Busy, ModelState, after, IsLegal, is_done_answer, event, BeginsWith, SeenAfter, cell_book, reply_from, IfSettled, IsStampedAfter, stamp_in, StandsBefore, ReceiptsOrderCalls, ReceiptsRaiseStamps}
+use Rattle.cell_interlock.proofs.Names.{◌≡◌, ℕ, List, Ok, refl, sym, ap, ◌∙◌, subst, Machine, Call, Answer, Event, Reply, Settled, Busy, ModelState, after, IsLegal, is_done_answer, event, BeginsWith, SeenAfter, cell_book, reply_from, IfSettled, IsStampedAfter, stamp_in, StandsBefore, ReceiptsOrderCalls, ReceiptsRaiseStamps, Moments}
 use Rattle.word_interlock.specs.Calls as engine_calls
 use Rattle.word_interlock.specs.Order as engine_order
+use Rattle.word_interlock.specs.Timing.{BeginsAfter}
 use Rattle.word_interlock.specs.declared.reply.Reply.{Reply as EngineReply}
 use Rattle.word_interlock.specs.declared.reply.Reply.TheVariants.{Settled as EngineSettled, Busy as EngineBusy}
 use Rattle.word_interlock.proofs.Ordering as engine
@@ -30,6 +31,10 @@ pub order_here : (x y : EngineReply Answer) (m n : Machine) (c d : Call) (seen n
 order_here (EngineSettled a s) (EngineSettled b t) m n c d seen now f = before_here seen (event m c a) (event n d b) now f
 order_here (EngineSettled a s) (EngineBusy l t) m n c d seen now f = tt
 order_here (EngineBusy l s) y m n c d seen now f = tt
+
+pub began_here : (x : EngineReply Answer) (m : Machine) (c : Call) (n : Machine) (moments : Moments) → engine_calls.IfSettled x (λ a. BeginsAfter (event m c a) n moments) → IfSettled (reply_from x) (λ a. BeginsAfter (event m c a) n moments)
+began_here (EngineSettled a s) m c n moments f = f
+began_here (EngineBusy l s) m c n moments f = tt
 
 pub stamps_here : (x y : EngineReply Answer) → engine_calls.IsStampedAfter cell_book (engine_calls.stamp_in x) y → IsStampedAfter (stamp_in (reply_from x)) (reply_from y)
 stamps_here (EngineSettled a s) (EngineSettled b t) f = (f.0, λ done. f.1 (ap is_done_answer done))

@@ -1,12 +1,17 @@
 -- The examples of what a call may and may not leave of its pass.
-use Rattle.cell_interlock.proofs.Names.{◌≡◌, ℕ, ◌+◌, ◌<◌, ◌≤◌, true, List, [], ◌∷◌, ◌++◌, length, None, inr, refl, sym, ap, ◌∙◌, arith, same_from_push, Machine, Feed, Table, Press, Watch, Zone, Z3, Release, Stop, Done, Refused, Stopped, Event, ModelState, IsSound, IsLegal, Holds, changes_by_others, LawfulThroughout, needs, Waits, zone_at, PassView, InterlockView, IsSettled, HasSeenMore, HasChanges, StandsBefore, Passes}
+use Rattle.cell_interlock.proofs.Names.{◌≡◌, ℕ, ◌+◌, ◌<◌, ◌≤◌, true, List, [], ◌∷◌, ◌++◌, length, None, inr, refl, sym, ap, ◌∙◌, arith, same_from_push, Machine, Feed, Table, Press, Watch, Zone, Z3, Release, Stop, Done, Refused, Stopped, Event, ModelState, IsSound, IsLegal, Holds, changes_by_others, LawfulThroughout, needs, Waits, zone_at, PassView, InterlockView, IsSettled, HasSeenMore, HasChanges, StandsBefore, Passes, inl, subst, append-nil, cell_book, Moments, Lasts}
 use Rattle.atomic_table.specs.Seated.{TableId}
+use Rattle.word_interlock.specs.History.{BeginsWith}
+use Rattle.word_interlock.specs.Moments.{events_of, own_moments}
+use Rattle.word_interlock.specs.declared.views.Moment.TheVariants.{Begins, Answered}
+use Rattle.word_interlock.proofs.Moments.{no_end, rest_of, none_begun}
+use Rattle.cell_interlock.specs.BookKept.{cell_is_rule_book}
 use Rattle.cell_rules.specs.declared.zones.ZoneState.{ZoneState}
 use Rattle.cell_rules.proofs.Lawful.{lawful_in, sound_from}
 use Rattle.cell_rules.proofs.Puts.{each_zone}
 use Rattle.cell_rules.proofs.Quiet.{changes-append}
 use Rattle.cell_interlock.specs.Fresh.{IsFresh, AreFresh}
-use Rattle.cell_interlock.specs.OutcomeExamples.{opened, claim, claimed, released, by_feed, again_by_feed, by_table, by_robot, by_watch, barred, press_pass, watch_pass, after_claim, AskExamples, LookExamples, AttemptExamples, MoreExamples, ChangeExamples, AnswerExamples, OrderExamples, StampExamples, ReceiptExamples, FreshExamples, LineExamples, OutcomeExamples}
+use Rattle.cell_interlock.specs.OutcomeExamples.{opened, claim, claimed, released, by_feed, again_by_feed, by_table, by_robot, by_watch, barred, press_pass, watch_pass, before, after_claim, lost_both, AskExamples, LookExamples, AttemptExamples, MoreExamples, ChangeExamples, AnswerExamples, OrderExamples, StampExamples, ReceiptExamples, FreshExamples, LineExamples, OutcomeExamples}
 use Rattle.cell_interlock.proofs.Settled.{lawful_history, settled, replied}
 
 sound : IsSound opened
@@ -36,8 +41,8 @@ claim_done : (t : TableId) (l x : ℕ) → IsSettled (press_pass t [] [] l x) cl
 claim_done t l x = settled (press_pass t [] [] l x) (after_claim t) claim Done 1 [] sound tt saw_nothing (record { table = refl; opening = refl; machine = refl }) refl refl refl
 
 -- a stop that is Done
-stop_done : (t : TableId) → IsSettled (watch_pass t [] 3 5) Stop Done 1 (watch_pass t (by_watch ∷ []) 4 6)
-stop_done t = settled (watch_pass t [] 3 5) (watch_pass t (by_watch ∷ []) 4 6) Stop Done 1 [] sound tt (record { begins = ([], refl); own = refl }) (record { table = refl; opening = refl; machine = refl }) refl refl refl
+stop_done : (t : TableId) → IsSettled (watch_pass t [] 3 5) Stop Done 1 (record (watch_pass t (by_watch ∷ []) 4 6) { moments = Begins Watch ∷ Answered by_watch ∷ [] })
+stop_done t = settled (watch_pass t [] 3 5) (record (watch_pass t (by_watch ∷ []) 4 6) { moments = Begins Watch ∷ Answered by_watch ∷ [] }) Stop Done 1 [] sound tt (record { begins = ([], refl); own = refl }) (record { table = refl; opening = refl; machine = refl }) refl refl refl
 
 -- a claim that is refused after the stop
 claim_barred : (t : TableId) → IsSettled (press_pass t [] [] 4 5) claim (Refused Stopped) 1 (press_pass t (by_watch ∷ barred ∷ []) [] 4 6)
@@ -54,10 +59,36 @@ both_by_feed = record { more = by_feed ∷ again_by_feed ∷ []; is = refl; many
 
 -- ---- a whole call
 
+-- a call of a pass that has seen nothing, whose load found nothing
+alone : (v w : PassView) (between last : Moments) → v.moments ≡ [] → v.seen ≡ [] → w.moments ≡ (Begins v.machine ∷ between) ++ last → own_moments cell_book between v.machine ≡ [] → w.seen ≡ events_of w.moments → w.since ≡ [] → Lasts [] v last w
+alone v w between last none unseen is quiet seen since = record {
+  first = [];
+  between = between;
+  is = is;
+  begins = subst (λ (l : Moments). BeginsWith [] l) (sym none) ([], refl);
+  had_seen = subst (λ (l : List Event). BeginsWith [] l) (sym unseen) ([], refl);
+  told = tt;
+  shown = tt;
+  own_first = ap (λ (l : Moments). own_moments cell_book l v.machine) (sym none);
+  own_between = quiet;
+  seen = seen;
+  load = inl since;
+}
+
+-- the feed belt's beginning isn't the press's
+another : (first between : Moments) → Begins Feed ∷ [] ≡ first ++ Begins Press ∷ between → ⊥
+another [] between e = cc
+another (x ∷ first) between e = no_end first (Begins Press) between (ap rest_of e)
+
+abbrev by_feed_alone : Moments
+by_feed_alone = Begins Feed ∷ Answered by_feed ∷ Begins Feed ∷ Answered again_by_feed ∷ []
+
 ask : (t : TableId) → AskExamples t
 ask t = record {
-  done = replied _ _ _ _ _ _ (claim_done t 3 5) refl (omega arith);
-  stops = replied _ _ _ _ _ _ (stop_done t) refl (omega arith);
+  done = replied [] _ _ _ _ _ _ (claim_done t 3 5) refl (omega arith) (alone (before t) (after_claim t) [] (Answered claimed ∷ []) refl refl refl refl refl refl);
+  stops = replied [] _ _ _ _ _ _ (stop_done t) refl (omega arith) (alone (watch_pass t [] 3 5) (record (watch_pass t (by_watch ∷ []) 4 6) { moments = Begins Watch ∷ Answered by_watch ∷ [] }) [] (Answered by_watch ∷ []) refl refl refl refl refl refl);
+  no_beginning = λ r. no_end r.real_time.first (Begins Press) r.real_time.between (same_from_push [] (r.real_time.first ++ Begins Press ∷ r.real_time.between) (Answered claimed) (Answered claimed) r.real_time.is).0;
+  begun_by_another = λ r. another r.real_time.first r.real_time.between (same_from_push (Begins Feed ∷ []) (r.real_time.first ++ Begins Press ∷ r.real_time.between) (Answered claimed) (Answered claimed) r.real_time.is).0;
   other_table = λ u apart r. apart r.pass.table;
   other_opening = λ r. let e : 7 ≡ 0 = ap (λ (s : ModelState). s.stamp) r.pass.opening in omega arith;
   other_machine = λ r. let e = r.pass.machine in cc;
@@ -70,7 +101,7 @@ ask t = record {
   two_loads = λ r. let e : 5 ≡ 4 = r.one_load in omega arith;
   three_exchanges = λ r. let e : 8 ≤ 7 = r.few_exchanges in omega arith;
   busy = (let m = more t [] (by_feed ∷ again_by_feed ∷ []) [] 3 5 4 7 (refl, (refl, tt)) (record { begins = (by_feed ∷ again_by_feed ∷ [], refl); own = refl }) in record {
-    pass = m.pass;
+    pass = record { table = refl; opening = refl; machine = refl };
     lawful = m.lawful;
     seen = (m.seen, refl);
     answer = tt;
@@ -80,7 +111,9 @@ ask t = record {
     few_exchanges = omega arith;
     all_lost = refl;
     since = both_by_feed;
+    real_time = alone (before t) (lost_both t) by_feed_alone [] refl refl refl refl refl refl;
   });
+  busy_without_a_beginning = λ r. none_begun cell_book cell_is_rule_book Press by_feed_alone refl r.real_time.first r.real_time.between (r.real_time.is ∙ append-nil (r.real_time.first ++ Begins Press ∷ r.real_time.between));
   busy_with_other_stamp = λ r. let e : 1 ≡ 2 = r.seen.1 in omega arith;
   busy_with_an_event = λ r. let e : 1 ≡ 0 = ap length r.seen.0.own in omega arith;
   busy_after_one_exchange = λ r. let e : 6 ≡ 7 = r.all_lost in omega arith;
@@ -133,7 +166,7 @@ attempt t = record {
   lost_last = λ r. let e : 2 < 2 = r.room in omega arith;
   no_change = λ r. let e : 1 ≤ 0 = counted _ _ _ _ r.changed in omega arith;
   busy = record {
-    more = more t (by_feed ∷ []) (by_feed ∷ again_by_feed ∷ []) [] 4 6 4 7 (refl, (refl, tt)) (record { begins = (again_by_feed ∷ [], refl); own = refl });
+    more = (let m = more t (by_feed ∷ []) (by_feed ∷ again_by_feed ∷ []) [] 4 6 4 7 (refl, (refl, tt)) (record { begins = (again_by_feed ∷ [], refl); own = refl }) in record { pass = record { table = refl; opening = refl; machine = refl }; lawful = m.lawful; seen = m.seen });
     stamped = refl;
     last = refl;
     overtaken = record { all_lost = refl; ready = refl; changed = both_by_feed };
@@ -223,7 +256,7 @@ stamps = record {
 }
 
 receipts : (t : TableId) → ReceiptExamples t
-receipts t = record { seen = refl }
+receipts t = record { seen = refl; tells = refl }
 
 -- ---- a new interlock
 

@@ -1,5 +1,5 @@
 -- A call that was answered after a legal history.
-use Rattle.cell_interlock.proofs.Names.{◌≡◌, ◌≤◌, ◌+◌, ℕ, List, [], ◌∷◌, ◌++◌, sym, ap, ◌∙◌, subst, append_cancel_right, Machine, Call, Answer, Event, Settled, ModelState, IsSound, reply, after, IsLegal, own_events, Lawful, LawfulThroughout, event, Settles, Waits, KeepsItsOwn, throughout, legal-append, own-push, waits-foreign, PassView, IsSamePass, IsSettled, Replied}
+use Rattle.cell_interlock.proofs.Names.{◌≡◌, ◌≤◌, ◌+◌, ℕ, List, [], ◌∷◌, ◌++◌, sym, ap, ◌∙◌, subst, append_cancel_right, Machine, Call, Answer, Event, Settled, ModelState, IsSound, reply, after, IsLegal, own_events, Lawful, LawfulThroughout, event, Settles, Waits, KeepsItsOwn, throughout, legal-append, own-push, waits-foreign, PassView, IsSamePass, IsSettled, Told, IsTimed, Replied}
 use Rattle.cell_rules.specs.Laws.{RightLasts}
 use Rattle.cell_rules.proofs.Assembly.{lawful}
 use Rattle.cell_rules.proofs.Keepers.{right_lasts}
@@ -49,9 +49,9 @@ settled v w c a stamp h k l waits same ends right stamped =
     }
 
 -- it is a whole call, if it took one load and few exchanges
-pub replied : (v w : PassView) (c : Call) (tries : ℕ) (a : Answer) (stamp : ℕ) → IsSettled v c a stamp w → w.loads ≡ v.loads + 1 → w.exchanges ≤ v.exchanges + tries → Replied v c tries (Settled a stamp) w
-replied v w c tries a stamp s load few =
-    record { pass = s.pass; lawful = s.lawful; seen = (s.seen, s.stamped); answer = s.answer; right = s.right; busy = tt; one_load = load; few_exchanges = few; all_lost = tt; since = tt }
+pub replied : (heard : Told) (v w : PassView) (c : Call) (tries : ℕ) (a : Answer) (stamp : ℕ) → IsSettled v c a stamp w → w.loads ≡ v.loads + 1 → w.exchanges ≤ v.exchanges + tries → IsTimed heard v c (Settled a stamp) w → Replied heard v c tries (Settled a stamp) w
+replied heard v w c tries a stamp s load few time =
+    record { pass = s.pass; lawful = s.lawful; seen = (s.seen, s.stamped); answer = s.answer; right = s.right; busy = tt; one_load = load; few_exchanges = few; all_lost = tt; since = tt; real_time = time }
 
 -- at the point of its call the machine has made only the events that it had made before
 pub point_waits : (m : Machine) (c : Call) (a : Answer) (before now : List Event) (t : Settles m c a before now) → Waits m before t.point

@@ -19,7 +19,7 @@ abbrev pub EngineInterlock : Type 0
 EngineInterlock = engine.InterlockView CellRules ModelState
 
 abbrev pub EngineReceipt : Type 0
-EngineReceipt = engine.ReceiptView ModelState Event
+EngineReceipt = engine.ReceiptView ModelState Machine Event
 
 abbrev pub EngineTry : Type 0
 EngineTry = engine.TryView CellRules ModelState Machine Call Event
@@ -33,13 +33,28 @@ pass_from p = record {
   since = p.since;
   loads = p.loads;
   exchanges = p.exchanges;
+  moments = p.moments;
+}
+
+-- the engine's view of a pass
+abbrev pub pass_to : PassView → EnginePass
+pass_to v = record {
+  table = v.table;
+  rules = record {};
+  opening = v.opening;
+  actor = v.machine;
+  seen = v.seen;
+  since = v.since;
+  loads = v.loads;
+  exchanges = v.exchanges;
+  moments = v.moments;
 }
 
 abbrev pub interlock_from : EngineInterlock → InterlockView
 interlock_from i = record { table = i.table; opening = i.opening; tries = i.tries }
 
 abbrev pub receipt_from : EngineReceipt → ReceiptView
-receipt_from r = record { table = r.table; opening = r.opening; seen = r.seen }
+receipt_from r = record { table = r.table; opening = r.opening; seen = r.seen; moments = r.moments }
 
 abbrev pub try_from : EngineTry → TryView
 try_from t = record { pass = pass_from t.pass; call = t.call; lost = t.lost; tries = t.tries }

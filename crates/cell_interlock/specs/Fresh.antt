@@ -8,7 +8,16 @@ use Rattle.cell_interlock.specs.declared.pass.Passes.{Passes}
 -- the pass of a machine that has seen nothing and made no step yet
 abbrev pub fresh_pass : InterlockView → Machine → PassView
 fresh_pass i m =
-    record { table = i.table; opening = i.opening; machine = m; seen = []; since = []; loads = 0; exchanges = 0 }
+    record {
+      table = i.table;
+      opening = i.opening;
+      machine = m;
+      seen = [];
+      since = [];
+      loads = 0;
+      exchanges = 0;
+      moments = [];
+    }
 
 abbrev pub IsFresh : InterlockView → Machine → PassView → Type 0
 IsFresh i m p = p ≡ fresh_pass i m

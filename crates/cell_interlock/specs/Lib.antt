@@ -2,11 +2,15 @@ pub mod Book
 pub mod BookKept
 pub mod Views
 pub mod Engine
+pub mod Looks
 pub mod Fresh
 pub mod Seen
 pub mod Calls
 pub mod Order
 pub mod Tries
-pub mod Lines
 pub mod Ends
+pub mod Timing
+pub mod Lines
+pub mod Settling
+pub mod One
 pub mod OutcomeExamples

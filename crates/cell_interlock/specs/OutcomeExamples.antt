@@ -18,6 +18,8 @@ use Rattle.cell_rules.specs.ModelState.{ModelState, model_state}
 use Rattle.cell_rules.specs.Start.{start_state}
 use Rattle.cell_rules.specs.Seen.{event}
 use Rattle.cell_rules.specs.declared.heard.LineFault.TheVariants.{Memory}
+use Rattle.word_interlock.specs.declared.views.Moment.TheVariants.{Begins, Answered}
+use Rattle.cell_interlock.specs.Timing.{told_by}
 use Rattle.cell_interlock.specs.Views.{PassView, InterlockView, TryView, receipt_of}
 use Rattle.cell_interlock.specs.Fresh.{AreFresh}
 use Rattle.cell_interlock.specs.Seen.{AnswersAtItsPoint, LastingRight, HasSeenMore, HasChanges}
@@ -79,6 +81,7 @@ press_pass t seen since loads exchanges = record {
   since = since;
   loads = loads;
   exchanges = exchanges;
+  moments = [];
 }
 
 -- the pass before the call; after a claim that is Done; after a look that leaves it pending; after its first lost
@@ -87,7 +90,7 @@ abbrev pub before : TableId → PassView
 before t = press_pass t [] [] 3 5
 
 abbrev pub after_claim : TableId → PassView
-after_claim t = press_pass t (claimed ∷ []) [] 4 6
+after_claim t = record (press_pass t (claimed ∷ []) [] 4 6) { moments = Begins Press ∷ Answered claimed ∷ [] }
 
 abbrev pub looked : TableId → PassView
 looked t = press_pass t [] [] 4 5
@@ -96,7 +99,10 @@ abbrev pub lost_one : TableId → PassView
 lost_one t = press_pass t (by_feed ∷ []) [] 4 6
 
 abbrev pub lost_both : TableId → PassView
-lost_both t = press_pass t (by_feed ∷ again_by_feed ∷ []) [] 4 7
+lost_both t =
+    record (press_pass t (by_feed ∷ again_by_feed ∷ []) [] 4 7) {
+      moments = Begins Press ∷ Begins Feed ∷ Answered by_feed ∷ Begins Feed ∷ Answered again_by_feed ∷ [];
+    }
 
 -- the watch's pass
 abbrev pub watch_pass : TableId → List Event → ℕ → ℕ → PassView
@@ -105,7 +111,7 @@ watch_pass t seen loads exchanges = record (press_pass t seen [] loads exchanges
 -- ---- a whole call
 
 abbrev pub Claims : PassView → Reply → PassView → Type 0
-Claims v reply w = Replied v claim 2 reply w
+Claims v reply w = Replied [] v claim 2 reply w
 
 pub record AskExamples (t : TableId) : Type 0 where
   pub done : Claims (before t) (Settled Done 1) (after_claim t)
@@ -120,7 +126,12 @@ pub record AskExamples (t : TableId) : Type 0 where
   pub no_load : ¬ Claims (before t) (Settled Done 1) (record (after_claim t) { loads = 3 })
   pub two_loads : ¬ Claims (before t) (Settled Done 1) (record (after_claim t) { loads = 5 })
   pub three_exchanges : ¬ Claims (before t) (Settled Done 1) (record (after_claim t) { exchanges = 8 })
-  pub stops : Replied (watch_pass t [] 3 5) Stop 2 (Settled Done 1) (watch_pass t (by_watch ∷ []) 4 6)
+  pub stops :
+      Replied [] (watch_pass t [] 3 5) Stop 2 (Settled Done 1)
+      (record (watch_pass t (by_watch ∷ []) 4 6) { moments = Begins Watch ∷ Answered by_watch ∷ [] })
+  pub no_beginning : ¬ Claims (before t) (Settled Done 1) (record (after_claim t) { moments = Answered claimed ∷ [] })
+  pub begun_by_another :
+      ¬ Claims (before t) (Settled Done 1) (record (after_claim t) { moments = Begins Feed ∷ Answered claimed ∷ [] })
   pub busy : Claims (before t) (Busy 2 2) (lost_both t)
   pub busy_with_other_stamp : ¬ Claims (before t) (Busy 2 1) (lost_both t)
   pub busy_with_an_event :
@@ -129,6 +140,9 @@ pub record AskExamples (t : TableId) : Type 0 where
   pub busy_having_lost_one : ¬ Claims (before t) (Busy 1 2) (record (lost_both t) { exchanges = 6 })
   pub busy_though_refused : ¬ Claims (before t) (Busy 2 2) (record (lost_both t) { seen = by_feed ∷ by_robot ∷ [] })
   pub busy_by_changes_seen_before : ¬ Claims (press_pass t (by_feed ∷ []) [] 3 5) (Busy 2 2) (lost_both t)
+  pub busy_without_a_beginning :
+      ¬ Claims (before t) (Busy 2 2)
+      (record (lost_both t) { moments = Begins Feed ∷ Answered by_feed ∷ Begins Feed ∷ Answered again_by_feed ∷ [] })
   pub busy_by_changes_before_its_load : ¬ Claims (before t) (Busy 2 2) (record (lost_both t) { since = by_feed ∷ [] })
 
 -- ---- single steps
@@ -237,9 +251,19 @@ pub record StampExamples : Type 0 where
   pub busy : IsStampedAfter 2 (Busy 1 2)
   pub busy_with_lower_stamp : ¬ IsStampedAfter 2 (Busy 1 1)
 
--- a receipt tells all that its pass has seen
+-- a receipt tells all that its pass has seen, and its moments
 pub record ReceiptExamples (t : TableId) : Type 0 where
-  pub seen : receipt_of (after_claim t) ≡ record { table = t; opening = opened; seen = claimed ∷ [] }
+  pub seen : receipt_of (after_claim t) ≡ record {
+    table = t;
+    opening = opened;
+    seen = claimed ∷ [];
+    moments = Begins Press ∷ Answered claimed ∷ [];
+  }
+  pub tells : told_by (receipt_of (after_claim t)) ≡ record {
+    opening = opened;
+    seen = claimed ∷ [];
+    moments = Begins Press ∷ Answered claimed ∷ [];
+  }
 
 -- ---- a new interlock
 
@@ -257,6 +281,7 @@ pub record FreshExamples (i : InterlockView) (p : Passes) : Type 0 where
         since = [];
         loads = 0;
         exchanges = 0;
+        moments = [];
       }
   pub deposit : p.deposit.machine ≡ Deposit
   pub crane : p.crane.machine ≡ Crane

@@ -1,5 +1,6 @@
 //! The end of an interlock.
 ghost use Rattle.cell_interlock.specs.Ends.{ArePassesOf, IsEnd};
+ghost use Rattle.cell_interlock.specs.Timing.{IsRun};
 
 use crate::interlock::Interlock;
 use crate::pass::Passes;
@@ -16,12 +17,15 @@ pub struct Ended {
 impl Interlock {
     /// Ends an interlock. Its seven passes have come back, so nobody calls any more. The state that
     /// it leaves is the one after one legal history, which begins with what each pass has seen, and
-    /// has no other event of that pass's machine.
+    /// has no other event of that pass's machine (`end`). It is the events of one list of moments, in
+    /// which each comes after the beginning of its call, with each pass's own moments (`run`; what
+    /// follows for calls that don't overlap: `laws::runs_keep_order`).
     ///
     /// The passes were made with this interlock, and each is in its machine's field.
     pub fn close(self, passes: Passes) -> Ended
         requires own { ArePassesOf self passes }
         ensures end { IsEnd self.opening passes result.state }
+        ensures run { IsRun self.opening passes result.state }
     {
         let Interlock { inner } = self;
         let Passes {

@@ -1,6 +1,11 @@
 //! Laws of the calls' own definitions: functions that do nothing. A function's contract is its law.
+ghost use Rattle.cell_interlock.specs.Book.{cell_book};
+ghost use Rattle.cell_interlock.specs.One.{HistoryIsOne};
 ghost use Rattle.cell_interlock.specs.Order.{ReceiptsOrderCalls, ReceiptsRaiseStamps};
 ghost use Rattle.cell_interlock.specs.OutcomeExamples.{OutcomeExamples};
+ghost use Rattle.cell_interlock.specs.Settling.{BusyIsPaid};
+ghost use Rattle.cell_interlock.specs.declared.rules.CellRules.{CellRules};
+ghost use Rattle.word_interlock.specs.Run.{CallsFollowReceipts, RunsKeepOrder};
 
 /// Examples of what a call may and may not leave of its pass: a whole call, its single steps, a
 /// meeting, calls in order, and a line.
@@ -14,4 +19,29 @@ pub fn outcomes_are_known()
 pub fn receipts_order_calls()
     ensures order { ReceiptsOrderCalls }
     ensures stamps { ReceiptsRaiseStamps }
+{}
+
+/// A call that is asked after a receipt (`Interlock::ask_after`) begins after the event of each call
+/// that was answered before the receipt was taken.
+pub fn calls_follow_receipts()
+    ensures { CallsFollowReceipts CellRules cell_book }
+{}
+
+/// In a run (`Interlock::close`) each event is that of one call, which began before it. Of two calls
+/// that don't overlap, the earlier one stands first in the history.
+pub fn runs_keep_order()
+    ensures { RunsKeepOrder cell_book }
+{}
+
+/// At every time the history of the rule is empty, or one of the seven callers has seen it whole. So
+/// it is one history, which grows as what they have seen; likewise the moments.
+pub fn history_is_one()
+    ensures { HistoryIsOne }
+{}
+
+/// However many calls a pass makes: as often as one was Busy, other machines made `tries` changes,
+/// and raised the stamp by as many. So over one interlock the Busy answers of a machine times
+/// `tries` are at most 1,048,575.
+pub fn busy_is_paid()
+    ensures { BusyIsPaid }
 {}

@@ -11,6 +11,7 @@ pub mod pass;
 pub mod pass_line;
 pub mod receipt;
 pub mod rules;
+pub mod settle;
 mod survey;
 mod tell;
 pub mod tries;

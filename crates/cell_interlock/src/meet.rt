@@ -18,6 +18,8 @@ impl Interlock {
         ensures left { HasSeenMore left result.0 }
         ensures right { HasSeenMore right result.1 }
         ensures same { result.0.seen ≡ result.1.seen }
+        ensures left_moments { result.0.moments ≡ left.moments }
+        ensures right_moments { result.1.moments ≡ right.moments }
         ensures left_load { result.0.loads ≡ left.loads + 1 }
         ensures right_load { result.1.loads ≡ right.loads + 1 }
         ensures left_exchanges { result.0.exchanges ≡ left.exchanges }

@@ -54,8 +54,8 @@ impl Interlock {
     }
 
     /// Accepts a receipt: afterwards the pass has seen all that the receipt tells (`told`), and what
-    /// it had seen. It has no new event of its machine (`more`). No call is made: this is one
-    /// load.
+    /// it had seen. It has no new event of its machine (`more`), and its moments stay (`moments`). No
+    /// call is made: this is one load. A call by `ask_after` needs no such load.
     ///
     /// The pass was made with this interlock, and so was the receipt's.
     pub fn accept(&self, pass: &mut Pass, receipt: Receipt)
@@ -64,6 +64,7 @@ impl Interlock {
         ensures more { HasSeenMore pass.old pass.new }
         ensures told { BeginsWith pass.new.seen receipt.seen }
         ensures opening { receipt.opening ≡ pass.old.opening }
+        ensures moments { pass.new.moments ≡ pass.old.moments }
         ensures one_load { pass.new.loads ≡ pass.old.loads + 1 }
         ensures no_exchange { pass.new.exchanges ≡ pass.old.exchanges }
     {

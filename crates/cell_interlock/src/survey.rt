@@ -17,6 +17,7 @@ impl Interlock {
         requires same_interlock { pass.old.table ≡ self.now.table }
         ensures more { HasSeenMore pass.old pass.new }
         ensures state { result ≡ after pass.new.opening pass.new.seen }
+        ensures moments { pass.new.moments ≡ pass.old.moments }
         ensures one_load { pass.new.loads ≡ pass.old.loads + 1 }
         ensures no_exchange { pass.new.exchanges ≡ pass.old.exchanges }
     {

@@ -5,6 +5,7 @@ ghost use Rattle.cell_rules.specs.Seen.{event, SeenAfter};
 ghost use Rattle.cell_interlock.specs.Calls.{IfSettled, IsStampedAfter, stamp_in};
 ghost use Rattle.cell_interlock.specs.Seen.{IsSamePass};
 ghost use Rattle.cell_interlock.specs.Order.{StandsBefore};
+ghost use Rattle.word_interlock.specs.Timing.{BeginsAfter};
 
 use crate::calls::reply_of;
 use crate::interlock::Interlock;
@@ -13,12 +14,15 @@ use cell_types::{Call, Reply};
 
 impl Interlock {
     /// Two calls in order, by a receipt: the first caller makes a call and takes a receipt; the
-    /// second accepts it and makes its own call. If both calls are answered, the first one's event
+    /// second makes its own call after that. If both calls are answered, the first one's event
     /// stands before the second one's in what the second caller then sees (`order`). The second
-    /// gets no lower stamp than the first, and a higher one if its call is Done (`stamps`).
+    /// gets no lower stamp than the first, and a higher one if its call is Done (`stamps`). If the
+    /// first is answered, the second begins after its event, whatever comes back from it
+    /// (`began_after`).
     ///
-    /// Both passes were made with this interlock. Between these four steps any others may come, and
-    /// the receipt may go from thread to thread: `laws::receipts_order_calls`.
+    /// Both passes were made with this interlock. Between these three steps any others may come, and
+    /// the receipt may go from thread to thread: `laws::receipts_order_calls`,
+    /// `laws::calls_follow_receipts`.
     pub fn tell(
         &self,
         first: &mut Pass,
@@ -38,6 +42,8 @@ impl Interlock {
             StandsBefore first.old.seen (event first.old.machine call a)
             (event second.old.machine next b) second.new.seen)) }
         ensures stamps { IsStampedAfter (stamp_in result.0) result.1 }
+        ensures began_after { IfSettled result.0 (λ a. BeginsAfter
+            (event first.old.machine call a) second.old.machine second.new.moments) }
     {
         let (answer, later) = self
             .inner

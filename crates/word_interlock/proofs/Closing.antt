@@ -7,7 +7,10 @@ use Rattle.word_interlock.specs.RuleBook.{RuleBook, IsRuleBook}
 use Rattle.word_interlock.specs.History.{after, IsLawful}
 use Rattle.word_interlock.specs.declared.views.ActorView.{ActorView}
 use Rattle.word_interlock.specs.declared.views.SeatView.{SeatView}
-use Rattle.word_interlock.specs.Rule.{new_view, actor_alone, all_views, first_off, others_of, but_first, together, AllFit, WordTellsHistory, IsSeat}
+use Rattle.word_interlock.specs.Rule.{new_view, all_views, first_off, others_of, but_first, AllFit, WordTellsHistory, IsSeat}
+use Rattle.word_interlock.specs.declared.views.Moment.{Moment}
+use Rattle.word_interlock.specs.Moments.{events_of, AreCalls, AreInTime}
+use Rattle.word_interlock.specs.Run.{IsRun}
 use Rattle.word_interlock.specs.Bunches.{IsNext, bunch, AllLawful, IsBunch, AllHavePart, IsEnd}
 use Rattle.word_interlock.proofs.Histories.{sound-after}
 
@@ -59,6 +62,10 @@ module _ {R S M C A E : Type 0} (b : RuleBook S M C A E) (law : IsRuleBook b) (r
     pub sound : b.is_sound (after b o history)
     pub found : b.packed (after b o history) ≡ word
     pub parts : AllHavePart b o history actors
+    pub moments : List (Moment M E)
+    pub events : events_of moments ≡ history
+    pub calls : AreCalls b moments
+    pub in_time : AreInTime b moments actors
 
   pub ended : {T : Type 0} (o : S) (id n : ℕ) (v : SeatView R S M E) (ws : List ℕ) (xs : List T) → Final (Seen (WordTellsHistory b rules o) id v) ws xs → get_elem? ws 0 ≡ some n → End o n v.actors
   ended o id n v ws xs f word =
@@ -68,7 +75,21 @@ module _ {R S M C A E : Type 0} (b : RuleBook S M C A E) (law : IsRuleBook b) (r
         sound = sound-after b law o r.history r.sound;
         found = sym r.word ∙ (ap (λ (l : List ℕ). get_or l 0 0) f.2 ∙ first_word ws n word);
         parts = parts_of o r.history v.actors (r.views id v f.1.1).0;
+        moments = r.moments;
+        events = r.events;
+        calls = r.calls;
+        in_time = (r.in_time id v f.1.1).0;
       }
 
   pub end_state : (o : S) (word : ℕ) (ps : List (ActorView R S M E)) (s : S) → (e : End o word ps) → s ≡ after b o e.history → IsEnd b o ps s
   end_state o word ps s e is = record { history = e.history; lawful = e.lawful; reached = is; parts = e.parts }
+
+  pub end_run : (o : S) (word : ℕ) (ps : List (ActorView R S M E)) (s : S) → (e : End o word ps) → s ≡ after b o e.history → IsRun b o ps s
+  end_run o word ps s e is = record {
+    moments = e.moments;
+    calls = e.calls;
+    lawful = subst (IsLawful b o) (sym e.events) e.lawful;
+    reached = is ∙ ap (after b o) (sym e.events);
+    in_time = e.in_time;
+    parts = subst (λ (h : List E). AllHavePart b o h ps) (sym e.events) e.parts;
+  }

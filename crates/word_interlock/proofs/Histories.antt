@@ -123,3 +123,28 @@ module _ {S M C A E : Type 0} (b : RuleBook S M C A E) (law : IsRuleBook b) wher
       let same = ap count l.0 in
       let more = sum_by-cons (λ (x : E). cond (is_change b x) 1 0) e h in
       omega (arith, rest, here, same, more)
+
+  -- ---- the last event
+
+  abbrev last_of : E → List E → E
+  last_of d [] = d
+  last_of d (x ∷ xs) = last_of x xs
+
+  last-append : (d x : E) (ys xs : List E) → last_of d (ys ++ x ∷ xs) ≡ last_of x xs
+  last-append d x [] xs = refl
+  last-append d x (y ∷ ys) xs = last-append y x ys xs
+
+  last_is_foreign : (m : M) (x : E) (xs : List E) → own_events b (x ∷ xs) m ≡ [] → b.same (b.actor_of (last_of x xs)) m ≡ false
+  last_is_foreign m x [] q = (head_apart (b.same (b.actor_of x) m) x [] q).0
+  last_is_foreign m x (y ∷ ys) q = last_is_foreign m y ys (head_apart (b.same (b.actor_of x) m) x (own_events b (y ∷ ys) m) q).1
+
+  -- who made the last event of a history has seen all of it
+  pub last_caller_has_seen_all : (h seen : List E) (e : E) → BeginsWith (h ++ e ∷ []) seen → own_events b (h ++ e ∷ []) (b.actor_of e) ≡ own_events b seen (b.actor_of e) → seen ≡ h ++ e ∷ []
+  last_caller_has_seen_all h seen e begins own = by_rest begins.0 begins.1 (waits-foreign b (b.actor_of e) seen (h ++ e ∷ []) (record { begins = begins; own = own }))
+    where
+      by_rest : (more : List E) → h ++ e ∷ [] ≡ seen ++ more → own_events b more (b.actor_of e) ≡ [] → seen ≡ h ++ e ∷ []
+      by_rest [] f q = sym (f ∙ append-nil seen)
+      by_rest (x ∷ xs) f q =
+          let same_last : e ≡ last_of x xs = sym (last-append e e h []) ∙ (ap (last_of e) f ∙ last-append e x seen xs) in
+          let no : b.same (b.actor_of e) (b.actor_of e) ≡ false = subst (λ (y : E). b.same (b.actor_of y) (b.actor_of e) ≡ false) (sym same_last) (last_is_foreign (b.actor_of e) x xs q) in
+          let yes : b.same (b.actor_of e) (b.actor_of e) ≡ true = law.itself (b.actor_of e) in cc

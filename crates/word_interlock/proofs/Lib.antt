@@ -1,4 +1,5 @@
 pub mod Histories
+pub mod Moments
 pub mod Keeps
 pub mod Seats
 pub mod Overtaken
@@ -6,3 +7,9 @@ pub mod Answered
 pub mod Meeting
 pub mod Ordering
 pub mod Closing
+pub mod Timing
+pub mod Telling
+pub mod Running
+pub mod Settling
+pub mod One
+pub mod Examples

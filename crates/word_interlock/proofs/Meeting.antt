@@ -1,17 +1,15 @@
 -- What two passes have seen after they met, and one after it looked.
 use Rattle.std.proofs.Common.{◌≡◌, ℕ, ◌+◌, List, [], ◌∷◌, refl, sym, ap, ◌∙◌, subst}
 use Rattle.atomic_table.specs.Table.{Me}
-use Rattle.atomic_table.specs.Seated.{TableId}
 use Rattle.word_interlock.specs.RuleBook.{RuleBook}
-use Rattle.word_interlock.specs.Only.{HasOne, only_of}
 use Rattle.word_interlock.specs.declared.views.ActorView.{ActorView}
 use Rattle.word_interlock.specs.declared.views.HistoryView.{HistoryView}
 use Rattle.word_interlock.specs.declared.views.SeatView.{SeatView}
-use Rattle.word_interlock.specs.Views.{PassView, view_of, receipt_with}
-use Rattle.word_interlock.specs.Rule.{actor_alone, receipt_alone, after_load, first_off, others_of, receipts_of, seen_by_actor, together, Tells, TellFirst, WordMoment, WordMomentOfAll, after_gathering, gathered, IsSeat}
+use Rattle.word_interlock.specs.Views.{PassView, view_of}
+use Rattle.word_interlock.specs.Rule.{actor_alone, receipt_alone, after_load, first_off, others_of, together, WordMoment, WordMomentOfAll, after_gathering, gathered, IsSeat}
 use Rattle.word_interlock.specs.Steps.{with_load}
 use Rattle.word_interlock.specs.Seen.{HasSeenMore}
-use Rattle.word_interlock.proofs.Seats.{only_is, seat_of, lawful_at}
+use Rattle.word_interlock.proofs.Seats.{lawful_at}
 
 -- one more load, and no exchange
 abbrev pub LoadsOnce : {R S M E : Type 0} → PassView R S M E → PassView R S M E → Type 0
@@ -57,7 +55,7 @@ module _ {R S M C A E : Type 0} (b : RuleBook S M C A E) (rules : R) where
     right_at = at.0
 
   -- a receipt's seat was joined to that of a pass, which then saw the history
-  module _ {T : Type 0} (p : ActorView R S M E) (told_by : HistoryView S E) (me r j j' : Me T (SeatView R S M E)) (word : ℕ) (is_me : me ≡ (actor_alone p, [])) (is_r : r ≡ (receipt_alone told_by, [])) (joined : j ≡ (together me.0 r.0, me.1)) (told : gathered b rules j word j') where
+  module _ {T : Type 0} (p : ActorView R S M E) (told_by : HistoryView S M E) (me r j j' : Me T (SeatView R S M E)) (word : ℕ) (is_me : me ≡ (actor_alone p, [])) (is_r : r ≡ (receipt_alone told_by, [])) (joined : j ≡ (together me.0 r.0, me.1)) (told : gathered b rules j word j') where
     abbrev with_receipt : Me T (SeatView R S M E)
     with_receipt = (record { actors = p ∷ []; receipts = told_by ∷ [] }, [])
 

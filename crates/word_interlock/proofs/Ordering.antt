@@ -2,21 +2,22 @@
 use Rattle.std.proofs.Common.{◌≡◌, ℕ, ◌+◌, ◌≤◌, List, [], ◌∷◌, ◌++◌, true, sym, ap, ◌∙◌, subst, arith, append_assoc}
 use Rattle.std.proofs.lemmas.List.{append_cancel_right}
 use Rattle.word_interlock.specs.RuleBook.{RuleBook, IsRuleBook}
-use Rattle.word_interlock.specs.History.{after, IsLegal, IsLawful, own_events, BeginsWith, Settles, Waits}
+use Rattle.word_interlock.specs.History.{after, IsLegal, own_events, BeginsWith, Settles}
 use Rattle.word_interlock.specs.declared.reply.Reply.{Reply}
 use Rattle.word_interlock.specs.declared.reply.Reply.TheVariants.{Settled, Busy}
-use Rattle.word_interlock.specs.Views.{PassView, ReceiptView, receipt_of}
-use Rattle.word_interlock.specs.Calls.{IfSettled, SeenAfter, IsStampedAfter, stamp_in}
-use Rattle.word_interlock.specs.Seen.{IsSamePass, HasSeenMore}
+use Rattle.word_interlock.specs.Calls.{SeenAfter, IsStampedAfter, stamp_in}
 use Rattle.word_interlock.specs.Order.{StandsBefore, ReceiptsOrderCalls, ReceiptsRaiseStamps}
+use Rattle.word_interlock.specs.Seen.{HasChanges}
+use Rattle.std.specs.Prelude.{Bool, false, ◌&&◌, not, count_by, cond}
+use Rattle.std.proofs.lemmas.List.Sums.{sum_by-cons}
+use Rattle.word_interlock.specs.History.{is_change, changes_by_others}
 use Rattle.word_interlock.proofs.Histories.{begins-trans, after-append, after-push, legal-left, legal-right, own-push, stamp-after}
 
 module _ {S M C A E : Type 0} (b : RuleBook S M C A E) (law : IsRuleBook b) where
   -- the point of the later call begins with what the first saw after its own
-  in_order : (m n : M) (c d : C) (x y : A) (seen answered heard now : List E) → Settles b m c x seen answered → BeginsWith heard answered → Settles b n d y heard now → StandsBefore b seen (b.event m c x) (b.event n d y) now
-  in_order m n c d x y seen answered heard now first told second =
+  pub in_order : (m n : M) (c d : C) (x y : A) (seen answered heard now : List E) → Settles b m c x seen answered → (second : Settles b n d y heard now) → BeginsWith second.point answered → StandsBefore b seen (b.event m c x) (b.event n d y) now
+  in_order m n c d x y seen answered heard now first second between =
       let e : E = b.event m c x in let f : E = b.event n d y in
-      let between : BeginsWith second.point answered = begins-trans answered heard second.point told second.begins in
       let new : own_events b first.point m ≡ own_events b seen m = append_cancel_right (own_events b first.point m) (own_events b seen m) (e ∷ []) (sym (own-push b law first.point m c x) ∙ (sym (ap (λ (l : List E). own_events b l m) first.ends) ∙ first.own)) in
       record {
         point = first.point;
@@ -28,8 +29,8 @@ module _ {S M C A E : Type 0} (b : RuleBook S M C A E) (law : IsRuleBook b) wher
 
   pub receipts_order_calls : ReceiptsOrderCalls b
   receipts_order_calls m n c d x y seen answered receipt accepted heard now first took took_in later second =
-      in_order m n c d x y seen answered heard now first
-      (begins-trans answered accepted heard (begins-trans answered receipt accepted took took_in) later) second
+      in_order m n c d x y seen answered heard now first second
+      (begins-trans answered heard second.point (begins-trans answered accepted heard (begins-trans answered receipt accepted took took_in) later) second.begins)
 
   -- ---- stamps
 
@@ -47,58 +48,51 @@ module _ {S M C A E : Type 0} (b : RuleBook S M C A E) (law : IsRuleBook b) wher
   stamp_seen m c (Settled a s) o seen now it = it.1
   stamp_seen m c (Busy l s) o seen now it = it.1
 
-  -- a call of one who has seen a history gets no lower stamp than that history's
-  pub stamped_after : (o : S) (n : M) (d : C) (y : Reply A) (known heard now : List E) → BeginsWith heard known → SeenAfter b n d y o heard now → IsLegal b o now → IsStampedAfter b (b.stamp (after b o known)) y
-  stamped_after o n d (Settled x t) known heard now f it l =
-      let g : BeginsWith it.0.point known = begins-trans known heard it.0.point f it.0.begins in
+  -- what was known to the caller of a call is in its point, or in what it sees if it is Busy
+  abbrev pub KnewAt : (n : M) (d : C) (y : Reply A) (o : S) (known heard now : List E) → SeenAfter b n d y o heard now → Type 0
+  KnewAt n d (Settled x t) o known heard now it = BeginsWith it.0.point known
+  KnewAt n d (Busy lost t) o known heard now it = BeginsWith now known
+
+  knew : (n : M) (d : C) (y : Reply A) (o : S) (known heard now : List E) → BeginsWith heard known → (it : SeenAfter b n d y o heard now) → KnewAt n d y o known heard now it
+  knew n d (Settled x t) o known heard now f it = begins-trans known heard it.0.point f it.0.begins
+  knew n d (Busy lost t) o known heard now f it = begins-trans known heard now f it.0.begins
+
+  -- a call of one who knows a history gets no lower stamp than that history's
+  pub stamped_known : (o : S) (n : M) (d : C) (y : Reply A) (known heard now : List E) → (it : SeenAfter b n d y o heard now) → KnewAt n d y o known heard now it → IsLegal b o now → IsStampedAfter b (b.stamp (after b o known)) y
+  stamped_known o n d (Settled x t) known heard now it g l =
       let legal_at : IsLegal b o (it.0.point ++ b.event n d x ∷ []) = subst (IsLegal b o) it.0.ends l in
       let point_least = stamp_grows o known it.0.point g (legal-left b o it.0.point (b.event n d x ∷ []) legal_at) in
       let least = stamp_grows o it.0.point now (b.event n d x ∷ [], it.0.ends) l in (
         omega (arith, point_least, least, it.1),
         λ done. omega (arith, point_least, it.1, ap (λ (k : List E). b.stamp (after b o k)) it.0.ends, done_raises o it.0.point n d x done legal_at),
       )
-  stamped_after o n d (Busy lost t) known heard now f it l = omega (arith, stamp_grows o known now (begins-trans known heard now f it.0.begins) l, it.1)
+  stamped_known o n d (Busy lost t) known heard now it g l = omega (arith, stamp_grows o known now g l, it.1)
+
+  pub stamped_after : (o : S) (n : M) (d : C) (y : Reply A) (known heard now : List E) → BeginsWith heard known → SeenAfter b n d y o heard now → IsLegal b o now → IsStampedAfter b (b.stamp (after b o known)) y
+  stamped_after o n d y known heard now f it l = stamped_known o n d y known heard now it (knew n d y o known heard now f it) l
 
   pub receipts_raise_stamps : ReceiptsRaiseStamps b
   receipts_raise_stamps o m n c d x y seen answered receipt accepted heard now first took took_in later second legal =
       subst (λ (s : ℕ). IsStampedAfter b s y) (sym (stamp_seen m c x o seen answered first)) (stamped_after o n d y answered heard now
       (begins-trans answered accepted heard (begins-trans answered receipt accepted took took_in) later) second legal)
 
-  -- ---- two calls
+  less : (d own : Bool) → cond (d && not own) 1 0 ≤ cond d 1 0
+  less true true = omega arith
+  less true false = omega arith
+  less false own = omega arith
 
-  by_replies : (m n : M) (c d : C) (x y : Reply A) (o p : S) (seen answered heard now : List E) → SeenAfter b m c x o seen answered → BeginsWith heard answered → SeenAfter b n d y p heard now
-      → IfSettled x (λ u. IfSettled y (λ v. StandsBefore b seen (b.event m c u) (b.event n d v) now))
-  by_replies m n c d (Settled u s) (Settled v t) o p seen answered heard now first told second = in_order m n c d u v seen answered heard now first.0 told second.0
-  by_replies m n c d (Settled u s) (Busy l t) o p seen answered heard now first told second = tt
-  by_replies m n c d (Busy l s) y o p seen answered heard now first told second = tt
+  others_are_changes : (m : M) (h : List E) → changes_by_others b h m ≤ count_by (is_change b) h
+  others_are_changes m [] = omega arith
+  others_are_changes m (e ∷ h) =
+      omega (
+        arith,
+        others_are_changes m h,
+        less (is_change b e) (b.same (b.actor_of e) m),
+        sum_by-cons (λ (x : E). cond (is_change b x && not (b.same (b.actor_of x) m)) 1 0) e h,
+        sum_by-cons (λ (x : E). cond (is_change b x) 1 0) e h,
+      )
 
-  after_more : (m : M) (c : C) (x : Reply A) (o : S) (before heard now : List E) → Waits b m before heard → SeenAfter b m c x o heard now → SeenAfter b m c x o before now
-  after_more m c (Settled a s) o before heard now more it = (
-    record {
-      point = it.0.point;
-      begins = begins-trans before heard it.0.point more.begins it.0.begins;
-      ends = it.0.ends;
-      own = it.0.own ∙ ap (λ (l : List E). l ++ b.event m c a ∷ []) more.own;
-    },
-    it.1,
-  )
-  after_more m c (Busy l s) o before heard now more it = (record { begins = begins-trans before heard now more.begins it.0.begins; own = it.0.own ∙ more.own }, it.1)
-
--- a pass that has heard more makes a call
-module _ {R S M C A E : Type 0} (b : RuleBook S M C A E) (law : IsRuleBook b) (w heard : PassView R S M E) (d : C) (y : Reply A) (now : List E) (more : HasSeenMore b w heard) (it : SeenAfter b heard.actor d y heard.opening heard.seen now) where
-  same : SeenAfter b w.actor d y w.opening heard.seen now
-  same = subst (λ (t : M × S). SeenAfter b t.0 d y t.1 heard.seen now) (λ i. (more.pass.actor i, more.pass.opening i)) it
-
-  pub asked_after : SeenAfter b w.actor d y w.opening w.seen now
-  asked_after = after_more b law w.actor d y w.opening w.seen heard.seen now more.seen same
-
-  pub told_in_order : (v answered : PassView R S M E) (r : ReceiptView S E) (c : C) (x : Reply A) → SeenAfter b v.actor c x v.opening v.seen answered.seen → r ≡ receipt_of answered → BeginsWith heard.seen r.seen
-      → IfSettled x (λ a. IfSettled y (λ e. StandsBefore b v.seen (b.event v.actor c a) (b.event w.actor d e) now))
-  told_in_order v answered r c x first is told =
-      by_replies b law v.actor w.actor c d x y v.opening w.opening v.seen answered.seen heard.seen now first (subst (λ (t : ReceiptView S E). BeginsWith heard.seen t.seen) is told) same
-
-  pub told_stamps : (v answered : PassView R S M E) (r : ReceiptView S E) (c : C) (x : Reply A) → SeenAfter b v.actor c x v.opening v.seen answered.seen → answered.opening ≡ v.opening → r ≡ receipt_of answered → r.opening ≡ w.opening → BeginsWith heard.seen r.seen → IsLawful b heard.opening now → IsStampedAfter b (stamp_in x) y
-  told_stamps v answered r c x first kept is opens told lawful =
-      let from : v.opening ≡ heard.opening = sym kept ∙ (sym (ap (λ (t : ReceiptView S E). t.opening) is) ∙ (opens ∙ sym more.pass.opening)) in
-      subst (λ (s : ℕ). IsStampedAfter b s y) (sym (stamp_seen b law v.actor c x heard.opening v.seen answered.seen (subst (λ (o : S). SeenAfter b v.actor c x o v.seen answered.seen) from first)))
-      (stamped_after b law heard.opening heard.actor d y answered.seen heard.seen now (subst (λ (t : ReceiptView S E). BeginsWith heard.seen t.seen) is told) it lawful.legal)
+  -- changes that were seen raise the stamp
+  pub changes_raise : (o : S) (m : M) (earlier now : List E) (n : ℕ) → IsLegal b o now → HasChanges b m earlier now n → b.stamp (after b o earlier) + n ≤ b.stamp (after b o now)
+  changes_raise o m earlier now n l it =
+      omega (arith, it.many, others_are_changes m it.more, ap b.stamp (ap (after b o) it.is ∙ after-append b o earlier it.more), stamp-after b law (after b o earlier) it.more (legal-right b o earlier it.more (subst (IsLegal b o) it.is l)))

@@ -1,5 +1,5 @@
 -- Passes and their seats, before and after a step.
-use Rattle.std.proofs.Common.{◌≡◌, ℕ, eqb, Bool, true, false, if◌then◌else◌, List, [], ◌∷◌, refl, sym, ap, subst}
+use Rattle.std.proofs.Common.{◌≡◌, ℕ, eqb, Bool, true, false, if◌then◌else◌, List, [], ◌∷◌, refl, sym, ap, ◌∙◌, subst}
 use prog.Atomic.{either}
 use Rattle.atomic_table.specs.Table.{Me, Allows}
 use Rattle.atomic_table.specs.Seated.{TableId}
@@ -7,10 +7,12 @@ use Rattle.word_interlock.specs.RuleBook.{RuleBook, IsRuleBook}
 use Rattle.word_interlock.specs.History.{after, IsLegal, IsLawful}
 use Rattle.word_interlock.specs.Only.{HasOne, only_of}
 use Rattle.word_interlock.specs.declared.views.ActorView.{ActorView}
+use Rattle.word_interlock.specs.declared.views.HistoryView.{HistoryView}
 use Rattle.word_interlock.specs.declared.views.SeatView.{SeatView}
-use Rattle.word_interlock.specs.Views.{PassView, pass_of, view_of}
-use Rattle.word_interlock.specs.Rule.{actor_alone, WordTellsHistory, with_event, seen_at, seen_by, after_load, after_exchange, looked, exchanged, gathered, IsSeat}
+use Rattle.word_interlock.specs.Views.{PassView, ReceiptView, pass_of, view_of, receipt_with, told_by}
+use Rattle.word_interlock.specs.Rule.{actor_alone, receipt_alone, together, actor_with, WordTellsHistory, with_event, seen_at, seen_by, moments_at, moments_by, with_begin, with_moments, after_load, after_exchange, looked, exchanged, gathered, IsSeat}
 use Rattle.word_interlock.specs.Steps.{IsReady}
+use Rattle.word_interlock.specs.Moments.{HasBegun}
 use Rattle.word_interlock.proofs.Histories.{legal-append, legal-event}
 use Rattle.word_interlock.proofs.Keeps.{allows_more, looks_as, exchanges_as, gathers_as}
 
@@ -33,6 +35,14 @@ module _ {R S M E : Type 0} where
   -- a pass, by its seat
   pub pass_now : {T : Type 0} (u t : TableId) (me : Me T (SeatView R S M E)) (q : ActorView R S M E) (one : HasOne me.0.actors) → me ≡ (actor_alone q, []) → u ≡ t → pass_of u (only_of me.0.actors one) ≡ pass_of t q
   pass_now u t me q one e same = λ i. pass_of (same i) (only_is me.0.actors q (ap (λ x. x.0.actors) e) one i)
+
+  -- the seat of a pass to which that of a receipt was joined
+  pub joined_as : {T : Type 0} (me r j : Me T (SeatView R S M E)) (p : ActorView R S M E) (told : HistoryView S M E) → me ≡ (actor_alone p, []) → r ≡ (receipt_alone told, []) → j ≡ (together me.0 r.0, me.1) → j ≡ (actor_with p (told ∷ []), [])
+  joined_as me r j p told is_me is_r joined = joined ∙ (λ i. (together (is_me i).0 (is_r i).0, (is_me i).1))
+
+  -- the seat of a receipt, by what contracts see of it
+  pub receipt_as : {T : Type 0} (me : Me T (SeatView R S M E)) (h : HistoryView S M E) (t : TableId) (v : ReceiptView S M E) → me ≡ (receipt_alone h, []) → receipt_with t h ≡ v → me ≡ (receipt_alone (told_by v), [])
+  receipt_as {T} me h t v e is = subst (λ (w : ReceiptView S M E). me ≡ (receipt_alone (told_by w), [])) is e
 
 module _ {R S M C A E : Type 0} (book : R → RuleBook S M C A E) where
   pub seat_of : {T : Type 0} (m : M) (p : ActorView R S M E) (me : Me T (SeatView R S M E)) (one : HasOne me.0.actors) → me ≡ (actor_alone p, []) → p.actor ≡ m → IsLawful (book p.rules) p.opening p.seen
@@ -65,33 +75,33 @@ module _ {R S M C A E : Type 0} (book : R → RuleBook S M C A E) (law : (r : R)
       go false = legal_at r c p h l
 
   -- the seat after a load, and after an exchange
-  pub looked-seat : {T : Type 0} (r : R) (c : C) (m : M) (p : ActorView R S M E) (word : ℕ) (me' : Me T (SeatView R S M E)) (one : HasOne me'.0.actors) → p.actor ≡ m → looked (book r) r c p word me'
+  pub looked-seat : {T : Type 0} (r : R) (c : C) (heard : List (HistoryView S M E)) (m : M) (p : ActorView R S M E) (word : ℕ) (me' : Me T (SeatView R S M E)) (one : HasOne me'.0.actors) → p.actor ≡ m → looked (book r) r c heard p word me'
       → IsSeat (book (only_of me'.0.actors one).rules) (only_of me'.0.actors one).rules m (only_of me'.0.actors one) me'
-  looked-seat r c m p word me' one named told =
+  looked-seat r c heard m p word me' one named told =
       let h = told.0 in let at = told.1 in
-      seat_of book m (after_load p (seen_at (book r) c p h)) me' one told.2 named
+      seat_of book m (with_moments (after_load p (seen_at (book r) c p h)) (moments_at (book r) c p h (with_begin (book r) p at.moments))) me' one told.2 named
       (lawful_at book p.rules r p.opening (seen_at (book r) c p h) at.rules_are record { opened = at.opened; legal = legal_at r c p h at.legal })
 
   pub exchanged-seat : {T : Type 0} (r : R) (c : C) (m : M) (p : ActorView R S M E) (old word : ℕ) (me' : Me T (SeatView R S M E)) (one : HasOne me'.0.actors) → p.actor ≡ m → exchanged (book r) r c old p word me'
       → IsSeat (book (only_of me'.0.actors one).rules) (only_of me'.0.actors one).rules m (only_of me'.0.actors one) me'
   exchanged-seat r c m p old word me' one named told =
       let h = told.0 in let at = told.1 in
-      seat_of book m (after_exchange p (seen_by (book r) c p old word h)) me' one told.2 named
+      seat_of book m (with_moments (after_exchange p (seen_by (book r) c p old word h)) (moments_by (book r) c p old word h at.moments)) me' one told.2 named
       (lawful_at book p.rules r p.opening (seen_by (book r) c p old word h) at.rules_are record { opened = at.opened; legal = legal_by r c p old word h at.legal })
 
   -- the steps are allowed by the rules that the table was told
-  pub load_allowed : {T : Type 0} (key r : R) (o : S) (slots id : ℕ) (me : Me T (SeatView R S M E)) (p : ActorView R S M E) (c : C) (tells : ℕ → Me T (SeatView R S M E) → Type 0) → key ≡ r → me ≡ (actor_alone p, [])
-      → ((word : ℕ) (me' : Me T (SeatView R S M E)) → looked (book r) r c p word me' → tells word me') → Allows (WordTellsHistory (book key) key o) slots id me 0 (λ n. n) tells
-  load_allowed {T} key r o slots id me p c tells e alone more =
+  pub load_allowed : {T : Type 0} (key r : R) (o : S) (slots id : ℕ) (me : Me T (SeatView R S M E)) (p : ActorView R S M E) (heard : List (HistoryView S M E)) (c : C) (tells : ℕ → Me T (SeatView R S M E) → Type 0) → key ≡ r → me ≡ (actor_with p heard, [])
+      → ((word : ℕ) (me' : Me T (SeatView R S M E)) → looked (book r) r c heard p word me' → tells word me') → Allows (WordTellsHistory (book key) key o) slots id me 0 (λ n. n) tells
+  load_allowed {T} key r o slots id me p heard c tells e alone more =
       subst (λ (x : R). Allows (WordTellsHistory (book x) x o) slots id me 0 (λ n. n) tells) (sym e)
-      (allows_more (WordTellsHistory (book r) r o) slots id me 0 (λ n. n) (looked (book r) r {T = T} c p) tells more (looks_as (book r) (law r) r o slots id me p c alone))
+      (allows_more (WordTellsHistory (book r) r o) slots id me 0 (λ n. n) (looked (book r) r {T = T} c heard p) tells more (looks_as (book r) (law r) r o slots id me p heard c alone))
 
   pub exchange_allowed : {T : Type 0} (key r : R) (o : S) (slots id : ℕ) (me : Me T (SeatView R S M E)) (p : ActorView R S M E) (c : C) (a : A) (old new : ℕ) (tells : ℕ → Me T (SeatView R S M E) → Type 0) → key ≡ r → me ≡ (actor_alone p, [])
-      → (p.rules ≡ r → IsReady (book r) p.actor c a old new)
+      → (p.rules ≡ r → IsReady (book r) p.actor c a old new) → (p.rules ≡ r → HasBegun (book r) p.moments p.actor)
       → ((word : ℕ) (me' : Me T (SeatView R S M E)) → exchanged (book r) r c old p word me' → tells word me') → Allows (WordTellsHistory (book key) key o) slots id me 0 (λ n. either (eqb n old) new n) tells
-  exchange_allowed {T} key r o slots id me p c a old new tells e alone ready more =
+  exchange_allowed {T} key r o slots id me p c a old new tells e alone ready has more =
       subst (λ (x : R). Allows (WordTellsHistory (book x) x o) slots id me 0 (λ n. either (eqb n old) new n) tells) (sym e)
-      (allows_more (WordTellsHistory (book r) r o) slots id me 0 (λ n. either (eqb n old) new n) (exchanged (book r) r {T = T} c old p) tells more (exchanges_as (book r) (law r) r o slots id me p c a old new alone ready))
+      (allows_more (WordTellsHistory (book r) r o) slots id me 0 (λ n. either (eqb n old) new n) (exchanged (book r) r {T = T} c old p) tells more (exchanges_as (book r) (law r) r o slots id me p c a old new alone ready has))
 
   pub sync_allowed : {T : Type 0} (key r : R) (o : S) (slots id : ℕ) (me : Me T (SeatView R S M E)) (tells : ℕ → Me T (SeatView R S M E) → Type 0) → key ≡ r → me.1 ≡ []
       → ((word : ℕ) (me' : Me T (SeatView R S M E)) → gathered (book r) r me word me' → tells word me') → Allows (WordTellsHistory (book key) key o) slots id me 0 (λ n. n) tells

@@ -1,6 +1,7 @@
 pub mod RuleBook
 pub mod History
 pub mod Only
+pub mod Moments
 pub mod Views
 pub mod Rule
 pub mod Steps
@@ -9,4 +10,10 @@ pub mod Calls
 pub mod Going
 pub mod Tries
 pub mod Order
+pub mod One
 pub mod Bunches
+pub mod Timing
+pub mod Asked
+pub mod Run
+pub mod Settling
+pub mod MomentExamples

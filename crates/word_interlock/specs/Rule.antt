@@ -1,15 +1,18 @@
 -- The rule of the word: it holds the state after one growing legal history. And what each step on the word shows its
 -- actor.
-use Rattle.std.specs.Prelude.{◌≡◌, ℕ, ◌+◌, ◌<◌, ◌≤◌, ◌==◌, if◌then◌else◌, List, [], ◌∷◌, ◌++◌, length, slice_index, ⊤}
+use Rattle.std.specs.Prelude.{◌≡◌, ℕ, ◌+◌, ◌<◌, ◌==◌, if◌then◌else◌, List, [], ◌∷◌, ◌++◌, length, slice_index, ⊤}
 use Rattle.std.specs.Prelude.{map}
 use mathlib.Core.Option.{some}
 use lib.ListN.{get_elem?}
 use Rattle.atomic_table.specs.Table.{State, Me}
-use Rattle.word_interlock.specs.RuleBook.{RuleBook}
+use Rattle.word_interlock.specs.RuleBook.{RuleBook, times}
 use Rattle.word_interlock.specs.History.{after, IsLegal, IsLawful, own_events, BeginsWith}
 use Rattle.word_interlock.specs.declared.views.ActorView.{ActorView}
 use Rattle.word_interlock.specs.declared.views.HistoryView.{HistoryView}
 use Rattle.word_interlock.specs.declared.views.SeatView.{SeatView}
+use Rattle.word_interlock.specs.declared.views.Moment.{Moment}
+use Rattle.word_interlock.specs.declared.views.Moment.TheVariants.{Begins, Answered}
+use Rattle.word_interlock.specs.Moments.{events_of, own_moments, AreCalls, AreOfPasses, AreInTime}
 
 -- ---- views
 
@@ -18,7 +21,16 @@ module _ {R S M E : Type 0} where
   -- has seen nothing and made no step.
   abbrev pub new_view : R → S → M → ActorView R S M E
   new_view rules opening m =
-      record { rules = rules; opening = opening; actor = m; seen = []; since = []; loads = 0; exchanges = 0 }
+      record {
+        rules = rules;
+        opening = opening;
+        actor = m;
+        seen = [];
+        since = [];
+        loads = 0;
+        exchanges = 0;
+        moments = [];
+      }
 
   -- the view of a seat without actors and receipts; with one actor alone; and with one receipt alone
   abbrev pub spent : SeatView R S M E
@@ -27,8 +39,12 @@ module _ {R S M E : Type 0} where
   abbrev pub actor_alone : ActorView R S M E → SeatView R S M E
   actor_alone p = record { actors = p ∷ []; receipts = [] }
 
-  abbrev pub receipt_alone : HistoryView S E → SeatView R S M E
+  abbrev pub receipt_alone : HistoryView S M E → SeatView R S M E
   receipt_alone told = record { actors = []; receipts = told ∷ [] }
+
+  -- likewise with one actor and some receipts
+  abbrev pub actor_with : ActorView R S M E → List (HistoryView S M E) → SeatView R S M E
+  actor_with p heard = record { actors = p ∷ []; receipts = heard }
 
   -- a seat's first actor alone; and all else that the seat has
   abbrev pub first_only : List (ActorView R S M E) → List (ActorView R S M E)
@@ -46,10 +62,10 @@ module _ {R S M E : Type 0} where
   others_of v = record v { actors = but_first v.actors }
 
   -- receipts of all that the actors of a seat have seen, and of all that its receipts tell; and no actor
-  abbrev pub seen_by_actor : ActorView R S M E → HistoryView S E
-  seen_by_actor p = record { opening = p.opening; seen = p.seen }
+  abbrev pub seen_by_actor : ActorView R S M E → HistoryView S M E
+  seen_by_actor p = record { opening = p.opening; seen = p.seen; moments = p.moments }
 
-  abbrev pub seen_in : List (ActorView R S M E) → List (HistoryView S E)
+  abbrev pub seen_in : List (ActorView R S M E) → List (HistoryView S M E)
   seen_in [] = []
   seen_in (p ∷ rest) = seen_by_actor p ∷ seen_in rest
 
@@ -72,6 +88,10 @@ module _ {R S M E : Type 0} where
   abbrev pub after_exchange : ActorView R S M E → List E → ActorView R S M E
   after_exchange p seen = record p { seen = seen; exchanges = p.exchanges + 1 }
 
+  -- the view of an actor at whose step these were the moments so far
+  abbrev pub with_moments : ActorView R S M E → List (Moment M E) → ActorView R S M E
+  with_moments p moments = record p { moments = moments }
+
   -- each actor of a seat has seen this history, after one more load
   abbrev pub all_see : List E → List (ActorView R S M E) → List (ActorView R S M E)
   all_see history [] = []
@@ -83,16 +103,21 @@ module _ {R S M E : Type 0} where
 -- ---- receipts
 
 -- a receipt tells a prefix of the history
-pub record Tells {S E : Type 0} (opening : S) (history : List E) (told : HistoryView S E) : Type 0 where
+pub record Tells {S M E : Type 0} (opening : S) (history : List E) (told : HistoryView S M E) : Type 0 where
   pub opening_is : told.opening ≡ opening
   pub begins : BeginsWith history told.seen
 
-abbrev pub AllTell : {S E : Type 0} → S → List E → List (HistoryView S E) → Type 0
+abbrev pub AllTell : {S M E : Type 0} → S → List E → List (HistoryView S M E) → Type 0
 AllTell opening history [] = ⊤
 AllTell opening history (told ∷ rest) = Tells opening history told × AllTell opening history rest
 
+-- the moments that receipts tell are prefixes of these
+abbrev pub AllShow : {S M E : Type 0} → List (Moment M E) → List (HistoryView S M E) → Type 0
+AllShow moments [] = ⊤
+AllShow moments (told ∷ rest) = BeginsWith moments told.moments × AllShow moments rest
+
 -- what the receipts of a seat tell its first actor
-abbrev pub TellFirst : {R S M E : Type 0} → List (ActorView R S M E) → List E → List (HistoryView S E) → Type 0
+abbrev pub TellFirst : {R S M E : Type 0} → List (ActorView R S M E) → List E → List (HistoryView S M E) → Type 0
 TellFirst [] history receipts = ⊤
 TellFirst (p ∷ rest) history receipts = AllTell p.opening history receipts
 
@@ -105,6 +130,10 @@ module _ {R S M C A E : Type 0} (b : RuleBook S M C A E) where
   abbrev pub times_in_all : M → List (SeatView R S M E) → ℕ
   times_in_all m [] = 0
   times_in_all m (view ∷ views) = times_in m view.actors + times_in_all m views
+
+  -- the steps of each actor of a seat, and its receipts, have shown a prefix of these moments; an actor's all its own
+  abbrev pub SeatIsInTime : List (Moment M E) → SeatView R S M E → Type 0
+  SeatIsInTime moments v = AreInTime b moments v.actors × AllShow moments v.receipts
 
   -- the history so far with a call's event
   abbrev pub with_event : C → ActorView R S M E → List E → List E
@@ -121,6 +150,24 @@ module _ {R S M C A E : Type 0} (b : RuleBook S M C A E) where
   -- event; if it is lost, what a load shows
   abbrev pub seen_by : C → ActorView R S M E → ℕ → ℕ → List E → List E
   seen_by c p old word history = if word == old then with_event c p history else seen_at c p history
+
+  -- the moments so far with a call's answer
+  abbrev pub with_answer : C → ActorView R S M E → List E → List (Moment M E) → List (Moment M E)
+  with_answer c p history moments =
+      moments ++ Answered (b.event p.actor c (b.reply (after b p.opening history) p.actor c)) ∷ []
+
+  -- likewise the moments when an actor finds the word for a call, and when it exchanges it
+  abbrev pub moments_at : C → ActorView R S M E → List E → List (Moment M E) → List (Moment M E)
+  moments_at c p history moments =
+      if b.is_done (b.reply (after b p.opening history) p.actor c) then moments else with_answer c p history moments
+
+  abbrev pub moments_by : C → ActorView R S M E → ℕ → ℕ → List E → List (Moment M E) → List (Moment M E)
+  moments_by c p old word history moments =
+      if word == old then with_answer c p history moments else moments_at c p history moments
+
+  -- the moments so far with the beginning of an actor's call
+  abbrev pub with_begin : ActorView R S M E → List (Moment M E) → List (Moment M E)
+  with_begin p moments = moments ++ Begins p.actor ∷ []
 
 module _ {R S M C A E : Type 0} (b : RuleBook S M C A E) (rules : R) where
   -- ---- the rule
@@ -140,7 +187,9 @@ module _ {R S M C A E : Type 0} (b : RuleBook S M C A E) (rules : R) where
   SeatFits opening history v = AllFit opening history v.actors × AllTell opening history v.receipts
 
   -- the word is that of the state after one legal history; each actor has seen a prefix of it, with all its own events,
-  -- and each receipt tells a prefix of it; no actor is in two seats
+  -- and each receipt tells a prefix of it; who has a pass is in one seat, and stays so if that is dropped. It is the
+  -- events of one list of moments, in which each comes after the beginning of its call, all of actors who have a pass;
+  -- each actor's steps have shown it a prefix of these, with all its own, and each receipt tells a prefix of them
   pub record WordTellsHistory {T : Type 0} (opening : S) (table : State T (SeatView R S M E)) : Type 0 where
     pub history : List E
     pub has_word : 0 < length table.words
@@ -149,7 +198,13 @@ module _ {R S M C A E : Type 0} (b : RuleBook S M C A E) (rules : R) where
     pub word : slice_index table.words 0 ≡ b.packed (after b opening history)
     pub views : (i : ℕ) (view : SeatView R S M E) → get_elem? table.views i ≡ some view
         → SeatFits opening history view
-    pub apart : (m : M) → times_in_all b m table.views ≤ 1
+    pub apart : (m : M) → times_in_all b m table.views ≡ times b.same m b.actors
+    pub moments : List (Moment M E)
+    pub events : events_of moments ≡ history
+    pub calls : AreCalls b moments
+    pub callers : AreOfPasses b moments
+    pub in_time : (i : ℕ) (view : SeatView R S M E) → get_elem? table.views i ≡ some view
+        → SeatIsInTime b moments view
 
   -- ---- the steps
 
@@ -163,22 +218,37 @@ module _ {R S M C A E : Type 0} (b : RuleBook S M C A E) (rules : R) where
     pub begins : BeginsWith history p.seen
     pub own : own_events b history p.actor ≡ own_events b p.seen p.actor
     pub found : b.packed (after b p.opening history) ≡ word
+    pub moments : List (Moment M E)
+    pub events : events_of moments ≡ history
+    pub since : BeginsWith moments p.moments
+    pub own_since : own_moments b moments p.actor ≡ own_moments b p.moments p.actor
 
   -- the same moment for each actor of a seat
   abbrev pub WordMomentOfAll : List (ActorView R S M E) → ℕ → List E → Type 0
   WordMomentOfAll [] word history = ⊤
   WordMomentOfAll (p ∷ rest) word history = WordMoment p word history × WordMomentOfAll rest word history
 
-  -- a load for a call shows an actor, alone on its seat, this word; and the seat after it
-  abbrev pub looked : {T : Type 0} → C → ActorView R S M E → ℕ → Me T (SeatView R S M E) → Type 0
-  looked c p word me' =
-      (history : List E) × WordMoment p word history × (me' ≡ (actor_alone (after_load p (seen_at b c p history)), []))
+  -- a load for a call shows an actor this word; and the seat after it. All that these receipts of the seat tell stands
+  -- before the beginning of the call; they are then used up
+  abbrev pub looked : {T : Type 0} → C → List (HistoryView S M E) → ActorView R S M E → ℕ → Me T (SeatView R S M E) → Type 0
+  looked c heard p word me' =
+      (history : List E) × (at : WordMoment p word history)
+      × (me' ≡ (
+        actor_alone (with_moments (after_load p (seen_at b c p history))
+            (moments_at b c p history (with_begin b p at.moments))),
+        [],
+      ))
+      × AllTell p.opening history heard × AllShow at.moments heard
 
   -- likewise an exchange of the old word for a call, won or lost
   abbrev pub exchanged : {T : Type 0} → C → ℕ → ActorView R S M E → ℕ → Me T (SeatView R S M E) → Type 0
   exchanged c old p word me' =
-      (history : List E) × WordMoment p word history
-      × (me' ≡ (actor_alone (after_exchange p (seen_by b c p old word history)), []))
+      (history : List E) × (at : WordMoment p word history)
+      × (me' ≡ (
+        actor_alone (with_moments (after_exchange p (seen_by b c p old word history))
+            (moments_by b c p old word history at.moments)),
+        [],
+      ))
 
   -- a load for no call: each actor of the seat sees the history so far, which begins with all that the seat's receipts
   -- tell; these are then used up

@@ -1,13 +1,18 @@
 //! The calls of an actor.
-ghost use Rattle.std.specs.Prelude.{◌≡◌, ◌+◌, ◌≤◌};
+ghost use Rattle.std.specs.Prelude.{◌≡◌, ◌+◌, ◌≤◌, [], ◌∷◌};
 ghost use Rattle.word_interlock.specs.History.{IsLawful};
+ghost use Rattle.word_interlock.specs.Views.{told_by};
 ghost use Rattle.word_interlock.specs.Seen.{IsSamePass, AnswersAtItsPoint, WaitsToItsPoint};
 ghost use Rattle.word_interlock.specs.Seen.{HasChanges, IsOvertaken};
 ghost use Rattle.word_interlock.specs.Calls.{IfSettled, IfBusy, SeenAfter};
+ghost use Rattle.word_interlock.specs.Timing.{IsTimed, IsLookTimed, IsAttemptTimed};
 ghost use Rattle.word_interlock.specs.Tries.{Looked, Attempted, after_look, after_attempt};
+ghost use Rattle.word_interlock.specs.Steps.{Loaded};
+ghost use Rattle.word_interlock.specs.Asked.{Asked, LookedAt};
 
 use crate::interlock::Interlock;
 use crate::pass::Pass;
+use crate::receipt::Receipt;
 use crate::reply::Reply;
 use crate::rules::Rules;
 use crate::tries::{Look, Tried, Try};
@@ -31,7 +36,9 @@ impl<R: Rules> Interlock<R> {
     /// - it is Busy only if the call would be done, and other actors have made at least `tries`
     ///   changes that the pass hadn't seen before (`busy`), all after this call's load (`since`);
     /// - it loads the word once (`one_load`), and makes at most `tries` exchanges
-    ///   (`few_exchanges`), exactly as many as it lost if it is Busy (`all_lost`).
+    ///   (`few_exchanges`), exactly as many as it lost if it is Busy (`all_lost`);
+    /// - it began with its load, after all events that there were then, and its own event came with
+    ///   its last step (`real_time`).
     #[inline(always)]
     pub fn ask(&self, pass: &mut Pass<R>, call: R::Call) -> Reply<R::Answer>
         requires same_interlock { pass.old.table ≡ self.now.table }
@@ -50,8 +57,59 @@ impl<R: Rules> Interlock<R> {
         ensures all_lost { IfBusy result (λ n. pass.new.exchanges ≡ pass.old.exchanges + n) }
         ensures since { IfBusy result (HasChanges (R.book self.now.rules)
             pass.old.actor pass.new.since pass.new.seen) }
+        ensures real_time { IsTimed (R.book self.now.rules) [] pass.old call result pass.new }
     {
-        let mut word = self.load(pass, call);
+        let word = self.load(pass, call);
+        self.reply_from(pass, call, word)
+    }
+
+    /// Makes a call after all that a receipt tells. It is a call as by `ask`, with the same clauses
+    /// and steps: by its one load, all that the receipt tells stands before its beginning (`after`,
+    /// which holds what `real_time` says).
+    ///
+    /// The pass was made with this interlock, and so was the receipt's.
+    #[inline(always)]
+    pub fn ask_after(
+        &self,
+        pass: &mut Pass<R>,
+        call: R::Call,
+        receipt: Receipt<R>,
+    ) -> Reply<R::Answer>
+        requires same_interlock { (pass.old.table ≡ self.now.table)
+            × (receipt.table ≡ self.now.table) }
+        ensures pass { IsSamePass pass.old pass.new }
+        ensures lawful { IsLawful (R.book self.now.rules) pass.old.opening pass.new.seen }
+        ensures seen { SeenAfter (R.book self.now.rules) pass.old.actor call result
+            pass.old.opening pass.old.seen pass.new.seen }
+        ensures answer { IfSettled result
+            (λ answer. AnswersAtItsPoint (R.book self.now.rules) pass.old call answer pass.new) }
+        ensures right { IfSettled result
+            (λ answer. WaitsToItsPoint (R.book self.now.rules) pass.old call answer pass.new) }
+        ensures busy { IfBusy result (λ lost. IsOvertaken (R.book self.now.rules)
+            pass.old pass.old.seen call self.now.tries lost pass.new) }
+        ensures one_load { pass.new.loads ≡ pass.old.loads + 1 }
+        ensures few_exchanges { pass.new.exchanges ≤ pass.old.exchanges + self.now.tries }
+        ensures all_lost { IfBusy result (λ n. pass.new.exchanges ≡ pass.old.exchanges + n) }
+        ensures since { IfBusy result (HasChanges (R.book self.now.rules)
+            pass.old.actor pass.new.since pass.new.seen) }
+        ensures after { IsTimed (R.book self.now.rules) (told_by receipt ∷ [])
+            pass.old call result pass.new }
+    {
+        let word = self.load_after(pass, call, receipt);
+        self.reply_from(pass, call, word)
+    }
+
+    // What comes back from a call after its load, which found this word.
+    #[inline(always)]
+    fn reply_from(&self, pass: &mut Pass<R>, call: R::Call, found: u64) -> Reply<R::Answer>
+        requires same_interlock { pass.old.table ≡ self.now.table }
+        requires loaded { (heard : _) × (v : _)
+            × Loaded (R.book self.now.rules) self.now.rules call heard v found pass.old }
+        ensures asked { (heard : _) (v : _)
+            → Loaded (R.book self.now.rules) self.now.rules call heard v found pass.old
+            → Asked (R.book self.now.rules) heard v call self.now.tries result pass.new }
+    {
+        let mut word = found;
         let (mut answer, mut new) = self.reply_at(word, pass.actor(), call);
         if !self.is_done(answer) {
             return Reply::Settled(answer, self.stamp_of(word));
@@ -84,8 +142,37 @@ impl<R: Rules> Interlock<R> {
         ensures looked { Looked (R.book self.now.rules) pass call self.now.tries result }
         ensures one_load { (after_look result).loads ≡ pass.loads + 1 }
         ensures no_exchange { (after_look result).exchanges ≡ pass.exchanges }
+        ensures real_time { IsLookTimed (R.book self.now.rules) [] pass call result }
     {
         let found = self.load(&mut pass, call);
+        self.look_from(pass, call, found)
+    }
+
+    /// The first step of a call after all that a receipt tells, one load. It is a look, and all that
+    /// the receipt tells stands before the beginning of the call (`after`).
+    ///
+    /// The pass was made with this interlock, and so was the receipt's.
+    pub fn look_after(&self, mut pass: Pass<R>, call: R::Call, receipt: Receipt<R>) -> Look<R>
+        requires same_interlock { (pass.table ≡ self.now.table)
+            × (receipt.table ≡ self.now.table) }
+        ensures looked { Looked (R.book self.now.rules) pass call self.now.tries result }
+        ensures one_load { (after_look result).loads ≡ pass.loads + 1 }
+        ensures no_exchange { (after_look result).exchanges ≡ pass.exchanges }
+        ensures after { IsLookTimed (R.book self.now.rules) (told_by receipt ∷ [])
+            pass call result }
+    {
+        let found = self.load_after(&mut pass, call, receipt);
+        self.look_from(pass, call, found)
+    }
+
+    // What a look gives after its load, which found this word.
+    fn look_from(&self, pass: Pass<R>, call: R::Call, found: u64) -> Look<R>
+        requires loaded { (heard : _) × (v : _)
+            × Loaded (R.book self.now.rules) self.now.rules call heard v found pass }
+        ensures looked { (heard : _) (v : _)
+            → Loaded (R.book self.now.rules) self.now.rules call heard v found pass
+            → LookedAt (R.book self.now.rules) heard v call self.now.tries result }
+    {
         let (answer, new) = self.reply_at(found, pass.actor(), call);
         if self.is_done(answer) {
             Look::Pending(Try {
@@ -106,12 +193,14 @@ impl<R: Rules> Interlock<R> {
     /// call may change nothing any more, by the word that it found, and is answered. Otherwise the
     /// call has lost one more exchange, and is Busy once it has lost as many as it may.
     ///
-    /// The call's pass was made with this interlock.
+    /// The call's pass was made with this interlock. A call that began when its pass was as before
+    /// `look` goes on since then (`real_time`).
     pub fn attempt(&self, pending: Try<R>) -> Tried<R>
         requires same_interlock { pending.pass.table ≡ self.now.table }
         ensures attempted { Attempted (R.book self.now.rules) pending result }
         ensures no_load { (after_attempt result).loads ≡ pending.pass.loads }
         ensures one_exchange { (after_attempt result).exchanges ≡ pending.pass.exchanges + 1 }
+        ensures real_time { IsAttemptTimed (R.book self.now.rules) pending result }
     {
         let Try {
             mut pass,

@@ -1,6 +1,11 @@
 //! Laws of any rules: functions that do nothing. A function's contract is its law.
+ghost use Rattle.std.specs.Prelude.{ℕ};
 ghost use Rattle.word_interlock.specs.History.{IsLawful};
+ghost use Rattle.word_interlock.specs.MomentExamples.{MomentExamples};
+ghost use Rattle.word_interlock.specs.One.{HistoryIsSeen, MomentsAreShown};
 ghost use Rattle.word_interlock.specs.Order.{ReceiptsOrderCalls, ReceiptsRaiseStamps};
+ghost use Rattle.word_interlock.specs.Run.{AnsweredCallsAreOver, CallsFollowReceipts, RunsKeepOrder};
+ghost use Rattle.word_interlock.specs.Settling.{BusyIsPaid};
 
 use crate::pass::Pass;
 use crate::rules::Rules;
@@ -21,4 +26,59 @@ pub fn passes_see_lawful_histories<R: Rules>(pass: &Pass<R>)
 {
     // Reading the seat shows it.
     let _ = &pass.seat;
+}
+
+/// A call that is asked after a receipt (`Interlock::ask_after`) begins after the event of each call
+/// that was answered before the receipt was taken.
+pub fn calls_follow_receipts<R: Rules>(rules: &R)
+    ensures { CallsFollowReceipts R (R.book rules.now) }
+{
+    let _ = rules;
+}
+
+/// In a run (`Interlock::close`) each event is that of one call, which began before it. Of two calls
+/// that don't overlap, the earlier one stands first in the history.
+pub fn runs_keep_order<R: Rules>(rules: &R)
+    ensures { RunsKeepOrder (R.book rules.now) }
+{
+    let _ = rules;
+}
+
+/// After a call was answered, its actor has no call that has begun, so no exchange is allowed to it
+/// before its next load.
+pub fn answered_calls_are_over<R: Rules>(rules: &R)
+    ensures { AnsweredCallsAreOver R (R.book rules.now) }
+{
+    let _ = rules;
+}
+
+/// Lists of moments, and calls in them, that are in order, and others that aren't.
+pub fn moments_are_known<R: Rules>(rules: &R)
+    ensures { MomentExamples R (R.book rules.now) }
+{
+    let _ = rules;
+}
+
+/// At every time the history of the rule is empty, or one of the actors has seen it whole. So it is
+/// one history, which grows as what they have seen.
+pub fn history_is_seen<R: Rules>(rules: &R)
+    ensures { HistoryIsSeen (R.book rules.now) rules.now (Unit {0}) }
+{
+    let _ = rules;
+}
+
+/// At every time there are no moments, or the steps of one of the actors have shown it all of them.
+/// So they are one list, which grows by the actors' own steps.
+pub fn moments_are_shown<R: Rules>(rules: &R)
+    ensures { MomentsAreShown (R.book rules.now) rules.now (Unit {0}) }
+{
+    let _ = rules;
+}
+
+/// However many calls a pass makes: as often as one was Busy, `tries` changes of other actors were
+/// made, and the stamp was raised by as many.
+pub fn busy_is_paid<R: Rules>(rules: &R)
+    ensures { (tries : ℕ) → BusyIsPaid R (R.book rules.now) tries }
+{
+    let _ = rules;
 }

@@ -13,6 +13,7 @@ pub mod receipt;
 pub mod reply;
 pub mod rule;
 pub mod rules;
+pub mod settle;
 mod steps;
 mod survey;
 mod tell;

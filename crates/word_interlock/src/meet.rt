@@ -65,13 +65,15 @@ impl<R: Rules> Interlock<R> {
     /// Both passes were made with this interlock. They come back in their order, each still its
     /// actor's, and have seen no new event of their own actor (`left`, `right`). Each counts the one
     /// load of the meeting (`left_load`, `right_load`), and no exchange (`left_exchanges`,
-    /// `right_exchanges`).
+    /// `right_exchanges`). Their moments stay (`left_moments`, `right_moments`).
     pub fn meet(&self, left: Pass<R>, right: Pass<R>) -> (Pass<R>, Pass<R>)
         requires same_interlock { (left.table ≡ self.now.table)
             × (right.table ≡ self.now.table) }
         ensures left { HasSeenMore (R.book self.now.rules) left result.0 }
         ensures right { HasSeenMore (R.book self.now.rules) right result.1 }
         ensures same { result.0.seen ≡ result.1.seen }
+        ensures left_moments { result.0.moments ≡ left.moments }
+        ensures right_moments { result.1.moments ≡ right.moments }
         ensures left_load { result.0.loads ≡ left.loads + 1 }
         ensures right_load { result.1.loads ≡ right.loads + 1 }
         ensures left_exchanges { result.0.exchanges ≡ left.exchanges }

@@ -23,7 +23,7 @@ impl<R: Rules> Model for Receipt<R> {
     ghost use Rattle.word_interlock.specs.Views.{ReceiptView, receipt_with};
     ghost use Rattle.word_interlock.specs.Rule.{receipt_alone};
 
-    ghost Value = { ReceiptView R.State R.Event };
+    ghost Value = { ReceiptView R.State R.Actor R.Event };
 
     ghost view = { λ r. receipt_with r.seat.table_id (only_of r.seat.me.0.receipts r.one) };
 
@@ -77,7 +77,8 @@ impl<R: Rules> Interlock<R> {
     }
 
     /// Accepts a receipt: afterwards the pass has seen all that the receipt tells (`told`), and what
-    /// it had seen. It has no new event of its actor (`more`). No call is made: this is one load.
+    /// it had seen. It has no new event of its actor (`more`), and its moments stay (`moments`). No
+    /// call is made: this is one load. A call by `ask_after` needs no such load.
     ///
     /// The pass was made with this interlock, and so was the receipt's.
     pub fn accept(&self, pass: &mut Pass<R>, receipt: Receipt<R>)
@@ -86,6 +87,7 @@ impl<R: Rules> Interlock<R> {
         ensures more { HasSeenMore (R.book self.now.rules) pass.old pass.new }
         ensures told { BeginsWith pass.new.seen receipt.seen }
         ensures opening { receipt.opening ≡ pass.old.opening }
+        ensures moments { pass.new.moments ≡ pass.old.moments }
         ensures one_load { pass.new.loads ≡ pass.old.loads + 1 }
         ensures no_exchange { pass.new.exchanges ≡ pass.old.exchanges }
     {

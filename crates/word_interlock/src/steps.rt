@@ -1,11 +1,13 @@
 //! The steps on the word.
-ghost use Rattle.std.specs.Prelude.{◌≡◌, ◌↔◌, ℕ, []};
-ghost use Rattle.word_interlock.specs.Views.{view_of};
+ghost use Rattle.std.specs.Prelude.{◌≡◌, ◌↔◌, ℕ, [], ◌∷◌};
+ghost use Rattle.word_interlock.specs.Views.{view_of, told_by};
 ghost use Rattle.word_interlock.specs.Rule.{looked, exchanged, gathered};
 ghost use Rattle.word_interlock.specs.Steps.{Loaded, Exchanged, IsReady};
+ghost use Rattle.word_interlock.specs.Moments.{HasBegun};
 
 use crate::interlock::Interlock;
 use crate::pass::Pass;
+use crate::receipt::Receipt;
 use crate::rule::{Telling, Tells, View};
 use crate::rules::Rules;
 use atomic_table::Seat;
@@ -14,9 +16,9 @@ use std::marker::Brand;
 impl<R: Rules> Interlock<R> {
     fn load_for<A: Telling<(), View<R>>>(&self, pass: &mut Pass<R>, call: R::Call) -> u64
         requires told { (st : _) (me : _) (word : ℕ) (me' : _) → A.then st me word me'
-            ↔ looked (R.book self.now.rules) self.now.rules call (view_of pass.old) word me' }
+            ↔ looked (R.book self.now.rules) self.now.rules call [] (view_of pass.old) word me' }
         requires same_interlock { pass.old.table ≡ self.now.table }
-        ensures { Loaded (R.book self.now.rules) self.now.rules call pass.old result pass.new }
+        ensures { Loaded (R.book self.now.rules) self.now.rules call [] pass.old result pass.new }
     {
         self.table.shared.load::<Tells<A>>(&mut pass.seat, 0)
     }
@@ -24,9 +26,38 @@ impl<R: Rules> Interlock<R> {
     /// Loads the word for a call.
     pub(crate) fn load(&self, pass: &mut Pass<R>, call: R::Call) -> u64
         requires same_interlock { pass.old.table ≡ self.now.table }
-        ensures { Loaded (R.book self.now.rules) self.now.rules call pass.old result pass.new }
+        ensures { Loaded (R.book self.now.rules) self.now.rules call [] pass.old result pass.new }
     {
         self.load_for::<Brand>(pass, call)
+    }
+
+    fn load_after_for<A: Telling<(), View<R>>>(
+        &self,
+        pass: &mut Pass<R>,
+        call: R::Call,
+        receipt: Receipt<R>,
+    ) -> u64
+        requires told { (st : _) (me : _) (word : ℕ) (me' : _) → A.then st me word me'
+            ↔ looked (R.book self.now.rules) self.now.rules call (told_by receipt ∷ [])
+            (view_of pass.old) word me' }
+        requires same_interlock { (pass.old.table ≡ self.now.table)
+            × (receipt.table ≡ self.now.table) }
+        ensures { Loaded (R.book self.now.rules) self.now.rules call (told_by receipt ∷ [])
+            pass.old result pass.new }
+    {
+        let Receipt { seat } = receipt;
+        self.join(&mut pass.seat, seat);
+        self.table.shared.load::<Tells<A>>(&mut pass.seat, 0)
+    }
+
+    /// Loads the word for a call after all that a receipt tells.
+    pub(crate) fn load_after(&self, pass: &mut Pass<R>, call: R::Call, receipt: Receipt<R>) -> u64
+        requires same_interlock { (pass.old.table ≡ self.now.table)
+            × (receipt.table ≡ self.now.table) }
+        ensures { Loaded (R.book self.now.rules) self.now.rules call (told_by receipt ∷ [])
+            pass.old result pass.new }
+    {
+        self.load_after_for::<Brand>(pass, call, receipt)
     }
 
     fn exchange_for<A: Telling<(), View<R>>>(
@@ -43,6 +74,8 @@ impl<R: Rules> Interlock<R> {
         requires same_interlock { pass.old.table ≡ self.now.table }
         requires ready { pass.old.rules ≡ self.now.rules
             → IsReady (R.book self.now.rules) pass.old.actor call _answer old new }
+        requires begun { pass.old.rules ≡ self.now.rules
+            → HasBegun (R.book self.now.rules) pass.old.moments pass.old.actor }
         ensures { Exchanged (R.book self.now.rules) self.now.rules call
             pass.old old result pass.new }
     {
@@ -64,6 +97,8 @@ impl<R: Rules> Interlock<R> {
         requires same_interlock { pass.old.table ≡ self.now.table }
         requires ready { pass.old.rules ≡ self.now.rules
             → IsReady (R.book self.now.rules) pass.old.actor call answer old new }
+        requires begun { pass.old.rules ≡ self.now.rules
+            → HasBegun (R.book self.now.rules) pass.old.moments pass.old.actor }
         ensures { Exchanged (R.book self.now.rules) self.now.rules call
             pass.old old result pass.new }
     {

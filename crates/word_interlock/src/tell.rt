@@ -4,6 +4,7 @@ ghost use Rattle.word_interlock.specs.History.{IsLawful};
 ghost use Rattle.word_interlock.specs.Calls.{IfSettled, IsStampedAfter, SeenAfter, stamp_in};
 ghost use Rattle.word_interlock.specs.Seen.{IsSamePass};
 ghost use Rattle.word_interlock.specs.Order.{StandsBefore};
+ghost use Rattle.word_interlock.specs.Timing.{BeginsAfter};
 
 use crate::interlock::Interlock;
 use crate::pass::Pass;
@@ -12,12 +13,14 @@ use crate::rules::Rules;
 
 impl<R: Rules> Interlock<R> {
     /// Two calls in order, by a receipt: the first caller makes a call and takes a receipt; the
-    /// second accepts it and makes its own call. If both calls are answered, the first one's event
+    /// second makes its own call after that. If both calls are answered, the first one's event
     /// stands before the second one's in what the second caller then sees (`order`). The second
-    /// gets no lower stamp than the first, and a higher one if its call is done (`stamps`).
+    /// gets no lower stamp than the first, and a higher one if it is done (`stamps`). If the first is
+    /// answered, the second begins after its event, whatever comes back from it (`began_after`).
     ///
-    /// Both passes were made with this interlock. Between these four steps any others may come, and
-    /// the receipt may go from thread to thread: `laws::receipts_order_calls`.
+    /// Both passes were made with this interlock. Between these three steps any others may come, and
+    /// the receipt may go from thread to thread: `laws::receipts_order_calls`,
+    /// `laws::calls_follow_receipts`.
     pub fn tell(
         &self,
         first: &mut Pass<R>,
@@ -38,11 +41,13 @@ impl<R: Rules> Interlock<R> {
             ((R.book self.now.rules).event first.old.actor call x)
             ((R.book self.now.rules).event second.old.actor next y) second.new.seen)) }
         ensures stamps { IsStampedAfter (R.book self.now.rules) (stamp_in result.0) result.1 }
+        ensures began_after { IfSettled result.0 (λ x.
+            BeginsAfter ((R.book self.now.rules).event first.old.actor call x)
+            second.old.actor second.new.moments) }
     {
         let answer = self.ask(first, call);
         let receipt = self.receipt(first);
-        self.accept(second, receipt);
-        let later = self.ask(second, next);
+        let later = self.ask_after(second, next, receipt);
         (answer, later)
     }
 }

@@ -1,6 +1,7 @@
 use Rattle.cell_interlock.proofs.Names.{Ok, sym, subst, Reply, LawfulThroughout, event, SeenAfter, PassView, pass_from, IsSamePass, IfSettled, IsStampedAfter, stamp_in, StandsBefore}
 use Rattle.cell_interlock.proofs.Instance.{lawful_here, same_here, seen_here}
-use Rattle.cell_interlock.proofs.Order.{order_here, stamps_here}
+use Rattle.cell_interlock.proofs.Order.{order_here, stamps_here, began_here}
+use Rattle.word_interlock.specs.Timing.{BeginsAfter}
 use Rattle.cell_interlock.proofs.interlock.Interlock.tell.Goals as goal
 
 pub returns-clause-passes : goal.returns-clause-passes
@@ -38,3 +39,9 @@ pub returns-clause-stamps : goal.returns-clause-stamps
 returns-clause-stamps c =
     subst (λ (x : Reply × Reply). IsStampedAfter (stamp_in x.0) x.1) (λ i. (sym c.reply_of.ensures i, sym c.reply_of-2.ensures i))
     (stamps_here c.tell-answer.result.0 c.tell-answer.result.1 c.tell-answer.ensures.stamps)
+
+pub returns-clause-began_after : goal.returns-clause-began_after
+returns-clause-began_after c =
+    let told = c.tell-answer in
+    subst (λ (x : PassView × PassView × Reply). IfSettled x.2 (λ a. BeginsAfter (event x.0.machine c.args.call a) x.1.machine told.new.second.moments)) (λ i. (c.first.view_is i, c.second.view_is i, sym c.reply_of.ensures i))
+    (began_here told.result.0 c.first.inside.inner.actor c.args.call c.second.inside.inner.actor told.new.second.moments told.ensures.began_after)

@@ -10,7 +10,7 @@ compare_exchange-requires g c =
       search rules,
       search rules,
       exchange_allowed g.R.Rules.book g.met.R.Rules.lawful _ _ _ _ _ me _ c.args.call c.args._answer c.args.old c.args.new (g.A.Telling.then st me) (ap (λ i. i.rules) c.self.view_is)
-          (alone_as _ _ _ _ c.pass.invariant.alone c.pass.view_is) c.requires.ready (λ word me' told. (c.requires.told st me word me').1 told),
+          (alone_as _ _ _ _ c.pass.invariant.alone c.pass.view_is) c.requires.ready c.requires.begun (λ word me' told. (c.requires.told st me word me').1 told),
     )
 
 pub invariant_of-pass-inside : goal.invariant_of-pass-inside

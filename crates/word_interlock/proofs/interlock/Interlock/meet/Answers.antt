@@ -29,4 +29,4 @@ returns g c =
     let y : c.of-2.result ≡ pass_of c.args.right.table q = c.of-2.ensures q met.5 ∙ ap (λ t. pass_of t q) (tables.1 ∙ (left_table ∙ right_is_left)) in
     let k = more_at b r c.args.left c.of.result met.0 met.1 met.2 x in
     let l = more_at b r c.args.right c.of-2.result met.0 met.1 met.3 y in
-    record { left = k.0; right = l.0; same = ap (λ v. v.seen) x ∙ sym (ap (λ v. v.seen) y); left_load = k.1.0; right_load = l.1.0; left_exchanges = k.1.1; right_exchanges = l.1.1 }
+    record { left = k.0; right = l.0; same = ap (λ v. v.seen) x ∙ sym (ap (λ v. v.seen) y); left_moments = ap (λ v. v.moments) x; right_moments = ap (λ v. v.moments) y; left_load = k.1.0; right_load = l.1.0; left_exchanges = k.1.1; right_exchanges = l.1.1 }

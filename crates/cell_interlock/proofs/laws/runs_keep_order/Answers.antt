@@ -1,0 +1,6 @@
+use Rattle.word_interlock.proofs.Running.{runs_keep_order}
+use Rattle.cell_interlock.specs.Book.{cell_book}
+use Rattle.cell_interlock.proofs.laws.runs_keep_order.Goals as goal
+
+pub returns : goal.returns
+returns c = runs_keep_order cell_book
