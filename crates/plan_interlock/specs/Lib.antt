@@ -1,3 +1,4 @@
 pub mod Book
 pub mod BookKept
 pub mod Laws
+pub mod Order

@@ -5,6 +5,7 @@ ghost use Rattle.plan_rules.specs.State.{is_full};
 ghost use Rattle.plan_rules.specs.Sound.{IsStart};
 ghost use Rattle.plan_interlock.specs.Book.{plan_book, plan_of};
 ghost use Rattle.plan_interlock.specs.Laws.{EveryPassSeesLaws, RightsLast};
+ghost use Rattle.plan_interlock.specs.Order.{BusyCallsAreFew, CallsKeepOrder, HistoryIsOne};
 
 use crate::rules::PlanRules;
 use plan_rules::State;
@@ -29,6 +30,30 @@ pub fn passes_see_laws(rules: &PlanRules)
 /// zones that it hosts.
 pub fn rights_last(rules: &PlanRules)
     ensures { RightsLast (plan_of rules.now) }
+{
+    let _ = rules;
+}
+
+/// In a run (`close`) calls that don't overlap keep their order, and a call that is asked after a receipt (`ask_after`)
+/// begins after each call that was answered before the receipt was taken.
+pub fn calls_keep_order(rules: &PlanRules)
+    ensures { CallsKeepOrder (plan_of rules.now) }
+{
+    let _ = rules;
+}
+
+/// At every time the history of the rule is empty, or one of the callers has seen it whole; likewise the moments. So they
+/// are one, and grow as what callers have seen.
+pub fn history_is_one(rules: &PlanRules)
+    ensures { HistoryIsOne rules.now }
+{
+    let _ = rules;
+}
+
+/// However many calls a pass makes: as often as one was Busy, other machines made `tries` changes, and raised the stamp by
+/// as many. So over one interlock the Busy answers of a machine times `tries` are at most the last stamp.
+pub fn busy_is_paid(rules: &PlanRules)
+    ensures { (tries : ℕ) → BusyCallsAreFew (plan_of rules.now) tries }
 {
     let _ = rules;
 }

@@ -19,6 +19,10 @@ fn a_press_is_loaded_on_a_word(rt: HostRuntime) {
     assert!(rt; interlock.ask(&mut press, Call::Take(0)) == Reply::Settled(Answer::Done, 6));
     let state = interlock.survey(&mut loader);
     assert!(rt; !state.is_full(0) && state.is_full(1));
+    let receipt = interlock.receipt(&mut press);
+    let after = interlock.ask_after(&mut loader, Call::Give(0), receipt);
+    assert!(rt; after == Reply::Settled(Answer::Refused(Refusal::NotOwner(Some(1))), 6));
+    assert!(rt; interlock.settle(&mut press, Call::Release(0)) == (Answer::Done, 7));
     let (loader, press) = interlock.meet(loader, press);
     assert!(rt; loader.actor() == 0 && press.actor() == 1);
 }
