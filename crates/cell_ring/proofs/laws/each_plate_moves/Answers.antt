@@ -1,0 +1,6 @@
+use Rattle.cell_ring.proofs.Together.{each_plate_moves}
+use Rattle.cell_ring.proofs.Together.{in_each_stretch}
+use Rattle.cell_ring.proofs.laws.each_plate_moves.Goals as goal
+
+pub returns : goal.returns
+returns c = in_each_stretch _ each_plate_moves c.args.opening.now c.args.history.now c.states_are_sound.ensures.sound c.requires

@@ -1,0 +1,6 @@
+pub mod Lap
+pub mod Plates
+pub mod Following
+pub mod Arriving
+pub mod OneLap
+pub mod Figures
