@@ -1,11 +1,11 @@
 /* The interlock of the production cell, for C and C++.
 
    The state of the cell is one 64-bit word. bagunjoki_step answers a call on such a word, and gives the word after it.
-   bagunjoki_ask makes a call on a word that threads or processes share.
+   bagunjoki_ask makes a call on a word that threads or processes share; bagunjoki_settle asks until it is answered.
 
    What is proved (crates/cell_c): what the seven functions of the library return. What isn't: the loops of
-   bagunjoki_ask and bagunjoki_renew, which your compiler translates. They are right if
-     - nothing but these two writes the word after it was set to a start's, and
+   bagunjoki_ask, bagunjoki_settle and bagunjoki_renew, which your compiler translates. They are right if
+     - nothing but these three writes the word after it was set to a start's, and
      - no two callers call as the same machine.
    This header can't keep you from either. docs/FROM_C.md has the whole list of duties. */
 #ifndef BAGUNJOKI_H
@@ -118,7 +118,7 @@ enum bagunjoki_answer {
     BAGUNJOKI_SHOWN = 32,        /* the reply has the zone's owner, plate and posture */
     BAGUNJOKI_NO_CALL = 64,      /* the numbers name no machine or no call */
     BAGUNJOKI_NO_STATE = 65,     /* the word is no state's: something else has written it */
-    BAGUNJOKI_BUSY = 66          /* bagunjoki_ask alone: others made a change before each of its tries */
+    BAGUNJOKI_BUSY = 66          /* bagunjoki_ask alone: others made a change before each of its tries. Ask again */
 };
 
 /* No state has this word. */
@@ -201,6 +201,18 @@ static inline bagunjoki_reply bagunjoki_ask(bagunjoki_word *shared, uint8_t mach
         if (BAGUNJOKI_ATOMIC(compare_exchange_strong)(shared, &word, reply.next)) return reply;
         tries--;
     }
+}
+
+/* Asks until it is answered: never BUSY, and WORN is an answer. It ends: an exchange is lost only where another call has
+   changed the word, and after LAST_STAMP changes a call that would be DONE is WORN. So at most LAST_STAMP exchanges are
+   lost. After a renewal this count begins anew. Who has time for few exchanges only asks by bagunjoki_ask: then a
+   machine's calls are BUSY at most LAST_STAMP / tries times from one renewal to the next. No proof says so. */
+static inline bagunjoki_reply bagunjoki_settle(bagunjoki_word *shared, uint8_t machine, uint8_t verb, uint8_t object) {
+    bagunjoki_reply reply;
+    do {
+        reply = bagunjoki_ask(shared, machine, verb, object, BAGUNJOKI_LAST_STAMP);
+    } while (reply.answer == BAGUNJOKI_BUSY); /* only if it was renewed meanwhile */
+    return reply;
 }
 
 /* Keeps a shared word from wearing out: if its stamp is `from` or later, gives it the stamp `to`, and changes nothing

@@ -2,11 +2,12 @@
 
    `plan header` prints a plan's bytes, and the numbers of its machines, zones, poses and places, from 0. The state of
    the plant is one 64-bit word. bagunjoki_plan_step answers a call on such a word, and gives the word after it.
-   bagunjoki_plan_ask makes a call on a word that threads or processes share.
+   bagunjoki_plan_ask makes a call on a word that threads or processes share; bagunjoki_plan_settle asks until it is
+   answered.
 
    What is proved (crates/plan_c): what the four functions of the library return. What isn't: the loops of
-   bagunjoki_plan_ask and bagunjoki_plan_renew, which your compiler translates. They are right if
-     - nothing but these two writes the word after it was set to a start's,
+   bagunjoki_plan_ask, bagunjoki_plan_settle and bagunjoki_plan_renew, which your compiler translates. They are right if
+     - nothing but these three writes the word after it was set to a start's,
      - no two callers call as the same machine, and
      - all callers pass the same plan.
    This header can't keep you from any of it. docs/FROM_C.md has the whole list of duties. */
@@ -152,6 +153,18 @@ static inline bagunjoki_plan_reply bagunjoki_plan_ask(const uint8_t *plan, size_
         if (BAGUNJOKI_PLAN_ATOMIC(compare_exchange_strong)(shared, &word, reply.next)) return reply;
         tries--;
     }
+}
+
+/* Asks until it is answered, as bagunjoki_settle of bagunjoki.h, with the same bound: never BUSY. WORN is an answer, and
+   so is NO_MEMORY. */
+static inline bagunjoki_plan_reply bagunjoki_plan_settle(const uint8_t *plan, size_t length,
+                                                         bagunjoki_plan_word *shared, uint8_t machine, uint8_t verb,
+                                                         uint8_t object) {
+    bagunjoki_plan_reply reply;
+    do {
+        reply = bagunjoki_plan_ask(plan, length, shared, machine, verb, object, BAGUNJOKI_PLAN_LAST_STAMP);
+    } while (reply.answer == BAGUNJOKI_PLAN_BUSY); /* only if it was renewed meanwhile */
+    return reply;
 }
 
 /* Keeps a shared word from wearing out, as bagunjoki_renew: if its stamp is `from` or later, gives it the stamp `to`,

@@ -21,6 +21,7 @@ TYPES = compare.TYPES | {"bagunjoki_plan_reply": "Reply"}
 # The plans that programs here carry, by the examples of plan_bytes.
 PLANS = [("press", "bindings/examples/plan_press.c")]
 PLANS += [("lift", f"bindings/tests/plan_{it}.c") for it in ("walk", "memory")]
+PLANS += [("press", "bindings/tests/settle.c")]
 PRESS = "loader: 3000 calls done, stopped by 0\npress: 10000 calls done, stopped by 0\n"
 
 

@@ -17,6 +17,14 @@ C, CPP = ["-std=c11", *STRICT], ["-std=c++11", *STRICT]
 STRICT_TSAN = {"TSAN_OPTIONS": "halt_on_error=1 exitcode=66"}
 PYTHONS = range(9, 30)
 PLANTS = [("PLANTED", "a plain store", []), ("PLANTED_RENEWAL", "a plain renewal", ["renewals"])]
+# By hand: 1,048,575 changes until a word is worn, and one of eight of them for each time that a call is busy.
+SETTLED = """left alone: answer 0, 0 lost, stamp 1
+overtaken by 1000: answer 0, 1000 lost, stamp 1001
+overtaken by all: answer 13, 1048575 lost, stamp 1048575
+at the last stamp: answer 13, 0 lost, stamp 1048575
+renewed: answer 0, 1049575 lost, stamp 1
+asked with 8 tries: 131071 times busy, then answer 13, 1048575 lost
+"""
 INTERIOR = """press claims: answer 0, owner 0, posture 0, stamp 1
 robot claims: answer 2, owner 4, posture 0, stamp 1
 press releases: answer 0, owner 0, posture 0, stamp 2
@@ -151,6 +159,12 @@ def press_in_c(trials, compiler):
     return wants(first(found.split("\n")), first(wanted))
 
 
+def settled(trials, compiler, *flags):
+    """How many exchanges a call loses until it is answered, while others make all the changes that a word takes."""
+    library = "bagunjoki_plan" if flags else "bagunjoki"
+    return wants(trials.run([trials.compile(compiler, "tests/settle.c", *flags, library=library)]), SETTLED)
+
+
 # Scripts
 
 
@@ -262,6 +276,7 @@ def in_all_languages(trials, compilers):
     for compiler in compilers:
         trials.attempt(f"interior.c by {compiler}", example_in_c, trials, compiler, "examples/interior.c")
         trials.attempt(f"press.c by {compiler}", press_in_c, trials, compiler)
+        trials.attempt(f"settle.c by {compiler}", settled, trials, compiler)
         trials.attempt(f"scripts by replay.c, {compiler}", scripts_in_c, trials, compiler)
         trials.attempt(f"40,000,000 calls as in plain C, {compiler}", as_in_plain_c, trials, compiler)
     for compiler in trials.there("g++", "clang++"):
@@ -300,6 +315,7 @@ def at_other_plants(trials, compilers):
     """The library for any plan."""
     for compiler in compilers:
         trials.attempt(f"plan_press.c by {compiler}", plans.press, trials, compiler)
+        trials.attempt(f"settle.c at a press by {compiler}", settled, trials, compiler, "-DPLAN")
         trials.attempt(f"calls at a lift as by the rules, {compiler}", plans.walk, trials, compiler)
         for which in ("address,undefined", "thread"):
             if can_sanitize(compiler, which):

@@ -1,6 +1,7 @@
 /* Six threads use the word up several times: each of them claims zones that are open to it, counts in the memory that
-   the zone protects, and releases them. Each renews the word near its end. Writes how many changes they made, and how
-   often stamps began again. It is wrong if a call is worn, if two are in a zone at once, or if a count is lost.
+   the zone protects, and releases them, which is settled. Each renews the word near its end. Writes how many changes
+   they made, and how often stamps began again. It is wrong if a call is worn, if a release isn.t done, if two
+   are in a zone at once, or if a count is lost.
 
      wear [ROUNDS]   a round claims each zone of the machine once */
 #include "bagunjoki.h"
@@ -36,7 +37,8 @@ static const uint8_t zones_of[MACHINES + 1][2] = {{0}, {1, 6}, {2, 1}, {3, 4}, {
 
 static uint8_t ask(struct caller *it, uint8_t verb, uint8_t zone) {
     bagunjoki_renew(&word, FROM, 0, TRIES);
-    bagunjoki_reply reply = bagunjoki_ask(&word, it->machine, verb, zone, TRIES);
+    bagunjoki_reply reply = verb == BAGUNJOKI_RELEASE ? bagunjoki_settle(&word, it->machine, verb, zone)
+                                                      : bagunjoki_ask(&word, it->machine, verb, zone, TRIES);
     uint32_t stamp = bagunjoki_stamp(reply.next);
     it->renewals += stamp < it->stamp;
     it->stamp = stamp;
@@ -53,11 +55,7 @@ static void use(struct caller *it, uint8_t zone) {
     it->uses++;
     if (inside[zone].machine != it->machine) it->wrong = "two machines are in a zone";
     inside[zone].machine = BAGUNJOKI_NOBODY;
-    for (;;) {
-        uint8_t answer = ask(it, BAGUNJOKI_RELEASE, zone);
-        if (answer == BAGUNJOKI_DONE || it->wrong) return;
-        if (answer != BAGUNJOKI_BUSY) it->wrong = "a release is refused";
-    }
+    if (ask(it, BAGUNJOKI_RELEASE, zone) != BAGUNJOKI_DONE && !it->wrong) it->wrong = "a release isn't done";
 }
 
 static void *in_thread(void *caller) {
