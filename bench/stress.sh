@@ -1,33 +1,44 @@
 #!/usr/bin/env bash
-# Drives the interlock from seven threads, and looks for one legal history of all that they were told. They send each
-# other letters with receipts, and who accepts one has to be answered after it.
+# Drives the interlock from seven threads, and looks for one legal history of all that they were told, in the order of
+# time: a clock counts when calls begin and end. They send each other letters with receipts, and who accepts one has to
+# be answered after it.
 #
 #   bench/stress.sh [SEED [CALLS]]               1 and 10,000,000 if absent
-#   bench/stress.sh planted BUG [SEED [CALLS]]   the same with a planted bug, which has to be found
+#   bench/stress.sh planted BUG [SEED [CALLS]]   the same with a planted bug, which has to be found; 1 and 200,000
 #
 # The program in bench/stress is proved and built in a copy of the repository, since it isn't part of it; check.py there
 # runs and checks it. A bug is planted by the edits of bench/stress/planted (docs/ATTACKS.md has their form). The prover
-# refuses such bugs, so the program is then run unproved. The bugs:
+# refuses such bugs, so the program is then run unproved. Three bugs have to be found without the clock:
 #
 # - plain_store: a load and a plain store instead of the compare-exchange;
-# - receipt_tells_nothing, accept_forgets: of a lazy interlock, where a receipt carries no word, or accept keeps none;
-# - lazy: nothing is wrong with it for its callers, so nothing is found, and the status is 1. A call that the word which
-#   its pass found last would answer without a change is answered so, with no load. A receipt carries that word, and
-#   accept keeps the later of two. All answers fit one history, in the order of each caller, after the letters it read.
-#   In the two bugs above they still fit one history. Only the letters show that it isn't the right one.
+# - receipt_tells_nothing, accept_forgets: of the lazy interlock below, where a receipt carries no word, or accept keeps
+#   none. All answers fit one history, in the order of each caller. The letters show that it isn't the right one.
+#
+# In three others, late answers, nothing is wrong but the order of time. All answers fit one history, in the order of
+# each caller, after the letters that it read; so nothing may be found without the clock, and with it they have to be:
+#
+# - lazy: a call that the word which its pass found last would answer without a change is answered so, with no load. A
+#   receipt carries that word, and accept keeps the later of two;
+# - loads_ahead: a call is answered by the word that the call before it loaded, and loads the word for the next one;
+# - keeps_the_lost_word: a call begins with the word that the call before it found instead of its own, where that one
+#   lost its last exchange: it was Busy, abandoned, or refused then.
 set -euo pipefail
 top=$(cd "$(dirname "$0")/.." && pwd)
 planted=()
+is_late=false
+calls=10000000
 if [ "${1:-}" = planted ]; then
+    calls=200000
     case ${2:-} in
-        plain_store | lazy) planted=("$2") ;;
+        plain_store) planted=("$2") ;;
         receipt_tells_nothing | accept_forgets) planted=(lazy "$2") ;;
+        lazy | loads_ahead | keeps_the_lost_word) planted=("$2") is_late=true ;;
         *) sed -n '2,/^set/{/^#/s/^# \{0,1\}//p}' "$0"; exit 2 ;;
     esac
     shift 2
 fi
 seed=${1:-1}
-calls=${2:-10000000}
+calls=${2:-$calls}
 work=$(mktemp -d)
 trap 'rm -rf "$work"' EXIT
 for crate in cell_types cell_rules cell_word word_interlock cell_interlock; do
@@ -64,16 +75,19 @@ for path, text in texts.items():
         it.write(text)
 END
     done
-    # what an unproved run writes is cut at 1 MiB, so these are short
+    # whether check.py finds nothing (0) or something (1); what an unproved run writes is cut at 1 MiB, so these are short
+    finds() {
+        python3 "$top/bench/stress/check.py" "$@" "$seed" "$calls" 33600 "${RT:-rt}" try
+    }
     status=0
-    python3 "$top/bench/stress/check.py" "$seed" "$calls" 70000 "${RT:-rt}" try > "$work/said" || status=$?
-    cat "$work/said"
-    if [ "$status" = 1 ] && grep -q '^wrong, in' "$work/said"; then
-        echo "the planted bug was found"
-        exit 0
+    finds --no-clock || status=$?
+    if [ "$is_late" = true ]; then
+        [ "$status" = 0 ] || { echo "without the clock it wasn't so that nothing was found"; exit 1; }
+        finds || status=$?
     fi
-    echo "the planted bug wasn't found"
-    exit 1
+    [ "$status" = 1 ] || { echo "the planted bug wasn't found"; exit 1; }
+    echo "the planted bug was found"
+    exit 0
 fi
 
 if ! "${RT:-rt}" run <<< '3 0 2 100 50 100 8 20 1' > "$work/built" 2>&1; then

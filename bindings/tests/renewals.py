@@ -46,7 +46,7 @@ def continue_stamps(journals):
     return [list(map(again, journal)) for journal in journals], renewals
 
 
-def judge(plan, journals, counts):
+def judge(plan, journals, counts, times):
     """Looks for the legal history of a run."""
     journals, renewals = continue_stamps(journals)
 
@@ -63,7 +63,7 @@ def judge(plan, journals, counts):
                 self.stamp, begun = renewal, end
             super().follow(events[begun:])
 
-    check.check(plan, journals, counts, Renewed)
+    check.check(plan, journals, counts, times, Renewed)
     judge.renewals += len(renewals)
 
 

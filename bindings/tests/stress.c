@@ -5,7 +5,8 @@
      stress processes   three processes that share memory, of feed and table, robot and press, and the others
      stress .. renewals all of them renew the word before their calls; renewals.py judges that
 
-   With PLANTED a call is a load and a plain store, with PLANTED_RENEWAL a renewal is: both have to be found. */
+   Bugs that have to be found: with PLANTED a call is a load and a plain store, with PLANTED_RENEWAL a renewal is. With
+   PLANTED_LATE a call begins with the word that the caller's last one left, unless it has read a letter since. */
 #define _GNU_SOURCE
 #include "bagunjoki.h"
 #include <pthread.h>
@@ -24,18 +25,25 @@ struct plan {
     uint64_t places, stamp, tries, calls, by_steps, wait, ahead, letters, seed;
 };
 
-/* A machine that calls: what it may hold by what it was told last, and its notes. */
-struct caller {
-    uint8_t machine;
-    uint64_t numbers, held;
-    bool has_stopped;
-    uint64_t *notes;
+/* What is noted of a call, and the moments at which it began and ended. */
+struct entry {
+    uint64_t note, began, ended;
 };
 
-/* In memory that all share. `told` has the stamp that each machine was told last: its letter to the others. */
+/* A machine that calls: what it may hold by what it was told last, the word that its last call left, and its entries. */
+struct caller {
+    uint8_t machine;
+    uint64_t numbers, held, left;
+    bool has_stopped;
+    uint64_t *count;
+    struct entry *entries;
+};
+
+/* In memory that all share. `told` has the stamp that each machine was told last: its letter to the others. The clock
+   has the next moment. */
 struct shared {
     bagunjoki_word word;
-    _Atomic uint64_t there, made, told[MACHINES];
+    _Atomic uint64_t there, made, clock, told[MACHINES];
 };
 static struct shared *shared;
 static struct plan plan;
@@ -136,9 +144,17 @@ static bool exchange(uint64_t *word, uint64_t next) {
 #endif
 }
 
+static uint64_t first_word(struct caller *it) {
+#ifdef PLANTED_LATE
+    if (it->left != BAGUNJOKI_NO_WORD) return it->left;
+#endif
+    (void)it;
+    return atomic_load(&shared->word);
+}
+
 /* The loop of bagunjoki_ask, but that it waits before an exchange, and counts those that it sees lost. */
 static bagunjoki_reply ask_by_steps(struct caller *it, struct call call, uint64_t *lost) {
-    uint64_t word = atomic_load(&shared->word);
+    uint64_t word = first_word(it);
     for (;;) {
         bagunjoki_reply reply = bagunjoki_step(word, it->machine, call.verb, call.object);
         if (reply.answer != BAGUNJOKI_DONE) return reply;
@@ -153,18 +169,24 @@ static bagunjoki_reply ask_by_steps(struct caller *it, struct call call, uint64_
     }
 }
 
-static uint64_t ask(struct caller *it, struct call call, bool by_steps) {
-    uint64_t lost = 0;
-#ifdef PLANTED
-    bagunjoki_reply reply = ask_by_steps(it, call, &lost);
-#else
-    bagunjoki_reply reply =
-        by_steps ? ask_by_steps(it, call, &lost)
-                 : bagunjoki_ask(&shared->word, it->machine, call.verb, call.object, (unsigned)plan.tries);
+/* A call in one of three ways: one of eight that aren't made by steps is settled. */
+static bagunjoki_reply reply_to(struct caller *it, struct call call, bool by_steps, uint64_t *lost) {
+#if defined(PLANTED) || defined(PLANTED_LATE)
+    by_steps = true;
 #endif
+    if (by_steps) return ask_by_steps(it, call, lost);
+    if (below(it, 8) == 0) return bagunjoki_settle(&shared->word, it->machine, call.verb, call.object);
+    return bagunjoki_ask(&shared->word, it->machine, call.verb, call.object, (unsigned)plan.tries);
+}
+
+static struct entry ask(struct caller *it, struct call call, bool by_steps) {
+    uint64_t lost = 0, began = atomic_fetch_add(&shared->clock, 1);
+    bagunjoki_reply reply = reply_to(it, call, by_steps, &lost);
+    uint64_t ended = atomic_fetch_add(&shared->clock, 1);
     if (reply.answer == BAGUNJOKI_BUSY) lost = plan.tries;
     learn(it, call, reply.answer);
-    return note_of(call, reply, lost, by_steps);
+    it->left = reply.next;
+    return (struct entry){note_of(call, reply, lost, by_steps), began, ended};
 }
 
 /* Each renewal leads into a range of stamps of its own, below the last one: so notes say how many came before. */
@@ -194,18 +216,23 @@ static void keep_pace(uint64_t own) {
     for (unsigned k = 0; k < 200 && own > atomic_load(&shared->made) / MACHINES + plan.ahead; k++) sched_yield();
 }
 
-/* The first number of the notes is how many there are. */
-static void add_note(struct caller *it, uint64_t note) { it->notes[++it->notes[0]] = note; }
+static void add(struct caller *it, struct entry entry) { it->entries[(*it->count)++] = entry; }
 
-/* A call. Before it, the machine may read a letter: it mustn't be told a lower stamp then. */
+/* A letter may have come: its reader mustn't be told a lower stamp then. */
+static void read_letter(struct caller *it) {
+    if (!plan.letters || below(it, 100) >= plan.letters) return;
+    uint64_t stamp = atomic_load(&shared->told[below(it, MACHINES)]);
+    add(it, (struct entry){stamp | (uint64_t)CHECK_LETTER << 20, 0, 0});
+    it->left = BAGUNJOKI_NO_WORD;
+}
+
 static void call_once(struct caller *it) {
-    if (plan.letters && below(it, 100) < plan.letters)
-        add_note(it, atomic_load(&shared->told[below(it, MACHINES)]) | (uint64_t)CHECK_LETTER << 20);
+    read_letter(it);
     struct call call = next_call(it);
     renew();
-    uint64_t note = ask(it, call, below(it, 100) < plan.by_steps);
-    add_note(it, note);
-    atomic_store(&shared->told[it->machine - 1], note & BAGUNJOKI_LAST_STAMP);
+    struct entry entry = ask(it, call, below(it, 100) < plan.by_steps);
+    add(it, entry);
+    atomic_store(&shared->told[it->machine - 1], entry.note & BAGUNJOKI_LAST_STAMP);
 }
 
 static void *in_thread(void *caller) {
@@ -265,7 +292,9 @@ static void prepare(void) {
     for (unsigned k = 0; k < MACHINES; k++) {
         callers[k].machine = (uint8_t)(k + 1);
         callers[k].numbers = (plan.seed * 7 + k) * 0x9E3779B97F4A7C15u;
-        callers[k].notes = memory_for_all((size_t)(2 * plan.calls + 1) * sizeof(uint64_t));
+        callers[k].left = BAGUNJOKI_NO_WORD;
+        callers[k].count = memory_for_all(sizeof(uint64_t));
+        callers[k].entries = memory_for_all((size_t)(2 * plan.calls) * sizeof(struct entry));
         atomic_store(&shared->told[k], plan.stamp);
     }
 }
@@ -287,11 +316,18 @@ static bool read_plan(void) {
     return count >= 8;
 }
 
+static void write_entries(uint64_t count, const struct entry *entries) {
+    fwrite(&count, sizeof count, 1, stdout);
+    fwrite(entries, sizeof *entries, count, stdout);
+}
+
 /* What the watch is told of each zone in the end. */
-static void look_last(uint64_t *last) {
-    last[0] = ZONES;
+static void look_last(void) {
+    struct entry last[ZONES];
+    callers[MACHINES - 1].left = BAGUNJOKI_NO_WORD;
     for (uint8_t zone = 1; zone <= ZONES; zone++)
-        last[zone] = ask(&callers[MACHINES - 1], zone_call(BAGUNJOKI_INQUIRE, zone), false);
+        last[zone - 1] = ask(&callers[MACHINES - 1], zone_call(BAGUNJOKI_INQUIRE, zone), false);
+    write_entries(ZONES, last);
 }
 
 int main(int count, char **words) {
@@ -300,9 +336,7 @@ int main(int count, char **words) {
     if (!read_plan()) return 2;
     prepare();
     bool is_good = in_processes ? run_processes() : run_threads();
-    uint64_t last[ZONES + 1];
-    look_last(last);
-    for (unsigned k = 0; k < MACHINES; k++) fwrite(callers[k].notes, sizeof(uint64_t), callers[k].notes[0] + 1, stdout);
-    fwrite(last, sizeof *last, ZONES + 1, stdout);
+    for (unsigned k = 0; k < MACHINES; k++) write_entries(*callers[k].count, callers[k].entries);
+    look_last();
     return is_good && fflush(stdout) == 0 ? 0 : 1;
 }

@@ -17,6 +17,7 @@ C, CPP = ["-std=c11", *STRICT], ["-std=c++11", *STRICT]
 STRICT_TSAN = {"TSAN_OPTIONS": "halt_on_error=1 exitcode=66"}
 PYTHONS = range(9, 30)
 PLANTS = [("PLANTED", "a plain store", []), ("PLANTED_RENEWAL", "a plain renewal", ["renewals"])]
+PLANTS += [("PLANTED_LATE", "answers from the word of the call before", [])]
 # By hand: 1,048,575 changes until a word is worn, and one of eight of them for each time that a call is busy.
 SETTLED = """left alone: answer 0, 0 lost, stamp 1
 overtaken by 1000: answer 0, 1000 lost, stamp 1001
@@ -236,7 +237,7 @@ def load(trials, program, calls, ways, **environment):
 
 
 def find_bug(trials, program, ways):
-    """A plain store instead of the exchange has to be found."""
+    """A planted bug has to be found."""
     said = verdict_of(trials, program, 1_000_000, 70_000, ways, status=1)
     if not re.search(r"^wrong, in", said, re.M):
         raise Failed(f"check.py says\n{said}")
