@@ -301,6 +301,8 @@ def under_load(trials, compilers, calls):
         for flag, what, more in PLANTS:
             wrong = trials.compile(compiler, "tests/stress.c", f"-D{flag}")
             trials.attempt(f"{name}, with {what}", find_bug, trials, wrong, [*ways, *more])
+            if flag == "PLANTED_LATE":
+                trials.attempt(f"{name}, with these and no clock", load, trials, wrong, some, [*ways, "--no-clock"])
     for compiler in compilers:
         wear = trials.compile(compiler, "tests/wear.c")
         trials.attempt(f"worn several times, {compiler}", wear_often, trials, wear, 1_000_000, 3)
