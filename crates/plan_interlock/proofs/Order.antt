@@ -11,7 +11,7 @@ use Rattle.plan_interlock.specs.BookKept.{plan_is_rule_book}
 use Rattle.plan_interlock.specs.Order.{BusyCallsAreFew, CallsKeepOrder, HistoryIsOne}
 
 pub calls_keep_order : (t : PlanTable) → CallsKeepOrder t
-calls_keep_order t = record { runs = runs_keep_order (plan_book t); receipts = calls_follow_receipts (plan_book t) PlanRules }
+calls_keep_order t = record { runs = runs_keep_order (plan_book t) (plan_is_rule_book t); receipts = calls_follow_receipts (plan_book t) PlanRules }
 
 pub history_is_one : (rules : PlanRules) → HistoryIsOne rules
 history_is_one rules = let t = plan_of rules in record {

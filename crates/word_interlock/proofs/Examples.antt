@@ -6,9 +6,9 @@ use Rattle.word_interlock.specs.declared.views.HistoryView.{HistoryView}
 use Rattle.word_interlock.specs.declared.views.Moment.{Moment}
 use Rattle.word_interlock.specs.declared.views.Moment.TheVariants.{Begins, Answered}
 use Rattle.word_interlock.specs.Views.{PassView}
-use Rattle.word_interlock.specs.Moments.{events_of, own_moments, HasBegun, AreCalls}
+use Rattle.word_interlock.specs.Moments.{events_of, actor_at, own_moments, HasBegun, AreCalls}
 use Rattle.word_interlock.specs.Timing.{Lasts}
-use Rattle.word_interlock.specs.MomentExamples.{AreTwoActors, CallExamples, LastsExamples, MomentExamples, receipt_of_f}
+use Rattle.word_interlock.specs.MomentExamples.{AreTwoActors, CallExamples, LastsExamples, MomentExamples, receipt_with}
 use Rattle.word_interlock.proofs.Moments.{no_end, own-append, calls-begin, calls-answer, begun, begun-as, own-one, own-more, not_own, none_begun, none_answered, head_or, rest_of}
 
 module _ {S M C A E : Type 0} (b : RuleBook S M C A E) (law : IsRuleBook b) where
@@ -69,6 +69,16 @@ module _ {R S M C A E : Type 0} (b : RuleBook S M C A E) (law : IsRuleBook b) (m
       k.is ∙ (append_assoc k.first (Begins before.actor ∷ k.between) (Answered e ∷ []) ∙ ap (λ (x : M). k.first ++ Begins x ∷ (k.between ++ Answered e ∷ [])) who) in
       one_place b law m p (l ++ Answered e ∷ []) k.first (k.between ++ Answered e ∷ []) (none_begun b law m p none_before) (none_answered b law m l e none_after) (sym is ∙ whole)
 
+  -- of two beginnings one is before the other one's call, or during it
+  begins_once : (first between : List (Moment M E)) → Begins m ∷ Begins m ∷ [] ≡ first ++ Begins m ∷ between → own_moments b first m ≡ [] → own_moments b between m ≡ [] → ⊥
+  begins_once [] between is none_first none_after =
+      let one : own_moments b (Begins m ∷ []) m ≡ Begins m ∷ [] = own-one b (Begins m) m true (law.itself m) in
+      let has : Begins m ∷ [] ≡ [] = sym one ∙ (ap (λ (l : List (Moment M E)). own_moments b l m) (ap rest_of is) ∙ none_after) in cc
+  begins_once (x ∷ first) between is none_first none_after =
+      let same : x ≡ Begins m = sym (ap (head_or x) is) in
+      let mine : own_moments b (x ∷ []) m ≡ x ∷ [] = own-one b x m true (ap (λ (y : Moment M E). b.same (actor_at b y) m) same ∙ law.itself m) in
+      let has : x ∷ own_moments b first m ≡ [] = sym (own-append b (x ∷ []) first m ∙ ap (λ (l : List (Moment M E)). l ++ own_moments b first m) mine) ∙ none_first in cc
+
   -- f isn't e
   apart_events : ¬ (f ≡ e)
   apart_events same =
@@ -109,6 +119,13 @@ module _ {R S M C A E : Type 0} (b : RuleBook S M C A E) (law : IsRuleBook b) (m
     not_anew_after_busy = λ k.
         let at : k.first ≡ [] = first_is [] _ _ k [] [] refl refl refl refl in
         let has : [] ≡ Begins m ∷ k.begins.0 = sym at ∙ k.begins.1 in cc;
+    before_a_beginning_that_it_was_shown = λ k.
+        let at : k.first ≡ [] = first_is [] _ _ k [] (Begins n ∷ []) refl refl refl (begin_foreign b law m n e f two) in
+        let has : [] ≡ Begins n ∷ k.begins.0 = sym at ∙ k.begins.1 in cc;
+    sees_less = λ k. let has : e ∷ [] ≡ f ∷ e ∷ [] = k.seen in cc;
+    begun_twice = λ k.
+        let whole = same_from_push (Begins m ∷ Begins m ∷ []) (k.first ++ Begins m ∷ k.between) (Answered e) (Answered e) k.is in
+        begins_once k.first k.between whole.0 k.own_first k.own_between;
     by_its_load = record {
       first = Begins n ∷ [];
       between = Answered f ∷ [];
@@ -141,9 +158,12 @@ module _ {R S M C A E : Type 0} (b : RuleBook S M C A E) (law : IsRuleBook b) (m
       seen = refl;
       load = inr (refl, refl);
     };
-    before_a_receipt = λ k.
-        let at : k.first ≡ Begins n ∷ [] = first_is (receipt_of_f b m n e f v ∷ []) _ _ k (Begins n ∷ []) (Answered f ∷ []) refl refl (begin_foreign b law m n e f two) (answer_foreign b law m n e f two) in
+    before_what_a_receipt_tells = λ k.
+        let at : k.first ≡ Begins n ∷ [] = first_is (receipt_with b m n e f v (f ∷ []) [] ∷ []) _ _ k (Begins n ∷ []) (Answered f ∷ []) refl refl (begin_foreign b law m n e f two) (answer_foreign b law m n e f two) in
         let has : [] ≡ f ∷ k.told.0.begins.0 = sym (ap events_of at) ∙ k.told.0.begins.1 in cc;
+    before_a_beginning_that_a_receipt_tells = λ k.
+        let at : k.first ≡ [] = first_is (receipt_with b m n e f v [] (Begins n ∷ []) ∷ []) _ _ k [] (Begins n ∷ []) refl refl refl (begin_foreign b law m n e f two) in
+        let has : [] ≡ Begins n ∷ k.shown.0.0 = sym at ∙ k.shown.0.1 in cc;
     answered_before_another = λ k.
         let last : Answered f ≡ Answered e = (same_from_push (Begins n ∷ Begins m ∷ Answered e ∷ []) (k.first ++ Begins m ∷ k.between) (Answered f) (Answered e) k.is).1 in
         let same : f ≡ e = cc in absurd (apart_events same);

@@ -1,6 +1,6 @@
 -- In a run calls keep their order.
 use Rattle.std.proofs.Common.{◌≡◌, Bool, true, false, cond, List, [], ◌∷◌, ◌++◌, refl, sym, ap, ◌∙◌, subst, append_assoc}
-use Rattle.std.proofs.lemmas.List.{same_from_push}
+use Rattle.std.proofs.lemmas.List.{append_cancel_right, same_from_push}
 use Rattle.word_interlock.specs.RuleBook.{RuleBook, IsRuleBook}
 use Rattle.word_interlock.specs.History.{BeginsWith}
 use Rattle.word_interlock.specs.declared.views.Moment.{Moment}
@@ -8,7 +8,7 @@ use Rattle.word_interlock.specs.declared.views.Moment.TheVariants.{Begins, Answe
 use Rattle.word_interlock.specs.Moments.{events_of, actor_at, own_moments, AreCalls}
 use Rattle.word_interlock.specs.Run.{AnsweredCall, point_of, EndsBefore, RunsKeepOrder, CallsFollowReceipts, AnsweredCallsAreOver}
 use Rattle.word_interlock.proofs.Histories.{begins-trans}
-use Rattle.word_interlock.proofs.Moments.{head_or, rest_of, no_end, events-append, own-append, own-one}
+use Rattle.word_interlock.proofs.Moments.{head_or, rest_of, no_end, events-append, own-append, own-one, none_begun}
 
 module _ {S M C A E : Type 0} (b : RuleBook S M C A E) (m : M) where
   -- the last beginning of an actor's call, if it is its last moment
@@ -50,6 +50,12 @@ module _ {S M C A E : Type 0} (b : RuleBook S M C A E) where
       ap events_of call.is ∙ (events-append (call.before ++ Begins (b.actor_of call.event) ∷ call.between) (Answered call.event ∷ call.rest)
       ∙ ap (λ (l : List E). l ++ call.event ∷ events_of call.rest) (events-append call.before (Begins (b.actor_of call.event) ∷ call.between)))
 
+  -- of two lists that end in the same rest, what stands before it is the same
+  same_before : {X : Type 0} (p q rest : List X) (x y : X) → p ++ x ∷ rest ≡ q ++ y ∷ rest → (p ≡ q) × (x ≡ y)
+  same_before p q rest x y is =
+      let pushed : p ++ x ∷ [] ≡ q ++ y ∷ [] = append_cancel_right (p ++ x ∷ []) (q ++ y ∷ []) rest (append_assoc p (x ∷ []) rest ∙ (is ∙ sym (append_assoc q (y ∷ []) rest))) in
+      same_from_push p q x y pushed
+
   order : (moments : List (Moment M E)) (call later : AnsweredCall b moments) → EndsBefore b call later → BeginsWith (point_of b later) (point_of b call ++ call.event ∷ [])
   order moments call later ends =
       let p : List E = point_of b call ++ call.event ∷ [] in
@@ -58,9 +64,29 @@ module _ {S M C A E : Type 0} (b : RuleBook S M C A E) where
       let there : events_of later.before ≡ p ++ events_of ends.0 = ap events_of ends.1 ∙ (events-append (begun ++ Answered call.event ∷ []) ends.0 ∙ ap (λ (l : List E). l ++ events_of ends.0) here) in
       (events_of ends.0 ++ events_of later.between, ap (λ (l : List E). l ++ events_of later.between) there ∙ append_assoc p (events_of ends.0) (events_of later.between))
 
-  pub runs_keep_order : RunsKeepOrder b
-  runs_keep_order = record { each = each; point = point; order = order }
+  -- an actor's last beginning stands at one place
+  last_place : (m : M) (p q r s : List (Moment M E)) → ((earlier later : List (Moment M E)) → ¬ (q ≡ earlier ++ Begins m ∷ later)) → ((earlier later : List (Moment M E)) → ¬ (s ≡ earlier ++ Begins m ∷ later)) → p ++ Begins m ∷ q ≡ r ++ Begins m ∷ s → p ≡ r
+  last_place m [] q [] s after_p after_r is = refl
+  last_place m [] q (x ∷ r) s after_p after_r is = absurd (after_p r s (ap rest_of is))
+  last_place m (x ∷ p) q [] s after_p after_r is = absurd (after_r p q (sym (ap rest_of is)))
+  last_place m (x ∷ p) q (y ∷ r) s after_p after_r is =
+      let tails : p ≡ r = last_place m p q r s after_p after_r (ap rest_of is) in (λ i. ap (head_or x) is i ∷ tails i)
 
+module _ {S M C A E : Type 0} (b : RuleBook S M C A E) (law : IsRuleBook b) where
+  one : (moments : List (Moment M E)) (call other : AnsweredCall b moments) → call.rest ≡ other.rest → call.before ≡ other.before
+  one moments call other same =
+      let m : M = b.actor_of call.event in let k : M = b.actor_of other.event in
+      let p : List (Moment M E) = call.before ++ Begins m ∷ call.between in let q : List (Moment M E) = other.before ++ Begins k ∷ other.between in
+      let is : p ++ Answered call.event ∷ call.rest ≡ q ++ Answered other.event ∷ call.rest = sym call.is ∙ (other.is ∙ ap (λ (l : List (Moment M E)). q ++ Answered other.event ∷ l) (sym same)) in
+      let cut = same_before b p q call.rest (Answered call.event) (Answered other.event) is in
+      let who : k ≡ m = sym (ap (actor_at b) cut.1) in
+      let here : p ≡ other.before ++ Begins m ∷ other.between = cut.0 ∙ ap (λ (n : M). other.before ++ Begins n ∷ other.between) who in
+      last_place b m call.before call.between other.before other.between (none_begun b law m call.between call.own) (none_begun b law m other.between (subst (λ (n : M). own_moments b other.between n ≡ []) who other.own)) here
+
+  pub runs_keep_order : RunsKeepOrder b
+  runs_keep_order = record { each = each b; one = one; point = point b; order = order b }
+
+module _ {S M C A E : Type 0} (b : RuleBook S M C A E) where
   pub calls_follow_receipts : (R : Type 0) → CallsFollowReceipts R b
   calls_follow_receipts R m c a seen answered receipt v w last first took call =
       (first.point, first.ends, subst (λ (l : List E). BeginsWith (events_of call.first) l) first.ends (begins-trans answered receipt.seen (events_of call.first) took call.told.0.begins))

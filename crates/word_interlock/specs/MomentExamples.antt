@@ -29,21 +29,27 @@ module _ {R S M C A E : Type 0} (b : RuleBook S M C A E) (m n : M) (e f : E) whe
   abbrev pub pass_with : PassView R S M E → List E → List E → List (Moment M E) → PassView R S M E
   pass_with v seen since moments = record v { actor = m; seen = seen; since = since; moments = moments }
 
-  -- a receipt that tells f, and the call that made it
-  abbrev pub receipt_of_f : PassView R S M E → HistoryView S M E
-  receipt_of_f v = record { opening = v.opening; seen = f ∷ []; moments = Begins n ∷ Answered f ∷ [] }
+  -- a receipt that tells this
+  abbrev pub receipt_with : PassView R S M E → List E → List (Moment M E) → HistoryView S M E
+  receipt_with v seen moments = record { opening = v.opening; seen = seen; moments = moments }
 
-  -- The pass p has seen the event f, and is now answered e. The call begins after f, or its last step says otherwise.
+  -- A call of m is answered e. Each of those that aren't calls is wrong in one thing.
   pub record LastsExamples (v : PassView R S M E) : Type 0 where
     pub after_what_it_had_seen : Lasts b [] (pass_with v (f ∷ []) [] []) (Answered e ∷ [])
         (pass_with v (f ∷ e ∷ []) (f ∷ e ∷ []) (Begins n ∷ Answered f ∷ Begins m ∷ Answered e ∷ []))
     pub before_what_it_had_seen : ¬ Lasts b [] (pass_with v (f ∷ []) [] []) (Answered e ∷ [])
-        (pass_with v (f ∷ e ∷ []) (f ∷ []) (Begins n ∷ Begins m ∷ Answered f ∷ Answered e ∷ []))
+        (pass_with v (f ∷ e ∷ []) [] (Begins n ∷ Begins m ∷ Answered f ∷ Answered e ∷ []))
+    pub before_a_beginning_that_it_was_shown : ¬ Lasts b [] (pass_with v [] [] (Begins n ∷ [])) (Answered e ∷ [])
+        (pass_with v (e ∷ []) [] (Begins m ∷ Begins n ∷ Answered e ∷ []))
+    pub sees_less : ¬ Lasts b [] (pass_with v [] [] []) (Answered e ∷ [])
+        (pass_with v (e ∷ []) (e ∷ []) (Begins n ∷ Answered f ∷ Begins m ∷ Answered e ∷ []))
     -- a call that was Busy has begun; the next one begins anew
     pub anew_after_busy : Lasts b [] (pass_with v [] [] (Begins m ∷ [])) (Answered e ∷ [])
         (pass_with v (e ∷ []) (e ∷ []) (Begins m ∷ Begins m ∷ Answered e ∷ []))
     pub not_anew_after_busy : ¬ Lasts b [] (pass_with v [] [] (Begins m ∷ [])) (Answered e ∷ [])
         (pass_with v (e ∷ []) (e ∷ []) (Begins m ∷ Answered e ∷ []))
+    pub begun_twice : ¬ Lasts b [] (pass_with v [] [] []) (Answered e ∷ [])
+        (pass_with v (e ∷ []) [] (Begins m ∷ Begins m ∷ Answered e ∷ []))
     -- its load saw no event, so it began before f
     pub by_its_load : Lasts b [] (pass_with v [] [] []) (Answered e ∷ [])
         (pass_with v (f ∷ e ∷ []) [] (Begins n ∷ Begins m ∷ Answered f ∷ Answered e ∷ []))
@@ -51,11 +57,15 @@ module _ {R S M C A E : Type 0} (b : RuleBook S M C A E) (m n : M) (e f : E) whe
         (pass_with v (f ∷ e ∷ []) [] (Begins n ∷ Answered f ∷ Begins m ∷ Answered e ∷ []))
     pub before_its_load : ¬ Lasts b [] (pass_with v [] [] []) (Answered e ∷ [])
         (pass_with v (f ∷ e ∷ []) (f ∷ []) (Begins n ∷ Begins m ∷ Answered f ∷ Answered e ∷ []))
-    -- a receipt tells f
-    pub after_a_receipt : Lasts b (receipt_of_f v ∷ []) (pass_with v [] [] []) (Answered e ∷ [])
+    -- a receipt tells f, and the call that made it
+    pub after_a_receipt : Lasts b (receipt_with v (f ∷ []) (Begins n ∷ Answered f ∷ []) ∷ [])
+        (pass_with v [] [] []) (Answered e ∷ [])
         (pass_with v (f ∷ e ∷ []) (f ∷ e ∷ []) (Begins n ∷ Answered f ∷ Begins m ∷ Answered e ∷ []))
-    pub before_a_receipt : ¬ Lasts b (receipt_of_f v ∷ []) (pass_with v [] [] []) (Answered e ∷ [])
+    pub before_what_a_receipt_tells : ¬ Lasts b (receipt_with v (f ∷ []) [] ∷ []) (pass_with v [] [] []) (Answered e ∷ [])
         (pass_with v (f ∷ e ∷ []) [] (Begins n ∷ Begins m ∷ Answered f ∷ Answered e ∷ []))
+    pub before_a_beginning_that_a_receipt_tells :
+        ¬ Lasts b (receipt_with v [] (Begins n ∷ []) ∷ []) (pass_with v [] [] []) (Answered e ∷ [])
+        (pass_with v (e ∷ []) [] (Begins m ∷ Begins n ∷ Answered e ∷ []))
     -- its event comes last
     pub answered_before_another : ¬ Lasts b [] (pass_with v [] [] []) (Answered e ∷ [])
         (pass_with v (e ∷ f ∷ []) [] (Begins n ∷ Begins m ∷ Answered e ∷ Answered f ∷ []))

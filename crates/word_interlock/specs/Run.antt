@@ -43,12 +43,14 @@ module _ {S M C A E : Type 0} (b : RuleBook S M C A E) where
         BeginsWith later.before
         (call.before ++ Begins (b.actor_of call.event) ∷ call.between ++ Answered call.event ∷ [])
 
-  -- In a run each event is that of one answered call, whose point is the history before it (`each`). Of two calls that
-  -- don't overlap, the earlier one stands first in the history (`order`).
+  -- In a run each event is that of an answered call, whose point is the history before it (`each`), and of one alone
+  -- (`one`). Of two calls that don't overlap, the earlier one stands first in the history (`order`).
   pub record RunsKeepOrder : Type 0 where
     pub each : (moments earlier : List (Moment M E)) (e : E) (later : List (Moment M E)) → AreCalls b moments
         → moments ≡ earlier ++ Answered e ∷ later
         → (call : AnsweredCall moments) × (call.event ≡ e) × (call.rest ≡ later) × (point_of call ≡ events_of earlier)
+    pub one : (moments : List (Moment M E)) (call other : AnsweredCall moments) → call.rest ≡ other.rest
+        → call.before ≡ other.before
     pub point : (moments : List (Moment M E)) (call : AnsweredCall moments)
         → events_of moments ≡ point_of call ++ call.event ∷ events_of call.rest
     pub order : (moments : List (Moment M E)) (call later : AnsweredCall moments) → EndsBefore call later
