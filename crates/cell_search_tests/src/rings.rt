@@ -1,7 +1,7 @@
 //! Progress on rings.
 
 use crate::Ring;
-use graph_progress::{Answer, Reason, progress};
+use graph_progress::{Answer, progress};
 
 // Whether an answer is that of a bound.
 fn is_within(
@@ -46,8 +46,8 @@ fn without_strong_fairness_the_ring_starves(rt: HostRuntime) {
 
 #[test]
 fn without_a_way_out_it_starves(rt: HostRuntime) {
-    assert!(rt; starves(rt, false, 0, None, &[1], (&[], &[0, 0, 0])));
-    assert!(rt; starves(rt, true, 0, Some(0), &[1], (&[], &[1, 1, 0])));
+    assert!(rt; starves(rt, false, 0, None, &[1], (&[], &[0, 0, 0, 1, 0, 0])));
+    assert!(rt; starves(rt, true, 0, Some(0), &[1], (&[], &[0, 0, 0, 1, 1])));
 }
 
 #[test]
