@@ -7,7 +7,15 @@ use graph_progress::{Answer, Reason, answer_by, chart_of, progress};
 fn a_second_helper_leads_out_of_the_ring(rt: HostRuntime) {
     let nest = Nest { from_both: true };
     let answer = progress(rt.alloc(), &nest, 0, None, &[1]);
-    assert!(rt; matches!(answer, Ok(Answer::Within { plain: 2, helped: 1 })));
+    assert!(rt;
+        matches!(
+            answer,
+            Ok(Answer::Within {
+                plain: 2,
+                helped: 1
+            })
+        )
+    );
 }
 
 #[test]
