@@ -1,5 +1,6 @@
--- Machine 0 leads from node 0 to node 1, and from there to and fro between the nodes 1 and 2. Machine 1 leads from node 0
--- to node 3, and from there back, which is progress. Machine 2 leads back to node 0 from node 1, and perhaps from node 2.
+-- Machine 0 leads from node 0 to node 1, and from there to and fro between the nodes 1 and 2. Machine 1 leads from
+-- node 0 to node 3, and from there back, which is progress. Machine 2 leads back to node 0 from node 1, and perhaps from
+-- node 2.
 use Rattle.std.specs.Prelude.{ℕ, Bool, nat_eq, if◌then◌else◌, [], ◌∷◌, slice_index_or}
 use Rattle.cell_search.specs.Space.{Space}
 
