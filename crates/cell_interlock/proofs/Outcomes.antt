@@ -1,6 +1,7 @@
 -- The examples of what a call may and may not leave of its pass.
 use Rattle.cell_interlock.proofs.Names.{◌≡◌, ℕ, ◌+◌, ◌<◌, ◌≤◌, true, List, [], ◌∷◌, ◌++◌, length, None, inr, refl, sym, ap, ◌∙◌, arith, same_from_push, Machine, Feed, Table, Press, Watch, Zone, Z3, Release, Stop, Done, Refused, Stopped, Event, ModelState, IsSound, IsLegal, Holds, changes_by_others, LawfulThroughout, needs, Waits, zone_at, PassView, InterlockView, IsSettled, HasSeenMore, HasChanges, StandsBefore, Passes, inl, subst, append-nil, cell_book, Moments, Lasts}
 use Rattle.atomic_table.specs.Seated.{TableId}
+use Rattle.std.proofs.Common.{◌*◌}
 use Rattle.word_interlock.specs.History.{BeginsWith}
 use Rattle.word_interlock.specs.Moments.{events_of, own_moments}
 use Rattle.word_interlock.specs.declared.views.Moment.TheVariants.{Begins, Answered}
@@ -11,7 +12,7 @@ use Rattle.cell_rules.proofs.Lawful.{lawful_in, sound_from}
 use Rattle.cell_rules.proofs.Puts.{each_zone}
 use Rattle.cell_rules.proofs.Quiet.{changes-append}
 use Rattle.cell_interlock.specs.Fresh.{IsFresh, AreFresh}
-use Rattle.cell_interlock.specs.OutcomeExamples.{opened, claim, claimed, released, by_feed, again_by_feed, by_table, by_robot, by_watch, barred, press_pass, watch_pass, before, after_claim, lost_both, AskExamples, LookExamples, AttemptExamples, MoreExamples, ChangeExamples, AnswerExamples, OrderExamples, StampExamples, ReceiptExamples, FreshExamples, LineExamples, OutcomeExamples}
+use Rattle.cell_interlock.specs.OutcomeExamples.{opened, claim, claimed, released, by_feed, again_by_feed, by_table, by_robot, by_watch, barred, press_pass, watch_pass, before, after_claim, lost_both, AskExamples, LookExamples, AttemptExamples, MoreExamples, ChangeExamples, AnswerExamples, OrderExamples, StampExamples, ReceiptExamples, RunExamples, PaidExamples, FreshExamples, LineExamples, OutcomeExamples}
 use Rattle.cell_interlock.proofs.Settled.{lawful_history, settled, replied}
 
 sound : IsSound opened
@@ -258,6 +259,23 @@ stamps = record {
 receipts : (t : TableId) → ReceiptExamples t
 receipts t = record { seen = refl; tells = refl }
 
+-- ---- a run, and what Busy costs
+
+runs : (t : TableId) → RunExamples t
+runs t = record {
+  in_time = record { begins = (Begins Feed ∷ [], refl); own = refl };
+  another_call = λ f. let e : 3 ≡ 2 = ap length f.own in omega arith;
+  other_beginning = λ f. let e = f.begins.1 in cc;
+}
+
+paid : (t : TableId) → PaidExamples t
+paid t = record {
+  at_once = record { busy = 0; loads = refl; risen = omega arith };
+  busy_once = record { busy = 1; loads = refl; risen = omega arith };
+  unpaid = λ f. let loads : 5 ≡ 3 + f.busy + 1 = f.loads in let risen : 0 + f.busy * 2 ≤ 1 = f.risen in omega (arith, loads, risen);
+  twice = refl;
+}
+
 -- ---- a new interlock
 
 fresh : (i : InterlockView) (p : Passes) → AreFresh i p → FreshExamples i p
@@ -283,4 +301,4 @@ lines t = record {
 }
 
 pub outcomes_are_known : OutcomeExamples
-outcomes_are_known = record { ask = ask; look = look; attempt = attempt; more = grows; changes = changes; answers = answers; order = order; stamps = stamps; receipts = receipts; fresh = fresh; lines = lines }
+outcomes_are_known = record { ask = ask; look = look; attempt = attempt; more = grows; changes = changes; answers = answers; order = order; stamps = stamps; receipts = receipts; runs = runs; paid = paid; fresh = fresh; lines = lines }

@@ -19,7 +19,8 @@ use Rattle.cell_rules.specs.Start.{start_state}
 use Rattle.cell_rules.specs.Seen.{event}
 use Rattle.cell_rules.specs.declared.heard.LineFault.TheVariants.{Memory}
 use Rattle.word_interlock.specs.declared.views.Moment.TheVariants.{Begins, Answered}
-use Rattle.cell_interlock.specs.Timing.{told_by}
+use Rattle.cell_interlock.specs.Timing.{told_by, IsInTime}
+use Rattle.cell_interlock.specs.Settling.{MadeCall, times_busy, IsPaidFor}
 use Rattle.cell_interlock.specs.Views.{PassView, InterlockView, TryView, receipt_of}
 use Rattle.cell_interlock.specs.Fresh.{AreFresh}
 use Rattle.cell_interlock.specs.Seen.{AnswersAtItsPoint, LastingRight, HasSeenMore, HasChanges}
@@ -265,6 +266,25 @@ pub record ReceiptExamples (t : TableId) : Type 0 where
     moments = Begins Press ∷ Answered claimed ∷ [];
   }
 
+-- ---- a run, and what Busy costs
+
+-- the press's pass was shown a prefix of the moments, with all of the press
+pub record RunExamples (t : TableId) : Type 0 where
+  pub in_time : IsInTime (Begins Press ∷ Answered claimed ∷ Begins Feed ∷ []) Press (after_claim t)
+  pub another_call : ¬ IsInTime (Begins Press ∷ Answered claimed ∷ Begins Press ∷ []) Press (after_claim t)
+  pub other_beginning : ¬ IsInTime (Begins Feed ∷ Begins Press ∷ Answered claimed ∷ []) Press (after_claim t)
+
+-- a claim that came back so
+abbrev pub made : TableId → Reply → MadeCall
+made t reply = record { before = before t; call = claim; reply = reply; after = after_claim t }
+
+-- a call that was Busy raises the stamp by two, since it may lose two exchanges
+pub record PaidExamples (t : TableId) : Type 0 where
+  pub at_once : IsPaidFor 2 (before t) 1 (after_claim t)
+  pub busy_once : IsPaidFor 2 (before t) 3 (record (after_claim t) { loads = 5 })
+  pub unpaid : ¬ IsPaidFor 2 (before t) 1 (record (after_claim t) { loads = 5 })
+  pub twice : times_busy (made t (Busy 2 2) ∷ made t (Settled Done 3) ∷ made t (Busy 2 5) ∷ []) ≡ 2
+
 -- ---- a new interlock
 
 -- each field has its machine's pass, and the passes have made no step
@@ -303,5 +323,7 @@ pub record OutcomeExamples : Type 0 where
   pub order : OrderExamples
   pub stamps : StampExamples
   pub receipts : (t : TableId) → ReceiptExamples t
+  pub runs : (t : TableId) → RunExamples t
+  pub paid : (t : TableId) → PaidExamples t
   pub fresh : (i : InterlockView) (p : Passes) → AreFresh i p → FreshExamples i p
   pub lines : (t : TableId) → LineExamples t

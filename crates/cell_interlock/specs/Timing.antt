@@ -36,8 +36,9 @@ Told = List (HistoryView ModelState Machine Event)
 abbrev pub told_by : ReceiptView → HistoryView ModelState Machine Event
 told_by r = record { opening = r.opening; seen = r.seen; moments = r.moments }
 
--- A call of a pass's machine began after all moments so far. They have all that the pass had seen and that these receipts
--- tell, and no new moment of its machine. Then came moments of others, and then these last ones (`word_interlock`).
+-- A call of a pass's machine began after all moments so far. They have all that the pass had seen and that these
+-- receipts tell, and no new moment of its machine. Then came moments of others, and then these last ones
+-- (`word_interlock`).
 abbrev pub Lasts : Told → PassView → Moments → PassView → Type 0
 Lasts heard v last w = engine.Lasts cell_book heard (pass_to v) last (pass_to w)
 
@@ -68,8 +69,8 @@ pub record IsInTime (moments : Moments) (m : Machine) (p : PassView) : Type 0 wh
   pub own : own_moments cell_book moments m ≡ own_moments cell_book p.moments m
 
 -- The state is the one after the events of all moments. These are lawful throughout, and each comes after the beginning
--- of its call. Each of the seven passes was shown a prefix of the moments, with all of its machine, and has seen a prefix
--- of the events.
+-- of its call. Each of the seven passes was shown a prefix of the moments, with all of its machine, and has seen a
+-- prefix of the events.
 pub record IsRun (opening : ModelState) (p : Passes) (s : ModelState) : Type 0 where
   pub moments : Moments
   pub calls : AreCalls cell_book moments

@@ -14,8 +14,8 @@ use Rattle.word_interlock.specs.Views.{PassView}
 use Rattle.plan_interlock.specs.declared.rules.PlanRules.{PlanRules}
 use Rattle.plan_interlock.specs.Book.{plan_book, plan_of}
 
--- in a run calls that don't overlap keep their order, and a call that is asked after a receipt begins after each call that
--- was answered before it was taken
+-- in a run calls that don't overlap keep their order, and a call that is asked after a receipt begins after each call
+-- that was answered before it was taken
 pub record CallsKeepOrder (t : PlanTable) : Type 0 where
   pub runs : RunsKeepOrder (plan_book t)
   pub receipts : CallsFollowReceipts PlanRules (plan_book t)

@@ -42,16 +42,16 @@ pub fn calls_keep_order(rules: &PlanRules)
     let _ = rules;
 }
 
-/// At every time the history of the rule is empty, or one of the callers has seen it whole; likewise the moments. So they
-/// are one, and grow as what callers have seen.
+/// At every time the history of the rule is empty, or one of the callers has seen it whole; likewise the moments. So
+/// they are one, and grow as what callers have seen.
 pub fn history_is_one(rules: &PlanRules)
     ensures { HistoryIsOne rules.now }
 {
     let _ = rules;
 }
 
-/// However many calls a pass makes: as often as one was Busy, other machines made `tries` changes, and raised the stamp by
-/// as many. So over one interlock the Busy answers of a machine times `tries` are at most the last stamp.
+/// However many calls a pass makes: as often as one was Busy, other machines made `tries` changes, and raised the stamp
+/// by as many. So over one interlock the Busy answers of a machine times `tries` are at most the last stamp.
 pub fn busy_is_paid(rules: &PlanRules)
     ensures { (tries : ℕ) → BusyCallsAreFew (plan_of rules.now) tries }
 {

@@ -9,8 +9,8 @@ use Rattle.word_interlock.specs.Moments.{HasBegun}
 
 module _ {R S M C A E : Type 0} (b : RuleBook S M C A E) where
   -- the word last found is that of the state after what was seen; the call would be done there with this answer and
-  -- leave the new word; for each exchange that it has lost, another actor has made a change since its first load; it has
-  -- begun, and isn't answered
+  -- leave the new word; for each exchange that it has lost, another actor has made a change since its first load; it
+  -- has begun, and isn't answered
   pub record IsUnderWay (v : PassView R S M E) (c : C) (a : A) (old new lost : ℕ) : Type 0 where
     pub lawful : IsLawful b v.opening v.seen
     pub found : b.packed (after b v.opening v.seen) ≡ old

@@ -61,7 +61,8 @@ module _ {R S M C A E : Type 0} (b : RuleBook S M C A E) (m n : M) (e f : E) whe
     pub after_a_receipt : Lasts b (receipt_with v (f ∷ []) (Begins n ∷ Answered f ∷ []) ∷ [])
         (pass_with v [] [] []) (Answered e ∷ [])
         (pass_with v (f ∷ e ∷ []) (f ∷ e ∷ []) (Begins n ∷ Answered f ∷ Begins m ∷ Answered e ∷ []))
-    pub before_what_a_receipt_tells : ¬ Lasts b (receipt_with v (f ∷ []) [] ∷ []) (pass_with v [] [] []) (Answered e ∷ [])
+    pub before_what_a_receipt_tells : ¬ Lasts b (receipt_with v (f ∷ []) [] ∷ [])
+        (pass_with v [] [] []) (Answered e ∷ [])
         (pass_with v (f ∷ e ∷ []) [] (Begins n ∷ Begins m ∷ Answered f ∷ Answered e ∷ []))
     pub before_a_beginning_that_a_receipt_tells :
         ¬ Lasts b (receipt_with v [] (Begins n ∷ []) ∷ []) (pass_with v [] [] []) (Answered e ∷ [])

@@ -1,5 +1,5 @@
--- Moments: the beginnings and the answers of calls, in the order of the steps on the word, the oldest first. A call begins
--- with its load. Its answer is its event, and comes with the step that answers it: its load, or an exchange.
+-- Moments: the beginnings and the answers of calls, in the order of the steps on the word, the oldest first. A call
+-- begins with its load. Its answer is its event, and comes with the step that answers it: its load, or an exchange.
 use Rattle.std.specs.Prelude.{◌≡◌, ◌≤◌, List, [], ◌∷◌, ◌++◌, filter, ⊤}
 use Rattle.word_interlock.specs.RuleBook.{RuleBook, times}
 use Rattle.word_interlock.specs.History.{BeginsWith}
@@ -28,8 +28,8 @@ module _ {S M C A E : Type 0} (b : RuleBook S M C A E) where
     pub earlier : List (Moment M E)
     pub is : own_moments moments m ≡ earlier ++ Begins m ∷ []
 
-  -- Each event comes after the beginning of its call: before it, its actor's last moment is a beginning. So no beginning
-  -- is answered twice. That of a call that was Busy or abandoned isn't answered.
+  -- Each event comes after the beginning of its call: before it, its actor's last moment is a beginning. So no
+  -- beginning is answered twice. That of a call that was Busy or abandoned isn't answered.
   abbrev pub AreCalls : List (Moment M E) → Type 0
   AreCalls moments =
       (earlier : List (Moment M E)) (e : E) (later : List (Moment M E)) → moments ≡ earlier ++ Answered e ∷ later

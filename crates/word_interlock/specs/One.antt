@@ -1,4 +1,5 @@
--- The history of the rule is what one of the actors has seen. So it is one for all, and it grows as what they have seen.
+-- The history of the rule is what one of the actors has seen. So it is one for all, and it grows as what they have
+-- seen.
 use Rattle.std.specs.Prelude.{◌≡◌, ◌⊎◌, List, [], ◌∷◌}
 use Rattle.atomic_table.specs.Table.{State}
 use Rattle.word_interlock.specs.RuleBook.{RuleBook}

@@ -230,7 +230,8 @@ module _ {R S M C A E : Type 0} (b : RuleBook S M C A E) (rules : R) where
 
   -- a load for a call shows an actor this word; and the seat after it. All that these receipts of the seat tell stands
   -- before the beginning of the call; they are then used up
-  abbrev pub looked : {T : Type 0} → C → List (HistoryView S M E) → ActorView R S M E → ℕ → Me T (SeatView R S M E) → Type 0
+  abbrev pub looked : {T : Type 0} → C → List (HistoryView S M E) → ActorView R S M E → ℕ → Me T (SeatView R S M E)
+      → Type 0
   looked c heard p word me' =
       (history : List E) × (at : WordMoment p word history)
       × (me' ≡ (

@@ -13,7 +13,8 @@ use Rattle.word_interlock.specs.Timing.{Lasts}
 
 module _ {R S M C A E : Type 0} (b : RuleBook S M C A E) where
   -- The state is the one after the events of all moments. These are legal, and each comes after the beginning of its
-  -- call. Each of these actors was shown a prefix of the moments, with all its own, and has seen a prefix of the events.
+  -- call. Each of these actors was shown a prefix of the moments, with all its own, and has seen a prefix of the
+  -- events.
   pub record IsRun (opening : S) (actors : List (ActorView R S M E)) (s : S) : Type 0 where
     pub moments : List (Moment M E)
     pub calls : AreCalls b moments
@@ -56,8 +57,8 @@ module _ {S M C A E : Type 0} (b : RuleBook S M C A E) where
     pub order : (moments : List (Moment M E)) (call later : AnsweredCall moments) → EndsBefore call later
         → BeginsWith (point_of later) (point_of call ++ call.event ∷ [])
 
--- A call was answered, and then its caller, or one who knew of it by receipts, took a receipt. A call that is asked after
--- this receipt begins after the first call's event.
+-- A call was answered, and then its caller, or one who knew of it by receipts, took a receipt. A call that is asked
+-- after this receipt begins after the first call's event.
 abbrev pub CallsFollowReceipts : {S M C A E : Type 0} → Type 0 → RuleBook S M C A E → Type 0
 CallsFollowReceipts {S} {M} {C} {A} {E} R b =
     (m : M) (c : C) (a : A) (seen answered : List E) (receipt : HistoryView S M E) (v w : PassView R S M E)
@@ -66,7 +67,8 @@ CallsFollowReceipts {S} {M} {C} {A} {E} R b =
     → (point : List E) × (answered ≡ point ++ b.event m c a ∷ [])
     × BeginsWith (events_of call.first) (point ++ b.event m c a ∷ [])
 
--- After a call was answered, its actor has no call that has begun. So no exchange is allowed to it before its next load.
+-- After a call was answered, its actor has no call that has begun. So no exchange is allowed to it before its next
+-- load.
 abbrev pub AnsweredCallsAreOver : {S M C A E : Type 0} → Type 0 → RuleBook S M C A E → Type 0
 AnsweredCallsAreOver {S} {M} {C} {A} {E} R b =
     (heard : List (HistoryView S M E)) (v w : PassView R S M E) (c : C) (a : A)

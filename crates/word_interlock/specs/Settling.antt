@@ -45,8 +45,8 @@ module _ {R S M C A E : Type 0} (b : RuleBook S M C A E) (tries : ℕ) where
   MakesCalls v [] w = IsLater v w
   MakesCalls v (x ∷ rest) w = IsLater v x.before × IsMade x × MakesCalls x.after rest w
 
--- For each of these calls that was Busy, other actors made `tries` changes after what the pass had seen, no change counted
--- twice (`changes`). Each of them raises the stamp (`stamps`).
+-- For each of these calls that was Busy, other actors made `tries` changes after what the pass had seen, no change
+-- counted twice (`changes`). Each of them raises the stamp (`stamps`).
 pub record BusyIsPaid (R : Type 0) {S M C A E : Type 0} (b : RuleBook S M C A E) (tries : ℕ) : Type 0 where
   pub changes : (v w : PassView R S M E) (calls : List (MadeCall R S M C A E)) → MakesCalls b tries v calls w
       → HasChanges b v.actor v.seen w.seen (times_busy calls * tries)
@@ -62,8 +62,8 @@ module _ {R S M C A E : Type 0} (b : RuleBook S M C A E) where
     pub loads : w.loads ≡ v.loads + busy + 1
     pub risen : b.stamp (after b v.opening v.seen) + busy * tries ≤ stamp
 
-  -- By the last ask the call was answered. Before it the pass had seen no less, and had left a beginning by each ask that
-  -- was Busy, and nothing else.
+  -- By the last ask the call was answered. Before it the pass had seen no less, and had left a beginning by each ask
+  -- that was Busy, and nothing else.
   pub record IsAnsweredAtLast (v : PassView R S M E) (c : C) (a : A) (w : PassView R S M E) : Type 0 where
     pub before : PassView R S M E
     pub busy : ℕ

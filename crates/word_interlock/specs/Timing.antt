@@ -18,8 +18,8 @@ use Rattle.word_interlock.specs.Rule.{AllTell, AllShow}
 module _ {R S M C A E : Type 0} (b : RuleBook S M C A E) where
   -- A call of a pass's actor began after all moments so far, `first`. They have all that the pass had seen, all that
   -- these receipts tell, and no new moment of its actor. Then came the moments `between`, none of its actor, and then
-  -- these last ones. What the pass has seen now is the events of them all. Its load showed it the events of `first`, and
-  -- its own where the load answered the call.
+  -- these last ones. What the pass has seen now is the events of them all. Its load showed it the events of `first`,
+  -- and its own where the load answered the call.
   pub record Lasts (heard : List (HistoryView S M E)) (v : PassView R S M E) (last : List (Moment M E))
       (w : PassView R S M E) : Type 0 where
     pub first : List (Moment M E)

@@ -6,8 +6,8 @@ use Rattle.word_interlock.specs.declared.views.HistoryView.{HistoryView}
 use Rattle.word_interlock.specs.declared.views.Moment.{Moment}
 
 -- a pass: the table of its interlock, the rules of this and the state that it opened with, its actor, the history that
--- it has seen, the part of it that it had seen right after its last load, the numbers of its loads and exchanges, and the
--- moments so far at the last step of its calls
+-- it has seen, the part of it that it had seen right after its last load, the numbers of its loads and exchanges, and
+-- the moments so far at the last step of its calls
 pub record PassView (R S M E : Type 0) : Type 0 where
   pub table : TableId
   pub rules : R
