@@ -1,7 +1,7 @@
 #!/usr/bin/env bash
 # Drives the interlock from seven threads, and looks for one legal history of all that they were told, in the order of
-# time: a clock counts when calls begin and end. They send each other letters with receipts, and who accepts one has to
-# be answered after it.
+# time: a clock counts when calls begin and end. They send each other letters with receipts, and who reads one has to be
+# answered after it.
 #
 #   bench/stress.sh [SEED [CALLS]]               1 and 10,000,000 if absent
 #   bench/stress.sh planted BUG [SEED [CALLS]]   the same with a planted bug, which has to be found; 1 and 200,000
@@ -18,7 +18,7 @@
 # each caller, after the letters that it read; so nothing may be found without the clock, and with it they have to be:
 #
 # - lazy: a call that the word which its pass found last would answer without a change is answered so, with no load. A
-#   receipt carries that word, and accept keeps the later of two;
+#   receipt carries that word, and accept keeps the later of two. A call by ask_after loads;
 # - loads_ahead: a call is answered by the word that the call before it loaded, and loads the word for the next one;
 # - keeps_the_lost_word: a call begins with the word that the call before it found instead of its own, where that one
 #   lost its last exchange: it was Busy, abandoned, or refused then.
