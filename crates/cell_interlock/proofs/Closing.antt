@@ -22,13 +22,13 @@ module _ (i : InterlockView) (o : ModelState) (p : Passes) (feed table robot pre
     | Watch ↦ subst (λ (x : Passes). HasPart o e.history Watch x.watch) (sym is) (part_here o e.history watch Watch e.parts.1.1.1.1.1.1.0 (subst (λ (x : Passes). x.watch.machine ≡ Watch) is are.watch.machine))
   ]
 
+  reached_here : s ≡ after o e.history
+  reached_here = e.reached ∙ after_here o e.history
+
+  -- an audit accepts the journals by this history
+  pub audited_here : IsAudited o (journals_by o p) (Some s) e.history
+  audited_here =
+      subst (λ (x : ModelState). IsAudited o (journals_by o p) (Some x) e.history) (sym reached_here) (told o e.history (λ m. (pass_in p m).seen) (legal_here o e.history e.lawful.legal) (λ m. (all_parts m).seen))
+
   pub end_here : IsEnd o p s
-  end_here =
-      let reached : s ≡ after o e.history = e.reached ∙ after_here o e.history in
-      let audited = told o e.history (λ m. (pass_in p m).seen) (legal_here o e.history e.lawful.legal) (λ m. (all_parts m).seen) in record {
-        history = e.history;
-        lawful = lawful_here o e.history e.lawful;
-        reached = reached;
-        passes = all_parts;
-        audited = subst (λ (x : ModelState). IsAudited o (journals_by o p) (Some x) e.history) (sym reached) audited;
-      }
+  end_here = record { history = e.history; lawful = lawful_here o e.history e.lawful; reached = reached_here; passes = all_parts; audited = audited_here }

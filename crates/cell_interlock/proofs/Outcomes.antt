@@ -1,7 +1,6 @@
 -- The examples of what a call may and may not leave of its pass.
-use Rattle.cell_interlock.proofs.Names.{◌≡◌, ℕ, ◌+◌, ◌<◌, ◌≤◌, true, List, [], ◌∷◌, ◌++◌, length, None, inr, refl, sym, ap, ◌∙◌, arith, same_from_push, Machine, Feed, Table, Press, Watch, Zone, Z3, Release, Stop, Done, Refused, Stopped, Event, ModelState, IsSound, IsLegal, Holds, changes_by_others, LawfulThroughout, needs, Waits, zone_at, PassView, InterlockView, IsSettled, HasSeenMore, HasChanges, StandsBefore, Passes, inl, subst, append-nil, cell_book, Moments, Lasts}
+use Rattle.cell_interlock.proofs.Names.{◌≡◌, ℕ, ◌+◌, ◌<◌, ◌≤◌, true, List, [], ◌∷◌, ◌++◌, length, None, inr, refl, sym, ap, ◌∙◌, arith, same_from_push, Machine, Feed, Table, Press, Watch, Zone, Z3, Release, Stop, Done, Refused, Stopped, Event, ModelState, IsSound, IsLegal, Holds, changes_by_others, LawfulThroughout, needs, Waits, zone_at, PassView, InterlockView, IsSettled, HasSeenMore, HasChanges, StandsBefore, Passes, inl, subst, append-nil, cell_book, Moments, Lasts, IsInTime, HasPart}
 use Rattle.atomic_table.specs.Seated.{TableId}
-use Rattle.std.proofs.Common.{◌*◌}
 use Rattle.word_interlock.specs.History.{BeginsWith}
 use Rattle.word_interlock.specs.Moments.{events_of, own_moments}
 use Rattle.word_interlock.specs.declared.views.Moment.TheVariants.{Begins, Answered}
@@ -12,7 +11,7 @@ use Rattle.cell_rules.proofs.Lawful.{lawful_in, sound_from}
 use Rattle.cell_rules.proofs.Puts.{each_zone}
 use Rattle.cell_rules.proofs.Quiet.{changes-append}
 use Rattle.cell_interlock.specs.Fresh.{IsFresh, AreFresh}
-use Rattle.cell_interlock.specs.OutcomeExamples.{opened, claim, claimed, released, by_feed, again_by_feed, by_table, by_robot, by_watch, barred, press_pass, watch_pass, before, after_claim, lost_both, AskExamples, LookExamples, AttemptExamples, MoreExamples, ChangeExamples, AnswerExamples, OrderExamples, StampExamples, ReceiptExamples, RunExamples, PaidExamples, FreshExamples, LineExamples, OutcomeExamples}
+use Rattle.cell_interlock.specs.OutcomeExamples.{opened, claim, claimed, released, by_feed, again_by_feed, by_table, by_robot, by_watch, barred, press_pass, watch_pass, before, begun, after_claim, lost_both, AskExamples, LookExamples, AttemptExamples, MoreExamples, ChangeExamples, AnswerExamples, OrderExamples, StampExamples, ReceiptExamples, RunExamples, PaidExamples, FreshExamples, LineExamples, OutcomeExamples}
 use Rattle.cell_interlock.proofs.Settled.{lawful_history, settled, replied}
 
 sound : IsSound opened
@@ -141,6 +140,8 @@ look t = record {
   other_call = λ r. let e = r.call in cc;
   other_tries = λ r. let e : 3 ≡ 2 = r.tries in omega arith;
   has_lost_one = λ r. let e : 1 ≡ 0 = r.lost in omega arith;
+  begun = alone (before t) (begun t) [] [] refl refl refl refl refl refl;
+  not_begun = λ r. no_end r.first (Begins Press) r.between (r.is ∙ append-nil (r.first ++ Begins Press ∷ r.between));
   pass_of_pending = refl;
   pass_of_settled = refl;
   seen_since = λ r. let e : 0 ≡ 1 = ap length r.since in omega arith;
@@ -178,6 +179,12 @@ attempt t = record {
   busy_though_refused = λ r. let e = r.overtaken.ready in cc;
   busy_by_changes_before_its_look = λ r. let e : 3 ≤ 2 = counted _ _ _ _ r.overtaken.changed in omega arith;
   busy_forgets = λ r. let e : Table ≡ Feed = ap first_by r.more.seen.begins.1 in cc;
+  settled_without_its_event = λ f.
+      let k = f [] (before t) refl (alone (before t) (begun t) [] [] refl refl refl refl refl refl) in
+      let last = (same_from_push [] (k.first ++ Begins Press ∷ k.between) (Begins Press) (Answered claimed) k.is).1 in cc;
+  lost_without_its_beginning = λ f.
+      let k = f [] (before t) refl (alone (before t) (begun t) [] [] refl refl refl refl refl refl) in
+      no_end k.first (Begins Press) k.between (k.is ∙ append-nil (k.first ++ Begins Press ∷ k.between));
   pass_of_lost = refl;
   pass_of_busy = refl;
   pass_of_settled = refl;
@@ -266,13 +273,27 @@ runs t = record {
   in_time = record { begins = (Begins Feed ∷ [], refl); own = refl };
   another_call = λ f. let e : 3 ≡ 2 = ap length f.own in omega arith;
   other_beginning = λ f. let e = f.begins.1 in cc;
+  never_began = λ p s is run.
+      let shown = subst (λ (v : PassView). IsInTime run.moments Press v) is (run.in_time Press) in
+      let has = run.calls [] claimed shown.begins.0 shown.begins.1 in
+      no_end has.earlier (Begins Press) [] has.is;
+  unlawful = λ p s is run.
+      let part = subst (λ (v : PassView). HasPart opened (events_of run.moments) Press v) is (run.passes Press) in
+      unlawful part.seen.begins.0 (subst (LawfulThroughout opened) part.seen.begins.1 run.lawful);
 }
 
 paid : (t : TableId) → PaidExamples t
 paid t = record {
-  at_once = record { busy = 0; loads = refl; risen = omega arith };
-  busy_once = record { busy = 1; loads = refl; risen = omega arith };
-  unpaid = λ f. let loads : 5 ≡ 3 + f.busy + 1 = f.loads in let risen : 0 + f.busy * 2 ≤ 1 = f.risen in omega (arith, loads, risen);
+  at_once = record { loads = refl; exchanges = omega arith; risen = omega arith };
+  busy_once = record { loads = refl; exchanges = omega arith; risen = omega arith };
+  unpaid = λ f. let risen : 2 ≤ 1 = f.risen in omega (arith, risen);
+  free_loads = λ f. let loads : 5 ≡ 4 = f.loads in omega (arith, loads);
+  free_exchanges = λ f. let few : 8 ≤ 7 = f.exchanges in omega (arith, few);
+  one_busy = (
+    record { pass = record { table = refl; opening = refl; machine = refl }; seen = ([], refl) },
+    record { pass = record { table = refl; opening = refl; machine = refl }; seen = (ask t).busy.seen; busy = (ask t).busy.busy },
+    record { pass = record { table = refl; opening = refl; machine = refl }; seen = ([], refl) },
+  );
   twice = refl;
 }
 

@@ -8,13 +8,16 @@ use Rattle.word_interlock.proofs.Settling as engine_proofs
 use Rattle.cell_interlock.specs.declared.rules.CellRules.{CellRules}
 use Rattle.cell_interlock.specs.BookKept.{cell_is_rule_book}
 use Rattle.cell_interlock.specs.Calls.{IfBusy}
-use Rattle.cell_interlock.specs.Settling.{MadeCall, once_busy, times_busy, IsMade, MakesCalls, BusyIsPaid, IsPaidFor}
+use Rattle.cell_interlock.specs.Settling.{MadeCall, once_busy, times_busy, IsMade, MakesCalls, BusyIsPaid, IsAskedUntilAnswered}
 use Rattle.cell_interlock.proofs.Instance.{after_here, legal_there, changes_here}
 use Rattle.cell_interlock.proofs.Order.{reply_to, seen_there}
 
-pub paid_here : (tries : ℕ) (v : EnginePass) (stamp : ℕ) (w : EnginePass) → engine.IsPaidFor cell_book tries v stamp w → IsPaidFor tries (pass_from v) stamp (pass_from w)
-paid_here tries v stamp w f =
-    record { busy = f.busy; loads = f.loads; risen = subst (λ (s : ModelState). s.stamp + f.busy * tries ≤ stamp) (after_here v.opening v.seen) f.risen }
+pub asked_here : (tries : ℕ) (v : EnginePass) (c : Call) (a : Answer) (stamp : ℕ) (w : EnginePass) → engine.IsAskedUntilAnswered cell_book tries v c a stamp w → IsAskedUntilAnswered tries (pass_from v) c a stamp (pass_from w)
+asked_here tries v c a stamp w f = record {
+  busy = f.busy;
+  paid = record { loads = f.paid.loads; exchanges = f.paid.exchanges; risen = subst (λ (s : ModelState). s.stamp + f.busy * tries ≤ stamp) (after_here v.opening v.seen) f.paid.risen };
+  last = f.last;
+}
 
 abbrev EngineCall : Type 0
 EngineCall = engine.MadeCall CellRules ModelState Machine Call Answer Event

@@ -4,7 +4,7 @@ use Rattle.word_interlock.specs.Moments as moments
 use Rattle.word_interlock.specs.Moments.{events_of}
 use Rattle.word_interlock.specs.Run as engine
 use Rattle.cell_interlock.proofs.Instance.{after_here, lawful_here}
-use Rattle.cell_interlock.proofs.Closing.{part_here}
+use Rattle.cell_interlock.proofs.Closing.{part_here, audited_here}
 
 time_here : (ms : Moments) (p : EnginePass) (m : Machine) → moments.IsInTime cell_book ms (view_of p) → p.actor ≡ m → IsInTime ms m (pass_from p)
 time_here ms p m f named =
@@ -33,4 +33,5 @@ module _ (i : InterlockView) (o : ModelState) (p : Passes) (feed table robot pre
     reached = e.reached ∙ after_here o h;
     in_time = λ m. (all_parts m).1;
     passes = λ m. (all_parts m).0;
+    audited = audited_here i o p feed table robot press deposit crane watch s (record { history = h; lawful = e.lawful; reached = e.reached; parts = e.parts }) is are;
   }

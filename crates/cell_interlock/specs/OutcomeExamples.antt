@@ -19,8 +19,8 @@ use Rattle.cell_rules.specs.Start.{start_state}
 use Rattle.cell_rules.specs.Seen.{event}
 use Rattle.cell_rules.specs.declared.heard.LineFault.TheVariants.{Memory}
 use Rattle.word_interlock.specs.declared.views.Moment.TheVariants.{Begins, Answered}
-use Rattle.cell_interlock.specs.Timing.{told_by, IsInTime}
-use Rattle.cell_interlock.specs.Settling.{MadeCall, times_busy, IsPaidFor}
+use Rattle.cell_interlock.specs.Timing.{told_by, IsInTime, IsRun, IsLookTimed, IsAttemptTimed}
+use Rattle.cell_interlock.specs.Settling.{MadeCall, MakesCalls, times_busy, IsPaidFor}
 use Rattle.cell_interlock.specs.Views.{PassView, InterlockView, TryView, receipt_of}
 use Rattle.cell_interlock.specs.Fresh.{AreFresh}
 use Rattle.cell_interlock.specs.Seen.{AnswersAtItsPoint, LastingRight, HasSeenMore, HasChanges}
@@ -96,6 +96,10 @@ after_claim t = record (press_pass t (claimed ∷ []) [] 4 6) { moments = Begins
 abbrev pub looked : TableId → PassView
 looked t = press_pass t [] [] 4 5
 
+-- (the same pass as `looked`, with its moments)
+abbrev pub begun : TableId → PassView
+begun t = record (looked t) { moments = Begins Press ∷ [] }
+
 abbrev pub lost_one : TableId → PassView
 lost_one t = press_pass t (by_feed ∷ []) [] 4 6
 
@@ -161,6 +165,8 @@ pub record LookExamples (t : TableId) : Type 0 where
   pub other_tries : ¬ Looked (before t) claim 2 (Pending (record (under_way (looked t) 0) { tries = 3 }))
   pub has_lost_one : ¬ Looked (before t) claim 2 (Pending (under_way (looked t) 1))
   pub seen_since : ¬ Looked (before t) claim 2 (Pending (under_way (press_pass t (by_feed ∷ []) [] 4 5) 0))
+  pub begun : IsLookTimed [] (before t) claim (Pending (under_way (begun t) 0))
+  pub not_begun : ¬ IsLookTimed [] (before t) claim (Pending (under_way (looked t) 0))
   pub pass_of_pending : after_look (Pending (under_way (looked t) 0)) ≡ looked t
   pub pass_of_settled : after_look (LookSettled Done 1 (after_claim t)) ≡ after_claim t
 
@@ -200,6 +206,10 @@ pub record AttemptExamples (t : TableId) : Type 0 where
       (TriedSettled Done 2 (press_pass t (by_watch ∷ claimed ∷ []) [] 4 6))
   pub lost_while_stopped :
       ¬ Attempted (under_way (looked t) 0) (Lost (under_way (record (lost_one t) { seen = by_watch ∷ [] }) 1))
+  pub settled_without_its_event :
+      ¬ IsAttemptTimed (under_way (begun t) 0)
+      (TriedSettled Done 1 (record (after_claim t) { moments = Begins Press ∷ [] }))
+  pub lost_without_its_beginning : ¬ IsAttemptTimed (under_way (begun t) 0) (Lost (under_way (lost_one t) 1))
   pub pass_of_lost : after_attempt (Lost (under_way (lost_one t) 1)) ≡ lost_one t
   pub pass_of_busy : after_attempt (TriedBusy 2 2 (lost_both t)) ≡ lost_both t
   pub pass_of_settled : after_attempt (TriedSettled Done 1 (after_claim t)) ≡ after_claim t
@@ -268,11 +278,15 @@ pub record ReceiptExamples (t : TableId) : Type 0 where
 
 -- ---- a run, and what Busy costs
 
--- the press's pass was shown a prefix of the moments, with all of the press
+-- the press's pass was shown a prefix of the moments, with all of the press; in a run it began before it was answered
 pub record RunExamples (t : TableId) : Type 0 where
   pub in_time : IsInTime (Begins Press ∷ Answered claimed ∷ Begins Feed ∷ []) Press (after_claim t)
   pub another_call : ¬ IsInTime (Begins Press ∷ Answered claimed ∷ Begins Press ∷ []) Press (after_claim t)
   pub other_beginning : ¬ IsInTime (Begins Feed ∷ Begins Press ∷ Answered claimed ∷ []) Press (after_claim t)
+  pub never_began : (p : Passes) (s : ModelState)
+      → p.press ≡ record (after_claim t) { moments = Answered claimed ∷ [] } → ¬ IsRun opened p s
+  pub unlawful : (p : Passes) (s : ModelState)
+      → p.press ≡ press_pass t (again_by_feed ∷ []) [] 4 5 → ¬ IsRun opened p s
 
 -- a claim that came back so
 abbrev pub made : TableId → Reply → MadeCall
@@ -280,9 +294,12 @@ made t reply = record { before = before t; call = claim; reply = reply; after = 
 
 -- a call that was Busy raises the stamp by two, since it may lose two exchanges
 pub record PaidExamples (t : TableId) : Type 0 where
-  pub at_once : IsPaidFor 2 (before t) 1 (after_claim t)
-  pub busy_once : IsPaidFor 2 (before t) 3 (record (after_claim t) { loads = 5 })
-  pub unpaid : ¬ IsPaidFor 2 (before t) 1 (record (after_claim t) { loads = 5 })
+  pub at_once : IsPaidFor 2 0 (before t) 1 (after_claim t)
+  pub busy_once : IsPaidFor 2 1 (before t) 3 (record (after_claim t) { loads = 5 })
+  pub unpaid : ¬ IsPaidFor 2 1 (before t) 1 (record (after_claim t) { loads = 5 })
+  pub free_loads : ¬ IsPaidFor 2 0 (before t) 1 (record (after_claim t) { loads = 5 })
+  pub free_exchanges : ¬ IsPaidFor 2 0 (before t) 1 (record (after_claim t) { exchanges = 8 })
+  pub one_busy : MakesCalls 2 (before t) (record (made t (Busy 2 2)) { after = lost_both t } ∷ []) (lost_both t)
   pub twice : times_busy (made t (Busy 2 2) ∷ made t (Settled Done 3) ∷ made t (Busy 2 5) ∷ []) ≡ 2
 
 -- ---- a new interlock

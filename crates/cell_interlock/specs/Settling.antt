@@ -58,13 +58,20 @@ pub record BusyIsPaid : Type 0 where
       → LawfulThroughout v.opening w.seen → times_busy calls * tries ≤ 1048575
 
 -- A call was Busy this many times, and was then answered with this stamp. Each time the stamp has risen by as many
--- exchanges as a call may lose. Each ask took one load.
-pub record IsPaidFor (tries : ℕ) (v : PassView) (stamp : ℕ) (w : PassView) : Type 0 where
-  pub busy : ℕ
+-- exchanges as a call may lose. Each ask took one load, and no more exchanges than a call may lose.
+pub record IsPaidFor (tries busy : ℕ) (v : PassView) (stamp : ℕ) (w : PassView) : Type 0 where
   pub loads : w.loads ≡ v.loads + busy + 1
+  pub exchanges : w.exchanges ≤ v.exchanges + (busy + 1) * tries
   pub risen : (after v.opening v.seen).stamp + busy * tries ≤ stamp
 
--- by the last ask the call was answered; before it the pass had seen no less, and had left a beginning by each ask that
--- was Busy, and nothing else (`word_interlock`)
-abbrev pub IsAnsweredAtLast : PassView → Call → Answer → PassView → Type 0
-IsAnsweredAtLast v c a w = engine.IsAnsweredAtLast cell_book (pass_to v) c a (pass_to w)
+-- By the last ask the call was answered. Before it the pass had seen no less, and had left a beginning by each ask that
+-- was Busy, and nothing else (`word_interlock`).
+abbrev pub IsAnsweredAtLast : ℕ → PassView → Call → Answer → PassView → Type 0
+IsAnsweredAtLast busy v c a w = engine.IsAnsweredAtLast cell_book busy (pass_to v) c a (pass_to w)
+
+-- a call was asked until it was answered
+pub record IsAskedUntilAnswered (tries : ℕ) (v : PassView) (c : Call) (a : Answer) (stamp : ℕ) (w : PassView)
+    : Type 0 where
+  pub busy : ℕ
+  pub paid : IsPaidFor tries busy v stamp w
+  pub last : IsAnsweredAtLast busy v c a w

@@ -1,6 +1,6 @@
 -- Calls in the order of the steps on the word: what comes before a call began comes before its event. Moments are the
 -- beginnings of calls, each by its load, and their answers, each an event, in that order, the oldest first.
-use Rattle.std.specs.Prelude.{◌≡◌, List, [], ◌∷◌}
+use Rattle.std.specs.Prelude.{◌≡◌, List, [], ◌∷◌, Some}
 use Rattle.cell_types.specs.declared.machine.Machine.{Machine}
 use Rattle.cell_types.specs.declared.call.Call.{Call}
 use Rattle.cell_types.specs.declared.answer.Event.{Event}
@@ -9,6 +9,7 @@ use Rattle.cell_types.specs.declared.reply.Reply.TheVariants.{Settled, Busy}
 use Rattle.cell_rules.specs.ModelState.{ModelState}
 use Rattle.cell_rules.specs.History.{after}
 use Rattle.cell_rules.specs.Laws.{LawfulThroughout}
+use Rattle.cell_rules.specs.Audited.{IsAudited}
 use Rattle.cell_rules.specs.Seen.{event}
 use Rattle.word_interlock.specs.History.{BeginsWith}
 use Rattle.word_interlock.specs.Moments.{events_of, own_moments, AreCalls}
@@ -19,7 +20,7 @@ use Rattle.word_interlock.specs.declared.views.Moment.TheVariants.{Answered}
 use Rattle.cell_interlock.specs.Book.{cell_book}
 use Rattle.cell_interlock.specs.Views.{PassView, ReceiptView, TryView}
 use Rattle.cell_interlock.specs.Engine.{pass_to}
-use Rattle.cell_interlock.specs.Ends.{pass_in, HasPart}
+use Rattle.cell_interlock.specs.Ends.{pass_in, journals_by, HasPart}
 use Rattle.cell_interlock.specs.declared.pass.Passes.{Passes}
 use Rattle.cell_interlock.specs.declared.tries.Look.{Look}
 use Rattle.cell_interlock.specs.declared.tries.Look.TheVariants.{Settled as LookSettled, Pending}
@@ -68,9 +69,9 @@ pub record IsInTime (moments : Moments) (m : Machine) (p : PassView) : Type 0 wh
   pub begins : BeginsWith moments p.moments
   pub own : own_moments cell_book moments m ≡ own_moments cell_book p.moments m
 
--- The state is the one after the events of all moments. These are lawful throughout, and each comes after the beginning
--- of its call. Each of the seven passes was shown a prefix of the moments, with all of its machine, and has seen a
--- prefix of the events.
+-- The state is the one after the events of all moments. These are lawful throughout, and each comes after the
+-- beginning of its call. Each of the seven passes was shown a prefix of the moments, with all of its machine, and has
+-- seen a prefix of the events. An audit accepts the journals of the seven passes by these events.
 pub record IsRun (opening : ModelState) (p : Passes) (s : ModelState) : Type 0 where
   pub moments : Moments
   pub calls : AreCalls cell_book moments
@@ -78,3 +79,4 @@ pub record IsRun (opening : ModelState) (p : Passes) (s : ModelState) : Type 0 w
   pub reached : s ≡ after opening (events_of moments)
   pub in_time : (m : Machine) → IsInTime moments m (pass_in p m)
   pub passes : (m : Machine) → HasPart opening (events_of moments) m (pass_in p m)
+  pub audited : IsAudited opening (journals_by opening p) (Some s) (events_of moments)

@@ -17,8 +17,8 @@ pub struct Ended {
 impl Interlock {
     /// Ends an interlock. Its seven passes have come back, so nobody calls any more. The state that
     /// it leaves is the one after one legal history, which begins with what each pass has seen, and
-    /// has no other event of that pass's machine (`end`). It is the events of one list of moments, in
-    /// which each comes after the beginning of its call, with each pass's own moments (`run`; what
+    /// has no other event of that pass's machine (`end`). There is one list of moments, with each
+    /// pass's own, whose events are such a history, each after the beginning of its call (`run`; what
     /// follows for calls that don't overlap: `laws::runs_keep_order`).
     ///
     /// The passes were made with this interlock, and each is in its machine's field.

@@ -33,8 +33,8 @@ pub fn runs_keep_order()
     ensures { RunsKeepOrder cell_book }
 {}
 
-/// At every time the history of the rule is empty, or one of the seven callers has seen it whole. So
-/// it is one history, which grows as what they have seen; likewise the moments.
+/// At every time the caller who made the last event of the rule's history has seen it whole. So it is
+/// one history, which grows as what the seven have seen; likewise the moments.
 pub fn history_is_one()
     ensures { HistoryIsOne }
 {}

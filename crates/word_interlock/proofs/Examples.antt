@@ -1,5 +1,5 @@
 -- Lists of moments: what calls in order are, and what isn't one.
-use Rattle.std.proofs.Common.{◌≡◌, true, false, List, [], ◌∷◌, ◌++◌, inl, inr, ⊎_elim, refl, sym, ap, ◌∙◌, subst, append_assoc}
+use Rattle.std.proofs.Common.{◌≡◌, true, false, List, [], ◌∷◌, ◌++◌, inl, inr, ⊎_elim, refl, sym, ap, ◌∙◌, length, subst, arith, append_assoc}
 use Rattle.std.proofs.lemmas.List.{same_from_push}
 use Rattle.word_interlock.specs.RuleBook.{RuleBook, IsRuleBook}
 use Rattle.word_interlock.specs.declared.views.HistoryView.{HistoryView}
@@ -145,6 +145,11 @@ module _ {R S M C A E : Type 0} (b : RuleBook S M C A E) (law : IsRuleBook b) (m
     before_its_load = λ k.
         let at : k.first ≡ Begins n ∷ [] = first_is [] _ _ k (Begins n ∷ []) (Answered f ∷ []) refl refl (begin_foreign b law m n e f two) (answer_foreign b law m n e f two) in
         ⊎_elim (λ (g : f ∷ [] ≡ events_of k.first). let has : f ∷ [] ≡ [] = g ∙ ap events_of at in cc) (λ g. let has : f ∷ [] ≡ f ∷ e ∷ [] = g.1 in cc) k.load;
+    answered_late_by_its_load = λ k.
+        let at : k.first ≡ Begins n ∷ [] = first_is [] _ _ k (Begins n ∷ []) (Answered f ∷ []) refl refl (begin_foreign b law m n e f two) (answer_foreign b law m n e f two) in
+        ⊎_elim (λ (g : f ∷ e ∷ [] ≡ events_of k.first). let has : f ∷ e ∷ [] ≡ [] = g ∙ ap events_of at in cc)
+        (λ g. let has : 4 ≡ 3 = ap length (k.is ∙ (λ i. (at i ++ Begins m ∷ g.0 i) ++ Answered e ∷ [])) in omega arith)
+        k.load;
     after_a_receipt = record {
       first = Begins n ∷ Answered f ∷ [];
       between = [];

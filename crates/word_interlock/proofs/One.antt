@@ -1,5 +1,5 @@
 -- Who made the last event of the rule's history has seen all of it.
-use Rattle.std.proofs.Common.{◌≡◌, ℕ, zero, suc, ◌≤◌, Bool, true, false, List, [], ◌∷◌, ◌++◌, ◌⊎◌, inl, inr, ⊎_elim, refl, sym, ap, ◌∙◌, subst, arith, append-nil, append_assoc}
+use Rattle.std.proofs.Common.{◌≡◌, ℕ, zero, suc, ◌≤◌, Bool, true, false, List, [], ◌∷◌, ◌++◌, inl, inr, ⊎_elim, refl, sym, ap, ◌∙◌, subst, arith, append-nil, append_assoc}
 use mathlib.Core.Option.{some}
 use lib.ListN.{get_elem?}
 use Rattle.atomic_table.specs.Table.{State}
@@ -16,26 +16,22 @@ use Rattle.word_interlock.specs.One.{IsSeenOn, IsSeen, HistoryIsSeen, AreShownOn
 use Rattle.word_interlock.proofs.Histories.{last_caller_has_seen_all}
 use Rattle.word_interlock.proofs.Moments.{no_end, event_at, own-append, own-one, between-foreign, begins_last}
 
-split_last : {E : Type 0} (x : E) (xs : List E) → (init : List E) × (e : E) × (x ∷ xs ≡ init ++ e ∷ [])
-split_last x [] = ([], x, refl)
-split_last x (y ∷ ys) = let r = split_last y ys in (x ∷ r.0, r.1, ap (λ l. x ∷ l) r.2)
-
 module _ {R S M C A E : Type 0} (b : RuleBook S M C A E) (law : IsRuleBook b) (rules : R) (o : S) (init : List E) (e : E) where
-  seen_on : (ps : List (ActorView R S M E)) → AllFit b rules o (init ++ e ∷ []) ps → 1 ≤ times_in b (b.actor_of e) ps → IsSeenOn (init ++ e ∷ []) ps
+  seen_on : (ps : List (ActorView R S M E)) → AllFit b rules o (init ++ e ∷ []) ps → 1 ≤ times_in b (b.actor_of e) ps → IsSeenOn (b.actor_of e) (init ++ e ∷ []) ps
   seen_on [] fit some_of = absurd (omega (arith, some_of))
   seen_on (p ∷ ps) fit some_of = go (b.same p.actor (b.actor_of e)) refl (seen_on ps fit.1)
     where
-      go : (d : Bool) → b.same p.actor (b.actor_of e) ≡ d → (1 ≤ times_in b (b.actor_of e) ps → IsSeenOn (init ++ e ∷ []) ps) → IsSeenOn (init ++ e ∷ []) (p ∷ ps)
+      go : (d : Bool) → b.same p.actor (b.actor_of e) ≡ d → (1 ≤ times_in b (b.actor_of e) ps → IsSeenOn (b.actor_of e) (init ++ e ∷ []) ps) → IsSeenOn (b.actor_of e) (init ++ e ∷ []) (p ∷ ps)
       go true f again =
           let own : own_events b (init ++ e ∷ []) (b.actor_of e) ≡ own_events b p.seen (b.actor_of e) = subst (λ (m : M). own_events b (init ++ e ∷ []) m ≡ own_events b p.seen m) (law.one p.actor (b.actor_of e) f) fit.0.own in
-          inl (last_caller_has_seen_all b law init p.seen e fit.0.begins own)
+          inl (law.one p.actor (b.actor_of e) f, last_caller_has_seen_all b law init p.seen e fit.0.begins own)
       go false f again = inr (again (grind (arith, f, some_of)))
 
-  seen : (vs : List (SeatView R S M E)) → ((i : ℕ) (v : SeatView R S M E) → get_elem? vs i ≡ some v → SeatFits b rules o (init ++ e ∷ []) v) → 1 ≤ times_in_all b (b.actor_of e) vs → IsSeen (init ++ e ∷ []) vs
+  seen : (vs : List (SeatView R S M E)) → ((i : ℕ) (v : SeatView R S M E) → get_elem? vs i ≡ some v → SeatFits b rules o (init ++ e ∷ []) v) → 1 ≤ times_in_all b (b.actor_of e) vs → IsSeen (b.actor_of e) (init ++ e ∷ []) vs
   seen [] fit some_of = absurd (omega (arith, some_of))
   seen (v ∷ vs) fit some_of = go (times_in b (b.actor_of e) v.actors) refl (seen vs (λ i u f. fit (suc i) u f))
     where
-      go : (k : ℕ) → times_in b (b.actor_of e) v.actors ≡ k → (1 ≤ times_in_all b (b.actor_of e) vs → IsSeen (init ++ e ∷ []) vs) → IsSeen (init ++ e ∷ []) (v ∷ vs)
+      go : (k : ℕ) → times_in b (b.actor_of e) v.actors ≡ k → (1 ≤ times_in_all b (b.actor_of e) vs → IsSeen (b.actor_of e) (init ++ e ∷ []) vs) → IsSeen (b.actor_of e) (init ++ e ∷ []) (v ∷ vs)
       go zero f again = inr (again (omega (arith, f, some_of)))
       go (suc k) f again = inl (seen_on v.actors (fit 0 v refl).0 (omega (arith, f)))
 
@@ -45,14 +41,8 @@ module _ {R S M C A E : Type 0} (b : RuleBook S M C A E) (law : IsRuleBook b) (r
   has_pass k init e is = let t = event_at k.moments init [] e is in k.callers t.0 (Answered e) t.1 t.2
 
   pub history_is_seen : (T : Type 0) → HistoryIsSeen b rules T
-  history_is_seen T opening table k = go k.history refl
-    where
-      go : (h : List E) → k.history ≡ h → (k.history ≡ []) ⊎ IsSeen k.history table.views
-      go [] f = inl f
-      go (x ∷ xs) f =
-          let r = split_last x xs in
-          let is : k.history ≡ r.0 ++ r.1 ∷ [] = f ∙ r.2 in
-          inr (subst (λ h. IsSeen h table.views) (sym is) (seen b law rules opening r.0 r.1 table.views (λ i v g. subst (λ h. SeatFits b rules opening h v) is (k.views i v g)) (omega (arith, has_pass k (r.0) (r.1) (k.events ∙ is), k.apart (b.actor_of r.1)))))
+  history_is_seen T opening table k init e is =
+      subst (λ h. IsSeen (b.actor_of e) h table.views) (sym is) (seen b law rules opening init e table.views (λ i v g. subst (λ h. SeatFits b rules opening h v) is (k.views i v g)) (omega (arith, has_pass k init e (k.events ∙ is), k.apart (b.actor_of e))))
 
 -- lists that begin with one another are the same
 none_more : {X : Type 0} (xs ys : List X) → xs ++ ys ≡ [] → ys ≡ []
@@ -78,31 +68,25 @@ module _ {S M C A E : Type 0} (b : RuleBook S M C A E) (law : IsRuleBook b) (ini
       (λ (g : BeginsWith ms (init ++ x ∷ [])). same_lists ms (init ++ x ∷ []) g.0 f.0 g.1 f.1) (begins_last init x ms f.0 f.1)
 
 module _ {R S M C A E : Type 0} (b : RuleBook S M C A E) (law : IsRuleBook b) (init : List (Moment M E)) (x : Moment M E) where
-  shown_on : (ps : List (ActorView R S M E)) → AreInTime b (init ++ x ∷ []) ps → 1 ≤ times_in b (actor_at b x) ps → AreShownOn (init ++ x ∷ []) ps
+  shown_on : (ps : List (ActorView R S M E)) → AreInTime b (init ++ x ∷ []) ps → 1 ≤ times_in b (actor_at b x) ps → AreShownOn (actor_at b x) (init ++ x ∷ []) ps
   shown_on [] fit some_of = absurd (omega (arith, some_of))
   shown_on (p ∷ ps) fit some_of = go (b.same p.actor (actor_at b x)) refl (shown_on ps fit.1)
     where
-      go : (d : Bool) → b.same p.actor (actor_at b x) ≡ d → (1 ≤ times_in b (actor_at b x) ps → AreShownOn (init ++ x ∷ []) ps) → AreShownOn (init ++ x ∷ []) (p ∷ ps)
+      go : (d : Bool) → b.same p.actor (actor_at b x) ≡ d → (1 ≤ times_in b (actor_at b x) ps → AreShownOn (actor_at b x) (init ++ x ∷ []) ps) → AreShownOn (actor_at b x) (init ++ x ∷ []) (p ∷ ps)
       go true f again =
           let own : own_moments b (init ++ x ∷ []) (actor_at b x) ≡ own_moments b p.moments (actor_at b x) = subst (λ (m : M). own_moments b (init ++ x ∷ []) m ≡ own_moments b p.moments m) (law.one p.actor (actor_at b x) f) fit.0.own in
-          inl (last_mover b law init x p.moments fit.0.begins own)
+          inl (law.one p.actor (actor_at b x) f, last_mover b law init x p.moments fit.0.begins own)
       go false f again = inr (again (grind (arith, f, some_of)))
 
-  shown : (vs : List (SeatView R S M E)) → ((i : ℕ) (v : SeatView R S M E) → get_elem? vs i ≡ some v → SeatIsInTime b (init ++ x ∷ []) v) → 1 ≤ times_in_all b (actor_at b x) vs → AreShown (init ++ x ∷ []) vs
+  shown : (vs : List (SeatView R S M E)) → ((i : ℕ) (v : SeatView R S M E) → get_elem? vs i ≡ some v → SeatIsInTime b (init ++ x ∷ []) v) → 1 ≤ times_in_all b (actor_at b x) vs → AreShown (actor_at b x) (init ++ x ∷ []) vs
   shown [] fit some_of = absurd (omega (arith, some_of))
   shown (v ∷ vs) fit some_of = go (times_in b (actor_at b x) v.actors) refl (shown vs (λ i u f. fit (suc i) u f))
     where
-      go : (k : ℕ) → times_in b (actor_at b x) v.actors ≡ k → (1 ≤ times_in_all b (actor_at b x) vs → AreShown (init ++ x ∷ []) vs) → AreShown (init ++ x ∷ []) (v ∷ vs)
+      go : (k : ℕ) → times_in b (actor_at b x) v.actors ≡ k → (1 ≤ times_in_all b (actor_at b x) vs → AreShown (actor_at b x) (init ++ x ∷ []) vs) → AreShown (actor_at b x) (init ++ x ∷ []) (v ∷ vs)
       go zero f again = inr (again (omega (arith, f, some_of)))
       go (suc k) f again = inl (shown_on v.actors (fit 0 v refl).0 (omega (arith, f)))
 
 module _ {R S M C A E : Type 0} (b : RuleBook S M C A E) (law : IsRuleBook b) (rules : R) where
   pub moments_are_shown : (T : Type 0) → MomentsAreShown b rules T
-  moments_are_shown T opening table k = go k.moments refl
-    where
-      go : (ms : List (Moment M E)) → k.moments ≡ ms → (k.moments ≡ []) ⊎ AreShown k.moments table.views
-      go [] f = inl f
-      go (x ∷ xs) f =
-          let r = split_last x xs in
-          let is : k.moments ≡ r.0 ++ r.1 ∷ [] = f ∙ r.2 in
-          inr (subst (λ (l : List (Moment M E)). AreShown l table.views) (sym is) (shown b law r.0 r.1 table.views (λ i v g. subst (λ (l : List (Moment M E)). SeatIsInTime b l v) is (k.in_time i v g)) (omega (arith, k.callers r.0 r.1 [] is, k.apart (actor_at b r.1)))))
+  moments_are_shown T opening table k init x is =
+      subst (λ (l : List (Moment M E)). AreShown (actor_at b x) l table.views) (sym is) (shown b law init x table.views (λ i v g. subst (λ (l : List (Moment M E)). SeatIsInTime b l v) is (k.in_time i v g)) (omega (arith, k.callers init x [] is, k.apart (actor_at b x))))

@@ -71,14 +71,15 @@ module _ {R S M C A E : Type 0} (b : RuleBook S M C A E) (law : IsRuleBook b) (t
     moments = ([], sym (append-nil v.moments));
     own = sym (append-nil (own_moments b v.moments v.actor));
     loads = omega arith;
+    exchanges = omega arith;
     risen = omega arith;
     counted = omega arith;
     few = omega arith;
   }
 
   pub still_after : (n : ℕ) (v u w : PassView R S M E) (c : C) (lost stamp : ℕ) → 1 ≤ tries → IsStillBusy b tries n v u → stamp < 2 ^ 32 → IsSamePass u w → IsLawful b u.opening w.seen → Waits b u.actor u.seen w.seen × (stamp ≡ b.stamp (after b u.opening w.seen))
-      → IsOvertaken b u u.seen c tries lost w → w.loads ≡ u.loads + 1 → Lasts b [] u [] w → IsStillBusy b tries (n + 1) v w
-  still_after n v u w c lost stamp some_tries k room same lawful seen overtaken load lasts =
+      → IsOvertaken b u u.seen c tries lost w → w.loads ≡ u.loads + 1 → w.exchanges ≡ u.exchanges + lost → Lasts b [] u [] w → IsStillBusy b tries (n + 1) v w
+  still_after n v u w c lost stamp some_tries k room same lawful seen overtaken load exchanged lasts =
       let o = k.pass.opening in
       let paid : b.stamp (after b v.opening u.seen) + tries ≤ b.stamp (after b v.opening w.seen) = subst (λ (x : S). b.stamp (after b x u.seen) + tries ≤ b.stamp (after b x w.seen)) o (changes_raise b law u.opening u.actor u.seen w.seen tries lawful.legal overtaken.changed) in
       let stamped : stamp ≡ b.stamp (after b v.opening w.seen) = subst (λ (x : S). stamp ≡ b.stamp (after b x w.seen)) o seen.1 in
@@ -86,12 +87,13 @@ module _ {R S M C A E : Type 0} (b : RuleBook S M C A E) (law : IsRuleBook b) (t
       let begun : own_moments b w.moments v.actor ≡ own_moments b u.moments v.actor ++ Begins v.actor ∷ [] = subst (λ (m : M). own_moments b w.moments m ≡ own_moments b u.moments m ++ Begins m ∷ []) k.pass.actor (own_begun u w lasts) in
       let own : own_moments b w.moments v.actor ≡ own_moments b v.moments v.actor ++ replicate (n + 1) (Begins v.actor) =
       begun ∙ (ap (λ (l : List (Moment M E)). l ++ Begins v.actor ∷ []) k.own ∙ (append_assoc (own_moments b v.moments v.actor) (replicate n (Begins v.actor)) (Begins v.actor ∷ []) ∙ ap (λ (l : List (Moment M E)). own_moments b v.moments v.actor ++ l) (replicate_more n (Begins v.actor)))) in
-      let risen = k.risen in let counted = k.counted in let loads = k.loads in record {
+      let risen = k.risen in let counted = k.counted in let loads = k.loads in let exchanges = k.exchanges in let all_lost = overtaken.all_lost in record {
         own = own;
         pass = same_after v u w k.pass same;
         seen = waits-after b v.actor v.seen u.seen w.seen k.seen (subst (λ (x : M). Waits b x u.seen w.seen) k.pass.actor seen.0);
         moments = begins-trans v.moments u.moments w.moments k.moments (lasts_begins u w [] lasts);
         loads = omega (arith, loads, load);
+        exchanges = omega (arith, exchanges, exchanged, all_lost, times);
         risen = omega (arith, risen, paid, times);
         counted = omega (arith, counted, paid, some_tries);
         few = omega (arith, counted, paid, some_tries, stamped, room);
@@ -110,22 +112,23 @@ module _ {R S M C A E : Type 0} (b : RuleBook S M C A E) (law : IsRuleBook b) (t
         (subst (λ (x : S × M). a ≡ b.reply (after b x.0 h) x.1 c) (λ i. (o i, m i)) (answer h seen.0.ends))
         (subst (λ (x : S). stamp ≡ b.stamp (after b x w.seen)) o seen.1)
 
-    pub paid_for : w.loads ≡ u.loads + 1 → IsPaidFor b tries v stamp w
-    paid_for load =
+    pub paid_for : w.loads ≡ u.loads + 1 → w.exchanges ≤ u.exchanges + tries → IsPaidFor b tries n v stamp w
+    paid_for load few =
         let o = k.pass.opening in
         let on : BeginsWith w.seen u.seen = subst (λ (x : List E). BeginsWith x u.seen) (sym seen.0.ends) (begins-more seen.0.point (b.event u.actor c a ∷ []) u.seen seen.0.begins) in
         let up : b.stamp (after b v.opening u.seen) + 0 ≤ b.stamp (after b v.opening w.seen) = subst (λ (x : S). b.stamp (after b x u.seen) + 0 ≤ b.stamp (after b x w.seen)) o (changes_raise b law u.opening u.actor u.seen w.seen 0 lawful.legal record { more = on.0; is = on.1; many = omega arith }) in
         let stamped : stamp ≡ b.stamp (after b v.opening w.seen) = subst (λ (x : S). stamp ≡ b.stamp (after b x w.seen)) o seen.1 in
-        let risen = k.risen in let loads = k.loads in record {
-          busy = n;
+        let times : (n + 1) * tries ≡ n * tries + tries = add-mul n 1 tries ∙ omega arith in
+        let risen = k.risen in let loads = k.loads in let exchanges = k.exchanges in record {
           loads = omega (arith, loads, load);
+          exchanges = omega (arith, exchanges, few, times);
           risen = omega (arith, risen, up, stamped);
         }
 
-    pub answered_at_last : Lasts b [] u (Answered (b.event u.actor c a) ∷ []) w → IsAnsweredAtLast b v c a w
+    pub answered_at_last : Lasts b [] u (Answered (b.event u.actor c a) ∷ []) w → IsAnsweredAtLast b n v c a w
     answered_at_last lasts = record {
       before = u;
-      busy = n;
+      pass = k.pass;
       seen = k.seen.begins;
       moments = k.moments;
       own = k.own;

@@ -57,6 +57,8 @@ module _ {R S M C A E : Type 0} (b : RuleBook S M C A E) (m n : M) (e f : E) whe
         (pass_with v (f ∷ e ∷ []) [] (Begins n ∷ Answered f ∷ Begins m ∷ Answered e ∷ []))
     pub before_its_load : ¬ Lasts b [] (pass_with v [] [] []) (Answered e ∷ [])
         (pass_with v (f ∷ e ∷ []) (f ∷ []) (Begins n ∷ Begins m ∷ Answered f ∷ Answered e ∷ []))
+    pub answered_late_by_its_load : ¬ Lasts b [] (pass_with v [] [] []) (Answered e ∷ [])
+        (pass_with v (f ∷ e ∷ []) (f ∷ e ∷ []) (Begins n ∷ Begins m ∷ Answered f ∷ Answered e ∷ []))
     -- a receipt tells f, and the call that made it
     pub after_a_receipt : Lasts b (receipt_with v (f ∷ []) (Begins n ∷ Answered f ∷ []) ∷ [])
         (pass_with v [] [] []) (Answered e ∷ [])

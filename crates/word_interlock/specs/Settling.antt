@@ -56,21 +56,28 @@ pub record BusyIsPaid (R : Type 0) {S M C A E : Type 0} (b : RuleBook S M C A E)
 
 module _ {R S M C A E : Type 0} (b : RuleBook S M C A E) where
   -- A call was Busy this many times, and was then answered with this stamp. Each time the stamp has risen by as many
-  -- exchanges as a call may lose. Each ask took one load.
-  pub record IsPaidFor (tries : ℕ) (v : PassView R S M E) (stamp : ℕ) (w : PassView R S M E) : Type 0 where
-    pub busy : ℕ
+  -- exchanges as a call may lose. Each ask took one load, and no more exchanges than a call may lose.
+  pub record IsPaidFor (tries busy : ℕ) (v : PassView R S M E) (stamp : ℕ) (w : PassView R S M E) : Type 0 where
     pub loads : w.loads ≡ v.loads + busy + 1
+    pub exchanges : w.exchanges ≤ v.exchanges + (busy + 1) * tries
     pub risen : b.stamp (after b v.opening v.seen) + busy * tries ≤ stamp
 
   -- By the last ask the call was answered. Before it the pass had seen no less, and had left a beginning by each ask
   -- that was Busy, and nothing else.
-  pub record IsAnsweredAtLast (v : PassView R S M E) (c : C) (a : A) (w : PassView R S M E) : Type 0 where
+  pub record IsAnsweredAtLast (busy : ℕ) (v : PassView R S M E) (c : C) (a : A) (w : PassView R S M E) : Type 0 where
     pub before : PassView R S M E
-    pub busy : ℕ
+    pub pass : IsSamePass v before
     pub seen : BeginsWith before.seen v.seen
     pub moments : BeginsWith before.moments v.moments
     pub own : own_moments b before.moments v.actor ≡ own_moments b v.moments v.actor ++ replicate busy (Begins v.actor)
     pub lasts : Lasts b [] before (Answered (b.event v.actor c a) ∷ []) w
+
+  -- a call was asked until it was answered
+  pub record IsAskedUntilAnswered (tries : ℕ) (v : PassView R S M E) (c : C) (a : A) (stamp : ℕ) (w : PassView R S M E)
+      : Type 0 where
+    pub busy : ℕ
+    pub paid : IsPaidFor tries busy v stamp w
+    pub last : IsAnsweredAtLast busy v c a w
 
   -- a call was Busy n times, and isn't answered yet
   pub record IsStillBusy (tries n : ℕ) (v w : PassView R S M E) : Type 0 where
@@ -79,6 +86,7 @@ module _ {R S M C A E : Type 0} (b : RuleBook S M C A E) where
     pub moments : BeginsWith w.moments v.moments
     pub own : own_moments b w.moments v.actor ≡ own_moments b v.moments v.actor ++ replicate n (Begins v.actor)
     pub loads : w.loads ≡ v.loads + n
+    pub exchanges : w.exchanges ≡ v.exchanges + n * tries
     pub risen : b.stamp (after b v.opening v.seen) + n * tries ≤ b.stamp (after b v.opening w.seen)
     pub counted : n ≤ b.stamp (after b v.opening w.seen)
     pub few : n < 2 ^ 32

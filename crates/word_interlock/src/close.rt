@@ -10,9 +10,9 @@ use crate::rules::Rules;
 impl<R: Rules + Drop> Interlock<R> {
     /// Ends an interlock, and gives the state that it leaves. It is the one after one legal history,
     /// which begins with what each of these passes has seen, and has no other event of that pass's
-    /// actor (`end`). It is the events of one list of moments, in which each comes after the
-    /// beginning of its call, with each pass's own moments (`run`; what follows for calls that don't
-    /// overlap: `laws::runs_keep_order`). If all passes have come back, nobody calls any more.
+    /// actor (`end`). There is one list of moments, with each pass's own, whose events are such a
+    /// history, each after the beginning of its call (`run`; what follows for calls that don't overlap:
+    /// `laws::runs_keep_order`). If all passes have come back, nobody calls any more.
     ///
     /// The passes were made with this interlock.
     pub fn close(self, passes: Passes<R>) -> R::State

@@ -59,7 +59,7 @@ pub fn moments_are_known<R: Rules>(rules: &R)
     let _ = rules;
 }
 
-/// At every time the history of the rule is empty, or one of the actors has seen it whole. So it is
+/// At every time the actor who made the last event of the rule's history has seen it whole. So it is
 /// one history, which grows as what they have seen.
 pub fn history_is_seen<R: Rules>(rules: &R)
     ensures { HistoryIsSeen (R.book rules.now) rules.now (Unit {0}) }
@@ -67,8 +67,8 @@ pub fn history_is_seen<R: Rules>(rules: &R)
     let _ = rules;
 }
 
-/// At every time there are no moments, or the steps of one of the actors have shown it all of them.
-/// So they are one list, which grows by the actors' own steps.
+/// At every time the steps of the actor who made the rule's last moment have shown it all of them. So
+/// they are one list, which grows by the actors' own steps.
 pub fn moments_are_shown<R: Rules>(rules: &R)
     ensures { MomentsAreShown (R.book rules.now) rules.now (Unit {0}) }
 {

@@ -9,8 +9,11 @@ pub returns-in-Settled : goal.returns-in-Settled
 returns-in-Settled g c =
     let r = c.args.self.now.rules in let b = g.R.Rules.book r in let law = g.met.R.Rules.lawful r in let e = c.in-Settled.ensures in record {
       settled = settled_at_last b law c.args.self.now.tries c.loop-busy._busy c.args.pass.now c.loop-busy.pass c.ask.new.pass c.args.call c.in-Settled.answer c.in-Settled.stamp c.loop-busy.invariant e.lawful e.seen e.pass e.answer e.right;
-      paid_for = paid_for b law c.args.self.now.tries c.loop-busy._busy c.args.pass.now c.loop-busy.pass c.ask.new.pass c.args.call c.in-Settled.answer c.in-Settled.stamp c.loop-busy.invariant e.lawful e.seen e.one_load;
-      real_time = answered_at_last b law c.args.self.now.tries c.loop-busy._busy c.args.pass.now c.loop-busy.pass c.ask.new.pass c.args.call c.in-Settled.answer c.in-Settled.stamp c.loop-busy.invariant e.lawful e.seen e.real_time;
+      asked = record {
+        busy = c.loop-busy._busy;
+        paid = paid_for b law c.args.self.now.tries c.loop-busy._busy c.args.pass.now c.loop-busy.pass c.ask.new.pass c.args.call c.in-Settled.answer c.in-Settled.stamp c.loop-busy.invariant e.lawful e.seen e.one_load e.few_exchanges;
+        last = answered_at_last b law c.args.self.now.tries c.loop-busy._busy c.args.pass.now c.loop-busy.pass c.ask.new.pass c.args.call c.in-Settled.answer c.in-Settled.stamp c.loop-busy.invariant e.lawful e.seen e.real_time;
+      };
     }
 
 pub loop-busy-preserved : goal.loop-busy-preserved
@@ -18,4 +21,4 @@ loop-busy-preserved g c =
     let r = c.args.self.now.rules in let b = g.R.Rules.book r in let law = g.met.R.Rules.lawful r in let e = c.in-Busy.ensures in
     let some_tries : 1 ≤ c.args.self.now.tries = subst (λ i. 1 ≤ i.tries) c.self.view_is c.self.invariant.3 in
     let room : c.in-Busy.stamp < 2 ^ 32 = search rules in
-    still_after b law c.args.self.now.tries c.loop-busy._busy c.args.pass.now c.loop-busy.pass c.ask.new.pass c.args.call c.in-Busy.lost c.in-Busy.stamp some_tries c.loop-busy.invariant room e.pass e.lawful e.seen e.busy e.one_load e.real_time
+    still_after b law c.args.self.now.tries c.loop-busy._busy c.args.pass.now c.loop-busy.pass c.ask.new.pass c.args.call c.in-Busy.lost c.in-Busy.stamp some_tries c.loop-busy.invariant room e.pass e.lawful e.seen e.busy e.one_load e.all_lost e.real_time
