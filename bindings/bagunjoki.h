@@ -203,10 +203,11 @@ static inline bagunjoki_reply bagunjoki_ask(bagunjoki_word *shared, uint8_t mach
     }
 }
 
-/* Asks until it is answered: never BUSY, and WORN is an answer. It ends: an exchange is lost only where another call has
-   changed the word, and after LAST_STAMP changes a call that would be DONE is WORN. So at most LAST_STAMP exchanges are
-   lost. After a renewal this count begins anew. Who has time for few exchanges only asks by bagunjoki_ask: then a
-   machine's calls are BUSY at most LAST_STAMP / tries times from one renewal to the next. No proof says so. */
+/* Asks until it is answered: never BUSY, and WORN is an answer. It ends: an exchange is lost only where another call
+   has changed the word, and after LAST_STAMP changes a call that would be DONE is WORN. So at most LAST_STAMP exchanges
+   are lost. After a renewal this count begins anew, and while renewals go on there is no bound. Who has time for few
+   exchanges only asks by bagunjoki_ask: then a machine's calls are BUSY at most LAST_STAMP / tries times from one
+   renewal to the next. No proof says so. */
 static inline bagunjoki_reply bagunjoki_settle(bagunjoki_word *shared, uint8_t machine, uint8_t verb, uint8_t object) {
     bagunjoki_reply reply;
     do {
