@@ -63,14 +63,14 @@ module _ {S M C A E : Type 0} (b : RuleBook S M C A E) (law : IsRuleBook b) (m n
 
 module _ {R S M C A E : Type 0} (b : RuleBook S M C A E) (law : IsRuleBook b) (m n : M) (e f : E) (two : AreTwoActors b m n e f) (v : PassView R S M E) where
   -- a call begins where its only beginning stands
-  first_is : (heard : List (HistoryView S M E)) (before : PassView R S M E) (w : PassView R S M E) (k : Lasts b heard before (Answered e ∷ []) w) (p l : List (Moment M E)) → before.actor ≡ m → w.moments ≡ p ++ Begins m ∷ (l ++ Answered e ∷ []) → own_moments b p m ≡ [] → own_moments b l m ≡ [] → k.first ≡ p
+  pub first_is : (heard : List (HistoryView S M E)) (before : PassView R S M E) (w : PassView R S M E) (k : Lasts b heard before (Answered e ∷ []) w) (p l : List (Moment M E)) → before.actor ≡ m → w.moments ≡ p ++ Begins m ∷ (l ++ Answered e ∷ []) → own_moments b p m ≡ [] → own_moments b l m ≡ [] → k.first ≡ p
   first_is heard before w k p l who is none_before none_after =
       let whole : w.moments ≡ k.first ++ Begins m ∷ (k.between ++ Answered e ∷ []) =
       k.is ∙ (append_assoc k.first (Begins before.actor ∷ k.between) (Answered e ∷ []) ∙ ap (λ (x : M). k.first ++ Begins x ∷ (k.between ++ Answered e ∷ [])) who) in
       one_place b law m p (l ++ Answered e ∷ []) k.first (k.between ++ Answered e ∷ []) (none_begun b law m p none_before) (none_answered b law m l e none_after) (sym is ∙ whole)
 
   -- of two beginnings one is before the other one's call, or during it
-  begins_once : (first between : List (Moment M E)) → Begins m ∷ Begins m ∷ [] ≡ first ++ Begins m ∷ between → own_moments b first m ≡ [] → own_moments b between m ≡ [] → ⊥
+  pub begins_once : (first between : List (Moment M E)) → Begins m ∷ Begins m ∷ [] ≡ first ++ Begins m ∷ between → own_moments b first m ≡ [] → own_moments b between m ≡ [] → ⊥
   begins_once [] between is none_first none_after =
       let one : own_moments b (Begins m ∷ []) m ≡ Begins m ∷ [] = own-one b (Begins m) m true (law.itself m) in
       let has : Begins m ∷ [] ≡ [] = sym one ∙ (ap (λ (l : List (Moment M E)). own_moments b l m) (ap rest_of is) ∙ none_after) in cc

@@ -13,3 +13,5 @@ pub mod Running
 pub mod Settling
 pub mod One
 pub mod Examples
+pub mod Receipts
+pub mod OrderCases

@@ -6,7 +6,7 @@ use Rattle.word_interlock.specs.History.{BeginsWith}
 use Rattle.word_interlock.specs.declared.views.Moment.{Moment}
 use Rattle.word_interlock.specs.declared.views.Moment.TheVariants.{Begins, Answered}
 use Rattle.word_interlock.specs.Moments.{events_of, actor_at, own_moments, AreCalls}
-use Rattle.word_interlock.specs.Run.{AnsweredCall, point_of, EndsBefore, RunsKeepOrder, CallsFollowReceipts, AnsweredCallsAreOver}
+use Rattle.word_interlock.specs.Run.{AnsweredCall, point_of, EndsBefore, RunsKeepOrder, RunsAreEnds, CallsFollowReceipts, AnsweredCallsAreOver}
 use Rattle.word_interlock.proofs.Histories.{begins-trans}
 use Rattle.word_interlock.proofs.Moments.{head_or, rest_of, no_end, events-append, own-append, own-one, none_begun}
 
@@ -88,8 +88,15 @@ module _ {S M C A E : Type 0} (b : RuleBook S M C A E) (law : IsRuleBook b) wher
 
 module _ {S M C A E : Type 0} (b : RuleBook S M C A E) where
   pub calls_follow_receipts : (R : Type 0) → CallsFollowReceipts R b
-  calls_follow_receipts R m c a seen answered receipt v w last first took call =
-      (first.point, first.ends, subst (λ (l : List E). BeginsWith (events_of call.first) l) first.ends (begins-trans answered receipt.seen (events_of call.first) took call.told.0.begins))
+  calls_follow_receipts R = record {
+    asked = λ m c a seen answered receipt v w last first took call.
+        (first.point, first.ends, subst (λ (l : List E). BeginsWith (events_of call.first) l) first.ends (begins-trans answered receipt.seen (events_of call.first) took call.told.0.begins));
+    accepted = λ m c a seen answered told heard v w last first took had call.
+        (first.point, first.ends, subst (λ (l : List E). BeginsWith (events_of call.first) l) first.ends (begins-trans answered v.seen (events_of call.first) (begins-trans answered told v.seen took had) call.had_seen));
+  }
+
+  pub runs_are_ends : (R : Type 0) → RunsAreEnds R b
+  runs_are_ends R opening actors s run = record { history = events_of run.moments; lawful = run.lawful; reached = run.reached; parts = run.parts }
 
 module _ {S M C A E : Type 0} (b : RuleBook S M C A E) (law : IsRuleBook b) where
   pub answered_calls_are_over : (R : Type 0) → AnsweredCallsAreOver R b

@@ -17,3 +17,5 @@ pub mod Asked
 pub mod Run
 pub mod Settling
 pub mod MomentExamples
+pub mod Receipts
+pub mod OrderExamples

@@ -8,7 +8,7 @@ use Rattle.word_interlock.specs.declared.views.Moment.{Moment}
 use Rattle.word_interlock.specs.declared.views.Moment.TheVariants.{Begins, Answered}
 use Rattle.word_interlock.specs.Views.{PassView}
 use Rattle.word_interlock.specs.Moments.{events_of, own_moments, HasBegun, AreCalls, AreInTime}
-use Rattle.word_interlock.specs.Bunches.{AllHavePart}
+use Rattle.word_interlock.specs.Bunches.{AllHavePart, IsEnd}
 use Rattle.word_interlock.specs.Timing.{Lasts}
 
 module _ {R S M C A E : Type 0} (b : RuleBook S M C A E) where
@@ -57,15 +57,27 @@ module _ {S M C A E : Type 0} (b : RuleBook S M C A E) where
     pub order : (moments : List (Moment M E)) (call later : AnsweredCall moments) → EndsBefore call later
         → BeginsWith (point_of later) (point_of call ++ call.event ∷ [])
 
+-- The state that a run ends with is the one after its legal history, of which each actor has seen a part.
+abbrev pub RunsAreEnds : {S M C A E : Type 0} → Type 0 → RuleBook S M C A E → Type 0
+RunsAreEnds {S} {M} {C} {A} {E} R b =
+    (opening : S) (actors : List (ActorView R S M E)) (s : S) → IsRun b opening actors s → IsEnd b opening actors s
+
 -- A call was answered, and then its caller, or one who knew of it by receipts, took a receipt. A call that is asked
--- after this receipt begins after the first call's event.
-abbrev pub CallsFollowReceipts : {S M C A E : Type 0} → Type 0 → RuleBook S M C A E → Type 0
-CallsFollowReceipts {S} {M} {C} {A} {E} R b =
-    (m : M) (c : C) (a : A) (seen answered : List E) (receipt : HistoryView S M E) (v w : PassView R S M E)
-    (last : List (Moment M E))
-    → Settles b m c a seen answered → BeginsWith receipt.seen answered → (call : Lasts b (receipt ∷ []) v last w)
-    → (point : List E) × (answered ≡ point ++ b.event m c a ∷ [])
-    × BeginsWith (events_of call.first) (point ++ b.event m c a ∷ [])
+-- after this receipt begins after the first call's event (`asked`). So does one whose caller had accepted the receipt
+-- before (`accepted`).
+pub record CallsFollowReceipts {S M C A E : Type 0} (R : Type 0) (b : RuleBook S M C A E) : Type 0 where
+  pub asked : (m : M) (c : C) (a : A) (seen answered : List E) (receipt : HistoryView S M E) (v w : PassView R S M E)
+      (last : List (Moment M E))
+      → Settles b m c a seen answered → BeginsWith receipt.seen answered
+      → (call : Lasts b (receipt ∷ []) v last w)
+      → (point : List E) × (answered ≡ point ++ b.event m c a ∷ [])
+      × BeginsWith (events_of call.first) (point ++ b.event m c a ∷ [])
+  pub accepted : (m : M) (c : C) (a : A) (seen answered told : List E) (heard : List (HistoryView S M E))
+      (v w : PassView R S M E) (last : List (Moment M E))
+      → Settles b m c a seen answered → BeginsWith told answered → BeginsWith v.seen told
+      → (call : Lasts b heard v last w)
+      → (point : List E) × (answered ≡ point ++ b.event m c a ∷ [])
+      × BeginsWith (events_of call.first) (point ++ b.event m c a ∷ [])
 
 -- After a call was answered, its actor has no call that has begun. So no exchange is allowed to it before its next
 -- load.

@@ -4,7 +4,10 @@ ghost use Rattle.word_interlock.specs.History.{IsLawful};
 ghost use Rattle.word_interlock.specs.MomentExamples.{MomentExamples};
 ghost use Rattle.word_interlock.specs.One.{HistoryIsSeen, MomentsAreShown};
 ghost use Rattle.word_interlock.specs.Order.{ReceiptsOrderCalls, ReceiptsRaiseStamps};
-ghost use Rattle.word_interlock.specs.Run.{AnsweredCallsAreOver, CallsFollowReceipts, RunsKeepOrder};
+ghost use Rattle.word_interlock.specs.OrderExamples.{OrderExamples};
+ghost use Rattle.word_interlock.specs.Receipts.{ReceiptsComeFirst};
+ghost use Rattle.word_interlock.specs.Run.{AnsweredCallsAreOver, CallsFollowReceipts};
+ghost use Rattle.word_interlock.specs.Run.{RunsAreEnds, RunsKeepOrder};
 ghost use Rattle.word_interlock.specs.Settling.{BusyIsPaid};
 
 use crate::pass::Pass;
@@ -29,9 +32,17 @@ pub fn passes_see_lawful_histories<R: Rules>(pass: &Pass<R>)
 }
 
 /// A call that is asked after a receipt (`Interlock::ask_after`) begins after the event of each call
-/// that was answered before the receipt was taken.
+/// that was answered before the receipt was taken. So does one whose caller had accepted the receipt.
 pub fn calls_follow_receipts<R: Rules>(rules: &R)
     ensures { CallsFollowReceipts R (R.book rules.now) }
+{
+    let _ = rules;
+}
+
+/// By the rule of the word, what receipts tell comes before what later loads add: the history, and
+/// the moments.
+pub fn receipts_come_first<R: Rules>(rules: &R)
+    ensures { ReceiptsComeFirst (R.book rules.now) rules.now (Unit {0}) }
 {
     let _ = rules;
 }
@@ -40,6 +51,13 @@ pub fn calls_follow_receipts<R: Rules>(rules: &R)
 /// that don't overlap, the earlier one stands first in the history.
 pub fn runs_keep_order<R: Rules>(rules: &R)
     ensures { RunsKeepOrder (R.book rules.now) }
+{
+    let _ = rules;
+}
+
+/// The state that a run ends with is the one after its legal history.
+pub fn runs_are_ends<R: Rules>(rules: &R)
+    ensures { RunsAreEnds R (R.book rules.now) }
 {
     let _ = rules;
 }
@@ -55,6 +73,14 @@ pub fn answered_calls_are_over<R: Rules>(rules: &R)
 /// Lists of moments, and calls in them, that are in order, and others that aren't.
 pub fn moments_are_known<R: Rules>(rules: &R)
     ensures { MomentExamples R (R.book rules.now) }
+{
+    let _ = rules;
+}
+
+/// Cases of calls one after another and of calls that overlap, of who has seen and was shown what,
+/// and of a call that was Busy once.
+pub fn order_is_known<R: Rules>(rules: &R)
+    ensures { OrderExamples R (R.book rules.now) }
 {
     let _ = rules;
 }
