@@ -34,7 +34,8 @@ pub fn runs_keep_order()
 {}
 
 /// At every time the caller who made the last event of the rule's history has seen it whole. So it is
-/// one history, which grows as what the seven have seen; likewise the moments.
+/// one history, which grows as what the seven have seen; likewise the moments. By the rule what
+/// receipts tell comes before what later loads add to both.
 pub fn history_is_one()
     ensures { HistoryIsOne }
 {}

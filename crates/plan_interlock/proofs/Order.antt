@@ -3,6 +3,7 @@ use Rattle.std.proofs.Common.{ℕ, ◌*◌, ◌≤◌, List, arith}
 use Rattle.plan_types.specs.Table.{PlanTable}
 use Rattle.word_interlock.proofs.Histories.{sound-after}
 use Rattle.word_interlock.proofs.One.{history_is_seen, moments_are_shown}
+use Rattle.word_interlock.proofs.Receipts.{receipts_come_first}
 use Rattle.word_interlock.proofs.Running.{calls_follow_receipts, runs_keep_order}
 use Rattle.word_interlock.proofs.Settling as engine
 use Rattle.plan_interlock.specs.declared.rules.PlanRules.{PlanRules}
@@ -17,6 +18,7 @@ pub history_is_one : (rules : PlanRules) → HistoryIsOne rules
 history_is_one rules = let t = plan_of rules in record {
   seen = history_is_seen (plan_book t) (plan_is_rule_book t) rules (Unit {0});
   shown = moments_are_shown (plan_book t) (plan_is_rule_book t) rules (Unit {0});
+  receipts = receipts_come_first (plan_book t) (plan_is_rule_book t) rules (Unit {0});
 }
 
 pub busy_is_paid : (t : PlanTable) (tries : ℕ) → BusyCallsAreFew t tries

@@ -8,6 +8,7 @@ use Rattle.plan_rules.specs.declared.state.State.{State}
 use Rattle.plan_rules.specs.State.{last_stamp}
 use Rattle.word_interlock.specs.History.{IsLawful}
 use Rattle.word_interlock.specs.One.{HistoryIsSeen, MomentsAreShown}
+use Rattle.word_interlock.specs.Receipts.{ReceiptsComeFirst}
 use Rattle.word_interlock.specs.Run.{CallsFollowReceipts, RunsKeepOrder}
 use Rattle.word_interlock.specs.Settling.{BusyIsPaid, MadeCall, MakesCalls, times_busy}
 use Rattle.word_interlock.specs.Views.{PassView}
@@ -20,10 +21,12 @@ pub record CallsKeepOrder (t : PlanTable) : Type 0 where
   pub runs : RunsKeepOrder (plan_book t)
   pub receipts : CallsFollowReceipts PlanRules (plan_book t)
 
--- at every time the history is empty, or one of the callers has seen it whole; likewise the moments
+-- At every time the history is empty, or one of the callers has seen it whole; likewise the moments. What receipts tell
+-- comes before what later loads add to both.
 pub record HistoryIsOne (rules : PlanRules) : Type 0 where
   pub seen : HistoryIsSeen (plan_book (plan_of rules)) rules (Unit {0})
   pub shown : MomentsAreShown (plan_book (plan_of rules)) rules (Unit {0})
+  pub receipts : ReceiptsComeFirst (plan_book (plan_of rules)) rules (Unit {0})
 
 -- each Busy call is paid for by `tries` changes of others, so over one interlock there are few
 pub record BusyCallsAreFew (t : PlanTable) (tries : ℕ) : Type 0 where

@@ -43,7 +43,7 @@ pub fn calls_keep_order(rules: &PlanRules)
 }
 
 /// At every time the history of the rule is empty, or one of the callers has seen it whole; likewise the moments. So
-/// they are one, and grow as what callers have seen.
+/// they are one, and grow as what callers have seen. By the rule what receipts tell comes before what later loads add.
 pub fn history_is_one(rules: &PlanRules)
     ensures { HistoryIsOne rules.now }
 {

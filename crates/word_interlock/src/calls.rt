@@ -63,9 +63,10 @@ impl<R: Rules> Interlock<R> {
         self.reply_from(pass, call, word)
     }
 
-    /// Makes a call after all that a receipt tells. It is a call as by `ask`, with the same clauses
-    /// and steps: by its one load, all that the receipt tells stands before its beginning (`after`,
-    /// which holds what `real_time` says).
+    /// Makes a call after all that a receipt tells. It is a call as by `ask`, with the same clauses:
+    /// by its one load, all that the receipt tells stands before its beginning (`after`, which holds
+    /// what `real_time` says). To join the receipt to the pass also reads the word, uncounted: nothing
+    /// of that is used.
     ///
     /// The pass was made with this interlock, and so was the receipt's.
     #[inline(always)]
