@@ -1,5 +1,5 @@
 -- What the engine says of the order of calls, by a plan.
-use Rattle.std.proofs.Common.{ℕ, ◌*◌, ◌≤◌, List, arith}
+use Rattle.std.proofs.Common.{ℕ, arith}
 use Rattle.plan_types.specs.Table.{PlanTable}
 use Rattle.word_interlock.proofs.Histories.{sound-after}
 use Rattle.word_interlock.proofs.One.{history_is_seen, moments_are_shown}
