@@ -370,7 +370,8 @@ class Order:
         return max(0, int(processors() - 1 - sum(map(weight, others)) / weight(name)))
 
     def niceness(self, name):
-        return min(self.urgent.index(name), 19)
+        """Less urgent crates stand back for more urgent ones, and little for others: on a busy machine the last ones would stand still."""
+        return min([it for it in self.urgent if it not in self.done].index(name), 3)
 
 
 class Proving:
