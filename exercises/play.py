@@ -7,7 +7,7 @@
 KIND is a wrong interlock: --store puts each word there, whatever is there now; --word-per-pass gives each caller a word of its own;
 --busy-after-one gives a call up after its first lost exchange; --accept-forgets answers by the word that a caller found last, if that
 refuses the call or answers an inquiry, and forgets what the caller was told by others. --words adds the word after each step, as
-docs/WORD.md has its bits. In a class a line is such as 'press look claim z3', 'press attempt', 'press ask claim z3', 'press tell robot'
+docs/MODEL.md has its bits. In a class a line is such as 'press look claim z3', 'press attempt', 'press ask claim z3', 'press tell robot'
 or 'press meet robot'. 'seen' shows what each has been told. After each step it looks for one legal history of all answers.
 """
 
@@ -86,7 +86,7 @@ def play_steps(rows, kind, with_words):
 
 
 def play_script(rows, with_words=False):
-    """The lines that a script is answered with (docs/SCRIPTS.md), and whether it is accepted."""
+    """The lines that a script is answered with (docs/FORMATS.md), and whether it is accepted."""
     if not rows or rows[0][0] not in ("start", "start2"):
         return ["fault nostart"], False
     version, *rest = rows[0]

@@ -12,7 +12,7 @@ use std::sync::Barrier;
 use std::sync::atomic::{AtomicU64, Ordering::SeqCst};
 use std::thread;
 
-/// The owner of z1 is the table, the owner of z3 is the press (`docs/WORD.md`).
+/// The owner of z1 is the table, the owner of z3 is the press (`docs/MODEL.md`).
 const TABLE: u64 = 1;
 const PRESS: u64 = 1 << 10;
 const STAMP: u64 = 1 << 40;

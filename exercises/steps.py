@@ -163,7 +163,7 @@ def sentence(machine, told):
 
 
 def bits_of(word):
-    """The 64 bits of docs/WORD.md."""
+    """The 64 bits of docs/MODEL.md."""
     state, stamp = word
     bits = stamp << 40 | state.stopped << 60
     for zone in range(6):

@@ -1,4 +1,4 @@
-/* The press: a loop over sensors, motor and interlock. docs/PROGRAMS.md has its program.
+/* The press: a loop over sensors, motor and interlock. docs/PLANT.md has its program.
 
    Lines of text are its sensors: three digits for the switches bottom, middle and top, 1 is on. It writes what its
    motor is told. The crate press_by_hand does the same, proved.   cc press.c $(pkg-config --cflags --libs bagunjoki) */

@@ -5,7 +5,7 @@ import java.util.concurrent.atomic.AtomicLong;
 
 /**
  * The project in Java: the interlock on one AtomicLong, called by seven threads, which log what they were told. Written from
- * docs/MODEL.md and docs/WORD.md.
+ * docs/MODEL.md.
  *
  *   javac -d OUT exercises/project/Word.java
  *   java -cp OUT Word 20000 > log.csv; exercises/judge.py log.csv

@@ -33,7 +33,7 @@ const PARTIES: [[Machine; 2]; 6] = [
     [Machine::Feed, Machine::Crane],
 ];
 
-/// The 64 bits of `docs/WORD.md`.
+/// The 64 bits of `docs/MODEL.md`.
 fn pack(state: &State) -> u64 {
     let mut word = u64::from(state.stamp) << 40 | u64::from(state.stopped) << 60;
     for (zone, at) in state.zones.iter().enumerate() {

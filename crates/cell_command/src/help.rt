@@ -11,8 +11,8 @@ Exit status: 0 on success and for help; 2 for bad arguments; otherwise 1: a refu
 input, a machine stopped by a fault, a failed audit, read, write or start of a thread,
 or no memory.
 
-docs/SCRIPTS.md describes scripts, answers and exit statuses, docs/CONFIGURATIONS.md
-what `sim` and `run` read, docs/REPORTS.md what they write.
+docs/FORMATS.md describes scripts, answers and exit statuses, and what `sim` and `run`
+read and write.
 The program `explain` says why an input is refused.
 
 Examples:
@@ -30,7 +30,7 @@ record is a call of a machine.
 Writes a line for each record: its number, the stamp (the number of changes) after it,
 and the answer. If the script is refused, the last line begins with `fault`.
 `explain replay < FILE` says why a script is refused.
-docs/SCRIPTS.md describes scripts and answers.
+docs/FORMATS.md describes scripts and answers.
 
 Example:
   cell replay < examples/interior.csv";
@@ -44,7 +44,7 @@ turns, and the calibrations of the five potentiometers. Writes a report: what ea
 machine did, the cell at the end, and what an audit of the machines' journals (their
 logs of calls) found. If the configuration is refused, writes one line that begins
 with `fault`; `explain sim < FILE` says why.
-docs/CONFIGURATIONS.md describes what is read, docs/REPORTS.md what is written.
+docs/FORMATS.md describes what is read and what is written.
 
 Example:
   cell sim < examples/press.toml";
@@ -55,8 +55,8 @@ pub const RUN: &str = "Runs the six machines in six threads, and writes a report
 pub const RUN_DETAILS: &str = "\
 Reads a configuration, as `sim` does. Its schedule is checked but not used. Each
 machine has a thread of its own, and all share the interlock. Writes a report or, if
-there can be none, a line that begins with `fault`. docs/CONFIGURATIONS.md describes
-what is read, docs/REPORTS.md what is written.
+there can be none, a line that begins with `fault`. docs/FORMATS.md describes
+what is read and what is written.
 
 Example:
   cell run --turns 3 --tries 64 < examples/six_workers.toml";

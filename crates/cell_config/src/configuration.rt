@@ -40,7 +40,7 @@ pub struct Config {
     pub curves: [Curve; 5],
 }
 
-/// Reads a configuration from the bytes that the reader has left; `docs/CONFIGURATIONS.md` has the
+/// Reads a configuration from the bytes that the reader has left; `docs/FORMATS.md` has the
 /// format.
 ///
 /// The error is the first fault in the order of `ConfigFault`; from `Kind` to `Letter` it is the

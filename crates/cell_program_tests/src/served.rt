@@ -183,9 +183,7 @@ const OF_THE_WHOLE: &[&str] = &[
     "replay",
     "sim",
     "run",
-    "docs/SCRIPTS.md",
-    "docs/CONFIGURATIONS.md",
-    "docs/REPORTS.md",
+    "docs/FORMATS.md",
     "`explain`",
     "cell replay < examples/interior.csv",
     "cell sim < examples/press.toml",
@@ -197,7 +195,7 @@ const OF_REPLAY: &[&str] = &[
     "Reads a script",
     "Writes a line for each record",
     "`explain replay < FILE`",
-    "docs/SCRIPTS.md",
+    "docs/FORMATS.md",
     "cell replay < examples/interior.csv",
 ];
 
@@ -206,8 +204,7 @@ const OF_SIM: &[&str] = &[
     "Reads a configuration",
     "Writes a report",
     "`explain sim < FILE`",
-    "docs/CONFIGURATIONS.md",
-    "docs/REPORTS.md",
+    "docs/FORMATS.md",
     "cell sim < examples/press.toml",
 ];
 
@@ -219,8 +216,7 @@ const OF_RUN: &[&str] = &[
     "[default: 8]",
     "Reads a configuration",
     "Writes a",
-    "docs/CONFIGURATIONS.md",
-    "docs/REPORTS.md",
+    "docs/FORMATS.md",
     "cell run --turns 3 --tries 64 < examples/six_workers.toml",
 ];
 
