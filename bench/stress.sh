@@ -6,6 +6,11 @@
 #   bench/stress.sh [SEED [CALLS]]               1 and 10,000,000 if absent
 #   bench/stress.sh planted BUG [SEED [CALLS]]   the same with a planted bug, which has to be found; 1 and 200,000
 #
+# Seven threads call one interlock, each as one machine: calls of all kinds, chosen by the seed. The watch stops the cell
+# now and then, and soon resumes. Starts, first stamps, tries, pauses and the number of letters differ from run to run.
+# Each thread writes down what it was told, when the call began and ended, and the stamp of each letter that it reads. In
+# the end the watch meets all others and looks at each zone.
+#
 # The program in bench/stress is proved and built in a copy of the repository, since it isn't part of it; check.py there
 # runs and checks it. A bug is planted by the edits of bench/stress/planted (docs/ATTACKS.md has their form). The prover
 # refuses such bugs, so the program is then run unproved. Three bugs have to be found without the clock:
