@@ -1,7 +1,10 @@
-//! What `plan explore` prints: whether some order of the machines' turns leads to a standstill.
+//! What `plan explore` prints: whether some order of the machines' turns leads to a standstill, and else whether each
+//! machine goes on for ever.
 
+use crate::going::{FAIRNESS, push_going, push_plates};
 use plan_document::ProgrammedPlan;
 use plan_explorer::{Explored, Walk, explore, take_turns};
+use plan_liveness::{explore_machines, explore_plates};
 use plan_rules::State;
 use plan_text::NamedPlan;
 use plan_types::Event;
@@ -15,7 +18,7 @@ pub fn screen_of(
 ) -> Result<String, AllocError> {
     let ProgrammedPlan { named, programs } = plan;
     match explore(alloc, named.plan(), opening, programs)? {
-        Explored::Free(situations) => free_screen(alloc, situations),
+        Explored::Free(situations) => free_screen(alloc, plan, opening, situations),
         Explored::Standstill(turns) => {
             let walk = take_turns(alloc, named.plan(), opening, programs, turns.as_slice())?;
             walk_screen(alloc, named, turns.as_slice(), &walk)
@@ -23,8 +26,22 @@ pub fn screen_of(
     }
 }
 
-fn free_screen(alloc: Global, situations: usize) -> Result<String, AllocError> {
-    format!(in alloc; "no standstill in any order of turns: {situations} situations\n")
+/// What is printed where nothing stands still.
+fn free_screen(
+    alloc: Global,
+    plan: &ProgrammedPlan,
+    opening: &State,
+    situations: usize,
+) -> Result<String, AllocError> {
+    let mut text = format!(in alloc;
+        "no standstill in any order of turns: {situations} situations\n"
+    )?;
+    let answers = explore_machines(alloc, plan.named.plan(), opening, &plan.programs)?;
+    push_going(&mut text, plan, opening, answers.as_slice())?;
+    let plates = explore_plates(alloc, plan.named.plan(), opening, &plan.programs, None, &[])?;
+    push_plates(&mut text, plan, opening, &plates)?;
+    text.push_str(FAIRNESS)?;
+    Ok(text)
 }
 
 /// What is printed of turns that lead to a standstill: whose turns they are, and what each machine asks at their end.

@@ -2,6 +2,7 @@
 #![tactic(auto)]
 
 pub mod explore;
+pub mod going;
 pub mod header;
 pub mod input;
 pub mod report;

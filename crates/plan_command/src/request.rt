@@ -12,7 +12,7 @@ pub enum Request {
     Check,
     /// Answers a script by a plan.
     Replay,
-    /// Explores the machines' programs for standstills.
+    /// Explores the machines' programs: for standstills, and whether each machine goes on for ever.
     Explore,
     /// Prints a header for C.
     Header,

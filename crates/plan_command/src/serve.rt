@@ -33,11 +33,12 @@ Reads a plan of a plant, in TOML, from standard input.
   plan check      says what it is, and the layout of its word, or its first fault
   plan replay     answers the script after it, which begins with the line start,..
   plan explore    says whether some order of turns of its programs leads from the start
-                  after it, a line start,.., to a standstill
+                  after it, a line start,.., to a standstill; and else whether each machine
+                  goes on for ever, or in which order it starves
   plan header     prints its names and the layout of its word for C
   plan --version  prints the version
-Exit status: 0 on success and for help; 2 for bad arguments; otherwise 1: a refused
-plan or script, a failed read or write, or no memory.
+Exit status: 0 on success, whatever an exploration finds, and for help; 2 for bad
+arguments; otherwise 1: a refused plan or script, a failed read or write, or no memory.
 
 Example:
   cat examples/plans/press.toml examples/plans/press.csv | plan replay

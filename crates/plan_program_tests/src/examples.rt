@@ -164,14 +164,6 @@ fn answers_scripts(rt: HostRuntime) -> Result<(), AllocError> {
     Ok(())
 }
 
-#[test]
-fn explores_the_press(rt: HostRuntime) -> Result<(), AllocError> {
-    let input = format!(in rt.alloc(); "{PRESS}start,10\n")?;
-    let text = "no standstill in any order of turns: 15 situations\n";
-    assert!(rt; is_answered(rt.alloc(), b"explore", input.as_str(), 0, text));
-    Ok(())
-}
-
 /// A press whose loader may claim the interior before the press has claimed it back, and a start.
 const STANDS: &str = "\
 [[machine]]

@@ -9,4 +9,6 @@ mod examples;
 #[cfg(test)]
 mod faults;
 #[cfg(test)]
+mod going;
+#[cfg(test)]
 mod served;
