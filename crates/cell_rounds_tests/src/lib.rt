@@ -1,0 +1,5 @@
+//! Tests of rounds from whole starts, by public calls only.
+#![tactic(auto)]
+
+#[cfg(test)]
+mod rounds;

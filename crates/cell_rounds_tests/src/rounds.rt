@@ -1,0 +1,113 @@
+//! Within how many rounds a plate moves.
+
+use cell_explorer::take_turns;
+use cell_liveness::moving::plates_differ;
+use cell_rounds::{Rounds, explore_round};
+use cell_rules::State;
+use cell_types::Machine;
+
+/// One plate, on the feed belt.
+const ONE: [bool; 10] = [
+    true, false, false, false, false, false, false, false, false, false,
+];
+
+/// Four plates: on the feed belt, on the table, in the press and on the deposit belt.
+const FOUR: [bool; 10] = [
+    true, false, true, false, true, false, false, true, false, false,
+];
+
+/// Six plates, none in the press or on the robot.
+const SIX: [bool; 10] = [
+    true, true, true, false, false, false, false, true, true, true,
+];
+
+/// An order along the way of a plate.
+const ALONG: [Machine; 6] = [
+    Machine::Feed,
+    Machine::Table,
+    Machine::Robot,
+    Machine::Press,
+    Machine::Deposit,
+    Machine::Crane,
+];
+
+/// The other way round.
+const AGAINST: [Machine; 6] = [
+    Machine::Crane,
+    Machine::Deposit,
+    Machine::Press,
+    Machine::Robot,
+    Machine::Table,
+    Machine::Feed,
+];
+
+/// All turns are the robot's.
+const ROBOT: [Machine; 6] = [Machine::Robot; 6];
+
+// What rounds in an order are answered from a start.
+fn answered(rt: HostRuntime, plates: [bool; 10], order: [Machine; 6]) -> Option<Rounds> {
+    let start = State::start(plates, 0).ok()?;
+    explore_round(rt.alloc(), &start, order).ok()
+}
+
+// The most turns of rounds from a start, one after another, in which no plate moves: by a walk of 240 turns.
+fn longest_wait(rt: HostRuntime, plates: [bool; 10], order: [Machine; 6]) -> Option<usize> {
+    let start = State::start(plates, 0).ok()?;
+    let mut way = Vec::new(rt.alloc());
+    let mut before = take_turns(rt.alloc(), &start, way.as_slice()).ok()?.end;
+    let mut wait: usize = 0;
+    let mut longest = 0;
+    for turn in 0..240 {
+        way.push(order[turn % 6]).ok()?;
+        let after = take_turns(rt.alloc(), &start, way.as_slice()).ok()?.end;
+        wait = if plates_differ(&before.state, &after.state) {
+            0
+        } else {
+            wait.saturating_add(1)
+        };
+        longest = longest.max(wait);
+        before = after;
+    }
+    Some(longest)
+}
+
+#[test]
+fn one_plate_moves_again_and_again(rt: HostRuntime) {
+    let found = answered(rt, ONE, ALONG);
+    assert!(rt; found == Some(Rounds::Within(8)), "{found:?}");
+    let back = answered(rt, ONE, AGAINST);
+    assert!(rt; back == Some(Rounds::Within(8)), "{back:?}");
+}
+
+#[test]
+fn four_plates_move_again_and_again(rt: HostRuntime) {
+    let found = answered(rt, FOUR, ALONG);
+    assert!(rt; found == Some(Rounds::Within(9)), "{found:?}");
+    let back = answered(rt, FOUR, AGAINST);
+    assert!(rt; back == Some(Rounds::Within(8)), "{back:?}");
+}
+
+// In 47 turns no plate moves, and in one more one does: so within 8 rounds, and no fewer.
+#[test]
+fn a_walk_waits_as_long(rt: HostRuntime) {
+    let one = longest_wait(rt, ONE, ALONG);
+    assert!(rt; one == Some(47), "{one:?}");
+}
+
+#[test]
+fn at_a_standstill_rounds_starve(rt: HostRuntime) {
+    let found = answered(rt, SIX, ALONG);
+    assert!(rt;
+        matches!(found, Some(Rounds::Starves { cycle: 1, .. })),
+        "{found:?}"
+    );
+}
+
+#[test]
+fn rounds_of_the_robot_alone_starve(rt: HostRuntime) {
+    let found = answered(rt, ONE, ROBOT);
+    assert!(rt;
+        found == Some(Rounds::Starves { stem: 1, cycle: 1 }),
+        "{found:?}"
+    );
+}
