@@ -5,11 +5,13 @@ use Rattle.cell_shell.specs.Asked.{asked_of}
 use Rattle.cell_shell.specs.declared.asked.Asked.{Asked}
 use Rattle.cell_shell.specs.declared.asked.Asked.TheVariants as asked
 use Rattle.cell_explore.specs.declared.request.Request.{Request}
-use Rattle.cell_explore.specs.declared.request.Request.TheVariants.{All, Help, Start, Version}
+use Rattle.cell_explore.specs.declared.request.Request.TheVariants.{All, Help, Start, Starve, Version}
 
 -- what a word of this program alone asks for
 abbrev pub request_by : List ℕ → Option Request
-request_by word = if bytes_eq word (codes "--all") then Some All else None
+request_by word =
+    if bytes_eq word (codes "--all") then Some All
+    else (if bytes_eq word (codes "--starve") then Some Starve else None)
 
 -- what words ask for, by what they ask for of every program
 abbrev pub request_asked : Asked → List (List ℕ) → Option Request
@@ -21,4 +23,4 @@ request_asked asked.Other _ = None
 
 -- what words ask for; the first is the program's name
 abbrev pub request_of : List (List ℕ) → Option Request
-request_of words = request_asked (asked_of (codes "--all" ∷ []) words) words
+request_of words = request_asked (asked_of (codes "--all" ∷ codes "--starve" ∷ []) words) words

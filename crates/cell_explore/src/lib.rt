@@ -1,7 +1,8 @@
 //! What the program `explore` does: it says of a start whether the six programs can come to a standstill, and by which
-//! schedule.
+//! schedule; and within how many steps of a fair schedule plates move.
 #![tactic(auto)]
 
+pub mod bound;
 pub mod ending;
 pub mod every_start;
 pub mod request;
@@ -9,5 +10,6 @@ pub mod ring;
 pub mod schedule;
 pub mod screen;
 pub mod serve;
+pub mod starve;
 pub mod tally;
 pub mod timing;

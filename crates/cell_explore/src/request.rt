@@ -13,6 +13,8 @@ pub enum Request {
     Start,
     /// Explores all starts.
     All,
+    /// Shows how plates starve from the start of a configuration.
+    Starve,
     /// Prints help.
     Help,
     /// Prints the version.
@@ -20,11 +22,12 @@ pub enum Request {
 }
 
 /// The words of this program alone that may follow its name.
-const OWN: &[&str] = &["--all"];
+const OWN: &[&str] = &["--all", "--starve"];
 
 /// What the words ask for. The first is the program's name. Alone it asks for the start of a
-/// configuration, with `--all` after it for all starts; which words ask for help and for the version
-/// is that of every program (`asked_of`). `None` for other words.
+/// configuration, with `--all` after it for all starts, with `--starve` for how plates starve; which
+/// words ask for help and for the version is that of every program (`asked_of`). `None` for other
+/// words.
 pub fn request_of(words: &[&str]) -> Option<Request>
     ensures { result ≡ requests.request_of (texts_of words.now) }
 {
@@ -43,6 +46,7 @@ fn request_by(word: &str) -> Option<Request>
 {
     match word {
         "--all" => Some(Request::All),
+        "--starve" => Some(Request::Starve),
         _ => None,
     }
 }

@@ -29,7 +29,7 @@ pub fn push_ring(
 }
 
 // The line of a machine.
-fn line_of(
+pub(crate) fn line_of(
     alloc: Global,
     ending: Ending,
     machine: Machine,

@@ -87,12 +87,7 @@ pub fn schedule_into(
     requires points { AreAxisScales config.now.points }
     requires curves { AreCurvesOf config.now.points config.now.curves }
 {
-    let mut schedule = Vec::new(alloc);
-    for (machine, asks) in way.iter().zip(&walk.asks) {
-        if *asks {
-            push_until_asked(alloc, config, &mut schedule, *machine)?;
-        }
-    }
+    let mut schedule = way_into(alloc, config, way, walk)?;
     let mut end = None;
     for machine in Machine::ALL {
         let next = walk.next.at(machine);
@@ -112,8 +107,28 @@ pub fn schedule_into(
     }
 }
 
+// The turns of a way, up to the last in which a machine asks. The errors are those of `schedule_into`.
+pub(crate) fn way_into(
+    alloc: Global,
+    config: &Config,
+    way: &[Machine],
+    walk: &Walk,
+) -> Result<Vec<Turn>, ScheduleFault>
+    requires start { IsStartState config.now.start }
+    requires points { AreAxisScales config.now.points }
+    requires curves { AreCurvesOf config.now.points config.now.curves }
+{
+    let mut schedule = Vec::new(alloc);
+    for (machine, asks) in way.iter().zip(&walk.asks) {
+        if *asks {
+            push_until_asked(alloc, config, &mut schedule, *machine)?;
+        }
+    }
+    Ok(schedule)
+}
+
 // Adds a machine's turns up to the first in which it asks, and answers what is seen after that.
-fn push_until_asked(
+pub(crate) fn push_until_asked(
     alloc: Global,
     config: &Config,
     schedule: &mut Vec<Turn>,
@@ -162,7 +177,7 @@ fn push_turns(schedule: &mut Vec<Turn>, turn: Turn, count: usize) -> Result<(), 
 }
 
 // Whether a simulated machine has asked this, and was answered as at the end of a walk.
-fn is_answered(frame: &Frame, machine: Machine, call: Call, walk: &Walk) -> bool {
+pub(crate) fn is_answered(frame: &Frame, machine: Machine, call: Call, walk: &Walk) -> bool {
     match frame.asked {
         Some((asked, Ok(Reply::Settled(given, _)))) => {
             asked == call && given == answer(&walk.end.state, machine, call)
@@ -172,7 +187,7 @@ fn is_answered(frame: &Frame, machine: Machine, call: Call, walk: &Walk) -> bool
 }
 
 // Whether a simulated cell is at the end of a walk: its interlock and its machines' steps are so there.
-fn is_at(frame: &Frame, walk: &Walk) -> bool {
+pub(crate) fn is_at(frame: &Frame, walk: &Walk) -> bool {
     let end = &walk.end;
     let steps = MachineSteps {
         feed: end.feed.step,

@@ -3,11 +3,13 @@
 ghost use Rattle.cell_rules.specs.Start.{IsStartState};
 ghost use Rattle.cell_config.specs.Configured.{AreAxisScales, AreCurvesOf};
 
+use crate::bound::push_plates;
 use crate::ending::Ending;
 use crate::ring::push_ring;
 use crate::schedule::{ScheduleFault, schedule_into};
 use cell_config::{Config, letter_word};
 use cell_explorer::{Explored, Walk, explore_start, take_turns};
+use cell_liveness::explore_machines;
 use cell_plant::Turn;
 use cell_rules::State;
 use cell_types::{Machine, Place};
@@ -41,12 +43,14 @@ pub fn screen_by(alloc: Global, config: &Config, found: &Explored) -> Result<Str
     walk_screen(alloc, config, ending, way, &walk)
 }
 
-// The screen of a start from which no turns lead to a standstill.
+// The screen of a start from which no turns lead to a standstill. Strong fairness is asked for the press.
 fn free_screen(alloc: Global, config: &Config, situations: usize) -> Result<String, AllocError> {
     let plates = config.start.plates();
     let mut text = format!(in alloc;
         "# plates {plates}\n# no standstill in any schedule: {situations} situations\n"
     )?;
+    let found = explore_machines(alloc, &config.start, Some(Machine::Press))?;
+    push_plates(alloc, &mut text, &found)?;
     push_start(&mut text, &config.start)?;
     Ok(text)
 }
@@ -78,7 +82,7 @@ pub fn walk_screen(
 }
 
 // Adds the key of a start.
-fn push_start(text: &mut String, start: &State) -> Result<(), AllocError> {
+pub(crate) fn push_start(text: &mut String, start: &State) -> Result<(), AllocError> {
     text.push_str("start = \"")?;
     for place in Place::ALL {
         text.push_str(if start.is_full(place) { "1" } else { "0" })?;
@@ -87,7 +91,7 @@ fn push_start(text: &mut String, start: &State) -> Result<(), AllocError> {
 }
 
 // Adds the key of a schedule.
-fn push_schedule(text: &mut String, schedule: &[Turn]) -> Result<(), AllocError> {
+pub(crate) fn push_schedule(text: &mut String, schedule: &[Turn]) -> Result<(), AllocError> {
     text.push_str("schedule = \"")?;
     for turn in schedule {
         text.push_str(letter_word(turn.busy, turn.machine))?;

@@ -14,6 +14,7 @@ use crate::request;
 use crate::request::Request;
 use crate::schedule::ScheduleFault;
 use crate::screen::screen_of;
+use crate::starve::starving_screen;
 use crate::timing::tell_time;
 use cell_config::read_config;
 use cell_rules::MAX_PLATES;
@@ -30,6 +31,11 @@ Reads a configuration, as `cell sim` does, and explores every schedule from its 
 the six machines can come to a standstill, in which no machine can go on. Its schedule isn't used.
 It prints a configuration whose comments say what was found: the number of situations, or the ring of
 those who wait, and a schedule that leads there: explore < examples/standstill.toml | cell sim
+Where there is no standstill, it says within how many steps plates move. A step is a turn that
+changes something. A schedule is fair with bound k if the press is passed over fewer than k times
+while it could go on, and each other machine waits for fewer than k steps on end.
+--starve shows a round of turns that move no plate, though each machine waits for few steps on end,
+and a schedule that goes round: explore --starve < examples/four_plates.toml | cell sim
 --all explores all 685 starts in two threads, by their plates.
 --version prints the version.
 Standard error says how long it took.
@@ -38,7 +44,16 @@ configuration, a failed read or write, or no memory.
 ";
 
 /// What is printed for other words.
-const OTHER_WORDS: &str = "error: the only argument is --all, --help or --version\n";
+const OTHER_WORDS: &str = "error: the only argument is --all, --starve, --help or --version\n";
+
+/// What is asked of a configuration's start.
+#[derive(Clone, Copy)]
+pub enum Question {
+    /// Whether the machines can come to a standstill, and within how many steps plates move.
+    Standstill,
+    /// How plates starve.
+    Starving,
+}
 
 /// Explores the start of the configuration that it reads, and prints the screen, or a fault. Then it
 /// tells `progress` how long it took, by the clock. Returns the exit status: 0 if the screen was
@@ -46,6 +61,7 @@ const OTHER_WORDS: &str = "error: the only argument is --all, --help or --versio
 pub fn serve_start<C: Clock, R: Read, W: Write, P: Write>(
     clock: &C,
     alloc: Global,
+    question: Question,
     reader: &mut R,
     writer: &mut W,
     progress: &mut P,
@@ -54,13 +70,18 @@ pub fn serve_start<C: Clock, R: Read, W: Write, P: Write>(
     ensures read { TakesAtMost (R.remaining reader.old) (R.remaining reader.new) max_bytes_read }
 {
     let begun = Instant::now(clock);
-    let status = print_screen(alloc, reader, writer);
+    let status = print_screen(alloc, question, reader, writer);
     tell_time(clock, begun, progress);
     status
 }
 
 // Prints the screen of the configuration that it reads, or a fault, and returns the exit status.
-fn print_screen<R: Read, W: Write>(alloc: Global, reader: &mut R, writer: &mut W) -> u8
+fn print_screen<R: Read, W: Write>(
+    alloc: Global,
+    question: Question,
+    reader: &mut R,
+    writer: &mut W,
+) -> u8
     ensures status { result ≤ 1 }
     ensures read { TakesAtMost (R.remaining reader.old) (R.remaining reader.new) max_bytes_read }
 {
@@ -68,7 +89,11 @@ fn print_screen<R: Read, W: Write>(alloc: Global, reader: &mut R, writer: &mut W
         Ok(config) => config,
         Err(fault) => return fail(writer, fault.text()).status(),
     };
-    match screen_of(alloc, &config) {
+    let screen = match question {
+        Question::Standstill => screen_of(alloc, &config),
+        Question::Starving => starving_screen(alloc, &config),
+    };
+    match screen {
         Ok(screen) => print(writer, screen.as_bytes()).status(),
         Err(ScheduleFault::Memory) => fail(writer, "memory").status(),
         Err(ScheduleFault::Apart) => fail(writer, "the simulated cell doesn't come to it").status(),
@@ -125,12 +150,18 @@ pub fn serve<T: Threads + Sync, C: Clock, R: Read, W: Write, P: Write>(
     ensures line { request_of (texts_of words.now) ≡ None →
         WrotePrefix (W.contents writer.old) (W.contents writer.new) OTHER_WORDS.now }
 
-    // At most one byte more is read than a configuration may have, and nothing but for a start.
+    // At most one byte more is read than a configuration may have, and nothing but for the start of one.
     ensures read { TakesAtMost (R.remaining reader.old) (R.remaining reader.new) max_bytes_read }
-    ensures unread { request_of (texts_of words.now) ≢ Some Request.Start → reader.new ≡ reader.old }
+    ensures unread { request_of (texts_of words.now) ≢ Some Request.Start
+        → request_of (texts_of words.now) ≢ Some Request.Starve → reader.new ≡ reader.old }
 {
     match request::request_of(words) {
-        Some(Request::Start) => serve_start(clock, alloc, reader, writer, progress),
+        Some(Request::Start) => {
+            serve_start(clock, alloc, Question::Standstill, reader, writer, progress)
+        }
+        Some(Request::Starve) => {
+            serve_start(clock, alloc, Question::Starving, reader, writer, progress)
+        }
         Some(Request::All) => serve_all(rt, clock, alloc, MAX_PLATES, writer, progress),
         Some(Request::Help) => print(writer, HELP.as_bytes()).status(),
         Some(Request::Version) => print_version(writer, "explore").status(),

@@ -4,6 +4,7 @@
 use cell_config::read_config;
 use cell_configured::simulate_configured;
 use cell_explore::screen::screen_of;
+use cell_explore::starve::starving_screen;
 use cell_types::Journals;
 use std::alloc::Global;
 use std::test::Fail;
@@ -30,6 +31,8 @@ schedule = \"fffttttttppppppppppppppppppppppppppppppddddftrrpdccc\"
         "\
 # plates 1
 # no standstill in any schedule: 49902 situations
+# plates go on: a plate moves within k * 26 + k * k * 2 steps of a fair schedule
+# each machine moves a plate within k * 96 + k * k * 2 steps
 start = \"1000000000\"
 ",
     ),
@@ -38,6 +41,8 @@ start = \"1000000000\"
         "\
 # plates 1
 # no standstill in any schedule: 53918 situations
+# plates go on: a plate moves within k * 26 + k * k * 2 steps of a fair schedule
+# each machine moves a plate within k * 96 + k * k * 2 steps
 start = \"0000000001\"
 ",
     ),
@@ -75,6 +80,24 @@ start = \"0111001011\"
 schedule = \"f",
     ),
 ];
+
+/// A start with the first lines of its screen of how plates starve: the robot goes round past the press.
+const STARVING: (&str, &str) = (
+    "start = \"1000000000\"\n",
+    "\
+# plates 1
+# no plate moves any more, if after 127 turns these go on for ever:
+# feed waits for crane: take z6: notowner free
+# table waits for feed: take z1: notowner free
+# deposit waits for robot: take z4: notowner free
+# crane waits for deposit: inquire z5: zone deposit 0 closed
+# robot goes on: claim z3: done
+# press waits for robot: claim z3: held robot
+# robot goes on: inquire z3: zone robot 0 openout
+# robot goes on: release z3: done
+start = \"1000000000\"
+schedule = \"f",
+);
 
 /// The screen of a configuration's start.
 fn screen(alloc: Global, text: &str) -> Result<String, Fail> {
@@ -127,5 +150,38 @@ fn shows_a_ring_and_its_schedule(rt: HostRuntime) -> Result<(), Fail> {
             assert!(rt; line.ends_with(answer.as_str()), "{line}: {answer}");
         }
     }
+    Ok(())
+}
+
+// A simulation of the schedule goes round four times: the press has claimed its zone four times, and was refused.
+#[test]
+fn shows_how_plates_starve(rt: HostRuntime) -> Result<(), Fail> {
+    let (text, wanted) = STARVING;
+    let config = read_config(rt.alloc(), &mut text.as_bytes())?;
+    let found = starving_screen(rt.alloc(), &config)?;
+    assert!(rt; found.starts_with(wanted), "{found}");
+    let config = read_config(rt.alloc(), &mut found.as_bytes())?;
+    let record = simulate_configured(rt.alloc(), &config)?;
+    let answers = last_answers(rt.alloc(), &record.journals)?;
+    let wanted = [
+        ": take z6: notowner free",
+        ": take z1: notowner free",
+        ": release z3: done",
+        ": claim z3: held robot",
+        ": take z4: notowner free",
+        ": inquire z5: zone deposit 0 closed",
+    ];
+    for (answer, wanted) in answers.iter().zip(&wanted) {
+        assert!(rt; answer.as_str() == *wanted, "{answer}");
+    }
+    Ok(())
+}
+
+// Where turns lead to a standstill, plates starve there.
+#[test]
+fn shows_a_standstill_in_place_of_a_round(rt: HostRuntime) -> Result<(), Fail> {
+    let config = read_config(rt.alloc(), &mut ROWS[0].0.as_bytes())?;
+    let found = starving_screen(rt.alloc(), &config)?;
+    assert!(rt; found.as_str() == ROWS[0].1, "{found}");
     Ok(())
 }

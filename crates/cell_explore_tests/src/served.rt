@@ -13,6 +13,11 @@ Reads a configuration, as `cell sim` does, and explores every schedule from its 
 the six machines can come to a standstill, in which no machine can go on. Its schedule isn't used.
 It prints a configuration whose comments say what was found: the number of situations, or the ring of
 those who wait, and a schedule that leads there: explore < examples/standstill.toml | cell sim
+Where there is no standstill, it says within how many steps plates move. A step is a turn that
+changes something. A schedule is fair with bound k if the press is passed over fewer than k times
+while it could go on, and each other machine waits for fewer than k steps on end.
+--starve shows a round of turns that move no plate, though each machine waits for few steps on end,
+and a schedule that goes round: explore --starve < examples/four_plates.toml | cell sim
 --all explores all 685 starts in two threads, by their plates.
 --version prints the version.
 Standard error says how long it took.
@@ -20,7 +25,7 @@ Exit status: 0 on success and for help; 2 for bad arguments; otherwise 1: a refu
 configuration, a failed read or write, or no memory.
 ";
 
-const OTHER_WORDS: &str = "error: the only argument is --all, --help or --version\n";
+const OTHER_WORDS: &str = "error: the only argument is --all, --starve, --help or --version\n";
 
 const NO_TEXT: &str = "error: a word isn't UTF-8\n";
 
@@ -55,6 +60,14 @@ type Row = (
 
 const ROWS: &[Row] = &[
     (EXPLORE, EMPTY, 0, SCREEN, 0),
+    (&[b"./explore", b"--starve"], EMPTY, 0, SCREEN, 0),
+    (
+        &[b"./explore", b"--starve"],
+        BAD_LETTER,
+        1,
+        "fault config letter\n",
+        0,
+    ),
     (&[b"./explore", b"--help"], EMPTY, 0, HELP, 21),
     (&[b"bad\xff", b"--help"], EMPTY, 0, HELP, 21),
     (&[b"", b"-h"], EMPTY, 0, HELP, 21),

@@ -10,7 +10,7 @@ use test_doubles::FailingWriter;
 /// The lines of the starts with no plate and with one.
 const LINES: &str = "\
 plates 0 starts 1: 1 stand still after 21 to 21 turns
-plates 1 starts 10: no standstill; at most 61176 situations
+plates 1 starts 10: no standstill; at most 61176 situations; each machine moves a plate within k * 97 + k * k * 2 steps
 ";
 
 const FIRST_LINE: &str = "plates 0 starts 1: 1 stand still after 21 to 21 turns\n";

@@ -1,0 +1,59 @@
+//! Bounds of a start with one plate.
+
+use cell_liveness::{Plates, Progress, explore_machines, explore_progress};
+use cell_rules::State;
+use cell_types::Machine;
+
+/// One plate, on the feed belt.
+const ONE: [bool; 10] = [
+    true, false, false, false, false, false, false, false, false, false,
+];
+
+// The bound that an answer tells.
+fn bound_of(answer: &Progress) -> Option<(usize, usize)> {
+    match answer {
+        Progress::Within { plain, helped } => Some((*plain, *helped)),
+        Progress::Starves { .. } | Progress::Unknown(_) => None,
+    }
+}
+
+// The bounds of all seven answers.
+fn bounds_of(plates: &Plates) -> [Option<(usize, usize)>; 7] {
+    [
+        bound_of(&plates.any),
+        bound_of(&plates.feed),
+        bound_of(&plates.table),
+        bound_of(&plates.robot),
+        bound_of(&plates.press),
+        bound_of(&plates.deposit),
+        bound_of(&plates.crane),
+    ]
+}
+
+#[test]
+fn each_machine_moves_plates_if_the_press_gets_a_strong_turn(rt: HostRuntime) {
+    let start = State::start(ONE, 0).expect(&rt, "a start");
+    let plates = explore_machines(rt.alloc(), &start, Some(Machine::Press)).expect(&rt, "memory");
+    assert!(rt;
+        bounds_of(&plates)
+            == [
+                Some((26, 2)),
+                Some((90, 2)),
+                Some((96, 2)),
+                Some((60, 2)),
+                Some((92, 2)),
+                Some((95, 2)),
+                Some((92, 2)),
+            ],
+        "{plates:?}"
+    );
+}
+
+#[test]
+fn one_question_alone_is_answered_the_same(rt: HostRuntime) {
+    let start = State::start(ONE, 0).expect(&rt, "a start");
+    let answer = explore_progress(rt.alloc(), &start, None, Some(Machine::Press)).expect(
+        &rt, "memory",
+    );
+    assert!(rt; bound_of(&answer) == Some((26, 2)), "{answer:?}");
+}
