@@ -38,49 +38,56 @@ fn push_liveness(
     machine: u8,
     found: &Liveness,
 ) -> Result<(), AllocError> {
-    let name = plan.named.machines().name(machine);
+    push_answer(text, &plan.named, machine, found)?;
+    match starving_order(found) {
+        Some(order) => push_order(text, plan, opening, machine, order),
+        None => Ok(()),
+    }
+}
+
+/// The order in which a machine starves, if there is one.
+fn starving_order(found: &Liveness) -> Option<&FairOrder> {
     match found {
-        Liveness::Silent => writeln!(text, "{name} asks nothing"),
+        Liveness::IfOne { order, .. }
+        | Liveness::IfTwo { order, .. }
+        | Liveness::IfAll { order, .. }
+        | Liveness::Starves(order) => Some(order),
+        Liveness::Silent | Liveness::Always(_) | Liveness::Unknown(_) => None,
+    }
+}
+
+/// Adds whether a machine goes on for ever, and what that takes.
+fn push_answer(
+    text: &mut String,
+    named: &NamedPlan,
+    machine: u8,
+    found: &Liveness,
+) -> Result<(), AllocError> {
+    let name = named.machines().name(machine);
+    text.push_str(name)?;
+    match found {
+        Liveness::Silent => text.push_str(" asks nothing\n"),
         Liveness::Always(bound) => {
-            write!(text, "{name} goes on for ever in each fair order: ")?;
+            text.push_str(" goes on for ever in each fair order: ")?;
             push_within(text, *bound)
         }
-        Liveness::IfOne {
-            strong,
-            bound,
-            order,
-        } => {
-            let needed = needed_name(&plan.named, machine, *strong);
+        Liveness::IfOne { strong, bound, .. } => {
+            let needed = needed_name(named, machine, *strong);
             write!(
                 text,
-                "{name} goes on for ever if {needed} isn't passed over for ever: "
+                " goes on for ever if {needed} isn't passed over for ever: "
             )?;
-            push_within(text, *bound)?;
-            push_order(text, plan, opening, machine, order)
+            push_within(text, *bound)
         }
-        Liveness::IfTwo { relay, order } => {
-            push_relay(text, &plan.named, machine, *relay)?;
-            push_order(text, plan, opening, machine, order)
+        Liveness::IfTwo { relay, .. } => push_relay(text, named, machine, *relay),
+        Liveness::IfAll { bound, .. } => {
+            text.push_str(" goes on for ever if no machine is passed over for ever: ")?;
+            push_within(text, *bound)
         }
-        Liveness::IfAll { bound, order } => {
-            write!(
-                text,
-                "{name} goes on for ever if no machine is passed over for ever: "
-            )?;
-            push_within(text, *bound)?;
-            push_order(text, plan, opening, machine, order)
+        Liveness::Starves(_) => {
+            text.push_str(" may starve though no machine is passed over for ever\n")
         }
-        Liveness::Starves(order) => {
-            writeln!(
-                text,
-                "{name} may starve though no machine is passed over for ever"
-            )?;
-            push_order(text, plan, opening, machine, order)
-        }
-        Liveness::Unknown(_) => writeln!(
-            text,
-            "{name}: it isn't known whether it goes on for ever"
-        ),
+        Liveness::Unknown(_) => text.push_str(": it isn't known whether it goes on for ever\n"),
     }
 }
 
@@ -118,14 +125,17 @@ fn push_relay(
     machine: u8,
     relay: Relay,
 ) -> Result<(), AllocError> {
-    let name = named.machines().name(machine);
-    let needed = named.machines().name(relay.strong);
+    if relay.strong == machine {
+        text.push_str(" goes on for ever if it isn't passed over for ever: ")?;
+    } else {
+        let needed = named.machines().name(relay.strong);
+        write!(
+            text,
+            " goes on for ever if neither it nor {needed} is passed over for ever: "
+        )?;
+    }
     let bringing = named.machines().name(relay.machine);
     let rounds = relay.rounds;
-    write!(
-        text,
-        "{name} goes on for ever if neither it nor {needed} is passed over for ever: "
-    )?;
     write!(text, "within k * {rounds} * (")?;
     push_turns(text, relay.bound)?;
     writeln!(text, ") turns; {bringing} brings it chances")

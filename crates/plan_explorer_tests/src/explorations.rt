@@ -6,7 +6,7 @@ use plan_types::{Answer, Call, Plan, Refusal, examples};
 use std::alloc::Global;
 
 /// The loader, 0, waits until the press, 1, hands the zone over to it.
-const YIELDING: &[&[Call]] = &[
+pub const YIELDING: &[&[Call]] = &[
     &[Call::Give(0), Call::Take(0), Call::Release(0)],
     &[
         Call::Claim(0),
@@ -23,7 +23,7 @@ const YIELDING: &[&[Call]] = &[
 ];
 
 /// The loader claims the zone, and may do so again before the press has taken it back.
-const CLAIMING: &[&[Call]] = &[
+pub const CLAIMING: &[&[Call]] = &[
     &[
         Call::Claim(0),
         Call::Give(0),
@@ -45,7 +45,7 @@ const CLAIMING: &[&[Call]] = &[
 ];
 
 /// A loader and a press that ask nothing.
-const SILENT: &[&[Call]] = &[&[], &[]];
+pub const SILENT: &[&[Call]] = &[&[], &[]];
 
 /// The lift, 0, brings a plate from the lower floor, 1, to the upper one, 2, and another one down.
 const LIFTING: &[&[Call]] = &[
@@ -75,7 +75,7 @@ const LIFTING: &[&[Call]] = &[
 
 /// The plan, the programs, and the opening with plates in these places. Two programs are those of a press, three those
 /// of a lift. `None` if memory runs out.
-fn plant_of(
+pub fn plant_of(
     alloc: Global,
     lists: &[&[Call]],
     full: &[usize],

@@ -5,3 +5,5 @@
 mod explorations;
 #[cfg(test)]
 mod programs;
+#[cfg(test)]
+mod progress;
