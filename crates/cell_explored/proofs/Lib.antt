@@ -1,4 +1,4 @@
 mod Simulated
 mod Found
-mod Workers
-mod WiredWorkers
+pub mod Workers
+pub mod WiredWorkers
