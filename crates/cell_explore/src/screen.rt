@@ -47,7 +47,8 @@ pub fn screen_by(alloc: Global, config: &Config, found: &Explored) -> Result<Str
 fn free_screen(alloc: Global, config: &Config, situations: usize) -> Result<String, AllocError> {
     let plates = config.start.plates();
     let mut text = format!(in alloc;
-        "# plates {plates}\n# no standstill in any schedule: {situations} situations\n"
+        "# plates {plates}\n\
+        # no standstill in any schedule before the last stamp: {situations} situations\n"
     )?;
     let found = explore_machines(alloc, &config.start, Some(Machine::Press))?;
     push_plates(alloc, &mut text, &found)?;

@@ -98,7 +98,8 @@ impl Tally {
         if free == starts {
             let going = self.going(alloc)?;
             format!(in alloc;
-                "plates {plates} starts {starts}: no standstill; at most {most_situations} situations{going}\n"
+                "plates {plates} starts {starts}: no standstill before the last stamp; \
+                at most {most_situations} situations{going}\n"
             )
         } else if refused == 0 {
             format!(in alloc;

@@ -30,7 +30,7 @@ schedule = \"fffttttttppppppppppppppppppppppppppppppddddftrrpdccc\"
         "start = \"1000000000\"\n",
         "\
 # plates 1
-# no standstill in any schedule: 49902 situations
+# no standstill in any schedule before the last stamp: 49902 situations
 # plates go on: a plate moves within k * 26 + k * k * 2 steps of a fair schedule
 # each machine moves a plate within k * 96 + k * k * 2 steps
 start = \"1000000000\"
@@ -40,7 +40,7 @@ start = \"1000000000\"
         "stamp = 1048575\nstart = \"0000000001\"\n",
         "\
 # plates 1
-# no standstill in any schedule: 53918 situations
+# no standstill in any schedule before the last stamp: 53918 situations
 # plates go on: a plate moves within k * 26 + k * k * 2 steps of a fair schedule
 # each machine moves a plate within k * 96 + k * k * 2 steps
 start = \"0000000001\"

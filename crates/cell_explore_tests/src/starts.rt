@@ -10,7 +10,7 @@ use test_doubles::FailingWriter;
 /// The lines of the starts with no plate and with one.
 const LINES: &str = "\
 plates 0 starts 1: 1 stand still after 21 to 21 turns
-plates 1 starts 10: no standstill; at most 61176 situations; each machine moves a plate within k * 97 + k * k * 2 steps
+plates 1 starts 10: no standstill before the last stamp; at most 61176 situations; each machine moves a plate within k * 97 + k * k * 2 steps
 ";
 
 const FIRST_LINE: &str = "plates 0 starts 1: 1 stand still after 21 to 21 turns\n";
@@ -29,7 +29,7 @@ fn explores_all_starts_with_six_plates(rt: HostRuntime) -> Result<(), AllocError
 fn explores_no_start_with_seven_plates(rt: HostRuntime) -> Result<(), AllocError> {
     let line = starts_with(&rt, rt.alloc(), 7)?.line(rt.alloc(), 7)?;
     assert!(rt;
-        line.as_str() == "plates 7 starts 0: no standstill; at most 0 situations\n",
+        line.as_str() == "plates 7 starts 0: no standstill before the last stamp; at most 0 situations\n",
         "{line}"
     );
     Ok(())

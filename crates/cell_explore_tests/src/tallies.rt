@@ -24,20 +24,21 @@ const ROWS: &[(&[Found], &[Found], u32, &str)] = &[
         &[],
         &[],
         7,
-        "plates 7 starts 0: no standstill; at most 0 situations\n",
+        "plates 7 starts 0: no standstill before the last stamp; at most 0 situations\n",
     ),
     (
         &[Free(5, 90, 2), Free(9, 7, 0)],
         &[Free(7, 8, 3)],
         1,
-        "plates 1 starts 3: no standstill; at most 9 situations; each machine moves a plate within k * 90 + k * k * 3 \
-        steps\n",
+        "plates 1 starts 3: no standstill before the last stamp; at most 9 situations; each machine moves a plate \
+        within k * 90 + k * k * 3 steps\n",
     ),
     (
         &[Free(5, 1, 1)],
         &[Starving(6), Starving(12)],
         2,
-        "plates 2 starts 3: no standstill; at most 12 situations; from 2 a machine may move no plate for ever\n",
+        "plates 2 starts 3: no standstill before the last stamp; at most 12 situations; from 2 a machine may move no \
+        plate for ever\n",
     ),
     (
         &[Standstill(21)],

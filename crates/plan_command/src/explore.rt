@@ -34,7 +34,7 @@ fn free_screen(
     situations: usize,
 ) -> Result<String, AllocError> {
     let mut text = format!(in alloc;
-        "no standstill in any order of turns: {situations} situations\n"
+        "no standstill in any order of turns before the last stamp: {situations} situations\n"
     )?;
     let answers = explore_machines(alloc, plan.named.plan(), opening, &plan.programs)?;
     push_going(&mut text, plan, opening, answers.as_slice())?;

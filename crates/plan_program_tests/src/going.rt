@@ -12,7 +12,7 @@ a machine isn't passed over for ever if it goes on wherever it could at k turns,
 
 /// Of the press.
 const PRESS_GOES: &str = "\
-no standstill in any order of turns: 15 situations
+no standstill in any order of turns before the last stamp: 15 situations
 loader goes on for ever in each fair order: within k * 7 turns
 press goes on for ever in each fair order: within k * 3 turns
 plates move for ever in each fair order: within k * 6 turns
@@ -63,7 +63,7 @@ guest = \"south_train\"
 
 /// Of a junction.
 const JUNCTION_GOES: &str = "\
-no standstill in any order of turns: 17 situations
+no standstill in any order of turns before the last stamp: 17 situations
 points goes on for ever if it isn't passed over for ever: within k * 1 + k * k * 1 turns
   a fair order in which it starves: first points points points points points
   and then again and again
@@ -164,7 +164,7 @@ outward = [\"cabin\", \"gallery\"]
 
 /// Of a lift.
 const LIFT_GOES: &str = "\
-no standstill in any order of turns: 28 situations
+no standstill in any order of turns before the last stamp: 28 situations
 lift goes on for ever in each fair order: within k * 3 turns
 below goes on for ever in each fair order: within k * 16 turns
 above goes on for ever in each fair order: within k * 18 turns
@@ -241,7 +241,7 @@ outward = [\"right_die\", \"right_hand\"]
 
 /// Of two presses.
 const TWO_PRESSES_GO: &str = "\
-no standstill in any order of turns: 860 situations
+no standstill in any order of turns before the last stamp: 860 situations
 left_arm goes on for ever if it isn't passed over for ever: within k * 22 + k * k * 5 turns
   a fair order in which it starves: first left_arm left_arm left_arm left_press left_press \
      left_press left_press left_arm left_press left_press left_press left_press left_press \
@@ -441,7 +441,7 @@ inward = [\"gripper\", \"feed_belt\"]
 
 /// Of the production cell.
 const CELL_GOES: &str = "\
-no standstill in any order of turns: 8622 situations
+no standstill in any order of turns before the last stamp: 8622 situations
 feed goes on for ever in each fair order: within k * 50 turns
 table goes on for ever in each fair order: within k * 51 turns
 robot goes on for ever in each fair order: within k * 43 turns
@@ -473,7 +473,7 @@ guest = \"cart\"
 
 /// Of the dock: each of both may keep the other one out.
 const DOCK_GOES: &str = "\
-no standstill in any order of turns: 7 situations
+no standstill in any order of turns before the last stamp: 7 situations
 cart goes on for ever if it isn't passed over for ever: within k * 3 + k * k * 3 turns
   a fair order in which it starves: first door door
   and then again and again
@@ -495,7 +495,7 @@ door goes on for ever if it isn't passed over for ever: within k * 1 + k * k * 1
 
 /// Of the two presses if the left one is out of use.
 const ONE_PRESS_GOES: &str = "\
-no standstill in any order of turns: 44 situations
+no standstill in any order of turns before the last stamp: 44 situations
 left_arm may starve though no machine is passed over for ever
   a fair order in which it starves: first left_arm left_arm left_arm right_press right_press
   and then again and again
