@@ -6,7 +6,6 @@ pub mod fault;
 mod locating;
 mod reading;
 mod resolving;
-mod skipping;
 mod values;
 
 pub use document::{Document, MachineRow, PoseRow, PostureRow, WayRow, ZoneRow};

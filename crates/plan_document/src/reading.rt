@@ -4,13 +4,14 @@ ghost use Rattle.plan_document.specs.Limits.{max_bytes_read};
 
 use crate::document::{Document, MachineRow, PoseRow, WayRow, ZoneRow};
 use crate::fault::{At, DocumentFault, Key, PlanTextFault, RowOf, Wrong};
-use crate::locating::{line_at, line_of};
+use crate::locating::line_of;
 use crate::resolving::{ProgrammedPlan, programmed_plan_of};
 use crate::values::{add_gives, add_text, add_texts, check_keys, truth_of, way_of};
 use cell_text::{InputFault, read_up_to};
 use std::alloc::{AllocError, Global};
 use std::io::Read;
 use toml::{Table, Value};
+use toml_places::line_at;
 
 /// The most bytes of a document.
 pub const MAX_BYTES: usize = 65_536;
@@ -87,17 +88,40 @@ pub fn document_in(alloc: Global, table: &Table) -> Result<Document, DocumentFau
 }
 
 fn add_rows(alloc: Global, table: &Table, document: &mut Document) -> Result<(), DocumentFault> {
-    check_keys(alloc, table, &TOP_KEYS).at(RowOf::Document.whole())?;
-    if table.get("machine").is_none() {
-        return Err(RowOf::Document.key(Key::Machine).fault(Wrong::Missing));
-    }
+    check_top(alloc, table)?;
     let machines = tables_at(table, RowOf::Document, Key::Machine)?;
-    'machines: for i in 0..machines.len() {
-        add_machine(alloc, &machines[i], i, &mut document.machines)?;
-    }
+    add_machines(alloc, machines, &mut document.machines)?;
     let zones = tables_at(table, RowOf::Document, Key::Zone)?;
-    'zones: for i in 0..zones.len() {
-        add_zone(alloc, &zones[i], i, &mut document.zones)?;
+    add_zones(alloc, zones, &mut document.zones)
+}
+
+/// Refuses a document with an unknown key at the top, or without machines.
+fn check_top(alloc: Global, table: &Table) -> Result<(), DocumentFault> {
+    check_keys(alloc, table, &TOP_KEYS).at(RowOf::Document.whole())?;
+    match table.get("machine") {
+        Some(_) => Ok(()),
+        None => Err(RowOf::Document.key(Key::Machine).fault(Wrong::Missing)),
+    }
+}
+
+fn add_machines(
+    alloc: Global,
+    values: &[Value],
+    machines: &mut Vec<MachineRow>,
+) -> Result<(), DocumentFault> {
+    'machines: for i in 0..values.len() {
+        add_machine(alloc, &values[i], i, machines)?;
+    }
+    Ok(())
+}
+
+fn add_zones(
+    alloc: Global,
+    values: &[Value],
+    zones: &mut Vec<ZoneRow>,
+) -> Result<(), DocumentFault> {
+    'zones: for i in 0..values.len() {
+        add_zone(alloc, &values[i], i, zones)?;
     }
     Ok(())
 }
@@ -149,10 +173,20 @@ fn read_machine(
     read_text(table, at, Key::Name, &mut row.name)?;
     read_texts(alloc, table, at, Key::Places, &mut row.places)?;
     let poses = tables_at(table, at, Key::Poses)?;
-    'poses: for i in 0..poses.len() {
-        add_pose(alloc, &poses[i], machine, i, &mut row.poses)?;
-    }
+    add_poses(alloc, poses, machine, &mut row.poses)?;
     read_texts(alloc, table, at, Key::Program, &mut row.program)
+}
+
+fn add_poses(
+    alloc: Global,
+    values: &[Value],
+    machine: usize,
+    poses: &mut Vec<PoseRow>,
+) -> Result<(), DocumentFault> {
+    'poses: for i in 0..values.len() {
+        add_pose(alloc, &values[i], machine, i, poses)?;
+    }
+    Ok(())
 }
 
 fn add_pose(
@@ -215,6 +249,15 @@ fn read_zone(
     read_text(table, at, Key::Name, &mut row.name)?;
     read_text(table, at, Key::Host, &mut row.host)?;
     read_text(table, at, Key::Guest, &mut row.guest)?;
+    read_ways(alloc, table, at, row)
+}
+
+fn read_ways(
+    alloc: Global,
+    table: &Table,
+    at: RowOf,
+    row: &mut ZoneRow,
+) -> Result<(), DocumentFault> {
     row.inward = optional_way(alloc, table, at, Key::Inward)?;
     row.outward = optional_way(alloc, table, at, Key::Outward)?;
     Ok(())

@@ -95,17 +95,44 @@ fn rows_of(alloc: Global, document: &Document) -> Result<Rows, DocumentFault> {
 
 fn add_rows(alloc: Global, document: &Document, rows: &mut Rows) -> Result<(), DocumentFault> {
     add_machine_names(alloc, document, &mut rows.machines)?;
+    add_all_places(alloc, document, rows)?;
+    add_zone_names(alloc, document, &mut rows.zones)?;
+    add_zone_rows(alloc, document, rows)?;
+    add_all_poses(alloc, document, rows)
+}
+
+fn add_all_places(
+    alloc: Global,
+    document: &Document,
+    rows: &mut Rows,
+) -> Result<(), DocumentFault> {
     for i in 0..document.machines.len() {
         add_places(alloc, &document.machines[i], i, rows)?;
     }
+    Ok(())
+}
+
+fn add_zone_names(
+    alloc: Global,
+    document: &Document,
+    names: &mut Names,
+) -> Result<(), DocumentFault> {
     for i in 0..document.zones.len() {
         let name = document.zones[i].name.as_str();
-        add_name(alloc, &mut rows.zones, name, MAX_ZONES).at(RowOf::Zone(i).key(Key::Name))?;
+        add_name(alloc, names, name, MAX_ZONES).at(RowOf::Zone(i).key(Key::Name))?;
     }
+    Ok(())
+}
+
+fn add_zone_rows(alloc: Global, document: &Document, rows: &mut Rows) -> Result<(), DocumentFault> {
     for i in 0..document.zones.len() {
         let row = plan_zone(alloc, &document.zones[i], RowOf::Zone(i), rows)?;
         rows.zone_rows.push(row).at(RowOf::Zone(i).whole())?;
     }
+    Ok(())
+}
+
+fn add_all_poses(alloc: Global, document: &Document, rows: &mut Rows) -> Result<(), DocumentFault> {
     for i in 0..document.machines.len() {
         add_poses(alloc, &document.machines[i], i, rows)?;
     }
@@ -256,18 +283,22 @@ fn add_pose(
 ) -> Result<(), DocumentFault> {
     let location = at.key(Key::Name);
     let gives = gives_of(alloc, &rows.zones, &row.gives).at(at.key(Key::Gives))?;
-    if rows.poses.len() >= MAX_POSES {
-        return Err(location.fault(Wrong::TooMany(MAX_POSES)));
-    }
-    let machine = number_of(machine).at(location)?;
-    let name = copy(alloc, row.name.as_str()).at(location)?;
-    rows.poses.push(name).at(location)?;
+    add_pose_name(alloc, &mut rows.poses, row.name.as_str()).at(location)?;
     let row = PlanPose {
-        machine,
+        machine: number_of(machine).at(location)?,
         after_moving: row.after_moving,
         gives,
     };
     rows.pose_rows.push(row).at(location)
+}
+
+/// Adds a name to those of all machines' poses, which may be there already.
+fn add_pose_name(alloc: Global, names: &mut Names, name: &str) -> Result<(), Wrong> {
+    if names.len() >= MAX_POSES {
+        return Err(Wrong::TooMany(MAX_POSES));
+    }
+    names.push(copy(alloc, name)?)?;
+    Ok(())
 }
 
 fn gives_of(
@@ -386,19 +417,29 @@ fn calls_in(
 
 /// The call in a line of a program.
 fn call_in(alloc: Global, line: &str, machine: u8, named: &NamedPlan) -> Result<Call, Wrong> {
-    let Some((word, name)) = line.split_once(' ') else {
+    let Some((verb, name)) = verb_and_name(line) else {
         return Err(Wrong::NoCall(copy(alloc, line)?));
     };
-    match Verb::read(word.as_bytes()) {
-        Some(Verb::Pose) => match named.own_pose(machine, name.as_bytes()) {
-            Some(pose) => Ok(Call::SetPose(pose)),
-            None => Err(Wrong::NoPose(copy(alloc, name)?)),
-        },
-        Some(verb) => match named.call(machine, verb, name.as_bytes()) {
+    match verb {
+        Verb::Pose => pose_named(alloc, name, machine, named),
+        verb => match named.call(machine, verb, name.as_bytes()) {
             Some(call) => Ok(call),
             None => Err(Wrong::NoZone(copy(alloc, name)?)),
         },
-        None => Err(Wrong::NoCall(copy(alloc, line)?)),
+    }
+}
+
+/// The verb in a line of a program, and what it is about.
+fn verb_and_name(line: &str) -> Option<(Verb, &str)> {
+    let (word, name) = line.split_once(' ')?;
+    Some((Verb::read(word.as_bytes())?, name))
+}
+
+/// The call of a machine for its pose with this name.
+fn pose_named(alloc: Global, name: &str, machine: u8, named: &NamedPlan) -> Result<Call, Wrong> {
+    match named.own_pose(machine, name.as_bytes()) {
+        Some(pose) => Ok(Call::SetPose(pose)),
+        None => Err(Wrong::NoPose(copy(alloc, name)?)),
     }
 }
 
