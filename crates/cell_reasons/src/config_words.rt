@@ -1,10 +1,10 @@
 //! What is wrong with a configuration, in words. They are only tested: no contract says what they
 //! say.
 
-use crate::key_places::{KeyPlace, Source, key_places};
 use crate::quoted::{push_quoted, push_quoted_char};
-use crate::records::line_at;
+use crate::records;
 use crate::section_words::push_refused_section;
+use crate::source::{MAX_DEPTH, Source};
 use crate::start_words::push_plate_count;
 use crate::unknown_keys::push_unknown;
 use cell_config::{ConfigFault, MAX_BYTES, MAX_LETTERS, check_sections, is_letter, letter_word};
@@ -13,6 +13,7 @@ use cell_types::Machine;
 use std::alloc::{AllocError, Global};
 use std::str;
 use toml::Table;
+use toml_places::{OwnedStep, Place, Step, key_around, line_at, place_of, places_in};
 
 /// What the key `start` takes.
 const START_TAKES: &str = "start takes a text of ten digits; put quotes round them";
@@ -35,46 +36,83 @@ pub fn config_words(alloc: Global, bytes: &[u8], fault: ConfigFault) -> Result<S
     Ok(words)
 }
 
-/// Adds what is wrong with a text that isn't too long.
+/// Adds what is wrong with bytes that aren't too many.
 fn push_text_words(
     alloc: Global,
     words: &mut String,
     bytes: &[u8],
     fault: ConfigFault,
 ) -> Result<(), AllocError> {
-    let places = match str::from_utf8(bytes) {
-        Ok(text) => key_places(alloc, text)?,
-        Err(_) => Vec::new(alloc),
-    };
+    match toml::table_from_slice(alloc, bytes) {
+        Ok(table) => push_fault(alloc, words, bytes, &table, fault),
+        Err(error) if error.is_memory() => Err(AllocError),
+        Err(error) => {
+            let before = error.span().map_or(0, |span| span.start);
+            push_no_toml(alloc, words, bytes, before, error.message())
+        }
+    }
+}
+
+/// Adds what is wrong with a text that is TOML.
+fn push_fault(
+    alloc: Global,
+    words: &mut String,
+    bytes: &[u8],
+    table: &Table,
+    fault: ConfigFault,
+) -> Result<(), AllocError> {
+    let places = places_of(alloc, bytes)?;
     let source = Source {
         bytes,
         places: places.as_slice(),
     };
-    match toml::table_from_slice(alloc, bytes) {
-        Ok(table) => push_table_words(alloc, words, source, &table, fault),
-        Err(error) if error.is_memory() => Err(AllocError),
-        Err(error) => {
-            let before = error.span().map_or(0, |span| span.start);
-            push_no_toml(words, source, before, error.message())
-        }
+    push_table_words(alloc, words, source, table, fault)
+}
+
+/// The places in a text; none in bytes that are no text.
+fn places_of(alloc: Global, bytes: &[u8]) -> Result<Vec<Place>, AllocError> {
+    match str::from_utf8(bytes) {
+        Ok(text) => places_in(alloc, text, MAX_DEPTH),
+        Err(_) => Ok(Vec::new(alloc)),
     }
 }
 
 /// Adds why a text is no TOML, and the line of the byte at offset `before`, where that is found. In
 /// a key's value it adds where the value begins, or what the key takes.
 fn push_no_toml(
+    alloc: Global,
     words: &mut String,
-    source: Source<'_>,
+    bytes: &[u8],
     before: usize,
     message: &str,
 ) -> Result<(), AllocError> {
-    source.push_line_at(words, before)?;
-    write!(words, "it is no TOML: {message}")?;
-    let Some(place) = source.place_around(before) else {
-        return Ok(());
-    };
-    let line = line_at(source.bytes, place.key);
-    if line < line_at(source.bytes, before) {
+    let line = line_of_fault(bytes, before);
+    write!(words, "line {line}: it is no TOML: {message}")?;
+    let places = places_of(alloc, bytes)?;
+    match key_around(places.as_slice(), before) {
+        Some(place) => push_value_around(words, place, line_at(bytes, place.start), line),
+        None => Ok(()),
+    }
+}
+
+/// The line of the byte at which a text is found to be no TOML. Of bytes that aren't UTF-8 lines are counted as in
+/// scripts.
+fn line_of_fault(bytes: &[u8], before: usize) -> usize {
+    if str::from_utf8(bytes).is_ok() {
+        line_at(bytes, before)
+    } else {
+        records::line_at(bytes, before)
+    }
+}
+
+/// Adds of the value in which a fault is, where it begins, if that is an earlier line; or else what its key takes.
+fn push_value_around(
+    words: &mut String,
+    place: &Place,
+    line: usize,
+    fault_line: usize,
+) -> Result<(), AllocError> {
+    if line < fault_line {
         return push_open_value(words, place, line);
     }
     match taken_by(place) {
@@ -84,16 +122,16 @@ fn push_no_toml(
 }
 
 /// Adds that a key's value begins on an earlier line.
-fn push_open_value(words: &mut String, place: &KeyPlace, line: usize) -> Result<(), AllocError> {
-    let name = place.names.last().map_or("", |name| name.as_str());
+fn push_open_value(words: &mut String, place: &Place, line: usize) -> Result<(), AllocError> {
+    let name = place.steps.last().and_then(|step| step.key()).unwrap_or("");
     words.push_str("; the value of ")?;
     push_quoted(words, name.as_bytes())?;
     write!(words, " begins on line {line}")
 }
 
 /// What a key outside of sections takes, if it is one.
-fn taken_by(place: &KeyPlace) -> Option<&'static str> {
-    let [name] = place.names.as_slice() else {
+fn taken_by(place: &Place) -> Option<&'static str> {
+    let [OwnedStep::Key(name)] = place.steps.as_slice() else {
         return None;
     };
     match name.as_str() {
@@ -134,7 +172,7 @@ fn push_wrong_kind(
     table: &Table,
 ) -> Result<(), AllocError> {
     if let Some((key, takes)) = key_of_wrong_kind(table) {
-        source.push_line(words, &[key])?;
+        source.push_line(words, &[Step::Key(key)])?;
         return words.push_str(takes);
     }
     match check_sections(table) {
@@ -164,11 +202,11 @@ fn push_wrong_range(
     table: &Table,
 ) -> Result<(), AllocError> {
     if has_wrong_stamp(table) {
-        source.push_line(words, &["stamp"])?;
+        source.push_line(words, &[Step::Key("stamp")])?;
         return write!(words, "stamp is out of range: it takes 0 to {LAST_STAMP}");
     }
     if has_long_schedule(table) {
-        source.push_line(words, &["schedule"])?;
+        source.push_line(words, &[Step::Key("schedule")])?;
         return write!(
             words,
             "schedule is too long: it takes at most {MAX_LETTERS} letters"
@@ -217,7 +255,7 @@ fn push_wrong_start(
     source: Source<'_>,
     table: &Table,
 ) -> Result<(), AllocError> {
-    source.push_line(words, &["start"])?;
+    source.push_line(words, &[Step::Key("start")])?;
     let Some(text) = text_at(table, "start") else {
         return words.push_str(START_TAKES);
     };
@@ -258,7 +296,7 @@ fn push_wrong_letter(
 
 /// How many bytes are before the first character of the schedule that is no letter, if the schedule is found.
 fn bytes_before_letter(source: Source<'_>) -> Option<usize> {
-    let place = source.place_of(&["schedule"])?;
+    let place = place_of(source.places, &[Step::Key("schedule")])?;
     let value = source.bytes.get(place.value..).unwrap_or(&[]);
     Some(place.value.saturating_add(letters_before(value)))
 }

@@ -4,11 +4,11 @@
 mod call_words;
 pub mod config_words;
 mod fields;
-mod key_places;
 mod nearest;
 mod quoted;
 mod records;
 pub mod script_words;
 mod section_words;
+mod source;
 mod start_words;
 mod unknown_keys;

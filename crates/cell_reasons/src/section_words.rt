@@ -1,9 +1,10 @@
 //! What is wrong with a section of a configuration, in words.
 
-use crate::key_places::Source;
+use crate::source::Source;
 use cell_calib::{CurveFault, Points};
 use cell_config::{ConfigFault, SectionFault, SectionKey};
 use std::alloc::AllocError;
+use toml_places::Step;
 
 /// Adds what is wrong with a section.
 pub fn push_refused_section(
@@ -16,7 +17,7 @@ pub fn push_refused_section(
     let end = section.axis_end();
     match fault {
         SectionFault::NoTable => {
-            source.push_line(words, &[name])?;
+            source.push_line(words, &[Step::Key(name)])?;
             write!(
                 words,
                 "{name} takes a section with the keys raw, tol and points; its head is [{name}]"
@@ -47,7 +48,7 @@ fn push_key(
     section: &str,
     key: &str,
 ) -> Result<(), AllocError> {
-    source.push_line(words, &[section, key])?;
+    source.push_line(words, &[Step::Key(section), Step::Key(key)])?;
     write!(words, "{key} of {section} ")
 }
 

@@ -1,11 +1,12 @@
 //! Which key of a configuration is unknown, in words.
 
-use crate::key_places::Source;
 use crate::nearest::push_suggestion;
 use crate::quoted::push_quoted;
+use crate::source::Source;
 use cell_config::{INNER_KEYS, PLAIN_KEYS, SECTION_KEYS};
 use std::alloc::{AllocError, Global};
 use toml::Table;
+use toml_places::OwnedStep;
 
 /// Whether a key stands outside of sections, or is a section's.
 fn is_outer_key(key: &str) -> bool {
@@ -20,41 +21,41 @@ pub fn push_unknown(
     table: &Table,
 ) -> Result<(), AllocError> {
     for place in source.places {
-        if is_unknown(&place.names, table) {
-            source.push_line_at(words, place.key)?;
-            return push_unknown_names(alloc, words, &place.names);
+        if is_unknown(place.steps.as_slice(), table) {
+            source.push_line_at(words, place.start)?;
+            return push_unknown_step(alloc, words, place.steps.as_slice());
         }
     }
     words.push_str("a key is unknown")
 }
 
-/// Whether a key's names have an unknown one.
-fn is_unknown(names: &[String], table: &Table) -> bool {
-    match names {
-        [key] => !is_outer_key(key.as_str()),
-        [key, inner, ..] => {
+/// Whether steps lead to an unknown key. In an array no keys are looked at.
+fn is_unknown(steps: &[OwnedStep], table: &Table) -> bool {
+    match steps {
+        [OwnedStep::Key(key), OwnedStep::Key(inner), ..] => {
             let key = key.as_str();
             !is_outer_key(key)
                 || !PLAIN_KEYS.contains(&key)
                     && is_table(table, key)
                     && !INNER_KEYS.contains(&inner.as_str())
         }
-        [] => false,
+        [OwnedStep::Key(key), ..] => !is_outer_key(key.as_str()),
+        _ => false,
     }
 }
 
-/// Adds which name is unknown.
-fn push_unknown_names(
+/// Adds which key is unknown of those to which steps lead.
+fn push_unknown_step(
     alloc: Global,
     words: &mut String,
-    names: &[String],
+    steps: &[OwnedStep],
 ) -> Result<(), AllocError> {
-    match names {
-        [key, inner, ..] if is_outer_key(key.as_str()) => {
+    match steps {
+        [OwnedStep::Key(key), OwnedStep::Key(inner), ..] if is_outer_key(key.as_str()) => {
             push_unknown_inner_key(alloc, words, key.as_str(), inner.as_str())
         }
-        [key, ..] => push_unknown_key(alloc, words, key.as_str()),
-        [] => Ok(()),
+        [OwnedStep::Key(key), ..] => push_unknown_key(alloc, words, key.as_str()),
+        _ => Ok(()),
     }
 }
 
