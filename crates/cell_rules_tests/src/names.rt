@@ -262,21 +262,13 @@ fn is_printed<T: fmt::Display>(alloc: Global, value: &T, text: &str) -> bool {
 }
 
 #[test]
-fn answers_are_printed(rt: HostRuntime) {
+fn answers_calls_and_faults_are_printed(rt: HostRuntime) {
     for (answer, text) in ANSWERS {
         assert!(rt; is_printed(rt.alloc(), answer, text), "{text}");
     }
-}
-
-#[test]
-fn calls_are_printed(rt: HostRuntime) {
     for (call, text) in CALL_TEXTS {
         assert!(rt; is_printed(rt.alloc(), call, text), "{text}");
     }
-}
-
-#[test]
-fn faults_are_printed(rt: HostRuntime) {
     for (fault, text) in SENSOR_FAULTS {
         assert!(rt; is_printed(rt.alloc(), fault, text), "{text}");
     }

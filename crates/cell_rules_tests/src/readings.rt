@@ -1,10 +1,7 @@
-//! Readings by calibrations, points, and switches that clash.
+//! Readings by calibrations, and the limits of points.
 ghost use Rattle.std.specs.Prelude.{◌≡◌, ◌≤◌, slice_get};
 
-use cell_calib::{
-    Calibration, DepositSense, FeedSense, Gauge, Points, PointsFault, RobotSense, SensorFault,
-    SensorVector, line_at, line_reading, switches_agree,
-};
+use cell_calib::{Calibration, Gauge, Points, PointsFault, SensorFault, line_at};
 use std::process::Abort;
 
 // Uses a calibration as a controller does: keeps it in a struct of its own, and reads.
@@ -62,8 +59,6 @@ fn reads_by_the_line(rt: HostRuntime) {
     let points = Points::new(100, 4000, 0, 1000, 1).expect(&rt, "points");
     let faults = expect_readings(&rt, move |raw: u16| line_at(&points, raw), points, BY_LINE);
     assert!(rt; faults == 2);
-    assert!(rt; line_reading(points, 2050) == Ok(500));
-    assert!(rt; line_reading(points, 99) == Err(SensorFault::Low));
 }
 
 const BY_TABLE: &[(u16, Result<i32, SensorFault>)] = &[
@@ -104,85 +99,12 @@ fn is_refused(raw_lo: u16, raw_hi: u16, at_lo: i32, at_hi: i32, tol: i32) -> boo
     Points::new(raw_lo, raw_hi, at_lo, at_hi, tol) == Err(PointsFault::Range)
 }
 
-fn is_widest(points: Points) -> bool {
-    points.raw_lo() == 0
-        && points.raw_hi() == 65_535
-        && points.at_lo() == -100_000
-        && points.at_hi() == 100_000
-        && points.tol() == 10
-}
-
 #[test]
 fn keeps_points_within_their_limits(rt: HostRuntime) {
-    let widest = Points::new(0, 65_535, -100_000, 100_000, 10);
-    assert!(rt; widest.is_ok_and(is_widest));
     for (raw_lo, raw_hi, at_lo, at_hi, tol) in NO_POINTS {
         assert!(rt;
             is_refused(*raw_lo, *raw_hi, *at_lo, *at_hi, *tol),
             "{raw_lo} {raw_hi} {at_lo} {at_hi} {tol}"
         );
     }
-}
-
-fn both_ends_of_the_table() -> SensorVector {
-    SensorVector {
-        table_bottom: true,
-        table_top: true,
-        ..SensorVector::default()
-    }
-}
-
-fn two_positions_of_the_press() -> SensorVector {
-    SensorVector {
-        press_middle: true,
-        press_top: true,
-        ..SensorVector::default()
-    }
-}
-
-fn both_ends_of_the_crane() -> SensorVector {
-    SensorVector {
-        crane_deposit: true,
-        crane_feed: true,
-        ..SensorVector::default()
-    }
-}
-
-fn one_switch_each() -> SensorVector {
-    SensorVector {
-        press_top: true,
-        table_bottom: true,
-        crane_feed: true,
-        feed_barrier: true,
-        deposit_barrier: true,
-        ..SensorVector::default()
-    }
-}
-
-const CLASH: Result<(), SensorFault> = Err(SensorFault::Clash);
-
-fn all_clash(table: &SensorVector, press: &SensorVector, crane: &SensorVector) -> bool {
-    switches_agree(table) == CLASH
-        && table.table().agree() == CLASH
-        && switches_agree(press) == CLASH
-        && press.press().agree() == CLASH
-        && switches_agree(crane) == CLASH
-        && crane.crane().agree() == CLASH
-}
-
-fn is_fine(none: &SensorVector, one: &SensorVector) -> bool {
-    switches_agree(none).is_ok()
-        && none.robot() == RobotSense::default()
-        && switches_agree(one).is_ok()
-        && one.feed() == FeedSense { barrier: true }
-        && one.deposit() == DepositSense { barrier: true }
-}
-
-#[test]
-fn finds_switches_that_clash(rt: HostRuntime) {
-    let table = both_ends_of_the_table();
-    let press = two_positions_of_the_press();
-    let crane = both_ends_of_the_crane();
-    assert!(rt; all_clash(&table, &press, &crane));
-    assert!(rt; is_fine(&SensorVector::default(), &one_switch_each()));
 }
