@@ -1,18 +1,14 @@
 //! Units with a machine that claims the press's interior and then lights a lamp.
 
-use super::common::EMPTY;
 use super::full_line::FullLine;
 use cell_calib::SensorFault;
 use cell_control::{Controller, CtlFault, Part, Program, Row};
 use cell_notes::{Counts, Notebook, Status, TurnCall};
 use cell_rules::{Bench, Line, LineFault, State};
-use cell_types::{Call, Event, Machine, Posture, Refusal, Zone};
+use cell_types::{Call, Event, Machine, Posture, Zone};
 use cell_unit::{MachineUnit, status_of, take_bench_turn};
 use std::alloc::Global;
 use std::process::Abort;
-
-// The last stamp of the interlock.
-const LAST: u32 = 1_048_575;
 
 // A program whose step is whether it has claimed.
 #[derive(Drop)]
@@ -137,8 +133,8 @@ struct Run {
 }
 
 /// The end of a run over these turns, each busy or not.
-fn run_turns(rt: &impl Abort, alloc: Global, stamp: u32, turns: &[bool]) -> Run {
-    let start = State::start(EMPTY, stamp).expect(rt, "a start");
+fn run_turns(rt: &impl Abort, alloc: Global, turns: &[bool]) -> Run {
+    let start = State::start([false; 10], 0).expect(rt, "a start");
     let mut bench = Bench::new(alloc, start);
     let mut notebook = Notebook::new(alloc);
     let mut unit = MachineUnit {
@@ -179,29 +175,8 @@ fn has_asked_and_lit(run: &Run) -> bool {
 
 #[test]
 fn a_unit_asks_and_then_drives(rt: HostRuntime) {
-    let run = run_turns(&rt, rt.alloc(), 0, &[true, false, false]);
+    let run = run_turns(&rt, rt.alloc(), &[true, false, false]);
     assert!(rt; has_asked_and_lit(&run));
-}
-
-const STOPPED: Counts = Counts {
-    turns: 1,
-    done: 0,
-    read: 0,
-    refused: 1,
-    busy: 0,
-};
-
-fn has_stopped(run: &Run) -> bool {
-    run.counts == STOPPED
-        && run.entries == 1
-        && run.stopped == Some(CtlFault::Worn)
-        && run.lamp == (false, false)
-}
-
-#[test]
-fn a_unit_that_has_stopped_is_passed_over(rt: HostRuntime) {
-    let run = run_turns(&rt, rt.alloc(), LAST, &[false, false]);
-    assert!(rt; has_stopped(&run));
 }
 
 // What it asks on a line that is out of memory, what in its next turn, and its state after that.
@@ -228,23 +203,8 @@ fn asked_out_of_memory(start: State) -> (TurnCall, TurnCall, u64, Status, (bool,
 
 #[test]
 fn a_unit_that_gets_no_memory_stops(rt: HostRuntime) {
-    let start = State::start(EMPTY, 0).expect(&rt, "a start");
+    let start = State::start([false; 10], 0).expect(&rt, "a start");
     let refused: TurnCall = Some((Call::Claim(Zone::Z3), Err(LineFault::Memory)));
     let end = (refused, None, 1, Status::Memory, (false, false));
     assert!(rt; asked_out_of_memory(start) == end);
-}
-
-const STATUSES: &[(Option<CtlFault>, Status)] = &[
-    (None, Status::Fine),
-    (Some(CtlFault::Sensor(SensorFault::Clash)), Status::Sensor),
-    (Some(CtlFault::Refused(Refusal::Jump)), Status::Refused),
-    (Some(CtlFault::Worn), Status::Worn),
-    (Some(CtlFault::Memory), Status::Memory),
-];
-
-#[test]
-fn statuses_follow_from_faults(rt: HostRuntime) {
-    for (stopped, status) in STATUSES {
-        assert!(rt; status_of(*stopped) == *status, "{stopped:?}");
-    }
 }
