@@ -10,8 +10,6 @@ mod faults;
 mod forms;
 mod limits;
 mod line_by_line;
-mod long_audits;
-mod order;
 mod reports;
 mod scripts;
 
@@ -20,14 +18,6 @@ fn is_answered(alloc: Global, script: &[u8], text: &str, outcome: Outcome) -> bo
     let mut written = Vec::new(alloc);
     let got = replay(alloc, &mut &*script, &mut written);
     got == Ok(outcome) && written.as_slice() == text.as_bytes()
-}
-
-/// Checks that each script is answered by its text.
-fn are_answered(rt: &impl Abort, alloc: Global, rows: &[(&str, &str)]) {
-    for (script, text) in rows {
-        let is_right = is_answered(alloc, script.as_bytes(), text, Outcome::Clean);
-        assert!(rt; is_right, "{script}");
-    }
 }
 
 /// The start with these places and this stamp.

@@ -140,32 +140,6 @@ const AUDITS: &[(Option<AuditFault>, &str)] = &[
     (Some(AuditFault::Memory), "audit memory\n"),
 ];
 
-/// Calls after which each zone differs from its neighbours in its owner, its plate and its posture.
-const BUSY: &[(Machine, Call)] = &[
-    (Machine::Table, Call::Claim(Zone::Z1)),
-    (Machine::Table, Call::Claim(Zone::Z2)),
-    (Machine::Table, Call::SetPose(Pose::Turning)),
-    (Machine::Table, Call::SetPose(Pose::Loading)),
-    (Machine::Table, Call::Release(Zone::Z1)),
-    (Machine::Feed, Call::Claim(Zone::Z1)),
-    (Machine::Feed, Call::Give(Zone::Z1)),
-    (Machine::Press, Call::Claim(Zone::Z3)),
-    (Machine::Press, Call::SetPose(Pose::Travelling)),
-    (Machine::Feed, Call::Claim(Zone::Z6)),
-    (Machine::Feed, Call::SetPose(Pose::Landing)),
-    (Machine::Feed, Call::Release(Zone::Z6)),
-    (Machine::Crane, Call::Claim(Zone::Z6)),
-    (Machine::Crane, Call::Give(Zone::Z6)),
-    (Machine::Deposit, Call::Claim(Zone::Z4)),
-    (Machine::Deposit, Call::Claim(Zone::Z5)),
-    (Machine::Deposit, Call::SetPose(Pose::Offering)),
-    (Machine::Deposit, Call::Give(Zone::Z5)),
-];
-
-const BUSY_PLACES: [bool; 10] = [
-    false, true, false, true, false, true, false, false, true, true,
-];
-
 /// The run of the press, but from this start and with the end after these calls.
 fn ends_after(
     rt: &impl Abort,
@@ -182,32 +156,6 @@ fn ends_after(
     run.end = Some(end);
     run
 }
-
-/// A run that ends after the calls of `BUSY`, with three of five plates in zones.
-fn busy(rt: &impl Abort, alloc: Global) -> RunRecord {
-    ends_after(rt, alloc, start_at(rt, BUSY_PLACES, 1000), BUSY)
-}
-
-const BUSY_TEXT: &str = "version 2
-start 0101010011 1000
-feed turns 0 done 0 read 0 refused 0 busy 0 ok
-table turns 0 done 0 read 0 refused 0 busy 0 ok
-robot turns 0 done 0 read 0 refused 0 busy 0 ok
-press turns 31 done 4 read 0 refused 1 busy 0 ok
-deposit turns 0 done 0 read 0 refused 0 busy 0 ok
-crane turns 0 done 0 read 0 refused 0 busy 0 ok
-watch turns 0 done 0 read 0 refused 0 busy 0 ok
-zone z1 table 1 openin
-zone z2 table 0 closed
-zone z3 press 0 moving
-zone z4 deposit 0 closed
-zone z5 crane 1 openout
-zone z6 feed 1 openin
-places 0001010000
-axes press 500 arm1 0 arm2 0 rotation 300 lift 0 turn 0 crane 0 gripper 900
-stamp 1018 plates 5 stopped 0
-audit ok
-";
 
 const MOST: Counts = Counts {
     turns: u64::MAX,
@@ -294,7 +242,6 @@ fn is_reported(
 fn tells_runs(rt: HostRuntime) {
     let alloc = rt.alloc();
     assert!(rt; is_reported(alloc, &press_alone(&rt, alloc), None, PRESS_ALONE, ""));
-    assert!(rt; is_reported(alloc, &busy(&rt, alloc), None, BUSY_TEXT, ""));
     let run = mixed_run(&rt, alloc);
     for (audit, line) in AUDITS {
         assert!(rt; is_reported(alloc, &run, *audit, MIXED, line), "{line}");
