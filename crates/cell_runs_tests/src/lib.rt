@@ -5,13 +5,7 @@
 #[cfg(test)]
 mod ends;
 #[cfg(test)]
-mod every_start;
-#[cfg(test)]
-mod gauges;
-#[cfg(test)]
 mod rounds;
-#[cfg(test)]
-mod scales;
 #[cfg(test)]
 mod simulated_cells;
 #[cfg(test)]

@@ -105,20 +105,6 @@ fn is_audited(alloc: Global, record: &RunRecord) -> Result<bool, Fail> {
     Ok(record.end == Some(state))
 }
 
-// In each of a thousand runs, in whichever order the workers go on.
-#[test]
-fn an_audit_finds_each_end(rt: HostRuntime) -> Result<(), Fail> {
-    for round in 0..1000u32 {
-        let limits = Limits {
-            tries: 2,
-            turns: round % 200,
-        };
-        let record = work(&rt, rt.alloc(), FOUR, limits)??;
-        assert!(rt; is_audited(rt.alloc(), &record)?, "{round}");
-    }
-    Ok(())
-}
-
 // No machine stops, and the number of plates stays the same.
 #[test]
 fn long_runs_keep_their_plates(rt: HostRuntime) -> Result<(), Fail> {
