@@ -3,9 +3,7 @@
 mod closing;
 mod limits;
 mod lines;
-mod overtaken;
 mod played;
 mod receipts;
 mod steps;
-mod surveys;
 mod threads;

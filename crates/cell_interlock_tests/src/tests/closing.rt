@@ -3,7 +3,7 @@ ghost use Rattle.std.specs.Prelude.{◌≡◌};
 ghost use Rattle.cell_interlock.specs.Ends.{ArePassesOf};
 
 use super::played::{Taken, state_left};
-use super::steps::{ABANDONED, ABANDONED_LATE, ALONE, OVERTAKEN, PRESS_CLAIMS, TABLE_LOOKS};
+use super::steps::{ABANDONED, OVERTAKEN, PRESS_CLAIMS};
 use cell_interlock::{Interlock, Passes};
 use cell_rules::{Places, State, ZoneState, Zones};
 use cell_types::{Answer, Call, Machine, Posture, Refusal, Reply, Zone};
@@ -31,43 +31,21 @@ pub(super) fn state_of(stamp: u32, owned: &[Owned], stopped: bool) -> Option<Sta
     State::from_parts(zones, Places::from_flags([false; 10]), stamp, stopped)
 }
 
-const STOPPED: StepOutcome = StepOutcome::Settled(Answer::Refused(Refusal::Stopped), 2);
-
 const WATCH_STOPS: Taken = (
     Machine::Watch,
     Step::Ask(Call::Stop),
     StepOutcome::Settled(Answer::Done, 2),
 );
 
-// A pending claim is refused once the cell is stopped.
-const STOPS: &[Taken] = &[
-    PRESS_CLAIMS,
-    TABLE_LOOKS,
-    WATCH_STOPS,
-    (Machine::Table, Step::Attempt, STOPPED),
-];
-
-const RESUMES: &[Taken] = &[
-    PRESS_CLAIMS,
-    WATCH_STOPS,
-    (
-        Machine::Watch,
-        Step::Ask(Call::Resume),
-        StepOutcome::Settled(Answer::Done, 3),
-    ),
-];
+const STOPS: &[Taken] = &[PRESS_CLAIMS, WATCH_STOPS];
 
 // What the row shows, the number of exchanges that a call may lose, the steps, and of the state that
 // they leave the stamp, the owned zones, and whether the cell is stopped.
 const ROWS: &[(&str, u8, &[Taken], u32, &[Owned], bool)] = &[
     ("at once", 1, &[], 0, &[], false),
-    ("one call", 1, ALONE, 1, TABLE_1, false),
     ("overtaken", 2, OVERTAKEN, 3, TABLE_1, false),
     ("stopped", 1, STOPS, 2, PRESS_3, true),
-    ("resumed", 1, RESUMES, 3, PRESS_3, false),
     ("abandoned", 1, ABANDONED, 1, TABLE_2, false),
-    ("abandoned late", 2, ABANDONED_LATE, 3, TABLE_1, false),
-    ("pending at the end", 1, &[TABLE_LOOKS], 0, &[], false),
 ];
 
 #[test]

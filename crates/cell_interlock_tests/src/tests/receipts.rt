@@ -6,7 +6,7 @@ ghost use Rattle.cell_rules.specs.Seen.{event};
 ghost use Rattle.cell_interlock.specs.Ends.{ArePassesOf};
 
 use super::closing::{PRESS_3, state_of};
-use cell_interlock::{Interlock, Look, Pass, Passes, Tried};
+use cell_interlock::{Interlock, Pass, Passes};
 use cell_rules::State;
 use cell_types::{Answer, Call, Machine, Refusal, Reply, Zone};
 use std::alloc::Global;
@@ -49,64 +49,6 @@ fn receipts_are_accepted(rt: HostRuntime) {
         panic!(rt; "no interlock");
     };
     assert!(rt; are_accepted(interlock, passes));
-}
-
-/// Whether calls after receipts find what these tell, whole and in steps, and a call that is asked
-/// until it is answered gives its answer and stamp.
-fn come_after(interlock: &Interlock, mut passes: Passes) -> bool
-    requires { ArePassesOf interlock.now passes }
-{
-    let claim = Call::Claim(Zone::Z3);
-    let claimed = interlock.settle(&mut passes.press, claim);
-    let receipt = interlock.receipt(&mut passes.press);
-    let refused = interlock.ask_after(&mut passes.robot, claim, receipt);
-    let receipt = interlock.receipt(&mut passes.robot);
-    let Look::Pending(pending) = interlock.look_after(passes.feed, Call::Claim(Zone::Z6), receipt)
-    else {
-        return false;
-    };
-    let Tried::Settled(answer, stamp, _) = interlock.attempt(pending) else {
-        return false;
-    };
-    claimed == (Answer::Done, 1) && refused == PRESS_HAS_IT && (answer, stamp) == (Answer::Done, 2)
-}
-
-#[test]
-fn calls_come_after_receipts(rt: HostRuntime) {
-    let opening = State::start([false; 10], 0).expect(&rt, "a start without plates");
-    let Ok((interlock, passes)) = Interlock::new(rt.alloc(), opening, 1) else {
-        panic!(rt; "no interlock");
-    };
-    assert!(rt; come_after(&interlock, passes));
-}
-
-/// Whether the second of two calls, made after a letter from the first, finds what the first did.
-fn is_told(interlock: &Interlock, mut passes: Passes) -> bool
-    requires { ArePassesOf interlock.now passes }
-{
-    let claim = Call::Claim(Zone::Z3);
-    let replies = interlock.tell(&mut passes.press, claim, &mut passes.robot, claim);
-    let next = interlock.tell(
-        &mut passes.table,
-        Call::Claim(Zone::Z1),
-        &mut passes.feed,
-        Call::Claim(Zone::Z6),
-    );
-    replies == (Reply::Settled(Answer::Done, 1), PRESS_HAS_IT)
-        && next
-            == (
-                Reply::Settled(Answer::Done, 2),
-                Reply::Settled(Answer::Done, 3),
-            )
-}
-
-#[test]
-fn callers_are_told(rt: HostRuntime) {
-    let opening = State::start([false; 10], 0).expect(&rt, "a start without plates");
-    let Ok((interlock, passes)) = Interlock::new(rt.alloc(), opening, 1) else {
-        panic!(rt; "no interlock");
-    };
-    assert!(rt; is_told(&interlock, passes));
 }
 
 /// Whether a caller in one thread hears of the other's call in another, and then gets a higher
