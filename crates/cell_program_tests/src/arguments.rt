@@ -5,7 +5,6 @@ use super::served::{SCRIPT, TEXT};
 use cell_program::start::start;
 use cell_shell::words_of;
 use std::alloc::Global;
-use std::io::ErrorKind;
 use std::sync::Wait;
 use std::thread::Threads;
 use test_doubles::Given;
@@ -20,13 +19,6 @@ const WORDS: &[(&[&[u8]], &[&str])] = &[
     (&[b"\xff"], &["cell"]),
     (&[], &["cell"]),
     (&[b"cell", b"", b"\xc3\xa9"], &["cell", "", "\u{e9}"]),
-];
-
-/// Arguments with a word after the name that isn't UTF-8.
-const NO_TEXT: &[&[&[u8]]] = &[
-    &[b"cell", b"\xff", b"sim"],
-    &[b"cell", b"sim", b"bad\xff"],
-    &[b"cell", b"\xed\xa0\x80"],
 ];
 
 /// Whether words are these.
@@ -54,21 +46,6 @@ fn is_read_as(alloc: Global, arguments: &[&[u8]], wanted: &[&str]) -> bool {
 fn reads_the_words_after_the_name(rt: HostRuntime) {
     for (arguments, wanted) in WORDS {
         assert!(rt; is_read_as(rt.alloc(), arguments, wanted), "{wanted:?}");
-    }
-}
-
-/// Whether arguments are refused because one of them isn't text.
-fn is_refused(alloc: Global, arguments: &[&[u8]]) -> bool {
-    match words_of(alloc, &Given { arguments }) {
-        Ok(_) => false,
-        Err(error) => error.kind() == ErrorKind::InvalidData,
-    }
-}
-
-#[test]
-fn refuses_words_that_are_no_text(rt: HostRuntime) {
-    for arguments in NO_TEXT {
-        assert!(rt; is_refused(rt.alloc(), arguments), "{arguments:?}");
     }
 }
 

@@ -25,13 +25,6 @@ fn judgement_of(alloc: Global, bytes: &[u8]) -> &'static str {
     }
 }
 
-/// Checks how each text is judged.
-fn are_judged(rt: &impl Abort, alloc: Global, rows: &[(&str, &str)]) {
-    for (text, wanted) in rows {
-        assert!(rt; judgement_of(alloc, text.as_bytes()) == *wanted, "{text}");
-    }
-}
-
 /// Checks how each text is judged after a good start.
 fn are_judged_beside_start(
     rt: &impl Abort,
@@ -75,25 +68,13 @@ const TEXTS: &[(&str, &str)] = &[
 
 #[test]
 fn refuses_texts(rt: HostRuntime) {
-    are_judged(&rt, rt.alloc(), TEXTS);
+    for (text, wanted) in TEXTS {
+        assert!(rt;
+            judgement_of(rt.alloc(), text.as_bytes()) == *wanted,
+            "{text}"
+        );
+    }
     assert!(rt; judgement_of(rt.alloc(), b"\xff") == "config text");
-}
-
-const LEVELS: &[(&str, &str)] = &[
-    ("tol = 3", "config unknown"),
-    ("raw = [0, 4000]", "config unknown"),
-    ("arm1.start = \"0000000000\"", "config unknown"),
-    ("points = [[0, 0], [4000, 1000]]", "config unknown"),
-    ("arm1.curve = [[0, 0], [4000, 1000]]", "config unknown"),
-    ("gripper.tol = 11\ngripper.stamp = 1", "config unknown"),
-    ("[lift]\ntol = 5", "config unknown"),
-    ("[arm1.arm2]\ntol = 5", "config unknown"),
-    ("arm1 = 3\ntol = 3", "config unknown"),
-];
-
-#[test]
-fn refuses_keys_at_wrong_levels(rt: HostRuntime) -> Result<(), Fail> {
-    Ok(are_judged_beside_start(&rt, rt.alloc(), LEVELS)?)
 }
 
 const VALUES: &[(&str, &str)] = &[
@@ -145,28 +126,6 @@ const VALUES: &[(&str, &str)] = &[
         "config range",
     ),
 ];
-
-#[test]
-fn refuses_values(rt: HostRuntime) -> Result<(), Fail> {
-    Ok(are_judged_beside_start(&rt, rt.alloc(), VALUES)?)
-}
-
-const FIRST: &[(&str, &str)] = &[
-    ("schedule = \"x\"\nstamp = -1", "config range"),
-    ("arm1 = 3\nschedule = \"x\"", "config letter"),
-    ("arm2 = 3\narm1.tol = 11", "config range"),
-    ("arm2.tol = 11\nrotation = 3", "config range"),
-    ("rotation.tol = \"5\"\nturn.tol = 11", "config kind"),
-    ("gripper = 3\nturn.tol = 11", "config range"),
-    ("gripper.tol = 11\nturn = 3", "config kind"),
-    ("arm1.tol = \"5\"\narm1.raw = [0, 999]", "config range"),
-    ("arm1.tol = 11\narm1.raw = [0]", "config kind"),
-];
-
-#[test]
-fn names_the_first_fault(rt: HostRuntime) -> Result<(), Fail> {
-    Ok(are_judged_beside_start(&rt, rt.alloc(), FIRST)?)
-}
 
 const LIMITS: &[(&str, &str)] = &[
     ("", "well"),
@@ -221,8 +180,11 @@ const FORMS: &[(&str, &str)] = &[
 ];
 
 #[test]
-fn reads_the_forms_of_toml(rt: HostRuntime) -> Result<(), Fail> {
-    Ok(are_judged_beside_start(&rt, rt.alloc(), FORMS)?)
+fn judges_what_stands_beside_a_start(rt: HostRuntime) -> Result<(), Fail> {
+    for rows in [VALUES, FORMS] {
+        are_judged_beside_start(&rt, rt.alloc(), rows)?;
+    }
+    Ok(())
 }
 
 /// The judgement of a value with this depth of nested arrays.

@@ -46,19 +46,6 @@ pub fn is_served<T: Threads + Wait + Sync>(
     is_answered(rt, alloc, words, &mut input.as_bytes(), status, text)
 }
 
-/// Whether the program answers these words and this input with status 0, and a text with this end.
-pub fn ends<T: Threads + Wait + Sync>(
-    rt: &T,
-    alloc: Global,
-    words: &[&str],
-    input: &str,
-    end: &str,
-) -> bool {
-    let mut written = Vec::new(alloc);
-    let answered = run(rt, alloc, words, &mut input.as_bytes(), &mut written);
-    answered == 0 && written.as_slice().ends_with(end.as_bytes())
-}
-
 /// The configuration that a reader gives, or its first fault; also without clauses.
 pub fn read<R: Read>(alloc: Global, reader: &mut R) -> Result<Config, ConfigFault> {
     read_config(alloc, reader)

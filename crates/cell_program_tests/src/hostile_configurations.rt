@@ -1,16 +1,14 @@
-//! Configurations as people and tools send them: other line ends and encodings, zero bytes, keys and
-//! sections given twice, values that are deep, texts that are long. What `cell sim` answers.
+//! Configurations as people and tools send them: other line ends and encodings, zero bytes, other
+//! formats. What `cell sim` answers.
 
 use super::doubles::run;
 use super::simulations::SIM;
-use std::alloc::{AllocError, Global};
-use std::process::Abort;
+use std::alloc::Global;
 use std::sync::Wait;
-use std::test::Fail;
 use std::thread::Threads;
 
 /// How a report begins if no place is full and the first stamp is 0.
-pub const NO_PLATES: &str = "version 2\nstart 0000000000 0\n";
+const NO_PLATES: &str = "version 2\nstart 0000000000 0\n";
 
 /// The report's first three lines if the feed belt's two turns find the interlock busy.
 const TWO_BUSY: &str =
@@ -34,26 +32,6 @@ fn says(status: u8, written: &[u8], wanted: &str) -> bool {
         Some(word) => status == 1 && word.strip_suffix("\n") == Some(wanted),
         None => status == 0 && text.starts_with(wanted) && text.ends_with("\naudit ok\n"),
     }
-}
-
-/// A good start and then this text.
-fn beside_start(alloc: Global, more: &str) -> Result<String, AllocError> {
-    let mut config = String::from_str(alloc, "start = \"0000000000\"\n")?;
-    config.push_str(more)?;
-    Ok(config)
-}
-
-/// Checks the fault of each text after a good start.
-pub fn are_told_beside_start<T: Abort + Threads + Wait + Sync>(
-    rt: &T,
-    alloc: Global,
-    rows: &[(&str, &str)],
-) -> Result<(), AllocError> {
-    for (more, wanted) in rows {
-        let config = beside_start(alloc, more)?;
-        assert!(rt; is_told(rt, alloc, config.as_bytes(), wanted), "{more}");
-    }
-    Ok(())
 }
 
 /// Whole configurations.
@@ -181,166 +159,4 @@ fn takes_what_is_sent(rt: HostRuntime) {
     for (config, wanted) in BYTES {
         assert!(rt; is_told(&rt, rt.alloc(), config, wanted), "{config:?}");
     }
-}
-
-/// Keys and sections, after a good start.
-const KEYS: &[(&str, &str)] = &[
-    // The same key twice, however it is written.
-    ("start = \"0000000000\"", "text"),
-    ("\"start\" = \"0000000000\"", "text"),
-    ("start.x = 1", "text"),
-    ("[start]", "text"),
-    ("stamp = 1\nstamp = 1", "text"),
-    ("'stamp' = 1\n\"st\\u0061mp\" = 1", "text"),
-    ("colour = 1\ncolour = 1", "text"),
-    ("turn.tol = 3\nturn.tol = 3", "text"),
-    ("turn = {tol = 3, tol = 3}", "text"),
-    ("[turn]\ntol = 3\ntol = 3", "text"),
-    // The same section twice.
-    ("[turn]\n[turn]", "text"),
-    ("[turn]\n[\"turn\"]", "text"),
-    (
-        "[turn]\ntol = 3\n[arm1]\ntol = 3\n[turn]\nraw = [0, 4000]",
-        "text",
-    ),
-    ("[turn]\n[[turn]]", "text"),
-    ("[[turn]]\n[turn]", "text"),
-    ("[[turn]]\n[[turn]]", "kind"),
-    ("turn = {}\nturn = {}", "text"),
-    // The same section with dots, in braces and with a head.
-    ("turn.tol = 3\nturn.raw = [0, 4000]", NO_PLATES),
-    (
-        "turn.tol = 3\nstamp = 1\nturn.raw = [0, 4000]",
-        "version 2\nstart 0000000000 1\n",
-    ),
-    ("turn = {tol = 3}\nturn.raw = [0, 4000]", "text"),
-    ("turn.tol = 3\nturn = {raw = [0, 4000]}", "text"),
-    ("turn.tol = 3\n[turn]", "text"),
-    ("turn = {tol = 3}\n[turn]", "text"),
-    ("turn = {}\n[turn.raw]", "text"),
-    ("turn = {}\n[[turn]]", "text"),
-    ("turn = 3\nturn.tol = 3", "text"),
-    ("turn = 3\n[turn]", "text"),
-    ("turn.tol = 3\nturn.tol.x = 3", "text"),
-    ("turn = {tol.x = 3, tol = 3}", "text"),
-    ("turn = {tol.x = 3, tol.y = 3}", "kind"),
-    (
-        "turn = {raw = [0, 4000], tol = 3, points = [[0, 0], [4000, 500]]}",
-        NO_PLATES,
-    ),
-    ("turn = {\r\n  tol = 3, # near\r\n}", NO_PLATES),
-    ("turn = {, tol = 3}", "text"),
-    ("turn = {tol = 3 raw = [0, 4000]}", "text"),
-    // Heads below heads.
-    ("[turn.tol]", "kind"),
-    ("[turn.tol]\n[turn]\nraw = [0, 4000]", "kind"),
-    ("[turn.tol]\n[turn]\ntol = 3", "text"),
-    ("[turn]\ntol = 3\n[turn.tol]", "text"),
-    ("[[turn.raw]]\n[[turn.raw]]", "kind"),
-    ("[[turn.points]]", "kind"),
-    ("[turn.lift]", "unknown"),
-    ("turn.lift.tol = 3", "unknown"),
-    ("turn.tol.lift = 3", "kind"),
-    ("arm1 = 3", "kind"),
-    ("stamp.x = 1", "kind"),
-    ("[stamp]", "kind"),
-    ("[schedule.p]", "kind"),
-    ("[[schedule]]", "kind"),
-    // Keys that only look alike.
-    ("\"turn.tol\" = 3", "unknown"),
-    ("turn . \"tol\" = 3", NO_PLATES),
-    ("Turn.tol = 3", "unknown"),
-    ("turn.Tol = 3", "unknown"),
-    ("arm3.tol = 3", "unknown"),
-    ("\" stamp\" = 1", "unknown"),
-    ("version = 2", "unknown"),
-    ("\"\" = 1", "unknown"),
-    ("turn.\"\" = 1", "unknown"),
-    ("= 1", "text"),
-    ("turn. = 3", "text"),
-    (".turn = 3", "text"),
-    // After a head a key belongs to its section.
-    ("[turn]\nstamp = 1", "unknown"),
-    ("[turn]\nschedule = \"p\"", "unknown"),
-    ("[turn]\nturn.tol = 3", "unknown"),
-    ("[turn] # near\ntol = 3", NO_PLATES),
-    ("[turn] tol = 3", "text"),
-    ("[turn", "text"),
-    ("[turn]]", "text"),
-    ("[[turn]", "text"),
-    ("[]", "text"),
-];
-
-#[test]
-fn takes_keys_and_sections(rt: HostRuntime) -> Result<(), Fail> {
-    Ok(are_told_beside_start(&rt, rt.alloc(), KEYS)?)
-}
-
-/// A text that is made: its first part, a part and how often it comes, a middle, and a part that comes
-/// as often after it.
-type Made = (
-    &'static str,
-    &'static str,
-    usize,
-    &'static str,
-    &'static str,
-);
-
-/// After a good start: values and keys that are deep.
-const MADE: &[(Made, &str)] = &[
-    (("arm1.raw = ", "[", 80, "", "]"), "kind"),
-    (("arm1.raw = ", "[", 81, "", "]"), "text"),
-    (("arm1.raw = ", "[", 10_000, "", "]"), "text"),
-    (("arm1.raw = ", "[", 10_000, "", ""), "text"),
-    (("colour = ", "[", 80, "1", "]"), "unknown"),
-    (("colour = ", "[", 81, "1", "]"), "text"),
-    (("arm1 = ", "{tol = ", 80, "1", "}"), "kind"),
-    (("arm1 = ", "{tol = ", 81, "1", "}"), "text"),
-    (("arm1 = ", "{tol = ", 10_000, "1", "}"), "text"),
-    (("arm1.raw = ", "[{raw = ", 40, "1", "}]"), "kind"),
-    (("arm1.raw = ", "[{raw = ", 40, "[]", "}]"), "text"),
-    (("arm1", ".tol", 79, " = 1", ""), "kind"),
-    (("arm1", ".tol", 80, " = 1", ""), "text"),
-    (("arm1", ".tol", 10_000, " = 1", ""), "text"),
-    (("[arm1", ".tol", 79, "]", ""), "kind"),
-    (("[arm1", ".tol", 80, "]", ""), "text"),
-    (("[[arm1", ".tol", 79, "]]", ""), "kind"),
-    (("[[arm1", ".tol", 80, "]]", ""), "text"),
-];
-
-/// Adds a part a number of times.
-fn push_times(config: &mut String, part: &str, count: usize) -> Result<(), AllocError> {
-    for _ in 0..count {
-        config.push_str(part)?;
-    }
-    Ok(())
-}
-
-/// The text that is made, after a good start.
-fn text_of_parts(alloc: Global, parts: &Made) -> Result<String, AllocError> {
-    let (first, part, count, middle, last) = *parts;
-    let mut config = beside_start(alloc, first)?;
-    push_times(&mut config, part, count)?;
-    config.push_str(middle)?;
-    push_times(&mut config, last, count)?;
-    Ok(config)
-}
-
-/// Whether what `cell sim` says of a text that is made is this.
-fn is_made_told<T: Threads + Wait + Sync>(
-    rt: &T,
-    alloc: Global,
-    parts: &Made,
-    wanted: &str,
-) -> Result<bool, AllocError> {
-    let config = text_of_parts(alloc, parts)?;
-    Ok(is_told(rt, alloc, config.as_bytes(), wanted))
-}
-
-#[test]
-fn takes_deep_values(rt: HostRuntime) -> Result<(), Fail> {
-    for (parts, wanted) in MADE {
-        assert!(rt; is_made_told(&rt, rt.alloc(), parts, wanted)?, "{parts:?}");
-    }
-    Ok(())
 }

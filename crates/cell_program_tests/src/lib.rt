@@ -18,13 +18,7 @@ mod gates;
 #[cfg(test)]
 mod hostile_configurations;
 #[cfg(test)]
-mod lines_as_curves;
-#[cfg(test)]
-mod measured_curves;
-#[cfg(test)]
 mod memory;
-#[cfg(test)]
-mod numbers;
 #[cfg(test)]
 mod reports;
 #[cfg(test)]

@@ -50,29 +50,6 @@ stamp 0 plates 0 stopped 0
 audit ok
 ";
 
-/// The report if the watch stops the cell before the press's first turn, and doesn't resume it.
-pub const STOP: &str = "\
-version 2
-start 0000000000 0
-feed turns 0 done 0 read 0 refused 0 busy 0 ok
-table turns 0 done 0 read 0 refused 0 busy 0 ok
-robot turns 0 done 0 read 0 refused 0 busy 0 ok
-press turns 1 done 0 read 0 refused 1 busy 0 ok
-deposit turns 0 done 0 read 0 refused 0 busy 0 ok
-crane turns 0 done 0 read 0 refused 0 busy 0 ok
-watch turns 1 done 1 read 0 refused 0 busy 0 ok
-zone z1 free 0 closed
-zone z2 free 0 closed
-zone z3 free 0 closed
-zone z4 free 0 closed
-zone z5 free 0 closed
-zone z6 free 0 closed
-places 0000000000
-axes press 1000 arm1 0 arm2 0 rotation 300 lift 0 turn 0 crane 0 gripper 900
-stamp 1 plates 0 stopped 1
-audit ok
-";
-
 /// The report if the watch stops the cell and resumes it, each before a turn of the press.
 pub const STOP_AND_RESUME: &str = "\
 version 2
@@ -185,30 +162,6 @@ zone z6 free 0 closed
 places 0000000000
 axes press 1000 arm1 0 arm2 0 rotation 300 lift 0 turn 0 crane 0 gripper 900
 stamp 1048575 plates 0 stopped 0
-audit ok
-";
-
-/// The report after 10,000 turns each of table and press, one after the other. Both wait for the
-/// robot, the table from its 37th turn on, the press from its 31st.
-pub const LONG: &str = "\
-version 2
-start 0010000000 0
-feed turns 0 done 0 read 0 refused 0 busy 0 ok
-table turns 10000 done 5 read 0 refused 9964 busy 0 ok
-robot turns 0 done 0 read 0 refused 0 busy 0 ok
-press turns 10000 done 4 read 0 refused 9970 busy 0 ok
-deposit turns 0 done 0 read 0 refused 0 busy 0 ok
-crane turns 0 done 0 read 0 refused 0 busy 0 ok
-watch turns 0 done 0 read 0 refused 0 busy 0 ok
-zone z1 table 0 closed
-zone z2 robot 1 openout
-zone z3 free 0 openin
-zone z4 free 0 closed
-zone z5 free 0 closed
-zone z6 free 0 closed
-places 0000000000
-axes press 500 arm1 0 arm2 0 rotation 300 lift 600 turn 500 crane 0 gripper 900
-stamp 9 plates 1 stopped 0
 audit ok
 ";
 
@@ -325,99 +278,6 @@ zone z6 feed 0 openin
 places 1000000000
 axes press 1000 arm1 0 arm2 0 rotation 300 lift 0 turn 0 crane 2000 gripper 860
 stamp 6 plates 1 stopped 0
-audit ok
-";
-
-/// The report if one plate has gone once round the cell, and no machine has waited.
-pub const CARRIED_ROUND: &str = "\
-version 2
-start 1000000000 0
-feed turns 62 done 10 read 0 refused 0 busy 0 ok
-table turns 76 done 13 read 0 refused 0 busy 0 ok
-robot turns 527 done 8 read 3 refused 0 busy 0 ok
-press turns 144 done 15 read 0 refused 0 busy 0 ok
-deposit turns 61 done 9 read 0 refused 0 busy 0 ok
-crane turns 342 done 4 read 1 refused 0 busy 0 ok
-watch turns 0 done 0 read 0 refused 0 busy 0 ok
-zone z1 free 0 openin
-zone z2 table 0 closed
-zone z3 free 0 openin
-zone z4 deposit 0 closed
-zone z5 free 0 openout
-zone z6 feed 0 openin
-places 1000000000
-axes press 500 arm1 20 arm2 20 rotation 320 lift 0 turn 0 crane 0 gripper 860
-stamp 59 plates 1 stopped 0
-audit ok
-";
-
-/// The report if one plate has gone once round, and the first arm and the gripper have lines of their
-/// own, by which they stop elsewhere.
-pub const LINES_OF_THEIR_OWN: &str = "\
-version 2
-start 1000000000 0
-feed turns 62 done 10 read 0 refused 0 busy 0 ok
-table turns 76 done 13 read 0 refused 0 busy 0 ok
-robot turns 527 done 8 read 6 refused 0 busy 0 ok
-press turns 144 done 15 read 0 refused 0 busy 0 ok
-deposit turns 61 done 9 read 0 refused 0 busy 0 ok
-crane turns 342 done 4 read 1 refused 0 busy 0 ok
-watch turns 0 done 0 read 0 refused 0 busy 0 ok
-zone z1 free 0 openin
-zone z2 table 0 closed
-zone z3 free 0 openin
-zone z4 deposit 0 closed
-zone z5 free 0 openout
-zone z6 feed 0 openin
-places 1000000000
-axes press 500 arm1 40 arm2 20 rotation 320 lift 0 turn 0 crane 40 gripper 880
-stamp 59 plates 1 stopped 0
-audit ok
-";
-
-/// The report if four plates have gone round in 20,000 turns, taken one after another.
-pub const FOUR_PLATES: &str = "\
-version 2
-start 1010100010 0
-feed turns 3334 done 56 read 0 refused 2948 busy 0 ok
-table turns 3334 done 52 read 0 refused 2879 busy 0 ok
-robot turns 3333 done 47 read 257 refused 0 busy 0 ok
-press turns 3333 done 66 read 0 refused 2674 busy 0 ok
-deposit turns 3333 done 52 read 0 refused 2969 busy 0 ok
-crane turns 3333 done 24 read 7 refused 1383 busy 0 ok
-watch turns 0 done 0 read 0 refused 0 busy 0 ok
-zone z1 table 0 closed
-zone z2 table 0 openout
-zone z3 robot 0 openin
-zone z4 deposit 0 closed
-zone z5 crane 1 openout
-zone z6 feed 0 moving
-places 1011000000
-axes press 500 arm1 360 arm2 20 rotation 1480 lift 600 turn 500 crane 1640 gripper 860
-stamp 297 plates 4 stopped 0
-audit ok
-";
-
-/// The report if five machines with a plate each wait for one another, in a ring.
-pub const STANDSTILL: &str = "\
-version 2
-start 1011101010 0
-feed turns 400 done 3 read 0 refused 351 busy 0 ok
-table turns 400 done 4 read 0 refused 365 busy 0 ok
-robot turns 400 done 4 read 1 refused 63 busy 0 ok
-press turns 400 done 11 read 0 refused 311 busy 0 ok
-deposit turns 400 done 11 read 0 refused 337 busy 0 ok
-crane turns 400 done 2 read 2 refused 216 busy 0 ok
-watch turns 0 done 0 read 0 refused 0 busy 0 ok
-zone z1 table 0 closed
-zone z2 table 0 openout
-zone z3 free 0 openin
-zone z4 deposit 0 closed
-zone z5 deposit 0 openout
-zone z6 feed 0 closed
-places 0111001011
-axes press 500 arm1 0 arm2 20 rotation 1780 lift 600 turn 500 crane 2000 gripper 860
-stamp 35 plates 6 stopped 0
 audit ok
 ";
 

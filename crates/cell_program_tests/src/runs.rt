@@ -1,6 +1,6 @@
 //! Runs by six workers: configurations, the reports of their runs, and exit statuses.
 
-use super::doubles::{ends, is_served};
+use super::doubles::is_served;
 use super::reports::{EMPTY, SIX_WORKERS};
 
 const RUN: &[&str] = &["cell", "run", "--turns", "3", "--tries", "64"];
@@ -32,24 +32,6 @@ fn runs_and_reports(rt: HostRuntime) {
     for (words, config, status, text) in RUNS {
         assert!(rt;
             is_served(&rt, rt.alloc(), words, config, *status, text),
-            "{config}"
-        );
-    }
-}
-
-// In whichever order the workers take turns, none is stopped, and their journals give one legal
-// history.
-const STARTS: &[&str] = &[
-    "start = \"0000000000\"",
-    "start = \"1010100010\"",
-    "start = \"1111010010\"",
-];
-
-#[test]
-fn audits_long_runs(rt: HostRuntime) {
-    for config in STARTS {
-        assert!(rt;
-            ends(&rt, rt.alloc(), &["cell", "run"], config, "\naudit ok\n"),
             "{config}"
         );
     }
