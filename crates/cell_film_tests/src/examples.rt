@@ -38,13 +38,6 @@ pub const TABLE: Example = Example {
     others: "",
 };
 
-/// `examples/both.toml`
-pub const BOTH: Example = Example {
-    start: "0010100000",
-    schedule: &[(2, "TPtptptptptptptptptptp"), (16, "tp"), (23, "p")],
-    others: "",
-};
-
 /// `examples/stop_and_resume.toml`
 pub const STOP_AND_RESUME: Example = Example {
     start: "0010100000",
@@ -56,13 +49,6 @@ pub const STOP_AND_RESUME: Example = Example {
 pub const CARRIED_ROUND: Example = Example {
     start: "1000000000",
     schedule: ONE_ROUND,
-    others: "",
-};
-
-/// `examples/four_plates.toml`
-pub const FOUR_PLATES: Example = Example {
-    start: "1010100010",
-    schedule: &[(1000, "ftrpdc")],
     others: "",
 };
 
@@ -78,19 +64,6 @@ pub const STANDSTILL: Example = Example {
     start: "1011101010",
     schedule: &[(400, "ftrpdc")],
     others: "",
-};
-
-/// `examples/measured_curves.toml`
-pub const MEASURED_CURVES: Example = Example {
-    start: "1000000000",
-    schedule: ONE_ROUND,
-    others: "\
-arm1 = { tol = 10, points = [[0, 0], [80, 29], [160, 31], [3200, 809], [4000, 1000]] }
-arm2 = { tol = 10, points = [[0, 9], [2400, 591], [4000, 1000]] }
-rotation = { tol = 10, points = [[0, 9], [600, 309], [1200, 591], [2900, 1459], [4000, 2000]] }
-turn = { tol = 10, points = [[0, 0], [80, 19], [2000, 241], [4000, 491]] }
-gripper = { tol = 10, points = [[0, 0], [1000, 241], [3440, 851], [3600, 891], [4000, 1000]] }
-",
 };
 
 /// `examples/rounded_down.toml`
@@ -148,13 +121,6 @@ pub const BUSY: Example = Example {
 pub const NO_TURN: Example = Example {
     start: "0000000000",
     schedule: &[],
-    others: "",
-};
-
-/// The robot comes to the press with a plate while the press has its interior.
-pub const HELD_PRESS: Example = Example {
-    start: "0001000000",
-    schedule: &[(2, "p"), (62, "r")],
     others: "",
 };
 

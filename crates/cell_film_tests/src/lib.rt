@@ -22,5 +22,3 @@ mod pages;
 mod pictures;
 #[cfg(test)]
 mod served;
-#[cfg(test)]
-mod sights;

@@ -1,10 +1,9 @@
 //! The lines of the examples are those that plain Rust writes.
 
 use super::examples::{
-    BOTH, BUSY, CARRIED_ROUND, Example, FOUR_PLATES, MEASURED_CURVES, PRESS, ROUNDED_DOWN,
-    STANDSTILL, STOP_AND_RESUME, TABLE, THREE_PLATES, config_text,
+    BUSY, CARRIED_ROUND, Example, PRESS, ROUNDED_DOWN, TABLE, THREE_PLATES, config_text,
 };
-use super::expected::{BOTH_LINES, BUSY_LINES, PRESS_LINES, STOP_AND_RESUME_LINES, TABLE_LINES};
+use super::expected::{BUSY_LINES, PRESS_LINES, TABLE_LINES};
 use cell_config::read_config;
 use cell_film::lines_configured;
 use std::alloc::Global;
@@ -20,19 +19,8 @@ pub fn lines_of(alloc: Global, example: &Example) -> Result<String, Fail> {
 const WHOLE: &[(&Example, &str)] = &[
     (&PRESS, PRESS_LINES),
     (&TABLE, TABLE_LINES),
-    (&BOTH, BOTH_LINES),
-    (&STOP_AND_RESUME, STOP_AND_RESUME_LINES),
     (&BUSY, BUSY_LINES),
 ];
-
-#[test]
-fn tells_the_shorter_examples(rt: HostRuntime) -> Result<(), Fail> {
-    for (example, wanted) in WHOLE {
-        let lines = lines_of(rt.alloc(), example)?;
-        assert!(rt; lines.as_str() == *wanted, "{lines}");
-    }
-    Ok(())
-}
 
 /// What is compared of longer lines.
 pub struct Figures {
@@ -70,39 +58,12 @@ const LONGER: &[(&Example, Figures)] = &[
         },
     ),
     (
-        &FOUR_PLATES,
-        Figures {
-            lines: 6001,
-            bytes: 48358,
-            checksum: 0xcde187f47579ada7,
-            last: "c",
-        },
-    ),
-    (
         &THREE_PLATES,
         Figures {
             lines: 7699,
             bytes: 67889,
             checksum: 0xb1215fb24a72522e,
             last: "c;travel to deposit;;;;",
-        },
-    ),
-    (
-        &STANDSTILL,
-        Figures {
-            lines: 2401,
-            bytes: 18015,
-            checksum: 0x5cb4ca3d1845bb6e,
-            last: "c",
-        },
-    ),
-    (
-        &MEASURED_CURVES,
-        Figures {
-            lines: 1213,
-            bytes: 23878,
-            checksum: 0xb99aeb446a1bd690,
-            last: "f;start in;take z6;done;3b006380c030;0,,0",
         },
     ),
     (
@@ -117,7 +78,11 @@ const LONGER: &[(&Example, Figures)] = &[
 ];
 
 #[test]
-fn tells_the_longer_examples(rt: HostRuntime) -> Result<(), Fail> {
+fn tells_the_examples(rt: HostRuntime) -> Result<(), Fail> {
+    for (example, wanted) in WHOLE {
+        let lines = lines_of(rt.alloc(), example)?;
+        assert!(rt; lines.as_str() == *wanted, "{lines}");
+    }
     for (example, figures) in LONGER {
         let lines = lines_of(rt.alloc(), example)?;
         assert!(rt; has_figures(&lines, figures), "{} lines", figures.lines);
