@@ -159,20 +159,11 @@ const NO_TOML: &[(&[u8], &str)] = &[
 
 #[test]
 fn explains_configurations(rt: HostRuntime) {
-    for (text, wanted) in ROWS {
-        assert!(rt; is_explained(rt.alloc(), text.as_bytes(), wanted), "{text}");
+    for rows in [ROWS, LETTERS] {
+        for (text, wanted) in rows {
+            assert!(rt; is_explained(rt.alloc(), text.as_bytes(), wanted), "{text}");
+        }
     }
-}
-
-#[test]
-fn explains_schedules(rt: HostRuntime) {
-    for (text, wanted) in LETTERS {
-        assert!(rt; is_explained(rt.alloc(), text.as_bytes(), wanted), "{text}");
-    }
-}
-
-#[test]
-fn explains_texts_that_are_no_toml(rt: HostRuntime) {
     for (text, wanted) in NO_TOML {
         assert!(rt; is_explained(rt.alloc(), text, wanted), "{wanted}");
     }

@@ -47,25 +47,16 @@ fn text_of(alloc: Global, input: &Input) -> Result<String, AllocError> {
 }
 
 #[test]
-fn explains_long_scripts(rt: HostRuntime) -> Result<(), AllocError> {
+fn explains_long_inputs(rt: HostRuntime) -> Result<(), AllocError> {
     for (input, wanted) in SCRIPTS {
         let script = text_of(rt.alloc(), input)?;
-        assert!(rt;
-            is_script_explained(rt.alloc(), script.as_bytes(), wanted),
-            "{input:?}"
-        );
+        let is_right = is_script_explained(rt.alloc(), script.as_bytes(), wanted);
+        assert!(rt; is_right, "{input:?}");
     }
-    Ok(())
-}
-
-#[test]
-fn explains_long_configurations(rt: HostRuntime) -> Result<(), AllocError> {
     for (input, wanted) in CONFIGURATIONS {
         let config = text_of(rt.alloc(), input)?;
-        assert!(rt;
-            is_config_explained(rt.alloc(), config.as_bytes(), wanted),
-            "{input:?}"
-        );
+        let is_right = is_config_explained(rt.alloc(), config.as_bytes(), wanted);
+        assert!(rt; is_right, "{input:?}");
     }
     Ok(())
 }

@@ -1,6 +1,6 @@
 //! Scripts as people write them.
 
-use cell_explain::{ExplainFault, Verdict, explain_script};
+use cell_explain::{Verdict, explain_script};
 use std::alloc::Global;
 
 /// Scripts, each with its explanation; empty for one that isn't refused.
@@ -307,25 +307,6 @@ const BYTES: &[(&[u8], &str)] = &[
     ),
 ];
 
-#[test]
-fn explains_scripts(rt: HostRuntime) {
-    for (script, wanted) in ROWS {
-        let mut reader = script.as_bytes();
-        let mut written = Vec::new(rt.alloc());
-        let verdict: Result<Verdict, ExplainFault> = explain_script(
-            rt.alloc(),
-            &mut reader,
-            &mut written,
-        );
-        let is_silent = verdict == Ok(Verdict::Taken);
-        assert!(rt;
-            verdict.is_ok() && is_silent == wanted.is_empty(),
-            "{script}"
-        );
-        assert!(rt; written.as_slice() == wanted.as_bytes(), "{script}");
-    }
-}
-
 /// Whether a script gets this explanation; empty for one that isn't refused.
 pub fn is_explained(alloc: Global, script: &[u8], wanted: &str) -> bool {
     let mut reader = script;
@@ -336,36 +317,16 @@ pub fn is_explained(alloc: Global, script: &[u8], wanted: &str) -> bool {
 }
 
 #[test]
-fn tells_the_line(rt: HostRuntime) {
-    for (script, wanted) in LINES {
-        assert!(rt; is_explained(rt.alloc(), script, wanted), "{wanted}");
+fn explains_scripts(rt: HostRuntime) {
+    for (script, wanted) in ROWS {
+        assert!(rt;
+            is_explained(rt.alloc(), script.as_bytes(), wanted),
+            "{script}"
+        );
     }
-}
-
-#[test]
-fn explains_starts(rt: HostRuntime) {
-    for (script, wanted) in STARTS {
-        assert!(rt; is_explained(rt.alloc(), script, wanted), "{wanted}");
-    }
-}
-
-#[test]
-fn explains_calls(rt: HostRuntime) {
-    for (script, wanted) in CALLS {
-        assert!(rt; is_explained(rt.alloc(), script, wanted), "{wanted}");
-    }
-}
-
-#[test]
-fn tells_what_catches_the_eye(rt: HostRuntime) {
-    for (script, wanted) in LOOKS {
-        assert!(rt; is_explained(rt.alloc(), script, wanted), "{wanted}");
-    }
-}
-
-#[test]
-fn explains_other_bytes(rt: HostRuntime) {
-    for (script, wanted) in BYTES {
-        assert!(rt; is_explained(rt.alloc(), script, wanted), "{wanted}");
+    for rows in [LINES, STARTS, CALLS, LOOKS, BYTES] {
+        for (script, wanted) in rows {
+            assert!(rt; is_explained(rt.alloc(), script, wanted), "{wanted}");
+        }
     }
 }
