@@ -1,8 +1,10 @@
 //! The programs of the READMEs.
 
+use plan_bytes::{read_tables, write_tables};
 use plan_rules::{State, apply};
 use plan_types::{Answer, Call, Plan, PlanFault, Refusal, examples};
 use plan_word::{Layout, pack, stamp_of, step_word, unpack};
+use std::test::Fail;
 
 #[test]
 fn a_zone_has_two_parties(rt: HostRuntime) {
@@ -47,4 +49,17 @@ fn a_press_claims_on_a_word(rt: HostRuntime) {
     assert!(rt; claimed == Some((Answer::Done, 0xA1)));
     assert!(rt; stamp_of(&layout, 0xA1) == 1 && unpack(&plan, &layout, 0xA1).is_some());
     assert!(rt; unpack(&plan, &layout, 0xA3).is_none());
+}
+
+#[test]
+fn plans_read_back(rt: HostRuntime) -> Result<(), Fail> {
+    let press = examples::press(rt.alloc())?;
+    let bytes = write_tables(rt.alloc(), &press)?;
+    assert_eq!(rt; bytes.len(), 62);
+    let again = read_tables(rt.alloc(), &bytes)?.ok_or("no tables")?;
+    assert!(rt; write_tables(rt.alloc(), &again)?.as_slice() == bytes.as_slice());
+    for length in 0..bytes.len() {
+        assert!(rt; read_tables(rt.alloc(), &bytes[..length])?.is_none());
+    }
+    Ok(())
 }

@@ -1,16 +1,13 @@
-//! Tests of plans, of their interlock, their words and bytes, and of the cell's plan, by public calls only.
+//! Tests of plans, of their interlock, their words and bytes, and of the cell's plan, by public calls
+//! only.
 #![tactic(auto)]
 
 #[cfg(test)]
-mod bytes;
-#[cfg(test)]
-mod cell_walks;
+mod cell;
 #[cfg(test)]
 mod examples;
 #[cfg(test)]
 mod runs;
-#[cfg(test)]
-mod walks;
 #[cfg(test)]
 mod word_calls;
 #[cfg(test)]

@@ -1,53 +1,9 @@
-//! Words of the press and of the lift, one bit flipped, and the words of the largest plan.
+//! The widths of words, and the words of the largest plan.
 
 use plan_rules::State;
-use plan_types::{Answer, Call, Plan, PlanFault, PlanZone, Posture, Tables, WATCH, examples};
+use plan_types::{Answer, Call, Plan, PlanFault, PlanZone, Posture, Tables, WATCH};
 use plan_word::{Layout, pack, stamp_of, step_word, unpack};
 use std::alloc::{AllocError, Global};
-
-// The loader has given its plate to the press, which owns the zone.
-const GIVEN: u64 = 0x295;
-
-// The zone may become clear (bit 2), the loader get a plate (5), the stamp another (7 to 26), and the plant stop (27).
-// There is no code 3, no plate without a receiver, and none onto a full place.
-const PRESS_BITS: [u8; 23] = [
-    2, 5, 7, 8, 9, 10, 11, 12, 13, 14, 15, 16, 17, 18, 19, 20, 21, 22, 23, 24, 25, 26, 27,
-];
-
-// The lift has given its plate to the upper floor, which owns the upper zone. The lift owns the lower one.
-const LIFTED: u64 = 0x143C1;
-
-// The lower zone may be free (bit 0), move (3), or be open inward (4); the upper one become clear (7), and the lift and
-// the lower floor get a plate (10, 11); then the stamp (13 to 32) and the stop (33).
-const LIFT_BITS: [u8; 27] = [
-    0, 3, 4, 7, 10, 11, 13, 14, 15, 16, 17, 18, 19, 20, 21, 22, 23, 24, 25, 26, 27, 28, 29, 30, 31,
-    32, 33,
-];
-
-/// How many words of states come from a word by flipping one bit, if each flips a bit of the list.
-fn flips(plan: &Plan, word: u64, bits: &[u8]) -> Option<usize> {
-    let layout = Layout::of(plan);
-    let mut states = 0_usize;
-    for bit in 0_u8..64 {
-        if unpack(plan, &layout, word ^ 1 << bit).is_some() {
-            if !bits.contains(&bit) {
-                return None;
-            }
-            states = states.saturating_add(1);
-        }
-    }
-    Some(states)
-}
-
-#[test]
-fn a_flipped_bit_tells_a_state_or_none(rt: HostRuntime) {
-    let press = examples::press(rt.alloc()).expect(&rt, "memory");
-    let press = Plan::new(press).expect(&rt, "a plan");
-    assert!(rt; flips(&press, GIVEN, &PRESS_BITS) == Some(23));
-    let lift = examples::lift(rt.alloc()).expect(&rt, "memory");
-    let lift = Plan::new(lift).expect(&rt, "a plan");
-    assert!(rt; flips(&lift, LIFTED, &LIFT_BITS) == Some(27));
-}
 
 /// Tables of two machines with some zones and some places.
 fn tables_of(alloc: Global, zones: u8, places: u8) -> Result<Tables, AllocError> {
