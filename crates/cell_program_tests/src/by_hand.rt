@@ -1,12 +1,14 @@
-//! A simulation and a run by six workers, made by the program's own calls, but with closures from
-//! here.
+//! The literal simulations, and a run by six workers, made by the program's own calls, but with
+//! closures from here.
 
 ghost use Rattle.cell_config.specs.Configured.{AreAxisScales};
 ghost use Rattle.cell_configured.specs.Gauges.{scales_by_points};
 ghost use Rattle.cell_parts.specs.Axes.{AreCellScales};
 ghost use Rattle.cell_rules.specs.Start.{IsStartState};
 
-use super::reports::{EMPTY, PRESS, PRESS_REPORT, SIX_WORKERS};
+use super::reports::{EMPTY, SIX_WORKERS};
+use super::simulations::REPORTS;
+use super::six_machines::{RUNS, config_of};
 use cell_calib::{Calibration, Gauge, line_at};
 use cell_config::{Config, read_config};
 use cell_configured::CellPoints;
@@ -16,6 +18,7 @@ use cell_report::{audit, write_report};
 use cell_workers::{OpenGate, run_cell};
 use std::alloc::Global;
 use std::sync::Wait;
+use std::test::Fail;
 use std::thread::Threads;
 
 /// How a cell is run.
@@ -117,14 +120,17 @@ fn has_report<T: Threads + Wait + Sync>(
     }
 }
 
-const REPORTS: &[(&str, Way, &str)] = &[
-    (PRESS, Way::Simulated, PRESS_REPORT),
-    (EMPTY, Way::Run, SIX_WORKERS),
-];
-
 #[test]
-fn goes_with_closures_of_its_own(rt: HostRuntime) {
-    for (config, way, text) in REPORTS {
-        assert!(rt; has_report(&rt, rt.alloc(), config, *way, text), "{config}");
+fn goes_with_closures_of_its_own(rt: HostRuntime) -> Result<(), Fail> {
+    for (config, text) in REPORTS {
+        let is_right = has_report(&rt, rt.alloc(), config, Way::Simulated, text);
+        assert!(rt; is_right, "{config}");
     }
+    for (start, runs, text) in RUNS {
+        let config = config_of(rt.alloc(), start, runs)?;
+        let is_right = has_report(&rt, rt.alloc(), config.as_str(), Way::Simulated, text);
+        assert!(rt; is_right, "{start}");
+    }
+    assert!(rt; has_report(&rt, rt.alloc(), EMPTY, Way::Run, SIX_WORKERS));
+    Ok(())
 }

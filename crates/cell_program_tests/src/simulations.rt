@@ -13,7 +13,7 @@ use std::thread::Threads;
 pub const SIM: &[&str] = &["cell", "sim"];
 
 /// Runs that go well, with their reports.
-const REPORTS: &[(&str, &str)] = &[
+pub const REPORTS: &[(&str, &str)] = &[
     ("start = \"0000000000\"", STILL),
     (
         "start = \"0000000000\"\nschedule = \"ftrpdcFTRPDC\"",

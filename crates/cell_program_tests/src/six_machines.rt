@@ -7,10 +7,10 @@ use std::alloc::{AllocError, Global};
 use std::test::Fail;
 
 /// A schedule: letters, and how often each text of them comes in a row.
-type Runs<'a> = &'a [(usize, &'a str)];
+pub type Runs<'a> = &'a [(usize, &'a str)];
 
 /// Starts and schedules, with the reports of their runs.
-const RUNS: &[(&str, Runs<'static>, &str)] = &[
+pub const RUNS: &[(&str, Runs<'static>, &str)] = &[
     (
         "0100000000",
         &[(6, "t"), (11, "f"), (1, "t")],
@@ -29,7 +29,7 @@ const RUNS: &[(&str, Runs<'static>, &str)] = &[
 ];
 
 /// The configuration of a start and of these runs.
-fn config_of(alloc: Global, start: &str, runs: Runs<'_>) -> Result<String, AllocError> {
+pub fn config_of(alloc: Global, start: &str, runs: Runs<'_>) -> Result<String, AllocError> {
     let mut schedule = String::new(alloc);
     for (count, letters) in runs {
         for _ in 0..*count {

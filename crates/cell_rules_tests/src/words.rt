@@ -1,8 +1,8 @@
 //! States as words, masks of calls, and calls on words. Each word was worked out by hand from the
 //! layout and the rules.
 
-use cell_rules::{State, apply};
-use cell_types::{Answer, Call, Machine, Pose, Refusal, Zone};
+use cell_rules::{State, ZoneState, apply};
+use cell_types::{Answer, Call, Machine, Pose, Posture, Refusal, Zone};
 use cell_word::{masks, pack, step_word, unpack};
 
 const EMPTY: [bool; 10] = [false; 10];
@@ -93,6 +93,20 @@ fn is_marked(word: u64, stopped: Option<bool>) -> bool {
     }
 }
 
+// The table has its entry open inward, and a plate is in it.
+const GIVEN: ZoneState = ZoneState {
+    owner: Some(Machine::Table),
+    flag: true,
+    posture: Posture::OpenIn,
+};
+
+fn gives_the_table(word: u64) -> bool {
+    match unpack(word) {
+        Some(state) => state.zone(Zone::Z1) == GIVEN && state.stamp() == 0,
+        None => false,
+    }
+}
+
 #[test]
 fn words_of_states(rt: HostRuntime) {
     for (places, calls, count, wanted) in WORDS {
@@ -101,6 +115,7 @@ fn words_of_states(rt: HostRuntime) {
     for (word, stopped) in MARKED {
         assert!(rt; is_marked(*word, *stopped), "{word}");
     }
+    assert!(rt; gives_the_table(0x0000_0000_0000_0015));
 }
 
 const STOPPED: Answer = Answer::Refused(Refusal::Stopped);
@@ -131,6 +146,36 @@ const STEPS: &[(u64, Machine, Call, Answer, u64)] = &[
         Call::Give(Zone::Z3),
         Answer::Refused(Refusal::PlaceFull),
         0x0000_0006_0000_4800,
+    ),
+    // the robot has the zone already, and the press can't have it; while it is closed the robot can't
+    (
+        0x0000_0500_0000_4800,
+        Machine::Robot,
+        Call::Claim(Zone::Z3),
+        Answer::Refused(Refusal::AlreadyMine),
+        0x0000_0500_0000_4800,
+    ),
+    (
+        0x0000_0500_0000_4800,
+        Machine::Press,
+        Call::Claim(Zone::Z3),
+        Answer::Refused(Refusal::Held(Machine::Robot)),
+        0x0000_0500_0000_4800,
+    ),
+    (
+        0x0000_0000_0000_0000,
+        Machine::Robot,
+        Call::Claim(Zone::Z3),
+        Answer::Refused(Refusal::Shut(Posture::Closed)),
+        0x0000_0000_0000_0000,
+    ),
+    // the press has it already, which comes before the last stamp
+    (
+        0x0FFF_FF00_0000_0400,
+        Machine::Press,
+        Call::Claim(Zone::Z3),
+        Answer::Refused(Refusal::AlreadyMine),
+        0x0FFF_FF00_0000_0400,
     ),
     // the press has the zone; feed runs, with a plate at its end
     (
