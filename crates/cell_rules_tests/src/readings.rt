@@ -1,7 +1,9 @@
-//! Readings by calibrations, and the limits of points.
+//! Readings by calibrations, the limits of points, and switches that clash.
 ghost use Rattle.std.specs.Prelude.{◌≡◌, ◌≤◌, slice_get};
 
-use cell_calib::{Calibration, Gauge, Points, PointsFault, SensorFault, line_at};
+use cell_calib::{
+    Calibration, Gauge, Points, PointsFault, SensorFault, SensorVector, line_at, switches_agree,
+};
 use std::process::Abort;
 
 // Uses a calibration as a controller does: keeps it in a struct of its own, and reads.
@@ -107,4 +109,48 @@ fn keeps_points_within_their_limits(rt: HostRuntime) {
             "{raw_lo} {raw_hi} {at_lo} {at_hi} {tol}"
         );
     }
+}
+
+fn both_ends_of_the_table() -> SensorVector {
+    SensorVector {
+        table_bottom: true,
+        table_top: true,
+        ..SensorVector::default()
+    }
+}
+
+fn two_positions_of_the_press() -> SensorVector {
+    SensorVector {
+        press_middle: true,
+        press_top: true,
+        ..SensorVector::default()
+    }
+}
+
+fn both_ends_of_the_crane() -> SensorVector {
+    SensorVector {
+        crane_deposit: true,
+        crane_feed: true,
+        ..SensorVector::default()
+    }
+}
+
+fn one_switch_each() -> SensorVector {
+    SensorVector {
+        press_top: true,
+        table_bottom: true,
+        crane_feed: true,
+        feed_barrier: true,
+        deposit_barrier: true,
+        ..SensorVector::default()
+    }
+}
+
+#[test]
+fn finds_switches_that_clash(rt: HostRuntime) {
+    let clash = Err(SensorFault::Clash);
+    assert!(rt; switches_agree(&both_ends_of_the_table()) == clash);
+    assert!(rt; switches_agree(&two_positions_of_the_press()) == clash);
+    assert!(rt; switches_agree(&both_ends_of_the_crane()) == clash);
+    assert!(rt; switches_agree(&one_switch_each()) == Ok(()));
 }
