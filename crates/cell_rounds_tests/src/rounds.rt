@@ -111,3 +111,48 @@ fn rounds_of_the_robot_alone_starve(rt: HostRuntime) {
         "{found:?}"
     );
 }
+
+// Which places are full, by the bits of a number.
+fn places_of(number: u32) -> [bool; 10] {
+    [
+        number & 1 != 0,
+        number & 2 != 0,
+        number & 4 != 0,
+        number & 8 != 0,
+        number & 16 != 0,
+        number & 32 != 0,
+        number & 64 != 0,
+        number & 128 != 0,
+        number & 256 != 0,
+        number & 512 != 0,
+    ]
+}
+
+// How many starts have one to four plates, and within how many rounds a plate moves from each; `None` if from one
+// plates don't go on.
+fn every_start(rt: HostRuntime, order: [Machine; 6]) -> Option<(usize, usize)> {
+    let mut starts: usize = 0;
+    let mut most = 0;
+    for number in 1..1024u32 {
+        if number.count_ones() > 4 {
+            continue;
+        }
+        let Ok(start) = State::start(places_of(number), 0) else {
+            continue;
+        };
+        starts = starts.saturating_add(1);
+        match explore_round(rt.alloc(), &start, order) {
+            Ok(Rounds::Within(rounds)) => most = most.max(rounds),
+            _ => return None,
+        }
+    }
+    Some((starts, most))
+}
+
+#[test]
+fn plates_move_from_each_start_with_one_to_four(rt: HostRuntime) {
+    let along = every_start(rt, ALONG);
+    assert!(rt; along == Some((348, 11)), "{along:?}");
+    let against = every_start(rt, AGAINST);
+    assert!(rt; against == Some((348, 10)), "{against:?}");
+}
