@@ -29,7 +29,8 @@ fn explores_all_starts_with_six_plates(rt: HostRuntime) -> Result<(), AllocError
 fn explores_no_start_with_seven_plates(rt: HostRuntime) -> Result<(), AllocError> {
     let line = starts_with(&rt, rt.alloc(), 7)?.line(rt.alloc(), 7)?;
     assert!(rt;
-        line.as_str() == "plates 7 starts 0: no standstill before the last stamp; at most 0 situations\n",
+        line.as_str()
+            == "plates 7 starts 0: no standstill before the last stamp; at most 0 situations\n",
         "{line}"
     );
     Ok(())
