@@ -4,7 +4,8 @@
   exercises/play.py FILE [KIND] [--words]      a steps.csv, or a script as in examples/; - is standard input
   exercises/play.py --class PLACES TRIES [KIND] one step a line as you type it: each student is a machine, one sits at the keys
 
-KIND is a wrong interlock: --store puts each word there, whatever is there now; --word-per-pass gives each caller a word of its own;
+KIND is a wrong interlock: --rule NAME is that of the exercise NAME, and --rule alone lists them. A script is answered by rules of the
+interlock, and after its answers come the calls that broke a law. Four are wrong in steps: --store puts each word there, whatever is there now; --word-per-pass gives each caller a word of its own;
 --busy-after-one gives a call up after its first lost exchange; --accept-forgets answers by the word that a caller found last, if that
 refuses the call or answers an inquiry, and forgets what the caller was told by others. --words adds the word after each step, as
 docs/MODEL.md has its bits. In a class a line is such as 'press look claim z3', 'press attempt', 'press ask claim z3', 'press tell robot'
@@ -14,7 +15,8 @@ or 'press meet robot'. 'seen' shows what each has been told. After each step it 
 import sys
 
 import steps
-from steps import CALLS, KINDS, LAST_STAMP, LETTER, MACHINES, RIGHT, State, SystemState, Told, answer_words, call_of, fault_of, first_equal, reply_at, words
+from rules import RULES, broken_law
+from steps import CALLS, DONE, LAST_STAMP, LETTER, MACHINES, RIGHT, State, SystemState, Told, answer_words, call_of, fault_of, first_equal, reply_at, words
 
 
 class Play:
@@ -85,8 +87,11 @@ def play_steps(rows, kind, with_words):
     return lines
 
 
-def play_script(rows, with_words=False):
-    """The lines that a script is answered with (docs/FORMATS.md), and whether it is accepted."""
+def play_script(rows, with_words=False, kind=RIGHT, broken=None):
+    """The lines that a script is answered with (docs/FORMATS.md), and whether it is accepted.
+
+    The laws that its calls break go into the list `broken`, with the number of the line.
+    """
     if not rows or rows[0][0] not in ("start", "start2"):
         return ["fault nostart"], False
     version, *rest = rows[0]
@@ -101,7 +106,11 @@ def play_script(rows, with_words=False):
         call = call_of(fields[1:])
         if fields[0] not in MACHINES or call is None or version == "start" and CALLS[call] in ("stop", "resume"):
             return [*lines, f"fault badrow {number}"], False
-        answer, word = reply_at(word, MACHINES.index(fields[0]), call)
+        machine, before = MACHINES.index(fields[0]), word[0]
+        answer, word = reply_at(word, machine, call, kind)
+        law = broken_law(before, machine, call, word[0]) if answer == DONE else None
+        if law and broken is not None:
+            broken.append(f"# line {number}, {','.join(fields)}, breaks {law}")
         line = f"{number} {word[1]} {words(answer)}"
         lines.append(f"{line:<32} {steps.text_of(word)}" if with_words else line)
     return lines, True
@@ -135,27 +144,26 @@ def play_class(play):
 
 
 def main():
-    words_ = sys.argv[1:]
-    kinds = [it[2:] for it in words_ if it[2:] in KINDS and it[:2] == "--"]
-    rest = [it for it in words_ if it[2:] not in kinds and it not in ("--words", "--class")]
-    kind, is_class = (kinds or [RIGHT])[0], "--class" in words_
-    if len(kinds) > 1 or len(rest) != (2 if is_class else 1) or any(it.startswith("--") for it in rest):
+    kind, arguments = steps.kind_of(sys.argv[1:])
+    rest = [it for it in arguments if it not in ("--words", "--class")]
+    is_class, with_words = "--class" in arguments, "--words" in arguments
+    if kind is None or len(rest) != (2 if is_class else 1) or any(it.startswith("--") for it in rest):
         sys.exit(__doc__)
     if is_class:
         begun = steps.start_of(["start", *rest])
         if not begun:
             sys.exit("PLACES is ten digits, 0 or 1, that make a start; TRIES is from 1 to 64")
         return play_class(Play(kind, *begun))
-    rows, accepted = steps.records(rest[0]), True
+    rows, accepted, broken = steps.records(rest[0]), True, []
     if is_steps(rows):
-        lines = play_steps(rows, kind, "--words" in words_)
+        lines = play_steps(rows, kind, with_words)
         if lines is None:
             sys.exit("the first line isn't 'start', ten digits that make a start, and tries from 1 to 64")
-    elif kind != RIGHT:
+    elif kind != RIGHT and kind not in RULES:
         sys.exit("a script has no steps, so no word can be wrong in it")
     else:
-        lines, accepted = play_script(rows, "--words" in words_)
-    print("\n".join(lines))
+        lines, accepted = play_script(rows, with_words, kind, broken)
+    print("\n".join(lines + broken))
     sys.exit(0 if accepted else 1)
 
 

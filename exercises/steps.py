@@ -1,7 +1,7 @@
 """Callers who take steps on one word: loads and exchanges. What a call is answered is in bench/stress/model.py.
 
-A word is a pair: a state and its stamp. A caller has a Try while its call is pending. The kinds of interlocks are the right one and
-four wrong ones, as in the exercises plain_store, word_per_pass, busy_after_one and accept_forgets.
+A word is a pair: a state and its stamp. A caller has a Try while its call is pending. The kinds of interlocks are the right one,
+four wrong ones, as in the exercises plain_store, word_per_pass, busy_after_one and accept_forgets, and one for each rule of rules.py.
 """
 
 import csv
@@ -13,8 +13,17 @@ sys.dont_write_bytecode = True
 ROOT = os.path.dirname(os.path.dirname(os.path.realpath(__file__)))
 sys.path.insert(0, f"{ROOT}/bench/stress")
 from model import CALLS, DONE, LAST_STAMP, MACHINES, NOBODY, HOST, POSTURES, WORN, State, refusal, words
+from rules import RULES
 
 KINDS = RIGHT, STORE, WORD_PER_PASS, BUSY_AFTER_ONE, ACCEPT_FORGETS = "right", "store", "word-per-pass", "busy-after-one", "accept-forgets"
+# What each wrong interlock does, in words, by the name of its exercise.
+EXERCISES = {
+    "plain-store": (STORE, "A call puts its word there, whatever is there now."),
+    "word-per-pass": (WORD_PER_PASS, "Each caller has a word of its own."),
+    "busy-after-one": (BUSY_AFTER_ONE, "A call is given up after its first lost exchange."),
+    "accept-forgets": (ACCEPT_FORGETS, "A caller answers by the word that it found last, and forgets what others told it."),
+    **{name: (name, rule.__doc__) for name, rule in RULES.items()},
+}
 BUSY, LETTER = -1, -2
 PLACES = "FeedEntry FeedEnd Table Arm1 PressIn PressOut Arm2 DepEntry DepEnd Crane".split()
 
@@ -46,10 +55,10 @@ def call_of(fields):
     return CALLS.index(text) if text in CALLS and len(fields) == len(text.split()) else None
 
 
-def reply_at(word, machine, call):
-    """The answer in a word's state, and the word after the call."""
+def reply_at(word, machine, call, kind=RIGHT):
+    """The answer in a word's state, and the word after the call; by the rule of that name, if the kind is one."""
     state, stamp = word
-    found = state.answer(machine, call)
+    found = RULES.get(kind, State.answer)(state, machine, call)
     if not isinstance(found, State):
         return found, word
     return (refusal(WORN), word) if stamp == LAST_STAMP else (DONE, (first_equal(found), stamp + 1))
@@ -91,10 +100,10 @@ class SystemState:
     def look(self, machine, call):
         """A load. It gives the state, and what the caller is told, if anything."""
         word = self.found[machine] or self.word(machine)
-        if reply_at(word, machine, call)[0] == DONE:
+        if reply_at(word, machine, call, self.kind)[0] == DONE:
             word = self.word(machine)
         state = self.with_last_found(machine, word)
-        answer, new = reply_at(word, machine, call)
+        answer, new = reply_at(word, machine, call, self.kind)
         if answer == DONE:
             return state.with_pending(machine, Try(call, word, new, 0, word[1])), None
         return state, Told(call, answer, word[1], 0)
@@ -110,7 +119,7 @@ class SystemState:
         if found == old:
             return free, Told(call, DONE, new[1], lost)
         lost += 1
-        answer, new = reply_at(found, machine, call)
+        answer, new = reply_at(found, machine, call, self.kind)
         if answer != DONE:
             return free, Told(call, answer, found[1], lost)
         if lost == (1 if self.kind == BUSY_AFTER_ONE else self.tries):
@@ -182,6 +191,21 @@ def text_of(word):
             parts.append(f"z{zone + 1} {'free' if owner == NOBODY else MACHINES[owner]} {posture}" + " plate" * state.flag[zone])
     parts += [PLACES[place] for place in range(10) if state.full[place]] + ["stopped"] * state.stopped
     return f"{bits_of(word):016x}  {', '.join(parts)}"
+
+
+def kind_of(arguments):
+    """The kind of interlock that arguments name, and the other arguments. It lists the rules where --rule has no name."""
+    if "--rule" in arguments:
+        at = arguments.index("--rule")
+        name = arguments[at + 1] if at + 1 < len(arguments) else None
+        if name not in EXERCISES:
+            sys.exit("\n".join(["--rule NAME, where NAME is", *(f"  {it:<24} {EXERCISES[it][1]}" for it in EXERCISES)]))
+        kinds, rest = [EXERCISES[name][0]], arguments[:at] + arguments[at + 2 :]
+    else:
+        kinds, rest = [], arguments
+    kinds += [it[2:] for it in rest if it[:2] == "--" and it[2:] in KINDS[1:]]
+    rest = [it for it in rest if it[:2] != "--" or it[2:] not in KINDS[1:]]
+    return (kinds or [RIGHT])[0] if len(kinds) < 2 else None, rest
 
 
 def records(path):
