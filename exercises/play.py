@@ -5,9 +5,10 @@
   exercises/play.py --class PLACES TRIES [KIND] one step a line as you type it: each student is a machine, one sits at the keys
 
 KIND is a wrong interlock: --rule NAME is that of the exercise NAME, and --rule alone lists them. A script is answered by rules of the
-interlock, and after its answers come the calls that broke a law. Four are wrong in steps: --store puts each word there, whatever is there now; --word-per-pass gives each caller a word of its own;
---busy-after-one gives a call up after its first lost exchange; --accept-forgets answers by the word that a caller found last, if that
-refuses the call or answers an inquiry, and forgets what the caller was told by others. --words adds the word after each step, as
+interlock; below its answers are the calls that broke a law. Four are wrong in steps: --store (plain-store) puts each word there,
+whatever is there now; --word-per-pass gives each caller a word of its own; --busy-after-one gives a call up after its first lost
+exchange; --accept-forgets answers by the word that a caller found last, if that refuses the call or answers an inquiry, and forgets
+what the caller was told by others. --words adds the word after each step, as
 docs/MODEL.md has its bits. In a class a line is such as 'press look claim z3', 'press attempt', 'press ask claim z3', 'press tell robot'
 or 'press meet robot'. 'seen' shows what each has been told. After each step it looks for one legal history of all answers.
 """
@@ -16,7 +17,8 @@ import sys
 
 import steps
 from rules import RULES, broken_law
-from steps import CALLS, DONE, LAST_STAMP, LETTER, MACHINES, RIGHT, State, SystemState, Told, answer_words, call_of, fault_of, first_equal, reply_at, words
+from steps import CALLS, DONE, LAST_STAMP, LETTER, MACHINES, RIGHT, State, SystemState, Told
+from steps import answer_words, call_of, fault_of, first_equal, reply_at, words
 
 
 class Play:

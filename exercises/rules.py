@@ -3,7 +3,8 @@
 A rule answers a call in a state as `State.answer` does: the number of the answer, or the state after the call.
 """
 
-from model import CALLS, GUEST, HELD, HOST, HOSTED, JUMP, MACHINES, MOVING, NOBODY, OPENIN, OPENOUT, POSE_OF, POSES, PRESS, SHUT, TABLE, State, refusal
+from model import CALLS, GUEST, HELD, HOST, HOSTED, JUMP, MACHINES, MOVING, NOBODY, OPENIN, OPENOUT
+from model import POSE_OF, POSES, PRESS, SHUT, TABLE, State, refusal
 
 FIRST_POSE, PAST_POSES = 36, 48
 
@@ -78,7 +79,8 @@ def broken_law(before, machine, call, after):
         if before.owner[zone] not in (NOBODY, machine, owner):
             return f"one_holder: {MACHINES[before.owner[zone]]} holds {name}, and {MACHINES[owner]} too"
         if owner == GUEST[zone] and after.posture[zone] not in (OPENIN, OPENOUT):
-            return f"{'mover_is_host' if after.posture[zone] == MOVING else 'guest_only_while_open'}: {MACHINES[owner]} holds {name}, which isn't open"
+            law = "mover_is_host" if after.posture[zone] == MOVING else "guest_only_while_open"
+            return f"{law}: {MACHINES[owner]} holds {name}, which isn't open"
         if after.posture[zone] == MOVING and owner != HOST[zone]:
             return f"mover_is_host: {name} moves, and its host doesn't hold it"
     if before.plates() != after.plates():
