@@ -110,7 +110,7 @@ pub extern "C" fn bagunjoki_is_stopped(word: u64) -> bool
         × IsTrue state.stopped) }
 {
     match unpack(word) {
-        Some(state) => state.is_stopped(),
+        Some(state) => state.stopped(),
         None => false,
     }
 }

@@ -199,7 +199,7 @@ fn push_stamp_of(page: &mut Page, end: &State) -> fmt::Result
 {
     let stamp = end.stamp();
     let plates = end.plates();
-    let stopped = flag_word_of(end.is_stopped());
+    let stopped = flag_word_of(end.stopped());
     writeln!(page, "stamp {stamp} plates {plates} stopped {stopped}")
 }
 

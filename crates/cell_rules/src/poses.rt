@@ -53,7 +53,7 @@ impl State {
     fn moves_while_stopped(&self, pose: Pose) -> Option<Refusal>
         ensures { result ≡ refusals.moves_while_stopped self.now pose }
     {
-        (is_moving_pose(pose) && self.is_stopped()).then_some(Refusal::Stopped)
+        (is_moving_pose(pose) && self.stopped()).then_some(Refusal::Stopped)
     }
 
     fn unowned_by_pose(&self, machine: Machine, pose: Pose, zone: Zone) -> Option<Refusal>

@@ -94,13 +94,13 @@ impl State {
     pub(crate) fn while_stopped(&self) -> Option<Refusal>
         ensures { result ≡ refusals.while_stopped self.now }
     {
-        self.is_stopped().then_some(Refusal::Stopped)
+        self.stopped().then_some(Refusal::Stopped)
     }
 
     fn not_stopped(&self) -> Option<Refusal>
         ensures { result ≡ refusals.not_stopped self.now }
     {
-        (!self.is_stopped()).then_some(Refusal::NotStopped)
+        (!self.stopped()).then_some(Refusal::NotStopped)
     }
 
     fn not_owner(&self, machine: Machine, zone: Zone) -> Option<Refusal>

@@ -147,7 +147,7 @@ impl State {
     }
 
     /// Whether the cell is stopped.
-    pub fn is_stopped(&self) -> bool
+    pub fn stopped(&self) -> bool
         ensures { result ≡ self.now.stopped }
     {
         self.stopped

@@ -85,7 +85,7 @@ const MARKED: &[(u64, Option<bool>)] = &[
 
 fn is_marked(word: u64, stopped: Option<bool>) -> bool {
     match unpack(word) {
-        Some(state) => stopped == Some(state.is_stopped()) && pack(&state) == word,
+        Some(state) => stopped == Some(state.stopped()) && pack(&state) == word,
         None => {
             let step = step_word(word, Machine::Watch, Call::Inquire(Zone::Z1));
             stopped.is_none() && step.is_none()

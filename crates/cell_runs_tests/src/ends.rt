@@ -63,7 +63,7 @@ const ASKED: [(u64, u64); 7] = [(2, 0), (2, 0), (0, 1), (2, 0), (2, 0), (0, 0), 
 // for memory. If the watch had no memory to resume, the others may be refused.
 fn lacks_but_memory(record: &RunRecord) -> bool {
     let stays_stopped = match record.end {
-        Some(end) => end.is_stopped(),
+        Some(end) => end.stopped(),
         None => false,
     };
     for machine in 0..7usize {

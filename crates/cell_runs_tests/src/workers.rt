@@ -62,7 +62,7 @@ fn ends_so(end: &State) -> bool {
             return false;
         }
     }
-    (end.stamp(), end.plates(), end.is_stopped()) == (11, 0, false)
+    (end.stamp(), end.plates(), end.stopped()) == (11, 0, false)
 }
 
 fn is_first_steps(record: &RunRecord) -> bool {

@@ -51,7 +51,7 @@ pub fn pack(state: &State) -> u64
         word = with_place(word, place, state.is_full(place));
     }
     let word = with_bits(word, STAMP_BIT, 20, u64::from(state.stamp()));
-    with_bits(word, MARK_BIT, 1, u64::from(state.is_stopped()))
+    with_bits(word, MARK_BIT, 1, u64::from(state.stopped()))
 }
 
 pub(crate) fn zone_told(word: u64, zone: Zone) -> ZoneState

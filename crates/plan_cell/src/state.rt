@@ -66,6 +66,6 @@ pub fn plan_state(state: &State) -> PlanState
         zones,
         full,
         stamp: state.stamp(),
-        stopped: state.is_stopped(),
+        stopped: state.stopped(),
     }
 }

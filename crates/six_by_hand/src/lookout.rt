@@ -94,7 +94,7 @@ fn resume_if(line: &mut PassLine<'_>, is_stopped: bool)
 fn look(line: &mut PassLine<'_>) -> bool
     ensures { IsSamePass line.old.pass line.new.pass }
 {
-    line.survey().is_stopped()
+    line.survey().stopped()
 }
 
 // Makes a call, and says whether it is done.

@@ -47,6 +47,6 @@ returns c =
     let below : c.loop-place.word ≡ word_of (flat_map (fields_at s) all_zones ++ map (place_field s) all_places) =
     subst (λ n. c.loop-place.word ≡ word_of (flat_map (fields_at s) all_zones ++ map (place_field s) (take n all_places))) all c.loop-place.invariant.word in
     c.with_bits.ensures.value
-    ∙ ap₂ (λ n b. n + b * 2 ^ 60) c.with_bits-word.ensures.value (c.from-2.ensures ∙ ap one_if c.is_stopped.ensures)
+    ∙ ap₂ (λ n b. n + b * 2 ^ 60) c.with_bits-word.ensures.value (c.from-2.ensures ∙ ap one_if c.stopped.ensures)
     ∙ ap (λ n. c.loop-place.word + n * 2 ^ 40 + one_if s.stopped * 2 ^ 60) (c.from.ensures ∙ c.stamp.ensures.stamp)
     ∙ ap (λ n. n + s.stamp * 2 ^ 40 + one_if s.stopped * 2 ^ 60) below
