@@ -5,7 +5,7 @@ use Rattle.cell_rules.specs.Names.{ModelState, IsSound, heard_after}
 use Rattle.cell_rules.specs.declared.heard.LineFault.{LineFault}
 use Rattle.cell_rules.specs.declared.heard.Heard.{Heard}
 use Rattle.cell_control.specs.declared.fault.CtlFault.{CtlFault}
-use Rattle.cell_control.specs.Steps.{Steps, IsReached}
+use Rattle.cell_control.specs.Steps.{Steps, GoesOn, IsReached}
 use Rattle.cell_control.specs.Turns.{Turns, answered}
 use Rattle.cell_control.specs.declared.told.Told.{Told}
 
@@ -56,3 +56,8 @@ TurnsWired t asks heard w s told w' =
       progress = w'.progress;
       stopped = w'.stopped;
     })
+
+-- a machine that still runs after a turn: wherever it had come from to its step, it has come from there to the next one
+abbrev pub GoesOnWired : {P S Sense Reading Act L : Type 0} → Steps S Sense Reading Act → (L → List Event)
+    → Wiring P S L → Wiring P S L → Type 0
+GoesOnWired t seen w w' = w'.stopped ≡ None → GoesOn t (seen w.line) w.progress (seen w'.line) w'.progress

@@ -3,7 +3,7 @@ ghost use Rattle.std.specs.Prelude.{◌≡◌, ◌≢◌, [], None};
 ghost use Rattle.cell_rules.specs.History.{after, own_events};
 ghost use Rattle.cell_rules.specs.Seen.{Waits};
 ghost use Rattle.cell_control.specs.Controllers.{HasReached, program_in, step_in, stopped_in};
-ghost use Rattle.cell_control.specs.Wiring.{TurnsWired};
+ghost use Rattle.cell_control.specs.Wiring.{GoesOnWired, TurnsWired};
 
 use crate::controller::Controller;
 use crate::fault::CtlFault;
@@ -78,6 +78,7 @@ impl<P: Program, L: Line> Wired<P, L> {
             self.old.progress result.act (L.opening self.new.line) (L.seen self.new.line) }
         ensures program { self.new.program ≡ self.old.program }
         ensures opening { L.opening self.new.line ≡ L.opening self.old.line }
+        ensures goes_on { GoesOnWired (P.steps self.old.program) L.seen self.old self.new }
     {
         let sensors = Values { sense: *sense };
         let taken = self.controller.take_turn(&mut self.line, &sensors);
