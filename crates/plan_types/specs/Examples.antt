@@ -5,7 +5,8 @@ use Rattle.plan_types.specs.declared.posture.Posture.TheVariants.{Closed, Moving
 use Rattle.plan_types.specs.declared.table.Way.{Way}
 use Rattle.plan_types.specs.declared.table.PlanZone.{PlanZone}
 use Rattle.plan_types.specs.declared.table.PlanPose.{PlanPose}
-use Rattle.plan_types.specs.declared.fault.PlanFault.TheVariants.{TooManyMachines, TooWide, NoSuchKeeper, NoSuchHost}
+use Rattle.plan_types.specs.declared.fault.PlanFault.TheVariants.{TooManyMachines, TooManyZones, TooManyPoses}
+use Rattle.plan_types.specs.declared.fault.PlanFault.TheVariants.{TooManyPlaces, TooWide, NoSuchKeeper, NoSuchHost}
 use Rattle.plan_types.specs.declared.fault.PlanFault.TheVariants.{NoSuchGuest, HostIsGuest, InwardAstray}
 use Rattle.plan_types.specs.declared.fault.PlanFault.TheVariants.{OutwardAstray, NoSuchMachine, ForeignZone}
 use Rattle.plan_types.specs.Table.{PlanTable, plan_table}
@@ -61,9 +62,16 @@ pub record ExamplesArePlans : Type 0 where
 abbrev pub two_at : PlanZone → List PlanPose → PlanTable
 two_at row poses = plan_table 2 (row ∷ []) poses (0 ∷ 1 ∷ [])
 
+-- a third machine keeps the third place, and shares no zone
+abbrev pub three_at : PlanZone → PlanTable
+three_at row = plan_table 3 (row ∷ []) [] (0 ∷ 1 ∷ 2 ∷ [])
+
 -- tables with faults, and the first fault of each
 pub record FirstFaults : Type 0 where
   pub machines : plan_fault (plan_table 16 (zone 1 1 None None ∷ []) [] []) ≡ Some TooManyMachines
+  pub zones : plan_fault (plan_table 2 (replicate 11 press_zone) press_poses (0 ∷ 1 ∷ [])) ≡ Some TooManyZones
+  pub poses : plan_fault (two_at press_zone (replicate 65 (pose 1 false None None))) ≡ Some TooManyPoses
+  pub places : plan_fault (plan_table 2 (press_zone ∷ []) press_poses (replicate 17 0)) ≡ Some TooManyPlaces
   -- eight zones and four places take 65 bits, ten zones and sixteen places 87
   pub wide : plan_fault (plan_table 2 (replicate 8 (zone 1 1 None None)) [] (replicate 4 2)) ≡ Some (TooWide 1)
   pub widest : plan_fault (plan_table 2 (replicate 10 press_zone) [] (replicate 16 0)) ≡ Some (TooWide 23)
@@ -76,6 +84,14 @@ pub record FirstFaults : Type 0 where
   pub inward : plan_fault (two_at (zone 1 0 (way 1 0) (way 0 1)) []) ≡ Some (InwardAstray 0)
   pub nowhere : plan_fault (two_at (zone 1 0 (way 0 2) None) []) ≡ Some (InwardAstray 0)
   pub outward : plan_fault (two_at (zone 1 0 (way 0 1) (way 0 1)) []) ≡ Some (OutwardAstray 0)
+  -- one end of the way alone is astray: the place of a third machine, or one past the table
+  pub inward_from_third : plan_fault (three_at (zone 1 0 (way 2 1) None)) ≡ Some (InwardAstray 0)
+  pub inward_to_third : plan_fault (three_at (zone 1 0 (way 0 2) None)) ≡ Some (InwardAstray 0)
+  pub outward_from_third : plan_fault (three_at (zone 1 0 None (way 2 0))) ≡ Some (OutwardAstray 0)
+  pub outward_to_third : plan_fault (three_at (zone 1 0 None (way 1 2))) ≡ Some (OutwardAstray 0)
+  pub inward_from_nowhere : plan_fault (two_at (zone 1 0 (way 2 1) None) []) ≡ Some (InwardAstray 0)
+  pub outward_from_nowhere : plan_fault (two_at (zone 0 1 None (way 2 1)) []) ≡ Some (OutwardAstray 0)
+  pub outward_to_nowhere : plan_fault (two_at (zone 0 1 None (way 0 2)) []) ≡ Some (OutwardAstray 0)
   pub machine : plan_fault (two_at press_zone (pose 2 false (Some Moving) None ∷ [])) ≡ Some (NoSuchMachine 0)
   pub foreign : plan_fault (two_at press_zone (press_poses ++ pose 0 false (Some Moving) None ∷ []))
       ≡ Some (ForeignZone 4 0)

@@ -4,3 +4,4 @@ pub mod Table
 pub mod Faults
 pub mod Plan
 pub mod Examples
+pub mod Readings

@@ -1,6 +1,7 @@
-//! Two plants as examples, and what `Plan::new` says of faulty tables.
+//! Two plants as examples, what `Plan::new` says of faulty tables, and what tables tell.
 ghost use Rattle.std.specs.Prelude.{◌≡◌, IfOk};
 ghost use Rattle.plan_types.specs.Examples.{ExamplesArePlans, FirstFaults};
+ghost use Rattle.plan_types.specs.Readings.{TablesTell};
 ghost use Rattle.plan_types.specs.Examples as examples;
 
 use crate::posture::Posture;
@@ -94,4 +95,10 @@ pub fn examples_are_plans()
 /// Faulty tables, written out, and the first fault of each: also where others follow it.
 pub fn first_faults()
     ensures { FirstFaults }
+{}
+
+/// Tables, written out, and what they tell: which poses move, also by the tenth zone alone; the way of a plate; a zone's
+/// parties; a machine's poses.
+pub fn tables_tell()
+    ensures { TablesTell }
 {}
