@@ -1,5 +1,5 @@
 -- What holds in the state before a Done event.
-use Rattle.std.proofs.Common.{◌≡◌, ◌≢◌, ℕ, ◌<◌, Bool, true, false, ◌&&◌, not, nat_eq, Some, None, unwrap_or, List, ◌∷◌, ◌++◌, refl, sym, ap, ◌∙◌, subst}
+use Rattle.std.proofs.Common.{◌≡◌, ◌≢◌, ℕ, ◌<◌, Bool, true, false, ◌&&◌, ◌||◌, not, nat_eq, Some, None, unwrap_or, List, ◌∷◌, ◌++◌, refl, sym, ap, ◌∙◌, subst}
 use Rattle.std.proofs.lemmas.Bool.{false_from_ne_true}
 use Rattle.plan_types.specs.declared.posture.Posture.TheVariants.{Moving, OpenIn}
 use Rattle.plan_types.specs.declared.table.Transfer.{Transfer}
@@ -9,16 +9,18 @@ use Rattle.plan_types.specs.declared.answer.Refusal.TheVariants.{PlaceFull}
 use Rattle.plan_types.specs.declared.answer.Event.{Event}
 use Rattle.plan_types.specs.Same.{same_posture, one_posture}
 use Rattle.plan_types.specs.Below.{any_below}
-use Rattle.plan_types.specs.Table.{PlanTable, zone_count, host_of, transfer_of, posture_of, pose_row}
+use Rattle.plan_types.specs.Table.{PlanTable, zone_count, host_of, transfer_of, posture_of, pose_row, is_moving_pose}
 use Rattle.plan_types.specs.Plan.{IsPlan}
 use Rattle.plan_rules.specs.declared.state.State.{State}
-use Rattle.plan_rules.specs.State.{posture_at, plates_for}
+use Rattle.plan_rules.specs.State.{zone_at, owner_of, posture_at, plates_for}
 use Rattle.plan_rules.specs.Sound.{IsSound}
-use Rattle.plan_rules.specs.Refusals.{posture_with, stands_at, is_onto_taken, opens_onto_plate}
+use Rattle.plan_rules.specs.Refusals.{owns, posture_with, is_concerned, stands_at, is_onto_taken, opens_onto_plate}
 use Rattle.plan_rules.specs.History.{after, IsLegal}
 use Rattle.plan_rules.specs.Laws.{PosesFit, HandoverByHolder, HasZone, done}
 use Rattle.plan_rules.proofs.Below.{any_below_none}
 use Rattle.plan_rules.proofs.Puts.{nat_eq-self}
+use Rattle.plan_rules.proofs.Zones.{owner_is}
+use Rattle.plan_rules.proofs.Given.{gives_moving}
 use Rattle.plan_rules.proofs.Done.{none_then, pose_done, give_done, yield_done, take_done, release_done, Poses, Holder}
 use Rattle.plan_rules.proofs.Plates.{no_plates}
 use Rattle.plan_rules.proofs.Soundness.{done_none, unless}
@@ -37,6 +39,23 @@ no_jump t s m p f after_moving z l host =
     let none = unless (pose_row t p).after_moving (any_below (stands_at t s m) (zone_count t)) f.no_jump after_moving in
     let own : nat_eq (host_of t z) m ≡ true = ap (nat_eq (host_of t z)) (sym host) ∙ nat_eq-self (host_of t z) in
     one_posture _ _ (moves (nat_eq (host_of t z) m) (same_posture (posture_at s z) Moving) (any_below_none (stands_at t s m) (zone_count t) none z l) own)
+
+-- a pose that moves concerns every zone that its machine hosts
+both : (a b c : Bool) → a ≡ true → b ≡ true → (a && (b || c)) ≡ true
+both true true c e f = refl
+both true false c e f = cc
+both false b c e f = cc
+
+concerned : (t : PlanTable) (s : State) (m p y z : ℕ) → posture_of t p y ≡ Some Moving → host_of t z ≡ m → is_concerned t s m p z ≡ true
+concerned t s m p y z given host =
+    let own : nat_eq (host_of t z) m ≡ true = ap (nat_eq (host_of t z)) (sym host) ∙ nat_eq-self (host_of t z) in
+    both (nat_eq (host_of t z) m) (is_moving_pose t p) (not (same_posture (posture_with t s p z) (posture_at s z))) own (gives_moving t p y given)
+
+held : (t : PlanTable) (s : State) (m p y z : ℕ) → Poses t s m p → posture_of t p y ≡ Some Moving → z < zone_count t → host_of t z ≡ m → owner_of s z ≡ Some m
+held t s m p y z f given l host = owner_is (owner_of s z) m (moves (is_concerned t s m p z) (owns s m z) (f.owned z l) (concerned t s m p y z given host))
+
+clear : (t : PlanTable) (s : State) (m p y z : ℕ) → Poses t s m p → posture_of t p y ≡ Some Moving → z < zone_count t → host_of t z ≡ m → (zone_at s z).flag ≡ false
+clear t s m p y z f given l host = unless (is_concerned t s m p z) (zone_at s z).flag (f.clear z l) (concerned t s m p y z given host)
 
 third : (a b c : Bool) → (a && not b && c) ≡ false → a ≡ true → b ≡ false → c ≡ false
 third true false c e f g = e
@@ -57,6 +76,8 @@ poses_fit t s h l =
     record {
       own = λ before rest m p split. let f = found before rest m p split in (f.there, f.machine);
       no_jump = λ before rest m p split. no_jump t (after t s before) m p (found before rest m p split);
+      all_held = λ before rest m p y split given z. held t (after t s before) m p y z (found before rest m p split) given;
+      all_clear = λ before rest m p y split given z. clear t (after t s before) m p y z (found before rest m p split) given;
       opens_onto_empty = λ before rest m p split z way there. room t (after t s before) p z way ((found before rest m p split).room z there);
     }
 

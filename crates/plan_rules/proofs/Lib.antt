@@ -15,3 +15,4 @@ pub mod Starts
 pub mod Fitting
 pub mod Lawful
 pub mod Literal
+pub mod Given

@@ -15,6 +15,7 @@ use Rattle.plan_rules.specs.History.{after, IsLegal, is_done_answer, stops, resu
 use Rattle.plan_rules.specs.Laws.{StoppedUntilResumed, is_barred, done}
 use Rattle.plan_rules.proofs.Done.{claim_done, give_done, pose_done, stop_done, resume_done}
 use Rattle.plan_rules.proofs.Soundness.{done_none}
+use Rattle.plan_rules.proofs.Given.{gives_moving}
 use Rattle.plan_rules.proofs.Histories.{legal-left, replies_done}
 
 pub not_true : (b : Bool) → b ≡ false → not b ≡ true
@@ -110,6 +111,11 @@ stopped_along t s h l = record {
   barred = λ before rest m c split k.
       let at = replies_done t s h before m c rest l split in
       barred_at t (after t s before) m c at ((mark t s before (legal-left t s before (done m c ∷ rest) (subst (IsLegal t s) split l))).0 k);
+  stands = λ before rest m p z split k given.
+      let at = replies_done t s h before m (SetPose p) rest l split in
+      let off = barred_at t (after t s before) m (SetPose p) at ((mark t s before (legal-left t s before (done m (SetPose p) ∷ rest) (subst (IsLegal t s) split l))).0 k) in
+      let on = gives_moving t p z given in
+      cc;
   stop = λ before rest m split.
       let at = stop_done (after t s before) m (done_none _ _ (replies_done t s h before m Stop rest l split)) in
       (at.caller, λ k. let on = (mark t s before (legal-left t s before (done m Stop ∷ rest) (subst (IsLegal t s) split l))).0 k in let off = at.mark in cc);

@@ -1,5 +1,5 @@
--- Literal histories of two plants: each answer is written out.
-use Rattle.std.specs.Prelude.{ℕ, true, false, List, [], ◌∷◌, replicate, Some, None}
+-- Literal histories of three plants: each answer is written out.
+use Rattle.std.specs.Prelude.{◌≡◌, ℕ, true, false, List, [], ◌∷◌, replicate, Some, None}
 use Rattle.plan_types.specs.declared.posture.Posture.TheVariants.{Closed, Moving, OpenIn}
 use Rattle.plan_types.specs.declared.call.Call.{Call}
 use Rattle.plan_types.specs.declared.call.Call.TheVariants.{Claim, Give, Yield, Take, Release, SetPose, Inquire, Stop}
@@ -11,8 +11,9 @@ use Rattle.plan_types.specs.declared.answer.Refusal.TheVariants.{NoPose, Worn, S
 use Rattle.plan_types.specs.declared.answer.Answer.{Answer}
 use Rattle.plan_types.specs.declared.answer.Answer.TheVariants.{Done, Shown, Refused}
 use Rattle.plan_types.specs.declared.answer.Event.{Event}
-use Rattle.plan_types.specs.Table.{watch}
-use Rattle.plan_types.specs.Examples.{press_table, lift_table}
+use Rattle.plan_types.specs.Table.{PlanTable, plan_table, watch}
+use Rattle.plan_types.specs.Faults.{plan_fault}
+use Rattle.plan_types.specs.Examples.{way, zone, pose, press_table, lift_table}
 use Rattle.plan_rules.specs.declared.state.ZoneState.{ZoneState}
 use Rattle.plan_rules.specs.declared.state.State.{State}
 use Rattle.plan_rules.specs.State.{start_state, free_zone}
@@ -91,6 +92,29 @@ lifting =
     ∷ did 0 (SetPose 2) ∷ did 0 (Give 1) ∷ refused 2 (Yield 1) (PlateInZone 1) ∷ did 2 (Take 1)
     ∷ refused 0 (SetPose 0) (NotOwner (Some 2)) ∷ did 2 (Yield 1) ∷ did 0 (SetPose 0) ∷ []
 
+-- machine 0 hosts two doors, and moves the first alone; machine 1 is the guest at the first, 2 at the second; places:
+-- each machine's own
+-- poses: 0 moves the first door, 1 opens the second inward, 2 closes both, after moving
+abbrev pub doors_table : PlanTable
+doors_table =
+    plan_table 3 (zone 0 1 None None ∷ zone 0 2 (way 2 0) (way 0 2) ∷ [])
+    (pose 0 false (Some Moving) None ∷ pose 0 false None (Some OpenIn) ∷ pose 0 true (Some Closed) (Some Closed) ∷ [])
+    (0 ∷ 1 ∷ 2 ∷ [])
+
+-- machine 2 has a plate
+abbrev pub doors_start : State
+doors_start = start_state (false ∷ false ∷ true ∷ replicate 13 false) 0
+
+-- the pose that moves the first door wants the second one too: its own, and without a plate
+abbrev pub moving_one_door : List Event
+moving_one_door =
+    refused 0 (SetPose 0) (NotOwner None) ∷ did 0 (Claim 0) ∷ refused 0 (SetPose 0) (NotOwner None) ∷ did 0 (Claim 1)
+    ∷ did 0 (SetPose 0) ∷ event 0 (Inquire 0) (Shown (Some 0) false Moving)
+    ∷ event 0 (Inquire 1) (Shown (Some 0) false Closed) ∷ refused 0 (SetPose 2) Jump ∷ did 0 (SetPose 1)
+    ∷ did 0 (Yield 1) ∷ refused 0 (SetPose 0) (NotOwner (Some 2)) ∷ did 2 (Give 1)
+    ∷ refused 0 (SetPose 0) (PlateInZone 1) ∷ did 0 (Take 1) ∷ did 0 (SetPose 0) ∷ did watch Stop
+    ∷ refused 0 (SetPose 0) Stopped ∷ []
+
 -- these histories are legal: each answer in them is the reply
 pub record ExamplesAreLegal : Type 0 where
   pub press_loads : IsLegal press_table press_start loading
@@ -98,3 +122,5 @@ pub record ExamplesAreLegal : Type 0 where
   pub press_stops : IsLegal press_table (start_state (replicate 16 false) 7) stopping
   pub press_wears : IsLegal press_table full_press wearing
   pub lift_lifts : IsLegal lift_table lift_start lifting
+  pub doors_are_a_plan : plan_fault doors_table ≡ None
+  pub one_door_moves : IsLegal doors_table doors_start moving_one_door

@@ -83,6 +83,15 @@ pub record PosesFit (t : PlanTable) (s : State) (h : List Event) : Type 0 where
   pub no_jump : (before rest : List Event) (m p : ℕ) → h ≡ before ++ done m (SetPose p) ∷ rest
       → IsTrue (pose_row t p).after_moving → (z : ℕ) → z < zone_count t → host_of t z ≡ m
       → posture_at (after t s before) z ≡ Moving
+  -- a pose that gives any zone Moving is taken only while the machine owns every zone that it hosts, also those that
+  -- the pose leaves alone
+  pub all_held : (before rest : List Event) (m p y : ℕ) → h ≡ before ++ done m (SetPose p) ∷ rest
+      → posture_of t p y ≡ Some Moving → (z : ℕ) → z < zone_count t → host_of t z ≡ m
+      → owner_of (after t s before) z ≡ Some m
+  -- and while no plate is in one
+  pub all_clear : (before rest : List Event) (m p y : ℕ) → h ≡ before ++ done m (SetPose p) ∷ rest
+      → posture_of t p y ≡ Some Moving → (z : ℕ) → z < zone_count t → host_of t z ≡ m
+      → (zone_at (after t s before) z).flag ≡ false
   -- a zone becomes open inward only while the place that a plate would come to has none, and none coming
   pub opens_onto_empty : (before rest : List Event) (m p : ℕ) → h ≡ before ++ done m (SetPose p) ∷ rest
       → (z : ℕ) (way : Transfer) → z < zone_count t → posture_of t p z ≡ Some OpenIn
@@ -109,12 +118,14 @@ is_barred t (Give _) = true
 is_barred t (SetPose p) = is_moving_pose t p
 is_barred t _ = false
 
--- the state after is stopped exactly if the events say so; while the plant is stopped, no barred call is Done; the
--- watch alone stops and resumes, in turn
+-- the state after is stopped exactly if the events say so; while the plant is stopped, no barred call is Done, and no
+-- pose that is Done gives any zone Moving; the watch alone stops and resumes, in turn
 pub record StoppedUntilResumed (t : PlanTable) (s : State) (h : List Event) : Type 0 where
   pub mark : IsStopped s h ↔ IsTrue (after t s h).stopped
   pub barred : (before rest : List Event) (m : ℕ) (c : Call) → h ≡ before ++ done m c ∷ rest
       → IsStopped s before → is_barred t c ≡ false
+  pub stands : (before rest : List Event) (m p z : ℕ) → h ≡ before ++ done m (SetPose p) ∷ rest
+      → IsStopped s before → posture_of t p z ≢ Some Moving
   pub stop : (before rest : List Event) (m : ℕ) → h ≡ before ++ done m Stop ∷ rest
       → (m ≡ watch) × ¬ IsStopped s before
   pub resume : (before rest : List Event) (m : ℕ) → h ≡ before ++ done m Resume ∷ rest

@@ -82,15 +82,16 @@ pub fn stays_sound(plan: &Plan, opening: &State, history: &[Event])
 }
 
 /// After each prefix of a history the plant is stopped, in the state, exactly if it was stopped at first or by a Done
-/// stop, with no Done resume since. While it is stopped, no claim, no handover of a plate and no movement is Done. The
-/// watch alone stops and resumes, in turn.
+/// stop, with no Done resume since. While it is stopped, no claim, no handover of a plate and no movement is Done, so no
+/// pose that gives any zone Moving. The watch alone stops and resumes, in turn.
 pub fn stopped_until_resumed(plan: &Plan, opening: &State, history: &[Event])
     requires { IsLegal plan.now opening.now history.now }
     ensures { Throughout (law.StoppedUntilResumed plan.now opening.now) history.now }
 {}
 
 /// A machine takes only its own poses; one that may come only after moving only while all zones that the machine hosts
-/// move; and one that opens a zone inward only while the place that a plate would come to has none, and none coming.
+/// move; one that moves only while the machine owns all zones that it hosts, and no plate is in one; and one that opens
+/// a zone inward only while the place that a plate would come to has none, and none coming.
 pub fn poses_fit(plan: &Plan, opening: &State, history: &[Event])
     requires { IsLegal plan.now opening.now history.now }
     ensures { law.PosesFit plan.now opening.now history.now }

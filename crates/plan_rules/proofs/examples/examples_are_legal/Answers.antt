@@ -2,7 +2,7 @@ use Rattle.std.proofs.Common.{refl, replicate, false}
 use Rattle.plan_types.specs.Examples.{press_table, lift_table}
 use Rattle.plan_rules.specs.State.{start_state}
 use Rattle.plan_rules.specs.History.{after}
-use Rattle.plan_rules.specs.Examples.{press_start, full_press, loading, unloading, stopping, wearing, lift_start, lifting}
+use Rattle.plan_rules.specs.Examples.{press_start, full_press, loading, unloading, stopping, wearing, lift_start, lifting, doors_table, doors_start, moving_one_door}
 use Rattle.plan_rules.proofs.Literal.{legal_by}
 use Rattle.plan_rules.proofs.examples.examples_are_legal.Goals as goal
 
@@ -13,4 +13,6 @@ returns c = record {
   press_stops = legal_by press_table (start_state (replicate 16 false) 7) stopping refl;
   press_wears = legal_by press_table full_press wearing refl;
   lift_lifts = legal_by lift_table lift_start lifting refl;
+  doors_are_a_plan = refl;
+  one_door_moves = legal_by doors_table doors_start moving_one_door refl;
 }
