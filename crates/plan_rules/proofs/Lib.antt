@@ -15,4 +15,8 @@ pub mod Starts
 pub mod Fitting
 pub mod Lawful
 pub mod Literal
+pub mod Chains
+pub mod Tellings
+pub mod Causing
+pub mod Refusing
 pub mod Given

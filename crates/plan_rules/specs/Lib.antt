@@ -5,3 +5,5 @@ pub mod Reply
 pub mod History
 pub mod Laws
 pub mod Examples
+pub mod Causes
+pub mod RefusalLaws

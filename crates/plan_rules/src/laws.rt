@@ -6,6 +6,7 @@ ghost use Rattle.plan_rules.specs.Sound.{IsSound, IsStart};
 ghost use Rattle.plan_rules.specs.History.{IsLegal};
 ghost use Rattle.plan_rules.specs.Laws as law;
 ghost use Rattle.plan_rules.specs.Laws.{Throughout};
+ghost use Rattle.plan_rules.specs.RefusalLaws.{RefusalsTell};
 
 use crate::state::State;
 use plan_types::{Event, Plan};
@@ -105,6 +106,13 @@ pub fn handover_by_holder(plan: &Plan, opening: &State, history: &[Event])
 {
     let _ = plan.machines();
 }
+
+/// On every sound state each refusal has its cause: its meaning in the table of causes holds of the state, with
+/// whatever the refusal names. And if a cause holds, the call isn't Done: it is refused for this cause, or for one that
+/// comes before it in the call's order.
+pub fn refusals_tell_causes()
+    ensures { RefusalsTell }
+{}
 
 /// All these laws hold of each prefix of every legal history from any sound opening, for every plan, stored or not.
 pub fn lawful_histories()
