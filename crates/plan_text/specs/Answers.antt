@@ -1,5 +1,6 @@
 -- Answers as texts, by the names of a plan.
-use Rattle.std.specs.Prelude.{ℕ, Bool, true, false, ◌++◌, codes, Option, Some, None}
+use Rattle.std.specs.Prelude.{ℕ, Bool, true, false, List, [], ◌∷◌, ◌++◌, codes, find, Option, Some, None}
+use Rattle.std.specs.Str.{bytes_eq}
 use Rattle.plan_types.specs.declared.posture.Posture.{Posture}
 use Rattle.plan_types.specs.declared.posture.Posture.TheVariants.{Closed, Moving, OpenIn, OpenOut}
 use Rattle.plan_types.specs.declared.answer.Answer.{Answer}
@@ -16,6 +17,13 @@ posture_word Closed = codes "closed"
 posture_word Moving = codes "moving"
 posture_word OpenIn = codes "openin"
 posture_word OpenOut = codes "openout"
+
+abbrev pub all_postures : List Posture
+all_postures = Closed ∷ Moving ∷ OpenIn ∷ OpenOut ∷ []
+
+-- the posture with this word
+abbrev pub posture_of : Text → Option Posture
+posture_of word = find (λ posture. bytes_eq word (posture_word posture)) all_postures
 
 abbrev pub flag_text : Bool → Text
 flag_text true = codes " 1 "

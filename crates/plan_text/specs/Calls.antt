@@ -1,5 +1,5 @@
 -- Calls by names.
-use Rattle.std.specs.Prelude.{ℕ, List, [], ◌∷◌, ◌&&◌, nat_eq, length, codes, find, Option, Some, option_map}
+use Rattle.std.specs.Prelude.{ℕ, List, [], ◌∷◌, ◌++◌, ◌&&◌, nat_eq, length, codes, find, Option, Some, option_map}
 use Rattle.std.specs.Prelude.{if◌then◌else◌}
 use Rattle.std.specs.Bool.{then_some}
 use Rattle.std.specs.Option.{option_or}
@@ -55,3 +55,18 @@ call_of n machine Take name = option_map call.Take (number_in n.zones name)
 call_of n machine Release name = option_map call.Release (number_in n.zones name)
 call_of n machine Inquire name = option_map call.Inquire (number_in n.zones name)
 call_of n machine Pose name = option_map call.SetPose (pose_named n machine name)
+
+-- the words of a call about a zone or a pose, and of one without
+abbrev pub words : Verb → Text → Text
+words verb name = verb_word verb ++ codes " " ++ name
+
+abbrev pub call_text : Named → Call → Text
+call_text n (call.Claim zone) = words Claim (name_in n.zones zone)
+call_text n (call.Give zone) = words Give (name_in n.zones zone)
+call_text n (call.Yield zone) = words Yield (name_in n.zones zone)
+call_text n (call.Take zone) = words Take (name_in n.zones zone)
+call_text n (call.Release zone) = words Release (name_in n.zones zone)
+call_text n (call.Inquire zone) = words Inquire (name_in n.zones zone)
+call_text n (call.SetPose pose) = words Pose (name_in n.poses pose)
+call_text n call.Stop = codes "stop"
+call_text n call.Resume = codes "resume"

@@ -2,3 +2,4 @@ pub mod Names
 pub mod Named
 pub mod Calls
 pub mod Answers
+pub mod Laws

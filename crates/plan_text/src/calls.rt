@@ -1,5 +1,5 @@
 //! Calls by names, and back.
-ghost use Rattle.std.specs.Prelude.{◌≡◌, ◌<◌};
+ghost use Rattle.std.specs.Prelude.{◌≡◌, ◌<◌, ◌++◌, OnOk, string_bytes};
 ghost use Rattle.plan_text.specs.Calls as spec;
 
 use crate::named_plan::NamedPlan;
@@ -127,19 +127,30 @@ impl NamedPlan {
     }
 
     /// Appends the words of a call.
-    pub fn push_call(&self, text: &mut String, call: Call) -> Result<(), AllocError> {
-        let (word, name) = match call {
-            Call::Claim(zone) => ("claim ", self.zones.name(zone)),
-            Call::Give(zone) => ("give ", self.zones.name(zone)),
-            Call::Yield(zone) => ("yield ", self.zones.name(zone)),
-            Call::Take(zone) => ("take ", self.zones.name(zone)),
-            Call::Release(zone) => ("release ", self.zones.name(zone)),
-            Call::Inquire(zone) => ("inquire ", self.zones.name(zone)),
-            Call::SetPose(pose) => ("pose ", self.poses.name(pose)),
-            Call::Stop => ("stop", ""),
-            Call::Resume => ("resume", ""),
-        };
-        text.push_str(word)?;
-        text.push_str(name)
+    pub fn push_call(&self, text: &mut String, call: Call) -> Result<(), AllocError>
+        ensures { OnOk result
+            (string_bytes text.new ≡ string_bytes text.old ++ spec.call_text self.now call) }
+    {
+        match call {
+            Call::Claim(zone) => push_words(text, Verb::Claim, self.zones.name(zone)),
+            Call::Give(zone) => push_words(text, Verb::Give, self.zones.name(zone)),
+            Call::Yield(zone) => push_words(text, Verb::Yield, self.zones.name(zone)),
+            Call::Take(zone) => push_words(text, Verb::Take, self.zones.name(zone)),
+            Call::Release(zone) => push_words(text, Verb::Release, self.zones.name(zone)),
+            Call::Inquire(zone) => push_words(text, Verb::Inquire, self.zones.name(zone)),
+            Call::SetPose(pose) => push_words(text, Verb::Pose, self.poses.name(pose)),
+            Call::Stop => text.push_str("stop"),
+            Call::Resume => text.push_str("resume"),
+        }
     }
+}
+
+/// Appends the words of a call about a zone or a pose.
+fn push_words(text: &mut String, verb: Verb, name: &str) -> Result<(), AllocError>
+    ensures { OnOk result
+        (string_bytes text.new ≡ string_bytes text.old ++ spec.words verb name.now) }
+{
+    text.push_str(verb.word())?;
+    text.push_str(" ")?;
+    text.push_str(name)
 }

@@ -3,6 +3,7 @@
 
 pub mod answers;
 pub mod calls;
+pub mod laws;
 pub mod named_plan;
 pub mod names;
 pub mod words;

@@ -1,5 +1,8 @@
 //! Names of one kind, in the order of their numbers.
-ghost use Rattle.std.specs.Prelude.{◌≡◌, ◌≤◌, ◌<◌, ◌++◌, ◌∷◌, [], length, OnOk, string_bytes};
+ghost use Rattle.std.specs.Prelude.{◌≡◌, ◌≤◌, ◌<◌, ◌++◌, ◌∷◌, [], length, slice_index, OnOk, string_bytes};
+ghost use Rattle.std.specs.Char.{is_ascii_lowercase};
+ghost use Rattle.std.specs.List.{list_all};
+ghost use Rattle.plan_text.specs.Names as spec;
 ghost use Rattle.plan_text.specs.Names.{name_in, number_if, number_in};
 
 use std::alloc::{AllocError, Global};
@@ -87,29 +90,40 @@ impl Names {
 }
 
 /// Whether a text is a name: a letter, then letters, digits and underscores, all in lower case; at most 32 characters.
-pub fn is_name(text: &str) -> bool {
+pub fn is_name(text: &str) -> bool
+    ensures { result ≡ spec.is_name text.now }
+{
     let bytes = text.as_bytes();
-    match bytes.first() {
-        Some(first) => {
-            first.is_ascii_lowercase()
-                && bytes.len() <= MAX_CHARACTERS
-                && bytes.iter().all(|byte| is_name_byte(*byte))
-        }
-        None => false,
-    }
+    begins_with_letter(bytes) && bytes.len() <= MAX_CHARACTERS && are_name_bytes(bytes)
 }
 
-fn is_name_byte(byte: u8) -> bool {
+fn begins_with_letter(bytes: &[u8]) -> bool
+    ensures { result ≡ is_ascii_lowercase (slice_index bytes.now 0) }
+{
+    !bytes.is_empty() && bytes[0].is_ascii_lowercase()
+}
+
+fn are_name_bytes(bytes: &[u8]) -> bool
+    ensures { result ≡ list_all spec.is_name_byte bytes.now }
+{
+    bytes.iter().all(|byte| is_name_byte(*byte))
+}
+
+fn is_name_byte(byte: u8) -> bool
+    ensures { result ≡ spec.is_name_byte byte }
+{
     byte.is_ascii_lowercase() || byte.is_ascii_digit() || byte == b'_'
 }
 
 /// The words that mean something in a script or in an answer, and name no machine.
-const RESERVED: [&str; 11] = [
+const RESERVED: [&str; 12] = [
     "watch", "free", "start", "claim", "give", "yield", "take", "release", "inquire", "pose",
-    "stop",
+    "stop", "resume",
 ];
 
 /// Whether a word means something in a script or in an answer. Such a word names no machine.
-pub fn is_reserved(text: &str) -> bool {
-    text == "resume" || RESERVED.contains(&text)
+pub fn is_reserved(text: &str) -> bool
+    ensures { result ≡ spec.is_reserved text.now }
+{
+    RESERVED.contains(&text)
 }

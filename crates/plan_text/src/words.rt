@@ -17,12 +17,20 @@ pub fn posture_word(posture: Posture) -> &'static str
 }
 
 /// The posture with this word, or `None` if none has it.
-pub fn posture_in(word: &str) -> Option<Posture> {
-    match word {
-        "closed" => Some(Posture::Closed),
-        "moving" => Some(Posture::Moving),
-        "openin" => Some(Posture::OpenIn),
-        "openout" => Some(Posture::OpenOut),
-        _ => None,
+pub fn posture_in(word: &str) -> Option<Posture>
+    ensures { result ≡ spec.posture_of word.now }
+{
+    if word == posture_word(Posture::Closed) {
+        return Some(Posture::Closed);
     }
+    if word == posture_word(Posture::Moving) {
+        return Some(Posture::Moving);
+    }
+    if word == posture_word(Posture::OpenIn) {
+        return Some(Posture::OpenIn);
+    }
+    if word == posture_word(Posture::OpenOut) {
+        return Some(Posture::OpenOut);
+    }
+    None
 }

@@ -1,0 +1,5 @@
+use Rattle.plan_text.proofs.Told.{told_as_read}
+use Rattle.plan_text.proofs.laws.calls_are_told_as_read.Goals as goal
+
+pub returns : goal.returns
+returns c = record { same = told_as_read }
