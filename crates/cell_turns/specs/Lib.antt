@@ -3,3 +3,4 @@ pub mod Numbers
 pub mod Reached
 pub mod Sides
 pub mod Situations
+pub mod Standstills
