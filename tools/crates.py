@@ -15,7 +15,7 @@ PROGRAM = "cell"
 ROOMS = "rooms"
 KEPT = "incremental"
 # What of a crate's folder no check reads, or is made by checks.
-BESIDE = ("out", "must-fail", "attacks")
+BESIDE = ("out", "must-fail", "attacks", "controls")
 # The processor seconds of a crate's proof where nothing is written down.
 USUAL = 60
 # The processor seconds from which on a second job saves a crate more time than it costs.

@@ -39,6 +39,12 @@ def edited_texts(crate, edit):
     return texts, None if pairs else "it has no pair of 'old:' and 'new:'"
 
 
+def begins_with(edit, head):
+    """Whether an edit has a line that begins with this head, `refused by` or `accepted`."""
+    with open(edit, encoding="utf-8") as lines:
+        return any(it.startswith(f"{head}: ") for it in lines)
+
+
 def refused_by(edit):
     """What an edit says that refuses it: functions and laws, each with its clauses, or with none if that isn't said. None without such a line."""
     with open(edit, encoding="utf-8") as lines:
