@@ -1,0 +1,343 @@
+"""Makes plans, with the lines of all that stands in them, and scripts, by a random source."""
+
+POSTURES = ("closed", "moving", "openin", "openout")
+NAMES = "feed loader press arm belt cart door crane rail oven lift drum saw mill gate dock tray robot points train".split()
+PLACES = "hand die hook bed fork slot rack bin pan tip".split()
+POSES = "load unload closed travelling high low left right open shut".split()
+ZONES = "inside mouth track pit z1 z2 z3 shelf".split()
+WORDS = ("Press", "", "2nd", "a-b", "a b", "é", "x" * 33, "a" * 41, "press ", "_a", "ab\t", "A")
+VALUES = ("3", "true", '"text"', "[]", "[1]", '["a", 2]', "{}", "{ a = 1 }", "1.5", "[[]]", "[{}]", '["a", "b", "c"]', "1979-05-27")
+
+
+class Raw(str):
+    """A value as it stands in the text."""
+
+
+def name(r, words, taken):
+    """A name that isn't taken."""
+    while True:
+        found = r.choice(words) + r.choice(("", "", "", "1", "_a", "_2"))
+        if r.randrange(60) == 0:
+            found = found.ljust(32, "x")
+        if found not in taken:
+            taken.append(found)
+            return found
+
+
+def zone_row(r, machines, taken):
+    """A zone between two machines, with ways between places of theirs."""
+    host, guest = r.sample(machines, 2)
+    row = {"name": name(r, ZONES, taken), "host": host["name"], "guest": guest["name"]}
+    for key, giver, receiver in (("inward", guest, host), ("outward", host, guest)):
+        if giver["places"] and receiver["places"] and r.randrange(4):
+            row[key] = [r.choice(giver["places"]), r.choice(receiver["places"])]
+    return row
+
+
+def pose_row(r, hosted, taken):
+    """A pose that gives some of these zones postures."""
+    zones = r.sample(hosted, r.randrange(len(hosted) + 1)) if r.randrange(3) else hosted
+    moves = r.randrange(3) == 0
+    row = {"name": name(r, POSES, taken), "gives": {it: "moving" if moves else r.choice(POSTURES) for it in zones}}
+    if r.randrange(3) == 0:
+        row["after_moving"] = r.choice((True, True, False))
+    return row
+
+
+def program(r, machine, zones, most):
+    """The lines of a program, most of which the machine can do."""
+    own = [it["name"] for it in zones if machine["name"] in (it["host"], it["guest"])]
+    lines = []
+    for _ in range(r.randrange(most + 1) if own else 0):
+        poses = [it["name"] for it in machine["poses"]]
+        if poses and r.randrange(3) == 0:
+            lines.append(f"pose {r.choice(poses)}")
+        else:
+            lines.append(f"{r.choice(('claim', 'release', 'claim', 'release', 'yield', 'give', 'take'))} {r.choice(own)}")
+    return lines
+
+
+def plan(r, small=False):
+    """The rows of a plan."""
+    machines, names, places, zones = [], [], [], []
+    count = r.choice((1, 2, 2, 3, 3)) if small else r.choice((1, 2, 3, 4, 6, 15))
+    for _ in range(count):
+        row = {"name": name(r, NAMES, names), "places": [], "poses": [], "program": []}
+        row["places"] = [name(r, PLACES, places) for _ in range(r.choice((0, 1, 1, 2))) if len(places) < (4 if small else 13)]
+        machines.append(row)
+    taken = []
+    for _ in range(r.choice((1, 2, 2, 3)) if small else r.choice((0, 1, 3, 6, 8))):
+        if count > 1 and 5 * (len(zones) + 1) + len(places) <= 43:
+            zones.append(zone_row(r, machines, taken))
+    for row in machines:
+        hosted = [it["name"] for it in zones if it["host"] == row["name"]]
+        own = []
+        row["poses"] = [pose_row(r, hosted, own) for _ in range(r.choice((1, 2, 3, 4)) if hosted else r.randrange(2))]
+        row["program"] = program(r, row, zones, 4 if small else 8)
+    return {"machine": machines, "zone": zones}
+
+
+def rounds(r, document):
+    """Gives the machines programs that end as they began: each claims a zone, does something there and lets it go."""
+    for row in document["machine"]:
+        lines = []
+        for it in document["zone"]:
+            if row["name"] == it["host"] and r.randrange(4):
+                poses = [f"pose {it['name']}" for it in row["poses"]]
+                lines += [f"claim {it['name']}", *(r.sample(poses, r.randrange(min(3, len(poses)) + 1))), f"release {it['name']}"]
+            elif row["name"] == it["guest"] and r.randrange(4):
+                lines += [f"claim {it['name']}", f"release {it['name']}"]
+        row["program"] = lines
+
+
+def items(row, key):
+    """The list of a key; an empty one where there is none."""
+    return row[key] if isinstance(row.get(key), list) else []
+
+
+def spoil(r, document):
+    """Puts a fault of some kind into the rows, which may have one already."""
+    machines, zones = items(document, "machine"), items(document, "zone")
+    poses = [it for row in machines for it in items(row, "poses")]
+    kinds = [spoil_key, spoil_value, spoil_name, spoil_program, spoil_many]
+    kinds += [spoil_zone] * 2 if zones else []
+    kinds += [spoil_pose] * 2 if poses else []
+    machine = r.choice(machines) if machines else {}
+    r.choice(kinds)(r, document, machine, r.choice(zones) if zones else {}, r.choice(poses) if poses else {})
+
+
+def spoil_key(r, document, machine, zone, pose):
+    row = r.choice((document, machine, machine, zone, zone, pose, pose))
+    if r.randrange(2):
+        row[r.choice(("colour", "Name", "hosts", "give", "x y", ""))] = Raw(r.choice(VALUES))
+    elif row:
+        del row[r.choice([*row])]
+
+
+def spoil_value(r, document, machine, zone, pose):
+    row = r.choice((machine, machine, zone, zone, pose, pose, document))
+    if row:
+        row[r.choice([*row])] = Raw(r.choice(VALUES))
+
+
+def spoil_name(r, document, machine, zone, pose):
+    rows = items(document, "machine") + items(document, "zone")
+    taken = ("watch", "free", "start", "claim", "pose", "stop", "inquire")
+    others = [it["name"] for it in rows if "name" in it] or ["x"]
+    r.choice((machine, machine, zone, pose))["name"] = r.choice((r.choice(WORDS), r.choice(WORDS), r.choice(others), r.choice(taken)))
+    if places := items(machine, "places"):
+        if r.randrange(3) == 0:
+            places.insert(r.randrange(3), r.choice((r.choice(WORDS), r.choice(places))))
+
+
+def spoil_program(r, document, machine, zone, pose):
+    lines = ("claim", "claim ", "claim  z1", " claim z1", "open z1", "claim nowhere", "pose nothing", "inquire z1", "stop", "resume", "")
+    name = zone.get("name", "z9")
+    line = r.choice(lines) if r.randrange(3) else f"{r.choice(('inquire', 'claim', 'pose', 'take'))} {name}"
+    if r.randrange(12) == 0:
+        machine["program"] = [f"claim {name}"] * r.choice((255, 256, 300))
+    else:
+        found = items(machine, "program")
+        found.insert(r.randrange(len(found) + 1), line)
+
+
+def spoil_many(r, document, machine, zone, pose):
+    kind = r.randrange(4)
+    if kind == 0:
+        items(document, "machine").extend({"name": f"extra{it}", "places": []} for it in range(r.choice((12, 15, 16))))
+    elif kind == 1:
+        items(machine, "places").extend(f"extra{it}" for it in range(r.choice((5, 14, 16, 20, 33))))
+    elif kind == 2 and zone:
+        items(document, "zone").extend({**zone, "name": f"extra{it}"} for it in range(r.choice((3, 6, 8, 10, 11))))
+    else:
+        items(machine, "poses").extend({"name": f"extra{it}", "gives": {}} for it in range(r.choice((5, 60, 64, 65))))
+
+
+def spoil_zone(r, document, machine, zone, pose):
+    places = [place for row in items(document, "machine") for place in items(row, "places")] + ["nowhere"]
+    kind = r.randrange(5)
+    if kind == 0:
+        zone["guest"] = zone.get("host", "nobody")
+    elif kind < 3:
+        zone[r.choice(("host", "guest"))] = r.choice((machine.get("name", "nobody"), "nobody", "", "x" * 50))
+    else:
+        zone[r.choice(("inward", "outward"))] = [r.choice(places) for _ in range(r.choice((2, 2, 2, 2, 1, 3)))]
+
+
+def spoil_pose(r, document, machine, zone, pose):
+    if isinstance(pose.get("gives"), dict):
+        zones = [it["name"] for it in items(document, "zone") if "name" in it and not isinstance(it["name"], Raw)] + ["nowhere"]
+        pose["gives"][r.choice(zones)] = r.choice((*POSTURES, "open", "Moving", "", "x" * 45))
+
+
+class Text:
+    """A document's lines, and the line of each place: of its heads, keys and items, by the steps that lead there."""
+
+    def __init__(self, r):
+        self.r, self.rows, self.lines = r, [""], {}
+
+    def mark(self, steps):
+        """Notes that these steps lead to what comes next."""
+        for count in range(1, len(steps) + 1):
+            self.lines.setdefault(tuple(steps[:count]), len(self.rows))
+
+    def put(self, text):
+        self.rows[-1] += text
+
+    def end(self):
+        self.rows.append("")
+
+    def gap(self):
+        """Ends a line, or goes on after a blank."""
+        if self.r.randrange(3) == 0:
+            self.end()
+            self.put("  ")
+        else:
+            self.put(" ")
+
+
+def quoted(r, text):
+    """A text as TOML writes it."""
+    if r.randrange(5) == 0 and "'" not in text and text.isprintable():
+        return f"'{text}'"
+    return '"' + text.replace("\\", "\\\\").replace('"', '\\"').replace("\t", "\\t") + '"'
+
+
+def key_text(r, key):
+    is_bare = key and all(it.isascii() and (it.isalnum() or it in "_-") for it in key)
+    return quoted(r, key) if not is_bare or r.randrange(20) == 0 else key
+
+
+def put_value(text, value, steps):
+    """Writes a value of a key, of which the items are marked."""
+    r = text.r
+    if isinstance(value, Raw):
+        text.put(value)
+    elif isinstance(value, bool):
+        text.put("true" if value else "false")
+    elif isinstance(value, str):
+        text.put(quoted(r, value))
+    elif isinstance(value, dict):
+        put_table(text, value, steps)
+    else:
+        text.put("[")
+        for at, it in enumerate(value):
+            text.gap()
+            text.mark([*steps, at])
+            put_value(text, it, [*steps, at])
+            text.put("," if at + 1 < len(value) or r.randrange(3) == 0 else "")
+        text.gap()
+        text.put("]")
+
+
+def put_table(text, table, steps):
+    """Writes a table in braces, on one line."""
+    text.put("{")
+    for at, (key, value) in enumerate(table.items()):
+        text.put(" ")
+        text.mark([*steps, key])
+        text.put(f"{key_text(text.r, key)} = ")
+        if isinstance(value, list):
+            text.put("[" + ", ".join(quoted(text.r, it) if not isinstance(it, dict) else "{}" for it in value) + "]")
+            for item in range(len(value)):
+                text.mark([*steps, key, item])
+        else:
+            put_value(text, value, [*steps, key])
+        text.put("," if at + 1 < len(table) else "")
+    text.put(" }")
+
+
+def put_row(text, kind, number, row):
+    """Writes a row under its head, [[machine]] or [[zone]]."""
+    r = text.r
+    text.mark([kind, number])
+    text.put(f"[[{kind}]]" + r.choice(("", "", " # it")))
+    text.end()
+    poses = row.get("poses")
+    under = kind == "machine" and isinstance(poses, list) and poses and r.randrange(3) == 0
+    for key, value in row.items():
+        if under and key == "poses" or value == [] and r.randrange(2):
+            continue
+        text.mark([kind, number, key])
+        text.put(f"{key_text(r, key)}{r.choice((' = ', '=', ' =  '))}")
+        put_value(text, value, [kind, number, key])
+        text.end()
+        if r.randrange(8) == 0:
+            text.put("# a note")
+            text.end()
+    for at, pose in enumerate(poses if under else []):
+        put_pose(text, [kind, number, "poses", at], pose)
+
+
+def put_pose(text, steps, pose):
+    """Writes a pose under a head of its own; what it gives perhaps by dotted keys."""
+    text.mark(steps)
+    text.put("[[machine.poses]]")
+    text.end()
+    for key, value in pose.items():
+        if key == "gives" and isinstance(value, dict) and value and text.r.randrange(2):
+            for zone, posture in value.items():
+                text.mark([*steps, key, zone])
+                text.put(f"gives.{key_text(text.r, zone)} = {quoted(text.r, posture)}")
+                text.end()
+            continue
+        text.mark([*steps, key])
+        text.put(f"{key_text(text.r, key)} = ")
+        put_value(text, value, [*steps, key])
+        text.end()
+
+
+def document_text(r, document):
+    """The document as a text, and the lines of its places."""
+    text = Text(r)
+    for key, value in document.items():
+        if key not in ("machine", "zone") or isinstance(value, Raw):
+            text.mark([key])
+            text.put(f"{key_text(r, key)} = ")
+            put_value(text, value, [key])
+            text.end()
+    rows = [(kind, at, row) for kind in ("machine", "zone") for at, row in enumerate(items(document, kind))]
+    if r.randrange(10) == 0:
+        rows.sort(key=lambda it: it[0], reverse=True)
+    for kind, at, row in rows:
+        put_row(text, kind, at, row)
+        if r.randrange(2):
+            text.end()
+    return "\n".join(text.rows), text.lines
+
+
+def start(r, places):
+    """The fields of a script's record 0."""
+    fields = ["start", "".join(r.choice("01") for _ in range(places))]
+    if r.randrange(3) == 0:
+        fields.append(r.choice(("0", "7", "1048575", "1048574", "1048570", "0000007")))
+    if r.randrange(25) == 0:
+        fields[1:] = r.choice(([], [fields[1] + "0"], [fields[1][1:]], ["2" * places], [fields[1], "1048576"], [fields[1], ""]))
+    if r.randrange(60) == 0:
+        fields += r.choice((["1", "1"], ["-1"], ["+1"], [" 5"], ["00000001"], ["x", ""]))
+    return fields
+
+
+def script(r, document):
+    """A script for a plan: its records, as bytes."""
+    machines = [it["name"] for it in document["machine"]]
+    zones = document["zone"]
+    records = [start(r, sum(len(it["places"]) for it in document["machine"]))]
+    poses = [(row["name"], it["name"]) for row in document["machine"] for it in row["poses"]]
+    for _ in range(r.choice((0, 3, 10, 30, 60))):
+        form = r.randrange(12) if zones or r.randrange(4) == 0 else 4
+        zone = r.choice(zones) if zones else {"name": "z1", "host": machines[0], "guest": machines[0]}
+        caller = r.choice((zone["host"], zone["guest"], zone["host"], zone["guest"], r.choice(machines), "watch"))
+        if form < 4 and poses:
+            machine, pose = r.choice(poses)
+            records.append([machine if r.randrange(9) else r.choice(machines), "pose", pose])
+        elif form == 4:
+            records.append(["watch" if r.randrange(5) else r.choice(machines), r.choice(("stop", "resume"))])
+        else:
+            records.append([caller, r.choice(("claim", "claim", "give", "yield", "take", "release", "inquire")), zone["name"]])
+    if r.randrange(12) == 0:
+        words = [*machines, "claim", "pose", "stop", "", " ", "z1", "watch", "free", "CLAIM", "advance"]
+        records.append([r.choice(words) for _ in range(r.randrange(1, 5))])
+    end = r.choice(("\n", "\n", "\n", "\r\n", "\r", "\n\n"))
+    text = end.join(",".join(f'"{it}"' if r.randrange(40) == 0 and at else it for it in row) for at, row in enumerate(records))
+    return (text + (end if r.randrange(5) else "")).encode()
