@@ -1,10 +1,11 @@
 //! Two calls in order, by a receipt.
-ghost use Rattle.std.specs.Prelude.{◌≡◌};
+ghost use Rattle.std.specs.Prelude.{◌≡◌, ◌+◌, ◌≤◌, [], ◌∷◌};
 ghost use Rattle.word_interlock.specs.History.{IsLawful};
-ghost use Rattle.word_interlock.specs.Calls.{IfSettled, IsStampedAfter, SeenAfter, stamp_in};
-ghost use Rattle.word_interlock.specs.Seen.{IsSamePass};
+ghost use Rattle.word_interlock.specs.Calls.{IfSettled, IfBusy, IsStampedAfter, SeenAfter, stamp_in};
+ghost use Rattle.word_interlock.specs.Seen.{IsSamePass, HasChanges, IsOvertaken};
+ghost use Rattle.word_interlock.specs.Views.{receipt_of, told_by};
 ghost use Rattle.word_interlock.specs.Order.{StandsBefore};
-ghost use Rattle.word_interlock.specs.Timing.{BeginsAfter};
+ghost use Rattle.word_interlock.specs.Timing.{BeginsAfter, IsTimed};
 
 use crate::interlock::Interlock;
 use crate::pass::Pass;
@@ -17,6 +18,12 @@ impl<R: Rules> Interlock<R> {
     /// stands before the second one's in what the second caller then sees (`order`). The second
     /// gets no lower stamp than the first, and a higher one if it is done (`stamps`). If the first is
     /// answered, the second begins after its event, whatever comes back from it (`began_after`).
+    ///
+    /// Each is a call as by `ask`. It is Busy only if it would be done, and other actors have made at
+    /// least `tries` changes that its pass hadn't seen before (`first_busy`, `second_busy`), all after
+    /// its load (`since`); it has then lost each exchange that it made (`all_lost`). It makes one load
+    /// (`one_load`) and at most `tries` exchanges (`few_exchanges`), the second one after all that the
+    /// first caller had then seen (`real_time`).
     ///
     /// Both passes were made with this interlock. Between these three steps any others may come, and
     /// the receipt may go from thread to thread: `laws::receipts_order_calls`,
@@ -44,6 +51,24 @@ impl<R: Rules> Interlock<R> {
         ensures began_after { IfSettled result.0 (λ x.
             BeginsAfter ((R.book self.now.rules).event first.old.actor call x)
             second.old.actor second.new.moments) }
+        ensures first_lawful { IsLawful (R.book self.now.rules) first.old.opening first.new.seen }
+        ensures first_busy { IfBusy result.0 (λ lost. IsOvertaken (R.book self.now.rules)
+            first.old first.old.seen call self.now.tries lost first.new) }
+        ensures second_busy { IfBusy result.1 (λ lost. IsOvertaken (R.book self.now.rules)
+            second.old second.old.seen next self.now.tries lost second.new) }
+        ensures since { IfBusy result.0 (HasChanges (R.book self.now.rules)
+            first.old.actor first.new.since first.new.seen)
+            × IfBusy result.1 (HasChanges (R.book self.now.rules)
+            second.old.actor second.new.since second.new.seen) }
+        ensures one_load { (first.new.loads ≡ first.old.loads + 1)
+            × (second.new.loads ≡ second.old.loads + 1) }
+        ensures few_exchanges { (first.new.exchanges ≤ first.old.exchanges + self.now.tries)
+            × (second.new.exchanges ≤ second.old.exchanges + self.now.tries) }
+        ensures all_lost { IfBusy result.0 (λ n. first.new.exchanges ≡ first.old.exchanges + n)
+            × IfBusy result.1 (λ n. second.new.exchanges ≡ second.old.exchanges + n) }
+        ensures real_time { IsTimed (R.book self.now.rules) [] first.old call result.0 first.new
+            × IsTimed (R.book self.now.rules) (told_by (receipt_of first.new) ∷ [])
+            second.old next result.1 second.new }
     {
         let answer = self.ask(first, call);
         let receipt = self.receipt(first);
