@@ -1,11 +1,12 @@
 -- What the engine says by the rules of the cell, in the words of the cell.
-use Rattle.cell_interlock.proofs.Names.{rules, ◌≡◌, ◌≢◌, ℕ, true, false, List, [], ◌∷◌, Ok, refl, sym, ap, ◌∙◌, subst, Machine, Call, Answer, Done, Shown, Refused, Event, ModelState, reply, next, after, IsLegal, is_done_answer, LawfulThroughout, event, Settles, Waits, SeenAfter, legal-left, cell_book, EnginePass, EngineTry, pass_from, try_from, reply_from, IsSamePass, IsSettled, HasSeenMore, IsUnmade, HasChanges, IsOvertaken, IsPending, IsLost, IsBusy, Told, IsTimed, IsLookTimed, Replied}
+use Rattle.cell_interlock.proofs.Names.{rules, ◌≡◌, ◌≢◌, ◌+◌, ℕ, true, false, List, [], ◌∷◌, Ok, refl, sym, ap, ◌∙◌, subst, Machine, Call, Answer, Done, Shown, Refused, Event, ModelState, reply, next, after, IsLegal, is_done_answer, LawfulThroughout, event, Settles, Waits, SeenAfter, legal-left, cell_book, EnginePass, EngineTry, pass_from, try_from, reply_from, IsSamePass, IsSettled, HasSeenMore, IsUnmade, HasChanges, IsOvertaken, IsPending, IsLost, IsBusy, Told, IsTimed, IsLookTimed, Replied}
 use Rattle.word_interlock.specs.History as engine
 use Rattle.word_interlock.specs.Seen as engine_seen
 use Rattle.word_interlock.specs.Calls as engine_calls
 use Rattle.word_interlock.specs.Tries as engine_tries
 use Rattle.word_interlock.specs.Timing as engine_timing
 use Rattle.word_interlock.specs.Asked as engine_asked
+use Rattle.cell_interlock.specs.Calls.{IfBusy}
 use Rattle.word_interlock.specs.declared.reply.Reply.{Reply as EngineReply}
 use Rattle.word_interlock.specs.declared.reply.Reply.TheVariants.{Settled as EngineSettled, Busy as EngineBusy}
 use Rattle.word_interlock.specs.declared.tries.Look.{Look as EngineLook}
@@ -141,3 +142,17 @@ replied_here heard v c tries (EngineBusy lost stamp) w f = record {
   since = changes_here v.actor w.since w.seen lost f.since;
   real_time = f.real_time;
 }
+
+-- ---- what a Busy call has lost
+
+pub if_busy_here : (r : EngineReply Answer) (v : EnginePass) (x : List Event) (c : Call) (tries : ℕ) (w : EnginePass) → engine_calls.IfBusy r (λ lost. engine_seen.IsOvertaken cell_book v x c tries lost w) → IfBusy (reply_from r) (λ lost. IsOvertaken (pass_from v) x c tries lost (pass_from w))
+if_busy_here (EngineSettled a stamp) v x c tries w f = tt
+if_busy_here (EngineBusy lost stamp) v x c tries w f = overtaken_here v x c tries lost w f
+
+pub since_here : (r : EngineReply Answer) (m : Machine) (x y : List Event) → engine_calls.IfBusy r (engine_seen.HasChanges cell_book m x y) → IfBusy (reply_from r) (HasChanges m x y)
+since_here (EngineSettled a stamp) m x y f = tt
+since_here (EngineBusy lost stamp) m x y f = changes_here m x y lost f
+
+pub all_lost_here : (r : EngineReply Answer) (n m : ℕ) → engine_calls.IfBusy r (λ lost. m ≡ n + lost) → IfBusy (reply_from r) (λ lost. m ≡ n + lost)
+all_lost_here (EngineSettled a stamp) n m f = tt
+all_lost_here (EngineBusy lost stamp) n m f = f
