@@ -4,3 +4,4 @@ pub mod Plates
 pub mod Posing
 pub mod Refusing
 pub mod Soundness
+pub mod Converse

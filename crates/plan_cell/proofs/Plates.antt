@@ -112,7 +112,7 @@ given_by_alike m (Some row) = ap (λ b. if b then Some (plan_transfer row) else 
 way_at : (s : ModelState) (z : Zone) → table.transfer_of cell_table (zone_number z) (plan_posture_at (plan_state s) (zone_number z)) ≡ option_map plan_transfer (transfer_of z (zone_at s z).posture)
 way_at s z = ap (table.transfer_of cell_table (zone_number z)) (posture_alike s z) ∙ way_is z (zone_at s z).posture
 
-given_alike : (s : ModelState) (m : Machine) (z : Zone) → plan.transfer_given cell_table (plan_state s) (machine_number m) (zone_number z) ≡ option_map plan_transfer (cell.transfer_given s m z)
+pub given_alike : (s : ModelState) (m : Machine) (z : Zone) → plan.transfer_given cell_table (plan_state s) (machine_number m) (zone_number z) ≡ option_map plan_transfer (cell.transfer_given s m z)
 given_alike s m z = ap (plan.given_by (machine_number m)) (way_at s z) ∙ given_by_alike m (transfer_of z (zone_at s z).posture)
 
 kept_if : (b : Bool) (r row : Transfer) → (if b then Some r else None) ≡ Some row → Some r ≡ Some row

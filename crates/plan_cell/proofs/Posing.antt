@@ -64,7 +64,7 @@ posture_after s m p k z = ap₂ unwrap_or (posture_is m p k z) (posture_alike s 
 same_at : (s : ModelState) (z : Zone) (a : PlanPosture) (q : Posture) → a ≡ plan_posture q → plan_same_posture a (plan_posture_at (plan_state s) (zone_number z)) ≡ same_posture q (zone_at s z).posture
 same_at s z a q e = ap₂ plan_same_posture e (posture_alike s z) ∙ same_postures q (zone_at s z).posture
 
-concern_alike : (s : ModelState) (m : Machine) (p : Pose) → PoseRow m p → (z : Zone) → plan.is_concerned cell_table (plan_state s) (machine_number m) (pose_number m p) (zone_number z) ≡ cell.is_concerned s m p z
+pub concern_alike : (s : ModelState) (m : Machine) (p : Pose) → PoseRow m p → (z : Zone) → plan.is_concerned cell_table (plan_state s) (machine_number m) (pose_number m p) (zone_number z) ≡ cell.is_concerned s m p z
 concern_alike s m p k z =
     ap₂ (λ a b. a && b) (hosted_alike m z)
     (ap₂ (λ a b. a || not b) k.moving (same_at s z (plan.posture_with cell_table (plan_state s) (pose_number m p) (zone_number z)) (cell.posture_with s m p z) (posture_after s m p k z)))
@@ -161,7 +161,7 @@ onto_empty : (s : ModelState) (z : Zone) (o : Option Transfer) → transfer_of z
 onto_empty s z None is clear empty = refl
 onto_empty s z (Some row) is clear empty = not_taken s z OpenIn row is clear empty
 
-opens_alike_at : (s : ModelState) (m : Machine) (p : Pose) → PoseRow m p → (z : Zone)
+pub opens_alike_at : (s : ModelState) (m : Machine) (p : Pose) → PoseRow m p → (z : Zone)
     → (plan_same_posture (plan.posture_with cell_table (plan_state s) (pose_number m p) (zone_number z)) IsOpenIn && not (plan_same_posture (plan_posture_at (plan_state s) (zone_number z)) IsOpenIn)) ≡ cell.opens s m p z
 opens_alike_at s m p k z =
     ap₂ (λ a b. a && not b) (ap (λ q. plan_same_posture q IsOpenIn) (posture_after s m p k z) ∙ same_postures (cell.posture_with s m p z) OpenIn)

@@ -1,11 +1,21 @@
 -- What the cell and its plan have in common.
-use Rattle.std.specs.Prelude.{◌≡◌, Some, option_map}
+use Rattle.std.specs.Prelude.{◌≡◌, Bool, false, ◌&&◌, not, ◌⊎◌, Some, option_map, IsTrue}
 use Rattle.cell_types.specs.declared.machine.Machine.{Machine}
+use Rattle.cell_types.specs.declared.machine.Machine.TheVariants.{Feed, Press, Deposit}
 use Rattle.cell_types.specs.declared.zone.Zone.{Zone}
+use Rattle.cell_types.specs.declared.zone.Zone.TheVariants.{Z1, Z6}
+use Rattle.cell_types.specs.declared.place.Place.TheVariants.{FeedEnd, PressOut, DepEnd}
+use Rattle.cell_types.specs.declared.posture.Posture.TheVariants.{Moving}
+use Rattle.cell_types.specs.declared.pose.Pose.TheVariants.{Middle, Running}
 use Rattle.cell_types.specs.declared.call.Call.{Call}
-use Rattle.cell_types.specs.declared.answer.Answer.TheVariants.{Done}
-use Rattle.cell_rules.specs.ModelState.{ModelState, zone_at}
+use Rattle.cell_types.specs.declared.call.Call.TheVariants.{Yield, Release, SetPose}
+use Rattle.cell_types.specs.declared.answer.Refusal.{Refusal}
+use Rattle.cell_types.specs.declared.answer.Refusal.TheVariants.{PlaceFull, InUse}
+use Rattle.cell_types.specs.declared.answer.Answer.TheVariants.{Done, Refused}
+use Rattle.cell_types.specs.Same.{same_posture}
+use Rattle.cell_rules.specs.ModelState.{ModelState, zone_at, is_full}
 use Rattle.cell_rules.specs.Sound.{IsSound}
+use Rattle.cell_rules.specs.Refusals.{owns}
 use Rattle.cell_rules.specs.Reply.{reply, next}
 use Rattle.plan_types.specs.declared.call.Call.{Call as PlanCall}
 use Rattle.plan_types.specs.declared.call.Call.TheVariants.{Inquire}
@@ -23,6 +33,33 @@ CellRefusesMore =
     (s : ModelState) (m : Machine) (c : Call) (d : PlanCall) → plan_call m c ≡ Some d → reply s m c ≡ Done
     → (plan_reply cell_table (plan_state s) (machine_number m) d ≡ PlanDone)
     × (plan_next cell_table (plan_state s) (machine_number m) d ≡ plan_state (next s m c))
+
+-- feed's belt runs with a plate at its end
+abbrev pub feed_holds_back : ModelState → Bool
+feed_holds_back s = same_posture (zone_at s Z6).posture Moving && is_full s FeedEnd
+
+-- the rules that the cell has and its plan hasn't: feed doesn't leave z1 while its belt holds a plate back; no belt
+-- runs with a plate at its end, but feed's may while feed owns z1; the press has room for one plate, so with a forged
+-- one it doesn't open for loading
+abbrev pub is_own_rule : ModelState → Machine → Call → Refusal → Bool
+is_own_rule s Feed (Yield Z1) InUse = feed_holds_back s
+is_own_rule s Feed (Release Z1) InUse = feed_holds_back s
+is_own_rule s Feed (SetPose Running) PlaceFull = is_full s FeedEnd && not (owns s Feed Z1)
+is_own_rule s Deposit (SetPose Running) PlaceFull = is_full s DepEnd
+is_own_rule s Press (SetPose Middle) PlaceFull = is_full s PressOut
+is_own_rule s m c r = false
+
+pub record RefusedByOwnRule (s : ModelState) (m : Machine) (c : Call) : Type 0 where
+  pub refusal : Refusal
+  pub answer : reply s m c ≡ Refused refusal
+  pub rule : IsTrue (is_own_rule s m c refusal)
+
+-- a call that the plan does the cell does too, or refuses by one of these rules
+abbrev pub RefusesByItsOwnRules : Type 0
+RefusesByItsOwnRules =
+    (s : ModelState) (m : Machine) (c : Call) (d : PlanCall) → plan_call m c ≡ Some d
+    → plan_reply cell_table (plan_state s) (machine_number m) d ≡ PlanDone
+    → (reply s m c ≡ Done) ⊎ RefusedByOwnRule s m c
 
 -- an inquiry shows the same
 abbrev pub InquiriesAreAlike : Type 0

@@ -1,10 +1,17 @@
 //! Laws of the cell and its plan, each the contract of a function that does nothing.
-ghost use Rattle.plan_cell.specs.Laws.{CellRefusesMore, InquiriesAreAlike, SoundByPlan};
+ghost use Rattle.plan_cell.specs.Laws.{CellRefusesMore, InquiriesAreAlike, RefusesByItsOwnRules, SoundByPlan};
 
 /// Whatever the cell answers Done its plan answers Done too, and both leave the same state: the cell only refuses more.
 /// `Advance` is a call that plans don't have.
 pub fn cell_refuses_more()
     ensures { CellRefusesMore }
+{}
+
+/// What the plan does and the cell refuses, the cell refuses by one of three rules that its plan hasn't: feed stays in
+/// z1 while its belt holds a plate back (`InUse`); no belt runs with a plate at its end, but feed's while feed owns z1;
+/// and the press doesn't open for loading onto a forged plate (`PlaceFull`).
+pub fn cell_refuses_by_its_own_rules()
+    ensures { RefusesByItsOwnRules }
 {}
 
 /// An inquiry shows the same zone in the cell and by its plan.
