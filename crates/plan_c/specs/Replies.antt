@@ -8,8 +8,6 @@ use Rattle.plan_types.specs.declared.answer.Answer.{Answer}
 use Rattle.plan_types.specs.declared.answer.Answer.TheVariants.{Done, Shown, Refused}
 use Rattle.plan_c.specs.Numbers.{posture_number}
 use Rattle.plan_c.specs.declared.reply.Reply.{Reply}
-use Rattle.plan_c.specs.declared.reading.Unread.{Unread}
-use Rattle.plan_c.specs.declared.reading.Unread.TheVariants.{NoPlan, NoMemory}
 
 -- the same as the cell's; 11 and 16 are refusals that plans don't have
 abbrev pub refusal_number : Refusal → ℕ
@@ -98,10 +96,6 @@ no_plan = 67
 
 abbrev pub no_memory : ℕ
 no_memory = 68
-
-abbrev pub unread_answer : Unread → ℕ
-unread_answer NoPlan = no_plan
-unread_answer NoMemory = no_memory
 
 -- no word and no stamp: all bits are set
 abbrev pub no_word : ℕ

@@ -1,4 +1,5 @@
-//! The functions that C calls. Each checks whatever it is passed, and frees what it takes before it returns.
+//! The functions that C calls. Each checks whatever it is passed, and frees what it takes before it returns. Each reads
+//! the plan, which alone takes memory, and then answers by it.
 ghost use Rattle.std.specs.Prelude.{◌≡◌, ◌≢◌, ◌≤◌, ◌<◌};
 ghost use Rattle.plan_types.specs.Table.{PlanTable};
 ghost use Rattle.plan_types.specs.declared.call.Call.{Call};
@@ -11,19 +12,11 @@ ghost use Rattle.plan_c.specs.Numbers.{IsCall, NoCall};
 ghost use Rattle.plan_c.specs.Starts.{IsStartText, places_in};
 ghost use Rattle.plan_c.specs.Replies as replies;
 
+use crate::by_plan::{NO_STAMP, NO_WORD, reply_by, restamp_by, stamp_by, start_by};
 use crate::calls::call_with;
-use crate::places::{is_start, places_of};
 use crate::reading::read_plan;
-use crate::reply::{NO_CALL, NO_STATE, Reply, bare_reply, reply_of};
-use plan_rules::{LAST_STAMP, State};
-use plan_word::{pack, step_word, unpack};
-use std::alloc::Global;
-
-/// No word.
-const NO_WORD: u64 = u64::MAX;
-
-/// No stamp.
-const NO_STAMP: u32 = u32::MAX;
+use crate::reply::{NO_CALL, NO_MEMORY, NO_PLAN, Reply, bare_reply};
+use std::alloc::{AllocError, Global};
 
 /// Makes a call on a word, by a plan. If the bytes are a plan, the numbers name a call, and the word is
 /// a state's, the reply is the interlock's, with the word of the state after it. Otherwise, and if
@@ -56,13 +49,10 @@ pub extern "C" fn bagunjoki_plan_step(
     let Some(call) = call_with(verb, object) else {
         return bare_reply(NO_CALL, word);
     };
-    let (plan, layout) = match read_plan(alloc, plan) {
-        Ok(found) => found,
-        Err(why) => return bare_reply(why.answer(), word),
-    };
-    match step_word(&plan, &layout, word, machine, call) {
-        Some((answer, next)) => reply_of(answer, next),
-        None => bare_reply(NO_STATE, word),
+    match read_plan(alloc, plan) {
+        Ok(Some((plan, layout))) => reply_by(&plan, &layout, word, machine, call),
+        Ok(None) => bare_reply(NO_PLAN, word),
+        Err(AllocError) => bare_reply(NO_MEMORY, word),
     }
 }
 
@@ -77,13 +67,9 @@ pub extern "C" fn bagunjoki_plan_start(alloc: Global, plan: &[u8], digits: &[u8]
         → result ≡ replies.no_word }
     ensures no_plan { NoPlan plan.now → result ≡ replies.no_word }
 {
-    let Ok((plan, layout)) = read_plan(alloc, plan) else {
-        return NO_WORD;
-    };
-    if is_start(&plan, digits, stamp) {
-        pack(&plan, &layout, &State::start(places_of(digits), stamp))
-    } else {
-        NO_WORD
+    match read_plan(alloc, plan) {
+        Ok(Some((plan, layout))) => start_by(&plan, &layout, digits, stamp),
+        Ok(None) | Err(AllocError) => NO_WORD,
     }
 }
 
@@ -100,12 +86,9 @@ pub extern "C" fn bagunjoki_plan_restamp(alloc: Global, plan: &[u8], word: u64, 
         → result ≡ replies.no_word }
     ensures no_plan { NoPlan plan.now → result ≡ replies.no_word }
 {
-    let Ok((plan, layout)) = read_plan(alloc, plan) else {
-        return NO_WORD;
-    };
-    match unpack(&plan, &layout, word) {
-        Some(state) if stamp <= LAST_STAMP => pack(&plan, &layout, &State { stamp, ..state }),
-        _ => NO_WORD,
+    match read_plan(alloc, plan) {
+        Ok(Some((plan, layout))) => restamp_by(&plan, &layout, word, stamp),
+        Ok(None) | Err(AllocError) => NO_WORD,
     }
 }
 
@@ -119,11 +102,8 @@ pub extern "C" fn bagunjoki_plan_stamp(alloc: Global, plan: &[u8], word: u64) ->
         → result ≡ replies.no_stamp }
     ensures no_plan { NoPlan plan.now → result ≡ replies.no_stamp }
 {
-    let Ok((plan, layout)) = read_plan(alloc, plan) else {
-        return NO_STAMP;
-    };
-    match unpack(&plan, &layout, word) {
-        Some(state) => state.stamp,
-        None => NO_STAMP,
+    match read_plan(alloc, plan) {
+        Ok(Some((plan, layout))) => stamp_by(&plan, &layout, word),
+        Ok(None) | Err(AllocError) => NO_STAMP,
     }
 }

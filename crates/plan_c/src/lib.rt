@@ -2,6 +2,7 @@
 //! `bindings/bagunjoki_plan.h` declares the functions, and has the loop over a shared word.
 #![tactic(auto)]
 
+mod by_plan;
 mod calls;
 mod exports;
 pub mod laws;

@@ -34,6 +34,10 @@ const ROWS: &[([u8; 3], [u8; 4], u32)] = &[
     ([0, 1, 0], [14, 255, 255, 255], 7),
     ([15, 10, 0], [0, 255, 255, 255], 8),
     ([15, 10, 0], [15, 255, 255, 255], 8),
+    // a number past the plan's machines names a machine that may only inquire
+    ([255, 8, 0], [32, 1, 255, 2], 8),
+    ([255, 1, 0], [1, 255, 255, 255], 8),
+    ([255, 9, 0], [1, 255, 255, 255], 8),
 ];
 
 #[test]
@@ -59,6 +63,34 @@ fn is_answered_in_numbers(rt: HostRuntime) -> Result<(), Fail> {
     assert!(rt; bagunjoki_plan_stamp(rt.alloc(), &plan, u64::MAX) == u32::MAX);
     assert!(rt; bagunjoki_plan_start(rt.alloc(), &plan, b"1", 0) == u64::MAX);
     assert!(rt; bagunjoki_plan_step(rt.alloc(), &[], word, 1, 1, 0).answer == 67);
+    Ok(())
+}
+
+// Two machines at a zone, with no poses and no places. The host is machine 0, the guest the one given.
+fn bare_zone(guest: u8) -> [u8; 12] {
+    [2, 1, 0, 0, 0, guest, 0, 0, 0, 0, 0, 0]
+}
+
+#[test]
+fn tells_what_is_no_plan(rt: HostRuntime) -> Result<(), Fail> {
+    let plan = bare_zone(0);
+    assert!(rt; bagunjoki_plan_step(rt.alloc(), &plan, 0, 0, 1, 0).answer == 67);
+    assert!(rt; bagunjoki_plan_start(rt.alloc(), &plan, b"", 0) == u64::MAX);
+    assert!(rt; bagunjoki_plan_restamp(rt.alloc(), &plan, 0, 0) == u64::MAX);
+    assert!(rt; bagunjoki_plan_stamp(rt.alloc(), &plan, 0) == u32::MAX);
+    Ok(())
+}
+
+// No pose opens the zone, so no start comes to this word. It is a state's all the same.
+#[test]
+fn an_open_free_zone_is_a_state(rt: HostRuntime) -> Result<(), Fail> {
+    let plan = bare_zone(1);
+    let start = bagunjoki_plan_start(rt.alloc(), &plan, b"", 0);
+    assert!(rt; start == 0);
+    assert!(rt; bagunjoki_plan_step(rt.alloc(), &plan, start, 1, 1, 0).answer == 4);
+    let reply = bagunjoki_plan_step(rt.alloc(), &plan, 24, 1, 1, 0);
+    assert!(rt; reply.answer == 0);
+    assert!(rt; reply.next == 58);
     Ok(())
 }
 
