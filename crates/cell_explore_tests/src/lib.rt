@@ -5,6 +5,8 @@
 #[cfg(test)]
 mod doubles;
 #[cfg(test)]
+mod explorations;
+#[cfg(test)]
 mod memory;
 #[cfg(test)]
 mod refusals;
