@@ -118,6 +118,13 @@ module _ {W1 W2 W3 W4 W5 W6 A B C D E F H S Fault : Type 0} (gives1 : GivesOf W1
     pub taken : takes before.sink (round_in six) (Ok tt) sink
     pub is : left ≡ leave_of six left.watch
 
+  -- whatever the six workers and the watch note in their next round, the sink may take it
+  abbrev pub MayTakeNext : (S → Round → Type 0) → RoundMoment W1 W2 W3 W4 W5 W6 H S → Type 0
+  MayTakeNext may_take now = (six : SixRecord A B C D E F) (watch : H)
+      → TellsWatched gives1 gives2 gives3 gives4 gives5 gives6 watches now.workers now.watch now.opening tries limit
+      gate six watch
+      → may_take now.sink (round_in six)
+
   module _ (how1 : A → Status) (how2 : B → Status) (how3 : C → Status) (how4 : D → Status) (how5 : E → Status)
       (how6 : F → Status)
       (goes1 : GoesOnBy A W1) (goes2 : GoesOnBy B W2) (goes3 : GoesOnBy C W3) (goes4 : GoesOnBy D W4)
@@ -131,6 +138,11 @@ module _ {W1 W2 W3 W4 W5 W6 A B C D E F H S Fault : Type 0} (gives1 : GivesOf W1
       pub opens : OpensAfter mark left.end now.opening
       pub goes_on : GoAllOn goes1 goes2 goes3 goes4 goes5 goes6 left.outputs now.opening now.workers
       pub watch_is : now.watch ≡ left.watch
+
+    -- After any rounds that the sink has taken, one after another, it may take the next one.
+    abbrev pub MayTakeEach : (S → Round → Type 0) → RoundMoment W1 W2 W3 W4 W5 W6 H S → Type 0
+    MayTakeEach may_take first = (now : RoundMoment W1 W2 W3 W4 W5 W6 H S) → ComesBy TakesRound first now
+        → MayTakeNext may_take now
 
     -- Rounds, one after another. In the last one a worker didn't end fine, and this is what the six and the watch left.
     pub record RunsRenewed (first : RoundMoment W1 W2 W3 W4 W5 W6 H S) (left : Leave A B C D E F H) (sink : S)

@@ -4,7 +4,8 @@ ghost use Rattle.cell_rules.specs.ModelState.{ModelState};
 ghost use Rattle.cell_notes.specs.declared.status.Status.TheVariants.{Fine};
 ghost use Rattle.cell_threads.specs.Six.{AreReadyAt};
 ghost use Rattle.cell_renewal.specs.Renewing.{AreAllFine, EndsRound, GoAllOn};
-ghost use Rattle.cell_renewal.specs.Renewing.{IsTurnedOver, MayAllGoOn, OpensAfter, RunsRenewed};
+ghost use Rattle.cell_renewal.specs.Renewing.{IsTurnedOver, MayAllGoOn, MayTakeEach, MayTakeNext};
+ghost use Rattle.cell_renewal.specs.Renewing.{OpensAfter, RunsRenewed};
 
 use crate::renewed_worker::RenewedWorker;
 use crate::rounds::{Leave, Round, RoundSink};
@@ -53,6 +54,9 @@ impl<E> From<RunFault> for RenewalFault<E> {
 /// interlock opens with the state that the one before it left. A stamp that has passed the mark
 /// begins again at 0.
 ///
+/// Each round that the sink is handed is one that it may take, also in a run that fails later or
+/// never ends.
+///
 /// The run ends after a round in which a worker didn't end fine: its gate refused it a turn, or its
 /// machine has stopped. A gate is asked by the number of the turn in its round.
 ///
@@ -91,6 +95,11 @@ where
     S: RoundSink,
     requires ready { AreReadyAt W1.is_ready W2.is_ready W3.is_ready W4.is_ready W5.is_ready W6.is_ready opening
         workers }
+    requires may_take { MayTakeEach W1.gives_back W2.gives_back W3.gives_back W4.gives_back W5.gives_back
+        W6.gives_back H.watches S.takes
+        renewal.tries renewal.turns (G.may_answer gate.now) W1.ended W2.ended W3.ended W4.ended W5.ended W6.ended
+        W1.goes_on W2.goes_on W3.goes_on W4.goes_on W5.goes_on W6.goes_on renewal.mark S.may_take
+        (record { workers = workers; watch = watch; opening = opening; sink = sink.old }) }
     ensures rounds { IfOk result (λ left. RunsRenewed W1.gives_back W2.gives_back W3.gives_back W4.gives_back
         W5.gives_back W6.gives_back H.watches S.takes
         renewal.tries renewal.turns (G.may_answer gate.now) W1.ended W2.ended W3.ended W4.ended W5.ended W6.ended
@@ -170,6 +179,10 @@ where
     S: RoundSink,
     requires ready { AreReadyAt W1.is_ready W2.is_ready W3.is_ready W4.is_ready W5.is_ready W6.is_ready opening
         workers }
+    requires may_take { MayTakeNext W1.gives_back W2.gives_back W3.gives_back W4.gives_back W5.gives_back
+        W6.gives_back H.watches S.takes
+        renewal.tries renewal.turns (G.may_answer gate.now) S.may_take
+        (record { workers = workers; watch = watch; opening = opening; sink = sink.old }) }
     ensures { IfOk result (λ turned. (left : _) × EndsRound W1.gives_back W2.gives_back W3.gives_back
         W4.gives_back W5.gives_back W6.gives_back H.watches S.takes
         renewal.tries renewal.turns (G.may_answer gate.now)
@@ -215,6 +228,10 @@ where
     S: RoundSink,
     requires ready { AreReadyAt W1.is_ready W2.is_ready W3.is_ready W4.is_ready W5.is_ready W6.is_ready opening
         workers }
+    requires may_take { MayTakeNext W1.gives_back W2.gives_back W3.gives_back W4.gives_back W5.gives_back
+        W6.gives_back H.watches S.takes
+        renewal.tries renewal.turns (G.may_answer gate.now) S.may_take
+        (record { workers = workers; watch = watch; opening = opening; sink = sink.old }) }
     ensures ends { IfOk result (λ left. EndsRound W1.gives_back W2.gives_back W3.gives_back W4.gives_back
         W5.gives_back W6.gives_back H.watches S.takes
         renewal.tries renewal.turns (G.may_answer gate.now)

@@ -36,10 +36,14 @@ pub trait RoundSink {
     /// Why it fails.
     type Fault;
 
+    // The sink, and a round that it may be handed then. The default is any round.
+    ghost may_take: { Self → Round → Type 0 } = { λ _ _. ⊤ };
+
     // The sink before, the round, what came back, the sink after. The default is anything.
     ghost takes: { Self → Round → Result (Unit {0}) Self.Fault → Self → Type 0 } = { λ _ _ _ _. ⊤ };
 
     /// Takes what a round noted. An error ends the run.
     fn take(&mut self, round: Round) -> Result<(), Self::Fault>
+        requires { may_take self.old round }
         ensures { takes self.old round result self.new };
 }

@@ -32,3 +32,7 @@ returns-in-Ends g c =
         not_all_fine = subst (λ l. ¬ AreAllFine g.W1.RenewedWorker.ended g.W2.RenewedWorker.ended g.W3.RenewedWorker.ended g.W4.RenewedWorker.ended g.W5.RenewedWorker.ended g.W6.RenewedWorker.ended l.outputs) (sym over.0) over.1;
       };
     }
+
+pub take_round-requires-clause-may_take : goal.take_round-requires-clause-may_take
+take_round-requires-clause-may_take g c κs within =
+    c.requires.may_take (record { workers = c.rounds.workers; watch = c.rounds.watch; opening = c.rounds.opening; sink = c.rounds.sink }) c.rounds.invariant.come

@@ -19,3 +19,6 @@ returns-clause-may_go_on g c =
     (c.leaves-4.ensures c.args.workers.press (fresh_pass t.interlock Press) t.interlock.tries c.args.renewal.turns t.results.press ready.press t.given.press.1)
     (c.leaves-5.ensures c.args.workers.deposit (fresh_pass t.interlock Deposit) t.interlock.tries c.args.renewal.turns t.results.deposit ready.deposit t.given.deposit.1)
     (c.leaves-6.ensures c.args.workers.crane (fresh_pass t.interlock Crane) t.interlock.tries c.args.renewal.turns t.results.crane ready.crane t.given.crane.1) c.args.renewal.mark
+
+pub take-requires : goal.take-requires
+take-requires g c = c.requires.may_take c.in_ok-record.record c.in_ok-record.watch c.in_ok-record.ensures.work
