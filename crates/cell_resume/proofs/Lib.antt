@@ -21,3 +21,4 @@ pub mod DepositTeam
 pub mod DepositNumbers
 pub mod CraneResumes
 pub mod CraneTeam
+pub mod FiguresHold

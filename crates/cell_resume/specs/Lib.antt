@@ -11,3 +11,4 @@ pub mod Teams
 pub mod Checkpoints
 pub mod TeamTest
 pub mod Laws
+pub mod Figures

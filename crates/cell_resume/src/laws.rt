@@ -1,7 +1,8 @@
-//! Laws of six machines that go on in step with a state. Each is the contract of a function with an
-//! empty body.
+//! Laws of six machines that go on in step with a state, and of the bytes that they hand out. Each is
+//! the contract of a function with an empty body.
 ghost use Rattle.cell_resume.specs.Laws.{NoResumedMachineIsRefused, ResumedMachinesStayInStep};
 ghost use Rattle.cell_resume.specs.Laws.{MachinesAreInStep};
+ghost use Rattle.cell_resume.specs.Figures.{FigureRows};
 
 /// From each state with which six machines are in step, in each legal history in which each has
 /// come by its own events to a step of its program, whatever the order of the calls and whatever
@@ -20,4 +21,11 @@ pub fn resumed_machines_stay_in_step()
 /// So it is in each legal history from a start.
 pub fn machines_are_in_step()
     ensures { MachinesAreInStep }
+{}
+
+/// What the bytes mean, in figures: the number of each step of each machine, and the fourteen bytes
+/// of three states with their steps. So bytes that one version of the program has handed out are
+/// taken back by each later one, and mean the same.
+pub fn checkpoints_by_figures()
+    ensures { FigureRows }
 {}

@@ -1,0 +1,63 @@
+-- What the fourteen bytes mean, computed.
+use Rattle.std.proofs.Common.{◌≡◌, refl}
+use Rattle.cell_rules.proofs.Tested.{sound_by_test}
+use Rattle.cell_rules.specs.Names.{ModelState}
+use Rattle.cell_word.specs.Layout.{packed}
+use Rattle.cell_resume.specs.Checkpoints.{IsCheckpointOf, checkpoint_in}
+use Rattle.cell_resume.specs.Figures.{NumberRows, FigureRows, start_bytes, start_state, start_team, full_bytes, full_state, full_team, forged_bytes, forged_state, forged_team}
+
+numbers : (s : ModelState) → NumberRows s
+numbers s = record {
+  feed = (refl, (refl, (refl, (refl, (refl, (refl, (refl, (refl, (refl, (refl, (refl, (refl, tt))))))))))));
+  table = (refl, (refl, (refl, (refl, (refl, (refl, (refl, (refl, (refl, (refl, (refl, (refl, tt))))))))))));
+  robot = (refl, (refl, (refl, (refl, (refl, (refl, (refl, (refl, (refl, (refl, (refl, (refl, (refl, (refl, (refl, (refl, (refl, (refl, (refl, (refl, (refl, (refl, (refl, (refl, (refl, (refl, (refl, (refl, tt))))))))))))))))))))))))))));
+  press_downward = (refl, (refl, (refl, (refl, (refl, (refl, (refl, (refl, (refl, (refl, (refl, (refl, (refl, (refl, (refl, tt)))))))))))))));
+  press_upward = (refl, (refl, (refl, (refl, (refl, (refl, (refl, (refl, (refl, (refl, (refl, (refl, (refl, (refl, (refl, tt)))))))))))))));
+  deposit = (refl, (refl, (refl, (refl, (refl, (refl, (refl, (refl, (refl, (refl, (refl, (refl, tt))))))))))));
+  crane = (refl, (refl, (refl, (refl, (refl, (refl, (refl, (refl, (refl, (refl, (refl, (refl, (refl, (refl, tt))))))))))))));
+  no_feed = refl;
+  no_table = refl;
+  no_robot = refl;
+  no_press = refl;
+  no_deposit = refl;
+  no_crane = refl;
+}
+
+start_word : packed start_state ≡ (checkpoint_in start_bytes).word
+unfolding packed
+start_word = refl
+
+start : IsCheckpointOf (checkpoint_in start_bytes) start_state start_team
+start = record {
+  sound = sound_by_test start_state refl;
+  word = start_word;
+  numbers = record { feed = refl; table = refl; robot = refl; press = refl; deposit = refl; crane = refl };
+  in_step = record { feed = refl; table = refl; robot = refl; press = refl; deposit = refl; crane = refl };
+}
+
+full_word : packed full_state ≡ (checkpoint_in full_bytes).word
+unfolding packed
+full_word = refl
+
+full : IsCheckpointOf (checkpoint_in full_bytes) full_state full_team
+full = record {
+  sound = sound_by_test full_state refl;
+  word = full_word;
+  numbers = record { feed = refl; table = refl; robot = refl; press = refl; deposit = refl; crane = refl };
+  in_step = record { feed = refl; table = refl; robot = refl; press = refl; deposit = refl; crane = refl };
+}
+
+forged_word : packed forged_state ≡ (checkpoint_in forged_bytes).word
+unfolding packed
+forged_word = refl
+
+forged : IsCheckpointOf (checkpoint_in forged_bytes) forged_state forged_team
+forged = record {
+  sound = sound_by_test forged_state refl;
+  word = forged_word;
+  numbers = record { feed = refl; table = refl; robot = refl; press = refl; deposit = refl; crane = refl };
+  in_step = record { feed = refl; table = refl; robot = refl; press = refl; deposit = refl; crane = refl };
+}
+
+pub figures-hold : FigureRows
+figures-hold = record { numbers = numbers; start = start; full = full; forged = forged }
