@@ -48,7 +48,15 @@ pub fn words_of<E: Env>(alloc: Global, env: &E) -> io::Result<Vec<String>>
         (λ words. (rest : List (List ℕ)) × (map string_bytes words.items ≡ codes "cell" ∷ rest)) }
 {
     let arguments = (WithoutName { env }, alloc);
-    let mut rest: Vec<String> = env::args(&arguments)?.collect(alloc)?;
+    let rest: Vec<String> = env::args(&arguments)?.collect(alloc)?;
+    Ok(words_with(alloc, rest)?)
+}
+
+/// The words of a program that was started with these after its name. An error says that memory ran out.
+fn words_with(alloc: Global, mut rest: Vec<String>) -> Result<Vec<String>, AllocError>
+    ensures { IfOk result
+        (λ words. map string_bytes words.items ≡ codes "cell" ∷ map string_bytes rest.items) }
+{
     let mut words = Vec::new(alloc);
     words.push(String::from_str(alloc, "cell")?)?;
     words.append(&mut rest)?;
