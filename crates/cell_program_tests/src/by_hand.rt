@@ -12,7 +12,7 @@ use super::six_machines::{RUNS, config_of};
 use cell_calib::{Calibration, Gauge, line_at};
 use cell_config::{Config, read_config};
 use cell_configured::CellPoints;
-use cell_notes::RunRecord;
+use cell_notes::{RunRecord, Status};
 use cell_plant::{Cell, simulate};
 use cell_report::{audit, write_report};
 use cell_workers::{OpenGate, run_cell};
@@ -103,6 +103,19 @@ fn is_reported(alloc: Global, run: &RunRecord, text: &str) -> bool {
     write_report(run, audited, &mut written).is_ok() && written.as_slice() == text.as_bytes()
 }
 
+/// The record of a configuration's text.
+fn record_of_text<T: Threads + Wait + Sync>(
+    rt: &T,
+    alloc: Global,
+    text: &str,
+    way: Way,
+) -> Option<RunRecord> {
+    match read_config(alloc, &mut text.as_bytes()) {
+        Ok(config) => record_of(rt, alloc, &config, way),
+        Err(_) => None,
+    }
+}
+
 /// Whether a configuration's record has this report.
 fn has_report<T: Threads + Wait + Sync>(
     rt: &T,
@@ -111,11 +124,19 @@ fn has_report<T: Threads + Wait + Sync>(
     way: Way,
     text: &str,
 ) -> bool {
-    let Ok(config) = read_config(alloc, &mut config.as_bytes()) else {
-        return false;
-    };
-    match record_of(rt, alloc, &config, way) {
+    match record_of_text(rt, alloc, config, way) {
         Some(run) => is_reported(alloc, &run, text),
+        None => false,
+    }
+}
+
+/// Whether no machine is stopped by a configuration's schedule, and the audit finds no fault.
+fn stops_nobody<T: Threads + Wait + Sync>(rt: &T, alloc: Global, config: &str) -> bool {
+    match record_of_text(rt, alloc, config, Way::Simulated) {
+        Some(run) => {
+            run.status == [Status::Fine; 7]
+                && audit(alloc, &run.journals, &run.start, run.end.as_ref()).is_ok()
+        }
         None => false,
     }
 }
@@ -132,5 +153,23 @@ fn goes_with_closures_of_its_own(rt: HostRuntime) -> Result<(), Fail> {
         assert!(rt; is_right, "{start}");
     }
     assert!(rt; has_report(&rt, rt.alloc(), EMPTY, Way::Run, SIX_WORKERS));
+    Ok(())
+}
+
+// The feed belt hands its plate to the table. In one turn of the belt after another the interlock is
+// busy.
+#[test]
+fn a_busy_turn_stops_nobody(rt: HostRuntime) -> Result<(), Fail> {
+    for busy in 0..11usize {
+        let runs = [
+            (6, "t"),
+            (busy, "f"),
+            (1, "F"),
+            (10usize.saturating_sub(busy), "f"),
+            (1, "t"),
+        ];
+        let config = config_of(rt.alloc(), "0100000000", &runs)?;
+        assert!(rt; stops_nobody(&rt, rt.alloc(), config.as_str()), "{busy}");
+    }
     Ok(())
 }

@@ -75,17 +75,17 @@ impl Doorkeeper {
         let Some(wanted) = NOTES.get(turn as usize + 1) else {
             return false;
         };
+        let mut are_all = true;
         for machine in 0..6usize {
-            if self.asked[machine].load(Ordering::SeqCst) < *wanted {
-                return false;
-            }
+            are_all = self.asked[machine].load(Ordering::SeqCst) >= *wanted && are_all;
         }
-        true
+        are_all
     }
 
-    // Whether they all are within some time.
+    // Whether they all are so at one of many looks. Each look reads the notes of all six, so that a
+    // machine waits long enough on a busy computer too.
     fn do_all_meet(&self, turn: u32) -> bool {
-        for _ in 0..1_000_000_000u32 {
+        for _ in 0..100_000_000u32 {
             if self.are_all_at(turn) {
                 return true;
             }
