@@ -1,5 +1,8 @@
 """Makes plans, with the lines of all that stands in them, and scripts, by a random source."""
 
+import plans
+
+VERBS = ("claim", "give", "yield", "take", "release")
 POSTURES = ("closed", "moving", "openin", "openout")
 NAMES = "feed loader press arm belt cart door crane rail oven lift drum saw mill gate dock tray robot points train".split()
 PLACES = "hand die hook bed fork slot rack bin pan tip".split()
@@ -57,10 +60,29 @@ def program(r, machine, zones, most):
     return lines
 
 
+def crowd(r):
+    """The rows of a plan in which several guests give plates to one place of a host, or take them there."""
+    guests = NAMES[1 : r.choice((3, 3, 4))]
+    machines = [{"name": it, "places": [f"at_{it}"], "poses": [], "program": []} for it in (NAMES[0], *guests)]
+    zones = [{"name": f"by_{it}", "host": NAMES[0], "guest": it} for it in guests]
+    for zone in zones:
+        for key, way in (("inward", (f"at_{zone['guest']}", f"at_{NAMES[0]}")), ("outward", (f"at_{NAMES[0]}", f"at_{zone['guest']}"))):
+            if r.randrange(4):
+                zone[key] = [*way]
+    for posture in POSTURES:
+        gives = {it["name"]: posture if r.randrange(6) else r.choice(POSTURES) for it in zones}
+        machines[0]["poses"].append({"name": f"all_{posture}", "gives": gives})
+    for row in machines:
+        row["program"] = program(r, row, zones, 4)
+    return {"machine": machines, "zone": zones}
+
+
 def plan(r, small=False):
     """The rows of a plan."""
+    if r.randrange(5) == 0:
+        return crowd(r)
     machines, names, places, zones = [], [], [], []
-    count = r.choice((1, 2, 2, 3, 3)) if small else r.choice((1, 2, 3, 4, 6, 15))
+    count = r.choice((1, 2, 2, 3, 3)) if small else r.choice((1, 2, 3, 3, 3, 4, 4, 6, 15))
     for _ in range(count):
         row = {"name": name(r, NAMES, names), "places": [], "poses": [], "program": []}
         row["places"] = [name(r, PLACES, places) for _ in range(r.choice((0, 1, 1, 2))) if len(places) < (4 if small else 13)]
@@ -318,23 +340,49 @@ def start(r, places):
     return fields
 
 
+def calls_of(r, document):
+    """All calls of parties and of poses' machines, those that move plates more often."""
+    calls = [(row["name"], "pose", it["name"]) for row in document["machine"] for it in row["poses"]] * 2
+    for zone in document["zone"]:
+        verbs = ("claim", "claim", "give", "give", "give", "take", "take", "yield", "release")
+        calls += [(zone[party], verb, zone["name"]) for party in ("host", "guest") for verb in verbs]
+    return calls
+
+
+def done_call(r, rules, state, calls, likes, tries):
+    """One of these calls, and the state after it: of so many the first one with a verb it likes that is done, or else that is."""
+    changing = None
+    for call in r.sample(calls, min(tries, len(calls))):
+        _, after = rules.reply(state, *call)
+        if after != state and call[1] in likes:
+            return call, after
+        if after != state and (not changing or changing[0][1] == "release" and r.randrange(4)):
+            changing = call, after
+    return changing or (call, after)
+
+
 def script(r, document):
-    """A script for a plan: its records, as bytes."""
-    machines = [it["name"] for it in document["machine"]]
-    zones = document["zone"]
-    records = [start(r, sum(len(it["places"]) for it in document["machine"]))]
-    poses = [(row["name"], it["name"]) for row in document["machine"] for it in row["poses"]]
+    """A script for a plan, as bytes: calls of which most are done, and others."""
+    rules, machines = plans.Plan(document), [it["name"] for it in document["machine"]]
+    records = [start(r, len(rules.keeper))]
+    digits = "".join(records[0][1:2]).ljust(len(rules.keeper), "0")
+    state, calls, likes = rules.start(digits), calls_of(r, document), r.choice((("give",), ("give", "take")))
     for _ in range(r.choice((0, 3, 10, 30, 60))):
-        form = r.randrange(12) if zones or r.randrange(4) == 0 else 4
-        zone = r.choice(zones) if zones else {"name": "z1", "host": machines[0], "guest": machines[0]}
-        caller = r.choice((zone["host"], zone["guest"], zone["host"], zone["guest"], r.choice(machines), "watch"))
-        if form < 4 and poses:
-            machine, pose = r.choice(poses)
-            records.append([machine if r.randrange(9) else r.choice(machines), "pose", pose])
-        elif form == 4:
-            records.append(["watch" if r.randrange(5) else r.choice(machines), r.choice(("stop", "resume"))])
+        form = r.randrange(16)
+        if form < 12 and calls:
+            call, state = done_call(r, rules, state, calls, likes, 30 if form < 9 else 1)
+            records.append([*call])
+            continue
+        caller = r.choice((*machines, "watch"))
+        if form == 12:
+            call = ("watch" if r.randrange(5) else caller, r.choice(("resume", "resume", "resume", "stop")), None)
+        elif form < 15 and rules.zones or not rules.poses:
+            call = (caller, r.choice(("inquire", "inquire", *VERBS)), r.choice(rules.zones or ["z1"]))
         else:
-            records.append([caller, r.choice(("claim", "claim", "give", "yield", "take", "release", "inquire")), zone["name"]])
+            call = (caller, "pose", r.choice([it for _, it in rules.poses]))
+        records.append([it for it in call if it])
+        if call[1] in ("stop", "resume") or call[1] == "pose" or call[2] in rules.zones:
+            state = rules.reply(state, *call)[1]
     if r.randrange(12) == 0:
         words = [*machines, "claim", "pose", "stop", "", " ", "z1", "watch", "free", "CLAIM", "advance"]
         records.append([r.choice(words) for _ in range(r.randrange(1, 5))])
