@@ -187,8 +187,13 @@ def main():
         subprocess.run([f"{HERE}/../plan", "--help"], stdout=subprocess.DEVNULL, check=True)
     begun = time.monotonic()
     jobs = [(given.seed, first, min(first + AT_ONCE, given.plans), program) for first in range(0, given.plans, AT_ONCE)]
+    results = []
     with multiprocessing.Pool(int(os.environ.get("PROCESSES", "2"))) as pool:
-        results = pool.map(try_inputs, jobs, chunksize=1)
+        for result in pool.imap_unordered(try_inputs, jobs):
+            results.append(result)
+            if len(results) % 50 == 0:
+                differing = sum(len(it) for _, it in results)
+                print(f"fuzz: {len(results) * AT_ONCE} inputs, {differing} differ", file=sys.stderr, flush=True)
     for kind, count in sorted(sum((it[0] for it in results), collections.Counter()).items()):
         print(f"{count:8} {kind}")
     differing = sorted(it for _, these in results for it in these)
