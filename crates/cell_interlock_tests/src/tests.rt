@@ -7,3 +7,4 @@ mod played;
 mod receipts;
 mod steps;
 mod threads;
+mod waiting;
