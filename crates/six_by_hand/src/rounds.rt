@@ -1,7 +1,10 @@
 //! A number of rounds, each over an interlock of its own, at one pace and audited.
 
+ghost use Rattle.std.specs.Prelude.{◌≡◌, None};
+
 use cell_renewal::{Round, RoundSink};
 use cell_report::{AuditFault, audit};
+use cell_rules::State;
 use cell_threads::{Gate, PacedGate};
 use cell_types::{Answer, Call, Entry, Machine, Zone};
 use std::alloc::Global;
@@ -50,6 +53,8 @@ impl<R: Wait> Gate for RoundsGate<'_, R> {
 #[derive(Drop)]
 pub struct Audits {
     alloc: Global,
+    /// The state that the last round left; `None` before the first.
+    pub left: Option<State>,
     /// How many rounds were audited.
     pub rounds: u32,
     /// How often the crane gave a plate back to the feed belt.
@@ -62,9 +67,12 @@ pub struct Audits {
 
 impl Audits {
     /// Before the first round.
-    pub fn new(alloc: Global) -> Audits {
+    pub fn new(alloc: Global) -> Audits
+        ensures first { result.left ≡ None }
+    {
         Audits {
             alloc,
+            left: None,
             rounds: 0,
             plates: 0,
             done: 0,
@@ -74,7 +82,16 @@ impl Audits {
 }
 
 impl RoundSink for Audits {
+    ghost use Rattle.std.specs.Prelude.{◌≡◌, Result};
+    ghost use Rattle.six_by_hand.specs.Rounds.{IsNext, IsTaken};
+
     type Fault = AuditFault;
+
+    // Each round goes on from the one before it, and a legal history explains it.
+    ghost may_take = { λ audits round. IsNext audits.left round };
+
+    // So the audit fails only if memory runs out.
+    ghost takes = { λ _ round result audits. IsTaken round result audits.left };
 
     fn take(&mut self, round: Round) -> Result<(), AuditFault> {
         let Round {
@@ -85,6 +102,7 @@ impl RoundSink for Audits {
         audit(self.alloc, &journals, &start, Some(&end))?;
         let crane = journals.crane.as_slice();
         let done = end.stamp().saturating_sub(start.stamp());
+        self.left = Some(end);
         self.rounds = self.rounds.saturating_add(1);
         self.plates = self.plates.saturating_add(given_back(crane));
         self.done = self.done.saturating_add(u64::from(done));

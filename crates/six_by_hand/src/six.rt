@@ -1,5 +1,5 @@
 //! Six workers with devices of your own.
-ghost use Rattle.std.specs.Prelude.{◌≡◌};
+ghost use Rattle.std.specs.Prelude.{◌≡◌, None};
 
 use crate::axis::Axis;
 use crate::devices::{Belt, Crane, DepositBelt, FeedBelt, Press, Robot, Table};
@@ -85,6 +85,7 @@ where
     requires rotation { F3.keeps gauges.2 points.rotation }
     requires turn { F4.keeps gauges.3 points.turn }
     requires gripper { F5.keeps gauges.4 points.arm }
+    requires first { audits.old.left ≡ None }
 {
     let (arm1, arm2, rotation, turn, gripper) = gauges;
     let robot = RobotProgram::new(
