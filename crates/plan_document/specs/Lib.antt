@@ -1,1 +1,5 @@
 pub mod Limits
+pub mod Names
+pub mod Keys
+pub mod Saying
+pub mod Reading

@@ -1,5 +1,6 @@
 //! What is wrong with a plan's document, in words.
 ghost use Rattle.std.specs.Prelude.{◌≡◌};
+ghost use Rattle.plan_document.specs.Keys.{key_word};
 ghost use Rattle.plan_document.specs.declared.fault.Wrong.TheVariants.{Memory as NoMemory};
 
 use crate::reading::MAX_BYTES;
@@ -69,7 +70,9 @@ pub enum Key {
 
 impl Key {
     /// The key's word.
-    pub fn word(self) -> &'static str {
+    pub fn word(self) -> &'static str
+        ensures { result.now ≡ key_word self }
+    {
         match self {
             Key::Machine => "machine",
             Key::Zone => "zone",
@@ -83,6 +86,31 @@ impl Key {
             Key::Guest => "guest",
             Key::Inward => "inward",
             Key::Outward => "outward",
+        }
+    }
+}
+
+/// Why a line of a program is never done.
+#[derive(Clone, Copy)]
+pub enum Never {
+    /// The machine is neither the zone's host nor its guest.
+    NoParty,
+    /// No plate goes through the zone from the machine.
+    GivesNothing,
+    /// No plate goes through the zone to the machine.
+    TakesNothing,
+    /// The machine has no such pose.
+    NoPose,
+}
+
+impl Never {
+    /// What is said of such a line.
+    fn text(self) -> &'static str {
+        match self {
+            Never::NoParty => " is never done: the machine is neither host nor guest of the zone",
+            Never::GivesNothing => " is never done: the machine gives no plates through the zone",
+            Never::TakesNothing => " is never done: the machine takes no plates through the zone",
+            Never::NoPose => " is never done: the machine has no such pose",
         }
     }
 }
@@ -133,6 +161,8 @@ pub enum Wrong {
     },
     /// A line of a program is no call.
     NoCall(String),
+    /// A line of a program is never done.
+    Never(Never, String),
     /// A zone's host is its guest.
     HostIsGuest,
     /// The way doesn't lead from a place of the giver to a place of the receiver.
@@ -218,37 +248,21 @@ pub struct DocumentFault {
     pub wrong: Wrong,
 }
 
-/// A result whose error doesn't say yet where in a document it is.
-pub trait At<T> {
-    /// The same result. Its error is at this location.
-    fn at(self, location: Location) -> Result<T, DocumentFault>;
-}
-
-impl<T: Drop> At<T> for Result<T, Wrong> {
-    fn at(self, location: Location) -> Result<T, DocumentFault> {
-        match self {
-            Ok(value) => Ok(value),
-            Err(wrong) => Err(location.fault(wrong)),
-        }
+impl From<AllocError> for DocumentFault {
+    fn from(_error: AllocError) -> DocumentFault {
+        RowOf::Document.whole().fault(Wrong::Memory)
     }
 }
 
-impl<T: Drop> At<T> for Result<T, AllocError> {
-    fn at(self, location: Location) -> Result<T, DocumentFault> {
-        match self {
-            Ok(value) => Ok(value),
-            Err(AllocError) => Err(location.fault(Wrong::Memory)),
-        }
+impl<T: Drop> From<AllocFailed<T>> for DocumentFault {
+    fn from(_error: AllocFailed<T>) -> DocumentFault {
+        RowOf::Document.whole().fault(Wrong::Memory)
     }
 }
 
-impl<T: Drop> At<()> for Result<(), AllocFailed<T>> {
-    fn at(self, location: Location) -> Result<(), DocumentFault> {
-        match self {
-            Ok(()) => Ok(()),
-            Err(_) => Err(location.fault(Wrong::Memory)),
-        }
-    }
+/// The fault that a document has more than `most` of what a key lists.
+pub fn too_many(key: Key, most: usize) -> DocumentFault {
+    RowOf::Document.key(key).fault(Wrong::TooMany(most))
 }
 
 /// Why a document is refused.
@@ -367,6 +381,7 @@ fn write_wrong<W: fmt::Write>(wrong: &Wrong, f: &mut fmt::Formatter<W>) -> fmt::
         Wrong::NoPose(text) => ("the machine has no pose ", text, ""),
         Wrong::NoPosture { word, .. } => ("", word, NO_POSTURE),
         Wrong::NoCall(text) => ("", text, NO_CALL),
+        Wrong::Never(why, text) => ("", text, why.text()),
         Wrong::Foreign(text) => ("the machine doesn't host ", text, ""),
         other => return write_plain(other, f),
     };

@@ -4,8 +4,10 @@
 pub mod document;
 pub mod fault;
 mod locating;
+mod programs;
 mod reading;
 mod resolving;
+mod tables;
 mod values;
 
 pub use document::{Document, MachineRow, PoseRow, PostureRow, WayRow, ZoneRow};

@@ -1,12 +1,21 @@
 //! Reads a plan's document.
+ghost use Rattle.std.specs.Prelude.{map, IfOk};
+ghost use Rattle.std.specs.List.{AllZip};
+ghost use Rattle.toml.specs.View.{table_view, view};
 ghost use Rattle.cell_text.specs.Input.{TakesAtMost};
+ghost use Rattle.plan_document.specs.Keys.{key_word};
 ghost use Rattle.plan_document.specs.Limits.{max_bytes_read};
+ghost use Rattle.plan_document.specs.Reading.{HasRows, IsDocumentIn, IsMachineIn, IsPlanIn, IsPlanOfTable, IsPoseIn};
+ghost use Rattle.plan_document.specs.Reading.{IsZoneIn};
+ghost use Rattle.plan_document.specs.declared.fault.Key.TheVariants.{Machine, Poses, Zone};
 
-use crate::document::{Document, MachineRow, PoseRow, WayRow, ZoneRow};
-use crate::fault::{At, DocumentFault, Key, PlanTextFault, RowOf, Wrong};
+use crate::document::{Document, MachineRow, PoseRow, ZoneRow};
+use crate::fault::{DocumentFault, Key, PlanTextFault, RowOf, Wrong};
 use crate::locating::line_of;
 use crate::resolving::{ProgrammedPlan, programmed_plan_of};
-use crate::values::{add_gives, add_text, add_texts, check_keys, truth_of, way_of};
+use crate::values::{
+    check_keys, gives_at, table_in, tables_at, text_at, texts_at, truth_at, value_at, way_at,
+};
 use cell_text::{InputFault, read_up_to};
 use std::alloc::{AllocError, Global};
 use std::io::Read;
@@ -41,7 +50,9 @@ pub fn read_plan<R: Read>(alloc: Global, reader: &mut R) -> Result<ProgrammedPla
 }
 
 /// The plan in a document's bytes, or the first fault.
-pub fn plan_of(alloc: Global, bytes: &[u8]) -> Result<ProgrammedPlan, PlanTextFault> {
+pub fn plan_of(alloc: Global, bytes: &[u8]) -> Result<ProgrammedPlan, PlanTextFault>
+    ensures { IfOk result (IsPlanIn bytes.now) }
+{
     if bytes.len() > MAX_BYTES {
         return Err(PlanTextFault::Long);
     }
@@ -61,7 +72,9 @@ pub fn plan_of(alloc: Global, bytes: &[u8]) -> Result<ProgrammedPlan, PlanTextFa
     }
 }
 
-fn plan_in(alloc: Global, table: &Table) -> Result<ProgrammedPlan, PlanTextFault> {
+fn plan_in(alloc: Global, table: &Table) -> Result<ProgrammedPlan, PlanTextFault>
+    ensures { IfOk result (IsPlanOfTable (table_view table.now)) }
+{
     let document = document_in(alloc, table)?;
     programmed_plan_of(alloc, &document)
 }
@@ -78,222 +91,136 @@ fn with_line(alloc: Global, bytes: &[u8], fault: PlanTextFault) -> PlanTextFault
 }
 
 /// The rows in a table.
-pub fn document_in(alloc: Global, table: &Table) -> Result<Document, DocumentFault> {
-    let mut document = Document {
-        machines: Vec::new(alloc),
-        zones: Vec::new(alloc),
-    };
-    add_rows(alloc, table, &mut document)?;
-    Ok(document)
-}
-
-fn add_rows(alloc: Global, table: &Table, document: &mut Document) -> Result<(), DocumentFault> {
+fn document_in(alloc: Global, table: &Table) -> Result<Document, DocumentFault>
+    ensures { IfOk result (IsDocumentIn (table_view table.now)) }
+{
     check_top(alloc, table)?;
-    let machines = tables_at(table, RowOf::Document, Key::Machine)?;
-    add_machines(alloc, machines, &mut document.machines)?;
-    let zones = tables_at(table, RowOf::Document, Key::Zone)?;
-    add_zones(alloc, zones, &mut document.zones)
+    let machines = machines_at(alloc, table)?;
+    let zones = zones_at(alloc, table)?;
+    Ok(Document { machines, zones })
 }
 
 /// Refuses a document with an unknown key at the top, or without machines.
 fn check_top(alloc: Global, table: &Table) -> Result<(), DocumentFault> {
-    check_keys(alloc, table, &TOP_KEYS).at(RowOf::Document.whole())?;
-    match table.get("machine") {
+    check_keys(alloc, table, &TOP_KEYS, RowOf::Document)?;
+    match value_at(table, Key::Machine) {
         Some(_) => Ok(()),
         None => Err(RowOf::Document.key(Key::Machine).fault(Wrong::Missing)),
     }
 }
 
-fn add_machines(
-    alloc: Global,
-    values: &[Value],
-    machines: &mut Vec<MachineRow>,
-) -> Result<(), DocumentFault> {
-    'machines: for i in 0..values.len() {
-        add_machine(alloc, &values[i], i, machines)?;
+fn machines_at(alloc: Global, table: &Table) -> Result<Vec<MachineRow>, DocumentFault>
+    ensures { IfOk result (λ rows.
+        HasRows IsMachineIn (key_word Machine) (table_view table.now) rows.items) }
+{
+    let values = tables_at(table, RowOf::Document, Key::Machine)?;
+    machines_in(alloc, values)
+}
+
+fn machines_in(alloc: Global, values: &[Value]) -> Result<Vec<MachineRow>, DocumentFault>
+    ensures { IfOk result (λ rows. AllZip IsMachineIn (map view values.now) rows.items) }
+{
+    let mut rows = Vec::new(alloc);
+    'rows: for i in 0..values.len() {
+        let row = machine_in(alloc, &values[i], i)?;
+        rows.push(row)?;
     }
-    Ok(())
+    Ok(rows)
 }
 
-fn add_zones(
-    alloc: Global,
-    values: &[Value],
-    zones: &mut Vec<ZoneRow>,
-) -> Result<(), DocumentFault> {
-    'zones: for i in 0..values.len() {
-        add_zone(alloc, &values[i], i, zones)?;
-    }
-    Ok(())
-}
-
-/// The tables in the list of a key, if it is there.
-fn tables_at(table: &Table, row: RowOf, key: Key) -> Result<&[Value], DocumentFault> {
-    let Some(value) = table.get(key.word()) else {
-        return Ok(&[]);
-    };
-    match value.as_array() {
-        Some(items) => Ok(items.as_slice()),
-        None => Err(row.key(key).fault(Wrong::NoTables)),
-    }
-}
-
-/// The table that an item in the list of a key is.
-fn table_in(value: &Value, row: RowOf, key: Key) -> Result<&Table, DocumentFault> {
-    match value.as_table() {
-        Some(table) => Ok(table),
-        None => Err(row.key(key).fault(Wrong::NoTables)),
-    }
-}
-
-fn add_machine(
-    alloc: Global,
-    value: &Value,
-    machine: usize,
-    machines: &mut Vec<MachineRow>,
-) -> Result<(), DocumentFault> {
-    let mut row = MachineRow {
-        name: String::new(alloc),
-        places: Vec::new(alloc),
-        poses: Vec::new(alloc),
-        program: Vec::new(alloc),
-    };
-    read_machine(alloc, value, machine, &mut row)?;
-    machines.push(row).at(RowOf::Document.key(Key::Machine))
-}
-
-fn read_machine(
-    alloc: Global,
-    value: &Value,
-    machine: usize,
-    row: &mut MachineRow,
-) -> Result<(), DocumentFault> {
+fn machine_in(alloc: Global, value: &Value, machine: usize) -> Result<MachineRow, DocumentFault>
+    ensures { IfOk result (IsMachineIn (view value.now)) }
+{
     let at = RowOf::Machine(machine);
     let table = table_in(value, RowOf::Document, Key::Machine)?;
-    check_keys(alloc, table, &MACHINE_KEYS).at(at.whole())?;
-    read_text(table, at, Key::Name, &mut row.name)?;
-    read_texts(alloc, table, at, Key::Places, &mut row.places)?;
-    let poses = tables_at(table, at, Key::Poses)?;
-    add_poses(alloc, poses, machine, &mut row.poses)?;
-    read_texts(alloc, table, at, Key::Program, &mut row.program)
+    check_keys(alloc, table, &MACHINE_KEYS, at)?;
+    let name = text_at(alloc, table, at, Key::Name)?;
+    let places = texts_at(alloc, table, at, Key::Places)?;
+    let poses = poses_at(alloc, table, machine)?;
+    let program = texts_at(alloc, table, at, Key::Program)?;
+    Ok(MachineRow {
+        name,
+        places,
+        poses,
+        program,
+    })
 }
 
-fn add_poses(
-    alloc: Global,
-    values: &[Value],
-    machine: usize,
-    poses: &mut Vec<PoseRow>,
-) -> Result<(), DocumentFault> {
-    'poses: for i in 0..values.len() {
-        add_pose(alloc, &values[i], machine, i, poses)?;
+fn poses_at(alloc: Global, table: &Table, machine: usize) -> Result<Vec<PoseRow>, DocumentFault>
+    ensures { IfOk result (λ rows.
+        HasRows IsPoseIn (key_word Poses) (table_view table.now) rows.items) }
+{
+    let values = tables_at(table, RowOf::Machine(machine), Key::Poses)?;
+    poses_in(alloc, values, machine)
+}
+
+fn poses_in(alloc: Global, values: &[Value], machine: usize) -> Result<Vec<PoseRow>, DocumentFault>
+    ensures { IfOk result (λ rows. AllZip IsPoseIn (map view values.now) rows.items) }
+{
+    let mut rows = Vec::new(alloc);
+    'rows: for i in 0..values.len() {
+        let row = pose_in(alloc, &values[i], machine, i)?;
+        rows.push(row)?;
     }
-    Ok(())
+    Ok(rows)
 }
 
-fn add_pose(
+fn pose_in(
     alloc: Global,
     value: &Value,
     machine: usize,
     pose: usize,
-    poses: &mut Vec<PoseRow>,
-) -> Result<(), DocumentFault> {
+) -> Result<PoseRow, DocumentFault>
+    ensures { IfOk result (IsPoseIn (view value.now)) }
+{
+    let at = RowOf::Pose { machine, pose };
     let table = table_in(value, RowOf::Machine(machine), Key::Poses)?;
-    let mut row = PoseRow {
-        name: String::new(alloc),
-        gives: Vec::new(alloc),
-        after_moving: false,
-    };
-    read_pose(alloc, table, RowOf::Pose { machine, pose }, &mut row)?;
-    poses.push(row).at(RowOf::Machine(machine).key(Key::Poses))
+    check_keys(alloc, table, &POSE_KEYS, at)?;
+    let name = text_at(alloc, table, at, Key::Name)?;
+    let gives = gives_at(alloc, table, at)?;
+    let after_moving = truth_at(table, at, Key::AfterMoving)?;
+    Ok(PoseRow {
+        name,
+        gives,
+        after_moving,
+    })
 }
 
-fn read_pose(
-    alloc: Global,
-    table: &Table,
-    at: RowOf,
-    row: &mut PoseRow,
-) -> Result<(), DocumentFault> {
-    check_keys(alloc, table, &POSE_KEYS).at(at.whole())?;
-    read_text(table, at, Key::Name, &mut row.name)?;
-    add_gives(alloc, table, &mut row.gives).at(at.key(Key::Gives))?;
-    if let Some(value) = table.get("after_moving") {
-        row.after_moving = truth_of(value).at(at.key(Key::AfterMoving))?;
+fn zones_at(alloc: Global, table: &Table) -> Result<Vec<ZoneRow>, DocumentFault>
+    ensures { IfOk result (λ rows.
+        HasRows IsZoneIn (key_word Zone) (table_view table.now) rows.items) }
+{
+    let values = tables_at(table, RowOf::Document, Key::Zone)?;
+    zones_in(alloc, values)
+}
+
+fn zones_in(alloc: Global, values: &[Value]) -> Result<Vec<ZoneRow>, DocumentFault>
+    ensures { IfOk result (λ rows. AllZip IsZoneIn (map view values.now) rows.items) }
+{
+    let mut rows = Vec::new(alloc);
+    'rows: for i in 0..values.len() {
+        let row = zone_in(alloc, &values[i], i)?;
+        rows.push(row)?;
     }
-    Ok(())
+    Ok(rows)
 }
 
-fn add_zone(
-    alloc: Global,
-    value: &Value,
-    zone: usize,
-    zones: &mut Vec<ZoneRow>,
-) -> Result<(), DocumentFault> {
+fn zone_in(alloc: Global, value: &Value, zone: usize) -> Result<ZoneRow, DocumentFault>
+    ensures { IfOk result (IsZoneIn (view value.now)) }
+{
+    let at = RowOf::Zone(zone);
     let table = table_in(value, RowOf::Document, Key::Zone)?;
-    let mut row = ZoneRow {
-        name: String::new(alloc),
-        host: String::new(alloc),
-        guest: String::new(alloc),
-        inward: None,
-        outward: None,
-    };
-    read_zone(alloc, table, RowOf::Zone(zone), &mut row)?;
-    zones.push(row).at(RowOf::Document.key(Key::Zone))
-}
-
-fn read_zone(
-    alloc: Global,
-    table: &Table,
-    at: RowOf,
-    row: &mut ZoneRow,
-) -> Result<(), DocumentFault> {
-    check_keys(alloc, table, &ZONE_KEYS).at(at.whole())?;
-    read_text(table, at, Key::Name, &mut row.name)?;
-    read_text(table, at, Key::Host, &mut row.host)?;
-    read_text(table, at, Key::Guest, &mut row.guest)?;
-    read_ways(alloc, table, at, row)
-}
-
-fn read_ways(
-    alloc: Global,
-    table: &Table,
-    at: RowOf,
-    row: &mut ZoneRow,
-) -> Result<(), DocumentFault> {
-    row.inward = optional_way(alloc, table, at, Key::Inward)?;
-    row.outward = optional_way(alloc, table, at, Key::Outward)?;
-    Ok(())
-}
-
-/// Adds the text of a key, which has to be there.
-fn read_text(table: &Table, row: RowOf, key: Key, text: &mut String) -> Result<(), DocumentFault> {
-    match table.get(key.word()) {
-        Some(value) => add_text(value, text).at(row.key(key)),
-        None => Err(row.key(key).fault(Wrong::Missing)),
-    }
-}
-
-/// Adds the texts in the list of a key, if it is there.
-fn read_texts(
-    alloc: Global,
-    table: &Table,
-    row: RowOf,
-    key: Key,
-    texts: &mut Vec<String>,
-) -> Result<(), DocumentFault> {
-    match table.get(key.word()) {
-        Some(value) => add_texts(alloc, value, texts).at(row.key(key)),
-        None => Ok(()),
-    }
-}
-
-/// The way of a key, if it is there.
-fn optional_way(
-    alloc: Global,
-    table: &Table,
-    row: RowOf,
-    key: Key,
-) -> Result<Option<WayRow>, DocumentFault> {
-    match table.get(key.word()) {
-        Some(value) => Ok(Some(way_of(alloc, value).at(row.key(key))?)),
-        None => Ok(None),
-    }
+    check_keys(alloc, table, &ZONE_KEYS, at)?;
+    let name = text_at(alloc, table, at, Key::Name)?;
+    let host = text_at(alloc, table, at, Key::Host)?;
+    let guest = text_at(alloc, table, at, Key::Guest)?;
+    let inward = way_at(alloc, table, at, Key::Inward)?;
+    let outward = way_at(alloc, table, at, Key::Outward)?;
+    Ok(ZoneRow {
+        name,
+        host,
+        guest,
+        inward,
+        outward,
+    })
 }

@@ -1,105 +1,213 @@
 //! The values of a document's keys.
+ghost use Rattle.std.specs.Prelude.{◌≡◌, [], Some, map, option_map, string_bytes, IfOk, OnOk};
+ghost use Rattle.toml.specs.Data.{as_array, get_member, table};
+ghost use Rattle.toml.specs.View.{table_view, view};
+ghost use Rattle.plan_document.specs.Keys.{key_word};
+ghost use Rattle.plan_document.specs.declared.fault.Key.TheVariants.{Gives};
+ghost use Rattle.plan_document.specs.Reading as reading;
 
 use crate::document::{PostureRow, WayRow};
-use crate::fault::Wrong;
+use crate::fault::{DocumentFault, Key, Location, RowOf, Wrong};
 use std::alloc::{AllocError, Global};
 use toml::{Table, Value};
 
-/// The value of a key that has to be there.
-pub fn value_of<'a>(table: &'a Table, key: &str) -> Result<&'a Value, Wrong> {
-    match table.get(key) {
-        Some(value) => Ok(value),
-        None => Err(Wrong::Missing),
-    }
-}
-
 /// A copy of a text.
-pub fn copy(alloc: Global, text: &str) -> Result<String, AllocError> {
+pub fn copy(alloc: Global, text: &str) -> Result<String, AllocError>
+    ensures { IfOk result (λ copied. string_bytes copied ≡ text.now) }
+{
     String::from_str(alloc, text)
 }
 
-/// Adds the text that a value is.
-pub fn add_text(value: &Value, text: &mut String) -> Result<(), Wrong> {
-    match value.as_str() {
-        Some(words) => Ok(text.push_str(words)?),
-        None => Err(Wrong::NoText),
-    }
+/// The value at a key, if it is there.
+pub fn value_at(table: &Table, key: Key) -> Option<&Value>
+    ensures { option_map (λ v. view v.now) result
+        ≡ get_member (key_word key) (table_view table.now) }
+{
+    table.get(key.word())
 }
 
-/// Adds the texts of a list.
-pub fn add_texts(alloc: Global, value: &Value, texts: &mut Vec<String>) -> Result<(), Wrong> {
-    let Some(items) = value.as_array() else {
-        return Err(Wrong::NoTexts);
+/// The text of a key, which has to be there.
+pub fn text_at(alloc: Global, table: &Table, row: RowOf, key: Key) -> Result<String, DocumentFault>
+    ensures { IfOk result (reading.HasText (key_word key) (table_view table.now)) }
+{
+    let Some(value) = value_at(table, key) else {
+        return Err(row.key(key).fault(Wrong::Missing));
     };
-    'items: for item in items.as_slice() {
-        match item.as_str() {
-            Some(text) => texts.push(copy(alloc, text)?)?,
-            None => return Err(Wrong::NoTexts),
-        }
+    match value.as_str() {
+        Some(text) => Ok(copy(alloc, text)?),
+        None => Err(row.key(key).fault(Wrong::NoText)),
     }
-    Ok(())
 }
 
-/// `true` or `false`.
-pub fn truth_of(value: &Value) -> Result<bool, Wrong> {
+/// The texts in the list of a key: none if the key is absent.
+pub fn texts_at(
+    alloc: Global,
+    table: &Table,
+    row: RowOf,
+    key: Key,
+) -> Result<Vec<String>, DocumentFault>
+    ensures { IfOk result (λ texts.
+        reading.HasTexts (key_word key) (table_view table.now) texts.items) }
+{
+    let Some(value) = value_at(table, key) else {
+        return Ok(Vec::new(alloc));
+    };
+    match value.as_array() {
+        Some(items) => texts_in(alloc, items.as_slice(), row.key(key)),
+        None => Err(row.key(key).fault(Wrong::NoTexts)),
+    }
+}
+
+/// The texts that these values are.
+fn texts_in(alloc: Global, values: &[Value], at: Location) -> Result<Vec<String>, DocumentFault>
+    ensures { IfOk result (λ texts. map view values.now ≡ map reading.written texts.items) }
+{
+    let mut texts = Vec::new(alloc);
+    'values: for i in 0..values.len() {
+        let Some(text) = values[i].as_str() else {
+            return Err(at.fault(Wrong::NoTexts));
+        };
+        texts.push(copy(alloc, text)?)?;
+    }
+    Ok(texts)
+}
+
+/// The items in the list of a key: none if the key is absent.
+pub fn tables_at(table: &Table, row: RowOf, key: Key) -> Result<&[Value], DocumentFault>
+    ensures { IfOk result (λ items.
+        reading.items_at (key_word key) (table_view table.now) ≡ Some (map view items.now)) }
+{
+    let Some(value) = value_at(table, key) else {
+        return Ok(&[]);
+    };
+    match value.as_array() {
+        Some(items) => Ok(items.as_slice()),
+        None => Err(row.key(key).fault(Wrong::NoTables)),
+    }
+}
+
+/// The table that an item in the list of a key is.
+pub fn table_in(value: &Value, row: RowOf, key: Key) -> Result<&Table, DocumentFault>
+    ensures { IfOk result (λ members. view value.now ≡ table (table_view members.now)) }
+{
+    match value.as_table() {
+        Some(table) => Ok(table),
+        None => Err(row.key(key).fault(Wrong::NoTables)),
+    }
+}
+
+/// `true` or `false`; `false` if the key is absent.
+pub fn truth_at(table: &Table, row: RowOf, key: Key) -> Result<bool, DocumentFault>
+    ensures { IfOk result
+        (reading.IsTruth (get_member (key_word key) (table_view table.now))) }
+{
+    let Some(value) = value_at(table, key) else {
+        return Ok(false);
+    };
     match value.as_bool() {
         Some(truth) => Ok(truth),
-        None => Err(Wrong::NoTruth),
+        None => Err(row.key(key).fault(Wrong::NoTruth)),
     }
+}
+
+/// The way of a key, if it is there.
+pub fn way_at(
+    alloc: Global,
+    table: &Table,
+    row: RowOf,
+    key: Key,
+) -> Result<Option<WayRow>, DocumentFault>
+    ensures { IfOk result (reading.IsWay (get_member (key_word key) (table_view table.now))) }
+{
+    let Some(value) = value_at(table, key) else {
+        return Ok(None);
+    };
+    let way = way_in(alloc, value, row.key(key))?;
+    Ok(Some(way))
 }
 
 /// The two places of a way.
-pub fn way_of(alloc: Global, value: &Value) -> Result<WayRow, Wrong> {
+fn way_in(alloc: Global, value: &Value, at: Location) -> Result<WayRow, DocumentFault>
+    ensures { IfOk result (λ way. reading.IsWay (Some (view value.now)) (Some way)) }
+{
     let Some(items) = value.as_array() else {
-        return Err(Wrong::NoWay);
+        return Err(at.fault(Wrong::NoWay));
     };
     match items.as_slice() {
-        [from, to] => way_between(alloc, from, to),
-        _ => Err(Wrong::NoWay),
+        [from, to] => way_between(alloc, from, to, at),
+        _ => Err(at.fault(Wrong::NoWay)),
     }
 }
 
-fn way_between(alloc: Global, from: &Value, to: &Value) -> Result<WayRow, Wrong> {
-    match (from.as_str(), to.as_str()) {
-        (Some(from), Some(to)) => Ok(WayRow {
-            from: copy(alloc, from)?,
-            to: copy(alloc, to)?,
-        }),
-        _ => Err(Wrong::NoWay),
-    }
-}
-
-/// Adds what a pose gives: a table from zones to postures, which has to be there.
-pub fn add_gives(alloc: Global, pose: &Table, gives: &mut Vec<PostureRow>) -> Result<(), Wrong> {
-    let Some(table) = value_of(pose, "gives")?.as_table() else {
-        return Err(Wrong::NoTable);
-    };
-    'entries: for (zone, posture) in table.iter() {
-        match posture.as_str() {
-            Some(posture) => add_posture(alloc, zone.as_str(), posture, gives)?,
-            None => return Err(Wrong::NoTable),
-        }
-    }
-    Ok(())
-}
-
-fn add_posture(
+fn way_between(
     alloc: Global,
-    zone: &str,
-    posture: &str,
-    gives: &mut Vec<PostureRow>,
-) -> Result<(), AllocError> {
+    from: &Value,
+    to: &Value,
+    at: Location,
+) -> Result<WayRow, DocumentFault>
+    ensures from { IfOk result (λ way. view from.now ≡ reading.written way.from) }
+    ensures to { IfOk result (λ way. view to.now ≡ reading.written way.to) }
+{
+    let Some(from) = from.as_str() else {
+        return Err(at.fault(Wrong::NoWay));
+    };
+    let Some(to) = to.as_str() else {
+        return Err(at.fault(Wrong::NoWay));
+    };
+    let from = copy(alloc, from)?;
+    let to = copy(alloc, to)?;
+    Ok(WayRow { from, to })
+}
+
+/// What a pose gives: a table from zones to postures, which has to be there.
+pub fn gives_at(alloc: Global, pose: &Table, row: RowOf) -> Result<Vec<PostureRow>, DocumentFault>
+    ensures { IfOk result (λ rows. get_member (key_word Gives) (table_view pose.now)
+        ≡ Some (table (reading.gives_written rows.items))) }
+{
+    let at = row.key(Key::Gives);
+    let Some(value) = value_at(pose, Key::Gives) else {
+        return Err(at.fault(Wrong::Missing));
+    };
+    match value.as_table() {
+        Some(given) => gives_in(alloc, given, at),
+        None => Err(at.fault(Wrong::NoTable)),
+    }
+}
+
+/// What a table gives: to each key, a zone, the posture that its value names.
+fn gives_in(alloc: Global, given: &Table, at: Location) -> Result<Vec<PostureRow>, DocumentFault>
+    ensures { IfOk result (λ rows. table_view given.now ≡ reading.gives_written rows.items) }
+{
+    let mut rows = Vec::new(alloc);
+    'entries: for (zone, posture) in given.iter() {
+        let Some(posture) = posture.as_str() else {
+            return Err(at.fault(Wrong::NoTable));
+        };
+        rows.push(posture_row(alloc, zone.as_str(), posture)?)?;
+    }
+    Ok(rows)
+}
+
+fn posture_row(alloc: Global, zone: &str, posture: &str) -> Result<PostureRow, AllocError>
+    ensures zone { IfOk result (λ row. string_bytes row.zone ≡ zone.now) }
+    ensures posture { IfOk result (λ row. string_bytes row.posture ≡ posture.now) }
+{
     let zone = copy(alloc, zone)?;
     let posture = copy(alloc, posture)?;
-    gives.push(PostureRow { zone, posture })?;
-    Ok(())
+    Ok(PostureRow { zone, posture })
 }
 
-/// The first key of a table that isn't among these, if there is one.
-pub fn check_keys(alloc: Global, table: &Table, known: &[&str]) -> Result<(), Wrong> {
+/// Refuses a table with a key that isn't among these.
+pub fn check_keys(
+    alloc: Global,
+    table: &Table,
+    known: &[&str],
+    row: RowOf,
+) -> Result<(), DocumentFault> {
     'keys: for (key, _) in table.iter() {
-        if !known.contains(&key.as_str()) {
-            return Err(Wrong::Unknown(copy(alloc, key.as_str())?));
+        if !(&*known).contains(&key.as_str()) {
+            let key = copy(alloc, key.as_str())?;
+            return Err(row.whole().fault(Wrong::Unknown(key)));
         }
     }
     Ok(())

@@ -1,0 +1,3 @@
+mod Growing
+mod Given
+mod Written

@@ -1,0 +1,18 @@
+use Rattle.std.proofs.Common.{◌∙◌, ◌++◌, ap, sym, arith, length, replicate}
+use Rattle.plan_document.specs.Names.{places_in}
+use Rattle.plan_document.proofs.Growing.{keepers_more, place_names_more}
+use Rattle.plan_document.proofs.tables.add_all_places.Goals as goal
+
+pub loop-i-preserved : goal.loop-i-preserved
+loop-i-preserved c =
+    let row = c.index-machines-i.result in
+    record {
+      names =
+          c.in_ok-add_places.ensures.names
+          ∙ ap (λ ns. ns ++ places_in row) c.loop-i.invariant.names
+          ∙ sym (place_names_more c.args.machines.now c.loop-i.i row (omega arith) c.index-machines-i.is);
+      keepers =
+          c.in_ok-add_places.ensures.keepers
+          ∙ ap (λ ks. ks ++ replicate (length row.places.items) c.loop-i.i) c.loop-i.invariant.keepers
+          ∙ sym (keepers_more c.args.machines.now c.loop-i.i row (omega arith) c.index-machines-i.is);
+    }

@@ -1,0 +1,39 @@
+-- The names in a document, by kinds, in the order of its rows.
+use Rattle.std.specs.Prelude.{ℕ, List, map, string_bytes}
+use Rattle.std.specs.List.{enumerate_from, flat_map}
+use Rattle.plan_text.specs.Names.{Text}
+use Rattle.plan_document.specs.declared.document.Document.{Document}
+use Rattle.plan_document.specs.declared.document.MachineRow.{MachineRow}
+use Rattle.plan_document.specs.declared.document.PoseRow.{PoseRow}
+use Rattle.plan_document.specs.declared.document.ZoneRow.{ZoneRow}
+
+abbrev pub machine_names : List MachineRow → List Text
+machine_names machines = map (λ row. string_bytes row.name) machines
+
+abbrev pub zone_names : List ZoneRow → List Text
+zone_names zones = map (λ row. string_bytes row.name) zones
+
+-- the places that a machine keeps, and those of all machines
+abbrev pub places_in : MachineRow → List Text
+places_in row = map string_bytes row.places.items
+
+abbrev pub place_names : List MachineRow → List Text
+place_names machines = flat_map places_in machines
+
+-- the names of a machine's poses, and of those of all machines
+abbrev pub names_in : List PoseRow → List Text
+names_in poses = map (λ pose. string_bytes pose.name) poses
+
+abbrev pub pose_names : List MachineRow → List Text
+pose_names machines = flat_map (λ row. names_in row.poses.items) machines
+
+-- each machine's row with its number, from 0
+abbrev pub numbered : List MachineRow → List (ℕ × MachineRow)
+numbered machines = enumerate_from 0 machines
+
+-- the poses of a machine with its number, and those of all machines
+abbrev pub numbered_poses : ℕ → List PoseRow → List (ℕ × PoseRow)
+numbered_poses machine poses = map (λ pose. (machine, pose)) poses
+
+abbrev pub all_poses : List MachineRow → List (ℕ × PoseRow)
+all_poses machines = flat_map (λ (machine, row). numbered_poses machine row.poses.items) (numbered machines)

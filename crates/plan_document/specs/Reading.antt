@@ -1,0 +1,106 @@
+-- The rows of a document in its TOML.
+use Rattle.std.specs.Prelude.{◌≡◌, ℕ, Bool, false, List, [], ◌∷◌, codes, map, String, string_bytes, Option, Some}
+use Rattle.std.specs.Prelude.{None, option_map, ⊤}
+use Rattle.std.specs.declared.alloc.Global.{Global}
+use Rattle.std.specs.List.{AllZip}
+use Rattle.toml.specs.Data.{Data, Items, Members, array, boolean, item, no_items, member, no_members, string, table}
+use Rattle.toml.specs.Data.{as_array, get_member}
+use Rattle.toml.specs.Parse.{parse_document}
+use Rattle.plan_text.specs.Names.{Text}
+use Rattle.plan_document.specs.declared.document.Document.{Document}
+use Rattle.plan_document.specs.declared.document.MachineRow.{MachineRow}
+use Rattle.plan_document.specs.declared.document.PoseRow.{PoseRow}
+use Rattle.plan_document.specs.declared.document.PostureRow.{PostureRow}
+use Rattle.plan_document.specs.declared.document.WayRow.{WayRow}
+use Rattle.plan_document.specs.declared.document.ZoneRow.{ZoneRow}
+use Rattle.plan_document.specs.declared.resolving.ProgrammedPlan.{ProgrammedPlan}
+use Rattle.plan_document.specs.Saying.{IsPlanOf}
+
+-- a text, as TOML has it
+abbrev pub written : String Global → Data
+written text = string (string_bytes text)
+
+-- ---- values at keys
+
+abbrev pub list_of : Items → List Data
+list_of no_items = []
+list_of (item value items) = value ∷ list_of items
+
+-- the items of a list; none where the key is absent
+abbrev pub items_in : Option Data → Option (List Data)
+items_in None = Some []
+items_in (Some value) = option_map list_of (as_array value)
+
+abbrev pub items_at : Text → Members → Option (List Data)
+items_at key members = items_in (get_member key members)
+
+abbrev pub HasText : Text → Members → String Global → Type 0
+HasText key members text = get_member key members ≡ Some (written text)
+
+abbrev pub HasTexts : Text → Members → List (String Global) → Type 0
+HasTexts key members texts = items_at key members ≡ Some (map written texts)
+
+-- the items in the list of a key are rows, one by one
+abbrev pub HasRows : {Row : Type 0} → (Data → Row → Type 0) → Text → Members → List Row → Type 0
+HasRows IsRow key members rows = (items : List Data) × (items_at key members ≡ Some items) × AllZip IsRow items rows
+
+-- false where the key is absent
+abbrev pub IsTruth : Option Data → Bool → Type 0
+IsTruth None truth = truth ≡ false
+IsTruth (Some value) truth = value ≡ boolean truth
+
+-- a list of two places
+abbrev pub IsWay : Option Data → Option WayRow → Type 0
+IsWay None None = ⊤
+IsWay None (Some row) = ⊥
+IsWay (Some value) None = ⊥
+IsWay (Some value) (Some row) = value ≡ array (item (written row.from) (item (written row.to) no_items))
+
+-- a table from zones to postures
+abbrev pub gives_written : List PostureRow → Members
+gives_written [] = no_members
+gives_written (row ∷ rows) = member (string_bytes row.zone) (written row.posture) (gives_written rows)
+
+-- ---- rows
+
+pub record IsPoseIn (value : Data) (row : PoseRow) : Type 0 where
+  pub members : Members
+  pub is_table : value ≡ table members
+  pub name : HasText (codes "name") members row.name
+  pub gives : get_member (codes "gives") members ≡ Some (table (gives_written row.gives.items))
+  pub after_moving : IsTruth (get_member (codes "after_moving") members) row.after_moving
+
+pub record IsMachineIn (value : Data) (row : MachineRow) : Type 0 where
+  pub members : Members
+  pub is_table : value ≡ table members
+  pub name : HasText (codes "name") members row.name
+  pub places : HasTexts (codes "places") members row.places.items
+  pub poses : HasRows IsPoseIn (codes "poses") members row.poses.items
+  pub program : HasTexts (codes "program") members row.program.items
+
+pub record IsZoneIn (value : Data) (row : ZoneRow) : Type 0 where
+  pub members : Members
+  pub is_table : value ≡ table members
+  pub name : HasText (codes "name") members row.name
+  pub host : HasText (codes "host") members row.host
+  pub guest : HasText (codes "guest") members row.guest
+  pub inward : IsWay (get_member (codes "inward") members) row.inward
+  pub outward : IsWay (get_member (codes "outward") members) row.outward
+
+-- ---- documents
+
+pub record IsDocumentIn (members : Members) (d : Document) : Type 0 where
+  pub machines : HasRows IsMachineIn (codes "machine") members d.machines.items
+  pub zones : HasRows IsZoneIn (codes "zone") members d.zones.items
+
+-- the plan that the rows in a table say
+pub record IsPlanOfTable (members : Members) (plan : ProgrammedPlan) : Type 0 where
+  pub document : Document
+  pub rows : IsDocumentIn members document
+  pub says : IsPlanOf document plan
+
+-- the plan that these bytes say: they are TOML, and the plan is that of the rows in it
+pub record IsPlanIn (bytes : List ℕ) (plan : ProgrammedPlan) : Type 0 where
+  pub members : Members
+  pub is_toml : parse_document bytes ≡ Some members
+  pub says : IsPlanOfTable members plan

@@ -1,0 +1,163 @@
+-- What a document says: which plan is its plan. A name stands for the number of its row.
+use Rattle.std.specs.Prelude.{◌≡◌, ℕ, ◌<◌, Bool, true, false, ◌&&◌, ◌||◌, not, nat_eq, List, ◌++◌, map, length, get_or}
+use Rattle.std.specs.Prelude.{replicate, codes, String, string_bytes, Option, Some, None, is_some, option_map, IsTrue}
+use Rattle.std.specs.Prelude.{if◌then◌else◌, ⊤}
+use Rattle.std.specs.declared.alloc.Global.{Global}
+use Rattle.std.specs.List.{AllZip, filter_map, flat_map, last_or, list_all}
+use Rattle.std.specs.Option.{option_eq}
+use Rattle.plan_types.specs.declared.call.Call.{Call}
+use Rattle.plan_types.specs.declared.call.Call.TheVariants.{Claim, Give, Yield, Take, Release, Inquire, SetPose, Stop}
+use Rattle.plan_types.specs.declared.call.Call.TheVariants.{Resume}
+use Rattle.plan_types.specs.declared.posture.Posture.{Posture}
+use Rattle.plan_types.specs.declared.posture.Posture.TheVariants.{OpenIn, OpenOut}
+use Rattle.plan_types.specs.declared.table.Transfer.{Transfer}
+use Rattle.plan_types.specs.declared.table.Way.{Way}
+use Rattle.plan_types.specs.declared.table.PlanZone.{PlanZone}
+use Rattle.plan_types.specs.declared.table.PlanPose.{PlanPose}
+use Rattle.plan_types.specs.Table.{PlanTable, has_pose, is_party, plan_table, transfer_of}
+use Rattle.plan_text.specs.Names.{Text, is_reserved, number_in}
+use Rattle.plan_text.specs.Named.{Named, named}
+use Rattle.plan_text.specs.Answers.{posture_of}
+use Rattle.plan_text.specs.Calls.{call_of, own_pose, verb_word}
+use Rattle.plan_text.specs.declared.calls.Verb.{Verb}
+use Rattle.plan_text.specs.declared.calls.Verb.TheVariants as verbs
+use Rattle.plan_document.specs.declared.document.Document.{Document}
+use Rattle.plan_document.specs.declared.document.MachineRow.{MachineRow}
+use Rattle.plan_document.specs.declared.document.PoseRow.{PoseRow}
+use Rattle.plan_document.specs.declared.document.PostureRow.{PostureRow}
+use Rattle.plan_document.specs.declared.document.WayRow.{WayRow}
+use Rattle.plan_document.specs.declared.document.ZoneRow.{ZoneRow}
+use Rattle.plan_document.specs.declared.resolving.ProgrammedPlan.{ProgrammedPlan}
+use Rattle.plan_document.specs.declared.tables.Rows.{Rows}
+use Rattle.plan_document.specs.Names.{all_poses, machine_names, numbered, place_names, pose_names, zone_names}
+
+-- ---- zones
+
+-- a way leads between the places that its names say; no way where the row has none
+abbrev pub IsWayOf : List Text → Option WayRow → Option Way → Type 0
+IsWayOf places None None = ⊤
+IsWayOf places None (Some way) = ⊥
+IsWayOf places (Some row) None = ⊥
+IsWayOf places (Some row) (Some way) =
+    (number_in places (string_bytes row.from) ≡ Some way.from)
+    × (number_in places (string_bytes row.to) ≡ Some way.to)
+
+pub record IsZoneOf (machines places : List Text) (row : ZoneRow) (zone : PlanZone) : Type 0 where
+  pub host : number_in machines (string_bytes row.host) ≡ Some zone.host
+  pub guest : number_in machines (string_bytes row.guest) ≡ Some zone.guest
+  pub inward : IsWayOf places row.inward zone.inward
+  pub outward : IsWayOf places row.outward zone.outward
+
+-- ---- poses
+
+-- a row is about a zone by its name, and gives it a posture by its word
+abbrev pub gives_zone : List Text → PostureRow → Bool
+gives_zone zones row =
+    is_some (number_in zones (string_bytes row.zone)) && is_some (posture_of (string_bytes row.posture))
+
+abbrev pub is_about : List Text → ℕ → PostureRow → Bool
+is_about zones zone row = option_eq nat_eq (number_in zones (string_bytes row.zone)) (Some zone)
+
+-- what a row gives a zone: its posture, if the row is about the zone
+abbrev pub given_by : List Text → ℕ → PostureRow → Option Posture
+given_by zones zone row = if is_about zones zone row then posture_of (string_bytes row.posture) else None
+
+-- what rows give a zone: the posture of the last row about it
+abbrev pub given : List Text → List PostureRow → ℕ → Option Posture
+given zones rows zone = last_or None (filter_map (given_by zones zone) rows)
+
+pub record AreGiven (zones : List Text) (rows : List PostureRow) (gives : List (Option Posture)) : Type 0 where
+  pub known : IsTrue (list_all (gives_zone zones) rows)
+  pub last_given : (zone : ℕ) → zone < 10 → get_or gives zone None ≡ given zones rows zone
+
+pub record IsPoseOf (zones : List Text) (row : ℕ × PoseRow) (pose : PlanPose) : Type 0 where
+  pub machine : pose.machine ≡ row.0
+  pub after_moving : pose.after_moving ≡ row.1.after_moving
+  pub gives : AreGiven zones row.1.gives.items pose.gives
+
+-- ---- places
+
+-- the machine that keeps each place: a machine's number for each place of its row
+abbrev pub keepers : List MachineRow → List ℕ
+keepers machines = flat_map (λ (machine, row). replicate (length row.places.items) machine) (numbered machines)
+
+-- ---- programs
+
+-- what a machine asks with a verb about a name: of poses its own alone
+abbrev pub own_call : Named → ℕ → Verb → Text → Option Call
+own_call n machine verbs.Pose name = option_map SetPose (own_pose n machine name)
+own_call n machine other name = call_of n machine other name
+
+-- a plate goes through a zone from a machine, or to it
+abbrev pub is_from : ℕ → Option Transfer → Bool
+is_from machine None = false
+is_from machine (Some way) = nat_eq way.giver machine
+
+abbrev pub is_to : ℕ → Option Transfer → Bool
+is_to machine None = false
+is_to machine (Some way) = nat_eq way.receiver machine
+
+abbrev pub gives_plates : PlanTable → ℕ → ℕ → Bool
+gives_plates t machine zone =
+    is_from machine (transfer_of t zone OpenIn) || is_from machine (transfer_of t zone OpenOut)
+
+abbrev pub takes_plates : PlanTable → ℕ → ℕ → Bool
+takes_plates t machine zone =
+    is_to machine (transfer_of t zone OpenIn) || is_to machine (transfer_of t zone OpenOut)
+
+-- a call that isn't refused in every state for whose it is
+abbrev pub may_be_done : PlanTable → ℕ → Call → Bool
+may_be_done t machine (Claim zone) = is_party t machine zone
+may_be_done t machine (Give zone) = gives_plates t machine zone
+may_be_done t machine (Yield zone) = is_party t machine zone
+may_be_done t machine (Take zone) = takes_plates t machine zone
+may_be_done t machine (Release zone) = is_party t machine zone
+may_be_done t machine (SetPose pose) = has_pose t machine pose
+may_be_done t machine (Inquire zone) = true
+may_be_done t machine Stop = true
+may_be_done t machine Resume = true
+
+-- a line is a verb, a blank and a name
+pub record IsCallOf (n : Named) (machine : ℕ) (line : Text) (call : Call) : Type 0 where
+  pub verb : Verb
+  pub name : Text
+  pub line_is : line ≡ verb_word verb ++ codes " " ++ name
+  pub call_is : own_call n machine verb name ≡ Some call
+  pub doable : IsTrue (may_be_done n.plan machine call)
+
+-- a program has the call of each line
+abbrev pub AreCallsOf : Named → ℕ → List (String Global) → List Call → Type 0
+AreCallsOf n machine lines calls = AllZip (IsCallOf n machine) (map string_bytes lines) calls
+
+abbrev pub IsProgramOf : Named → ℕ × MachineRow → List Call → Type 0
+IsProgramOf n (machine, row) program = AreCallsOf n machine row.program.items program
+
+-- ---- plans
+
+-- a name that no script takes for another word
+abbrev pub is_free : Text → Bool
+is_free name = not (is_reserved name)
+
+-- each table has a row for each row of the document, and each name in it is looked up
+pub record IsNamedPlanOf (d : Document) (n : Named) : Type 0 where
+  pub free : IsTrue (list_all is_free n.machines)
+  pub named_machines : n.machines ≡ machine_names d.machines.items
+  pub named_zones : n.zones ≡ zone_names d.zones.items
+  pub named_places : n.places ≡ place_names d.machines.items
+  pub named_poses : n.poses ≡ pose_names d.machines.items
+  pub machines : n.plan.machines ≡ length d.machines.items
+  pub zones : AllZip (IsZoneOf n.machines n.places) d.zones.items n.plan.zones
+  pub poses : AllZip (IsPoseOf n.zones) (all_poses d.machines.items) n.plan.poses
+  pub places : n.plan.places ≡ keepers d.machines.items
+
+-- the plan of a document, and what each machine asks
+pub record IsPlanOf (d : Document) (p : ProgrammedPlan) : Type 0 where
+  pub named : IsNamedPlanOf d p.named
+  pub programs : AllZip (IsProgramOf p.named) (numbered d.machines.items) p.programs
+
+-- ---- the rows before they are a plan
+
+abbrev pub AreRowsOf : Document → Rows → Type 0
+AreRowsOf d rows =
+    let tables = plan_table (length rows.machines) rows.zone_rows.items rows.pose_rows.items rows.keepers.items in
+    IsNamedPlanOf d (named tables rows.machines rows.zones rows.places rows.poses)

@@ -1,0 +1,442 @@
+//! From the names in a document's rows to numbers: the tables of a plan.
+ghost use Rattle.std.specs.Prelude.{◌≡◌, ◌++◌, ◌∷◌, ℕ, List, [], Some, length, replicate};
+ghost use Rattle.std.specs.Prelude.{◌<◌, IsTrue, OnOk, IfOk, string_bytes};
+ghost use Rattle.std.specs.List.{AllZip, list_all};
+ghost use Rattle.plan_text.specs.Names.{number_in};
+ghost use Rattle.plan_text.specs.Answers.{posture_of};
+ghost use Rattle.plan_document.specs.Names.{all_poses, machine_names, names_in, numbered_poses, place_names};
+ghost use Rattle.plan_document.specs.Names.{places_in, pose_names, zone_names};
+ghost use Rattle.plan_document.specs.Saying as saying;
+ghost use Rattle.plan_document.specs.declared.document.PoseRow.{PoseRow as Pose};
+
+use crate::document::{Document, MachineRow, PoseRow, PostureRow, WayRow, ZoneRow};
+use crate::fault::{DocumentFault, Key, Location, RowOf, Wrong};
+use crate::values::copy;
+use plan_text::names::{is_name, is_reserved};
+use plan_text::words::posture_in;
+use plan_text::{MAX_NAMES, Names};
+use plan_types::{
+    MAX_MACHINES, MAX_PLACES, MAX_POSES, MAX_ZONES, PlanPose, PlanZone, Posture, Way,
+};
+use std::alloc::{AllocError, Global};
+
+/// The names in a document, and the rows of a plan's tables by numbers.
+#[derive(Drop)]
+pub struct Rows {
+    pub machines: Names,
+    pub places: Names,
+    /// The machine that keeps each place.
+    pub keepers: Vec<u8>,
+    pub zones: Names,
+    pub zone_rows: Vec<PlanZone>,
+    pub poses: Names,
+    pub pose_rows: Vec<PlanPose>,
+}
+
+/// The names and rows of a document, or the first fault of them.
+pub fn rows_of(alloc: Global, document: &Document) -> Result<Rows, DocumentFault>
+    ensures { IfOk result (saying.AreRowsOf document.now) }
+{
+    let mut rows = Rows {
+        machines: Names::new(alloc),
+        places: Names::new(alloc),
+        keepers: Vec::new(alloc),
+        zones: Names::new(alloc),
+        zone_rows: Vec::new(alloc),
+        poses: Names::new(alloc),
+        pose_rows: Vec::new(alloc),
+    };
+    add_rows(alloc, document, &mut rows)?;
+    Ok(rows)
+}
+
+/// Adds the names and the rows of a document where there are none.
+fn add_rows(alloc: Global, document: &Document, rows: &mut Rows) -> Result<(), DocumentFault>
+    requires machines { rows.old.machines ≡ [] }
+    requires places { rows.old.places ≡ [] }
+    requires keepers { rows.old.keepers.items ≡ [] }
+    requires zones { rows.old.zones ≡ [] }
+    requires zone_rows { rows.old.zone_rows.items ≡ [] }
+    requires poses { rows.old.poses ≡ [] }
+    requires pose_rows { rows.old.pose_rows.items ≡ [] }
+    ensures { OnOk result (saying.AreRowsOf document.now rows.new) }
+{
+    add_machine_names(alloc, &document.machines, &mut rows.machines)?;
+    add_all_places(
+        alloc,
+        &document.machines,
+        &mut rows.places,
+        &mut rows.keepers,
+    )?;
+    add_zone_names(alloc, &document.zones, &mut rows.zones)?;
+    add_zone_rows(
+        alloc,
+        &document.zones,
+        &rows.machines,
+        &rows.places,
+        &mut rows.zone_rows,
+    )?;
+    add_all_poses(
+        alloc,
+        &document.machines,
+        &rows.zones,
+        &mut rows.poses,
+        &mut rows.pose_rows,
+    )
+}
+
+/// Adds a name of a row to names of its kind, of which a plan has at most `most`.
+fn add_name(
+    alloc: Global,
+    names: &mut Names,
+    name: &str,
+    most: usize,
+    at: Location,
+) -> Result<(), DocumentFault>
+    ensures { OnOk result (names.new ≡ names.old ++ name.now ∷ []) }
+{
+    match check_name(alloc, names, name, most) {
+        Ok(()) => push_name(alloc, names, name),
+        Err(wrong) => Err(at.fault(wrong)),
+    }
+}
+
+/// Refuses a name that is none, that is there already, or for which there is no room.
+fn check_name(alloc: Global, names: &Names, name: &str, most: usize) -> Result<(), Wrong>
+    ensures { OnOk result (length names.now < 64) }
+{
+    if names.len() >= most || names.len() >= MAX_NAMES {
+        return Err(Wrong::TooMany(most));
+    }
+    if !is_name(name) {
+        return Err(Wrong::NoName(copy(alloc, name)?));
+    }
+    if names.number_of(name.as_bytes()).is_some() {
+        return Err(Wrong::Twice(copy(alloc, name)?));
+    }
+    Ok(())
+}
+
+fn push_name(alloc: Global, names: &mut Names, name: &str) -> Result<(), DocumentFault>
+    requires { length names.old < 64 }
+    ensures { OnOk result (names.new ≡ names.old ++ name.now ∷ []) }
+{
+    let name = copy(alloc, name)?;
+    names.push(name)?;
+    Ok(())
+}
+
+/// Adds the names of all machines.
+fn add_machine_names(
+    alloc: Global,
+    machines: &[MachineRow],
+    names: &mut Names,
+) -> Result<(), DocumentFault>
+    requires { names.old ≡ [] }
+    ensures names { OnOk result (names.new ≡ machine_names machines.now) }
+    ensures free { OnOk result (IsTrue (list_all saying.is_free names.new)) }
+{
+    for i in 0..machines.len() {
+        let name = machines[i].name.as_str();
+        let at = RowOf::Machine(i).key(Key::Name);
+        add_name(alloc, names, name, usize::from(MAX_MACHINES), at)?;
+        check_free(alloc, name, at)?;
+    }
+    Ok(())
+}
+
+/// Refuses a word of scripts as a machine's name.
+fn check_free(alloc: Global, name: &str, at: Location) -> Result<(), DocumentFault>
+    ensures { OnOk result (IsTrue (saying.is_free name.now)) }
+{
+    if is_reserved(name) {
+        return Err(at.fault(Wrong::Reserved(copy(alloc, name)?)));
+    }
+    Ok(())
+}
+
+/// Adds the names of all zones.
+fn add_zone_names(alloc: Global, zones: &[ZoneRow], names: &mut Names) -> Result<(), DocumentFault>
+    requires { names.old ≡ [] }
+    ensures { OnOk result (names.new ≡ zone_names zones.now) }
+{
+    for i in 0..zones.len() {
+        let name = zones[i].name.as_str();
+        add_name(alloc, names, name, MAX_ZONES, RowOf::Zone(i).key(Key::Name))?;
+    }
+    Ok(())
+}
+
+/// Adds the places of all machines.
+fn add_all_places(
+    alloc: Global,
+    machines: &[MachineRow],
+    names: &mut Names,
+    keepers: &mut Vec<u8>,
+) -> Result<(), DocumentFault>
+    requires names { names.old ≡ [] }
+    requires keepers { keepers.old.items ≡ [] }
+    ensures names { OnOk result (names.new ≡ place_names machines.now) }
+    ensures keepers { OnOk result (keepers.new.items ≡ saying.keepers machines.now) }
+{
+    for i in 0..machines.len() {
+        add_places(alloc, &machines[i], i, names, keepers)?;
+    }
+    Ok(())
+}
+
+/// Adds the places of a machine.
+fn add_places(
+    alloc: Global,
+    row: &MachineRow,
+    machine: usize,
+    names: &mut Names,
+    keepers: &mut Vec<u8>,
+) -> Result<(), DocumentFault>
+    ensures names { OnOk result (names.new ≡ names.old ++ places_in row.now) }
+    ensures keepers { OnOk result (keepers.new.items
+        ≡ keepers.old.items ++ replicate (length row.now.places.items) machine) }
+{
+    let row_at = RowOf::Machine(machine);
+    let keeper = number_of(machine, row_at.key(Key::Places))?;
+    for item in 0..row.places.len() {
+        let name = row.places[item].as_str();
+        add_name(
+            alloc,
+            names,
+            name,
+            MAX_PLACES,
+            row_at.item(Key::Places, item),
+        )?;
+        keepers.push(keeper)?;
+    }
+    Ok(())
+}
+
+/// The number of a machine, of which a plan has at most `MAX_MACHINES`.
+pub fn number_of(machine: usize, at: Location) -> Result<u8, DocumentFault>
+    ensures { IfOk result (λ number. number ≡ machine) }
+{
+    match u8::try_from(machine) {
+        Ok(number) => Ok(number),
+        Err(_) => Err(at.fault(Wrong::TooMany(usize::from(MAX_MACHINES)))),
+    }
+}
+
+/// Adds the rows of all zones.
+fn add_zone_rows(
+    alloc: Global,
+    zones: &[ZoneRow],
+    machines: &Names,
+    places: &Names,
+    rows: &mut Vec<PlanZone>,
+) -> Result<(), DocumentFault>
+    requires { rows.old.items ≡ [] }
+    ensures { OnOk result
+        (AllZip (saying.IsZoneOf machines.now places.now) zones.now rows.new.items) }
+{
+    for i in 0..zones.len() {
+        let row = zone_of(alloc, &zones[i], RowOf::Zone(i), machines, places)?;
+        rows.push(row)?;
+    }
+    Ok(())
+}
+
+/// The zone of a row, by the names of machines and places.
+fn zone_of(
+    alloc: Global,
+    row: &ZoneRow,
+    at: RowOf,
+    machines: &Names,
+    places: &Names,
+) -> Result<PlanZone, DocumentFault>
+    ensures { IfOk result (saying.IsZoneOf machines.now places.now row.now) }
+{
+    let host = machine_named(alloc, machines, row.host.as_str(), at.key(Key::Host))?;
+    let guest = machine_named(alloc, machines, row.guest.as_str(), at.key(Key::Guest))?;
+    let inward = way_named(alloc, places, &row.inward, at, Key::Inward)?;
+    let outward = way_named(alloc, places, &row.outward, at, Key::Outward)?;
+    Ok(PlanZone {
+        host,
+        guest,
+        inward,
+        outward,
+    })
+}
+
+fn machine_named(
+    alloc: Global,
+    machines: &Names,
+    name: &str,
+    at: Location,
+) -> Result<u8, DocumentFault>
+    ensures { IfOk result (λ number. number_in machines.now name.now ≡ Some number) }
+{
+    match machines.number_of(name.as_bytes()) {
+        Some(machine) => Ok(machine),
+        None => Err(at.fault(Wrong::NoMachine(copy(alloc, name)?))),
+    }
+}
+
+fn place_named(alloc: Global, places: &Names, name: &str, at: Location) -> Result<u8, DocumentFault>
+    ensures { IfOk result (λ number. number_in places.now name.now ≡ Some number) }
+{
+    match places.number_of(name.as_bytes()) {
+        Some(place) => Ok(place),
+        None => Err(at.fault(Wrong::NoPlace(copy(alloc, name)?))),
+    }
+}
+
+/// The way of a key, if it is there, by the names of places.
+fn way_named(
+    alloc: Global,
+    places: &Names,
+    way: &Option<WayRow>,
+    at: RowOf,
+    key: Key,
+) -> Result<Option<Way>, DocumentFault>
+    ensures { IfOk result (saying.IsWayOf places.now way.now) }
+{
+    let Some(way) = way else {
+        return Ok(None);
+    };
+    let from = place_named(alloc, places, way.from.as_str(), at.item(key, 0))?;
+    let to = place_named(alloc, places, way.to.as_str(), at.item(key, 1))?;
+    Ok(Some(Way { from, to }))
+}
+
+/// Adds the poses of all machines.
+fn add_all_poses(
+    alloc: Global,
+    machines: &[MachineRow],
+    zones: &Names,
+    names: &mut Names,
+    rows: &mut Vec<PlanPose>,
+) -> Result<(), DocumentFault>
+    requires names { names.old ≡ [] }
+    requires rows { rows.old.items ≡ [] }
+    ensures names { OnOk result (names.new ≡ pose_names machines.now) }
+    ensures rows { OnOk result
+        (AllZip (saying.IsPoseOf zones.now) (all_poses machines.now) rows.new.items) }
+{
+    for i in 0..machines.len() {
+        add_poses(alloc, &machines[i].poses, i, zones, names, rows)?;
+    }
+    Ok(())
+}
+
+/// Adds the poses of a machine.
+fn add_poses(
+    alloc: Global,
+    poses: &[PoseRow],
+    machine: usize,
+    zones: &Names,
+    names: &mut Names,
+    rows: &mut Vec<PlanPose>,
+) -> Result<(), DocumentFault>
+    ensures names { OnOk result (names.new ≡ names.old ++ names_in poses.now) }
+    ensures rows { OnOk result ((before : List (ℕ × Pose))
+        → AllZip (saying.IsPoseOf zones.now) before rows.old.items
+        → AllZip (saying.IsPoseOf zones.now) (before ++ numbered_poses machine poses.now)
+        rows.new.items) }
+{
+    let mut own = Names::new(alloc);
+    for pose in 0..poses.len() {
+        let at = RowOf::Pose { machine, pose };
+        let said = &poses[pose];
+        add_name(
+            alloc,
+            &mut own,
+            said.name.as_str(),
+            MAX_POSES,
+            at.key(Key::Name),
+        )?;
+        let row = pose_of(alloc, said, at, machine, zones)?;
+        add_pose_name(alloc, names, said.name.as_str(), at.key(Key::Name))?;
+        rows.push(row)?;
+    }
+    Ok(())
+}
+
+/// Adds a name to those of all machines' poses, which may be there already.
+fn add_pose_name(
+    alloc: Global,
+    names: &mut Names,
+    name: &str,
+    at: Location,
+) -> Result<(), DocumentFault>
+    ensures { OnOk result (names.new ≡ names.old ++ name.now ∷ []) }
+{
+    if names.len() >= MAX_POSES {
+        return Err(at.fault(Wrong::TooMany(MAX_POSES)));
+    }
+    push_name(alloc, names, name)
+}
+
+/// The pose of a row, by the names of zones.
+fn pose_of(
+    alloc: Global,
+    row: &PoseRow,
+    at: RowOf,
+    machine: usize,
+    zones: &Names,
+) -> Result<PlanPose, DocumentFault>
+    ensures { IfOk result (saying.IsPoseOf zones.now (machine, row.now)) }
+{
+    let gives = gives_of(alloc, zones, &row.gives, at.key(Key::Gives))?;
+    let machine = number_of(machine, at.key(Key::Name))?;
+    Ok(PlanPose {
+        machine,
+        after_moving: row.after_moving,
+        gives,
+    })
+}
+
+/// What rows give each zone.
+fn gives_of(
+    alloc: Global,
+    zones: &Names,
+    rows: &[PostureRow],
+    at: Location,
+) -> Result<[Option<Posture>; MAX_ZONES], DocumentFault>
+    ensures { IfOk result (saying.AreGiven zones.now rows.now) }
+{
+    let mut gives = [None; MAX_ZONES];
+    for i in 0..rows.len() {
+        let (zone, posture) = given_by(alloc, zones, &rows[i], at)?;
+        if usize::from(zone) >= MAX_ZONES {
+            return Err(at.fault(Wrong::TooMany(MAX_ZONES)));
+        }
+        gives[usize::from(zone)] = Some(posture);
+    }
+    Ok(gives)
+}
+
+/// The zone that a row is about, and the posture that the row gives it.
+fn given_by(
+    alloc: Global,
+    zones: &Names,
+    row: &PostureRow,
+    at: Location,
+) -> Result<(u8, Posture), DocumentFault>
+    ensures zone { IfOk result (λ given.
+        number_in zones.now (string_bytes row.now.zone) ≡ Some given.0) }
+    ensures posture { IfOk result (λ given.
+        posture_of (string_bytes row.now.posture) ≡ Some given.1) }
+{
+    let Some(zone) = zones.number_of(row.zone.as_bytes()) else {
+        return Err(at.fault(Wrong::NoZone(copy(alloc, row.zone.as_str())?)));
+    };
+    let Some(posture) = posture_in(row.posture.as_str()) else {
+        return Err(at.fault(no_posture(alloc, row)?));
+    };
+    Ok((zone, posture))
+}
+
+/// What is wrong with a row whose posture is none.
+fn no_posture(alloc: Global, row: &PostureRow) -> Result<Wrong, AllocError> {
+    Ok(Wrong::NoPosture {
+        zone: copy(alloc, row.zone.as_str())?,
+        word: copy(alloc, row.posture.as_str())?,
+    })
+}
