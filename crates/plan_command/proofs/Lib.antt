@@ -1,1 +1,3 @@
 mod Inputs
+mod Lines
+mod Screens

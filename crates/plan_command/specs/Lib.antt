@@ -1,3 +1,7 @@
 pub mod Requests
 pub mod Input
+pub mod Words
+pub mod Reports
+pub mod Headers
+pub mod Screens
 pub mod Served

@@ -8,3 +8,5 @@ pub mod input;
 pub mod report;
 pub mod request;
 pub mod serve;
+pub mod size;
+mod words;

@@ -7,19 +7,20 @@ ghost use Rattle.cell_shell.specs.Printed.{Prints};
 ghost use Rattle.cell_shell.specs.Versions.{version_line};
 ghost use Rattle.cell_shell.specs.Words.{texts_of};
 ghost use Rattle.plan_command.specs.Input.{byte_limit, max_bytes_read, script_in};
-ghost use Rattle.plan_command.specs.Served.{AnswersInput, AnswersScript};
+ghost use Rattle.plan_command.specs.Served.{AnswersInput, AnswersScript, FindsFree, FindsInputFree};
+ghost use Rattle.plan_command.specs.Served.{Reports, WritesFree, WritesHeader};
 ghost use Rattle.plan_command.specs.Requests.{request_of};
-ghost use Rattle.plan_document.specs.Limits as plan_limits;
 
-use crate::explore::screen_of;
+use crate::explore::{Screen, screen_of};
 use crate::header::header_of;
 use crate::input::{MAX_BYTES, plan_length};
 use crate::report::report_of;
 use crate::request;
 use crate::request::Request;
+use crate::size::{MAX_SITUATIONS, is_large};
 use cell_shell::{Exit, fail, print, print_version, refuse_words, with_texts};
 use cell_text::{InputFault, read_up_to};
-use plan_document::{ProgrammedPlan, plan_of, read_plan};
+use plan_document::{ProgrammedPlan, plan_of};
 use plan_replay::{Outcome, ScriptAnswers, answer_script, start_of_script};
 use plan_rules::State;
 use plan_text::NamedPlan;
@@ -37,8 +38,9 @@ Reads a plan of a plant, in TOML, from standard input.
                   goes on for ever, or in which order it starves
   plan header     prints its names and the layout of its word for C
   plan --version  prints the version
-Exit status: 0 on success, whatever an exploration finds, and for help; 2 for bad
-arguments; otherwise 1: a refused plan or script, a failed read or write, or no memory.
+A script may follow the plan in each case. At most 1,000,000 situations are explored; more
+are fault large. Exit status: 0 on success, and for help; 2 for bad arguments; otherwise
+1: a fault, a standstill, or a failed write.
 
 Example:
   cat examples/plans/press.toml examples/plans/press.csv | plan replay
@@ -47,39 +49,6 @@ Example:
 /// What is printed for other words.
 const OTHER_WORDS: &str =
     "error: the only argument is check, replay, explore, header, --help or --version\n";
-
-/// Reads a plan and prints what the request asks of it, or the plan's fault.
-fn serve_plan<R: Read, W: Write>(
-    alloc: Global,
-    request: Request,
-    reader: &mut R,
-    writer: &mut W,
-) -> u8
-    ensures status { result ≤ 1 }
-    ensures read { TakesAtMost (R.remaining reader.old) (R.remaining reader.new) plan_limits.max_bytes_read }
-{
-    match read_plan(alloc, reader) {
-        Ok(plan) => serve_request(alloc, request, plan, &[], writer).status(),
-        Err(fault) => fail(writer, fault).status(),
-    }
-}
-
-/// Prints what the request asks of a plan.
-fn print_plan<W: Write>(alloc: Global, request: Request, named: &NamedPlan, writer: &mut W) -> Exit
-    ensures status { result ≢ Exit.Refused }
-{
-    match text_of(alloc, request, named) {
-        Ok(text) => print(writer, text.as_bytes()),
-        Err(AllocError) => fail(writer, "memory"),
-    }
-}
-
-fn text_of(alloc: Global, request: Request, named: &NamedPlan) -> Result<String, AllocError> {
-    match request {
-        Request::Header => header_of(alloc, named),
-        _ => report_of(alloc, named),
-    }
-}
 
 /// Reads a plan and a script after it: all bytes, unless there are too many.
 fn read_input<R: Read>(alloc: Global, reader: &mut R) -> Result<Vec<u8>, InputFault>
@@ -100,17 +69,23 @@ fn fail_to_read<W: Write>(writer: &mut W, fault: InputFault) -> Exit
     }
 }
 
-/// Reads a plan and a script after it, and prints what the request asks of them: the answers to the script, or what the
-/// machines' programs come to from the start.
-fn serve_script<R: Read, W: Write>(
+/// Reads a plan and a script after it, and prints what the request asks of them: what the plan is, its header, the
+/// answers to the script, or what the machines' programs come to from the start.
+fn serve_input<R: Read, W: Write>(
     alloc: Global,
     request: Request,
     reader: &mut R,
     writer: &mut W,
 ) -> Exit
     ensures status { result ≢ Exit.Refused }
+    ensures reported { request ≡ Request.Check → result ≡ Exit.Well →
+        Reports (W.contents writer.old) (W.contents writer.new) }
     ensures answered { request ≡ Request.Replay → result ≡ Exit.Well →
         AnswersInput (R.remaining reader.old) (W.contents writer.old) (W.contents writer.new) }
+    ensures free { request ≡ Request.Explore → result ≡ Exit.Well →
+        FindsInputFree (R.remaining reader.old) (W.contents writer.old) (W.contents writer.new) }
+    ensures header { request ≡ Request.Header → result ≡ Exit.Well →
+        WritesHeader (W.contents writer.old) (W.contents writer.new) }
     ensures read { TakesAtMost (R.remaining reader.old) (R.remaining reader.new) max_bytes_read }
 {
     match read_input(alloc, reader) {
@@ -122,21 +97,27 @@ fn serve_script<R: Read, W: Write>(
 fn serve_bytes<W: Write>(alloc: Global, request: Request, bytes: &[u8], writer: &mut W) -> Exit
     ensures status { result ≢ Exit.Refused }
     ensures short { result ≡ Exit.Well → length bytes.now ≤ byte_limit }
+    ensures reported { request ≡ Request.Check → result ≡ Exit.Well →
+        Reports (W.contents writer.old) (W.contents writer.new) }
     ensures answered { request ≡ Request.Replay → result ≡ Exit.Well →
         AnswersScript (script_in bytes.now) (W.contents writer.old) (W.contents writer.new) }
+    ensures free { request ≡ Request.Explore → result ≡ Exit.Well →
+        FindsFree (script_in bytes.now) (W.contents writer.old) (W.contents writer.new) }
+    ensures header { request ≡ Request.Header → result ≡ Exit.Well →
+        WritesHeader (W.contents writer.old) (W.contents writer.new) }
 {
     if bytes.len() > MAX_BYTES {
         return fail(writer, "long");
     }
     let (document, script) = bytes.split_at(plan_length(bytes));
     match plan_of(alloc, document) {
-        Ok(plan) => serve_request(alloc, request, plan, script, writer),
+        Ok(plan) => serve_plan(alloc, request, plan, script, writer),
         Err(fault) => fail(writer, fault),
     }
 }
 
 /// Prints what the request asks of a plan, and of the script after it for `Replay` and `Explore`.
-fn serve_request<W: Write>(
+fn serve_plan<W: Write>(
     alloc: Global,
     request: Request,
     plan: ProgrammedPlan,
@@ -144,27 +125,40 @@ fn serve_request<W: Write>(
     writer: &mut W,
 ) -> Exit
     ensures status { result ≢ Exit.Refused }
+    ensures reported { request ≡ Request.Check → result ≡ Exit.Well →
+        Reports (W.contents writer.old) (W.contents writer.new) }
     ensures answered { request ≡ Request.Replay → result ≡ Exit.Well →
         AnswersScript script.now (W.contents writer.old) (W.contents writer.new) }
-{
-    print_request(alloc, request, &plan, script, writer)
-}
-
-fn print_request<W: Write>(
-    alloc: Global,
-    request: Request,
-    plan: &ProgrammedPlan,
-    script: &[u8],
-    writer: &mut W,
-) -> Exit
-    ensures status { result ≢ Exit.Refused }
-    ensures answered { request ≡ Request.Replay → result ≡ Exit.Well →
-        AnswersScript script.now (W.contents writer.old) (W.contents writer.new) }
+    ensures free { request ≡ Request.Explore → result ≡ Exit.Well →
+        FindsFree script.now (W.contents writer.old) (W.contents writer.new) }
+    ensures header { request ≡ Request.Header → result ≡ Exit.Well →
+        WritesHeader (W.contents writer.old) (W.contents writer.new) }
 {
     match request {
+        Request::Header => print_header(alloc, &plan.named, writer),
         Request::Replay => replay_script(alloc, &plan.named, script, writer),
-        Request::Explore => explore_script(alloc, plan, script, writer),
-        _ => print_plan(alloc, request, &plan.named, writer),
+        Request::Explore => explore_script(alloc, &plan, script, writer),
+        _ => print_report(alloc, &plan.named, writer),
+    }
+}
+
+fn print_report<W: Write>(alloc: Global, named: &NamedPlan, writer: &mut W) -> Exit
+    ensures status { result ≢ Exit.Refused }
+    ensures reported { result ≡ Exit.Well → Reports (W.contents writer.old) (W.contents writer.new) }
+{
+    match report_of(alloc, named) {
+        Ok(text) => print(writer, text.as_bytes()),
+        Err(AllocError) => fail(writer, "memory"),
+    }
+}
+
+fn print_header<W: Write>(alloc: Global, named: &NamedPlan, writer: &mut W) -> Exit
+    ensures status { result ≢ Exit.Refused }
+    ensures header { result ≡ Exit.Well → WritesHeader (W.contents writer.old) (W.contents writer.new) }
+{
+    match header_of(alloc, named) {
+        Ok(text) => print(writer, text.as_bytes()),
+        Err(AllocError) => fail(writer, "memory"),
     }
 }
 
@@ -186,6 +180,8 @@ fn explore_script<W: Write>(
     writer: &mut W,
 ) -> Exit
     ensures status { result ≢ Exit.Refused }
+    ensures free { result ≡ Exit.Well →
+        FindsFree script.now (W.contents writer.old) (W.contents writer.new) }
 {
     match start_of_script(alloc, &plan.named, script) {
         Ok(Ok(opening)) => explore_from(alloc, plan, &opening, writer),
@@ -201,11 +197,45 @@ fn explore_from<W: Write>(
     writer: &mut W,
 ) -> Exit
     ensures status { result ≢ Exit.Refused }
+    ensures free { result ≡ Exit.Well → WritesFree plan.now.named plan.now.programs opening.now
+        (W.contents writer.old) (W.contents writer.new) }
 {
-    match screen_of(alloc, plan, opening) {
-        Ok(text) => print(writer, text.as_bytes()),
+    match is_large(
+        alloc,
+        plan.named.plan(),
+        &plan.programs,
+        opening,
+        MAX_SITUATIONS,
+    ) {
+        Ok(false) => print_screen(alloc, plan, opening, writer),
+        Ok(true) => fail(writer, "large"),
         Err(AllocError) => fail(writer, "memory"),
     }
+}
+
+fn print_screen<W: Write>(
+    alloc: Global,
+    plan: &ProgrammedPlan,
+    opening: &State,
+    writer: &mut W,
+) -> Exit
+    ensures status { result ≢ Exit.Refused }
+    ensures free { result ≡ Exit.Well → WritesFree plan.now.named plan.now.programs opening.now
+        (W.contents writer.old) (W.contents writer.new) }
+{
+    match screen_of(alloc, plan, opening) {
+        Ok(Screen::Free(text)) => print(writer, text.as_bytes()),
+        Ok(Screen::Standstill(text)) => print_standstill(writer, text.as_str()),
+        Err(AllocError) => fail(writer, "memory"),
+    }
+}
+
+/// Prints what was found of a standstill. That isn't well, whatever was written.
+fn print_standstill<W: Write>(writer: &mut W, text: &str) -> Exit
+    ensures { result ≡ Exit.Failed }
+{
+    let _ = print(writer, text.as_bytes());
+    Exit::Failed
 }
 
 /// Prints answers. Returns `Well` if they were written and no record was refused.
@@ -223,7 +253,7 @@ fn print_answers<W: Write>(writer: &mut W, answered: &ScriptAnswers) -> Exit
 }
 
 /// Does what the words ask for, and returns the exit status: 0 on success, and for help; 1 for a refused plan or
-/// script, a failed read or write, and if memory ran out; 2 for other words.
+/// script, a standstill, a failed read or write, and if memory ran out; 2 for other words.
 pub fn serve<R: Read, W: Write>(alloc: Global, words: &[&str], reader: &mut R, writer: &mut W) -> u8
     ensures status { result ≤ 2 }
 
@@ -239,6 +269,17 @@ pub fn serve<R: Read, W: Write>(alloc: Global, words: &[&str], reader: &mut R, w
     ensures replay { request_of (texts_of words.now) ≡ Some Request.Replay → result ≡ 0 →
         AnswersInput (R.remaining reader.old) (W.contents writer.old) (W.contents writer.new) }
 
+    // With `explore`: status 0 says that no order of turns of some plan's programs leads from the script's start to a
+    // standstill, and that this was written.
+    ensures explore { request_of (texts_of words.now) ≡ Some Request.Explore → result ≡ 0 →
+        FindsInputFree (R.remaining reader.old) (W.contents writer.old) (W.contents writer.new) }
+
+    // With `check` and with `header` it says that the report or the header of some plan was written.
+    ensures check { request_of (texts_of words.now) ≡ Some Request.Check → result ≡ 0 →
+        Reports (W.contents writer.old) (W.contents writer.new) }
+    ensures header { request_of (texts_of words.now) ≡ Some Request.Header → result ≡ 0 →
+        WritesHeader (W.contents writer.old) (W.contents writer.new) }
+
     // Status 2 comes exactly for other words, of which a line was printed, or a prefix of it.
     ensures refused { result ≡ 2 → request_of (texts_of words.now) ≡ None }
     ensures other { request_of (texts_of words.now) ≡ None → result ≡ 2 }
@@ -249,10 +290,10 @@ pub fn serve<R: Read, W: Write>(alloc: Global, words: &[&str], reader: &mut R, w
     ensures read { TakesAtMost (R.remaining reader.old) (R.remaining reader.new) max_bytes_read }
 {
     match request::request_of(words) {
-        Some(Request::Check) => serve_plan(alloc, Request::Check, reader, writer),
-        Some(Request::Header) => serve_plan(alloc, Request::Header, reader, writer),
-        Some(Request::Replay) => serve_script(alloc, Request::Replay, reader, writer).status(),
-        Some(Request::Explore) => serve_script(alloc, Request::Explore, reader, writer).status(),
+        Some(Request::Check) => serve_input(alloc, Request::Check, reader, writer).status(),
+        Some(Request::Header) => serve_input(alloc, Request::Header, reader, writer).status(),
+        Some(Request::Replay) => serve_input(alloc, Request::Replay, reader, writer).status(),
+        Some(Request::Explore) => serve_input(alloc, Request::Explore, reader, writer).status(),
         Some(Request::Help) => print(writer, HELP.as_bytes()).status(),
         Some(Request::Version) => print_version(writer, "plan").status(),
         None => refuse_words(writer, OTHER_WORDS).status(),

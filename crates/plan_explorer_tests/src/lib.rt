@@ -7,3 +7,5 @@ mod explorations;
 mod programs;
 #[cfg(test)]
 mod progress;
+#[cfg(test)]
+mod sizes;

@@ -372,7 +372,7 @@ const PROGRAMS: &[(usize, &[u8], u8, &str)] = &[
     (
         255,
         b"explore",
-        0,
+        1,
         "a standstill after 0 turns, and no fewer\nc waits: claim z: notparty\nturns:\n",
     ),
     (256, b"explore", 1, LONG),

@@ -11,4 +11,6 @@ mod faults;
 #[cfg(test)]
 mod going;
 #[cfg(test)]
+mod headers;
+#[cfg(test)]
 mod served;

@@ -1,0 +1,59 @@
+//! How many situations an exploration comes to.
+
+use plan_explorer::turning::{is_standstill, turn};
+use plan_explorer::{Programs, Situation};
+use plan_rules::State;
+use plan_types::Plan;
+use std::alloc::{AllocError, Global};
+use std::collections::HashSet;
+
+/// The most situations that are explored.
+pub const MAX_SITUATIONS: usize = 1_000_000;
+
+/// Whether turns from an opening lead to more than `most` situations before they lead to a standstill, in the order in
+/// which `plan_explorer` explores them. An error says that memory ran out.
+pub fn is_large(
+    alloc: Global,
+    plan: &Plan,
+    programs: &Programs,
+    opening: &State,
+    most: usize,
+) -> Result<bool, AllocError> {
+    let mut seen = HashSet::new(alloc);
+    let mut found = Vec::new(alloc);
+    let first = Situation::first(opening);
+    seen.insert(first)?;
+    found.push(first)?;
+    'situations: for done in 0..most {
+        if done >= found.len() {
+            return Ok(false);
+        }
+        let at = found[done];
+        if is_standstill(plan, programs, &at) {
+            return Ok(false);
+        }
+        add_next(plan, programs, at, &mut seen, &mut found)?;
+        if found.len() > most {
+            return Ok(true);
+        }
+    }
+    Ok(found.len() > most)
+}
+
+/// Adds the situations after a turn of each machine that aren't there yet.
+fn add_next(
+    plan: &Plan,
+    programs: &Programs,
+    at: Situation,
+    seen: &mut HashSet<Situation>,
+    found: &mut Vec<Situation>,
+) -> Result<(), AllocError> {
+    'machines: for machine in 0..programs.count() {
+        let next = turn(plan, programs, at, machine);
+        let added = seen.insert(next)?;
+        if added {
+            found.push(next)?;
+        }
+    }
+    Ok(())
+}
