@@ -7,7 +7,7 @@ use Rattle.std.proofs.lemmas.List.{flat_map_more, length-take-le, map_more, map_
 use Rattle.std.proofs.lemmas.List.Folds.{list_all-append}
 use Rattle.std.specs.List.{AllZip, enumerate_from, flat_map, list_all}
 use Rattle.plan_text.specs.Names.{Text}
-use Rattle.plan_document.specs.Names.{all_poses, machine_names, names_in, numbered, numbered_poses, place_names, places_in, pose_names, zone_names}
+use Rattle.plan_document.specs.Names.{all_poses, identifier, identifiers, identifiers_in, machine_names, names_in, numbered, numbered_poses, place_names, places_in, pose_names, zone_names}
 use Rattle.plan_document.specs.Saying.{keepers}
 use Rattle.plan_document.specs.declared.document.MachineRow.{MachineRow}
 use Rattle.plan_document.specs.declared.document.PoseRow.{PoseRow}
@@ -57,6 +57,12 @@ place_names_more rows i row h is = flat_row_more places_in rows i row h is
 
 pub pose_names_more : (rows : List MachineRow) (i : ℕ) (row : MachineRow) → i < length rows → row ≡ get_or rows i row → pose_names (take (i + 1) rows) ≡ pose_names (take i rows) ++ names_in row.poses.items
 pose_names_more rows i row h is = flat_row_more (λ (r : MachineRow). names_in r.poses.items) rows i row h is
+
+pub identifiers_in_more : (machine : Text) (rows : List PoseRow) (i : ℕ) (row : PoseRow) → i < length rows → row ≡ get_or rows i row → identifiers_in machine (take (i + 1) rows) ≡ identifiers_in machine (take i rows) ++ identifier machine (string_bytes row.name) ∷ []
+identifiers_in_more machine rows i row h is = map_row_more (λ (r : PoseRow). identifier machine (string_bytes r.name)) rows i row h is
+
+pub identifiers_more : (rows : List MachineRow) (i : ℕ) (row : MachineRow) → i < length rows → row ≡ get_or rows i row → identifiers (take (i + 1) rows) ≡ identifiers (take i rows) ++ identifiers_in (string_bytes row.name) row.poses.items
+identifiers_more rows i row h is = flat_row_more (λ (r : MachineRow). identifiers_in (string_bytes r.name) r.poses.items) rows i row h is
 
 -- a name is free if the names before it are
 pub free_more : (free : Text → Bool) (names : List Text) (name : Text) → list_all free names ≡ true → free name ≡ true → list_all free (names ++ name ∷ []) ≡ true

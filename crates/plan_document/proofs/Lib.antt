@@ -1,3 +1,4 @@
 mod Growing
 mod Given
 mod Written
+mod Distinct

@@ -4,7 +4,7 @@ use Rattle.std.proofs.Common.{Option, Some, None}
 use Rattle.std.specs.Prelude.{String}
 use Rattle.std.specs.declared.alloc.Global.{Global}
 use Rattle.std.proofs.lemmas.List.{map_more, map_push}
-use Rattle.std.proofs.Common.{find, inl, inr, Result, Ok, Err, IfOk}
+use Rattle.std.proofs.Common.{find, inl, inr, length-take, Result, Ok, Err, IfOk, IsOk}
 use Rattle.std.proofs.lemmas.Bool.{cases_Bool}
 use Rattle.std.proofs.lemmas.Slice.Eq.{bytes_eq-Decides}
 use Rattle.std.specs.Str.{bytes_eq}
@@ -112,3 +112,10 @@ word_of_verb word verb e =
 pub if_ok_more : {A E : Type 0} (r : Result A E) (P Q : A → Type 0) → ((x : A) → P x → Q x) → IfOk r P → IfOk r Q
 if_ok_more (Ok x) P Q step h = step x h
 if_ok_more (Err e) P Q step h = h
+
+-- what was read is whole if it is no longer than a document may be
+pub read_whole : {A E : Type 0} (r : Result A E) (P : List ℕ → A → Type 0) (bytes read : List ℕ) → bytes ≡ take 65537 read → (IsOk r → length bytes ≤ 65536) → IfOk r (P bytes) → IfOk r (P read)
+read_whole (Ok x) P bytes read is short h =
+    let few : length read ≤ 65537 = omega (arith, length-take 65537 read, ap length is, short refl) in
+    subst (λ bs. P bs x) (is ∙ take_all 65537 read few) h
+read_whole (Err e) P bytes read is short h = tt

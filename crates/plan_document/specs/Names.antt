@@ -1,8 +1,7 @@
 -- The names in a document, by kinds, in the order of its rows.
-use Rattle.std.specs.Prelude.{ℕ, List, map, string_bytes}
+use Rattle.std.specs.Prelude.{◌≡◌, ℕ, ◌<◌, List, ◌++◌, codes, length, map, string_bytes, Some}
 use Rattle.std.specs.List.{enumerate_from, flat_map}
-use Rattle.plan_text.specs.Names.{Text}
-use Rattle.plan_document.specs.declared.document.Document.{Document}
+use Rattle.plan_text.specs.Names.{Text, name_in, number_in}
 use Rattle.plan_document.specs.declared.document.MachineRow.{MachineRow}
 use Rattle.plan_document.specs.declared.document.PoseRow.{PoseRow}
 use Rattle.plan_document.specs.declared.document.ZoneRow.{ZoneRow}
@@ -37,3 +36,19 @@ numbered_poses machine poses = map (λ pose. (machine, pose)) poses
 
 abbrev pub all_poses : List MachineRow → List (ℕ × PoseRow)
 all_poses machines = flat_map (λ (machine, row). numbered_poses machine row.poses.items) (numbered machines)
+
+-- ---- names that are told apart
+
+-- each name is found at its own number, so no two are the same
+abbrev pub AreDistinct : List Text → Type 0
+AreDistinct names = (number : ℕ) → number < length names → number_in names (name_in names number) ≡ Some number
+
+-- the name of a pose for C: its machine's, an underline and its own
+abbrev pub identifier : Text → Text → Text
+identifier machine pose = machine ++ codes "_" ++ pose
+
+abbrev pub identifiers_in : Text → List PoseRow → List Text
+identifiers_in machine poses = map (λ pose. identifier machine (string_bytes pose.name)) poses
+
+abbrev pub identifiers : List MachineRow → List Text
+identifiers machines = flat_map (λ row. identifiers_in (string_bytes row.name) row.poses.items) machines

@@ -1,6 +1,6 @@
 -- The rows of a document in its TOML.
-use Rattle.std.specs.Prelude.{◌≡◌, ℕ, Bool, false, List, [], ◌∷◌, codes, map, String, string_bytes, Option, Some}
-use Rattle.std.specs.Prelude.{None, option_map, ⊤}
+use Rattle.std.specs.Prelude.{◌≡◌, ℕ, Bool, false, List, [], ◌∷◌, codes, map}
+use Rattle.std.specs.Prelude.{String, string_bytes, Option, Some, None, option_map, ⊤}
 use Rattle.std.specs.declared.alloc.Global.{Global}
 use Rattle.std.specs.List.{AllZip}
 use Rattle.toml.specs.Data.{Data, Items, Members, array, boolean, item, no_items, member, no_members, string, table}

@@ -1,5 +1,6 @@
 -- What a document says: which plan is its plan. A name stands for the number of its row.
-use Rattle.std.specs.Prelude.{◌≡◌, ℕ, ◌<◌, Bool, true, false, ◌&&◌, ◌||◌, not, nat_eq, List, ◌++◌, map, length, get_or}
+use Rattle.std.specs.Prelude.{◌≡◌, ℕ, ◌<◌, Bool, true, false, ◌&&◌, ◌||◌, not, nat_eq, List, ◌++◌, map}
+use Rattle.std.specs.Prelude.{length, get_or}
 use Rattle.std.specs.Prelude.{replicate, codes, String, string_bytes, Option, Some, None, is_some, option_map, IsTrue}
 use Rattle.std.specs.Prelude.{if◌then◌else◌, ⊤}
 use Rattle.std.specs.declared.alloc.Global.{Global}
@@ -29,7 +30,8 @@ use Rattle.plan_document.specs.declared.document.WayRow.{WayRow}
 use Rattle.plan_document.specs.declared.document.ZoneRow.{ZoneRow}
 use Rattle.plan_document.specs.declared.resolving.ProgrammedPlan.{ProgrammedPlan}
 use Rattle.plan_document.specs.declared.tables.Rows.{Rows}
-use Rattle.plan_document.specs.Names.{all_poses, machine_names, numbered, place_names, pose_names, zone_names}
+use Rattle.plan_document.specs.Names.{AreDistinct, all_poses, identifiers, machine_names, numbered, place_names}
+use Rattle.plan_document.specs.Names.{pose_names, zone_names}
 
 -- ---- zones
 
@@ -138,9 +140,14 @@ IsProgramOf n (machine, row) program = AreCallsOf n machine row.program.items pr
 abbrev pub is_free : Text → Bool
 is_free name = not (is_reserved name)
 
--- each table has a row for each row of the document, and each name in it is looked up
+-- each table has a row for each row of the document, and each name in it is looked up; names of one kind are distinct,
+-- of poses those for C
 pub record IsNamedPlanOf (d : Document) (n : Named) : Type 0 where
   pub free : IsTrue (list_all is_free n.machines)
+  pub distinct_machines : AreDistinct n.machines
+  pub distinct_zones : AreDistinct n.zones
+  pub distinct_places : AreDistinct n.places
+  pub distinct_poses : AreDistinct (identifiers d.machines.items)
   pub named_machines : n.machines ≡ machine_names d.machines.items
   pub named_zones : n.zones ≡ zone_names d.zones.items
   pub named_places : n.places ≡ place_names d.machines.items

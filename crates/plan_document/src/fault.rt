@@ -126,6 +126,8 @@ pub enum Wrong {
     NoText,
     /// The value is no list of texts.
     NoTexts,
+    /// The value is no list of lines of a program.
+    NoLines,
     /// The value is no table.
     NoTable,
     /// The value is no list of tables.
@@ -140,6 +142,8 @@ pub enum Wrong {
     Reserved(String),
     /// A name is there twice.
     Twice(String),
+    /// With its machine's name before it, a pose's name is this, and so is another pose's.
+    SameInC(String),
     /// A plan has at most this number of them.
     TooMany(usize),
     /// A program has at most this number of lines.
@@ -375,6 +379,7 @@ fn write_wrong<W: fmt::Write>(wrong: &Wrong, f: &mut fmt::Formatter<W>) -> fmt::
         Wrong::NoName(text) => ("", text, NO_NAME),
         Wrong::Reserved(text) => ("", text, " is a word of scripts, and names no machine"),
         Wrong::Twice(text) => ("", text, " is there twice"),
+        Wrong::SameInC(text) => ("for C it is ", text, ", and so is another pose's"),
         Wrong::NoMachine(text) => ("no machine is named ", text, ""),
         Wrong::NoZone(text) => ("no zone is named ", text, ""),
         Wrong::NoPlace(text) => ("no place is named ", text, ""),
@@ -398,6 +403,7 @@ fn write_plain<W: fmt::Write>(wrong: &Wrong, f: &mut fmt::Formatter<W>) -> fmt::
         Wrong::Missing => "it is missing",
         Wrong::NoText => "it takes a text; put quotes round it",
         Wrong::NoTexts => "it takes a list of texts, such as [\"hand\", \"die\"]",
+        Wrong::NoLines => "it takes a list of texts, such as [\"claim door\", \"release door\"]",
         Wrong::NoTable => "it takes a table, such as { interior = \"closed\" }",
         Wrong::NoTables => "it takes a list of tables",
         Wrong::NoTruth => "it takes true or false",

@@ -67,7 +67,7 @@ fn calls_in(
     Ok(calls)
 }
 
-/// The call in a line of a program.
+/// The call in a line of a program. No program inquires.
 fn call_in(
     alloc: Global,
     line: &str,
@@ -80,6 +80,9 @@ fn call_in(
     let Some((verb, name)) = verb_and_name(line) else {
         return Err(at.fault(Wrong::NoCall(copy(alloc, line)?)));
     };
+    if verb == Verb::Inquire {
+        return Err(at.fault(Wrong::NoCall(copy(alloc, line)?)));
+    }
     match own_call(named, machine, verb, name) {
         Some(call) => match never(named.plan(), machine, call) {
             None => Ok(call),

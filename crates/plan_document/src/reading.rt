@@ -1,10 +1,10 @@
 //! Reads a plan's document.
-ghost use Rattle.std.specs.Prelude.{map, IfOk};
+ghost use Rattle.std.specs.Prelude.{◌≤◌, length, map, IfOk, IfSome, IsOk};
 ghost use Rattle.std.specs.List.{AllZip};
 ghost use Rattle.toml.specs.View.{table_view, view};
 ghost use Rattle.cell_text.specs.Input.{TakesAtMost};
 ghost use Rattle.plan_document.specs.Keys.{key_word};
-ghost use Rattle.plan_document.specs.Limits.{max_bytes_read};
+ghost use Rattle.plan_document.specs.Limits.{byte_limit, max_bytes_read};
 ghost use Rattle.plan_document.specs.Reading.{HasRows, IsDocumentIn, IsMachineIn, IsPlanIn, IsPlanOfTable, IsPoseIn};
 ghost use Rattle.plan_document.specs.Reading.{IsZoneIn};
 ghost use Rattle.plan_document.specs.declared.fault.Key.TheVariants.{Machine, Poses, Zone};
@@ -40,7 +40,8 @@ const ZONE_KEYS: [&str; 5] = ["name", "host", "guest", "inward", "outward"];
 /// tables, the lines of programs, and last whole programs. The error is `Read` if the reader fails. `Memory` may come
 /// from any allocation.
 pub fn read_plan<R: Read>(alloc: Global, reader: &mut R) -> Result<ProgrammedPlan, PlanTextFault>
-    ensures { TakesAtMost (R.remaining reader.old) (R.remaining reader.new) max_bytes_read }
+    ensures plan { IfSome (R.remaining reader.old) (λ bytes. IfOk result (IsPlanIn bytes)) }
+    ensures taken { TakesAtMost (R.remaining reader.old) (R.remaining reader.new) max_bytes_read }
 {
     match read_up_to(alloc, reader, MAX_BYTES + 1) {
         Ok(bytes) => plan_of(alloc, bytes.as_slice()),
@@ -51,7 +52,8 @@ pub fn read_plan<R: Read>(alloc: Global, reader: &mut R) -> Result<ProgrammedPla
 
 /// The plan in a document's bytes, or the first fault.
 pub fn plan_of(alloc: Global, bytes: &[u8]) -> Result<ProgrammedPlan, PlanTextFault>
-    ensures { IfOk result (IsPlanIn bytes.now) }
+    ensures plan { IfOk result (IsPlanIn bytes.now) }
+    ensures short { IsOk result → length bytes.now ≤ byte_limit }
 {
     if bytes.len() > MAX_BYTES {
         return Err(PlanTextFault::Long);

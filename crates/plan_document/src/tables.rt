@@ -1,11 +1,12 @@
 //! From the names in a document's rows to numbers: the tables of a plan.
-ghost use Rattle.std.specs.Prelude.{◌≡◌, ◌++◌, ◌∷◌, ℕ, List, [], Some, length, replicate};
+ghost use Rattle.std.specs.Prelude.{◌≡◌, ◌++◌, ◌∷◌, ℕ, List, [], Some, None, length, replicate};
 ghost use Rattle.std.specs.Prelude.{◌<◌, IsTrue, OnOk, IfOk, string_bytes};
 ghost use Rattle.std.specs.List.{AllZip, list_all};
 ghost use Rattle.plan_text.specs.Names.{number_in};
 ghost use Rattle.plan_text.specs.Answers.{posture_of};
-ghost use Rattle.plan_document.specs.Names.{all_poses, machine_names, names_in, numbered_poses, place_names};
-ghost use Rattle.plan_document.specs.Names.{places_in, pose_names, zone_names};
+ghost use Rattle.plan_document.specs.Names.{AreDistinct, all_poses, identifier, identifiers, identifiers_in};
+ghost use Rattle.plan_document.specs.Names.{machine_names, names_in, numbered_poses, place_names, places_in};
+ghost use Rattle.plan_document.specs.Names.{pose_names, zone_names};
 ghost use Rattle.plan_document.specs.Saying as saying;
 ghost use Rattle.plan_document.specs.declared.document.PoseRow.{PoseRow as Pose};
 
@@ -31,6 +32,8 @@ pub struct Rows {
     pub zone_rows: Vec<PlanZone>,
     pub poses: Names,
     pub pose_rows: Vec<PlanPose>,
+    /// The poses' names for C.
+    pub identifiers: Names,
 }
 
 /// The names and rows of a document, or the first fault of them.
@@ -45,6 +48,7 @@ pub fn rows_of(alloc: Global, document: &Document) -> Result<Rows, DocumentFault
         zone_rows: Vec::new(alloc),
         poses: Names::new(alloc),
         pose_rows: Vec::new(alloc),
+        identifiers: Names::new(alloc),
     };
     add_rows(alloc, document, &mut rows)?;
     Ok(rows)
@@ -59,6 +63,7 @@ fn add_rows(alloc: Global, document: &Document, rows: &mut Rows) -> Result<(), D
     requires zone_rows { rows.old.zone_rows.items ≡ [] }
     requires poses { rows.old.poses ≡ [] }
     requires pose_rows { rows.old.pose_rows.items ≡ [] }
+    requires identifiers { rows.old.identifiers ≡ [] }
     ensures { OnOk result (saying.AreRowsOf document.now rows.new) }
 {
     add_machine_names(alloc, &document.machines, &mut rows.machines)?;
@@ -82,7 +87,8 @@ fn add_rows(alloc: Global, document: &Document, rows: &mut Rows) -> Result<(), D
         &rows.zones,
         &mut rows.poses,
         &mut rows.pose_rows,
-    )
+    )?;
+    add_all_identifiers(alloc, &document.machines, &mut rows.identifiers)
 }
 
 /// Adds a name of a row to names of its kind, of which a plan has at most `most`.
@@ -93,17 +99,22 @@ fn add_name(
     most: usize,
     at: Location,
 ) -> Result<(), DocumentFault>
-    ensures { OnOk result (names.new ≡ names.old ++ name.now ∷ []) }
+    ensures name { OnOk result (names.new ≡ names.old ++ name.now ∷ []) }
+    ensures distinct { OnOk result (AreDistinct names.old → AreDistinct names.new) }
 {
     match check_name(alloc, names, name, most) {
-        Ok(()) => push_name(alloc, names, name),
+        Ok(()) => {
+            push_name(alloc, names, name)?;
+            Ok(())
+        }
         Err(wrong) => Err(at.fault(wrong)),
     }
 }
 
 /// Refuses a name that is none, that is there already, or for which there is no room.
 fn check_name(alloc: Global, names: &Names, name: &str, most: usize) -> Result<(), Wrong>
-    ensures { OnOk result (length names.now < 64) }
+    ensures room { OnOk result (length names.now < 64) }
+    ensures other { OnOk result (number_in names.now name.now ≡ None) }
 {
     if names.len() >= most || names.len() >= MAX_NAMES {
         return Err(Wrong::TooMany(most));
@@ -135,6 +146,7 @@ fn add_machine_names(
     requires { names.old ≡ [] }
     ensures names { OnOk result (names.new ≡ machine_names machines.now) }
     ensures free { OnOk result (IsTrue (list_all saying.is_free names.new)) }
+    ensures distinct { OnOk result (AreDistinct names.new) }
 {
     for i in 0..machines.len() {
         let name = machines[i].name.as_str();
@@ -158,7 +170,8 @@ fn check_free(alloc: Global, name: &str, at: Location) -> Result<(), DocumentFau
 /// Adds the names of all zones.
 fn add_zone_names(alloc: Global, zones: &[ZoneRow], names: &mut Names) -> Result<(), DocumentFault>
     requires { names.old ≡ [] }
-    ensures { OnOk result (names.new ≡ zone_names zones.now) }
+    ensures names { OnOk result (names.new ≡ zone_names zones.now) }
+    ensures distinct { OnOk result (AreDistinct names.new) }
 {
     for i in 0..zones.len() {
         let name = zones[i].name.as_str();
@@ -177,6 +190,7 @@ fn add_all_places(
     requires names { names.old ≡ [] }
     requires keepers { keepers.old.items ≡ [] }
     ensures names { OnOk result (names.new ≡ place_names machines.now) }
+    ensures distinct { OnOk result (AreDistinct names.new) }
     ensures keepers { OnOk result (keepers.new.items ≡ saying.keepers machines.now) }
 {
     for i in 0..machines.len() {
@@ -194,6 +208,7 @@ fn add_places(
     keepers: &mut Vec<u8>,
 ) -> Result<(), DocumentFault>
     ensures names { OnOk result (names.new ≡ names.old ++ places_in row.now) }
+    ensures distinct { OnOk result (AreDistinct names.old → AreDistinct names.new) }
     ensures keepers { OnOk result (keepers.new.items
         ≡ keepers.old.items ++ replicate (length row.now.places.items) machine) }
 {
@@ -371,6 +386,68 @@ fn add_pose_name(
         return Err(at.fault(Wrong::TooMany(MAX_POSES)));
     }
     push_name(alloc, names, name)
+}
+
+/// Adds the names for C of all machines' poses.
+fn add_all_identifiers(
+    alloc: Global,
+    machines: &[MachineRow],
+    names: &mut Names,
+) -> Result<(), DocumentFault>
+    requires { names.old ≡ [] }
+    ensures names { OnOk result (names.new ≡ identifiers machines.now) }
+    ensures distinct { OnOk result (AreDistinct names.new) }
+{
+    for i in 0..machines.len() {
+        add_identifiers(alloc, &machines[i], i, names)?;
+    }
+    Ok(())
+}
+
+/// Adds the names for C of a machine's poses.
+fn add_identifiers(
+    alloc: Global,
+    row: &MachineRow,
+    machine: usize,
+    names: &mut Names,
+) -> Result<(), DocumentFault>
+    ensures names { OnOk result (names.new
+        ≡ names.old ++ identifiers_in (string_bytes row.now.name) row.now.poses.items) }
+    ensures distinct { OnOk result (AreDistinct names.old → AreDistinct names.new) }
+{
+    for pose in 0..row.poses.len() {
+        let at = RowOf::Pose { machine, pose };
+        let said = &row.poses[pose];
+        let name = joined(alloc, row.name.as_str(), said.name.as_str())?;
+        add_identifier(names, name, at.key(Key::Name))?;
+    }
+    Ok(())
+}
+
+/// The name of a pose for C: its machine's, an underline and its own.
+fn joined(alloc: Global, machine: &str, pose: &str) -> Result<String, AllocError>
+    ensures { IfOk result (λ name. string_bytes name ≡ identifier machine.now pose.now) }
+{
+    let mut name = String::new(alloc);
+    name.push_str(machine)?;
+    name.push_str("_")?;
+    name.push_str(pose)?;
+    Ok(name)
+}
+
+/// Adds a name for C, which no pose before may have.
+fn add_identifier(names: &mut Names, name: String, at: Location) -> Result<(), DocumentFault>
+    ensures name { OnOk result (names.new ≡ names.old ++ string_bytes name ∷ []) }
+    ensures distinct { OnOk result (AreDistinct names.old → AreDistinct names.new) }
+{
+    if names.len() >= MAX_NAMES {
+        return Err(at.fault(Wrong::TooMany(MAX_POSES)));
+    }
+    if names.number_of(name.as_str().as_bytes()).is_some() {
+        return Err(at.fault(Wrong::SameInC(name)));
+    }
+    names.push(name)?;
+    Ok(())
 }
 
 /// The pose of a row, by the names of zones.

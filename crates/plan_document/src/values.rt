@@ -53,19 +53,32 @@ pub fn texts_at(
         return Ok(Vec::new(alloc));
     };
     match value.as_array() {
-        Some(items) => texts_in(alloc, items.as_slice(), row.key(key)),
-        None => Err(row.key(key).fault(Wrong::NoTexts)),
+        Some(items) => texts_in(alloc, items.as_slice(), row, key),
+        None => Err(row.key(key).fault(no_texts(key))),
+    }
+}
+
+/// What is wrong with the value of a key that takes a list of texts.
+fn no_texts(key: Key) -> Wrong {
+    match key {
+        Key::Program => Wrong::NoLines,
+        _ => Wrong::NoTexts,
     }
 }
 
 /// The texts that these values are.
-fn texts_in(alloc: Global, values: &[Value], at: Location) -> Result<Vec<String>, DocumentFault>
+fn texts_in(
+    alloc: Global,
+    values: &[Value],
+    row: RowOf,
+    key: Key,
+) -> Result<Vec<String>, DocumentFault>
     ensures { IfOk result (λ texts. map view values.now ≡ map reading.written texts.items) }
 {
     let mut texts = Vec::new(alloc);
     'values: for i in 0..values.len() {
         let Some(text) = values[i].as_str() else {
-            return Err(at.fault(Wrong::NoTexts));
+            return Err(row.key(key).fault(no_texts(key)));
         };
         texts.push(copy(alloc, text)?)?;
     }
