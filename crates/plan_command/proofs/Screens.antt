@@ -7,36 +7,42 @@ use Rattle.plan_explorer.specs.declared.exploring.Explored.TheVariants as explor
 use Rattle.plan_explorer.specs.Explored.{AreShortest, ComeTo, IfFree, LeadToStandstill, NoneStandsStill}
 use Rattle.plan_explorer.specs.Programs.{PlanPrograms}
 use Rattle.plan_explorer.specs.Runs.{NoRunStandsStill}
-use Rattle.plan_text.specs.Names.{Text}
 use Rattle.plan_text.specs.Named.{Named}
-use Rattle.plan_command.specs.Screens.{IsScreen, ShowsFree, ShowsGoing, ShowsStandstill, outlook_after}
+use Rattle.plan_liveness.specs.declared.answer.Liveness.{Liveness}
+use Rattle.plan_liveness.specs.declared.answer.Progress.{Progress}
+use Rattle.plan_command.specs.Going.{going_text}
+use Rattle.plan_command.specs.Screens.{AreAnswers, IsScreen, ShowsFree, ShowsGoing, ShowsStandstill, outlook_after}
 use Rattle.plan_command.specs.declared.explore.Screen.{Screen}
 use Rattle.plan_command.specs.declared.explore.Screen.TheVariants.{Free, Standstill}
 
 free_is_screen : (n : Named) (ps : PlanPrograms) (opening : State) (situations : ℕ) (screen : Screen)
     → NoneStandsStill n.plan ps opening → NoRunStandsStill n.plan ps opening → ComeTo n.plan ps opening situations
-    → ShowsGoing situations screen → IsScreen n ps opening screen
-free_is_screen n ps opening situations (Free text) none runs come (going, told) = record {
+    → ShowsGoing n ps opening situations screen → IsScreen n ps opening screen
+free_is_screen n ps opening situations (Free text) none runs come (answers, plates, are, shown) = record {
   free = none;
   runs = runs;
   situations = situations;
   come = come;
-  going = going;
-  told = told;
+  answers = answers;
+  plates = plates;
+  are = are;
+  told = shown;
 }
-free_is_screen n ps opening situations (Standstill text) none runs come (going, told) = absurd told
+free_is_screen n ps opening situations (Standstill text) none runs come (answers, plates, are, shown) = absurd shown
 
 pub free_is_shown : {E : Type 0} (n : Named) (ps : PlanPrograms) (opening : State) (situations : ℕ) (r : Result Screen E)
     → NoneStandsStill n.plan ps opening → NoRunStandsStill n.plan ps opening → ComeTo n.plan ps opening situations
-    → IfOk r (λ screen. ShowsGoing situations screen) → IfOk r (λ screen. IsScreen n ps opening screen)
+    → IfOk r (λ screen. ShowsGoing n ps opening situations screen) → IfOk r (λ screen. IsScreen n ps opening screen)
 free_is_shown n ps opening situations (Ok screen) none runs come shown =
     free_is_screen n ps opening situations screen none runs come shown
 free_is_shown n ps opening situations (Err e) none runs come shown = tt
 
-pub going_is_shown : {E : Type 0} (situations : ℕ) (going : Text) (r : Result Screen E)
-    → IfOk r (λ screen. ShowsFree situations going screen) → IfOk r (λ screen. ShowsGoing situations screen)
-going_is_shown situations going (Ok screen) shown = (going, shown)
-going_is_shown situations going (Err e) shown = tt
+pub going_is_shown : {E : Type 0} (n : Named) (ps : PlanPrograms) (opening : State) (situations : ℕ)
+    (answers : List Liveness) (plates : Progress) (r : Result Screen E) → AreAnswers n ps opening answers plates
+    → IfOk r (λ screen. ShowsFree situations (going_text n ps opening answers plates) screen)
+    → IfOk r (λ screen. ShowsGoing n ps opening situations screen)
+going_is_shown n ps opening situations answers plates (Ok screen) are shown = (answers, plates, are, shown)
+going_is_shown n ps opening situations answers plates (Err e) are shown = tt
 
 standstill_is_screen : (n : Named) (ps : PlanPrograms) (opening : State) (turns : List ℕ) (screen : Screen)
     → LeadToStandstill n.plan ps opening turns → AreShortest n.plan ps opening turns
@@ -62,7 +68,7 @@ standstill_is_shown n ps opening turns (Err e) lead shortest shown = tt
 pub free_is_found : {E : Type 0} (n : Named) (ps : PlanPrograms) (opening : State) (t : PlanTable) (found : Explored)
     (situations : ℕ) (r : Result Screen E) → t ≡ n.plan → found ≡ explored.Free situations
     → IfFree found (λ _. NoneStandsStill t ps opening) → IfFree found (λ _. NoRunStandsStill t ps opening)
-    → IfFree found (ComeTo t ps opening) → IfOk r (λ screen. ShowsGoing situations screen)
+    → IfFree found (ComeTo t ps opening) → IfOk r (λ screen. ShowsGoing n ps opening situations screen)
     → IfOk r (λ screen. IsScreen n ps opening screen)
 free_is_found n ps opening t found situations r same is none runs come shown =
     let none_there : NoneStandsStill t ps opening = subst (λ f. IfFree f (λ _. NoneStandsStill t ps opening)) is none in

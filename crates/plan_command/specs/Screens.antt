@@ -1,5 +1,6 @@
 -- What `plan explore` prints of a plan and its programs.
-use Rattle.std.specs.Prelude.{◌≡◌, ℕ, ◌++◌, codes, flat_map, length, List, string_bytes}
+use Rattle.std.specs.Prelude.{◌≡◌, ℕ, ◌++◌, codes, flat_map, length, List, [], string_bytes}
+use Rattle.std.specs.Prelude.{slice_get, Some, None}
 use Rattle.plan_types.specs.declared.answer.Event.{Event}
 use Rattle.plan_rules.specs.declared.state.State.{State}
 use Rattle.plan_explorer.specs.Explored.{AreShortest, ComeTo, LeadToStandstill, NoneStandsStill}
@@ -7,9 +8,14 @@ use Rattle.plan_explorer.specs.Programs.{PlanPrograms}
 use Rattle.plan_explorer.specs.Runs.{NoRunStandsStill}
 use Rattle.plan_explorer.specs.Situations.{after_turns, first_situation}
 use Rattle.plan_explorer.specs.Walks.{outlook_of}
+use Rattle.plan_liveness.specs.declared.answer.Liveness.{Liveness}
+use Rattle.plan_liveness.specs.declared.answer.Progress.{Progress}
+use Rattle.plan_liveness.specs.Answers.{IfStarves, IfWithin, IsLiveness}
+use Rattle.plan_liveness.specs.Plates.{PlatesMove, PlatesRest}
 use Rattle.plan_text.specs.Answers.{answer_text}
 use Rattle.plan_text.specs.Names.{Text}
 use Rattle.plan_text.specs.Named.{Named}
+use Rattle.plan_command.specs.Going.{going_text}
 use Rattle.plan_command.specs.Words.{call_text, counted, machine_name, turn_word}
 use Rattle.plan_command.specs.declared.explore.TheConstants.{FREE, SHORTEST, STANDSTILL}
 use Rattle.plan_command.specs.declared.explore.Screen.{Screen}
@@ -51,14 +57,32 @@ pub record TellsStandstill (n : Named) (ps : PlanPrograms) (opening : State) (te
 abbrev pub free_line : ℕ → Text
 free_line situations = FREE.now ++ (counted situations (codes "situation") ++ codes "\n")
 
--- in no order of turns is there a standstill, and the machines come to so many situations
+abbrev pub MoveOn : Named → PlanPrograms → State → Progress → Type 0
+MoveOn n ps opening plates = IfWithin plates (PlatesMove n.plan ps None [] (first_situation opening))
+
+abbrev pub MayRest : Named → PlanPrograms → State → Progress → Type 0
+MayRest n ps opening plates = IfStarves plates (PlatesRest n.plan ps None [] (first_situation opening))
+
+-- the answers are those of explorations: of each machine, and of plates
+pub record AreAnswers (n : Named) (ps : PlanPrograms) (opening : State) (answers : List Liveness) (plates : Progress)
+    : Type 0 where
+  pub count : length answers ≡ length ps
+  pub each : (m : ℕ) (answer : Liveness) → slice_get answers m ≡ Some answer
+      → IsLiveness n.plan ps (first_situation opening) m answer
+  pub moving : MoveOn n ps opening plates
+  pub resting : MayRest n ps opening plates
+
+-- In no order of turns is there a standstill, and the machines come to so many situations. What is said of machines
+-- that go on is what explorations answer.
 pub record TellsFree (n : Named) (ps : PlanPrograms) (opening : State) (text : Text) : Type 0 where
   pub free : NoneStandsStill n.plan ps opening
   pub runs : NoRunStandsStill n.plan ps opening
   pub situations : ℕ
   pub come : ComeTo n.plan ps opening situations
-  pub going : Text
-  pub told : text ≡ free_line situations ++ going
+  pub answers : List Liveness
+  pub plates : Progress
+  pub are : AreAnswers n ps opening answers plates
+  pub told : text ≡ free_line situations ++ going_text n ps opening answers plates
 
 -- ---- what is printed is what was found
 
@@ -71,8 +95,10 @@ abbrev pub ShowsFree : ℕ → Text → Screen → Type 0
 ShowsFree situations going (Free text) = string_bytes text ≡ free_line situations ++ going
 ShowsFree situations going (Standstill text) = ⊥
 
-abbrev pub ShowsGoing : ℕ → Screen → Type 0
-ShowsGoing situations screen = (going : Text) × ShowsFree situations going screen
+abbrev pub ShowsGoing : Named → PlanPrograms → State → ℕ → Screen → Type 0
+ShowsGoing n ps opening situations screen =
+    (answers : List Liveness) × (plates : Progress) × AreAnswers n ps opening answers plates
+    × ShowsFree situations (going_text n ps opening answers plates) screen
 
 abbrev pub ShowsStandstill : Named → List Event → List ℕ → Screen → Type 0
 ShowsStandstill n waiting turns (Free text) = ⊥

@@ -1,14 +1,19 @@
 //! What `plan explore` prints: whether some order of the machines' turns leads to a standstill, and else whether each
 //! machine goes on for ever.
-ghost use Rattle.std.specs.Prelude.{◌≡◌, ◌++◌, IfOk, OnOk, flat_map, length, string_bytes};
+ghost use Rattle.std.specs.Prelude.{◌≡◌, ◌++◌, ℕ, Some, IfOk, OnOk, flat_map, length, slice_get};
+ghost use Rattle.std.specs.Prelude.{string_bytes};
+ghost use Rattle.plan_explorer.specs.Situations.{first_situation};
+ghost use Rattle.plan_liveness.specs.declared.answer.Liveness.{Liveness};
+ghost use Rattle.plan_liveness.specs.Answers.{IsLiveness};
+ghost use Rattle.plan_command.specs.Going.{going_text};
 ghost use Rattle.plan_command.specs.Screens as spec;
 ghost use Rattle.plan_command.specs.Words.{turn_word};
 
-use crate::going::{FAIRNESS, push_going, push_plates};
+use crate::going::push_all;
 use crate::words::{push_call, push_counted};
 use plan_document::ProgrammedPlan;
 use plan_explorer::{Explored, Programs, explore, take_turns};
-use plan_liveness::{explore_machines, explore_plates};
+use plan_liveness::{Liveness, Progress, explore_machines, explore_plates};
 use plan_rules::State;
 use plan_text::NamedPlan;
 use plan_types::Event;
@@ -57,39 +62,74 @@ fn free_screen(
     opening: &State,
     situations: usize,
 ) -> Result<Screen, AllocError>
-    ensures { IfOk result (λ screen. spec.ShowsGoing situations screen) }
+    ensures { IfOk result (λ screen. spec.ShowsGoing plan.now.named plan.now.programs opening.now
+        situations screen) }
 {
-    let going = going_of(alloc, plan, opening)?;
-    free_text(alloc, situations, going.as_str())
+    let answers = machines_of(alloc, plan, opening)?;
+    let plates = plates_of(alloc, plan, opening)?;
+    free_text(
+        alloc,
+        plan,
+        opening,
+        situations,
+        answers.as_slice(),
+        &plates,
+    )
 }
 
-/// What is said of machines that go on.
-fn going_of(alloc: Global, plan: &ProgrammedPlan, opening: &State) -> Result<String, AllocError> {
-    let mut text = String::new(alloc);
-    let answers = explore_machines(alloc, plan.named.plan(), opening, &plan.programs)?;
-    push_going(&mut text, plan, opening, answers.as_slice())?;
-    let plates = explore_plates(alloc, plan.named.plan(), opening, &plan.programs, None, &[])?;
-    push_plates(&mut text, plan, opening, &plates)?;
-    text.push_str(FAIRNESS)?;
-    Ok(text)
+/// Whether each machine goes on for ever.
+fn machines_of(
+    alloc: Global,
+    plan: &ProgrammedPlan,
+    opening: &State,
+) -> Result<Vec<Liveness>, AllocError>
+    ensures count { IfOk result (λ answers. length answers.items ≡ length plan.now.programs) }
+    ensures each { IfOk result (λ answers. (m : ℕ) (answer : Liveness)
+        → slice_get answers.items m ≡ Some answer
+        → IsLiveness plan.now.named.plan plan.now.programs (first_situation opening.now) m answer) }
+{
+    explore_machines(alloc, plan.named.plan(), opening, &plan.programs)
 }
 
-/// The line of the situations, and what is said of machines that go on.
-fn free_text(alloc: Global, situations: usize, going: &str) -> Result<Screen, AllocError>
-    ensures { IfOk result (λ screen. spec.ShowsFree situations going.now screen) }
+/// Whether plates move for ever.
+fn plates_of(alloc: Global, plan: &ProgrammedPlan, opening: &State) -> Result<Progress, AllocError>
+    ensures moving { IfOk result (λ plates. spec.MoveOn plan.now.named plan.now.programs opening.now plates) }
+    ensures resting { IfOk result (λ plates. spec.MayRest plan.now.named plan.now.programs opening.now plates) }
+{
+    explore_plates(alloc, plan.named.plan(), opening, &plan.programs, None, &[])
+}
+
+/// The text where nothing stands still.
+fn free_text(
+    alloc: Global,
+    plan: &ProgrammedPlan,
+    opening: &State,
+    situations: usize,
+    answers: &[Liveness],
+    plates: &Progress,
+) -> Result<Screen, AllocError>
+    ensures { IfOk result (λ screen. spec.ShowsFree situations
+        (going_text plan.now.named plan.now.programs opening.now answers.now plates.now) screen) }
 {
     let mut text = String::new(alloc);
-    push_free(&mut text, situations, going)?;
+    push_free(&mut text, plan, opening, situations, answers, plates)?;
     Ok(Screen::Free(text))
 }
 
 /// Adds the line of the situations, and what is said of machines that go on.
-fn push_free(text: &mut String, situations: usize, going: &str) -> Result<(), AllocError>
-    ensures { OnOk result
-        (string_bytes text.new ≡ string_bytes text.old ++ (spec.free_line situations ++ going.now)) }
+fn push_free(
+    text: &mut String,
+    plan: &ProgrammedPlan,
+    opening: &State,
+    situations: usize,
+    answers: &[Liveness],
+    plates: &Progress,
+) -> Result<(), AllocError>
+    ensures { OnOk result (string_bytes text.new ≡ string_bytes text.old ++ (spec.free_line situations
+        ++ going_text plan.now.named plan.now.programs opening.now answers.now plates.now)) }
 {
     push_situations(text, situations)?;
-    text.push_str(going)
+    push_all(text, plan, opening, answers, plates)
 }
 
 /// Adds how many situations there are, none of them a standstill.
