@@ -1,5 +1,8 @@
 //! How the turns end that an exploration has found.
 
+ghost use Rattle.std.specs.Prelude.{◌≡◌};
+ghost use Rattle.cell_explore.specs.Rings as rings;
+
 use cell_turns::Prospect;
 
 /// How the turns end that an exploration has found.
@@ -14,18 +17,23 @@ pub enum Ending {
 
 impl Ending {
     /// Its words on a screen.
-    pub fn words(self) -> &'static str {
+    #[tactic(auto, unfolding(crate::specs::Rings::ending_words))]
+    pub fn words(self) -> &'static str
+        ensures { result.now ≡ rings.ending_words self }
+    {
         match self {
             Ending::Standstill => "a standstill",
             Ending::Refusal => "a refusal that stops a machine",
         }
     }
 
-    /// What the next turn would do of each machine that the ending is about.
-    pub fn prospect(self) -> Prospect {
+    /// Whether it is about a machine whose next turn would do this.
+    pub fn is_about(self, prospect: Prospect) -> bool
+        ensures { result ≡ rings.is_about self prospect }
+    {
         match self {
-            Ending::Standstill => Prospect::Waits,
-            Ending::Refusal => Prospect::Stops,
+            Ending::Standstill => matches!(prospect, Prospect::Waits),
+            Ending::Refusal => matches!(prospect, Prospect::Stops),
         }
     }
 }

@@ -11,5 +11,6 @@ pub mod schedule;
 pub mod screen;
 pub mod serve;
 pub mod starve;
+pub mod step;
 pub mod tally;
 pub mod timing;

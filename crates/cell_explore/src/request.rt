@@ -21,6 +21,15 @@ pub enum Request {
     Version,
 }
 
+/// What is asked of a configuration's start.
+#[derive(Clone, Copy)]
+pub enum Question {
+    /// Whether the machines can come to a standstill, and within how many steps plates move.
+    Standstill,
+    /// How plates starve.
+    Starving,
+}
+
 /// The words of this program alone that may follow its name.
 const OWN: &[&str] = &["--all", "--starve"];
 

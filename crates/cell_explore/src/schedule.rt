@@ -92,7 +92,7 @@ pub fn schedule_into(
     for machine in Machine::ALL {
         let next = walk.next.at(machine);
         if let Some(call) = next.call
-            && next.prospect == ending.prospect()
+            && ending.is_about(next.prospect)
         {
             let frame = push_until_asked(alloc, config, &mut schedule, machine)?;
             if !is_answered(&frame, machine, call, walk) {

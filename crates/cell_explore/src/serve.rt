@@ -1,22 +1,25 @@
 //! What the program `explore` does.
 
-ghost use Rattle.std.specs.Prelude.{◌≡◌, ◌≢◌, ◌≤◌, Some, None, codes};
+ghost use Rattle.std.specs.Prelude.{◌≡◌, ◌≢◌, ◌≤◌, ◌+◌, min, Some, None, IfOk, codes, string_bytes};
+ghost use Rattle.cell_rules.specs.Start.{IsStartState};
 ghost use Rattle.cell_text.specs.Input.{TakesAtMost};
 ghost use Rattle.cell_text.specs.Output.{WrotePrefix};
 ghost use Rattle.cell_shell.specs.Printed.{Prints};
 ghost use Rattle.cell_shell.specs.Versions.{version_line};
 ghost use Rattle.cell_shell.specs.Words.{texts_of};
+ghost use Rattle.cell_config.specs.Configured.{AreAxisScales, AreCurvesOf};
 ghost use Rattle.cell_config.specs.Settings.{max_bytes_read};
 ghost use Rattle.cell_explore.specs.Requests.{request_of};
+ghost use Rattle.cell_explore.specs.Served.{IsAnswerTo, WasAnswered, WereListed};
 
 use crate::every_start::every_start;
 use crate::request;
-use crate::request::Request;
+use crate::request::{Question, Request};
 use crate::schedule::ScheduleFault;
 use crate::screen::screen_of;
 use crate::starve::starving_screen;
 use crate::timing::tell_time;
-use cell_config::read_config;
+use cell_config::{Config, read_config};
 use cell_rules::MAX_PLATES;
 use cell_shell::{Exit, fail, print, print_version, refuse_words, with_texts};
 use std::alloc::{AllocError, Global};
@@ -46,15 +49,6 @@ configuration, a failed read or write, or no memory.
 /// What is printed for other words.
 const OTHER_WORDS: &str = "error: the only argument is --all, --starve, --help or --version\n";
 
-/// What is asked of a configuration's start.
-#[derive(Clone, Copy)]
-pub enum Question {
-    /// Whether the machines can come to a standstill, and within how many steps plates move.
-    Standstill,
-    /// How plates starve.
-    Starving,
-}
-
 /// Explores the start of the configuration that it reads, and prints the screen, or a fault. Then it
 /// tells `progress` how long it took, by the clock. Returns the exit status: 0 if the screen was
 /// written, 1 otherwise.
@@ -67,6 +61,8 @@ pub fn serve_start<C: Clock, R: Read, W: Write, P: Write>(
     progress: &mut P,
 ) -> u8
     ensures status { result ≤ 1 }
+    ensures answered { result ≡ 0 → WasAnswered question
+        (R.remaining reader.old) (W.contents writer.old) (W.contents writer.new) }
     ensures read { TakesAtMost (R.remaining reader.old) (R.remaining reader.new) max_bytes_read }
 {
     let begun = Instant::now(clock);
@@ -83,20 +79,31 @@ fn print_screen<R: Read, W: Write>(
     writer: &mut W,
 ) -> u8
     ensures status { result ≤ 1 }
+    ensures answered { result ≡ 0 → WasAnswered question
+        (R.remaining reader.old) (W.contents writer.old) (W.contents writer.new) }
     ensures read { TakesAtMost (R.remaining reader.old) (R.remaining reader.new) max_bytes_read }
 {
     let config = match read_config(alloc, reader) {
         Ok(config) => config,
         Err(fault) => return fail(writer, fault.text()).status(),
     };
-    let screen = match question {
-        Question::Standstill => screen_of(alloc, &config),
-        Question::Starving => starving_screen(alloc, &config),
-    };
-    match screen {
+    match screen_for(alloc, question, &config) {
         Ok(screen) => print(writer, screen.as_bytes()).status(),
         Err(ScheduleFault::Memory) => fail(writer, "memory").status(),
         Err(ScheduleFault::Apart) => fail(writer, "the simulated cell doesn't come to it").status(),
+    }
+}
+
+// The screen that answers a question of a configuration's start.
+fn screen_for(alloc: Global, question: Question, config: &Config) -> Result<String, ScheduleFault>
+    requires start { IsStartState config.now.start }
+    requires points { AreAxisScales config.now.points }
+    requires curves { AreCurvesOf config.now.points config.now.curves }
+    ensures { IfOk result (λ screen. IsAnswerTo question config.now.start (string_bytes screen)) }
+{
+    match question {
+        Question::Standstill => screen_of(alloc, config),
+        Question::Starving => starving_screen(alloc, config),
     }
 }
 
@@ -112,6 +119,8 @@ pub fn serve_all<T: Threads + Sync, C: Clock, W: Write, P: Write>(
     progress: &mut P,
 ) -> u8
     ensures status { result ≤ 1 }
+    ensures listed { result ≡ 0 → WereListed (min most_plates MAX_PLATES + 1)
+        (W.contents writer.old) (W.contents writer.new) }
 {
     let begun = Instant::now(clock);
     let status = match every_start(rt, alloc, most_plates, progress) {
@@ -143,6 +152,16 @@ pub fn serve<T: Threads + Sync, C: Clock, R: Read, W: Write, P: Write>(
     ensures version { request_of (texts_of words.now) ≡ Some Request.Version →
         Prints result (W.contents writer.old) (W.contents writer.new)
         (version_line (codes "explore")) }
+
+    // Status 0 says that the screen of the configuration's start was written, or the lines of all starts.
+    ensures explored { request_of (texts_of words.now) ≡ Some Request.Start → result ≡ 0 →
+        WasAnswered Question.Standstill
+        (R.remaining reader.old) (W.contents writer.old) (W.contents writer.new) }
+    ensures starved { request_of (texts_of words.now) ≡ Some Request.Starve → result ≡ 0 →
+        WasAnswered Question.Starving
+        (R.remaining reader.old) (W.contents writer.old) (W.contents writer.new) }
+    ensures listed { request_of (texts_of words.now) ≡ Some Request.All → result ≡ 0 →
+        WereListed 7 (W.contents writer.old) (W.contents writer.new) }
 
     // Status 2 comes exactly for other words, of which a line was printed, or a prefix of it.
     ensures refused { result ≡ 2 → request_of (texts_of words.now) ≡ None }

@@ -113,7 +113,7 @@ fn lines_of(
         walk.next.put(*machine, next);
     }
     let mut text = String::from_str(alloc, "...\n")?;
-    push_ring(alloc, &mut text, ending, &walk)?;
+    push_ring(&mut text, ending, &walk)?;
     Ok(text)
 }
 

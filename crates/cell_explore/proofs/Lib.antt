@@ -1,0 +1,5 @@
+mod Answered
+mod Items
+mod Screens
+mod Starved
+mod Tallied
