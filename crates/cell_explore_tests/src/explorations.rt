@@ -1,5 +1,5 @@
-//! What explorations answer where there is memory, and walks. The numbers are those that plain Rust finds, written apart
-//! from the proved program.
+//! What explorations answer where there is memory, and walks. The numbers are those that plain Rust finds, written
+//! apart from the proved program.
 
 use cell_explorer::{Explored, NextTurn, Walk, explore_start, machine_at, take_turns};
 use cell_rules::State;
