@@ -326,7 +326,8 @@ const LAST: &[(&str, &str)] = &[
         "line 13: machine 3: program: the machine has no pose \"y\"",
     ),
     (
-        "[[machine]]\nname = \"c\"\nprogram = [\n  \"claim z\", \"give z\",\n  \"claim y\", \"claim x\",\n]\n",
+        "[[machine]]\nname = \"c\"\nprogram = [\n  \"claim w\", \"release w\",\n  \"claim y\", \"claim x\",\n]\n\
+         [[zone]]\nname = \"w\"\nhost = \"c\"\nguest = \"a\"\n",
         "line 15: machine 3: program: no zone is named \"y\"",
     ),
     (
@@ -373,7 +374,7 @@ const PROGRAMS: &[(usize, &[u8], u8, &str)] = &[
         255,
         b"explore",
         1,
-        "a standstill after 0 turns, and no fewer\nc waits: claim z: notparty\nturns:\n",
+        "a standstill after 1 turn, and no fewer\nc waits: claim y: already\nturns: c\n",
     ),
     (256, b"explore", 1, LONG),
     (257, b"replay", 1, LONG),
@@ -386,9 +387,9 @@ fn tells_a_long_program(rt: HostRuntime) -> Result<(), AllocError> {
         let mut input = format!(in rt.alloc(); "{MACHINES}{ZONE}")?;
         input.push_str("[[machine]]\nname = \"c\"\nprogram = [\n")?;
         for _ in 0..lines {
-            input.push_str("  \"claim z\",\n")?;
+            input.push_str("  \"claim y\",\n")?;
         }
-        input.push_str("]\nstart,00\n")?;
+        input.push_str("]\n[[zone]]\nname = \"y\"\nhost = \"c\"\nguest = \"a\"\nstart,00\n")?;
         assert!(rt;
             is_answered(rt.alloc(), word, input.as_str(), status, text),
             "{row:?}"
