@@ -331,6 +331,26 @@ const LAST: &[(&str, &str)] = &[
         "line 15: machine 3: program: no zone is named \"y\"",
     ),
     (
+        "[[machine]]\nname = \"c\"\nprogram = [\n  \"claim z\",\n  \"claim y\",\n]\n",
+        "line 14: machine 3: program: \"claim z\" is never done: \
+         the machine is neither host nor guest of the zone",
+    ),
+    (
+        "[[machine]]\nname = \"c\"\nplaces = [\"r\"]\nprogram = [\"take y\", \"give y\"]\n\
+         [[zone]]\nname = \"y\"\nhost = \"c\"\nguest = \"a\"\ninward = [\"p\", \"r\"]\n",
+        "line 14: machine 3: program: \"give y\" is never done: the machine gives no plates through the zone",
+    ),
+    (
+        "[[machine]]\nname = \"c\"\nplaces = [\"r\"]\nprogram = [\"give y\", \"take y\"]\n\
+         [[zone]]\nname = \"y\"\nhost = \"c\"\nguest = \"a\"\noutward = [\"r\", \"p\"]\n",
+        "line 14: machine 3: program: \"take y\" is never done: the machine takes no plates through the zone",
+    ),
+    (
+        "[[machine]]\nname = \"c\"\nposes = [{ name = \"d_x\", gives = {} }]\n\
+         [[machine]]\nname = \"c_d\"\nposes = [{ name = \"x\", gives = {} }]\n",
+        "line 16: machine 4: pose 1: name: for C it is \"c_d_x\", and so is another pose's",
+    ),
+    (
         "outward = [\n  \"p\",\n  \"r\",\n]\n",
         "line 13: zone 1: outward: no place is named \"r\"",
     ),
