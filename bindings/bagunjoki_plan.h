@@ -70,7 +70,7 @@ enum bagunjoki_plan_answer {
     BAGUNJOKI_PLAN_STOPPED = 14,
     BAGUNJOKI_PLAN_NOT_STOPPED = 15,
     BAGUNJOKI_PLAN_SHOWN = 32,    /* the reply has the zone's owner, plate and posture */
-    BAGUNJOKI_PLAN_NO_CALL = 64,  /* the numbers name no call */
+    BAGUNJOKI_PLAN_NO_CALL = 64,  /* verb and object name no call; a machine past the plan's may inquire */
     BAGUNJOKI_PLAN_NO_STATE = 65, /* the word is no state's: something else has written it */
     BAGUNJOKI_PLAN_BUSY = 66,     /* bagunjoki_plan_ask alone: others made a change before each of its tries */
     BAGUNJOKI_PLAN_NO_PLAN = 67,  /* the bytes are no plan's */
