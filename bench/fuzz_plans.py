@@ -7,8 +7,8 @@ Of NUMBER inputs some six in ten are documents for `plan check`, three are scrip
 seed decides them all: plan_inputs.py makes the plans, spoils half of the documents by a fault of each kind, and changes some bytes.
 PROGRAM is crates/plan/out/plan if absent, which ./plan builds.
 
-Compared are the status, what `check` and `replay` print, byte by byte, and of a fault its line, row, key, kind and the text that it
-quotes. Of a document that is no TOML the fact alone is compared; one that only later versions of TOML accept isn't. Of an exploration
+Compared are the status, what `check` and `replay` print, byte by byte, and of a fault its line and all its words. Of a document
+that is no TOML the fact alone is compared; one that only later versions of TOML accept isn't. Of an exploration
 compared are a standstill's fewest turns, the number of situations, and what is said of each machine and of plates. Turns that are
 printed are taken by the twin: those to a standstill have to lead to one, and in an order in which a machine starves it has to starve.
 Bounds of turns aren't compared.
@@ -135,7 +135,7 @@ def kind_of(verb, wanted):
     """What an input was answered."""
     status, fault, found, chart = wanted
     if fault:
-        return f"{verb}: fault {fault[0] if fault[0] != 'row' else fault[7]}"
+        return f"{verb}: fault {twin.kind_of(fault[1])[0] if fault[0] == 'row' else fault[0]}"
     last = found[-1].split()
     if last[0] == "fault":
         return f"{verb}: {' '.join(last[:2])}"

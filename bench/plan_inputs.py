@@ -47,16 +47,25 @@ def pose_row(r, hosted, taken):
     return row
 
 
+def verbs_of(machine, zone):
+    """What a party may ask about a zone: it gives and takes only where a way begins or ends at a place of its own."""
+    ways = [zone[key] for key in ("inward", "outward") if key in zone]
+    verbs = ["claim", "release", "claim", "release", "yield"]
+    verbs += ["give"] * any(it[0] in machine["places"] for it in ways)
+    return verbs + ["take"] * any(it[1] in machine["places"] for it in ways)
+
+
 def program(r, machine, zones, most):
-    """The lines of a program, most of which the machine can do."""
-    own = [it["name"] for it in zones if machine["name"] in (it["host"], it["guest"])]
+    """The lines of a program, each of which may be done."""
+    own = [it for it in zones if machine["name"] in (it["host"], it["guest"])]
     lines = []
     for _ in range(r.randrange(most + 1) if own else 0):
         poses = [it["name"] for it in machine["poses"]]
         if poses and r.randrange(3) == 0:
             lines.append(f"pose {r.choice(poses)}")
         else:
-            lines.append(f"{r.choice(('claim', 'release', 'claim', 'release', 'yield', 'give', 'take'))} {r.choice(own)}")
+            zone = r.choice(own)
+            lines.append(f"{r.choice(verbs_of(machine, zone))} {zone['name']}")
     return lines
 
 
@@ -121,7 +130,7 @@ def spoil(r, document):
     """Puts a fault of some kind into the rows, which may have one already."""
     machines, zones = items(document, "machine"), items(document, "zone")
     poses = [it for row in machines for it in items(row, "poses")]
-    kinds = [spoil_key, spoil_value, spoil_name, spoil_program, spoil_many]
+    kinds = [spoil_key, spoil_value, spoil_name, spoil_program, spoil_program, spoil_many, spoil_for_c]
     kinds += [spoil_zone] * 2 if zones else []
     kinds += [spoil_pose] * 2 if poses else []
     machine = r.choice(machines) if machines else {}
@@ -155,12 +164,20 @@ def spoil_name(r, document, machine, zone, pose):
 def spoil_program(r, document, machine, zone, pose):
     lines = ("claim", "claim ", "claim  z1", " claim z1", "open z1", "claim nowhere", "pose nothing", "inquire z1", "stop", "resume", "")
     name = zone.get("name", "z9")
-    line = r.choice(lines) if r.randrange(3) else f"{r.choice(('inquire', 'claim', 'pose', 'take'))} {name}"
+    line = r.choice(lines) if r.randrange(3) == 0 else f"{r.choice((*VERBS, *VERBS, 'inquire', 'pose'))} {name}"
     if r.randrange(12) == 0:
         machine["program"] = [f"claim {name}"] * r.choice((255, 256, 300))
     else:
         found = items(machine, "program")
         found.insert(r.randrange(len(found) + 1), line)
+
+
+def spoil_for_c(r, document, machine, zone, pose):
+    """Adds poses of two machines that have one name for C, or almost."""
+    if isinstance(document.get("machine"), list) and isinstance(machine.get("name"), str):
+        items(machine, "poses").append({"name": r.choice(("q_p", "q_p", "q_p", "q_r")), "gives": {}})
+        other = {"name": f"{machine['name']}_q", "poses": [{"name": "p", "gives": {}}]}
+        document["machine"].insert(r.randrange(len(document["machine"]) + 1), other)
 
 
 def spoil_many(r, document, machine, zone, pose):
