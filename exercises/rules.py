@@ -58,17 +58,9 @@ def press_may_jump(state, machine, call):
     return state.with_changes(posture={zone: MOVING}).answer(machine, call)
 
 
-def claims_while_stopped(state, machine, call):
-    """A claim is done though the cell is stopped."""
-    if verb_and_zone(call)[0] != "claim":
-        return state.answer(machine, call)
-    answer = state.with_mark(False).answer(machine, call)
-    return answer.with_mark(state.stopped) if isinstance(answer, State) else answer
-
-
 RULES = {
     it.__name__.replace("_", "-"): it
-    for it in (claim_overwrites_owner, guest_ignores_posture, travels_without_zone, give_sets_no_flag, press_may_jump, claims_while_stopped)
+    for it in (claim_overwrites_owner, guest_ignores_posture, travels_without_zone, give_sets_no_flag, press_may_jump)
 }
 
 
@@ -89,6 +81,4 @@ def broken_law(before, machine, call, after):
     moves = is_pose and MOVING in POSE_OF[machine, POSES[call - FIRST_POSE]]
     if is_pose and not moves and machine in (TABLE, PRESS) and any(before.posture[zone] != MOVING for zone in HOSTED[machine]):
         return f"no_jump: {MACHINES[machine]} comes to a pose, and didn't move"
-    if before.stopped and (moves or verb_and_zone(call)[0] in ("claim", "give")):
-        return "stopped_until_resumed: the cell is stopped, and this is done"
     return None
