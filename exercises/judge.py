@@ -61,6 +61,8 @@ def judge(rows):
 
 
 def main():
+    if {"-h", "--help"} & set(sys.argv[1:]):
+        return print(__doc__)
     if len(sys.argv) != 2 or sys.argv[1].startswith("--"):
         sys.exit(__doc__)
     calls, wrong = judge(steps.records(sys.argv[1]))

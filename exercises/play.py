@@ -146,6 +146,8 @@ def play_class(play):
 
 
 def main():
+    if {"-h", "--help"} & set(sys.argv[1:]):
+        return print(__doc__)
     kind, arguments = steps.kind_of(sys.argv[1:])
     rest = [it for it in arguments if it not in ("--words", "--class")]
     is_class, with_words = "--class" in arguments, "--words" in arguments
