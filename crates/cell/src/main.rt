@@ -2,10 +2,10 @@
 //! cell, or runs it by six workers.
 #![tactic(auto)]
 
-pub use cell_command::{Mode, read_words};
+pub use cell_app::serve::serve;
+use cell_app::start::start;
 pub use cell_config::{Config, ConfigFault, read_config};
-pub use cell_program::serve::serve;
-use cell_program::start::start;
+pub use cell_words::{Mode, read_words};
 pub use cell_workers::{Gate, RunFault, run_cell};
 use std::process::ExitCode;
 

@@ -1,12 +1,11 @@
+pub mod lemmas
 mod Names
 mod Tests
 mod LetterLemmas
-pub mod Turns
+mod Turns
 mod SettingsLemmas
 mod MeasuredLemmas
 mod CurveChoices
 mod AxisScales
-pub mod SectionOrder
-pub mod ConfigRows
-pub mod LimitLaws
-pub mod CalibratedLaws
+mod SectionOrder
+mod ConfigRows

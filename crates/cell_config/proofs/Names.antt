@@ -1,6 +1,6 @@
 -- The names of other crates, and of this one's definitions, that the proofs here use.
-pub use Rattle.cell_calib.proofs.CurveTestLemmas.{curve_of_pass, passes_as_curve}
-pub use Rattle.cell_calib.specs.Names.{Curved, HasCount, IsCurve, Pair, Scale, ends_of, is_curve, pairs_of}
+pub use Rattle.cell_sensors.proofs.lemmas.CurveTestLemmas.{curve_of_pass, passes_as_curve}
+pub use Rattle.cell_sensors.specs.Names.{Curved, HasCount, IsCurve, Pair, Scale, ends_of, is_curve, pairs_of}
 pub use Rattle.cell_config.specs.ConfigLaws.{AreCalibrated, IsCurveOf, LetterLimits, TextLimits}
 pub use Rattle.cell_config.specs.Keys.{has_inner_keys, is_known}
 pub use Rattle.cell_config.specs.Letters.{is_letter, is_letter_of, machine_of, max_letters, turn, turn_of, turns_of}

@@ -3,7 +3,7 @@ use Rattle.std.specs.Prelude.{◌≡◌, ◌≢◌, ◌<◌, ◌≤◌, ℕ, Lis
 use Rattle.std.specs.Str.{is_utf8}
 use Rattle.toml.specs.Data.{Members}
 use Rattle.toml.specs.Parse.{parse_document}
-use Rattle.cell_calib.specs.Names.{IsCurve, Pair, ends_of, Scale}
+use Rattle.cell_sensors.specs.Names.{IsCurve, Pair, ends_of, Scale}
 use Rattle.cell_config.specs.Configured.{AreAxisScales}
 use Rattle.cell_config.specs.Letters.{turns_of}
 use Rattle.cell_config.specs.Settings.{Settings, settings_in, settings_of}

@@ -1,6 +1,6 @@
 -- The answer to a configuration.
 use Rattle.std.specs.Prelude.{◌≡◌, ℕ, List, [], ◌∷◌, map, Result, Ok, Err, ⊤}
-use Rattle.cell_calib.specs.Names.{Scale, Curved, pairs_of}
+use Rattle.cell_sensors.specs.Names.{Scale, Curved, pairs_of}
 use Rattle.cell_parts.specs.Axes.{AreCellScales, CellScales}
 use Rattle.cell_config.specs.Settings.{Settings, settings_of}
 use Rattle.cell_config.specs.declared.configuration.Config.{Config}

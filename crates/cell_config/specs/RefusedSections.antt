@@ -5,10 +5,10 @@ use Rattle.std.specs.Prelude.{Result, Ok, Err}
 use Rattle.std.specs.List.{filter_map, list_all}
 use Rattle.std.specs.Option.{option_and_then}
 use Rattle.toml.specs.Data.{Data, Members, as_table, get_member}
-use Rattle.cell_calib.specs.Names.{Scale, Pair, IsCurve}
-use Rattle.cell_calib.specs.declared.curve.CurveFault.{CurveFault}
-use Rattle.cell_calib.specs.declared.curve.CurveFault.TheVariants.{Count}
-use Rattle.cell_calib.specs.CurveFaults.{IsFirstFault as IsFirstCurveFault}
+use Rattle.cell_sensors.specs.Names.{Scale, Pair, IsCurve}
+use Rattle.cell_sensors.specs.declared.curve.CurveFault.{CurveFault}
+use Rattle.cell_sensors.specs.declared.curve.CurveFault.TheVariants.{Count}
+use Rattle.cell_sensors.specs.CurveFaults.{IsFirstFault as IsFirstCurveFault}
 use Rattle.cell_parts.specs.Axes.{arm_end, rotation_end, turn_end, gripper_end}
 use Rattle.cell_config.specs.Settings.{axis_scale, is_measured, measured_of, pairs_at, pairs_in, raw_at, section_at}
 use Rattle.cell_config.specs.Settings.{sections_at}

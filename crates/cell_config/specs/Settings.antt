@@ -9,7 +9,7 @@ use Rattle.toml.specs.Data.{Data, Items, Members, array, integer, item, no_items
 use Rattle.toml.specs.Data.{get_member}
 use Rattle.toml.specs.Parse.{parse_document}
 use Rattle.cell_rules.specs.Names.{ModelState, last_stamp, places_of, start_state, is_start, places_in}
-use Rattle.cell_calib.specs.Names.{Scale, Pair, ends_of, is_curve}
+use Rattle.cell_sensors.specs.Names.{Scale, Pair, ends_of, is_curve}
 use Rattle.cell_parts.specs.Axes.{arm_end, rotation_end, turn_end, gripper_end}
 use Rattle.cell_notes.specs.declared.schedule.Turn.{Turn}
 use Rattle.cell_config.specs.Steps.{◌>>=◌, at_key, demand, of_kind, required}

@@ -3,7 +3,7 @@
 
 ghost use Rattle.std.specs.Prelude.{◌≡◌, ◌≢◌, Ok, Err, IfOk, IfSome, MatchResult};
 ghost use Rattle.toml.specs.View.{table_view};
-ghost use Rattle.cell_text.specs.Input.{TakesAtMost};
+ghost use Rattle.text_io.specs.Input.{TakesAtMost};
 ghost use Rattle.cell_rules.specs.Start.{IsStartState};
 ghost use Rattle.cell_config.specs.Configured.{AreAxisScales, AreCurvesOf, Says, shown};
 ghost use Rattle.cell_config.specs.Settings.{max_bytes_read, settings_in, settings_of};
@@ -14,12 +14,12 @@ use crate::keys::is_known;
 use crate::schedules::schedule_at;
 use crate::sections::{curves_at, points_of_curves};
 use crate::starts::start_at;
-use cell_calib::{Curve, Points};
 use cell_notes::Turn;
 use cell_rules::State;
-use cell_text::{InputFault, read_up_to};
+use cell_sensors::{Curve, Points};
 use std::alloc::Global;
 use std::io::Read;
+use text_io::{InputFault, read_up_to};
 use toml::Table;
 
 /// The most bytes of a configuration.

@@ -10,10 +10,10 @@ ghost use Rattle.cell_config.specs.Settings as settings;
 use crate::fault::ConfigFault;
 use crate::sections::{curve_at, measured_pairs, pairs_in, points_of, raw_at, tol_at};
 use crate::values::value_at;
-use cell_calib::{Curve, CurveFault, MAX_PAIRS, Points};
 use cell_parts::parts::crane::GRIPPER_END;
 use cell_parts::parts::robot::{ARM_END, ROTATION_END};
 use cell_parts::parts::table::TURN_END;
+use cell_sensors::{Curve, CurveFault, MAX_PAIRS, Points};
 use toml::{Table, Value};
 
 /// The key of a section.

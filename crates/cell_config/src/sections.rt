@@ -3,7 +3,7 @@
 ghost use Rattle.std.specs.Prelude.{◌≡◌, pos, ◌-ℤ◌, ◌≤ℤ◌, ◌≤◌, true, false, Ok, Err, IfOk};
 ghost use Rattle.std.specs.Prelude.{MatchResult, length, map, option_map};
 ghost use Rattle.std.specs.List.{list_all};
-ghost use Rattle.cell_calib.specs.Curve.{pairs_of};
+ghost use Rattle.cell_sensors.specs.Curve.{pairs_of};
 ghost use Rattle.toml.specs.View.{table_view, view};
 ghost use Rattle.cell_parts.specs.Axes.{IsAxisScale};
 ghost use Rattle.cell_config.specs.Configured.{AreAxisScales};
@@ -11,10 +11,10 @@ ghost use Rattle.cell_config.specs.Settings as settings;
 
 use crate::fault::ConfigFault;
 use crate::values::{number_at, value_at};
-use cell_calib::{Curve, MAX_PAIRS, Points};
 use cell_parts::parts::crane::GRIPPER_END;
 use cell_parts::parts::robot::{ARM_END, ROTATION_END};
 use cell_parts::parts::table::TURN_END;
+use cell_sensors::{Curve, MAX_PAIRS, Points};
 use toml::{Table, Value};
 
 /// The default raw values, in sensor counts.

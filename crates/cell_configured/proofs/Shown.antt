@@ -1,15 +1,15 @@
--- What a watcher has seen of a configured cell's run.
+-- What an observer has seen of a configured cell's run.
 use Rattle.std.proofs.Common.{◌≡◌, List, Result, Ok, Err, IfOk, IfErr}
 use Rattle.cell_notes.specs.declared.schedule.Turn.{Turn}
 use Rattle.cell_notes.specs.declared.run_record.RunRecord.{RunRecord}
 use Rattle.cell_rules.specs.ModelState.{ModelState}
-use Rattle.cell_calib.specs.Scale.{Scale}
+use Rattle.cell_sensors.specs.Scale.{Scale}
 use Rattle.cell_parts.specs.Axes.{CellScales}
 use Rattle.cell_config.specs.Configured.{in_order}
 use Rattle.cell_plant.specs.Names.{CellGauges, SeesBeginning, SeesRun}
-use Rattle.cell_plant.specs.declared.watcher.SeenFault.{SeenFault}
+use Rattle.cell_plant.specs.declared.observer.SeenFault.{SeenFault}
 use Rattle.cell_plant.specs.declared.frame.Frame.{Frame}
-use Rattle.cell_plant.proofs.Gauged.{GiveAsMuch, sees_as, beginning_as}
+use Rattle.cell_plant.proofs.lemmas.Gauged.{GiveAsMuch, sees_as, beginning_as}
 
 module _ {W E : Type 0} (sees : W → Frame → Result (Unit {0}) E → W → Type 0) (c : CellScales) (gives other : CellGauges) (points : List Scale) (opening : ModelState) (turns : List Turn) (w v : W) (fits : points ≡ in_order c) where
   sees_run : (r : Result RunRecord (SeenFault E)) → IfOk r (SeesRun sees c gives opening turns w v) → GiveAsMuch c gives other → IfOk r (λ run. (x : CellScales) × ((points ≡ in_order x) × SeesRun sees x other opening turns w v run))

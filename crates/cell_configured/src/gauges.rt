@@ -4,9 +4,9 @@ ghost use Rattle.std.specs.Prelude.{◌≡◌};
 ghost use Rattle.cell_plant.specs.Cells.{IsMadeFor, cell_scales, five_gauges};
 ghost use Rattle.cell_configured.specs.Gauges.{scales_by_points};
 
-use cell_calib::{Calibration, Gauge, Points};
 use cell_plant::Cell;
 use cell_rules::State;
+use cell_sensors::{Calibration, Gauge, Points};
 
 /// The points of the five potentiometers' curves.
 #[derive(Clone, Copy)]

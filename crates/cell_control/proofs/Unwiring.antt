@@ -2,11 +2,11 @@
 use Rattle.std.proofs.Common.{◌≡◌, List, [], Option, None, refl, sym, ◌∙◌, subst}
 use Rattle.cell_rules.specs.Types.{Machine, Event}
 use Rattle.cell_rules.specs.Names.{ModelState, IsSound, after, IsLegal, own_events, Waits, IsSameFor}
-use Rattle.cell_rules.proofs.Histories.{sound-after}
+use Rattle.cell_rules.proofs.lemmas.Histories.{sound-after}
 use Rattle.cell_control.specs.Names.{Steps, IsReached}
 use Rattle.cell_control.specs.declared.fault.CtlFault.{CtlFault}
-use Rattle.cell_control.proofs.StepLemmas.{reached_carried}
-use Rattle.cell_control.proofs.BenchLemmas.{reached_others}
+use Rattle.cell_control.proofs.lemmas.StepLemmas.{reached_carried}
+use Rattle.cell_control.proofs.lemmas.BenchLemmas.{reached_others}
 use Rattle.cell_control.specs.Wiring.{IsWired, IsUnwired}
 
 same_itself : (m : Machine) (s : ModelState) → IsSameFor m s s

@@ -2,7 +2,7 @@
 use Rattle.std.specs.Prelude.{◌≡◌, Bool, true, false, ◌||◌, List, [], ◌∷◌, Option, Some, None, Result}
 use Rattle.cell_rules.specs.Types.{Machine, Zone, Posture, Call, Inquire, Refusal, Held, NotOwner, PlaceFull, Shut}
 use Rattle.cell_rules.specs.Types.{Stopped}
-use Rattle.cell_calib.specs.declared.sense.SensorFault.{SensorFault}
+use Rattle.cell_sensors.specs.declared.sense.SensorFault.{SensorFault}
 use Rattle.cell_control.specs.Steps.{Steps, waits_out}
 use Rattle.cell_control.specs.Row.{waits_on}
 

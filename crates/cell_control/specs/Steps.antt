@@ -3,7 +3,7 @@ use Rattle.std.specs.Prelude.{◌≡◌, ℕ, zero, suc, Bool, true, false, ◌|
 use Rattle.std.specs.Prelude.{Ok, Err}
 use Rattle.cell_rules.specs.Types.{Machine, Posture, Refusal, Stopped, Answer, Done, Shown, Refused, Event, Reply}
 use Rattle.cell_rules.specs.Types.{Settled, Busy}
-use Rattle.cell_calib.specs.declared.sense.SensorFault.{SensorFault}
+use Rattle.cell_sensors.specs.declared.sense.SensorFault.{SensorFault}
 use Rattle.cell_rules.specs.Names.{ModelState, IsSound, after, IsLegal, own_events, IsSameFor, Program, Reached}
 use Rattle.cell_rules.specs.declared.heard.LineFault.{LineFault}
 use Rattle.cell_control.specs.declared.fault.CtlFault.{CtlFault}

@@ -3,7 +3,7 @@ use Rattle.std.specs.Prelude.{◌≡◌, ⊤, ℕ, Bool, true, false, List, [], 
 use Rattle.cell_rules.specs.Types.{Machine, Zone, Posture, Call, Refusal, NotParty, Held, AlreadyMine, Shut, NotOwner}
 use Rattle.cell_rules.specs.Types.{PlateInZone, NoPlate, PlaceFull, WrongWay, Jump, NotAtWork, NoPose, Worn, InUse}
 use Rattle.cell_rules.specs.Types.{Stopped, NotStopped, Done, Shown, Refused, Event, Reply, Settled, Busy}
-use Rattle.cell_calib.specs.declared.sense.SensorFault.{SensorFault}
+use Rattle.cell_sensors.specs.declared.sense.SensorFault.{SensorFault}
 use Rattle.cell_rules.specs.Names.{ModelState, IsSound, after, IsLegal, Holds, posture_by_events, own_events}
 use Rattle.cell_rules.specs.Names.{heard_after, IsSameFor}
 use Rattle.cell_rules.specs.declared.heard.LineFault.{LineFault}

@@ -1,8 +1,8 @@
 //! The trait of a machine's program.
 
 use crate::row::Row;
-use cell_calib::SensorFault;
 use cell_rules::State;
+use cell_sensors::SensorFault;
 use cell_types::{Machine, Posture};
 
 /// A machine's program, with the calibrations of its sensors.

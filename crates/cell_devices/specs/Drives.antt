@@ -1,6 +1,6 @@
 -- Drives to a stop by a reading: what the motor does, and where the exact line then is.
 use Rattle.std.specs.Prelude.{◌≡◌, ◌↔◌, ℕ, ℤ, pos, ◌+ℤ◌, ◌-ℤ◌, ◌<ℤ◌, Option, Some, None}
-use Rattle.cell_calib.specs.Names.{Scale, IsScale, IsNear, IsWithinTolerance, IsLineNear, IsLineBelow, IsLineAbove}
+use Rattle.cell_sensors.specs.Names.{Scale, IsScale, IsNear, IsWithinTolerance, IsLineNear, IsLineBelow, IsLineAbove}
 use Rattle.cell_devices.specs.declared.motor.Motor.{Motor}
 use Rattle.cell_devices.specs.declared.motor.Motor.TheVariants.{Off, Plus, Minus}
 use Rattle.cell_devices.specs.declared.stops.Stop.{Stop}

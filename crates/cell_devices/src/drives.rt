@@ -1,6 +1,6 @@
 //! Drives to a stop by a calibrated reading, for the programs of table, robot and crane.
 ghost use Rattle.std.specs.Prelude.{◌≡◌, ◌↔◌, pos, ◌+ℤ◌, ◌-ℤ◌, ◌*ℤ◌, ◌≤ℤ◌, ◌<ℤ◌, ◌≤◌, IfSome};
-ghost use Rattle.cell_calib.specs.Line.{IsNear};
+ghost use Rattle.cell_sensors.specs.Line.{IsNear};
 ghost use Rattle.cell_devices.specs.Drives.{MovesLine, DrivesTo, narrowest_half, coarsest_tol};
 
 use crate::motor::Motor;

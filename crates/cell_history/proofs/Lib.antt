@@ -1,4 +1,4 @@
+pub mod lemmas
 mod Lines
 mod Reading
 mod Openings
-pub mod Answering

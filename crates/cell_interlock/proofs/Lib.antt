@@ -1,9 +1,8 @@
+pub mod lemmas
 mod Names
-pub mod Settled
-pub mod Instance
-pub mod Journals
-pub mod Order
-pub mod Closing
-pub mod Timing
-pub mod Settling
-pub mod Outcomes
+mod Settled
+mod Instance
+mod Closing
+mod Timing
+mod Settling
+mod Outcomes

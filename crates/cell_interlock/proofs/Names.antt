@@ -10,9 +10,9 @@ pub use Rattle.cell_interlock.specs.Timing.{GoesOn, IsInTime, IsLookTimed, IsRun
 pub use Rattle.cell_interlock.specs.Tries.{IsBusy, IsLost, IsPending}
 pub use Rattle.cell_interlock.specs.Views.{InterlockView, PassView, ReceiptView, TryView}
 pub use Rattle.cell_interlock.specs.declared.pass.Passes.{Passes}
-pub use Rattle.cell_rules.proofs.Histories.{legal-left, throughout}
-pub use Rattle.cell_rules.proofs.SeenLemmas.{after-push, legal-append, own-push, same_as_itself, waits-foreign}
-pub use Rattle.cell_rules.proofs.Told.{noted-waits, told}
+pub use Rattle.cell_rules.proofs.lemmas.Histories.{legal-left, throughout}
+pub use Rattle.cell_rules.proofs.lemmas.SeenLemmas.{after-push, legal-append, own-push, same_as_itself, waits-foreign}
+pub use Rattle.cell_rules.proofs.lemmas.JournalsOfCallers.{noted-waits, told}
 pub use Rattle.cell_rules.specs.Names.{BeginsWith, Holds, IsAudited, IsLegal, IsSound, Lawful, LawfulThroughout, ModelState, SeenAfter, Settles, Waits, after, changes_by_others, entry_of, event, is_done_answer, next, noted, own_events, reply, zone_at}
 pub use Rattle.cell_rules.specs.Rights.{KeepsItsOwn, needs}
 pub use Rattle.cell_rules.specs.Types.{Answer, Busy, Call, Crane, Deposit, Done, Entry, Event, Feed, Machine, Press, Refused, Release, Reply, Robot, Settled, Shown, Stop, Stopped, Table, Watch, Z3, Zone}

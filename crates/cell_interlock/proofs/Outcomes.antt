@@ -4,12 +4,12 @@ use Rattle.atomic_table.specs.Seated.{TableId}
 use Rattle.word_interlock.specs.History.{BeginsWith}
 use Rattle.word_interlock.specs.Moments.{events_of, own_moments}
 use Rattle.word_interlock.specs.declared.views.Moment.TheVariants.{Begins, Answered}
-use Rattle.word_interlock.proofs.Moments.{no_end, rest_of, none_begun}
+use Rattle.word_interlock.proofs.lemmas.Moments.{no_end, rest_of, none_begun}
 use Rattle.cell_interlock.specs.BookKept.{cell_is_rule_book}
 use Rattle.cell_rules.specs.declared.zones.ZoneState.{ZoneState}
-use Rattle.cell_rules.proofs.Lawful.{lawful_in, sound_from}
-use Rattle.cell_rules.proofs.Puts.{each_zone}
-use Rattle.cell_rules.proofs.Quiet.{changes-append}
+use Rattle.cell_rules.proofs.lemmas.Lawful.{lawful_in, sound_from}
+use Rattle.cell_rules.proofs.lemmas.Puts.{each_zone}
+use Rattle.cell_rules.proofs.lemmas.UnchangedStates.{changes-append}
 use Rattle.cell_interlock.specs.Fresh.{IsFresh, AreFresh}
 use Rattle.cell_interlock.specs.OutcomeExamples.{opened, claim, claimed, released, by_feed, again_by_feed, by_table, by_robot, by_watch, barred, press_pass, watch_pass, before, begun, after_claim, lost_both, AskExamples, LookExamples, AttemptExamples, MoreExamples, ChangeExamples, AnswerExamples, OrderExamples, StampExamples, ReceiptExamples, RunExamples, PaidExamples, FreshExamples, LineExamples, OutcomeExamples}
 use Rattle.cell_interlock.proofs.Settled.{lawful_history, settled, replied}

@@ -1,9 +1,9 @@
 -- A call that was answered after a legal history.
 use Rattle.cell_interlock.proofs.Names.{◌≡◌, ◌≤◌, ◌+◌, ℕ, List, [], ◌∷◌, ◌++◌, sym, ap, ◌∙◌, subst, append_cancel_right, Machine, Call, Answer, Event, Settled, ModelState, IsSound, reply, after, IsLegal, own_events, Lawful, LawfulThroughout, event, Settles, Waits, KeepsItsOwn, throughout, legal-append, own-push, waits-foreign, PassView, IsSamePass, IsSettled, Told, IsTimed, Replied}
 use Rattle.cell_rules.specs.Laws.{RightLasts}
-use Rattle.cell_rules.proofs.Assembly.{lawful}
-use Rattle.cell_rules.proofs.Keepers.{right_lasts}
-use Rattle.cell_rules.proofs.Owners.{never_disowned}
+use Rattle.cell_rules.proofs.lemmas.Assembly.{lawful}
+use Rattle.cell_rules.proofs.lemmas.Keepers.{right_lasts}
+use Rattle.cell_rules.proofs.lemmas.Owners.{never_disowned}
 
 pub lawful_history : (o : ModelState) (h : List Event) → IsSound o → IsLegal o h → LawfulThroughout o h
 lawful_history o h k l = throughout o (Lawful o) (lawful o k) h l

@@ -4,13 +4,13 @@ use Rattle.std.proofs.Common.{◌*◌}
 use Rattle.word_interlock.specs.Seen as engine_seen
 use Rattle.word_interlock.specs.Calls as engine_calls
 use Rattle.word_interlock.specs.Settling as engine
-use Rattle.word_interlock.proofs.Settling as engine_proofs
+use Rattle.word_interlock.proofs.lemmas.Settling as engine_proofs
 use Rattle.cell_interlock.specs.declared.rules.CellRules.{CellRules}
 use Rattle.cell_interlock.specs.BookKept.{cell_is_rule_book}
 use Rattle.cell_interlock.specs.Calls.{IfBusy}
 use Rattle.cell_interlock.specs.Settling.{MadeCall, once_busy, times_busy, IsMade, MakesCalls, BusyIsPaid, IsAskedUntilAnswered}
 use Rattle.cell_interlock.proofs.Instance.{after_here, legal_there, changes_here}
-use Rattle.cell_interlock.proofs.Order.{reply_to, seen_there}
+use Rattle.cell_interlock.proofs.lemmas.Order.{reply_to, seen_there}
 
 pub asked_here : (tries : ℕ) (v : EnginePass) (c : Call) (a : Answer) (stamp : ℕ) (w : EnginePass) → engine.IsAskedUntilAnswered cell_book tries v c a stamp w → IsAskedUntilAnswered tries (pass_from v) c a stamp (pass_from w)
 asked_here tries v c a stamp w f = record {

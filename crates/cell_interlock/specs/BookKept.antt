@@ -10,10 +10,10 @@ use Rattle.cell_types.specs.Everything.{all_machines}
 use Rattle.cell_rules.specs.ModelState.{ModelState}
 use Rattle.cell_rules.specs.Reply.{reply, next_by}
 use Rattle.cell_rules.specs.History.{is_done_answer}
-use Rattle.cell_rules.proofs.Soundness.{next_keeps}
-use Rattle.cell_rules.proofs.Quiet.{next-same}
-use Rattle.cell_rules.proofs.SeenLemmas.{same_as_itself}
-use Rattle.cell_rules.proofs.Tables.{from_machines}
+use Rattle.cell_rules.proofs.lemmas.Soundness.{next_keeps}
+use Rattle.cell_rules.proofs.lemmas.UnchangedStates.{next-same}
+use Rattle.cell_rules.proofs.lemmas.SeenLemmas.{same_as_itself}
+use Rattle.cell_rules.proofs.lemmas.Tables.{from_machines}
 use Rattle.word_interlock.specs.RuleBook.{IsRuleBook, times}
 use Rattle.cell_interlock.specs.Book.{cell_book}
 

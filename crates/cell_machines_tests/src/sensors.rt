@@ -3,15 +3,15 @@
 ghost use Rattle.std.specs.Prelude.{◌≡◌, None};
 ghost use Rattle.cell_control.specs.Steps.{IsReached};
 
-use cell_calib::{
+use cell_belts_crane::{CraneCtl, CraneProgram, DepositCtl, DepositProgram, FeedCtl, FeedProgram};
+use cell_control::{Controller, CtlFault, Program};
+use cell_robot::{RobotCtl, RobotProgram};
+use cell_rules::{Bench, Line, State};
+use cell_sensors::{
     Calibration, CraneSense, DepositSense, FeedSense, Gauge, Points, PressSense, RobotSense,
     SensorFault, TableSense, line_at,
 };
-use cell_control::{Controller, CtlFault, Program};
-use cell_haul::{CraneCtl, CraneProgram, DepositCtl, DepositProgram, FeedCtl, FeedProgram};
-use cell_robot::{RobotCtl, RobotProgram};
-use cell_rules::{Bench, Line, State};
-use cell_stations::{PressCtl, PressProgram, TableCtl, TableProgram};
+use cell_table_press::{PressCtl, PressProgram, TableCtl, TableProgram};
 use cell_types::Machine;
 use std::alloc::Global;
 use std::process::Abort;

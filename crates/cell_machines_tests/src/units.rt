@@ -1,10 +1,10 @@
 //! Units with a machine that claims the press's interior and then lights a lamp.
 
 use super::full_line::FullLine;
-use cell_calib::SensorFault;
 use cell_control::{Controller, CtlFault, Part, Program, Row};
 use cell_notes::{Counts, Notebook, Status, TurnCall};
 use cell_rules::{Bench, Line, LineFault, State};
+use cell_sensors::SensorFault;
 use cell_types::{Call, Event, Machine, Posture, Zone};
 use cell_unit::{MachineUnit, status_of, take_bench_turn};
 use std::alloc::Global;

@@ -1,8 +1,8 @@
 //! The words of statuses, and the texts of a controller's faults.
 
-use cell_calib::SensorFault;
 use cell_control::CtlFault;
 use cell_notes::Status;
+use cell_sensors::SensorFault;
 use cell_types::Refusal;
 
 const WORDS: &[(Status, &str)] = &[

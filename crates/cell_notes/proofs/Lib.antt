@@ -1,3 +1,3 @@
-pub mod MachineValues
-pub mod CountLemmas
-pub mod LiteralNotes
+pub mod lemmas
+mod MachineValues
+mod LiteralNotes

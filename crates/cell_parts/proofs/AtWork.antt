@@ -1,8 +1,8 @@
 -- All demands are met in the two states in which much is driven.
 use Rattle.std.proofs.Common.{rules, ◌≡◌, true, refl, arith}
 use Rattle.cell_rules.specs.Names.{zone_at, IsSound}
-use Rattle.cell_rules.proofs.Puts.{each_zone}
-use Rattle.cell_rules.proofs.Lawful.{lawful_in, sound_from}
+use Rattle.cell_rules.proofs.lemmas.Puts.{each_zone}
+use Rattle.cell_rules.proofs.lemmas.Lawful.{lawful_in, sound_from}
 use Rattle.cell_parts.specs.Names.{ForTravel, AtDeposit, AllDemandsMet}
 use Rattle.cell_parts.specs.AtWork.{all_moving, all_driven, guests_inside, guests_driven, DemandsCanBeMet}
 

@@ -2,12 +2,12 @@
 use Rattle.std.proofs.Common.{rules, ◌≡◌, ◌≢◌, ◌↔◌, ◌∙◌, sym, ap, cond, ℕ, ◌<◌, ◌≤◌, false, Some, ◌⊎◌, inl, inr, refl, arith}
 use Rattle.std.proofs.lemmas.Bool.{false_from_ne_true}
 use Rattle.cell_rules.specs.Types.{Machine, Feed, Table, Robot, Press, Deposit, Crane, Watch, Zone, Z1, Z2, Z3, Z4, Z5, Z6, Posture, Closed, OpenIn, OpenOut, same_zone}
-use Rattle.cell_types.proofs.SameLemmas.{one_zone}
+use Rattle.cell_types.proofs.lemmas.SameLemmas.{one_zone}
 use Rattle.cell_types.specs.declared.place.Place.TheVariants as place
 use Rattle.cell_rules.specs.Names.{ModelState, zone_at, is_owned_by, owns, owner_of}
 use Rattle.cell_rules.specs.declared.zones.ZoneState.{ZoneState}
-use Rattle.cell_rules.proofs.Puts.{each_zone, zone_in-put}
-use Rattle.cell_rules.proofs.Holders.{owner_is}
+use Rattle.cell_rules.proofs.lemmas.Puts.{each_zone, zone_in-put}
+use Rattle.cell_rules.proofs.lemmas.Holders.{owner_is}
 use Rattle.cell_parts.specs.Names.{HoldsIn, Rests, FromTo, empty_cell, all_free, with_zone}
 use Rattle.cell_parts.specs.Examples.{with_feed, with_deposit, zone_of}
 use Rattle.cell_parts.specs.DemandExamples.{AsksFor, WorksAt, Arm1WorksAt, Arm2WorksAt, GripperWorksAt, EndPlateStands, PositionDemandBounds, feed_end_full, MotorDemandBounds, DrivingBounds, RestingBounds, EachDemand}

@@ -2,7 +2,7 @@
 use Rattle.std.proofs.Common.{rules, ◌≡◌, ◌≢◌, ◌↔◌, ℕ, Bool, true, false, inl, inr, refl}
 use Rattle.std.proofs.lemmas.Bool.{false_from_ne_true}
 use Rattle.std.specs.Int.Signed.{le_z_yes}
-use Rattle.cell_calib.specs.Scale.{Scale}
+use Rattle.cell_sensors.specs.Scale.{Scale}
 use Rattle.cell_rules.specs.Types.{Feed, Deposit, Zone, Z1, Z4, Z5, Z6, Give, Take}
 use Rattle.cell_parts.specs.declared.belt.Belt.{Belt}
 use Rattle.cell_parts.specs.Axes.{RobotScales}

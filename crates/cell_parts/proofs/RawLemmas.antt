@@ -2,7 +2,7 @@
 use Rattle.std.proofs.Common.{◌≡◌, ℕ, ◌+◌, ◌-◌, ◌*◌, ◌/◌, ◌<◌, ◌≤◌, ℤ, pos, ◌-ℤ◌, arith}
 use Rattle.std.proofs.lemmas.Int.{ints}
 use Rattle.std.proofs.Math.Nat.{div-mul-le_self, lt-div-mul-add, mul-div_cancel_left}
-use Rattle.cell_calib.specs.Names.{Scale, IsScale, IsRawAt}
+use Rattle.cell_sensors.specs.Names.{Scale, IsScale, IsRawAt}
 use Rattle.cell_parts.specs.Names.{IsAxisScale, IsWithin, ShowsRaw}
 
 floor_naturals : (along width rise q : ℕ) → 0 < rise → q ≡ along * width / rise → (q * rise ≤ along * width) × (along * width < q * rise + rise)

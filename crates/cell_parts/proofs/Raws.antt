@@ -3,8 +3,8 @@ use Rattle.std.proofs.Common.{rules, ℕ, ◌+◌, ◌<◌, ◌≤◌, ℤ, pos,
 use Rattle.std.specs.Prelude.{T}
 use Rattle.std.proofs.lemmas.Int.{ints}
 use Rattle.std.specs.Int.Signed.{le_z, lt_z, le_z_yes, lt_z_yes}
-use Rattle.cell_calib.specs.Names.{Scale, IsScale, height_of, line_height, IsRawAt}
-use Rattle.cell_calib.proofs.LineLemmas.{one_raw_at}
+use Rattle.cell_sensors.specs.Names.{Scale, IsScale, height_of, line_height, IsRawAt}
+use Rattle.cell_sensors.proofs.lemmas.LineLemmas.{one_raw_at}
 use Rattle.cell_parts.specs.PartExamples.{Reads, scale_to, odd_arm1, odd_arm2, odd_rotation, odd_turn, odd_gripper, three_for_two, short_scale, RawBounds}
 use Rattle.cell_parts.proofs.Figures.{order, past}
 

@@ -1,6 +1,6 @@
 -- The axes of the plant, its belts, and the scales of its potentiometers. Each axis goes from 0 to its end.
 use Rattle.std.specs.Prelude.{◌≡◌, ℤ, pos, ◌≤ℤ◌}
-use Rattle.cell_calib.specs.Names.{Scale, IsScale, raw_width}
+use Rattle.cell_sensors.specs.Names.{Scale, IsScale, raw_width}
 
 abbrev pub press_end : ℤ
 press_end = pos 1000

@@ -5,14 +5,14 @@ use Rattle.cell_rules.specs.Types.{Machine, Feed, Table, Robot, Press, Deposit, 
 use Rattle.cell_rules.specs.Types.{Call, Claim, Give, Yield, Take, Release, SetPose, Advance, Inquire, Done, Refused}
 use Rattle.cell_rules.specs.Types.{Event, NoPlate}
 use Rattle.cell_types.specs.declared.place.Place.TheVariants as place
-use Rattle.cell_calib.specs.Names.{Scale}
-use Rattle.cell_calib.specs.declared.sense.FeedSense.{FeedSense}
-use Rattle.cell_calib.specs.declared.sense.TableSense.{TableSense}
-use Rattle.cell_calib.specs.declared.sense.RobotSense.{RobotSense}
-use Rattle.cell_calib.specs.declared.sense.PressSense.{PressSense}
-use Rattle.cell_calib.specs.declared.sense.DepositSense.{DepositSense}
-use Rattle.cell_calib.specs.declared.sense.CraneSense.{CraneSense}
-use Rattle.cell_calib.specs.Examples.{scale_of}
+use Rattle.cell_sensors.specs.Names.{Scale}
+use Rattle.cell_sensors.specs.declared.sense.FeedSense.{FeedSense}
+use Rattle.cell_sensors.specs.declared.sense.TableSense.{TableSense}
+use Rattle.cell_sensors.specs.declared.sense.RobotSense.{RobotSense}
+use Rattle.cell_sensors.specs.declared.sense.PressSense.{PressSense}
+use Rattle.cell_sensors.specs.declared.sense.DepositSense.{DepositSense}
+use Rattle.cell_sensors.specs.declared.sense.CraneSense.{CraneSense}
+use Rattle.cell_sensors.specs.Examples.{scale_of}
 use Rattle.cell_devices.specs.declared.motor.Motor.{Motor}
 use Rattle.cell_devices.specs.declared.motor.Motor.TheVariants.{Off, Plus, Minus}
 use Rattle.cell_devices.specs.declared.act.FeedAct.{FeedAct}

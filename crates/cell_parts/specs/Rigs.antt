@@ -1,11 +1,11 @@
 -- How the parts of the machines behave. Only the belts note events.
-use Rattle.cell_calib.specs.Names.{Scale}
-use Rattle.cell_calib.specs.declared.sense.FeedSense.{FeedSense}
-use Rattle.cell_calib.specs.declared.sense.TableSense.{TableSense}
-use Rattle.cell_calib.specs.declared.sense.RobotSense.{RobotSense}
-use Rattle.cell_calib.specs.declared.sense.PressSense.{PressSense}
-use Rattle.cell_calib.specs.declared.sense.DepositSense.{DepositSense}
-use Rattle.cell_calib.specs.declared.sense.CraneSense.{CraneSense}
+use Rattle.cell_sensors.specs.Names.{Scale}
+use Rattle.cell_sensors.specs.declared.sense.FeedSense.{FeedSense}
+use Rattle.cell_sensors.specs.declared.sense.TableSense.{TableSense}
+use Rattle.cell_sensors.specs.declared.sense.RobotSense.{RobotSense}
+use Rattle.cell_sensors.specs.declared.sense.PressSense.{PressSense}
+use Rattle.cell_sensors.specs.declared.sense.DepositSense.{DepositSense}
+use Rattle.cell_sensors.specs.declared.sense.CraneSense.{CraneSense}
 use Rattle.cell_devices.specs.declared.act.FeedAct.{FeedAct}
 use Rattle.cell_devices.specs.declared.act.TableAct.{TableAct}
 use Rattle.cell_devices.specs.declared.act.RobotAct.{RobotAct}

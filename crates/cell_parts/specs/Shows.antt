@@ -1,12 +1,12 @@
 -- What the sensors of the plant show.
 use Rattle.std.specs.Prelude.{◌≡◌, ℕ, ℤ, pos, ◌≤ℤ◌, ◌<ℤ◌, ◌↔◌, ◌⊎◌, IsTrue, Option, IsSomeAnd}
-use Rattle.cell_calib.specs.Names.{Scale, IsRawAt}
-use Rattle.cell_calib.specs.declared.sense.FeedSense.{FeedSense}
-use Rattle.cell_calib.specs.declared.sense.TableSense.{TableSense}
-use Rattle.cell_calib.specs.declared.sense.RobotSense.{RobotSense}
-use Rattle.cell_calib.specs.declared.sense.PressSense.{PressSense}
-use Rattle.cell_calib.specs.declared.sense.DepositSense.{DepositSense}
-use Rattle.cell_calib.specs.declared.sense.CraneSense.{CraneSense}
+use Rattle.cell_sensors.specs.Names.{Scale, IsRawAt}
+use Rattle.cell_sensors.specs.declared.sense.FeedSense.{FeedSense}
+use Rattle.cell_sensors.specs.declared.sense.TableSense.{TableSense}
+use Rattle.cell_sensors.specs.declared.sense.RobotSense.{RobotSense}
+use Rattle.cell_sensors.specs.declared.sense.PressSense.{PressSense}
+use Rattle.cell_sensors.specs.declared.sense.DepositSense.{DepositSense}
+use Rattle.cell_sensors.specs.declared.sense.CraneSense.{CraneSense}
 use Rattle.cell_parts.specs.declared.axis.Axis.{Axis}
 use Rattle.cell_parts.specs.declared.belt.Belt.{Belt}
 use Rattle.cell_parts.specs.Axes.{RobotScales, Span, IsIn}

@@ -5,8 +5,8 @@ ghost use Rattle.cell_parts.specs.Plant.{axis_at_rest, set_axis, moved_axis};
 ghost use Rattle.cell_parts.specs.Shows.{ShowsRaw};
 
 use crate::axis::Axis;
-use cell_calib::Points;
 use cell_devices::Motor;
+use cell_sensors::Points;
 
 /// An axis with a potentiometer. It keeps what the sensor shows, which changes only when the axis
 /// moves.

@@ -2,12 +2,12 @@
 use Rattle.cell_plant.proofs.Names.{◌≡◌, Bool, false, IsTrue, List, [], ◌∷◌, Option, Some, None, refl, sym, ap, ◌∙◌, subst, Machine, Feed, Deposit, Z1, Z4, Z5, Z6, Place, FeedEntry, FeedEnd, DepEntry, DepEnd, Moving, OpenIn, OpenOut, Call, Done, keeper_of, same_machine, ModelState, is_full, event, reply, changed, Rig, Steps, Fact, AreSo, Finds, Knowing}
 use Rattle.cell_plant.proofs.Names.{feed_start, feed_steps, FeedStep, FeedProgress, FeedKnows, feed_begins, feed-knowing, feed_at_start, feed_rig, deposit_start, deposit_steps, DepositStep, DepositProgress, DepositKnows, deposit-knowing, deposit_at_start, deposit_rig, Keeping, Demanding, WhileOn, demanding_while_on, set_belt, moved_belt, Belt}
 use Rattle.std.specs.Prelude.{⊤}
-use Rattle.cell_haul.specs.declared.feed.FeedStep.TheVariants as feed
-use Rattle.cell_haul.specs.declared.deposit.DepositStep.TheVariants as deposit
-use Rattle.cell_haul.specs.FeedProgram as feed_program
-use Rattle.cell_haul.specs.DepositProgram as deposit_program
-use Rattle.cell_haul.proofs.FeedFacts as feed_facts
-use Rattle.cell_haul.proofs.DepositFacts as deposit_facts
+use Rattle.cell_belts_crane.specs.declared.feed.FeedStep.TheVariants as feed
+use Rattle.cell_belts_crane.specs.declared.deposit.DepositStep.TheVariants as deposit
+use Rattle.cell_belts_crane.specs.FeedProgram as feed_program
+use Rattle.cell_belts_crane.specs.DepositProgram as deposit_program
+use Rattle.cell_belts_crane.proofs.lemmas.FeedFacts as feed_facts
+use Rattle.cell_belts_crane.proofs.lemmas.DepositFacts as deposit_facts
 use Rattle.cell_plant.proofs.BeltPlates.{PlatesStand, plate_stands, plates_foreign, plates_set, plates_moved, still_runs, taken, moved_on, given}
 
 -- what its step knows of the interlock; a plate is on it if and only if its place is full

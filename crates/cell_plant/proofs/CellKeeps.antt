@@ -1,6 +1,6 @@
 -- The invariant of each machine's side; it holds in every state of a run of the cell.
 use Rattle.cell_plant.proofs.Names.{refl, sym, ap, Machine, Feed, Table, Robot, Press, Deposit, Crane, Watch, ModelState, IsStartState, deposit_steps, feed_steps, press_steps, table_steps, table_at_start, feed_rig, table_rig, press_rig, deposit_rig, AreCellScales, Keeping, With, demands_kept, ProgressOf, PartOf, robot_points, steps_of, rig_of, side_in, sides_at_start}
-use Rattle.cell_calib.specs.Line.{IsReading}
+use Rattle.cell_sensors.specs.Line.{IsReading}
 use Rattle.cell_parts.specs.Names.{CellScales}
 use Rattle.cell_plant.proofs.CraneKeeps.{CraneInv, CraneTold, crane-start, crane-keeping}
 use Rattle.cell_plant.proofs.BeltKeeps.{FeedInv, FeedRuns, feed-start, feed-keeping, feed-demanding}

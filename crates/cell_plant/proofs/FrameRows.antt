@@ -37,7 +37,7 @@ wrong = record {
   frames_swapped = λ e. false_true (ap (λ fs. is_some (first fs).turn) e);
 }
 
--- a watcher that keeps all, from what it has kept
+-- an observer that keeps all, from what it has kept
 keeps_on : (kept frames now : List Frame) (result : Result (Unit {0}) (Unit {0})) → IsShown Keeps kept frames result now → (result ≡ Ok tt) × (now ≡ kept ++ frames)
 keeps_on kept [] now result k = (k.0, k.1 ∙ sym (append-nil kept))
 keeps_on kept (f ∷ []) now result k = k

@@ -1,23 +1,23 @@
 -- The names of other crates, and of this one's definitions, that the proofs here use.
-pub use Rattle.cell_calib.proofs.LineLemmas.{near_position_lem, one_raw_at}
-pub use Rattle.cell_calib.specs.Names.{IsNear, IsReading, IsScale, Scale, raw_width}
-pub use Rattle.cell_calib.specs.declared.sense.CraneSense.{CraneSense}
-pub use Rattle.cell_calib.specs.declared.sense.FeedSense.{FeedSense}
-pub use Rattle.cell_calib.specs.declared.sense.PressSense.{PressSense}
-pub use Rattle.cell_calib.specs.declared.sense.RobotSense.{RobotSense}
-pub use Rattle.cell_calib.specs.declared.sense.SensorFault.{SensorFault}
-pub use Rattle.cell_calib.specs.declared.sense.SensorFault.TheVariants.{Clash}
-pub use Rattle.cell_calib.specs.declared.sense.TableSense.{TableSense}
-pub use Rattle.cell_control.proofs.Facts.{AreSo, Fact, Finds}
-pub use Rattle.cell_control.proofs.StepLemmas.{Knowing, reached_first}
-pub use Rattle.cell_control.proofs.TurnMaps.{turn_either}
-pub use Rattle.cell_control.proofs.TurnsByAnswers.{asked_own}
-pub use Rattle.cell_control.proofs.WaitLemmas.{stays_never}
+pub use Rattle.cell_sensors.proofs.lemmas.LineLemmas.{near_position_lem, one_raw_at}
+pub use Rattle.cell_sensors.specs.Names.{IsNear, IsReading, IsScale, Scale, raw_width}
+pub use Rattle.cell_sensors.specs.declared.sense.CraneSense.{CraneSense}
+pub use Rattle.cell_sensors.specs.declared.sense.FeedSense.{FeedSense}
+pub use Rattle.cell_sensors.specs.declared.sense.PressSense.{PressSense}
+pub use Rattle.cell_sensors.specs.declared.sense.RobotSense.{RobotSense}
+pub use Rattle.cell_sensors.specs.declared.sense.SensorFault.{SensorFault}
+pub use Rattle.cell_sensors.specs.declared.sense.SensorFault.TheVariants.{Clash}
+pub use Rattle.cell_sensors.specs.declared.sense.TableSense.{TableSense}
+pub use Rattle.cell_control.proofs.lemmas.Facts.{AreSo, Fact, Finds}
+pub use Rattle.cell_control.proofs.lemmas.StepLemmas.{Knowing, reached_first}
+pub use Rattle.cell_control.proofs.lemmas.TurnMaps.{turn_either}
+pub use Rattle.cell_control.proofs.lemmas.TurnsByAnswers.{asked_own}
+pub use Rattle.cell_control.proofs.lemmas.WaitLemmas.{stays_never}
 pub use Rattle.cell_control.specs.Names.{Performed, PerformsCall, PerformsSensed, Rig, Steps, Turned, Turns, at_rest, fault_of, step_after_reply, turned, waits_out}
 pub use Rattle.cell_control.specs.Rows.{is_inquiry}
 pub use Rattle.cell_control.specs.declared.fault.CtlFault.{CtlFault}
 pub use Rattle.cell_control.specs.declared.fault.CtlFault.TheVariants.{Memory}
-pub use Rattle.cell_devices.proofs.DriveLemmas.{drives_one}
+pub use Rattle.cell_devices.proofs.lemmas.DriveLemmas.{drives_one}
 pub use Rattle.cell_devices.specs.Limits.{travel_from}
 pub use Rattle.cell_devices.specs.Names.{DrivesTo, motor_of, retracted_to}
 pub use Rattle.cell_devices.specs.declared.act.CraneAct.{CraneAct}
@@ -28,21 +28,21 @@ pub use Rattle.cell_devices.specs.declared.motor.Direction.{Direction}
 pub use Rattle.cell_devices.specs.declared.motor.Motor.{Motor}
 pub use Rattle.cell_devices.specs.declared.motor.Motor.TheVariants.{Minus, Off, Plus}
 pub use Rattle.cell_devices.specs.declared.stops.TheConstants.{ARM1_PRESS, ARM2_DEPOSIT, GRIPPER_FEED, RETRACTED, ROTATION_ARM1_PRESS, ROTATION_ARM1_TABLE, ROTATION_ARM2_DEPOSIT, ROTATION_ARM2_PRESS}
-pub use Rattle.cell_haul.proofs.CraneFacts.{CraneKnows, crane-knowing, crane_begins, facts_at}
-pub use Rattle.cell_haul.proofs.CraneRows.{acts_one}
-pub use Rattle.cell_haul.proofs.DepositFacts.{DepositKnows, deposit-knowing}
-pub use Rattle.cell_haul.proofs.FeedFacts.{FeedKnows, feed-knowing, feed_begins}
-pub use Rattle.cell_haul.specs.CraneProgram.{is_off, travel_for, travels}
-pub use Rattle.cell_haul.specs.Names.{Acts, Senses, after_done, crane_start, crane_steps, deposit_start, deposit_steps, feed_start, feed_steps, first_step, gripper_stop, is_done, row_at, row_of, step_after_inquiry}
-pub use Rattle.cell_haul.specs.declared.crane.CraneProgress.{CraneProgress}
-pub use Rattle.cell_haul.specs.declared.crane.CraneReading.{CraneReading}
-pub use Rattle.cell_haul.specs.declared.crane.CraneStep.{CraneStep}
-pub use Rattle.cell_haul.specs.declared.crane.CraneStep.TheVariants.{AwaitPlate, ClaimFeed, DropPlate, GripPlate, LowerToFeed, LowerToPlate, RaiseFromFeed, RaiseToFetch, RaiseWithPlate, TravelToDeposit, TravelToFeed}
-pub use Rattle.cell_haul.specs.declared.deposit.DepositProgress.{DepositProgress}
-pub use Rattle.cell_haul.specs.declared.deposit.DepositStep.{DepositStep}
-pub use Rattle.cell_haul.specs.declared.feed.FeedProgress.{FeedProgress}
-pub use Rattle.cell_haul.specs.declared.feed.FeedStep.{FeedStep}
-pub use Rattle.cell_haul.specs.declared.feed.FeedStep.TheVariants.{ClaimExit}
+pub use Rattle.cell_belts_crane.proofs.lemmas.CraneFacts.{CraneKnows, crane-knowing, crane_begins, facts_at}
+pub use Rattle.cell_belts_crane.proofs.lemmas.CraneRows.{acts_one}
+pub use Rattle.cell_belts_crane.proofs.lemmas.DepositFacts.{DepositKnows, deposit-knowing}
+pub use Rattle.cell_belts_crane.proofs.lemmas.FeedFacts.{FeedKnows, feed-knowing, feed_begins}
+pub use Rattle.cell_belts_crane.specs.CraneProgram.{is_off, travel_for, travels}
+pub use Rattle.cell_belts_crane.specs.Names.{Acts, Senses, after_done, crane_start, crane_steps, deposit_start, deposit_steps, feed_start, feed_steps, first_step, gripper_stop, is_done, row_at, row_of, step_after_inquiry}
+pub use Rattle.cell_belts_crane.specs.declared.crane.CraneProgress.{CraneProgress}
+pub use Rattle.cell_belts_crane.specs.declared.crane.CraneReading.{CraneReading}
+pub use Rattle.cell_belts_crane.specs.declared.crane.CraneStep.{CraneStep}
+pub use Rattle.cell_belts_crane.specs.declared.crane.CraneStep.TheVariants.{AwaitPlate, ClaimFeed, DropPlate, GripPlate, LowerToFeed, LowerToPlate, RaiseFromFeed, RaiseToFetch, RaiseWithPlate, TravelToDeposit, TravelToFeed}
+pub use Rattle.cell_belts_crane.specs.declared.deposit.DepositProgress.{DepositProgress}
+pub use Rattle.cell_belts_crane.specs.declared.deposit.DepositStep.{DepositStep}
+pub use Rattle.cell_belts_crane.specs.declared.feed.FeedProgress.{FeedProgress}
+pub use Rattle.cell_belts_crane.specs.declared.feed.FeedStep.{FeedStep}
+pub use Rattle.cell_belts_crane.specs.declared.feed.FeedStep.TheVariants.{ClaimExit}
 pub use Rattle.cell_notes.specs.Asks.{done_in, entries_in}
 pub use Rattle.cell_notes.specs.Names.{HasRoom, Notes, TurnCall, at_machine, came_back, counts_with, in_order, is_busy_reply, is_done_reply, is_read_reply, is_refused_reply, no_counts, no_notes, notes_with, settled_by, settled_in}
 pub use Rattle.cell_notes.specs.declared.counts.Counts.{Counts}
@@ -50,7 +50,7 @@ pub use Rattle.cell_notes.specs.declared.run_record.RunRecord.{RunRecord}
 pub use Rattle.cell_notes.specs.declared.schedule.Turn.{Turn}
 pub use Rattle.cell_notes.specs.declared.status.Status.{Status}
 pub use Rattle.cell_notes.specs.declared.status.Status.TheVariants.{Fine, Sensor}
-pub use Rattle.cell_parts.proofs.NoCollision.{nothing_collides}
+pub use Rattle.cell_parts.proofs.lemmas.NoCollision.{nothing_collides}
 pub use Rattle.cell_parts.specs.Axes.{CellScales, gripper_start}
 pub use Rattle.cell_parts.specs.Collisions.{IsAt}
 pub use Rattle.cell_parts.specs.MotorDemands.{TravelsHigh}
@@ -83,9 +83,9 @@ pub use Rattle.cell_plant.specs.WatchExamples.{WatchRowsAreMet}
 pub use Rattle.cell_plant.specs.WatchLaws.{NotesTheMark, NotesThroughout, WatchNotesTheMark}
 pub use Rattle.cell_plant.specs.declared.frame.Frame.{Frame}
 pub use Rattle.cell_plant.specs.declared.watch.WatchProgress.{WatchProgress}
-pub use Rattle.cell_plant.specs.declared.watcher.SeenFault.{SeenFault}
-pub use Rattle.cell_plant.specs.declared.watcher.SeenFault.TheVariants.{Watcher}
-pub use Rattle.cell_robot.proofs.RobotFacts.{RobotKnows, at_choice, robot-knowing}
+pub use Rattle.cell_plant.specs.declared.observer.SeenFault.{SeenFault}
+pub use Rattle.cell_plant.specs.declared.observer.SeenFault.TheVariants.{Observer}
+pub use Rattle.cell_robot.proofs.lemmas.RobotFacts.{RobotKnows, at_choice, robot-knowing}
 pub use Rattle.cell_robot.specs.Names.{RobotGauges, RobotScales, arm1_stop, arm2_stop, choice, near_lines, notes_at, robot_rest, robot_start, robot_steps, turns_to}
 pub use Rattle.cell_robot.specs.RobotProgram.{FirstFails, IsRaw, gauges_of, turns}
 pub use Rattle.cell_robot.specs.declared.robot.RobotNotes.{RobotNotes}
@@ -93,42 +93,42 @@ pub use Rattle.cell_robot.specs.declared.robot.RobotProgress.{RobotProgress}
 pub use Rattle.cell_robot.specs.declared.robot.RobotReading.{RobotReading}
 pub use Rattle.cell_robot.specs.declared.robot.RobotStep.{RobotStep}
 pub use Rattle.cell_robot.specs.declared.robot.RobotStep.TheVariants.{AwaitForged, ClaimDeposit, ClaimPress, DropInPress, DropOnDeposit, GripForged, InspectPress, LeaveDeposit, LeaveLoaded, LeaveTable, LeaveUnloaded, ReachDeposit, ReachTable, ReachToLoad, ReachToUnload, ReleasePress, TurnToDeposit, TurnToLoad, TurnToTable, TurnToUnload}
-pub use Rattle.cell_rules.proofs.Clear.{clear_next}
-pub use Rattle.cell_rules.proofs.Done.{none_or, none_then_not, resume_done, stop_done}
-pub use Rattle.cell_rules.proofs.Histories.{after-append}
-pub use Rattle.cell_rules.proofs.Notes.{noted-append}
-pub use Rattle.cell_rules.proofs.OwnSide.{full-foreign, posture-foreign}
-pub use Rattle.cell_rules.proofs.Postures.{posture-changed}
-pub use Rattle.cell_rules.proofs.SeenLemmas.{legal-append, own-append, settles-push}
-pub use Rattle.cell_rules.proofs.Soundness.{done_none, next_keeps}
+pub use Rattle.cell_rules.proofs.lemmas.ClearBelts.{clear_next}
+pub use Rattle.cell_rules.proofs.lemmas.DoneCalls.{none_or, none_then_not, resume_done, stop_done}
+pub use Rattle.cell_rules.proofs.lemmas.Histories.{after-append}
+pub use Rattle.cell_rules.proofs.lemmas.Notes.{noted-append}
+pub use Rattle.cell_rules.proofs.lemmas.OwnSide.{full-foreign, posture-foreign}
+pub use Rattle.cell_rules.proofs.lemmas.Postures.{posture-changed}
+pub use Rattle.cell_rules.proofs.lemmas.SeenLemmas.{legal-append, own-append, settles-push}
+pub use Rattle.cell_rules.proofs.lemmas.Soundness.{done_none, next_keeps}
 pub use Rattle.cell_rules.specs.ModelState.{one_if}
 pub use Rattle.cell_rules.specs.Names.{Desk, IsLegal, IsSound, IsStartState, ModelState, PlaceSet, RunsClear, Waits, advance_refusal, after, changed, done_unless, emptied, entry_of, event, filled, given_by, has, is_full, last_stamp, next, next_by, noted, own_events, owns, posture_at, posture_given, reply, resume_refusal, start_state, stop_refusal, stopped_after}
 pub use Rattle.cell_rules.specs.Refusals.{has_no_work, no_room_for_work, not_at_work, nothing_to_work, press_unowned, worn, ◌or◌}
 pub use Rattle.cell_rules.specs.Types.{Advance, Answer, Busy, Call, Claim, Closed, Crane, DepEnd, DepEntry, Deposit, Done, Entry, Event, Feed, FeedEnd, FeedEntry, Give, Journals, Machine, Moving, NotStopped, OpenIn, OpenOut, Place, Posture, Press, Refusal, Refused, Release, Reply, Resume, Robot, SetPose, Settled, Shut, Stop, Stopped, Table, Take, Watch, Worn, Z1, Z2, Z3, Z4, Z5, Z6, Zone, all_machines, keeper_of, one_machine, one_posture, own_move_of, same_machine, same_posture, transfer_of}
 pub use Rattle.cell_rules.specs.declared.heard.LineFault.{LineFault}
-pub use Rattle.cell_stations.proofs.PressFacts.{PressKnows, press-knowing}
-pub use Rattle.cell_stations.proofs.TableFacts.{TableKnows, table-knowing}
-pub use Rattle.cell_stations.specs.Names.{after_act, after_motor, by_plate, by_plates, press_start, press_steps, rotation_stop, table_start, table_steps, with_plate, with_plates}
-pub use Rattle.cell_stations.specs.PressProgram.{act_for, clashes, step_motor}
-pub use Rattle.cell_stations.specs.TableProgram.{height_for}
-pub use Rattle.cell_stations.specs.declared.press.PressProgress.{PressProgress}
-pub use Rattle.cell_stations.specs.declared.press.PressStep.{PressStep}
-pub use Rattle.cell_stations.specs.declared.press.PressStep.TheVariants.{ClaimFirst, MoveToBottom, MoveToMiddle, PoseLow, PoseMiddle}
-pub use Rattle.cell_stations.specs.declared.table.TableProgress.{TableProgress}
-pub use Rattle.cell_stations.specs.declared.table.TableReading.{TableReading}
-pub use Rattle.cell_stations.specs.declared.table.TableStep.{TableStep}
-pub use Rattle.cell_stations.specs.declared.table.TableStep.TheVariants.{MoveToLoading, PoseLoading}
-pub use Rattle.cell_team.proofs.Sensed.{stands_still}
-pub use Rattle.cell_team.proofs.Stopping.{none-stopped}
-pub use Rattle.cell_team.proofs.Together.{sound_start}
-pub use Rattle.cell_team.proofs.Turned.{Sees, Stands, stands_later, stands_on}
+pub use Rattle.cell_table_press.proofs.lemmas.PressFacts.{PressKnows, press-knowing}
+pub use Rattle.cell_table_press.proofs.lemmas.TableFacts.{TableKnows, table-knowing}
+pub use Rattle.cell_table_press.specs.Names.{after_act, after_motor, by_plate, by_plates, press_start, press_steps, rotation_stop, table_start, table_steps, with_plate, with_plates}
+pub use Rattle.cell_table_press.specs.PressProgram.{act_for, clashes, step_motor}
+pub use Rattle.cell_table_press.specs.TableProgram.{height_for}
+pub use Rattle.cell_table_press.specs.declared.press.PressProgress.{PressProgress}
+pub use Rattle.cell_table_press.specs.declared.press.PressStep.{PressStep}
+pub use Rattle.cell_table_press.specs.declared.press.PressStep.TheVariants.{ClaimFirst, MoveToBottom, MoveToMiddle, PoseLow, PoseMiddle}
+pub use Rattle.cell_table_press.specs.declared.table.TableProgress.{TableProgress}
+pub use Rattle.cell_table_press.specs.declared.table.TableReading.{TableReading}
+pub use Rattle.cell_table_press.specs.declared.table.TableStep.{TableStep}
+pub use Rattle.cell_table_press.specs.declared.table.TableStep.TheVariants.{MoveToLoading, PoseLoading}
+pub use Rattle.cell_team.proofs.lemmas.Sensed.{stands_still}
+pub use Rattle.cell_team.proofs.lemmas.Stopping.{none-stopped}
+pub use Rattle.cell_team.proofs.lemmas.Together.{sound_start}
+pub use Rattle.cell_team.proofs.lemmas.Turned.{Sees, Stands, stands_later, stands_on}
 pub use Rattle.cell_team.specs.Heeded.{IsUnstopped}
 pub use Rattle.cell_team.specs.Names.{AreUnstopped, HaveCome, Team, programs_of}
-pub use Rattle.cell_unit.proofs.Demanding.{Demanding, WhileOn, With, demanding_while_on, demands_kept}
-pub use Rattle.cell_unit.proofs.Keeping.{Changes, Keeping, by_call, others_keep, takes_changes, takes_keeps, turn_tells}
-pub use Rattle.cell_unit.proofs.Others.{others_ready}
-pub use Rattle.cell_unit.proofs.Running.{none_runs}
-pub use Rattle.cell_unit.proofs.Turning.{acts_still}
+pub use Rattle.cell_unit.proofs.lemmas.Demanding.{Demanding, WhileOn, With, demanding_while_on, demands_kept}
+pub use Rattle.cell_unit.proofs.lemmas.Keeping.{Changes, Keeping, by_call, others_keep, takes_changes, takes_keeps, turn_tells}
+pub use Rattle.cell_unit.proofs.lemmas.Others.{others_ready}
+pub use Rattle.cell_unit.proofs.lemmas.Running.{none_runs}
+pub use Rattle.cell_unit.proofs.lemmas.Turning.{acts_still}
 pub use Rattle.cell_unit.specs.Names.{Answers, Side, Takes, UnitTurn, side_moved, side_of, side_set}
 pub use Rattle.cell_unit.specs.Sides.{ActsAndMoves, IsReady, act_or_rest, noting, part_set}
 pub use Rattle.cell_unit.specs.Statuses.{status_of}

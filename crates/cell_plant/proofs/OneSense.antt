@@ -2,9 +2,9 @@
 -- one command.
 use Rattle.cell_plant.proofs.Names.{◌≡◌, ℕ, ◌≤◌, ℤ, ◌+ℤ◌, ◌≤ℤ◌, ◌↔◌, IsTrue, Bool, Result, Ok, Err, refl, sym, ap, ◌∙◌, subst, arith, by_lt_z, Scale, IsScale, SensorFault, CraneSense, RobotSense, TableSense, one_raw_at, travel_from, drives_one, acts_one, crane_steps, CraneReading, RobotGauges, RobotScales, arm1_stop, arm2_stop, robot_steps, turns_to, RobotReading, FirstFails, IsRaw, rotation_stop, table_steps, TableReading}
 use Rattle.cell_plant.proofs.Names.{AreCellScales, table_rig, robot_rig, crane_rig, ShowsRaw, CellGauges, robot_axes, robot_gauges, robot_points, steps_by, rig_of, GiveOne, GivesOne}
-use Rattle.cell_haul.specs.CraneProgram.{Senses as CraneSenses}
+use Rattle.cell_belts_crane.specs.CraneProgram.{Senses as CraneSenses}
 use Rattle.cell_robot.specs.RobotProgram.{Fails, Senses as RobotSenses}
-use Rattle.cell_stations.specs.TableProgram.{Senses as TableSenses}
+use Rattle.cell_table_press.specs.TableProgram.{Senses as TableSenses}
 use Rattle.cell_parts.specs.Names.{CellScales}
 use Rattle.cell_types.specs.declared.machine.Machine.TheVariants.{Feed, Table, Robot, Press, Deposit, Crane, Watch}
 use Rattle.cell_plant.proofs.OneTurn.{HasOneWay}

@@ -2,9 +2,9 @@
 use Rattle.cell_plant.proofs.Names.{◌≡◌, pos, ◌≤ℤ◌, Bool, true, false, ◌⊎◌, inl, inr, [], ◌∷◌, Option, Some, None, Result, Ok, Err, refl, sym, ap, ◌∙◌, subst, if◌then◌else◌, arith, ints, false_from_ne_true, Press, Z3, Posture, Closed, Moving, OpenIn, OpenOut, Call, Done, Reply, PressSense, Clash, motor_of, Direction, Motor, Off, Plus, Minus, PressAct, ModelState, IsSound, posture_at, posture_given, reply, changed, IsStartState}
 use Rattle.cell_plant.proofs.Names.{LineFault, posture-foreign, posture-changed, Turned, Turns, CtlFault, with_plates, by_plates, after_motor, press_start, press_steps, PressStep, ClaimFirst, MoveToMiddle, PoseMiddle, MoveToBottom, PoseLow, PressProgress, step_motor, act_for, clashes, Finds, PressKnows, press-knowing, act_or_rest, Keeping, turn_tells, Demanding, WhileOn, demanding_while_on, press_end, IsWithin, set_axis, press_at_start}
 use Rattle.cell_plant.proofs.Names.{PressShows, IsOn, RestsAtMiddle, RestsAtBottom, DrivesPast, press_rig, Axis, set_press, moved_press}
-use Rattle.cell_stations.specs.Names.{row_at}
-use Rattle.cell_stations.specs.PressProgram.{row_of, after_done}
-use Rattle.cell_stations.proofs.PressFacts.{drives_at}
+use Rattle.cell_table_press.specs.Names.{row_at}
+use Rattle.cell_table_press.specs.PressProgram.{row_of, after_done}
+use Rattle.cell_table_press.proofs.lemmas.PressFacts.{drives_at}
 use Rattle.cell_plant.proofs.WithinLemmas.{moved_within}
 
 -- what its controller knows of the interlock; it is within its ends, rests where an open posture says, and is at a

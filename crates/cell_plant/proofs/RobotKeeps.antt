@@ -7,7 +7,7 @@ use Rattle.cell_devices.specs.declared.stops.Stop.{Stop}
 use Rattle.cell_robot.specs.Names.{row_at, row_of, step_after_inquiry, after_done, Senses, Acts, is_done}
 use Rattle.cell_robot.specs.declared.robot.RobotStep.TheVariants.{AwaitPlate, GripPlate}
 use Rattle.cell_robot.specs.RobotProgram.{rotation_stop, is_off}
-use Rattle.cell_robot.proofs.RobotFacts.{facts_at}
+use Rattle.cell_robot.proofs.lemmas.RobotFacts.{facts_at}
 use Rattle.cell_parts.specs.Axes.{RobotScales as PartScales}
 use Rattle.cell_plant.proofs.Magnets.{still_on}
 use Rattle.cell_plant.proofs.Stops.{reading_near, span_of, at_stop, StopsWithin, not_on, off_within, driven_within}

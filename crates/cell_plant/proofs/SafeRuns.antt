@@ -5,7 +5,7 @@ use Rattle.cell_plant.proofs.Names.{cell_at_start, Step, TakesTurn, goes_on, IsR
 use Rattle.cell_notes.specs.Names.{done_in}
 use Rattle.cell_unit.specs.Sides.{Side, side_set}
 use Rattle.cell_parts.specs.Names.{CellScales}
-use Rattle.cell_plant.proofs.KeptRuns.{CellInv, LeadsIf, step_keeps}
+use Rattle.cell_plant.proofs.lemmas.KeptRuns.{CellInv, LeadsIf, step_keeps}
 use Rattle.cell_plant.proofs.CellKeeps.{InvOf, ToldOf, keeping_of, starts}
 use Rattle.cell_plant.proofs.CraneKeeps.{gripper-down, gripper-driven, travels-high, crane-ends, crane-lets-go}
 use Rattle.cell_plant.proofs.Magnets.{still_on}

@@ -3,13 +3,13 @@ use Rattle.cell_plant.proofs.Names.{◌≡◌, OnErr, IfOk, Bool, true, false, �
 use Rattle.cell_plant.proofs.Names.{rig_of, SideOf, CellState, Sides, side_in, sides_at_start, Step, LeadsIfBy, RunMoment, StepsOn, state_at, first_moment, AllNotes, first_notes, feed_steps, table_steps, robot_steps, gauges_of, points_of, press_steps, deposit_steps, crane_steps, watch_steps}
 use Rattle.cell_plant.specs.Simulations.{AreReady, Gauges}
 use Rattle.cell_plant.specs.declared.simulation.Simulation.TheInside.{Inside}
-use Rattle.cell_calib.specs.declared.gauge.Gauge.{Ghosts}
-use Rattle.cell_calib.specs.Scale.{Scale}
+use Rattle.cell_sensors.specs.declared.gauge.Gauge.{Ghosts}
+use Rattle.cell_sensors.specs.Scale.{Scale}
 use Rattle.cell_parts.specs.Names.{CellScales}
 use Rattle.cell_parts.specs.Axes.{RobotScales as PartScales}
 use Rattle.cell_unit.specs.Names.{IsReady}
 use Rattle.cell_unit.specs.UnitTurns.{Leads as LeadsAlone}
-use Rattle.cell_plant.proofs.KeptRuns.{own_program_by}
+use Rattle.cell_plant.proofs.lemmas.KeptRuns.{own_program_by}
 
 -- two states are the same if they have the same interlock and the same side of each machine
 pub same_state : (w v : CellState) → w.interlock ≡ v.interlock → ((n : Machine) → w.side n ≡ v.side n) → w ≡ v

@@ -2,10 +2,10 @@
 use Rattle.cell_plant.proofs.Names.{◌≡◌, pos, Bool, true, ◌&&◌, ◌⊎◌, inl, inr, [], ◌∷◌, Option, Some, None, Result, Ok, refl, sym, ap, ◌∙◌, subst, if◌then◌else◌, arith, ints, Z1, Z2, Posture, Moving, OpenIn, Call, Done, Reply, Scale, IsNear, IsReading, TableSense, Motor, Off, Plus, Minus, TableAct, ModelState, IsStartState, IsSound, posture_at, reply, changed, next, posture_given, LineFault, posture-foreign, posture-changed}
 use Rattle.cell_plant.proofs.Names.{with_plate, by_plate, after_act, rotation_stop, table_start, table_steps, TableStep, MoveToLoading, PoseLoading, TableProgress, TableReading, IsAxisScale, IsWithin, lift_end, turn_end, table_at_start, set_axis, TableMoves, DrivesPast, RestsAtLoading, table_rig, TablePlant, set_table, moved_table, Turned, Turns, CtlFault, height_for, Finds, TableKnows, table-knowing, act_or_rest, Keeping, turn_tells, Demanding, WhileOn, demanding_while_on, TableShows}
 use Rattle.cell_types.specs.declared.machine.Machine.TheVariants.{Table as TableMachine}
-use Rattle.cell_stations.specs.Names.{row_of, after_done, is_off, Senses, Acts}
-use Rattle.cell_stations.specs.declared.table.TableStep.TheVariants.{ClaimExit}
-use Rattle.cell_stations.specs.TableProgram.{row_at}
-use Rattle.cell_stations.proofs.TableFacts.{drives_at}
+use Rattle.cell_table_press.specs.Names.{row_of, after_done, is_off, Senses, Acts}
+use Rattle.cell_table_press.specs.declared.table.TableStep.TheVariants.{ClaimExit}
+use Rattle.cell_table_press.specs.TableProgram.{row_at}
+use Rattle.cell_table_press.proofs.lemmas.TableFacts.{drives_at}
 use Rattle.cell_plant.proofs.Stops.{reading_near, StopsWithin, off_within, driven_within}
 use Rattle.cell_plant.proofs.WithinLemmas.{moved_within}
 

@@ -3,7 +3,7 @@ use Rattle.cell_plant.proofs.Names.{◌≡◌, ℕ, Bool, true, false, if◌then
 use Rattle.cell_plant.proofs.Names.{Turns, CtlFault, TurnCall, Turn, Keeping, CellScales, ProgressOf, PartOf, steps_of, rig_of, CellState, cell_at_start, Step, IsRun, goes_on, watch_steps, IsRefusedAsWorn, AreRefusedAsWorn, NotesTheMark, NotesThroughout, WatchNotesTheMark, sound_start}
 use Rattle.std.specs.Prelude.{not}
 use Rattle.cell_unit.specs.UnitTurns.{Answers}
-use Rattle.cell_plant.proofs.KeptRuns.{CellInv, LeadsIf, step_keeps}
+use Rattle.cell_plant.proofs.lemmas.KeptRuns.{CellInv, LeadsIf, step_keeps}
 use Rattle.cell_plant.proofs.SafeRuns.{clear_start}
 use Rattle.cell_plant.proofs.WatchKeeps.{WatchInv, watch-keeping}
 

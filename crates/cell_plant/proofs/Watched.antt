@@ -1,8 +1,8 @@
--- The progress of a simulation that a watcher sees.
+-- The progress of a simulation that an observer sees.
 use Rattle.cell_plant.proofs.Names.{◌≡◌, ◌≢◌, ◌∙◌, ◌-◌, ◌<◌, ℕ, List, [], ◌∷◌, ◌++◌, drop, length, Some, None, Result, Ok, refl, sym, ap, subst, arith, length-drop, ModelState, IsStartState, TurnCall, RunRecord, Turn, CellScales, CellState, cell_at_start, SeesRun, SeesBeginning, IsShown, frame_of, frames_of, frames_after, RunMoment, StepsOn, IsRecordSoFar, first_moment, state_at, CellGauges, Step, IsRunBy, Frame, SeenFault, IsCut, result_of}
 use Rattle.cell_parts.specs.Axes.{AreCellScales}
-use Rattle.cell_plant.specs.declared.watcher.SeenFault.TheVariants.{Memory}
-use Rattle.cell_plant.proofs.RunSoFar.{RunSoFar, at_start, next_by, next_steps, tells, told_steps}
+use Rattle.cell_plant.specs.declared.observer.SeenFault.TheVariants.{Memory}
+use Rattle.cell_plant.proofs.lemmas.RunSoFar.{RunSoFar, at_start, next_by, next_steps, tells, told_steps}
 
 -- some turns are left
 left_none : (n i : ℕ) → i < n → n - i ≢ 0
@@ -27,7 +27,7 @@ module _ {W E G : Type 0} (sees : W → Frame → Result (Unit {0}) E → W → 
   shown_next w u v f g [] result k next = (u, (k, next))
   shown_next w u v f g (h ∷ fs) result k next = (k.0, (k.1.0, shown_next k.0 u v h g fs result k.1.1 next))
 
-  -- what a watcher has seen of the run so far
+  -- what an observer has seen of the run so far
   pub record Watched (w v : W) (turns : List Turn) (result : Result (Unit {0}) E) (m : RunMoment G) : Type 0 where
     pub run : RunSoFar gives turns m
     pub seen : IsShown sees w (frames_of m.opening turns run.steps) result v

@@ -2,18 +2,18 @@
 use Rattle.std.specs.Prelude.{None}
 use Rattle.cell_rules.specs.Types.{Machine, Feed, Table, Robot, Press, Deposit, Crane, Watch}
 use Rattle.cell_rules.specs.ModelState.{ModelState}
-use Rattle.cell_haul.specs.Names.{crane_start, deposit_start, feed_start}
-use Rattle.cell_haul.specs.declared.crane.CraneProgress.{CraneProgress}
-use Rattle.cell_haul.specs.declared.deposit.DepositProgress.{DepositProgress}
-use Rattle.cell_haul.specs.declared.feed.FeedProgress.{FeedProgress}
+use Rattle.cell_belts_crane.specs.Names.{crane_start, deposit_start, feed_start}
+use Rattle.cell_belts_crane.specs.declared.crane.CraneProgress.{CraneProgress}
+use Rattle.cell_belts_crane.specs.declared.deposit.DepositProgress.{DepositProgress}
+use Rattle.cell_belts_crane.specs.declared.feed.FeedProgress.{FeedProgress}
 use Rattle.cell_notes.specs.Names.{values_of}
 use Rattle.cell_notes.specs.declared.by_machine.ByMachine.{ByMachine}
 use Rattle.cell_notes.specs.declared.status.Status.{Status}
 use Rattle.cell_robot.specs.Names.{robot_start}
 use Rattle.cell_robot.specs.declared.robot.RobotProgress.{RobotProgress}
-use Rattle.cell_stations.specs.Names.{press_start, table_start}
-use Rattle.cell_stations.specs.declared.press.PressProgress.{PressProgress}
-use Rattle.cell_stations.specs.declared.table.TableProgress.{TableProgress}
+use Rattle.cell_table_press.specs.Names.{press_start, table_start}
+use Rattle.cell_table_press.specs.declared.press.PressProgress.{PressProgress}
+use Rattle.cell_table_press.specs.declared.table.TableProgress.{TableProgress}
 use Rattle.cell_parts.specs.Names.{feed_at_start, table_at_start, robot_at_start, press_at_start, deposit_at_start}
 use Rattle.cell_parts.specs.Names.{crane_at_start}
 use Rattle.cell_parts.specs.declared.axis.Axis.{Axis}

@@ -1,6 +1,6 @@
 -- The cell and its machines.
 use Rattle.std.specs.Prelude.{◌≡◌, List}
-use Rattle.cell_calib.specs.declared.gauge.Gauge.{Ghosts}
+use Rattle.cell_sensors.specs.declared.gauge.Gauge.{Ghosts}
 use Rattle.cell_rules.specs.Names.{ModelState, IsLegal, after}
 use Rattle.cell_notes.specs.declared.run_record.RunRecord.{RunRecord}
 use Rattle.cell_notes.specs.declared.schedule.Turn.{Turn}

@@ -1,8 +1,8 @@
 -- Why the crane's gripper is driven, by the crane's step.
 use Rattle.std.specs.Prelude.{Option, Some, None}
 use Rattle.cell_rules.specs.Types.{Zone, Z5, Z6, Posture}
-use Rattle.cell_haul.specs.Names.{gripper_zone}
-use Rattle.cell_haul.specs.declared.crane.CraneStep.{CraneStep}
+use Rattle.cell_belts_crane.specs.Names.{gripper_zone}
+use Rattle.cell_belts_crane.specs.declared.crane.CraneStep.{CraneStep}
 use Rattle.cell_parts.specs.MotorDemands.{GripperErrand, ForTravel, AtDeposit, AtFeed}
 
 -- by the gripper's zone

@@ -4,12 +4,12 @@ use Rattle.cell_rules.specs.Types.{Feed, Press, Watch, Z1, Z3, Z6, Closed, Claim
 use Rattle.cell_rules.specs.Types.{Busy, FeedEnd}
 use Rattle.cell_devices.specs.declared.motor.Motor.TheVariants.{Minus}
 use Rattle.cell_rules.specs.declared.heard.LineFault.TheVariants.{Memory as NoRoom}
-use Rattle.cell_haul.specs.declared.feed.FeedStep.TheVariants as feed
-use Rattle.cell_haul.specs.declared.deposit.DepositStep.TheVariants as deposit
-use Rattle.cell_haul.specs.declared.crane.CraneStep.TheVariants as crane
+use Rattle.cell_belts_crane.specs.declared.feed.FeedStep.TheVariants as feed
+use Rattle.cell_belts_crane.specs.declared.deposit.DepositStep.TheVariants as deposit
+use Rattle.cell_belts_crane.specs.declared.crane.CraneStep.TheVariants as crane
 use Rattle.cell_robot.specs.declared.robot.RobotStep.TheVariants as robot
-use Rattle.cell_stations.specs.declared.press.PressStep.TheVariants as press
-use Rattle.cell_stations.specs.declared.table.TableStep.TheVariants as table
+use Rattle.cell_table_press.specs.declared.press.PressStep.TheVariants as press
+use Rattle.cell_table_press.specs.declared.table.TableStep.TheVariants as table
 use Rattle.cell_notes.specs.Names.{each_machine, with_machine}
 use Rattle.cell_notes.specs.declared.schedule.Turn.{Turn}
 use Rattle.cell_notes.specs.declared.status.Status.TheVariants.{Fine, Worn, Sensor, Memory}
@@ -122,9 +122,9 @@ pub record WrongFilms : Type 0 where
   pub frame_twice : ¬ IsFilm (turn_of Feed ∷ []) (claims_entry ∷ []) (starts ∷ has_claimed ∷ has_claimed ∷ [])
   pub frames_swapped : ¬ IsFilm (turn_of Feed ∷ []) (claims_entry ∷ []) (has_claimed ∷ starts ∷ [])
 
--- ---- what a watcher is shown
+-- ---- what an observer is shown
 
--- a watcher that keeps each frame, and never fails; one that fails at its first frame
+-- an observer that keeps each frame, and never fails; one that fails at its first frame
 abbrev pub Keeps : List Frame → Frame → Result (Unit {0}) (Unit {0}) → List Frame → Type 0
 Keeps kept f result now = (result ≡ Ok tt) × (now ≡ kept ++ f ∷ [])
 

@@ -1,4 +1,4 @@
--- What a watcher is shown of a run: its start, and then the cell after each turn.
+-- What an observer is shown of a run: its start, and then the cell after each turn.
 use Rattle.std.specs.Prelude.{◌≡◌, ◌≢◌, ⊤, List, [], ◌∷◌, ◌++◌, All, Option, Some, None, Result, Ok, Err}
 use Rattle.cell_rules.specs.Types.{Feed, Table, Robot, Press, Deposit, Crane}
 use Rattle.cell_rules.specs.Names.{ModelState, IsStartState}
@@ -9,8 +9,8 @@ use Rattle.cell_parts.specs.Names.{CellScales, AreCellScales, NothingCollides, S
 use Rattle.cell_parts.specs.Names.{MotorDemands}
 use Rattle.cell_plant.specs.declared.frame.Frame.{Frame}
 use Rattle.cell_plant.specs.declared.frame.MachineSteps.{MachineSteps}
-use Rattle.cell_plant.specs.declared.watcher.SeenFault.{SeenFault}
-use Rattle.cell_plant.specs.declared.watcher.SeenFault.TheVariants.{Memory, Watcher}
+use Rattle.cell_plant.specs.declared.observer.SeenFault.{SeenFault}
+use Rattle.cell_plant.specs.declared.observer.SeenFault.TheVariants.{Memory, Observer}
 use Rattle.cell_plant.specs.Cells.{TellsRun}
 use Rattle.cell_plant.specs.CellStates.{CellState, plant_of, statuses_in, cell_at_start}
 use Rattle.cell_plant.specs.Errands.{errand_of}
@@ -49,28 +49,28 @@ frames_after _ _ = []
 abbrev pub frames_of : ModelState → List Turn → List Step → List Frame
 frames_of opening turns steps = frame_of None None (cell_at_start opening) ∷ frames_after turns steps
 
--- a watcher is shown frames, one by one, and then is this one; the result is that of the last frame
+-- an observer is shown frames, one by one, and then is this one; the result is that of the last frame
 abbrev pub IsShown : {W E : Type 0} → (W → Frame → Result (Unit {0}) E → W → Type 0) → W → List Frame
     → Result (Unit {0}) E → W → Type 0
 IsShown sees w [] result v = (result ≡ Ok tt) × (v ≡ w)
 IsShown sees w (f ∷ []) result v = sees w f result v
 IsShown {W = W} sees w (f ∷ g ∷ fs) result v = (u : W) × (sees w f (Ok tt) u × IsShown sees u (g ∷ fs) result v)
 
--- a watcher has seen the whole run that a record tells
+-- an observer has seen the whole run that a record tells
 pub record SeesRun {W E : Type 0} (sees : W → Frame → Result (Unit {0}) E → W → Type 0) (c : CellScales)
     (gives : CellGauges) (opening : ModelState) (turns : List Turn) (w v : W) (r : RunRecord) : Type 0 where
   pub tells : TellsRun c gives opening turns r
   pub seen : IsShown sees w (frames_of opening turns tells.steps) (Ok tt) v
 
--- A run ends early: after some first turns the watcher failed at the frame of the last of them, or in the next turn
+-- A run ends early: after some first turns the observer failed at the frame of the last of them, or in the next turn
 -- memory ran out.
 abbrev pub IsCut : {E : Type 0} → SeenFault E → List Turn → Type 0
 IsCut Memory rest = rest ≢ []
-IsCut (Watcher e) rest = ⊤
+IsCut (Observer e) rest = ⊤
 
 abbrev pub result_of : {E : Type 0} → SeenFault E → Result (Unit {0}) E
 result_of Memory = Ok tt
-result_of (Watcher e) = Err e
+result_of (Observer e) = Err e
 
 pub record SeesBeginning {W E : Type 0} (sees : W → Frame → Result (Unit {0}) E → W → Type 0) (c : CellScales)
     (gives : CellGauges) (opening : ModelState) (turns : List Turn) (w v : W) (fault : SeenFault E) : Type 0 where

@@ -2,13 +2,13 @@
 -- that get no memory.
 use Rattle.std.specs.Prelude.{◌≡◌, ◌≢◌, ◌↔◌, ℕ, ℤ, List, [], ◌∷◌, All, Some, None, Ok, Err, ⊤}
 use Rattle.cell_rules.specs.Types.{Machine, Table, Robot, Crane, Call, journal_of}
-use Rattle.cell_calib.specs.Names.{Pair, IsOnCurve}
-use Rattle.cell_calib.specs.declared.sense.CraneSense.{CraneSense}
-use Rattle.cell_calib.specs.declared.sense.RobotSense.{RobotSense}
-use Rattle.cell_calib.specs.declared.sense.TableSense.{TableSense}
-use Rattle.cell_haul.specs.declared.crane.CraneReading.{CraneReading}
+use Rattle.cell_sensors.specs.Names.{Pair, IsOnCurve}
+use Rattle.cell_sensors.specs.declared.sense.CraneSense.{CraneSense}
+use Rattle.cell_sensors.specs.declared.sense.RobotSense.{RobotSense}
+use Rattle.cell_sensors.specs.declared.sense.TableSense.{TableSense}
+use Rattle.cell_belts_crane.specs.declared.crane.CraneReading.{CraneReading}
 use Rattle.cell_robot.specs.declared.robot.RobotReading.{RobotReading}
-use Rattle.cell_stations.specs.declared.table.TableReading.{TableReading}
+use Rattle.cell_table_press.specs.declared.table.TableReading.{TableReading}
 use Rattle.cell_rules.specs.Names.{ModelState}
 use Rattle.cell_rules.specs.declared.heard.LineFault.{LineFault}
 use Rattle.cell_notes.specs.declared.run_record.RunRecord.{RunRecord}

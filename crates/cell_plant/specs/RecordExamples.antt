@@ -3,13 +3,13 @@ use Rattle.std.specs.Prelude.{◌≡◌, ℕ, ◌<◌, ℤ, pos, true, false, Li
 use Rattle.cell_rules.specs.Types.{Machine, Feed, Table, Robot, Press, Deposit, Crane, Watch, Z1, Z2, Z3, Z4, Z6}
 use Rattle.cell_rules.specs.Types.{Closed, OpenIn, Claim, Inquire, Stop, Resume, Done, Refused, Shown, Shut, Jump}
 use Rattle.cell_rules.specs.Types.{Event, Entry, Journals, Settled, Busy, journal_of}
-use Rattle.cell_calib.specs.declared.sense.SensorFault.TheVariants.{Low}
+use Rattle.cell_sensors.specs.declared.sense.SensorFault.TheVariants.{Low}
 use Rattle.cell_rules.specs.declared.heard.LineFault.TheVariants.{Memory as NoRoom}
 use Rattle.cell_rules.specs.Names.{ModelState, IsLegal, after, noted}
 use Rattle.cell_control.specs.declared.fault.CtlFault.TheVariants as fault
-use Rattle.cell_haul.specs.CraneProgram.{crane_start}
+use Rattle.cell_belts_crane.specs.CraneProgram.{crane_start}
 use Rattle.cell_robot.specs.RobotProgram.{robot_start}
-use Rattle.cell_stations.specs.Names.{press_start, table_start}
+use Rattle.cell_table_press.specs.Names.{press_start, table_start}
 use Rattle.cell_notes.specs.Names.{no_counts}
 use Rattle.cell_notes.specs.declared.counts.Counts.{Counts}
 use Rattle.cell_notes.specs.declared.run_record.RunRecord.{RunRecord}

@@ -9,10 +9,10 @@ use Rattle.cell_rules.specs.Names.{ModelState, empty, insert_place, start_state}
 use Rattle.cell_rules.specs.declared.heard.LineFault.{LineFault}
 use Rattle.cell_rules.specs.declared.heard.LineFault.TheVariants.{Memory as NoRoom}
 use Rattle.cell_control.specs.declared.fault.CtlFault.TheVariants.{Memory}
-use Rattle.cell_haul.specs.declared.feed.FeedStep.TheVariants.{ClaimExit}
-use Rattle.cell_stations.specs.Names.{press_start}
-use Rattle.cell_stations.specs.declared.press.PressStep.TheVariants.{MoveToBottom}
-use Rattle.cell_stations.specs.declared.press.PressProgress.{PressProgress}
+use Rattle.cell_belts_crane.specs.declared.feed.FeedStep.TheVariants.{ClaimExit}
+use Rattle.cell_table_press.specs.Names.{press_start}
+use Rattle.cell_table_press.specs.declared.press.PressStep.TheVariants.{MoveToBottom}
+use Rattle.cell_table_press.specs.declared.press.PressProgress.{PressProgress}
 use Rattle.cell_notes.specs.declared.schedule.Turn.{Turn}
 use Rattle.cell_unit.specs.Sides.{Side, side_of}
 use Rattle.cell_parts.specs.Names.{CellScales, feed_at_start, press_at_start, table_at_start, at, driven_at}

@@ -5,12 +5,12 @@ use Rattle.cell_rules.specs.Types.{Machine, Feed, Table, Robot, Press, Deposit, 
 use Rattle.cell_rules.specs.Types.{FeedEnd, DepEnd, Closed, Moving, OpenIn, OpenOut}
 use Rattle.cell_devices.specs.declared.motor.Motor.TheVariants.{Off, Plus, Minus}
 use Rattle.cell_rules.specs.Names.{ModelState, empty, insert_place, start_state}
-use Rattle.cell_haul.specs.Names.{deposit_start, feed_start}
-use Rattle.cell_haul.specs.declared.crane.CraneStep.{CraneStep}
-use Rattle.cell_haul.specs.declared.crane.CraneStep.TheVariants.{RaiseToFetch, LowerToPlate, RaiseWithPlate}
-use Rattle.cell_haul.specs.declared.crane.CraneStep.TheVariants.{LowerToFeed, RaiseFromFeed}
+use Rattle.cell_belts_crane.specs.Names.{deposit_start, feed_start}
+use Rattle.cell_belts_crane.specs.declared.crane.CraneStep.{CraneStep}
+use Rattle.cell_belts_crane.specs.declared.crane.CraneStep.TheVariants.{RaiseToFetch, LowerToPlate, RaiseWithPlate}
+use Rattle.cell_belts_crane.specs.declared.crane.CraneStep.TheVariants.{LowerToFeed, RaiseFromFeed}
 use Rattle.cell_robot.specs.RobotProgram.{robot_start}
-use Rattle.cell_stations.specs.Names.{press_start, table_start}
+use Rattle.cell_table_press.specs.Names.{press_start, table_start}
 use Rattle.cell_unit.specs.Sides.{side_of}
 use Rattle.cell_parts.specs.Names.{NothingCollides, StaysWithin, PositionDemands, MotorDemands, empty_cell}
 use Rattle.cell_parts.specs.Names.{cell_with_plate_at, driven_at, at, robot_at, table_at, crane_at, belt_with}

@@ -1,9 +1,9 @@
 -- A simulation as a value: a moment of a run. Its controllers' progress follows from their events.
 use Rattle.std.specs.Prelude.{ℕ, ℤ}
-use Rattle.cell_calib.specs.declared.gauge.Gauge.{Ghosts}
-use Rattle.cell_haul.specs.Names.{crane_steps, deposit_steps, feed_steps}
+use Rattle.cell_sensors.specs.declared.gauge.Gauge.{Ghosts}
+use Rattle.cell_belts_crane.specs.Names.{crane_steps, deposit_steps, feed_steps}
 use Rattle.cell_robot.specs.RobotProgram.{gauges_of, robot_steps}
-use Rattle.cell_stations.specs.Names.{press_steps, table_steps}
+use Rattle.cell_table_press.specs.Names.{press_steps, table_steps}
 use Rattle.cell_unit.specs.Sides.{IsReady, side_of}
 use Rattle.cell_plant.specs.declared.simulation.Simulation.TheInside.{Inside}
 use Rattle.cell_plant.specs.Cells.{FiveGauges, cell_scales, five_gauges, points_of, sides_of, IsFitted}

@@ -5,13 +5,13 @@ ghost use Rattle.cell_unit.specs.Sides.{side_of};
 ghost use Rattle.cell_plant.specs.Cells.{IsMadeFor, cell_scales};
 ghost use Rattle.cell_plant.specs.CellStates.{sides_at_start};
 
-use cell_calib::{Calibration, Gauge};
+use cell_belts_crane::{CraneProgram, DepositProgram, FeedProgram};
 use cell_control::Controller;
-use cell_haul::{CraneProgram, DepositProgram, FeedProgram};
 use cell_parts::{CranePart, DepositPart, FeedPart, PressPart, RobotPart, RobotPoints, TablePart};
 use cell_robot::RobotProgram;
 use cell_rules::State;
-use cell_stations::{PressProgram, TableProgram};
+use cell_sensors::{Calibration, Gauge};
+use cell_table_press::{PressProgram, TableProgram};
 use cell_unit::MachineUnit;
 
 /// The feed belt.

@@ -1,11 +1,11 @@
-//! What a watcher is shown of a run.
+//! What an observer is shown of a run.
 
-use cell_haul::{CraneStep, DepositStep, FeedStep};
+use cell_belts_crane::{CraneStep, DepositStep, FeedStep};
 use cell_notes::{ByMachine, Status, Turn, TurnCall};
 use cell_parts::PlantState;
 use cell_robot::RobotStep;
 use cell_rules::State;
-use cell_stations::{PressStep, TableStep};
+use cell_table_press::{PressStep, TableStep};
 
 /// The step of each machine's program. The watch's has only one.
 #[derive(Clone, Copy, PartialEq)]

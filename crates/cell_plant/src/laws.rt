@@ -15,7 +15,7 @@ ghost use Rattle.cell_plant.specs.WatchExamples.{WatchRowsAreMet};
 ghost use Rattle.cell_plant.specs.WatchLaws.{WatchNotesTheMark};
 
 use crate::cell::Cell;
-use cell_calib::Gauge;
+use cell_sensors::Gauge;
 
 /// Nothing collides in any run of any schedule, neither once motors are set nor once a part has
 /// moved. Each axis stays within its ends, and the interlock meets what positions and motors
@@ -70,7 +70,7 @@ pub fn wrong_runs_are_refused()
 /// A turn that an error ends leaves the motors and the belt of its machine off, and its magnets as
 /// they were switched last: once its actuators are set, and once its part has moved. Later turns of
 /// that machine change nothing.
-#[tactic(auto, using(crate::proofs::Resting::stopped_machines_rest))]
+#[tactic(auto, using(crate::proofs::lemmas::Resting::stopped_machines_rest))]
 pub fn stopped_machines_rest()
     ensures { (c : CellScales) → StoppedMachinesRest c }
 {}
@@ -85,7 +85,7 @@ pub fn wrong_records_are_refused()
 
 /// Examples of the frames of one literal run, and of wrong films: a frame shows the state or the
 /// step before the turn, it shows nothing of the call, a busy turn is shown as refused or as not
-/// busy, a frame is left out, shown twice or too early, or two machines' axes are swapped. A watcher
+/// busy, a frame is left out, shown twice or too early, or two machines' axes are swapped. An observer
 /// that keeps what it is shown has these frames; one that fails is shown no more.
 #[tactic(auto, using(crate::proofs::FrameRows::frame_examples))]
 pub fn wrong_films_are_refused()

@@ -16,12 +16,12 @@ ghost use Rattle.cell_plant.specs.Simulations.{given_by};
 use crate::cell::Cell;
 use crate::frame::{Frame, MachineSteps};
 use crate::notebooks::{Notebooks, counts_in, empty_notebooks, journals_of};
+use crate::observer::{NoObserver, Observer, SeenFault};
 use crate::watch::{WatchUnit, watch_at_start};
-use crate::watcher::{NoWatcher, SeenFault, Watcher};
-use cell_calib::Gauge;
 use cell_notes::{ByMachine, RunRecord, Status, Turn, TurnCall};
 use cell_parts::PlantState;
 use cell_rules::{Bench, State};
+use cell_sensors::Gauge;
 use cell_types::Machine;
 use cell_unit::{SimFault, take_bench_turn};
 use std::alloc::Global;
@@ -52,36 +52,36 @@ pub fn simulate<F1: Gauge, F2: Gauge, F3: Gauge, F4: Gauge, F5: Gauge>(
     ensures none_refused { IfOk result NoneRefused }
     ensures no_turn { turns.now ≡ [] → IsOk result }
 {
-    match simulate_seen(alloc, cell, opening, turns, &mut NoWatcher) {
+    match simulate_observed(alloc, cell, opening, turns, &mut NoObserver) {
         Ok(record) => Ok(record),
         Err(SeenFault::Memory) => Err(SimFault::Memory),
-        Err(SeenFault::Watcher(never)) => match never {},
+        Err(SeenFault::Observer(never)) => match never {},
     }
 }
 
-/// Does what `simulate` does, and shows it to a watcher: a frame of the start, and then one after
+/// Does what `simulate` does, and shows it to an observer: a frame of the start, and then one after
 /// each turn, also after a turn that isn't taken.
 ///
 /// Errors:
-/// - `Memory` as in `simulate`; the watcher has seen the turns before.
-/// - `Watcher` if the watcher fails; it is shown nothing more.
-pub fn simulate_seen<F1: Gauge, F2: Gauge, F3: Gauge, F4: Gauge, F5: Gauge, W: Watcher>(
+/// - `Memory` as in `simulate`; the observer has seen the turns before.
+/// - `Observer` if the observer fails; it is shown nothing more.
+pub fn simulate_observed<F1: Gauge, F2: Gauge, F3: Gauge, F4: Gauge, F5: Gauge, W: Observer>(
     alloc: Global,
     cell: Cell<F1, F2, F3, F4, F5>,
     opening: State,
     turns: &[Turn],
-    watcher: &mut W,
+    observer: &mut W,
 ) -> Result<RunRecord, SeenFault<W::Fault>>
     requires start { IsStartState opening }
     requires made { IsMadeFor opening cell }
     requires scales { AreCellScales (cell_scales cell) }
     ensures run { IfOk result (SeesRun W.sees (cell_scales cell)
-        (cell_gauges cell) opening turns.now watcher.old watcher.new) }
+        (cell_gauges cell) opening turns.now observer.old observer.new) }
     ensures ended { IfErr result (SeesBeginning W.sees (cell_scales cell)
-        (cell_gauges cell) opening turns.now watcher.old watcher.new) }
+        (cell_gauges cell) opening turns.now observer.old observer.new) }
 {
     let mut simulation = Simulation::new(alloc, cell, opening);
-    simulation.run(alloc, opening, turns, watcher)
+    simulation.run(alloc, opening, turns, observer)
 }
 
 // A cell that runs over a bench under its watch, and what the machines note. As a value it is a
@@ -123,35 +123,35 @@ impl<F1: Gauge, F2: Gauge, F3: Gauge, F4: Gauge, F5: Gauge> Simulation<F1, F2, F
         }
     }
 
-    // Takes the turns of a schedule before a watcher, which sees the start first. Returns the record
+    // Takes the turns of a schedule before an observer, which sees the start first. Returns the record
     // of the run.
     #[inline(always)]
-    fn run<W: Watcher>(
+    fn run<W: Observer>(
         &mut self,
         alloc: Global,
         opening: State,
         turns: &[Turn],
-        watcher: &mut W,
+        observer: &mut W,
     ) -> Result<RunRecord, SeenFault<W::Fault>>
         requires begins { self.old ≡ first_moment self.old.scales self.old.gauges opening }
         requires start { IsStartState opening }
         requires scales { AreCellScales self.old.scales }
         ensures run { IfOk result (SeesRun W.sees self.old.scales (given_by
             (record { arm1 = F1.gives; arm2 = F2.gives; rotation = F3.gives; turn = F4.gives; gripper = F5.gives })
-            self.old.gauges) opening turns.now watcher.old watcher.new) }
+            self.old.gauges) opening turns.now observer.old observer.new) }
         ensures ended { IfErr result (SeesBeginning W.sees self.old.scales (given_by
             (record { arm1 = F1.gives; arm2 = F2.gives; rotation = F3.gives; turn = F4.gives; gripper = F5.gives })
-            self.old.gauges) opening turns.now watcher.old watcher.new) }
+            self.old.gauges) opening turns.now observer.old observer.new) }
     {
-        if let Err(fault) = self.show(None, None, watcher) {
-            return Err(SeenFault::Watcher(fault));
+        if let Err(fault) = self.show(None, None, observer) {
+            return Err(SeenFault::Observer(fault));
         }
         'turns: for turn in turns {
             let Ok(asked) = self.turn(*turn) else {
                 return Err(SeenFault::Memory);
             };
-            if let Err(fault) = self.show(Some(*turn), asked, watcher) {
-                return Err(SeenFault::Watcher(fault));
+            if let Err(fault) = self.show(Some(*turn), asked, observer) {
+                return Err(SeenFault::Observer(fault));
             }
         }
         Ok(self.take_record(alloc, opening))
@@ -205,18 +205,18 @@ impl<F1: Gauge, F2: Gauge, F3: Gauge, F4: Gauge, F5: Gauge> Simulation<F1, F2, F
         }
     }
 
-    // Shows a watcher the state after this turn. For one that doesn't look, no frame is made.
+    // Shows an observer the state after this turn. For one that doesn't look, no frame is made.
     #[inline(always)]
-    fn show<W: Watcher>(
+    fn show<W: Observer>(
         &self,
         turn: Option<Turn>,
         asked: TurnCall,
-        watcher: &mut W,
+        observer: &mut W,
     ) -> Result<(), W::Fault>
-        ensures { W.sees watcher.old (frame_of turn asked (state_at self.now)) result watcher.new }
+        ensures { W.sees observer.old (frame_of turn asked (state_at self.now)) result observer.new }
     {
         if W::LOOKS {
-            watcher.see(&self.frame(turn, asked))
+            observer.see(&self.frame(turn, asked))
         } else {
             Ok(())
         }

@@ -3,9 +3,9 @@ ghost use Rattle.std.specs.Prelude.{◌≡◌};
 ghost use Rattle.cell_unit.specs.Sides.{side_of};
 ghost use Rattle.cell_plant.specs.Watch as watch;
 
-use cell_calib::SensorFault;
 use cell_control::{Controller, Part, Program, Row};
 use cell_rules::State;
+use cell_sensors::SensorFault;
 use cell_types::{Call, Event, Machine, Posture};
 use cell_unit::MachineUnit;
 

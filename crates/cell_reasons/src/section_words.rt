@@ -1,8 +1,8 @@
 //! What is wrong with a section of a configuration, in words.
 
 use crate::source::Source;
-use cell_calib::{CurveFault, Points};
 use cell_config::{ConfigFault, SectionFault, SectionKey};
+use cell_sensors::{CurveFault, Points};
 use std::alloc::AllocError;
 use toml_places::Step;
 

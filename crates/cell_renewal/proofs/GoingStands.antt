@@ -2,7 +2,7 @@
 use Rattle.cell_renewal.proofs.Names.{◌≡◌, ℕ, zero, suc, Bool, true, false, ◌||◌, if◌then◌else◌, inl, inr, List, [], ◌∷◌, ◌++◌, Option, Some, None, Result, Ok, Err, refl, sym, ap, ◌∙◌, subst, append_assoc, Machine, Call, Answer, Done, Shown, Refusal, Event, Reply, Settled, Busy, SensorFault, ModelState, after, IsLegal, own_events, Program, MovesIn, Reached, event, Waits, LineFault, PassView, InterlockView, fresh_pass, HasSeenMore, fault_of, Steps, waits_out, step_after_reply, Performed}
 use Rattle.cell_renewal.proofs.Names.{PerformsCall, PerformsSensed, Turned, Turns, at_rest, CtlFault, Told, DrivesOn, LeadsOrStays, HasComeFrom, program_with_stops, is_worn, IsHeeded, IsStoppedBy, Stands, stands_later, GateOf, AreTaken, ComesBy, WiredMoment, TakesCycle, wired_moment}
 use Rattle.cell_rules.specs.Types.{Refused, Worn}
-use Rattle.cell_rules.proofs.SeenLemmas.{legal-right, own-append}
+use Rattle.cell_rules.proofs.lemmas.SeenLemmas.{legal-right, own-append}
 use Rattle.cell_control.specs.declared.fault.CtlFault.TheVariants as fault
 use Rattle.cell_renewal.proofs.WiredUnrefused.{wired_stands}
 

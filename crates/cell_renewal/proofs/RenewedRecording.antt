@@ -1,16 +1,16 @@
 -- Rounds of six workers that go on, by the six programs: none ends as refused, and none as worn while stamps are left.
 use Rattle.cell_renewal.proofs.Names.{◌≡◌, ◌≢◌, ◌≤◌, ◌<◌, ◌+◌, ◌*◌, ℕ, zero, suc, false, List, [], Option, None, Result, inl, inr, refl, sym, ap, ◌∙◌, subst, arith, length, append-nil, Machine, Feed, Table, Robot, Press, Deposit, Crane, Watch, Event, same_machine, Ghosts, ModelState, last_stamp, IsSound, after, IsLegal, done_count, own_events, restamped, sound-after, restamped_sound, InterlockView, fresh_pass, CtlFault, deposit_steps, feed_steps, CraneProgram, press_steps, PressProgress}
 use Rattle.cell_renewal.proofs.Names.{TableProgram, Refused, Worn, CellScales, CellGauges, ProgressOf, steps_of, programs_of, HaveComeFrom, StandAfter, Stands, TellsWatched, WatchesOf, GateOf, SixRecord, all_along, GoingLeft, GoingOn, OpensAfter, RoundMoment, TakesRound, AllRun, GoingSix, NoneIsRefusedThrough, NoneIsWornThrough, SixLeft, MakesAtMost, by_crane, by_robot, by_table, going_gives, going_on, Shows, Sets}
-use Rattle.cell_haul.specs.declared.crane.CraneProgress.{CraneProgress}
-use Rattle.cell_haul.specs.declared.deposit.DepositProgram.{DepositProgram}
-use Rattle.cell_haul.specs.declared.deposit.DepositProgress.{DepositProgress}
-use Rattle.cell_haul.specs.declared.feed.FeedProgram.{FeedProgram}
-use Rattle.cell_haul.specs.declared.feed.FeedProgress.{FeedProgress}
+use Rattle.cell_belts_crane.specs.declared.crane.CraneProgress.{CraneProgress}
+use Rattle.cell_belts_crane.specs.declared.deposit.DepositProgram.{DepositProgram}
+use Rattle.cell_belts_crane.specs.declared.deposit.DepositProgress.{DepositProgress}
+use Rattle.cell_belts_crane.specs.declared.feed.FeedProgram.{FeedProgram}
+use Rattle.cell_belts_crane.specs.declared.feed.FeedProgress.{FeedProgress}
 use Rattle.cell_robot.specs.declared.robot.RobotProgram.{RobotProgram}
 use Rattle.cell_robot.specs.declared.robot.RobotProgress.{RobotProgress}
-use Rattle.cell_stations.specs.declared.press.PressProgram.{PressProgram}
-use Rattle.cell_stations.specs.declared.table.TableProgress.{TableProgress}
-use Rattle.cell_team.proofs.Together.{sound_start}
+use Rattle.cell_table_press.specs.declared.press.PressProgram.{PressProgram}
+use Rattle.cell_table_press.specs.declared.table.TableProgress.{TableProgress}
+use Rattle.cell_team.proofs.lemmas.Together.{sound_start}
 use Rattle.cell_threads.specs.Results.{SixResults, outputs_in}
 use Rattle.cell_renewal.specs.declared.rounds.Round.{Round}
 use Rattle.cell_renewal.proofs.GoingStands.{from_step}

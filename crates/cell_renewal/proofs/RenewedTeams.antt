@@ -1,12 +1,12 @@
 -- Six machines that go on from steps to which they had come, over one history: no refusal has stopped one.
 use Rattle.cell_renewal.proofs.Names.{◌≡◌, ℕ, false, List, ◌∷◌, ◌++◌, Option, Some, refl, subst, Machine, Feed, Table, Robot, Press, Deposit, Crane, Watch, Refusal, Event, same_machine, ModelState, after, IsLegal, legal-left, CtlFault, crane_steps, table_steps, CellScales, CellGauges, ProgressOf, robot_gauges, robot_points, steps_by, steps_of, Team, programs_of, HasComeFrom, AreHeeded, IsHeeded, HaveComeFrom, StandAfter, Stands}
-use Rattle.cell_calib.specs.Line.{IsReading}
+use Rattle.cell_sensors.specs.Line.{IsReading}
 use Rattle.cell_control.specs.declared.fault.CtlFault.TheVariants as fault
-use Rattle.cell_haul.specs.CraneProgram.{Senses as CraneSenses}
+use Rattle.cell_belts_crane.specs.CraneProgram.{Senses as CraneSenses}
 use Rattle.cell_robot.specs.RobotProgram.{near_lines, Senses as RobotSenses, robot_steps}
-use Rattle.cell_stations.specs.TableProgram.{Senses as TableSenses}
-use Rattle.cell_team.proofs.Renewed.{none_refused_renewed}
-use Rattle.cell_team.proofs.Sensed.{stands_still}
+use Rattle.cell_table_press.specs.TableProgram.{Senses as TableSenses}
+use Rattle.cell_team.proofs.lemmas.Renewed.{none_refused_renewed}
+use Rattle.cell_team.proofs.lemmas.Sensed.{stands_still}
 use Rattle.cell_renewal.proofs.GoingStands.{from_step, come_back, came_before, unstopped}
 
 -- the step of each machine, by its name

@@ -1,6 +1,6 @@
 -- What each machine leaves after a round may go on where the next interlock opens.
-use Rattle.cell_renewal.proofs.Names.{◌≡◌, ℕ, List, [], inl, inr, sym, ap, ◌∙◌, subst, append-nil, Machine, Feed, Table, Robot, Press, Deposit, Crane, Event, ModelState, IsSound, after, IsLegal, restamped, IsSameFor, Waits, PassView, InterlockView, fresh_pass, IsSamePass, GateOf, TellsWatched, WatchesOf, PerMachine, SixRecord, OpensAfter, Leaves, MayGoOn, MayAllGoOn}
-use Rattle.cell_rules.proofs.Restamps.{same_after}
+use Rattle.cell_renewal.proofs.Names.{◌≡◌, ℕ, List, [], inl, inr, sym, ap, ◌∙◌, subst, append-nil, Machine, Feed, Table, Robot, Press, Deposit, Crane, Event, ModelState, IsSound, after, IsLegal, restamped, IsSameFor, Waits, PassView, InterlockView, fresh_pass, IsSamePass, GateOf, TellsWatched, WatchesOf, SixOf, SixRecord, OpensAfter, Leaves, MayGoOn, MayAllGoOn}
+use Rattle.cell_rules.proofs.lemmas.Restamps.{same_after}
 use Rattle.cell_threads.specs.Promises.{GivesOf}
 
 -- whichever stamp it is
@@ -24,7 +24,7 @@ may_go_on m i machine left kept history end stamp k same sound legal w ends =
 module _ {W1 W2 W3 W4 W5 W6 A B C D E F H : Type 0} (gives1 : GivesOf W1 A) (gives2 : GivesOf W2 B) (gives3 : GivesOf W3 C) (gives4 : GivesOf W4 D) (gives5 : GivesOf W5 E) (gives6 : GivesOf W6 F) (watches : WatchesOf H)
     (of1 : A → Machine) (of2 : B → Machine) (of3 : C → Machine) (of4 : D → Machine) (of5 : E → Machine) (of6 : F → Machine)
     (left1 : A → ModelState) (left2 : B → ModelState) (left3 : C → ModelState) (left4 : D → ModelState) (left5 : E → ModelState) (left6 : F → ModelState)
-    (workers : PerMachine W1 W2 W3 W4 W5 W6) (watch : H) (opening : ModelState) (tries limit : ℕ) (gate : Machine → GateOf) (r : SixRecord A B C D E F) (watch_after : H)
+    (workers : SixOf W1 W2 W3 W4 W5 W6) (watch : H) (opening : ModelState) (tries limit : ℕ) (gate : Machine → GateOf) (r : SixRecord A B C D E F) (watch_after : H)
     (t : TellsWatched gives1 gives2 gives3 gives4 gives5 gives6 watches workers watch opening tries limit gate r watch_after) (sound : IsSound opening) where
   abbrev i : InterlockView
   i = t.interlock

@@ -4,7 +4,7 @@ use Rattle.cell_renewal.proofs.Names.{BeginsWith, LineFault, legal-left, sound-a
 use Rattle.std.proofs.Math.Nat.{lt_of_not-le}
 use Rattle.std.proofs.lemmas.List.Sums.{sum_by-append}
 use Rattle.cell_rules.specs.Types.{Worn, Refused}
-use Rattle.cell_rules.proofs.Stamps.{stamp-after}
+use Rattle.cell_rules.proofs.lemmas.Stamps.{stamp-after}
 use Rattle.cell_control.specs.declared.fault.CtlFault.TheVariants as fault
 use Rattle.cell_notes.specs.declared.status.Status.TheVariants as status
 use Rattle.cell_renewal.specs.Wearing.{ChangesAreCalls, WearsLast}

@@ -1,7 +1,7 @@
 -- Cycles of a press with devices of your own.
 use Rattle.cell_renewal.proofs.Names.{◌≡◌, ◌≢◌, ℕ, ◌+◌, Bool, true, false, inl, inr, Option, Some, None, Result, Err, refl, sym, ap, subst, ◌∙◌, IsSomeAnd, Press, Call, Reply, Z3, SensorFault, Holds, PressMoves, LineFault, PassAsks, PerformsSensed, Turned, Turns, turned, answered, CtlFault, Told, press_steps, checked, PressProgress, GateOf, WiredMoment, TakesCycle, WiredPressTurns, told_clash, told_unread}
-use Rattle.cell_calib.specs.declared.sense.PressSense.{PressSense}
-use Rattle.cell_calib.specs.declared.sense.SensorFault.TheVariants.{Clash}
+use Rattle.cell_sensors.specs.declared.sense.PressSense.{PressSense}
+use Rattle.cell_sensors.specs.declared.sense.SensorFault.TheVariants.{Clash}
 use Rattle.cell_control.specs.declared.fault.CtlFault.TheVariants.{Sensor}
 use Rattle.cell_devices.specs.declared.act.PressAct.{PressAct}
 use Rattle.cell_devices.specs.declared.motor.Motor.TheVariants.{Off}

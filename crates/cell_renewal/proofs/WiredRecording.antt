@@ -1,5 +1,5 @@
 -- What a record tells of six workers with devices of your own, by what each gave back.
-use Rattle.cell_renewal.proofs.Names.{◌≡◌, ◌≢◌, ℕ, List, [], ◌∷◌, Option, None, refl, sym, ◌∙◌, subst, All, append-nil, Machine, Feed, Table, Robot, Press, Deposit, Crane, Ghosts, IsLegal, ModelState, IsStartState, InterlockView, fresh_pass, Steps, Told, crane_steps, deposit_steps, feed_steps, CraneProgram, press_steps, table_steps, TableProgram, Status, Fine, Refused, CellScales, CellGauges, GateOf, PerMachine, WorkerResult, NoneEndsRefused, Sets, Shows, WiredTeam, IsWiredResult, wired_moment}
+use Rattle.cell_renewal.proofs.Names.{◌≡◌, ◌≢◌, ℕ, List, [], ◌∷◌, Option, None, refl, sym, ◌∙◌, subst, All, append-nil, Machine, Feed, Table, Robot, Press, Deposit, Crane, Ghosts, IsLegal, ModelState, IsStartState, InterlockView, fresh_pass, Steps, Told, crane_steps, deposit_steps, feed_steps, CraneProgram, press_steps, table_steps, TableProgram, Status, Fine, Refused, CellScales, CellGauges, GateOf, SixOf, WorkerResult, NoneEndsRefused, Sets, Shows, WiredTeam, IsWiredResult, wired_moment}
 use Rattle.std.proofs.lemmas.List.Elements.{All-head, All-tail}
 use Rattle.cell_robot.specs.Names.{gauges_of, robot_scales, robot_steps}
 use Rattle.cell_robot.specs.declared.robot.RobotProgram.{RobotProgram}
@@ -44,7 +44,7 @@ wired-tell {g1 = g1} {g2 = g2} {g3 = g3} {g4 = g4} {g5 = g5} shows1 sets1 shows2
 
 module _ {D1 D2 D3 D4 D5 D6 : Type 0} (c : CellScales) (gives : CellGauges)
     (shows1 : Shows D1 Feed) (sets1 : Sets D1 Feed) (shows2 : Shows D2 Table) (sets2 : Sets D2 Table) (shows3 : Shows D3 Robot) (sets3 : Sets D3 Robot) (shows4 : Shows D4 Press) (sets4 : Sets D4 Press) (shows5 : Shows D5 Deposit) (sets5 : Sets D5 Deposit) (shows6 : Shows D6 Crane) (sets6 : Sets D6 Crane)
-    (gate : Machine → GateOf) (devices : PerMachine D1 D2 D3 D4 D5 D6) (opening : ModelState) (tries limit : ℕ) (r : WiredRecord D1 D2 D3 D4 D5 D6) (start : IsStartState opening)
+    (gate : Machine → GateOf) (devices : SixOf D1 D2 D3 D4 D5 D6) (opening : ModelState) (tries limit : ℕ) (r : WiredRecord D1 D2 D3 D4 D5 D6) (start : IsStartState opening)
     (k : TellsWired c gives shows1 sets1 shows2 sets2 shows3 sets3 shows4 sets4 shows5 sets5 shows6 sets6 devices opening tries limit gate r) where
   -- the six are a team
   abbrev team : WiredTeam c gives shows1 sets1 shows2 sets2 shows3 sets3 shows4 sets4 shows5 sets5 shows6 sets6 tries limit gate

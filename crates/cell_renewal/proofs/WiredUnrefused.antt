@@ -1,7 +1,7 @@
 -- A worker with devices of your own stands at a step of its program after each turn, so none of six ends as refused.
 use Rattle.cell_renewal.proofs.Names.{◌≡◌, ℕ, ◌+◌, false, inl, inr, Option, None, Result, Ok, Err, refl, sym, ap, ◌∙◌, subst, Machine, Feed, Table, Robot, Press, Deposit, Crane, Watch, same_machine, Call, Reply, LineFault, ModelState, PassView, PassAsks, IsSamePass, Steps, Turned, Turns, answered, CtlFault, Told, turn_either, CellScales, CellGauges, ProgressOf, steps_by, Stands, Sees, sees_of, stands_on, stands_later, GateOf, ComesBy, all_along, asks_same, unchanged_pass, ended, WiredMoment}
 use Rattle.cell_renewal.proofs.Names.{TakesWiredTurn, TakesCycle, Shows, Sets, WiredTeam, NoneEndsRefused, NoWiredWorkerIsRefused}
-use Rattle.cell_plant.proofs.Standing.{none_refused_by}
+use Rattle.cell_plant.proofs.lemmas.Standing.{none_refused_by}
 
 -- what a pass sees of its call
 seen_after : (tries : ℕ) (m : Machine) (v w : PassView) (c : Call) (r : Result Reply LineFault) → v.machine ≡ m → PassAsks tries v c r w → Sees m c r v.seen w.seen

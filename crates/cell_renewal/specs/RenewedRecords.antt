@@ -1,10 +1,10 @@
 -- What holds of six workers that go on over one interlock after another, each by the program of its machine.
 use Rattle.std.specs.Prelude.{◌≡◌, ◌≢◌, ◌≤◌, ◌<◌, ◌+◌, ◌*◌, ℕ, List, [], length, Option, None, Result}
 use Rattle.cell_rules.specs.Types.{Machine, Feed, Table, Robot, Press, Deposit, Crane, Watch}
-use Rattle.cell_calib.specs.declared.gauge.Gauge.{Ghosts}
-use Rattle.cell_calib.specs.declared.sense.CraneSense.{CraneSense}
-use Rattle.cell_calib.specs.declared.sense.RobotSense.{RobotSense}
-use Rattle.cell_calib.specs.declared.sense.TableSense.{TableSense}
+use Rattle.cell_sensors.specs.declared.gauge.Gauge.{Ghosts}
+use Rattle.cell_sensors.specs.declared.sense.CraneSense.{CraneSense}
+use Rattle.cell_sensors.specs.declared.sense.RobotSense.{RobotSense}
+use Rattle.cell_sensors.specs.declared.sense.TableSense.{TableSense}
 use Rattle.cell_devices.specs.declared.act.CraneAct.{CraneAct}
 use Rattle.cell_devices.specs.declared.act.RobotAct.{RobotAct}
 use Rattle.cell_devices.specs.declared.act.TableAct.{TableAct}
@@ -14,28 +14,28 @@ use Rattle.cell_control.specs.Names.{Steps}
 use Rattle.cell_control.specs.declared.told.Told.{Told}
 use Rattle.cell_notes.specs.declared.status.Status.{Status}
 use Rattle.cell_notes.specs.declared.status.Status.TheVariants.{Refused, Worn}
-use Rattle.cell_haul.specs.Names.{crane_steps, deposit_steps, feed_steps}
-use Rattle.cell_haul.specs.declared.crane.CraneProgram.{CraneProgram}
-use Rattle.cell_haul.specs.declared.crane.CraneProgress.{CraneProgress}
-use Rattle.cell_haul.specs.declared.crane.CraneReading.{CraneReading}
-use Rattle.cell_haul.specs.declared.deposit.DepositProgram.{DepositProgram}
-use Rattle.cell_haul.specs.declared.deposit.DepositProgress.{DepositProgress}
-use Rattle.cell_haul.specs.declared.feed.FeedProgram.{FeedProgram}
-use Rattle.cell_haul.specs.declared.feed.FeedProgress.{FeedProgress}
+use Rattle.cell_belts_crane.specs.Names.{crane_steps, deposit_steps, feed_steps}
+use Rattle.cell_belts_crane.specs.declared.crane.CraneProgram.{CraneProgram}
+use Rattle.cell_belts_crane.specs.declared.crane.CraneProgress.{CraneProgress}
+use Rattle.cell_belts_crane.specs.declared.crane.CraneReading.{CraneReading}
+use Rattle.cell_belts_crane.specs.declared.deposit.DepositProgram.{DepositProgram}
+use Rattle.cell_belts_crane.specs.declared.deposit.DepositProgress.{DepositProgress}
+use Rattle.cell_belts_crane.specs.declared.feed.FeedProgram.{FeedProgram}
+use Rattle.cell_belts_crane.specs.declared.feed.FeedProgress.{FeedProgress}
 use Rattle.cell_robot.specs.Names.{gauges_of, robot_scales, robot_steps}
 use Rattle.cell_robot.specs.declared.robot.RobotProgram.{RobotProgram}
 use Rattle.cell_robot.specs.declared.robot.RobotProgress.{RobotProgress}
 use Rattle.cell_robot.specs.declared.robot.RobotReading.{RobotReading}
-use Rattle.cell_stations.specs.Names.{press_steps, table_steps}
-use Rattle.cell_stations.specs.declared.press.PressProgram.{PressProgram}
-use Rattle.cell_stations.specs.declared.press.PressProgress.{PressProgress}
-use Rattle.cell_stations.specs.declared.table.TableProgram.{TableProgram}
-use Rattle.cell_stations.specs.declared.table.TableProgress.{TableProgress}
-use Rattle.cell_stations.specs.declared.table.TableReading.{TableReading}
+use Rattle.cell_table_press.specs.Names.{press_steps, table_steps}
+use Rattle.cell_table_press.specs.declared.press.PressProgram.{PressProgram}
+use Rattle.cell_table_press.specs.declared.press.PressProgress.{PressProgress}
+use Rattle.cell_table_press.specs.declared.table.TableProgram.{TableProgram}
+use Rattle.cell_table_press.specs.declared.table.TableProgress.{TableProgress}
+use Rattle.cell_table_press.specs.declared.table.TableReading.{TableReading}
 use Rattle.cell_threads.specs.Promises.{GivesOf}
 use Rattle.cell_threads.specs.Watching.{WatchesOf}
 use Rattle.cell_threads.specs.Workers.{GateOf}
-use Rattle.cell_threads.specs.declared.per_machine.PerMachine.{PerMachine}
+use Rattle.cell_threads.specs.declared.six_of.SixOf.{SixOf}
 use Rattle.cell_renewal.specs.Going.{GoesOnFrom, GoingLeft, GoingOn}
 use Rattle.cell_renewal.specs.Renewing.{GoesOnBy, RunsRenewed}
 use Rattle.cell_renewal.specs.WiredTeams.{Shows, Sets}
@@ -59,7 +59,7 @@ going_on left opening now = GoesOnFrom left.machine left.devices opening now
 -- six of them, by the six programs, and what they left; those of table, robot and crane have types of their own
 abbrev pub GoingSix : Type 0 → Type 0 → Type 0 → Type 0 → Type 0 → Type 0 → Type 0 → Type 0 → Type 0 → Type 0
 GoingSix T R C D1 D2 D3 D4 D5 D6 =
-    PerMachine (GoingOn FeedProgram FeedProgress D1) (GoingOn T TableProgress D2) (GoingOn R RobotProgress D3)
+    SixOf (GoingOn FeedProgram FeedProgress D1) (GoingOn T TableProgress D2) (GoingOn R RobotProgress D3)
     (GoingOn PressProgram PressProgress D4) (GoingOn DepositProgram DepositProgress D5) (GoingOn C CraneProgress D6)
 
 abbrev pub SixLeft : Type 0 → Type 0 → Type 0 → Type 0 → Type 0 → Type 0 → Type 0 → Type 0 → Type 0 → Type 0 → Type 0

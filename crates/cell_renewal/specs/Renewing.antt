@@ -9,7 +9,7 @@ use Rattle.cell_threads.specs.Workers.{GateOf, ComesBy}
 use Rattle.cell_threads.specs.Promises.{GivesOf}
 use Rattle.cell_threads.specs.Six.{AreReadyAt}
 use Rattle.cell_threads.specs.Watching.{TellsWatched, WatchesOf}
-use Rattle.cell_threads.specs.declared.per_machine.PerMachine.{PerMachine}
+use Rattle.cell_threads.specs.declared.six_of.SixOf.{SixOf}
 use Rattle.cell_threads.specs.declared.six.SixRecord.{SixRecord}
 use Rattle.cell_renewal.specs.declared.rounds.Round.{Round}
 use Rattle.cell_renewal.specs.declared.rounds.Leave.{Leave}
@@ -40,7 +40,7 @@ module _ {A B C D E F : Type 0} where
       (of5 : E → Machine) (of6 : F → Machine)
       (left1 : A → ModelState) (left2 : B → ModelState) (left3 : C → ModelState) (left4 : D → ModelState)
       (left5 : E → ModelState) (left6 : F → ModelState)
-      (each : PerMachine A B C D E F) (opening : ModelState) : Type 0 where
+      (each : SixOf A B C D E F) (opening : ModelState) : Type 0 where
     pub feed : MayGoOn Feed (of1 each.feed) (left1 each.feed) opening
     pub table : MayGoOn Table (of2 each.table) (left2 each.table) opening
     pub robot : MayGoOn Robot (of3 each.robot) (left3 each.robot) opening
@@ -50,7 +50,7 @@ module _ {A B C D E F : Type 0} where
 
   -- each worker ended fine
   pub record AreAllFine (how1 : A → Status) (how2 : B → Status) (how3 : C → Status) (how4 : D → Status)
-      (how5 : E → Status) (how6 : F → Status) (each : PerMachine A B C D E F) : Type 0 where
+      (how5 : E → Status) (how6 : F → Status) (each : SixOf A B C D E F) : Type 0 where
     pub feed : how1 each.feed ≡ Fine
     pub table : how2 each.table ≡ Fine
     pub robot : how3 each.robot ≡ Fine
@@ -61,7 +61,7 @@ module _ {A B C D E F : Type 0} where
   -- each goes on by a new worker
   pub record GoAllOn {W1 W2 W3 W4 W5 W6 : Type 0} (goes1 : GoesOnBy A W1) (goes2 : GoesOnBy B W2)
       (goes3 : GoesOnBy C W3) (goes4 : GoesOnBy D W4) (goes5 : GoesOnBy E W5) (goes6 : GoesOnBy F W6)
-      (each : PerMachine A B C D E F) (opening : ModelState) (workers : PerMachine W1 W2 W3 W4 W5 W6) : Type 0 where
+      (each : SixOf A B C D E F) (opening : ModelState) (workers : SixOf W1 W2 W3 W4 W5 W6) : Type 0 where
     pub feed : goes1 each.feed opening workers.feed
     pub table : goes2 each.table opening workers.table
     pub robot : goes3 each.robot opening workers.robot
@@ -78,7 +78,7 @@ module _ {W1 W2 W3 W4 W5 W6 A B C D E F H : Type 0} (ready1 : W1 → PassView �
     (how6 : F → Status)
     (goes1 : GoesOnBy A W1) (goes2 : GoesOnBy B W2) (goes3 : GoesOnBy C W3) (goes4 : GoesOnBy D W4)
     (goes5 : GoesOnBy E W5) (goes6 : GoesOnBy F W6) (mark : ℕ) where
-  pub record GoOnAfter (left : Leave A B C D E F H) (workers : PerMachine W1 W2 W3 W4 W5 W6) (watch : H)
+  pub record GoOnAfter (left : Leave A B C D E F H) (workers : SixOf W1 W2 W3 W4 W5 W6) (watch : H)
       (opening : ModelState) : Type 0 where
     pub fine : AreAllFine how1 how2 how3 how4 how5 how6 left.outputs
     pub opens : OpensAfter mark left.end opening
@@ -92,7 +92,7 @@ module _ {W1 W2 W3 W4 W5 W6 A B C D E F H : Type 0} (ready1 : W1 → PassView �
 
 -- between two rounds: the workers, the watch, the state that the next interlock opens with, and the caller's sink
 pub record RoundMoment (W1 W2 W3 W4 W5 W6 H S : Type 0) : Type 0 where
-  pub workers : PerMachine W1 W2 W3 W4 W5 W6
+  pub workers : SixOf W1 W2 W3 W4 W5 W6
   pub watch : H
   pub opening : ModelState
   pub sink : S

@@ -1,8 +1,8 @@
 -- What holds of a worker with devices of your own: the statements.
 use Rattle.std.specs.Prelude.{◌≡◌, ◌≢◌, ◌+◌, ◌<◌, ◌≤◌, ℕ, true, false, Option, Some, None, IsSomeAnd}
 use Rattle.cell_rules.specs.Types.{Press, Z3}
-use Rattle.cell_calib.specs.declared.sense.PressSense.{PressSense}
-use Rattle.cell_calib.specs.declared.sense.SensorFault.TheVariants.{Clash}
+use Rattle.cell_sensors.specs.declared.sense.PressSense.{PressSense}
+use Rattle.cell_sensors.specs.declared.sense.SensorFault.TheVariants.{Clash}
 use Rattle.cell_rules.specs.History.{Holds, PressMoves}
 use Rattle.cell_interlock.specs.Views.{PassView}
 use Rattle.cell_control.specs.Names.{Steps}
@@ -11,8 +11,8 @@ use Rattle.cell_control.specs.declared.fault.CtlFault.TheVariants.{Sensor}
 use Rattle.cell_control.specs.declared.told.Told.{Told}
 use Rattle.cell_devices.specs.declared.act.PressAct.{PressAct}
 use Rattle.cell_devices.specs.declared.motor.Motor.TheVariants.{Off}
-use Rattle.cell_stations.specs.Names.{press_steps}
-use Rattle.cell_stations.specs.declared.press.PressProgress.{PressProgress}
+use Rattle.cell_table_press.specs.Names.{press_steps}
+use Rattle.cell_table_press.specs.declared.press.PressProgress.{PressProgress}
 use Rattle.cell_notes.specs.declared.status.Status.{Status}
 use Rattle.cell_notes.specs.declared.status.Status.TheVariants.{Fine, GateLimit}
 use Rattle.cell_threads.specs.Workers.{GateOf}

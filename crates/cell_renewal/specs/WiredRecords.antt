@@ -1,7 +1,7 @@
 -- What a record says of six workers with devices of your own, each by the program of its machine.
 use Rattle.std.specs.Prelude.{◌≡◌, ◌≢◌, ℕ, List, [], ◌∷◌, Option, None, Some}
 use Rattle.cell_rules.specs.Types.{Machine, Feed, Table, Robot, Press, Deposit, Crane, Event, journal_of}
-use Rattle.cell_calib.specs.declared.gauge.Gauge.{Ghosts}
+use Rattle.cell_sensors.specs.declared.gauge.Gauge.{Ghosts}
 use Rattle.cell_rules.specs.Names.{ModelState, IsStartState, after, noted, Waits, LawfulThroughout, IsAudited}
 use Rattle.cell_interlock.specs.Views.{PassView, InterlockView}
 use Rattle.cell_interlock.specs.Fresh.{fresh_pass}
@@ -11,21 +11,21 @@ use Rattle.cell_notes.specs.declared.run_record.RunRecord.{RunRecord}
 use Rattle.cell_notes.specs.declared.status.Status.{Status}
 use Rattle.cell_notes.specs.declared.status.Status.TheVariants.{Fine, Refused}
 use Rattle.cell_parts.specs.Axes.{CellScales}
-use Rattle.cell_haul.specs.Names.{crane_steps, deposit_steps, feed_steps}
-use Rattle.cell_haul.specs.declared.crane.CraneProgram.{CraneProgram}
-use Rattle.cell_haul.specs.declared.deposit.DepositProgram.{DepositProgram}
-use Rattle.cell_haul.specs.declared.feed.FeedProgram.{FeedProgram}
+use Rattle.cell_belts_crane.specs.Names.{crane_steps, deposit_steps, feed_steps}
+use Rattle.cell_belts_crane.specs.declared.crane.CraneProgram.{CraneProgram}
+use Rattle.cell_belts_crane.specs.declared.deposit.DepositProgram.{DepositProgram}
+use Rattle.cell_belts_crane.specs.declared.feed.FeedProgram.{FeedProgram}
 use Rattle.cell_robot.specs.Names.{gauges_of, robot_scales, robot_steps}
 use Rattle.cell_robot.specs.declared.robot.RobotProgram.{RobotProgram}
-use Rattle.cell_stations.specs.Names.{press_steps, table_steps}
-use Rattle.cell_stations.specs.declared.press.PressProgram.{PressProgram}
-use Rattle.cell_stations.specs.declared.table.TableProgram.{TableProgram}
+use Rattle.cell_table_press.specs.Names.{press_steps, table_steps}
+use Rattle.cell_table_press.specs.declared.press.PressProgram.{PressProgram}
+use Rattle.cell_table_press.specs.declared.table.TableProgram.{TableProgram}
 use Rattle.cell_plant.specs.Names.{CellGauges, steps_by, NoneRefused}
 use Rattle.cell_threads.specs.Promises.{GivesOf}
 use Rattle.cell_threads.specs.Results.{SixResults, outputs_in, seen_in}
 use Rattle.cell_threads.specs.Six.{TellsSix}
 use Rattle.cell_threads.specs.Workers.{GateOf}
-use Rattle.cell_threads.specs.declared.per_machine.PerMachine.{PerMachine}
+use Rattle.cell_threads.specs.declared.six_of.SixOf.{SixOf}
 use Rattle.cell_threads.specs.declared.six.SixRecord.{SixRecord}
 use Rattle.cell_renewal.specs.WiredTeams.{Shows, Sets}
 use Rattle.cell_renewal.specs.WiredWorkers.{IsWiredResult, wired_moment}
@@ -71,7 +71,7 @@ module _ {D1 D2 D3 D4 D5 D6 : Type 0} (c : CellScales) (gives : CellGauges)
   -- A record is of six workers, one for each machine, over one interlock. It gives the turns of each with its devices,
   -- from its program's start. There is one history, lawful throughout: each has seen a prefix of it, with all events of
   -- its machine; the journals are those of this history, and the end is the state after it.
-  pub record TellsWired (devices : PerMachine D1 D2 D3 D4 D5 D6) (opening : ModelState) (tries limit : ℕ)
+  pub record TellsWired (devices : SixOf D1 D2 D3 D4 D5 D6) (opening : ModelState) (tries limit : ℕ)
       (gate : Machine → GateOf) (r : WiredRecord D1 D2 D3 D4 D5 D6) : Type 0 where
     pub interlock : InterlockView
     pub opened : interlock.opening ≡ opening
@@ -101,21 +101,21 @@ module _ {D1 D2 D3 D4 D5 D6 : Type 0} (c : CellScales) (gives : CellGauges)
   -- so none of the six ended as refused
   abbrev pub NoneRecordedRefused : (Machine → GateOf) → Type 0
   NoneRecordedRefused gate =
-      (devices : PerMachine D1 D2 D3 D4 D5 D6) (opening : ModelState) (tries limit : ℕ)
+      (devices : SixOf D1 D2 D3 D4 D5 D6) (opening : ModelState) (tries limit : ℕ)
       (r : WiredRecord D1 D2 D3 D4 D5 D6) → IsStartState opening
       → TellsWired devices opening tries limit gate r → NoneIsRefused r
 
 -- six workers with devices, by the six programs; those of table, robot and crane have types of their own
 abbrev pub WiredSix : Type 0 → Type 0 → Type 0 → Type 0 → Type 0 → Type 0 → Type 0 → Type 0 → Type 0 → Type 0
 WiredSix T R C D1 D2 D3 D4 D5 D6 =
-    PerMachine (WiredWorker FeedProgram D1) (WiredWorker T D2) (WiredWorker R D3)
+    SixOf (WiredWorker FeedProgram D1) (WiredWorker T D2) (WiredWorker R D3)
     (WiredWorker PressProgram D4) (WiredWorker DepositProgram D5) (WiredWorker C D6)
 
 module _ {F1 F2 F3 F4 F5 : Type 0} {g1 : Ghosts F1} {g2 : Ghosts F2} {g3 : Ghosts F3} {g4 : Ghosts F4}
     {g5 : Ghosts F5} {D1 D2 D3 D4 D5 D6 : Type 0} where
   -- their devices, the points of their calibrations, and what their gauges may give
   abbrev pub devices_of : WiredSix (TableProgram F4 g4) (RobotProgram F1 F2 F3 g1 g2 g3) (CraneProgram F5 g5) D1 D2
-      D3 D4 D5 D6 → PerMachine D1 D2 D3 D4 D5 D6
+      D3 D4 D5 D6 → SixOf D1 D2 D3 D4 D5 D6
   devices_of w = record {
     feed = w.feed.devices;
     table = w.table.devices;

@@ -12,7 +12,7 @@ use crate::rounds::{Leave, Round, RoundSink};
 use cell_notes::Status;
 use cell_rules::State;
 use cell_rules::laws::states_are_sound;
-use cell_threads::{Gate, PerMachine, RunFault, SixRecord, Watching, run_watched};
+use cell_threads::{Gate, RunFault, SixOf, SixRecord, Watching, run_watched};
 use std::alloc::Global;
 use std::sync::Wait;
 use std::thread::Threads;
@@ -66,7 +66,7 @@ impl<E> From<RunFault> for RenewalFault<E> {
 pub fn run_renewed<R, W1, W2, W3, W4, W5, W6, H, G, S>(
     rt: &R,
     alloc: Global,
-    workers: PerMachine<W1, W2, W3, W4, W5, W6>,
+    workers: SixOf<W1, W2, W3, W4, W5, W6>,
     watch: H,
     opening: State,
     renewal: Renewal,
@@ -127,7 +127,7 @@ where
 #[derive(Drop)]
 enum RoundEnd<W1, W2, W3, W4, W5, W6, A, B, C, D, E, F, H> {
     // The workers and the watch of the next round, and the state that its interlock opens with.
-    GoesOn(PerMachine<W1, W2, W3, W4, W5, W6>, H, State),
+    GoesOn(SixOf<W1, W2, W3, W4, W5, W6>, H, State),
     // Nothing: this is what the six and the watch left.
     Ends(Leave<A, B, C, D, E, F, H>),
 }
@@ -136,7 +136,7 @@ enum RoundEnd<W1, W2, W3, W4, W5, W6, A, B, C, D, E, F, H> {
 fn take_round<R, W1, W2, W3, W4, W5, W6, H, G, S>(
     rt: &R,
     alloc: Global,
-    workers: PerMachine<W1, W2, W3, W4, W5, W6>,
+    workers: SixOf<W1, W2, W3, W4, W5, W6>,
     watch: H,
     opening: State,
     renewal: Renewal,
@@ -199,7 +199,7 @@ where
 fn run_round<R, W1, W2, W3, W4, W5, W6, H, G, S>(
     rt: &R,
     alloc: Global,
-    workers: PerMachine<W1, W2, W3, W4, W5, W6>,
+    workers: SixOf<W1, W2, W3, W4, W5, W6>,
     watch: H,
     opening: State,
     renewal: Renewal,
@@ -334,7 +334,7 @@ fn opening_after(end: &State, mark: u32) -> State
 
 // Whether each of the six ended fine.
 fn are_all_fine<W1, W2, W3, W4, W5, W6>(
-    each: &PerMachine<W1::Output, W2::Output, W3::Output, W4::Output, W5::Output, W6::Output>,
+    each: &SixOf<W1::Output, W2::Output, W3::Output, W4::Output, W5::Output, W6::Output>,
 ) -> bool
 where
     W1: RenewedWorker,
@@ -362,9 +362,9 @@ fn is_fine<W: RenewedWorker>(output: &W::Output) -> bool
 
 // The six workers that go on.
 fn all_go_on<W1, W2, W3, W4, W5, W6>(
-    each: PerMachine<W1::Output, W2::Output, W3::Output, W4::Output, W5::Output, W6::Output>,
+    each: SixOf<W1::Output, W2::Output, W3::Output, W4::Output, W5::Output, W6::Output>,
     opening: &State,
-) -> PerMachine<W1, W2, W3, W4, W5, W6>
+) -> SixOf<W1, W2, W3, W4, W5, W6>
 where
     W1: RenewedWorker,
     W2: RenewedWorker,
@@ -385,7 +385,7 @@ where
     let press = W4::go_on(each.press, opening);
     let deposit = W5::go_on(each.deposit, opening);
     let crane = W6::go_on(each.crane, opening);
-    PerMachine {
+    SixOf {
         feed,
         table,
         robot,

@@ -5,18 +5,20 @@ ghost use Rattle.cell_renewal.specs.RenewedRecords.{NoneIsRefusedThrough, NoneIs
 use crate::going_worker::GoingWorker;
 use crate::rounds::RoundSink;
 use crate::wired_worker::Devices;
-use cell_calib::{CraneSense, DepositSense, FeedSense, Gauge, PressSense, RobotSense, TableSense};
+use cell_belts_crane::{CraneProgram, DepositProgram, FeedProgram};
 use cell_devices::{CraneAct, DepositAct, FeedAct, PressAct, RobotAct, TableAct};
-use cell_haul::{CraneProgram, DepositProgram, FeedProgram};
 use cell_robot::RobotProgram;
-use cell_stations::{PressProgram, TableProgram};
-use cell_threads::{Gate, PerMachine, Watching};
+use cell_sensors::{
+    CraneSense, DepositSense, FeedSense, Gauge, PressSense, RobotSense, TableSense,
+};
+use cell_table_press::{PressProgram, TableProgram};
+use cell_threads::{Gate, SixOf, Watching};
 
 /// What `run_renewed` says of six `GoingWorker`s by the six programs, whatever else it says. From a
 /// start none ends as refused, in any round. None ends as worn, if the mark leaves room: for one
 /// change in each of the six machines' turns of a round, and for the calls of the watch.
 pub fn renewed_records_tell<F1, F2, F3, F4, F5, D1, D2, D3, D4, D5, D6, H, G, S>(
-    _workers: &PerMachine<
+    _workers: &SixOf<
         GoingWorker<FeedProgram, D1>,
         GoingWorker<TableProgram<F4>, D2>,
         GoingWorker<RobotProgram<F1, F2, F3>, D3>,

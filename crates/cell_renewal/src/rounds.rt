@@ -2,7 +2,7 @@
 ghost use Rattle.std.specs.Prelude.{◌≡◌};
 
 use cell_rules::State;
-use cell_threads::PerMachine;
+use cell_threads::SixOf;
 use cell_types::Journals;
 
 /// What six workers and their watch noted over one interlock.
@@ -22,7 +22,7 @@ pub struct Leave<A, B, C, D, E, F, H> {
     /// The state that the interlock closed with.
     pub end: State,
     /// What each worker left.
-    pub outputs: PerMachine<A, B, C, D, E, F>,
+    pub outputs: SixOf<A, B, C, D, E, F>,
     /// The watch.
     pub watch: H,
 }

@@ -8,7 +8,7 @@ use Rattle.std.specs.Io.KnownBytes.{Appends}
 use Rattle.cell_rules.specs.Types.{Event, answer_text}
 use Rattle.cell_rules.specs.Names.{ModelState, next, after}
 use Rattle.cell_rules.specs.FirstVersion as rules
-use Rattle.cell_rules.proofs.FirstVersion as stays
+use Rattle.cell_rules.proofs.lemmas.FirstVersion as stays
 use Rattle.csv_rows.specs.Rows.{Row}
 use Rattle.csv_rows.specs.ScriptEnd.{end_text, max_records}
 use Rattle.csv_rows.specs.declared.script_end.ScriptFault.{ScriptFault}
@@ -23,7 +23,7 @@ use Rattle.cell_replay.specs.declared.request.Request.{Request}
 use Rattle.cell_replay.specs.declared.version.Version.TheVariants.{First, Second}
 use Rattle.cell_replay.specs.declared.script_start.Start.{Start}
 use Rattle.cell_replay.specs.declared.fault.ReplayFault.{ReplayFault}
-use Rattle.cell_replay.proofs.Requests.{request_of-written}
+use Rattle.cell_replay.proofs.lemmas.Requests.{request_of-written}
 use Rattle.cell_replay.proofs.Scripts.{IsState0, start_fields-record0}
 
 -- The requests.

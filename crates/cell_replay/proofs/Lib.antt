@@ -1,10 +1,10 @@
-pub mod LimitedReads
-pub mod Lines
-pub mod Requests
-pub mod Starts
-pub mod Scripts
-pub mod FirstScripts
-pub mod ScriptRows
-pub mod RowsLeft
-pub mod Writings
-pub mod BufferedWrites
+pub mod lemmas
+mod LimitedReads
+mod Lines
+mod Starts
+mod Scripts
+mod FirstScripts
+mod ScriptRows
+mod RowsLeft
+mod Writings
+mod BufferedWrites

@@ -6,7 +6,7 @@ use Rattle.std.proofs.lemmas.Option.{same_Some}
 use Rattle.std.proofs.lemmas.Bool.{le-ltb}
 use Rattle.std.proofs.lemmas.Bool.Decides.{nat_tests}
 use Rattle.std.proofs.lemmas.List.{take-append-drop}
-use Rattle.cell_text.specs.Input.{TakesAtMost}
+use Rattle.text_io.specs.Input.{TakesAtMost}
 use Rattle.std.specs.Io.KnownBytes.{Consumes, IsAtEnd}
 use Rattle.cell_replay.specs.Limited.{IsNoted, IsTaken, bytes_left}
 use Rattle.cell_replay.specs.Script.{byte_limit}

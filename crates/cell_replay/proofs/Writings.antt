@@ -25,8 +25,8 @@ use Rattle.cell_replay.specs.Script.{end_of, events_from, is_cut_of, script_line
 use Rattle.cell_replay.specs.declared.fault.ReplayFault.{ReplayFault}
 use Rattle.cell_replay.specs.declared.fault.ReplayFault.TheVariants.{Read, Write, Memory}
 use Rattle.cell_replay.specs.Faults.{Leaves, WrotePrefix, WroteLines, replay_fault_of}
-use Rattle.cell_text.specs.declared.input.InputFault.{InputFault}
-use Rattle.cell_text.specs.declared.input.InputFault.TheVariants as input
+use Rattle.text_io.specs.declared.input.InputFault.{InputFault}
+use Rattle.text_io.specs.declared.input.InputFault.TheVariants as input
 use Rattle.cell_replay.specs.Writing.{Writes, WritesEnd, WritesLine, WritesNext, WritesScript, lines_after, lines_left, outcome_left}
 use Rattle.cell_replay.proofs.Lines.{event_lines-after, length-history_of, lines_after-more, lines_after-none, requests_in-bad, requests_in-more, requests_in-none}
 

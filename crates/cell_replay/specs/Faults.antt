@@ -2,10 +2,10 @@
 use Rattle.std.specs.Prelude.{ℕ, List, take, Option}
 use Rattle.std.specs.List.{concat}
 use Rattle.std.specs.Io.KnownBytes.{Appends}
-pub use Rattle.cell_text.specs.Output.{WrotePrefix}
+pub use Rattle.text_io.specs.Output.{WrotePrefix}
 use Rattle.cell_replay.specs.Script.{script_lines, script_text}
-use Rattle.cell_text.specs.declared.input.InputFault.{InputFault}
-use Rattle.cell_text.specs.declared.input.InputFault.TheVariants as input
+use Rattle.text_io.specs.declared.input.InputFault.{InputFault}
+use Rattle.text_io.specs.declared.input.InputFault.TheVariants as input
 use Rattle.cell_replay.specs.declared.fault.ReplayFault.{ReplayFault}
 use Rattle.cell_replay.specs.declared.fault.ReplayFault.TheVariants.{Read, Write, Memory}
 

@@ -19,11 +19,11 @@ use crate::request::read_request;
 use crate::script_start::{Start, read_start};
 use crate::version::Version;
 use cell_rules::{State, apply};
-use cell_text::{WriteFault, flush, write_bytes};
 use cell_types::Answer;
 use csv_rows::{MAX_RECORDS, Outcome, ScriptFault};
 use std::alloc::{AllocError, Global};
 use std::io::Write;
+use text_io::{WriteFault, flush, write_bytes};
 
 /// Writes the lines of the records that are left, the first of which is record 0. Returns how the
 /// script ends.

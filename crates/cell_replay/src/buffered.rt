@@ -5,10 +5,10 @@ ghost use Rattle.std.specs.Io.KnownBytes.{Keeps};
 ghost use Rattle.cell_replay.specs.Writing.{IsGrown};
 
 use crate::lent::{LentWriter, Origin};
-use cell_text::{Block, WriteFault};
 use std::io;
 use std::io::{ErrorKind, Write};
 use std::marker::PhantomData;
+use text_io::{Block, WriteFault};
 
 /// Gathers up to 8,192 bytes before it writes them. A flush writes them at once.
 #[derive(Drop)]

@@ -4,8 +4,8 @@ ghost use Rattle.std.specs.Prelude.{◌≡◌};
 ghost use Rattle.cell_replay.specs.Faults.{replay_fault_of};
 ghost use Rattle.cell_replay.specs.declared.fault.ReplayFault.TheVariants.{Memory};
 
-use cell_text::InputFault;
 use std::alloc::AllocError;
+use text_io::InputFault;
 
 /// Why a replay failed.
 #[derive(Clone, Copy, PartialEq, Eq, Debug)]

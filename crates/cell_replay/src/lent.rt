@@ -4,10 +4,10 @@ ghost use Rattle.std.specs.Prelude.{◌≡◌, ◌≤◌, ℕ, List, length, tak
 ghost use Rattle.std.specs.Io.{ReadsAtMost};
 ghost use Rattle.std.specs.Io.KnownBytes.{Appends, Keeps, ReadConsumes};
 
-use cell_text::{WriteFault, flush, write_counted};
 use std::io;
 use std::io::{ErrorKind, Read, Write};
 use std::marker::Brand;
+use text_io::{WriteFault, flush, write_counted};
 
 /// Identifies the reader and the writer of a replay: which loans they are, the bytes that the
 /// reader had at first, and those that the writer had.

@@ -3,7 +3,7 @@
 ghost use Rattle.std.specs.Prelude.{◌≡◌, ◌<◌, ◌≤◌, length, None, OnOk};
 ghost use Rattle.std.specs.Io.{ReadsAtMost};
 ghost use Rattle.std.specs.Io.KnownBytes.{IsAtEnd, Keeps, ReadConsumes};
-ghost use Rattle.cell_text.specs.Input.{TakesAtMost};
+ghost use Rattle.text_io.specs.Input.{TakesAtMost};
 ghost use Rattle.cell_replay.specs.Script.{byte_limit, max_bytes_read};
 ghost use Rattle.cell_replay.specs.Limited.{IsNoted, IsTaken};
 

@@ -9,11 +9,11 @@ ghost use Rattle.cell_replay.specs.Script.{is_cut_of, used};
 
 use crate::lent::{LentReader, Origin};
 use crate::limited::LimitedReader;
-use cell_text::InputFault;
 use csv::{ByteRecord, Reader, ReaderBuilder};
 use csv_rows::read_row;
 use std::alloc::Global;
 use std::mem;
+use text_io::InputFault;
 
 /// The records of a script in order, without the last one of a script that is cut. One record is
 /// held back until it is known whether it is the last one.

@@ -3,7 +3,7 @@
 ghost use Rattle.std.specs.Prelude.{◌≡◌, ℕ, List, None, Some, IfOk, IfErr, IfSome, OnOk};
 ghost use Rattle.std.specs.Io.KnownBytes.{Appends};
 ghost use Rattle.cell_replay.specs.Faults.{Leaves};
-ghost use Rattle.cell_text.specs.Input.{TakesAtMost};
+ghost use Rattle.text_io.specs.Input.{TakesAtMost};
 ghost use Rattle.cell_replay.specs.FirstVersion as first;
 ghost use Rattle.cell_replay.specs.FirstVersion.{IsOfFirstVersion};
 ghost use Rattle.cell_replay.specs.Held.{contents_of, note_of, output_of, taken_by};
@@ -17,11 +17,11 @@ use crate::fault::ReplayFault;
 use crate::lent::{LentReader, LentWriter, Origin};
 use crate::limited::LimitedReader;
 use crate::records::Records;
-use cell_text::write_bytes;
 use csv_rows::{Outcome, push_end};
 use std::alloc::Global;
 use std::io::{Read, Write};
 use std::marker::Brand;
+use text_io::write_bytes;
 
 /// Reads a script from the reader, makes its calls in order, and writes a line for each. If the
 /// script is refused, a last line says why. The script is read record by record: a line is written

@@ -17,7 +17,7 @@ pub struct Request {
 }
 
 /// The request in a record, or `None` if the record has none. It may be of any version.
-#[tactic(auto, using(crate::proofs::Requests::unread_rows))]
+#[tactic(auto, using(crate::proofs::lemmas::Requests::unread_rows))]
 fn read_any_request(row: &ByteRecord) -> Option<Request>
     ensures { (request : Request)
         → (result ≡ Some request) ↔ (fields_of row.now ≡ request_fields request) }

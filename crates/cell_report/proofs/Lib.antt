@@ -1,24 +1,24 @@
 mod Names
-pub mod Members
-pub mod Own
-pub mod Rising
-pub mod Turns
-pub mod Placed
-pub mod States
-pub mod Retraces
-pub mod Traced
-pub mod Classes
-pub mod Puts
-pub mod NextLeast
-pub mod Times
-pub mod Checks
-pub mod Runs
-pub mod Points
-pub mod Sound
-pub mod Complete
-pub mod Counts
-pub mod Refusals
-pub mod Reports
-pub mod ReportRows
-pub mod OneFault
-pub mod AuditRows
+mod Members
+mod Own
+mod Rising
+mod Turns
+mod Placed
+mod States
+mod Retraces
+mod Traced
+mod Classes
+mod Puts
+mod NextLeast
+mod Times
+mod Checks
+mod Runs
+mod Points
+mod Sound
+mod Complete
+mod Counts
+mod Refusals
+mod Reports
+mod ReportRows
+mod OneFault
+mod AuditRows

@@ -1,6 +1,6 @@
 -- Entries that each fit are a legal history, and each machine noted its own.
 use Rattle.cell_report.proofs.Names.{◌≡◌, Option, ℕ, Bool, true, false, cond, inl, inr, List, [], ◌∷◌, map, filter, refl, sym, ap, ◌∙◌, subst, Machine, Event, Entry, same_machine, ModelState, next, IsLegal, noted, entry_of, event_by, IsAudited, EndsIn, Noted, noted_from, all_noted, event_of, greatest, key_at, InOrder, AllFit, HasStamps, Retraced, Retraces, In, in_permutation, from_filter}
-use Rattle.cell_rules.proofs.Notes.{events_of_noted}
+use Rattle.cell_rules.proofs.lemmas.Notes.{events_of_noted}
 use Rattle.cell_report.proofs.Own.{is_of, entry_in, entries_of, own_entries}
 use Rattle.cell_report.proofs.Rising.{Rises, rises_from}
 use Rattle.cell_report.proofs.Turns.{rises_in_turn}

@@ -16,5 +16,5 @@ mod traces;
 
 pub use audit_faults::AuditFault;
 pub use audits::{audit, find_fault};
-pub use cell_text::WriteFault;
 pub use report::write_report;
+pub use text_io::WriteFault;

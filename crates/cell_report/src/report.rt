@@ -3,7 +3,7 @@ ghost use Rattle.std.specs.Prelude.{◌≡◌, ◌∷◌, ◌++◌, [], codes, m
 ghost use Rattle.std.specs.Io.KnownBytes.{Appends};
 ghost use Rattle.cell_types.specs.Answers.{flag_word};
 ghost use Rattle.cell_types.specs.Everything.{all_zones};
-ghost use Rattle.cell_text.specs.Output.{WrotePrefix};
+ghost use Rattle.text_io.specs.Output.{WrotePrefix};
 ghost use Rattle.cell_report.specs.Report.{audit_line, axes_line, axis_words, end_lines, machine_line};
 ghost use Rattle.cell_report.specs.Report.{machine_lines, places_word, report_text, spaced, stamp_line};
 ghost use Rattle.cell_report.specs.Report.{start_line, text_of_lines, version_line, where_known};
@@ -12,11 +12,11 @@ ghost use Rattle.cell_report.specs.Report.{zone_line};
 use crate::audit_faults::AuditFault;
 use cell_notes::{Counts, RunRecord, Status};
 use cell_rules::State;
-use cell_text::{Page, WriteFault, write_text};
 use cell_types::{Machine, Place, Zone, owner_word_of};
 use std::fmt;
 use std::fmt::Write as _;
 use std::io::Write;
+use text_io::{Page, WriteFault, write_text};
 
 /// The names of the axes, in the order of a record of a run.
 const AXIS_NAMES: [&str; 8] = [

@@ -1,7 +1,7 @@
 -- The crane may go on at each step that is in step with a state.
 use Rattle.cell_resume.proofs.Names.{◌≡◌, true, List, ℕ, ℤ, Crane, Z5, Z6, OpenIn, OpenOut, Event, Scale, ModelState, after, IsLegal, and_left, and_right, HoldsIn, AreSo, found, gripper_zone, crane_steps, CraneStep, CraneProgress, is_kept, IsResumable, Kept, kept_of}
-use Rattle.cell_haul.specs.declared.crane.CraneStep.TheVariants.{RaiseToFetch, TravelToDeposit, AwaitPlate, LowerToPlate, GripPlate, RaiseWithPlate, ReleaseDeposit, TravelToFeed, ClaimFeed, LowerToFeed, DropPlate, RaiseFromFeed, TakePlate, GivePlate}
-use Rattle.cell_haul.proofs.CraneFacts.{CraneKnows, facts_at, crane-knowing, crane_begins}
+use Rattle.cell_belts_crane.specs.declared.crane.CraneStep.TheVariants.{RaiseToFetch, TravelToDeposit, AwaitPlate, LowerToPlate, GripPlate, RaiseWithPlate, ReleaseDeposit, TravelToFeed, ClaimFeed, LowerToFeed, DropPlate, RaiseFromFeed, TakePlate, GivePlate}
+use Rattle.cell_belts_crane.proofs.lemmas.CraneFacts.{CraneKnows, facts_at, crane-knowing, crane_begins}
 use Rattle.cell_resume.specs.CraneKeeps.{deposit, feed, has_zones, in_step}
 
 knows_at : (s : CraneStep) (z : ModelState) → Kept (deposit s) Crane z Z5 → Kept (feed s) Crane z Z6 → AreSo Crane z (facts_at s)

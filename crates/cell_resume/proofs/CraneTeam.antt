@@ -1,11 +1,11 @@
 -- What the crane knows at its step tells that it is in step, and the other way round.
 use Rattle.cell_resume.proofs.Names.{◌≡◌, Bool, true, refl, sym, ◌∙◌, ℕ, ℤ, false, if◌then◌else◌, Option, Some, Machine, Crane, Z5, Z6, Scale, ModelState, is_full, implies, and_left, and_right, and_both, AreSo, first_step, crane_start, crane_steps, CraneStep, CraneProgress, KnowingMore, is_kept, Kept, kept_of, of_kept, one_flag, own_flag}
 use Rattle.cell_types.specs.declared.place.Place.TheVariants.{Crane as OnCrane}
-use Rattle.cell_haul.specs.Names.{row_at, step_after_inquiry, after_done, is_done}
-use Rattle.cell_haul.specs.declared.crane.CraneStep.TheVariants.{RaiseToFetch, TravelToDeposit, AwaitPlate, LowerToPlate, GripPlate, RaiseWithPlate, ReleaseDeposit, TravelToFeed, ClaimFeed, LowerToFeed, DropPlate, RaiseFromFeed, TakePlate, GivePlate}
-use Rattle.cell_haul.proofs.CraneFacts.{CraneKnows, facts_at}
-use Rattle.cell_team.proofs.Shares as shares
-use Rattle.cell_team.proofs.CraneTeam as team
+use Rattle.cell_belts_crane.specs.Names.{row_at, step_after_inquiry, after_done, is_done}
+use Rattle.cell_belts_crane.specs.declared.crane.CraneStep.TheVariants.{RaiseToFetch, TravelToDeposit, AwaitPlate, LowerToPlate, GripPlate, RaiseWithPlate, ReleaseDeposit, TravelToFeed, ClaimFeed, LowerToFeed, DropPlate, RaiseFromFeed, TakePlate, GivePlate}
+use Rattle.cell_belts_crane.proofs.lemmas.CraneFacts.{CraneKnows, facts_at}
+use Rattle.cell_team.proofs.lemmas.Shares as shares
+use Rattle.cell_team.proofs.lemmas.CraneTeam as team
 use Rattle.cell_resume.specs.CraneKeeps.{deposit, feed, has_zones, has_plates, in_step, magnet_at}
 use Rattle.cell_resume.proofs.CraneResumes.{crane_resumable}
 

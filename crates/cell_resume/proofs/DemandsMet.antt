@@ -1,6 +1,6 @@
 -- A program that goes on where it stood meets what its motors demand.
 use Rattle.cell_resume.proofs.Names.{◌≡◌, Bool, true, false, if◌then◌else◌, List, None, refl, Event, ModelState, IsSound, IsLegal, Steps, IsReached, resumed_steps, IsResumable}
-use Rattle.cell_control.proofs.StepLemmas.{Knowing, reached_knows}
+use Rattle.cell_control.proofs.lemmas.StepLemmas.{Knowing, reached_knows}
 
 -- what steps know doesn't depend on where a program begins
 again : {S Sense Reading Act : Type 0} → (t : Steps S Sense Reading Act) (in_step : S → ModelState → Bool) (stood : S) (Knows : S → ModelState → Type 0) → Knowing t Knows → Knowing (resumed_steps t in_step stood) Knows

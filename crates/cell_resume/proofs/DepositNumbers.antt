@@ -1,8 +1,8 @@
 -- The number of a step of the deposit belt leads back to the step, with its notes.
 use Rattle.cell_resume.proofs.Names.{◌≡◌, Bool, true, Some, refl, ap, ◌∙◌, option_map, slice_get, DepEntry, DepEnd, ModelState, is_full, same_flag, and_left, and_right, DepositStep, DepositProgress, one_flag}
 use denote.Enum.Declared.{tag_of}
-use Rattle.cell_haul.specs.contracts.deposit.DepositStep.{the_type}
-use Rattle.cell_haul.specs.declared.deposit.DepositStep.TheVariants.{ClaimEntry, PoseLanding, ReleaseEntry, TakePlate, StartRun, RunIn, RunOut, MoveOn, PoseOffering, GivePlate, ClaimBack, ClaimExit}
+use Rattle.cell_belts_crane.specs.contracts.deposit.DepositStep.{the_type}
+use Rattle.cell_belts_crane.specs.declared.deposit.DepositStep.TheVariants.{ClaimEntry, PoseLanding, ReleaseEntry, TakePlate, StartRun, RunIn, RunOut, MoveOn, PoseOffering, GivePlate, ClaimBack, ClaimExit}
 use Rattle.cell_resume.specs.DepositKeeps.{has_zones, has_plates, in_step, steps, progress_at}
 
 -- each step is found by its number

@@ -1,7 +1,7 @@
 -- The deposit belt may go on at each step that is in step with a state.
 use Rattle.cell_resume.proofs.Names.{◌≡◌, true, refl, Deposit, Z4, Z5, Moving, ModelState, after, and_left, and_right, AreSo, seen_held, seen_in, deposit_steps, DepositStep, DepositProgress, is_kept, IsResumable, Kept, kept_of}
-use Rattle.cell_haul.specs.declared.deposit.DepositStep.TheVariants.{ClaimEntry, PoseLanding, ReleaseEntry, TakePlate, StartRun, RunIn, RunOut, MoveOn, PoseOffering, GivePlate, ClaimBack, ClaimExit}
-use Rattle.cell_haul.proofs.DepositFacts.{DepositKnows, facts_at, deposit-knowing, drives_at}
+use Rattle.cell_belts_crane.specs.declared.deposit.DepositStep.TheVariants.{ClaimEntry, PoseLanding, ReleaseEntry, TakePlate, StartRun, RunIn, RunOut, MoveOn, PoseOffering, GivePlate, ClaimBack, ClaimExit}
+use Rattle.cell_belts_crane.proofs.lemmas.DepositFacts.{DepositKnows, facts_at, deposit-knowing, drives_at}
 use Rattle.cell_resume.specs.DepositKeeps.{entry, exit, has_zones, in_step}
 
 knows_at : (s : DepositStep) (z : ModelState) → Kept (entry s) Deposit z Z4 → Kept (exit s) Deposit z Z5 → AreSo Deposit z (facts_at s)

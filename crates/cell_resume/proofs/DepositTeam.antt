@@ -1,9 +1,9 @@
 -- What the deposit belt knows at its step tells that it is in step, and the other way round.
 use Rattle.cell_resume.proofs.Names.{◌≡◌, Bool, true, refl, sym, ◌∙◌, Deposit, Z4, Z5, DepEntry, ModelState, is_full, same_flag, and_left, and_right, and_both, AreSo, DepositStep, DepositProgress, is_kept, Kept, kept_of, of_kept, one_flag, own_flag}
-use Rattle.cell_haul.specs.declared.deposit.DepositStep.TheVariants.{ClaimEntry, PoseLanding, ReleaseEntry, TakePlate, StartRun, RunIn, RunOut, MoveOn, PoseOffering, GivePlate, ClaimBack, ClaimExit}
-use Rattle.cell_haul.proofs.DepositFacts.{DepositKnows, facts_at}
-use Rattle.cell_team.proofs.Shares as shares
-use Rattle.cell_team.proofs.DepositTeam as team
+use Rattle.cell_belts_crane.specs.declared.deposit.DepositStep.TheVariants.{ClaimEntry, PoseLanding, ReleaseEntry, TakePlate, StartRun, RunIn, RunOut, MoveOn, PoseOffering, GivePlate, ClaimBack, ClaimExit}
+use Rattle.cell_belts_crane.proofs.lemmas.DepositFacts.{DepositKnows, facts_at}
+use Rattle.cell_team.proofs.lemmas.Shares as shares
+use Rattle.cell_team.proofs.lemmas.DepositTeam as team
 use Rattle.cell_resume.specs.DepositKeeps.{entry, exit, has_zones, has_plates, in_step}
 use Rattle.cell_resume.proofs.DepositResumes.{deposit_resumable}
 

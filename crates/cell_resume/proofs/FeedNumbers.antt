@@ -1,8 +1,8 @@
 -- The number of a step of the feed belt leads back to the step, with its notes.
 use Rattle.cell_resume.proofs.Names.{◌≡◌, Bool, true, Some, refl, ap, ◌∙◌, option_map, slice_get, FeedEntry, FeedEnd, ModelState, is_full, same_flag, and_left, and_right, FeedStep, FeedProgress, one_flag}
 use denote.Enum.Declared.{tag_of}
-use Rattle.cell_haul.specs.contracts.feed.FeedStep.{the_type}
-use Rattle.cell_haul.specs.declared.feed.FeedStep.TheVariants.{StartIn, ClaimExit, StartOut, Halt, ClaimEntry, PoseLanding, ReleaseEntry, TakePlate, RunIn, MoveOn, RunOut, GivePlate}
+use Rattle.cell_belts_crane.specs.contracts.feed.FeedStep.{the_type}
+use Rattle.cell_belts_crane.specs.declared.feed.FeedStep.TheVariants.{StartIn, ClaimExit, StartOut, Halt, ClaimEntry, PoseLanding, ReleaseEntry, TakePlate, RunIn, MoveOn, RunOut, GivePlate}
 use Rattle.cell_resume.specs.FeedKeeps.{has_zones, has_plates, in_step, steps, progress_at}
 
 -- each step is found by its number

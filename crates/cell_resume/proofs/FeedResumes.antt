@@ -1,9 +1,9 @@
 -- The feed belt may go on at each step that is in step with a state.
 use Rattle.cell_resume.proofs.Names.{◌≡◌, Bool, true, refl, pos, false, sym, ◌∙◌, Feed, Z6, Z1, FeedEntry, FeedEnd, Moving, ModelState, is_full, one_if, same_flag, after, and_left, and_right, AreSo, seen_held, seen_in, feed_steps, FeedStep, FeedProgress, is_kept, IsResumable, Kept, kept_of, one_flag}
-use Rattle.cell_rules.proofs.Conserved.{plates-kept}
-use Rattle.cell_haul.specs.declared.feed.FeedStep.TheVariants.{StartIn, ClaimExit, StartOut, Halt, ClaimEntry, PoseLanding, ReleaseEntry, TakePlate, RunIn, MoveOn, RunOut, GivePlate}
-use Rattle.cell_haul.proofs.FeedFacts.{FeedKnows, facts_at, feed-knowing, feed_begins, drives_at}
-use Rattle.cell_haul.proofs.FeedFacts as known
+use Rattle.cell_rules.proofs.lemmas.Conserved.{plates-kept}
+use Rattle.cell_belts_crane.specs.declared.feed.FeedStep.TheVariants.{StartIn, ClaimExit, StartOut, Halt, ClaimEntry, PoseLanding, ReleaseEntry, TakePlate, RunIn, MoveOn, RunOut, GivePlate}
+use Rattle.cell_belts_crane.proofs.lemmas.FeedFacts.{FeedKnows, facts_at, feed-knowing, feed_begins, drives_at}
+use Rattle.cell_belts_crane.proofs.lemmas.FeedFacts as known
 use Rattle.cell_resume.specs.FeedKeeps.{entry, exit, has_zones, in_step, has_plates}
 
 knows_at : (s : FeedStep) (z : ModelState) → Kept (entry s) Feed z Z6 → Kept (exit s) Feed z Z1 → AreSo Feed z (facts_at s)

@@ -1,10 +1,10 @@
 -- What the feed belt knows at its step tells that it is in step, and the other way round.
 use Rattle.cell_resume.proofs.Names.{◌≡◌, Bool, true, refl, ◌∙◌, Feed, Z6, Z1, ModelState, and_left, and_right, and_both, AreSo, FeedStep, FeedProgress, is_kept, Kept, kept_of, of_kept, own_flag}
-use Rattle.cell_haul.specs.declared.feed.FeedStep.TheVariants.{StartIn, ClaimExit, StartOut, Halt, ClaimEntry, PoseLanding, ReleaseEntry, TakePlate, RunIn, MoveOn, RunOut, GivePlate}
-use Rattle.cell_haul.proofs.FeedFacts.{FeedKnows, facts_at}
-use Rattle.cell_haul.proofs.FeedFacts as known
-use Rattle.cell_team.proofs.Shares as shares
-use Rattle.cell_team.proofs.FeedTeam as team
+use Rattle.cell_belts_crane.specs.declared.feed.FeedStep.TheVariants.{StartIn, ClaimExit, StartOut, Halt, ClaimEntry, PoseLanding, ReleaseEntry, TakePlate, RunIn, MoveOn, RunOut, GivePlate}
+use Rattle.cell_belts_crane.proofs.lemmas.FeedFacts.{FeedKnows, facts_at}
+use Rattle.cell_belts_crane.proofs.lemmas.FeedFacts as known
+use Rattle.cell_team.proofs.lemmas.Shares as shares
+use Rattle.cell_team.proofs.lemmas.FeedTeam as team
 use Rattle.cell_resume.specs.FeedKeeps.{entry, exit, has_zones, has_plates, in_step}
 use Rattle.cell_resume.proofs.FeedResumes.{feed_resumable}
 

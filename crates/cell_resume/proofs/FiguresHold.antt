@@ -1,6 +1,6 @@
 -- What the fourteen bytes mean, computed.
 use Rattle.std.proofs.Common.{◌≡◌, refl}
-use Rattle.cell_rules.proofs.Tested.{sound_by_test}
+use Rattle.cell_rules.proofs.lemmas.SoundnessTest.{sound_by_test}
 use Rattle.cell_rules.specs.Names.{ModelState}
 use Rattle.cell_word.specs.Layout.{packed}
 use Rattle.cell_resume.specs.Checkpoints.{IsCheckpointOf, checkpoint_in}

@@ -3,7 +3,7 @@ use Rattle.std.proofs.Common.{◌≡◌, Bool, true, false, Option, Some, None, 
 use Rattle.std.specs.Prelude.{⊤}
 use Rattle.cell_rules.specs.Types.{Machine, Zone, Posture, Closed, Moving, OpenIn, OpenOut, same_posture, one_posture}
 use Rattle.cell_rules.specs.Names.{ModelState, zone_at, owns, posture_at, same_flag}
-use Rattle.cell_rules.proofs.Tables.{and_left, and_right, and_both}
+use Rattle.cell_rules.proofs.lemmas.Tables.{and_left, and_right, and_both}
 use Rattle.cell_resume.specs.declared.keep.Share.{Share}
 use Rattle.cell_resume.specs.declared.keep.Share.TheVariants.{Clear, Loaded, Held, Lent, Any}
 use Rattle.cell_resume.specs.declared.keep.Keep.{Keep}

@@ -1,24 +1,24 @@
 mod Names
-pub mod Keeping
-pub mod DemandsMet
-pub mod TeamTested
-pub mod Taking
-pub mod StaysInStep
-pub mod FeedResumes
-pub mod FeedTeam
-pub mod FeedNumbers
-pub mod TableResumes
-pub mod TableTeam
-pub mod TableNumbers
-pub mod RobotResumes
-pub mod RobotTeam
-pub mod RobotNumbers
-pub mod PressResumes
-pub mod PressTeam
-pub mod PressNumbers
-pub mod DepositResumes
-pub mod DepositTeam
-pub mod DepositNumbers
-pub mod CraneResumes
-pub mod CraneTeam
-pub mod FiguresHold
+mod Keeping
+mod DemandsMet
+mod TeamTested
+mod Taking
+mod StaysInStep
+mod FeedResumes
+mod FeedTeam
+mod FeedNumbers
+mod TableResumes
+mod TableTeam
+mod TableNumbers
+mod RobotResumes
+mod RobotTeam
+mod RobotNumbers
+mod PressResumes
+mod PressTeam
+mod PressNumbers
+mod DepositResumes
+mod DepositTeam
+mod DepositNumbers
+mod CraneResumes
+mod CraneTeam
+mod FiguresHold

@@ -4,8 +4,8 @@ use Rattle.std.proofs.lemmas.Nat.{div-mul-add, mod-mul-add}
 use denote.Enum.Declared.{tag_of}
 use Rattle.cell_devices.specs.declared.motor.Direction.{Direction}
 use Rattle.cell_devices.specs.declared.motor.Direction.TheVariants.{Plus as Upward, Minus as Downward}
-use Rattle.cell_stations.specs.contracts.press.PressStep.{the_type}
-use Rattle.cell_stations.specs.declared.press.PressStep.TheVariants.{ClaimFirst, LeaveForMiddle, MoveToMiddle, PoseMiddle, ReleaseInterior, TakePlate, LeaveForTop, MoveToTop, PoseTop, Forge, LeaveForBottom, MoveToBottom, PoseLow, GivePlate, ClaimBack}
+use Rattle.cell_table_press.specs.contracts.press.PressStep.{the_type}
+use Rattle.cell_table_press.specs.declared.press.PressStep.TheVariants.{ClaimFirst, LeaveForMiddle, MoveToMiddle, PoseMiddle, ReleaseInterior, TakePlate, LeaveForTop, MoveToTop, PoseTop, Forge, LeaveForBottom, MoveToBottom, PoseLow, GivePlate, ClaimBack}
 use Rattle.cell_resume.specs.PressKeeps.{has_zones, has_plates, in_step, steps, bit_of, direction_of, progress_at}
 
 -- each step is found by its number

@@ -1,7 +1,7 @@
 -- The press may go on at each step that is in step with a state.
 use Rattle.cell_resume.proofs.Names.{◌≡◌, true, refl, Press, Z3, Moving, ModelState, after, and_left, AreSo, seen_held, seen_in, press_steps, PressStep, PressProgress, IsResumable, Kept, kept_of}
-use Rattle.cell_stations.specs.declared.press.PressStep.TheVariants.{ClaimFirst, LeaveForMiddle, MoveToMiddle, PoseMiddle, ReleaseInterior, TakePlate, LeaveForTop, MoveToTop, PoseTop, Forge, LeaveForBottom, MoveToBottom, PoseLow, GivePlate, ClaimBack}
-use Rattle.cell_stations.proofs.PressFacts.{PressKnows, facts_at, press-knowing, drives_at}
+use Rattle.cell_table_press.specs.declared.press.PressStep.TheVariants.{ClaimFirst, LeaveForMiddle, MoveToMiddle, PoseMiddle, ReleaseInterior, TakePlate, LeaveForTop, MoveToTop, PoseTop, Forge, LeaveForBottom, MoveToBottom, PoseLow, GivePlate, ClaimBack}
+use Rattle.cell_table_press.proofs.lemmas.PressFacts.{PressKnows, facts_at, press-knowing, drives_at}
 use Rattle.cell_resume.specs.PressKeeps.{interior, has_zones, in_step}
 
 knows_at : (s : PressStep) (z : ModelState) → Kept (interior s) Press z Z3 → AreSo Press z (facts_at s)

@@ -1,9 +1,9 @@
 -- What the press knows at its step tells that it is in step, and the other way round.
 use Rattle.cell_resume.proofs.Names.{◌≡◌, Bool, true, refl, sym, ◌∙◌, Press, Z3, PressIn, ModelState, is_full, same_flag, and_left, and_right, and_both, AreSo, PressStep, PressProgress, Kept, kept_of, of_kept, one_flag, own_flag}
-use Rattle.cell_stations.specs.declared.press.PressStep.TheVariants.{ClaimFirst, LeaveForMiddle, MoveToMiddle, PoseMiddle, ReleaseInterior, TakePlate, LeaveForTop, MoveToTop, PoseTop, Forge, LeaveForBottom, MoveToBottom, PoseLow, GivePlate, ClaimBack}
-use Rattle.cell_stations.proofs.PressFacts.{PressKnows, facts_at}
-use Rattle.cell_team.proofs.Shares as shares
-use Rattle.cell_team.proofs.PressTeam as team
+use Rattle.cell_table_press.specs.declared.press.PressStep.TheVariants.{ClaimFirst, LeaveForMiddle, MoveToMiddle, PoseMiddle, ReleaseInterior, TakePlate, LeaveForTop, MoveToTop, PoseTop, Forge, LeaveForBottom, MoveToBottom, PoseLow, GivePlate, ClaimBack}
+use Rattle.cell_table_press.proofs.lemmas.PressFacts.{PressKnows, facts_at}
+use Rattle.cell_team.proofs.lemmas.Shares as shares
+use Rattle.cell_team.proofs.lemmas.PressTeam as team
 use Rattle.cell_resume.specs.PressKeeps.{interior, has_zones, has_plates, in_step}
 use Rattle.cell_resume.proofs.PressResumes.{press_resumable}
 

@@ -1,7 +1,7 @@
 -- The robot may go on at each step that is in step with a state.
 use Rattle.cell_resume.proofs.Names.{◌≡◌, true, Robot, Z2, Z3, Z4, ModelState, and_left, and_right, AreSo, RobotScales, RobotGauges, notes_at, robot_steps, RobotStep, RobotProgress, is_kept, IsResumable, Kept, kept_of}
 use Rattle.cell_robot.specs.declared.robot.RobotStep.TheVariants.{TurnToTable, AwaitPlate, ReachTable, GripPlate, LeaveTable, TakePlate, ReleaseTable, TurnToLoad, ClaimPress, InspectPress, ReleasePress, ReachToLoad, DropInPress, LeaveLoaded, GiveToPress, TurnToUnload, AwaitForged, ReachToUnload, GripForged, LeaveUnloaded, TakeForged, ReleaseUnloaded, TurnToDeposit, ClaimDeposit, ReachDeposit, DropOnDeposit, LeaveDeposit, GiveToDeposit}
-use Rattle.cell_robot.proofs.RobotFacts.{RobotKnows, facts_at, robot-knowing, at_choice, first_holds, second_holds}
+use Rattle.cell_robot.proofs.lemmas.RobotFacts.{RobotKnows, facts_at, robot-knowing, at_choice, first_holds, second_holds}
 use Rattle.cell_resume.specs.RobotKeeps.{table, interior, deposit, has_zones, in_step}
 
 knows_at : (s : RobotStep) (z : ModelState) → Kept (table s) Robot z Z2 → Kept (interior s) Robot z Z3 → Kept (deposit s) Robot z Z4 → AreSo Robot z (facts_at s)

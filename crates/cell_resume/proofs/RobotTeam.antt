@@ -1,9 +1,9 @@
 -- What the robot knows at its step tells that it is in step, and the other way round.
 use Rattle.cell_resume.proofs.Names.{◌≡◌, Bool, true, refl, ◌∙◌, false, if◌then◌else◌, Option, Some, eqb-true, eq-eqb, Machine, Robot, Z2, Z3, Z4, Arm1, Arm2, Posture, OpenIn, ModelState, is_full, one_if, same_flag, and_left, and_right, and_both, AreSo, RobotScales, RobotGauges, choice, row_at, step_after_inquiry, notes_at, robot_start, after_done, is_done, robot_steps, RobotStep, RobotNotes, RobotProgress, KnowingMore, is_kept, Kept, kept_of, of_kept, one_flag, own_flag}
 use Rattle.cell_robot.specs.declared.robot.RobotStep.TheVariants.{TurnToTable, AwaitPlate, ReachTable, GripPlate, LeaveTable, TakePlate, ReleaseTable, TurnToLoad, ClaimPress, InspectPress, ReleasePress, ReachToLoad, DropInPress, LeaveLoaded, GiveToPress, TurnToUnload, AwaitForged, ReachToUnload, GripForged, LeaveUnloaded, TakeForged, ReleaseUnloaded, TurnToDeposit, ClaimDeposit, ReachDeposit, DropOnDeposit, LeaveDeposit, GiveToDeposit}
-use Rattle.cell_robot.proofs.RobotFacts.{RobotKnows, facts_at}
-use Rattle.cell_team.proofs.Shares as shares
-use Rattle.cell_team.proofs.RobotTeam as team
+use Rattle.cell_robot.proofs.lemmas.RobotFacts.{RobotKnows, facts_at}
+use Rattle.cell_team.proofs.lemmas.Shares as shares
+use Rattle.cell_team.proofs.lemmas.RobotTeam as team
 use Rattle.cell_resume.specs.RobotKeeps.{table, interior, deposit, has_zones, has_plates, in_step, inside, magnet1_at, magnet2_at, is_noted}
 use Rattle.cell_resume.proofs.RobotResumes.{robot_resumable}
 

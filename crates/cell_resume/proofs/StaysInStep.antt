@@ -1,18 +1,18 @@
 -- Machines that are in step stay so, and none of them is refused.
 use Rattle.cell_resume.proofs.Names.{List, Feed, Table, Robot, Press, Deposit, Crane, Watch, Event, IsReading, ModelState, IsSound, after, IsLegal, own_events, crane_steps, deposit_steps, feed_steps, near_lines, robot_steps, press_steps, table_steps, OwnYieldless, AreYieldless, own_yieldless, yieldless, reached_both, Team, AreInStep}
-use Rattle.cell_rules.proofs.Histories.{sound-after}
+use Rattle.cell_rules.proofs.lemmas.Histories.{sound-after}
 use Rattle.cell_parts.specs.Axes.{CellScales}
-use Rattle.cell_haul.proofs.CraneFacts.{CraneKnows, crane-knowing}
-use Rattle.cell_robot.proofs.RobotFacts.{RobotKnows, robot-knowing}
+use Rattle.cell_belts_crane.proofs.lemmas.CraneFacts.{CraneKnows, crane-knowing}
+use Rattle.cell_robot.proofs.lemmas.RobotFacts.{RobotKnows, robot-knowing}
 use Rattle.cell_team.specs.Team as programs
 use Rattle.cell_team.specs.Names.{robot_points, programs_of, program_with_stops, HaveComeFrom, first_team}
-use Rattle.cell_team.proofs.CraneTeam as crane
-use Rattle.cell_team.proofs.DepositTeam as deposit
-use Rattle.cell_team.proofs.FeedTeam as feed
-use Rattle.cell_team.proofs.PressTeam as press
-use Rattle.cell_team.proofs.RobotTeam as robot
-use Rattle.cell_team.proofs.TableTeam as table
-use Rattle.cell_team.proofs.Together.{AllKnow, all_begin, all_know, all_heeded, sound_start}
+use Rattle.cell_team.proofs.lemmas.CraneTeam as crane
+use Rattle.cell_team.proofs.lemmas.DepositTeam as deposit
+use Rattle.cell_team.proofs.lemmas.FeedTeam as feed
+use Rattle.cell_team.proofs.lemmas.PressTeam as press
+use Rattle.cell_team.proofs.lemmas.RobotTeam as robot
+use Rattle.cell_team.proofs.lemmas.TableTeam as table
+use Rattle.cell_team.proofs.lemmas.Together.{AllKnow, all_begin, all_know, all_heeded, sound_start}
 use Rattle.cell_resume.specs.Laws.{steps_of, NoResumedMachineIsRefused, ResumedMachinesStayInStep, MachinesAreInStep}
 use Rattle.cell_resume.proofs.CraneTeam.{MagnetSo, magnet_kept, magnet_begins, crane_knows, crane_magnets, crane_stands}
 use Rattle.cell_resume.proofs.DepositTeam.{deposit_knows, deposit_stands}

@@ -2,7 +2,7 @@
 use Rattle.cell_resume.proofs.Names.{◌≡◌, Bool, true, Some, refl, ap, ◌∙◌, option_map, slice_get, ModelState, is_full, and_right, TableStep, ClaimEntry, ClaimExit, LeaveForLoading, MoveToLoading, PoseLoading, ReleaseEntry, LeaveForUnloading, MoveToUnloading, PoseUnloading, TableProgress, TakePlate, GivePlate, ClaimBack, one_flag}
 use denote.Enum.Declared.{tag_of}
 use Rattle.cell_types.specs.declared.place.Place.TheVariants.{Table as OnTable}
-use Rattle.cell_stations.specs.contracts.table.TableStep.{the_type}
+use Rattle.cell_table_press.specs.contracts.table.TableStep.{the_type}
 use Rattle.cell_resume.specs.TableKeeps.{has_zones, has_plates, in_step, steps, progress_at}
 
 -- each step is found by its number

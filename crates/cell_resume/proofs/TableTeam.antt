@@ -1,8 +1,8 @@
 -- What the table knows at its step tells that it is in step, and the other way round.
 use Rattle.cell_resume.proofs.Names.{◌≡◌, Bool, true, refl, sym, ◌∙◌, ℕ, ℤ, Z1, Z2, Scale, ModelState, and_left, and_right, and_both, AreSo, TableStep, ClaimEntry, ClaimExit, LeaveForLoading, MoveToLoading, PoseLoading, ReleaseEntry, LeaveForUnloading, MoveToUnloading, PoseUnloading, TableProgress, TakePlate, GivePlate, ClaimBack, TableKnows, facts_at, is_kept, Kept, kept_of, of_kept, one_flag, own_flag}
 use Rattle.cell_types.specs.declared.machine.Machine.TheVariants.{Table as TableMachine}
-use Rattle.cell_team.proofs.Shares as shares
-use Rattle.cell_team.proofs.TableTeam as team
+use Rattle.cell_team.proofs.lemmas.Shares as shares
+use Rattle.cell_team.proofs.lemmas.TableTeam as team
 use Rattle.cell_resume.specs.TableKeeps.{entry, exit, has_zones, has_plates, in_step}
 use Rattle.cell_resume.proofs.TableResumes.{table_resumable}
 

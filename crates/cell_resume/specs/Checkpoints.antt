@@ -5,12 +5,12 @@ use Rattle.cell_types.specs.declared.machine.Machine.{Machine}
 use Rattle.cell_types.specs.declared.machine.Machine.TheVariants as machine
 use Rattle.cell_rules.specs.Names.{ModelState, IsSound}
 use Rattle.cell_word.specs.Layout.{packed}
-use Rattle.cell_haul.specs.declared.crane.CraneProgress.{CraneProgress}
-use Rattle.cell_haul.specs.declared.deposit.DepositProgress.{DepositProgress}
-use Rattle.cell_haul.specs.declared.feed.FeedProgress.{FeedProgress}
+use Rattle.cell_belts_crane.specs.declared.crane.CraneProgress.{CraneProgress}
+use Rattle.cell_belts_crane.specs.declared.deposit.DepositProgress.{DepositProgress}
+use Rattle.cell_belts_crane.specs.declared.feed.FeedProgress.{FeedProgress}
 use Rattle.cell_robot.specs.declared.robot.RobotProgress.{RobotProgress}
-use Rattle.cell_stations.specs.declared.press.PressProgress.{PressProgress}
-use Rattle.cell_stations.specs.declared.table.TableProgress.{TableProgress}
+use Rattle.cell_table_press.specs.declared.press.PressProgress.{PressProgress}
+use Rattle.cell_table_press.specs.declared.table.TableProgress.{TableProgress}
 use Rattle.cell_resume.specs.declared.team.Team.{Team}
 use Rattle.cell_resume.specs.declared.checkpoint.Checkpoint.{Checkpoint}
 use Rattle.cell_resume.specs.declared.fault.ResumeFault.{ResumeFault}

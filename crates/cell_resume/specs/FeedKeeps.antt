@@ -2,11 +2,11 @@
 use Rattle.std.specs.Prelude.{ℕ, Bool, true, not, List, Option, ◌&&◌, [], ◌∷◌, option_map, slice_get}
 use Rattle.cell_rules.specs.Types.{Feed, Z6, Z1, FeedEntry, FeedEnd, Closed, Moving, OpenIn}
 use Rattle.cell_rules.specs.Names.{ModelState, is_full, same_flag}
-use Rattle.cell_haul.specs.declared.feed.FeedStep.{FeedStep}
-use Rattle.cell_haul.specs.declared.feed.FeedStep.TheVariants.{StartIn, ClaimExit, StartOut, Halt}
-use Rattle.cell_haul.specs.declared.feed.FeedProgress.{FeedProgress}
-use Rattle.cell_haul.specs.declared.feed.FeedStep.TheVariants.{ClaimEntry, PoseLanding, ReleaseEntry, TakePlate}
-use Rattle.cell_haul.specs.declared.feed.FeedStep.TheVariants.{RunIn, MoveOn, RunOut, GivePlate}
+use Rattle.cell_belts_crane.specs.declared.feed.FeedStep.{FeedStep}
+use Rattle.cell_belts_crane.specs.declared.feed.FeedStep.TheVariants.{StartIn, ClaimExit, StartOut, Halt}
+use Rattle.cell_belts_crane.specs.declared.feed.FeedProgress.{FeedProgress}
+use Rattle.cell_belts_crane.specs.declared.feed.FeedStep.TheVariants.{ClaimEntry, PoseLanding, ReleaseEntry, TakePlate}
+use Rattle.cell_belts_crane.specs.declared.feed.FeedStep.TheVariants.{RunIn, MoveOn, RunOut, GivePlate}
 use Rattle.cell_resume.specs.declared.keep.Share.TheVariants.{Clear, Held, Lent}
 use Rattle.cell_resume.specs.declared.keep.Keep.{Keep}
 use Rattle.cell_resume.specs.Keeping.{is_kept, posed, unposed}

@@ -11,18 +11,18 @@ use Rattle.cell_rules.specs.ZoneMap.{ZoneMap, zone_map}
 use Rattle.cell_rules.specs.declared.zones.ZoneState.{ZoneState}
 use Rattle.cell_devices.specs.declared.motor.Direction.{Direction}
 use Rattle.cell_devices.specs.declared.motor.Direction.TheVariants.{Plus as Upward, Minus as Downward}
-use Rattle.cell_haul.specs.declared.crane.CraneStep.{CraneStep}
-use Rattle.cell_haul.specs.declared.crane.CraneStep.TheVariants as at_crane
-use Rattle.cell_haul.specs.declared.deposit.DepositStep.{DepositStep}
-use Rattle.cell_haul.specs.declared.deposit.DepositStep.TheVariants as at_deposit
-use Rattle.cell_haul.specs.declared.feed.FeedStep.{FeedStep}
-use Rattle.cell_haul.specs.declared.feed.FeedStep.TheVariants as at_feed
+use Rattle.cell_belts_crane.specs.declared.crane.CraneStep.{CraneStep}
+use Rattle.cell_belts_crane.specs.declared.crane.CraneStep.TheVariants as at_crane
+use Rattle.cell_belts_crane.specs.declared.deposit.DepositStep.{DepositStep}
+use Rattle.cell_belts_crane.specs.declared.deposit.DepositStep.TheVariants as at_deposit
+use Rattle.cell_belts_crane.specs.declared.feed.FeedStep.{FeedStep}
+use Rattle.cell_belts_crane.specs.declared.feed.FeedStep.TheVariants as at_feed
 use Rattle.cell_robot.specs.declared.robot.RobotStep.{RobotStep}
 use Rattle.cell_robot.specs.declared.robot.RobotStep.TheVariants as at_robot
-use Rattle.cell_stations.specs.declared.press.PressStep.{PressStep}
-use Rattle.cell_stations.specs.declared.press.PressStep.TheVariants as at_press
-use Rattle.cell_stations.specs.declared.table.TableStep.{TableStep}
-use Rattle.cell_stations.specs.declared.table.TableStep.TheVariants as at_table
+use Rattle.cell_table_press.specs.declared.press.PressStep.{PressStep}
+use Rattle.cell_table_press.specs.declared.press.PressStep.TheVariants as at_press
+use Rattle.cell_table_press.specs.declared.table.TableStep.{TableStep}
+use Rattle.cell_table_press.specs.declared.table.TableStep.TheVariants as at_table
 use Rattle.cell_resume.specs.declared.team.Team.{Team}
 use Rattle.cell_resume.specs.Checkpoints.{IsCheckpointOf, checkpoint_in}
 use Rattle.cell_resume.specs.FeedKeeps as feed

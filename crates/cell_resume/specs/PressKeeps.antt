@@ -5,13 +5,13 @@ use Rattle.cell_rules.specs.Types.{Press, Z3, PressIn, PressOut, Closed, Moving,
 use Rattle.cell_rules.specs.Names.{ModelState, is_full, same_flag}
 use Rattle.cell_devices.specs.declared.motor.Direction.{Direction}
 use Rattle.cell_devices.specs.declared.motor.Direction.TheVariants.{Plus as Upward, Minus as Downward}
-use Rattle.cell_stations.specs.declared.press.PressStep.{PressStep}
-use Rattle.cell_stations.specs.declared.press.PressStep.TheVariants.{ClaimFirst, LeaveForMiddle, MoveToMiddle}
-use Rattle.cell_stations.specs.declared.press.PressStep.TheVariants.{PoseMiddle, ReleaseInterior, TakePlate}
-use Rattle.cell_stations.specs.declared.press.PressStep.TheVariants.{LeaveForTop, MoveToTop, PoseTop, Forge}
-use Rattle.cell_stations.specs.declared.press.PressStep.TheVariants.{LeaveForBottom, MoveToBottom, PoseLow, GivePlate}
-use Rattle.cell_stations.specs.declared.press.PressStep.TheVariants.{ClaimBack}
-use Rattle.cell_stations.specs.declared.press.PressProgress.{PressProgress}
+use Rattle.cell_table_press.specs.declared.press.PressStep.{PressStep}
+use Rattle.cell_table_press.specs.declared.press.PressStep.TheVariants.{ClaimFirst, LeaveForMiddle, MoveToMiddle}
+use Rattle.cell_table_press.specs.declared.press.PressStep.TheVariants.{PoseMiddle, ReleaseInterior, TakePlate}
+use Rattle.cell_table_press.specs.declared.press.PressStep.TheVariants.{LeaveForTop, MoveToTop, PoseTop, Forge}
+use Rattle.cell_table_press.specs.declared.press.PressStep.TheVariants.{LeaveForBottom, MoveToBottom, PoseLow, GivePlate}
+use Rattle.cell_table_press.specs.declared.press.PressStep.TheVariants.{ClaimBack}
+use Rattle.cell_table_press.specs.declared.press.PressProgress.{PressProgress}
 use Rattle.cell_resume.specs.declared.keep.Share.TheVariants.{Clear, Lent}
 use Rattle.cell_resume.specs.declared.keep.Keep.{Keep}
 use Rattle.cell_resume.specs.Keeping.{is_kept, posed, unposed}

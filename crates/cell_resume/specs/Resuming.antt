@@ -3,7 +3,7 @@ use Rattle.std.specs.Prelude.{◌≡◌, Bool, true, if◌then◌else◌, List, 
 use Rattle.cell_types.specs.declared.answer.Event.{Event}
 use Rattle.cell_rules.specs.Names.{ModelState, IsSound, after, IsLegal}
 use Rattle.cell_control.specs.Steps.{Steps}
-use Rattle.cell_control.proofs.StepLemmas.{Knowing}
+use Rattle.cell_control.proofs.lemmas.StepLemmas.{Knowing}
 
 -- the same program, but it begins at the step where it stood, if that is in step with the state; else at its start
 abbrev pub resumed_steps : {S Sense Reading Act : Type 0}

@@ -4,13 +4,13 @@ use Rattle.cell_types.specs.declared.machine.Machine.TheVariants.{Table as Table
 use Rattle.cell_rules.specs.Types.{Z1, Z2, Closed, Moving, OpenIn, OpenOut}
 use Rattle.cell_types.specs.declared.place.Place.TheVariants.{Table as OnTable}
 use Rattle.cell_rules.specs.Names.{ModelState, is_full, same_flag}
-use Rattle.cell_stations.specs.declared.table.TableStep.{TableStep}
-use Rattle.cell_stations.specs.declared.table.TableStep.TheVariants.{ClaimEntry, ClaimExit, LeaveForLoading}
-use Rattle.cell_stations.specs.declared.table.TableStep.TheVariants.{MoveToLoading, PoseLoading, ReleaseEntry}
-use Rattle.cell_stations.specs.declared.table.TableStep.TheVariants.{LeaveForUnloading, MoveToUnloading}
-use Rattle.cell_stations.specs.declared.table.TableStep.TheVariants.{PoseUnloading}
-use Rattle.cell_stations.specs.declared.table.TableProgress.{TableProgress}
-use Rattle.cell_stations.specs.declared.table.TableStep.TheVariants.{TakePlate, GivePlate, ClaimBack}
+use Rattle.cell_table_press.specs.declared.table.TableStep.{TableStep}
+use Rattle.cell_table_press.specs.declared.table.TableStep.TheVariants.{ClaimEntry, ClaimExit, LeaveForLoading}
+use Rattle.cell_table_press.specs.declared.table.TableStep.TheVariants.{MoveToLoading, PoseLoading, ReleaseEntry}
+use Rattle.cell_table_press.specs.declared.table.TableStep.TheVariants.{LeaveForUnloading, MoveToUnloading}
+use Rattle.cell_table_press.specs.declared.table.TableStep.TheVariants.{PoseUnloading}
+use Rattle.cell_table_press.specs.declared.table.TableProgress.{TableProgress}
+use Rattle.cell_table_press.specs.declared.table.TableStep.TheVariants.{TakePlate, GivePlate, ClaimBack}
 use Rattle.cell_resume.specs.declared.keep.Share.TheVariants.{Clear, Lent}
 use Rattle.cell_resume.specs.declared.keep.Keep.{Keep}
 use Rattle.cell_resume.specs.Keeping.{is_kept, posed, unposed}

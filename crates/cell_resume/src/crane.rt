@@ -9,9 +9,9 @@ ghost use Rattle.cell_resume.specs.CraneKeeps as keeps;
 use crate::fault::ResumeFault;
 use crate::keep::{Keep, Share, agree, pick};
 use crate::resumable::Resumable;
-use cell_calib::Gauge;
-use cell_haul::{CraneProgram, CraneProgress, CraneStep};
+use cell_belts_crane::{CraneProgram, CraneProgress, CraneStep};
 use cell_rules::State;
+use cell_sensors::Gauge;
 use cell_types::{Machine, Place, Posture, Zone};
 
 // The steps, in the order of their numbers.
@@ -179,7 +179,7 @@ fn magnet_at(step: CraneStep) -> bool
 
 impl<F: Gauge> Resumable for CraneProgram<F> {
     ghost use Rattle.cell_resume.specs.CraneKeeps.{in_step};
-    ghost use Rattle.cell_haul.proofs.CraneFacts.{CraneKnows};
+    ghost use Rattle.cell_belts_crane.proofs.lemmas.CraneFacts.{CraneKnows};
 
     ghost in_step = { in_step };
 

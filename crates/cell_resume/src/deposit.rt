@@ -9,7 +9,7 @@ ghost use Rattle.cell_resume.specs.DepositKeeps as keeps;
 use crate::fault::ResumeFault;
 use crate::keep::{Keep, Share, agree, pick};
 use crate::resumable::Resumable;
-use cell_haul::{DepositProgram, DepositProgress, DepositStep};
+use cell_belts_crane::{DepositProgram, DepositProgress, DepositStep};
 use cell_rules::State;
 use cell_types::{Machine, Place, Posture, Zone};
 
@@ -150,7 +150,7 @@ fn is_noted(progress: DepositProgress, state: &State) -> bool
 
 impl Resumable for DepositProgram {
     ghost use Rattle.cell_resume.specs.DepositKeeps.{in_step};
-    ghost use Rattle.cell_haul.proofs.DepositFacts.{DepositKnows};
+    ghost use Rattle.cell_belts_crane.proofs.lemmas.DepositFacts.{DepositKnows};
 
     ghost in_step = { in_step };
 

@@ -9,7 +9,7 @@ ghost use Rattle.cell_resume.specs.FeedKeeps as keeps;
 use crate::fault::ResumeFault;
 use crate::keep::{Keep, Share, agree, pick};
 use crate::resumable::Resumable;
-use cell_haul::{FeedProgram, FeedProgress, FeedStep};
+use cell_belts_crane::{FeedProgram, FeedProgress, FeedStep};
 use cell_rules::State;
 use cell_types::{Machine, Place, Posture, Zone};
 
@@ -147,7 +147,7 @@ fn is_noted(progress: FeedProgress, state: &State) -> bool
 
 impl Resumable for FeedProgram {
     ghost use Rattle.cell_resume.specs.FeedKeeps.{in_step};
-    ghost use Rattle.cell_haul.proofs.FeedFacts.{FeedKnows};
+    ghost use Rattle.cell_belts_crane.proofs.lemmas.FeedFacts.{FeedKnows};
 
     ghost in_step = { in_step };
 

@@ -11,7 +11,7 @@ use crate::keep::{Keep, Share, agree, pick};
 use crate::resumable::Resumable;
 use cell_devices::Direction;
 use cell_rules::State;
-use cell_stations::{PressProgram, PressProgress, PressStep};
+use cell_table_press::{PressProgram, PressProgress, PressStep};
 use cell_types::{Machine, Place, Posture, Zone};
 
 // The steps, in the order of their numbers.
@@ -166,7 +166,7 @@ fn is_noted(progress: PressProgress, state: &State) -> bool
 
 impl Resumable for PressProgram {
     ghost use Rattle.cell_resume.specs.PressKeeps.{in_step};
-    ghost use Rattle.cell_stations.proofs.PressFacts.{PressKnows};
+    ghost use Rattle.cell_table_press.proofs.lemmas.PressFacts.{PressKnows};
 
     ghost in_step = { in_step };
 

@@ -1,8 +1,8 @@
 //! A program that goes on at a step where it stood.
 
-use cell_calib::SensorFault;
 use cell_control::{Program, Row};
 use cell_rules::State;
+use cell_sensors::SensorFault;
 use cell_types::{Machine, Posture};
 
 /// A program that may go on at any of its steps, in a state that is in step with it.

@@ -12,11 +12,11 @@ use crate::fault::ResumeFault;
 use crate::resumable::Resumed;
 use crate::team::Team;
 use crate::{crane, deposit, feed, press, robot, table};
-use cell_calib::Gauge;
-use cell_haul::{CraneProgram, DepositProgram, FeedProgram};
+use cell_belts_crane::{CraneProgram, DepositProgram, FeedProgram};
 use cell_robot::RobotProgram;
 use cell_rules::State;
-use cell_stations::{PressProgram, TableProgram};
+use cell_sensors::Gauge;
+use cell_table_press::{PressProgram, TableProgram};
 use cell_word::unpack;
 use std::marker::Model;
 

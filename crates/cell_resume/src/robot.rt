@@ -9,9 +9,9 @@ ghost use Rattle.cell_resume.specs.RobotKeeps as keeps;
 use crate::fault::ResumeFault;
 use crate::keep::{Keep, Share, agree, pick};
 use crate::resumable::Resumable;
-use cell_calib::Gauge;
 use cell_robot::{RobotMagnets, RobotNotes, RobotProgram, RobotProgress, RobotStep};
 use cell_rules::State;
+use cell_sensors::Gauge;
 use cell_types::{Machine, Place, Posture, Zone};
 
 // The steps, in the order of their numbers.
@@ -373,7 +373,7 @@ fn has_magnets(progress: RobotProgress) -> bool
 
 impl<F1: Gauge, F2: Gauge, F3: Gauge> Resumable for RobotProgram<F1, F2, F3> {
     ghost use Rattle.cell_resume.specs.RobotKeeps.{in_step};
-    ghost use Rattle.cell_robot.proofs.RobotFacts.{RobotKnows};
+    ghost use Rattle.cell_robot.proofs.lemmas.RobotFacts.{RobotKnows};
 
     ghost in_step = { in_step };
 

@@ -9,9 +9,9 @@ ghost use Rattle.cell_resume.specs.TableKeeps as keeps;
 use crate::fault::ResumeFault;
 use crate::keep::{Keep, Share, agree, pick};
 use crate::resumable::Resumable;
-use cell_calib::Gauge;
 use cell_rules::State;
-use cell_stations::{TableProgram, TableProgress, TableStep};
+use cell_sensors::Gauge;
+use cell_table_press::{TableProgram, TableProgress, TableStep};
 use cell_types::{Machine, Place, Posture, Zone};
 
 // The steps, in the order of their numbers.
@@ -150,7 +150,7 @@ fn is_noted(progress: TableProgress, state: &State) -> bool
 
 impl<F: Gauge> Resumable for TableProgram<F> {
     ghost use Rattle.cell_resume.specs.TableKeeps.{in_step};
-    ghost use Rattle.cell_stations.proofs.TableFacts.{TableKnows};
+    ghost use Rattle.cell_table_press.proofs.lemmas.TableFacts.{TableKnows};
 
     ghost in_step = { in_step };
 

@@ -1,8 +1,8 @@
 //! Where the six machines stand.
 
-use cell_haul::{CraneProgress, DepositProgress, FeedProgress};
+use cell_belts_crane::{CraneProgress, DepositProgress, FeedProgress};
 use cell_robot::RobotProgress;
-use cell_stations::{PressProgress, TableProgress};
+use cell_table_press::{PressProgress, TableProgress};
 
 /// The step of each machine, with its notes.
 #[derive(Clone, Copy)]

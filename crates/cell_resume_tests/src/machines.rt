@@ -3,14 +3,14 @@ ghost use Rattle.std.specs.Prelude.{◌≡◌};
 ghost use Rattle.cell_interlock.specs.Fresh.{AreFresh};
 
 use crate::plant::Plant;
-use cell_calib::{Calibration, Gauge, Points, line_at};
+use cell_belts_crane::{CraneProgram, DepositProgram, FeedProgram};
 use cell_control::{Program, Wired};
-use cell_haul::{CraneProgram, DepositProgram, FeedProgram};
 use cell_interlock::{Interlock, PassLine, Passes};
 use cell_resume::{Checkpoint, CheckpointBytes, Resumed, ResumedCell, Team, resume_at};
 use cell_robot::RobotProgram;
 use cell_rules::State;
-use cell_stations::{PressProgram, TableProgram};
+use cell_sensors::{Calibration, Gauge, Points, line_at};
+use cell_table_press::{PressProgram, TableProgram};
 use std::alloc::Global;
 use std::test::Fail;
 

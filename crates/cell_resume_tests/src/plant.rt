@@ -1,8 +1,8 @@
 //! Six simulated machines: axes, belts, and what their sensors show. They keep their positions
 //! while the power is off.
 
-use cell_calib::{CraneSense, DepositSense, FeedSense, PressSense, RobotSense, TableSense};
 use cell_devices::{CraneAct, DepositAct, FeedAct, Motor, PressAct, RobotAct, TableAct};
+use cell_sensors::{CraneSense, DepositSense, FeedSense, PressSense, RobotSense, TableSense};
 
 /// How far an axis goes in a turn.
 const STEP: u16 = 20;

@@ -6,7 +6,7 @@ use Rattle.cell_ring.specs.Following.{is_plate_move, is_move_from, position_afte
 use Rattle.cell_ring.proofs.Ring.{one_position, not_same, same-self, reached}
 use Rattle.cell_ring.proofs.Sums.{bit, sum_plus, sum_same, sum_here, sum_times, sum_filter}
 use Rattle.cell_ring.proofs.Journeys.{nearer, farther, far, between, to_itself}
-use Rattle.cell_ring.proofs.Events.{Moves, Happens, happens}
+use Rattle.cell_ring.proofs.lemmas.Events.{Moves, Happens, happens}
 
 differ : (p q : Position) → same_position p q ≡ false → p ≢ q
 differ p q f e = never (sym (same-self p) ∙ ap (same_position p) e ∙ f)

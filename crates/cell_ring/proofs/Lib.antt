@@ -1,10 +1,9 @@
+pub mod lemmas
 mod Names
-pub mod Ring
-pub mod OnRing
-pub mod Spots
-pub mod Calls
-pub mod Events
-pub mod Journeys
-pub mod Followed
-pub mod Sums
-pub mod Together
+mod Ring
+mod OnRing
+mod Spots
+mod Calls
+mod Journeys
+mod Followed
+mod Sums

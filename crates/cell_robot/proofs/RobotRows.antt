@@ -10,11 +10,11 @@ use Rattle.cell_devices.specs.Names.{DrivesTo, StopsAt}
 use Rattle.cell_devices.specs.declared.motor.Motor.TheVariants.{Off, Minus, Plus}
 use Rattle.cell_devices.specs.declared.stops.TheConstants.{ROTATION_ARM1_TABLE, ROTATION_ARM2_PRESS, ROTATION_ARM1_PRESS, ROTATION_ARM2_DEPOSIT, ARM1_TABLE, ARM1_PRESS, ARM2_PRESS, ARM2_DEPOSIT, RETRACTED}
 use Rattle.cell_devices.specs.declared.act.RobotAct.{RobotAct}
-use Rattle.cell_devices.proofs.DriveLemmas.{drives_one, stops_there, goes_plus, goes_minus}
+use Rattle.cell_devices.proofs.lemmas.DriveLemmas.{drives_one, stops_there, goes_plus, goes_minus}
 use Rattle.cell_rules.specs.ModelState.{ModelState}
 use Rattle.cell_control.specs.declared.row.Row.{Row}
 use Rattle.cell_control.specs.Names.{waits_on, DriveRow, is_inquiry, row_that_drives}
-use Rattle.cell_control.proofs.WaitLemmas.{stays_never, stays_until_free_and_open}
+use Rattle.cell_control.proofs.lemmas.WaitLemmas.{stays_never, stays_until_free_and_open}
 use Rattle.cell_robot.specs.Names.{RobotScales, row_at, row_of, step_after_inquiry, arm1_stop, arm2_stop, turns_to, Acts, after_done}
 use Rattle.cell_robot.specs.declared.robot.RobotStep.{RobotStep}
 use Rattle.cell_robot.specs.declared.robot.RobotStep.TheVariants.{AwaitPlate, ReachTable, ReleaseTable, InspectPress, ReleasePress, ReachToLoad, AwaitForged, ReachToUnload, ReleaseUnloaded}

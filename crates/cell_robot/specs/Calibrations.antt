@@ -1,6 +1,6 @@
 -- The calibrations of the robot's program: of its two arms and of its rotation.
-use Rattle.cell_calib.specs.declared.calibration.Calibration.{Calibration}
-use Rattle.cell_calib.specs.declared.gauge.Gauge.{Ghosts}
+use Rattle.cell_sensors.specs.declared.calibration.Calibration.{Calibration}
+use Rattle.cell_sensors.specs.declared.gauge.Gauge.{Ghosts}
 use Rattle.cell_robot.specs.declared.robot.RobotProgram.{RobotProgram}
 
 module _ {F1 F2 F3 : Type 0} {g1 : Ghosts F1} {g2 : Ghosts F2} {g3 : Ghosts F3} where

@@ -2,9 +2,9 @@
 use Rattle.std.specs.Prelude.{◌≡◌, ◌≢◌, ℕ, pos, Bool, true, false, List, [], ◌∷◌, Option, Some, Ok, Err}
 use Rattle.cell_rules.specs.Types.{Machine, Robot, Zone, Z2, Z3, Z4, Posture, OpenIn, OpenOut, Call, Claim, Give}
 use Rattle.cell_rules.specs.Types.{Take, Release, Event}
-use Rattle.cell_calib.specs.Names.{Scale}
-use Rattle.cell_calib.specs.declared.sense.RobotSense.{RobotSense}
-use Rattle.cell_calib.specs.declared.sense.SensorFault.TheVariants.{Low, High, Clash}
+use Rattle.cell_sensors.specs.Names.{Scale}
+use Rattle.cell_sensors.specs.declared.sense.RobotSense.{RobotSense}
+use Rattle.cell_sensors.specs.declared.sense.SensorFault.TheVariants.{Low, High, Clash}
 use Rattle.cell_devices.specs.declared.motor.Motor.{Motor}
 use Rattle.cell_devices.specs.declared.motor.Motor.TheVariants.{Off, Plus, Minus}
 use Rattle.cell_devices.specs.declared.act.RobotAct.{RobotAct}

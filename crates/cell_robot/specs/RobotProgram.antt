@@ -3,10 +3,10 @@ use Rattle.std.specs.Prelude.{◌≡◌, ◌≢◌, ℕ, ◌<◌, ◌≤◌, ◌
 use Rattle.std.specs.Prelude.{IsTrue, if◌then◌else◌, List, Option, Some, None, Result, Ok, Err}
 use Rattle.cell_rules.specs.Types.{Machine, Robot, Zone, Z2, Z3, Z4, Arm1, PressIn, PressOut, Arm2, Posture, OpenIn}
 use Rattle.cell_rules.specs.Types.{OpenOut, Call, Claim, Give, Take, Release, Inquire, Event}
-use Rattle.cell_calib.specs.Names.{Scale, IsReading}
-use Rattle.cell_calib.specs.declared.sense.RobotSense.{RobotSense}
-use Rattle.cell_calib.specs.declared.sense.SensorFault.{SensorFault}
-use Rattle.cell_calib.specs.declared.sense.SensorFault.TheVariants.{Low, High, Clash}
+use Rattle.cell_sensors.specs.Names.{Scale, IsReading}
+use Rattle.cell_sensors.specs.declared.sense.RobotSense.{RobotSense}
+use Rattle.cell_sensors.specs.declared.sense.SensorFault.{SensorFault}
+use Rattle.cell_sensors.specs.declared.sense.SensorFault.TheVariants.{Low, High, Clash}
 use Rattle.cell_devices.specs.Names.{DrivesTo, retracted_to}
 use Rattle.cell_devices.specs.declared.motor.Motor.{Motor}
 use Rattle.cell_devices.specs.declared.motor.Motor.TheVariants.{Off}

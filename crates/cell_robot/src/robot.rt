@@ -5,7 +5,6 @@ ghost use Rattle.cell_devices.specs.Limits.{retracted_to};
 ghost use Rattle.cell_robot.specs.RobotProgram as program;
 ghost use Rattle.cell_robot.specs.Calibrations.{arm1_in, arm2_in, rotation_in};
 
-use cell_calib::{Calibration, Gauge, RobotSense, SensorFault};
 use cell_control::{Controller, Program, Row, Waits};
 use cell_devices::stops::{
     ARM1_PRESS, ARM1_TABLE, ARM2_DEPOSIT, ARM2_PRESS, RETRACTED, ROTATION_ARM1_PRESS,
@@ -13,6 +12,7 @@ use cell_devices::stops::{
 };
 use cell_devices::{Motor, RobotAct, Stop, drive_to, is_retracted};
 use cell_rules::State;
+use cell_sensors::{Calibration, Gauge, RobotSense, SensorFault};
 use cell_types::{Call, Machine, Place, Posture, Zone};
 
 /// A step of the robot's program.

@@ -2,7 +2,7 @@
 use Rattle.cell_rules.proofs.Names.{◌≡◌, None, Machine, Zone, Pose}
 use Rattle.cell_rules.specs.ModelState.{ModelState}
 use Rattle.cell_rules.specs.Refusals
-use Rattle.cell_rules.proofs.Done.{none_at, yield_conditions, release_conditions, pose_conditions}
+use Rattle.cell_rules.proofs.lemmas.DoneCalls.{none_at, yield_conditions, release_conditions, pose_conditions}
 
 pub yield_out_of_use : (s : ModelState) (m : Machine) (z : Zone) → Refusals.yield_refusal s m z ≡ None → Refusals.in_use s m z ≡ None
 yield_out_of_use s m z e = none_at (yield_conditions s m z) e 4

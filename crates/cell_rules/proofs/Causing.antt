@@ -3,9 +3,9 @@ use Rattle.cell_rules.proofs.Names.{◌≡◌, ◌≤◌, ℕ, Bool, true, false
 use Rattle.cell_rules.proofs.Names.{NoPose, Call, Claim, Give, Yield, Take, Release, SetPose, Advance, Stop, Resume, way_of, ModelState, zone_at, is_full, has, is_party, owner_of, posture_at, owns, given_by, transfer_given, is_shut, parties_of, gift_of, is_stranger, is_in_use, on_way, claim_cause, give_cause, yield_cause, take_cause, release_cause, stop_cause, resume_cause, order_of}
 use Rattle.cell_rules.specs.Refusals
 use Rattle.cell_rules.specs.Causes.{is_cause}
-use Rattle.cell_rules.proofs.Tables.{and_left, and_right, machines, zones, postures, holds3}
+use Rattle.cell_rules.proofs.lemmas.Tables.{and_left, and_right, machines, zones, postures, holds3}
 use Rattle.cell_rules.proofs.Chains.{Line, line, chain, numbers, Tells, First, is_among, told_by, first_by}
-use Rattle.cell_rules.proofs.Tellings.{plain, names_owner, names_zone, names_holder, names_posture, names_moving, worn_at}
+use Rattle.cell_rules.proofs.lemmas.Tellings.{plain, names_owner, names_zone, names_holder, names_posture, names_moving, worn_at}
 
 -- a call's refusal has its cause, and is in the call's order
 pub record TellsRight (causes : Refusal → Bool) (order : List ℕ) (o : Option Refusal) : Type 0 where

@@ -2,11 +2,11 @@
 use Rattle.cell_rules.proofs.Names.{◌≡◌, ◌≢◌, Bool, true, false, ◌&&◌, not, Option, Some, None, unwrap_or, List, [], ◌∷◌, ◌++◌, sym, ap, ◌∙◌, subst, IsTrue, not-false, false_from_ne_true, and_parts, or_parts, or_right, Machine, Feed, Press, Deposit, Zone, Z3, Z4, Z5, Z6, Transfer, PressIn, PressOut, Posture, Closed, Moving, OpenIn, Pose, Call, SetPose, Advance, Done, Event, Jump, PlaceFull, NotOwner, host_of, transfer_of, posture_of}
 use Rattle.cell_rules.proofs.Names.{same_machine, same_posture, one_posture, ModelState, is_full, is_onto_full, owns, owner_of, posture_at, is_moving_pose, passes_through_moving, moves_at, is_blocked, opens_onto_plate, pose_refusal, advance_refusal, reply, next, after, IsLegal, Holds, Throughout, EventsFit, done, all_move}
 use Rattle.cell_rules.specs.Refusals as refusals
-use Rattle.cell_rules.proofs.Tables.{and_both, implied, from_zones}
-use Rattle.cell_rules.proofs.Done.{none_then, no_zone, not_true, advance_done}
-use Rattle.cell_rules.proofs.Moves.{concerns_posture, pose_owned}
-use Rattle.cell_rules.proofs.Soundness.{done_none}
-use Rattle.cell_rules.proofs.Holders.{same_machine-self}
+use Rattle.cell_rules.proofs.lemmas.Tables.{and_both, implied, from_zones}
+use Rattle.cell_rules.proofs.lemmas.DoneCalls.{none_then, no_zone, not_true, advance_done}
+use Rattle.cell_rules.proofs.lemmas.Moves.{concerns_posture, pose_owned}
+use Rattle.cell_rules.proofs.lemmas.Soundness.{done_none}
+use Rattle.cell_rules.proofs.lemmas.Holders.{same_machine-self}
 use Rattle.cell_rules.proofs.Accepted.{pose_fits}
 
 -- ---- an event's answer is the reply at the state before it

@@ -1,10 +1,10 @@
 -- Jumps, handovers, refusals and changes along a history.
 use Rattle.cell_rules.proofs.Names.{◌≡◌, ◌≢◌, ℕ, ◌+◌, Bool, true, false, cond, ◌&&◌, not, None, is_some, List, [], ◌∷◌, ◌++◌, refl, sym, ap, arith, subst, and-true, and-false, sum_by-cons, Machine, Press, Table, Zone, Z1, Z2, Z3, Moving, Pose, Turning, Loading, Unloading, Travelling, Middle, Low, Top, Call, Give, Yield, Take, Release, SetPose, Event, same_machine, Done, ModelState, IsSound, reply, owns, owner_of, posture_at, pose_refusal}
 use Rattle.cell_rules.proofs.Names.{after, IsLegal, own_events, is_done, done_count, changes_by_others, Throughout, HandoverByHolder, done, NoJump, HasZone, ChangesAreCounted, RefusalsTellAlong, refused}
-use Rattle.cell_rules.proofs.Tables.{never}
-use Rattle.cell_rules.proofs.Soundness.{done_none}
-use Rattle.cell_rules.proofs.Histories.{sound-after}
-use Rattle.cell_rules.proofs.Holders.{owner_is, give_owned, yield_owned, take_owned, release_owned}
+use Rattle.cell_rules.proofs.lemmas.Tables.{never}
+use Rattle.cell_rules.proofs.lemmas.Soundness.{done_none}
+use Rattle.cell_rules.proofs.lemmas.Histories.{sound-after}
+use Rattle.cell_rules.proofs.lemmas.Holders.{owner_is, give_owned, yield_owned, take_owned, release_owned}
 use Rattle.cell_rules.proofs.Fitting.{OwnersHold, legal_at, replies_done, no_jump}
 use Rattle.cell_rules.proofs.Refusing.{refusals_tell}
 

@@ -1,10 +1,10 @@
 -- Laws of the holders of zones, for one legal history from a sound opening.
 use Rattle.cell_rules.proofs.Names.{◌≡◌, true, ◌||◌, is_none, List, sym, ap, ◌∙◌, ◌↔◌, IsTrue, subst, Machine, Robot, Press, Zone, Z3, Moving, Event, host_of, guest_of, same_posture, ModelState, IsSound, is_owned_by, is_open, owns, owner_of, posture_at, after, IsLegal, Holds, Moves, OneHolder, MoverIsHost, GuestOnlyWhileOpen}
-use Rattle.cell_rules.proofs.Tables.{implied}
-use Rattle.cell_rules.proofs.Histories.{sound-after}
-use Rattle.cell_rules.proofs.Holders.{owner_is}
-use Rattle.cell_rules.proofs.HoldsLemmas.{holds_iff_owns}
-use Rattle.cell_rules.proofs.Postures.{posture-after}
+use Rattle.cell_rules.proofs.lemmas.Tables.{implied}
+use Rattle.cell_rules.proofs.lemmas.Histories.{sound-after}
+use Rattle.cell_rules.proofs.lemmas.Holders.{owner_is}
+use Rattle.cell_rules.proofs.lemmas.HoldsLemmas.{holds_iff_owns}
+use Rattle.cell_rules.proofs.lemmas.Postures.{posture-after}
 
 pub one_holder : (s : ModelState) → IsSound s → (h : List Event) → IsLegal s h → OneHolder s h
 one_holder s k h l =

@@ -1,48 +1,16 @@
+pub mod lemmas
 mod Names
-pub mod Tables
-pub mod Puts
-pub mod Keyed
-pub mod MapsHold
-pub mod Lawful
-pub mod Done
-pub mod Kept
-pub mod Plates
-pub mod Moves
-pub mod Soundness
-pub mod Tested
-pub mod Held
-pub mod Histories
-pub mod HoldsLemmas
-pub mod Holders
-pub mod Postures
-pub mod Lasting
-pub mod Unposed
-pub mod HolderLaws
-pub mod Transfers
-pub mod Counted
-pub mod Flags
-pub mod Conserved
-pub mod Stamps
-pub mod Keepers
-pub mod Accepted
-pub mod Chains
-pub mod Tellings
-pub mod Causing
-pub mod Posing
-pub mod Refusing
-pub mod Unbarred
-pub mod Clear
-pub mod Fitting
-pub mod TablesHold
-pub mod Handing
-pub mod Stopping
-pub mod FirstVersion
-pub mod Assembly
-pub mod Owners
-pub mod Quiet
-pub mod Notes
-pub mod SeenLemmas
-pub mod Told
-pub mod OwnSide
-pub mod ProgramLemmas
-pub mod Restamps
+mod Keyed
+mod MapsHold
+mod HeldZones
+mod Unposed
+mod HolderLaws
+mod Accepted
+mod Chains
+mod Causing
+mod Posing
+mod Refusing
+mod Unbarred
+mod Fitting
+mod TablesHold
+mod Handing

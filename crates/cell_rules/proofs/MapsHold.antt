@@ -6,7 +6,7 @@ use Rattle.cell_types.specs.contracts.zone.Zone.{the_type as zone_type}
 use Rattle.cell_types.specs.contracts.place.Place.{the_type as place_type}
 use Rattle.cell_types.specs.contracts.zone.ZoneOrd.TheImpl.Laws.{total-law as zones_total, matches_eq-law as zones_match}
 use Rattle.cell_types.specs.contracts.place.PlaceOrd.TheImpl.Laws.{total-law as places_total, matches_eq-law as places_match}
-use Rattle.cell_rules.proofs.Puts.{each_zone, each_place, zone_in-put, zone_in-map, has-put}
+use Rattle.cell_rules.proofs.lemmas.Puts.{each_zone, each_place, zone_in-put, zone_in-map, has-put}
 use Rattle.cell_rules.proofs.Keyed.{get-table, table-put, contains-members, members-insert, members-remove}
 
 put_here : (m : ZoneMap) (z : Zone) (v : ZoneState) → zone_in (put_zone m z v) z ≡ v

@@ -31,7 +31,7 @@ pub use Rattle.cell_rules.specs.Types.{Advance, AlreadyMine, Answer, Arm1, Arm2,
 pub use Rattle.cell_rules.specs.Types.{Machine, Middle, Moving, NoPlate, NoPose, NotAtWork, NotOwner, NotParty, NotStopped, Offering, OpenIn, OpenOut, Place, PlaceFull, PlateInZone, Pose, Posture, Press, PressIn, PressOut, Refusal, Refused}
 pub use Rattle.cell_rules.specs.Types.{Release, Resume, Robot, Running, SetPose, Shut, Standing, Stop, Stopped, Table, Take, Top, Transfer, Travelling, Turning, Unloading, Watch, Worn, WrongWay, Yield, Z1, Z2, Z3, Z4, Z5, Z6, Zone}
 pub use Rattle.cell_rules.specs.Types.{all_places, all_zones, guest_of, host_of, keeper_of, number_of, one_machine, one_posture, own_move_of, posture_of, same_machine, same_place, same_pose, same_posture, same_zone}
-pub use Rattle.cell_types.proofs.SameLemmas.{one_place, one_zone}
+pub use Rattle.cell_types.proofs.lemmas.SameLemmas.{one_place, one_zone}
 pub use Rattle.cell_rules.specs.Types.{transfer_of}
 pub use Rattle.cell_rules.specs.declared.zones.ZoneState.{ZoneState}
 pub use Rattle.cell_types.specs.Ways.{way_of}

@@ -4,7 +4,7 @@ use Rattle.cell_rules.proofs.Names.{Running, Landing, Halted, Offering, Standing
 use Rattle.cell_types.specs.declared.machine.Machine.TheVariants.{Table as TableMachine}
 use Rattle.cell_rules.specs.Refusals
 use Rattle.cell_rules.proofs.Chains.{Line, line, Tells, head_on}
-use Rattle.cell_rules.proofs.Tellings.{plain, names_owner, names_zone, worn_at}
+use Rattle.cell_rules.proofs.lemmas.Tellings.{plain, names_owner, names_zone, worn_at}
 use Rattle.cell_rules.proofs.Causing.{TellsRight, AllNamed, by_lines, named}
 
 -- ---- the machine doesn't have the pose, or has no work

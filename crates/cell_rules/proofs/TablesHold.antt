@@ -1,6 +1,6 @@
 -- The poses that move, and the digits of a start.
 use Rattle.cell_rules.proofs.Names.{◌≡◌, Bool, true, Some, refl, ap, option_eq, Machine, Feed, Press, Table, Zone, Z1, Z3, Z6, Moving, Pose, Turning, Travelling, Running, posture_of, same_posture, implies, is_moving_pose, PosesThatMove, DigitsArePlaces, moves}
-use Rattle.cell_rules.proofs.Tables.{implied, machines, zones, poses, holds3}
+use Rattle.cell_rules.proofs.lemmas.Tables.{implied, machines, zones, poses, holds3}
 
 named : (p : Pose) → is_moving_pose p ≡ moves p
 named Turning = refl

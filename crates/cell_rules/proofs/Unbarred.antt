@@ -1,7 +1,7 @@
 -- A call that isn't barred doesn't ask whether the cell is stopped.
 use Rattle.cell_rules.proofs.Names.{◌≡◌, true, false, ◌&&◌, refl, sym, ap, ◌∙◌, Machine, Pose, Turning, Travelling, Running, Call, Claim, Give, SetPose, Stop, Resume, Stopped, ModelState, reply, has_call, is_barred, is_cause, is_moving, running, WhatMovesMayStop}
 use Rattle.cell_rules.proofs.Refusing.{refusals_tell}
-use Rattle.cell_rules.proofs.Tables.{never}
+use Rattle.cell_rules.proofs.lemmas.Tables.{never}
 
 posed_same : (s : ModelState) (m : Machine) (p : Pose) → is_barred (SetPose p) ≡ false → reply s m (SetPose p) ≡ reply (running s) m (SetPose p)
 posed_same s m Turning k = absurd (never k)

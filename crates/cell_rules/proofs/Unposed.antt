@@ -1,10 +1,10 @@
 -- The posture of a zone by the events stays while its host makes no event.
 use Rattle.cell_rules.proofs.Names.{◌≡◌, Bool, true, false, Option, Some, None, List, [], ◌∷◌, ◌++◌, refl, ap, ◌∙◌, if◌then◌else◌, unwrap_or, false_from_ne_true, Machine, Zone, Posture, Closed, Call, SetPose, Advance, Event, host_of, posture_of, same_machine, ModelState, posture_at, is_belt_of, own_events, is_done, posture_given, posture_since, posture_by_events}
-use Rattle.cell_rules.proofs.Tables.{and_left}
-use Rattle.cell_rules.proofs.Lawful.{can_be_in}
-use Rattle.cell_rules.proofs.Moves.{suits, posture_suits}
-use Rattle.cell_rules.proofs.Holders.{same_machine-self}
-use Rattle.cell_rules.proofs.Lasting.{belt_host, own_head}
+use Rattle.cell_rules.proofs.lemmas.Tables.{and_left}
+use Rattle.cell_rules.proofs.lemmas.Lawful.{can_be_in}
+use Rattle.cell_rules.proofs.lemmas.Moves.{suits, posture_suits}
+use Rattle.cell_rules.proofs.lemmas.Holders.{same_machine-self}
+use Rattle.cell_rules.proofs.lemmas.Lasting.{belt_host, own_head}
 
 -- only a host's pose gives a zone a posture
 unposed : (n : Machine) (z : Zone) (q : Option Posture) (now : Posture) → suits n z q ≡ true → same_machine n (host_of z) ≡ false → unwrap_or q now ≡ now

@@ -75,7 +75,7 @@ impl Bench {
     }
 
     /// The state that the history leads to.
-    #[tactic(auto, using(crate::proofs::SeenLemmas::state_reached))]
+    #[tactic(auto, using(crate::proofs::lemmas::SeenLemmas::state_reached))]
     pub fn state(&self) -> State
         ensures state { result ≡ (desk_of self.now).state }
         ensures reached { result ≡ after (desk_of self.now).opening (desk_of self.now).history }

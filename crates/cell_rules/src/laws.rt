@@ -106,7 +106,7 @@ pub fn stays_sound(opening: &State, history: &[Event])
 /// Table and press don't jump to a pose, a zone opens inward only onto an empty place, a pose
 /// changes only what its machine holds, a plate comes to a belt's end only while the belt runs, and
 /// the press forges only while it holds its interior and is Closed.
-#[tactic(auto, using(crate::proofs::Assembly::events_fit))]
+#[tactic(auto, using(crate::proofs::lemmas::Assembly::events_fit))]
 pub fn events_fit(opening: &State, history: &[Event])
     requires { IsLegal opening.now history.now }
     ensures { law.EventsFit opening.now history.now }
@@ -121,7 +121,7 @@ pub fn no_jump(opening: &State, history: &[Event])
 {}
 
 /// A machine holds the zone in which it gives, or which it yields, takes from or releases.
-#[tactic(auto, using(crate::proofs::Assembly::handover_by_holder))]
+#[tactic(auto, using(crate::proofs::lemmas::Assembly::handover_by_holder))]
 pub fn handover_by_holder(opening: &State, history: &[Event])
     requires { IsLegal opening.now history.now }
     ensures { law.HandoverByHolder opening.now history.now }
@@ -203,7 +203,7 @@ pub fn stamps_only_wear()
 
 /// The state at the end of an interlock is the same for a machine that has seen all its own events,
 /// also with another stamp.
-#[tactic(auto, using(crate::proofs::Restamps::same_after))]
+#[tactic(auto, using(crate::proofs::lemmas::Restamps::same_after))]
 pub fn ends_are_same()
     ensures { EndsAreSame }
 {}

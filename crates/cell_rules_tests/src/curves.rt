@@ -1,6 +1,6 @@
 //! Curves: what they read, and why pairs make none.
 
-use cell_calib::{Curve, CurveFault, Points, SensorFault, curve_reading};
+use cell_sensors::{Curve, CurveFault, Points, SensorFault, curve_reading};
 use std::process::Abort;
 
 // Checks what the curve through these pairs reads at each of some raw values.

@@ -1,6 +1,6 @@
 //! The words of scripts and reports, and the numbers of the refusals.
 
-use cell_calib::SensorFault;
+use cell_sensors::SensorFault;
 use cell_types::{Answer, Call, Machine, Place, Pose, Posture, Refusal, Zone};
 use std::alloc::Global;
 use std::fmt;

@@ -1,7 +1,7 @@
 //! Readings by calibrations, the limits of points, and switches that clash.
 ghost use Rattle.std.specs.Prelude.{◌≡◌, ◌≤◌, slice_get};
 
-use cell_calib::{
+use cell_sensors::{
     Calibration, Gauge, Points, PointsFault, SensorFault, SensorVector, line_at, switches_agree,
 };
 use std::process::Abort;

@@ -3,9 +3,9 @@ ghost use Rattle.std.specs.Prelude.{IfOk, pos, ◌≤ℤ◌};
 ghost use Rattle.cell_parts.specs.Axes.{IsAxisScale, arm_end, rotation_end, turn_end};
 ghost use Rattle.cell_rules.specs.Start.{IsStartState};
 
-use cell_calib::{Calibration, Gauge, Points, PointsFault, line_at};
 use cell_plant::{Cell, RunRecord, SimFault, Turn, simulate};
 use cell_rules::State;
+use cell_sensors::{Calibration, Gauge, Points, PointsFault, line_at};
 use cell_types::Place;
 use std::alloc::Global;
 use std::test::Fail;

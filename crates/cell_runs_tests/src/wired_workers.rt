@@ -2,19 +2,19 @@
 ghost use Rattle.std.specs.Prelude.{◌≡◌};
 ghost use Rattle.cell_rules.specs.Start.{IsStartState};
 
-use cell_calib::{
-    Calibration, CraneSense, DepositSense, FeedSense, Gauge, Points, PressSense, RobotSense,
-    SensorFault, TableSense, line_at,
-};
+use cell_belts_crane::{CraneProgram, DepositProgram, FeedProgram};
 use cell_control::{CtlFault, Program, Told};
 use cell_devices::{CraneAct, DepositAct, FeedAct, Motor, PressAct, RobotAct, TableAct};
-use cell_haul::{CraneProgram, DepositProgram, FeedProgram};
 use cell_notes::Status;
 use cell_renewal::{Devices, WiredOutput, WiredWorker};
 use cell_robot::RobotProgram;
 use cell_rules::State;
-use cell_stations::{PressProgram, TableProgram};
-use cell_threads::{OpenGate, PerMachine, RunFault, SixRecord, run_workers};
+use cell_sensors::{
+    Calibration, CraneSense, DepositSense, FeedSense, Gauge, Points, PressSense, RobotSense,
+    SensorFault, TableSense, line_at,
+};
+use cell_table_press::{PressProgram, TableProgram};
+use cell_threads::{OpenGate, RunFault, SixOf, SixRecord, run_workers};
 use std::alloc::Global;
 use std::sync::Wait;
 use std::test::Fail;
@@ -138,7 +138,7 @@ where
     );
     let table = TableProgram::new(Calibration::new(turn, points.turn));
     let crane = CraneProgram::new(Calibration::new(gripper, points.arm));
-    let workers = PerMachine {
+    let workers = SixOf {
         feed: still(FeedProgram, opening, FeedSense { barrier: false }),
         table: still(table, opening, AT_BOTTOM),
         robot: still(robot, opening, AT_TABLE),

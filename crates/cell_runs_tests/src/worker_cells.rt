@@ -4,10 +4,10 @@ ghost use Rattle.std.specs.Prelude.{IfOk, pos, ◌<ℤ◌, ◌≤ℤ◌};
 ghost use Rattle.cell_parts.specs.Axes.{IsAxisScale, arm_end, rotation_end, turn_end};
 ghost use Rattle.cell_rules.specs.Start.{IsStartState};
 
-use cell_calib::{Calibration, Gauge, Points, PointsFault, line_at};
 use cell_notes::RunRecord;
 use cell_plant::Cell;
 use cell_rules::State;
+use cell_sensors::{Calibration, Gauge, Points, PointsFault, line_at};
 use cell_workers::{OpenGate, RunFault, run_cell};
 use std::alloc::Global;
 use std::sync::Wait;

@@ -1,7 +1,7 @@
 -- The plates that the press has, or that are on their way into it or out of it: only the robot changes their number.
 use Rattle.cell_team.proofs.Names.{◌≡◌, ℕ, ◌+◌, Bool, true, false, ◌&&◌, cond, refl, arith, Machine, Feed, Robot, Press, Zone, Z3, PressIn, PressOut, Call, Give, Take, Advance, Answer, Done, Shown, Refused, same_machine, ModelState, zone_at, is_full, one_if, IsSound, is_party, give_refusal, take_refusal, reply, next, next_by, changed, gives, takes, fills, empties, and_left, give_done, take_done, done_none}
-use Rattle.cell_rules.proofs.Counted.{place-changed}
-use Rattle.cell_rules.proofs.Flags.{flag-changed}
+use Rattle.cell_rules.proofs.lemmas.CountedPlates.{place-changed}
+use Rattle.cell_rules.proofs.lemmas.Flags.{flag-changed}
 
 abbrev pub inside : ModelState → ℕ
 inside z = one_if (is_full z PressIn) + one_if (is_full z PressOut) + one_if (zone_at z Z3).flag

@@ -9,16 +9,16 @@ use Rattle.cell_devices.specs.Names.{StopsAt}
 use Rattle.cell_devices.specs.declared.stops.Stop.{Stop}
 use Rattle.cell_devices.specs.declared.stops.TheConstants.{TURN_LOADING, TURN_UNLOADING, ROTATION_ARM1_PRESS, ROTATION_ARM2_DEPOSIT, GRIPPER_TRAVEL, GRIPPER_DEPOSIT}
 use Rattle.cell_devices.specs.declared.motor.Direction.TheVariants.{Minus as Downward}
-use Rattle.cell_devices.proofs.DriveLemmas.{stops_there}
-use Rattle.cell_haul.specs.declared.crane.CraneStep.TheVariants as crane_step
-use Rattle.cell_haul.specs.declared.deposit.DepositStep.TheVariants as deposit_step
-use Rattle.cell_haul.specs.declared.feed.FeedStep.TheVariants as feed_step
+use Rattle.cell_devices.proofs.lemmas.DriveLemmas.{stops_there}
+use Rattle.cell_belts_crane.specs.declared.crane.CraneStep.TheVariants as crane_step
+use Rattle.cell_belts_crane.specs.declared.deposit.DepositStep.TheVariants as deposit_step
+use Rattle.cell_belts_crane.specs.declared.feed.FeedStep.TheVariants as feed_step
 use Rattle.cell_robot.specs.declared.robot.RobotStep.TheVariants as robot_step
-use Rattle.cell_stations.specs.declared.press.PressStep.TheVariants as press_step
-use Rattle.cell_stations.specs.declared.table.TableStep.TheVariants as table_step
+use Rattle.cell_table_press.specs.declared.press.PressStep.TheVariants as press_step
+use Rattle.cell_table_press.specs.declared.table.TableStep.TheVariants as table_step
 use Rattle.cell_team.specs.WrongPrograms as wrong
 use Rattle.cell_team.specs.WrongPrograms.{by_feed, by_table, by_robot, by_press, by_deposit, by_crane, RightRows, WrongProgramsAreRefused}
-use Rattle.cell_team.proofs.Together.{none-refused}
+use Rattle.cell_team.proofs.lemmas.Together.{none-refused}
 
 -- a start with these plates, and the machines there
 starts : (full : PlaceSet) → size_of full ≤ 6 → (has full place.PressIn && has full place.PressOut) ≡ false → IsStartState (start_state full 0)

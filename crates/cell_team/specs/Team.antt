@@ -1,13 +1,13 @@
 -- Six machines over one history, each at a step of its program to which its own events led. The watch may do anything.
 use Rattle.std.specs.Prelude.{◌≡◌, false, ◌⊎◌, List, None, Ok}
 use Rattle.cell_rules.specs.Types.{Answer, Event}
-use Rattle.cell_calib.specs.Names.{IsReading}
-use Rattle.cell_calib.specs.declared.sense.CraneSense.{CraneSense}
-use Rattle.cell_calib.specs.declared.sense.DepositSense.{DepositSense}
-use Rattle.cell_calib.specs.declared.sense.FeedSense.{FeedSense}
-use Rattle.cell_calib.specs.declared.sense.PressSense.{PressSense}
-use Rattle.cell_calib.specs.declared.sense.RobotSense.{RobotSense}
-use Rattle.cell_calib.specs.declared.sense.TableSense.{TableSense}
+use Rattle.cell_sensors.specs.Names.{IsReading}
+use Rattle.cell_sensors.specs.declared.sense.CraneSense.{CraneSense}
+use Rattle.cell_sensors.specs.declared.sense.DepositSense.{DepositSense}
+use Rattle.cell_sensors.specs.declared.sense.FeedSense.{FeedSense}
+use Rattle.cell_sensors.specs.declared.sense.PressSense.{PressSense}
+use Rattle.cell_sensors.specs.declared.sense.RobotSense.{RobotSense}
+use Rattle.cell_sensors.specs.declared.sense.TableSense.{TableSense}
 use Rattle.cell_devices.specs.declared.act.CraneAct.{CraneAct}
 use Rattle.cell_devices.specs.declared.act.DepositAct.{DepositAct}
 use Rattle.cell_devices.specs.declared.act.FeedAct.{FeedAct}
@@ -16,18 +16,18 @@ use Rattle.cell_devices.specs.declared.act.RobotAct.{RobotAct}
 use Rattle.cell_devices.specs.declared.act.TableAct.{TableAct}
 use Rattle.cell_rules.specs.Names.{ModelState, own_events, is_done_answer, Program, Reached}
 use Rattle.cell_control.specs.Steps.{Steps, after_answer}
-use Rattle.cell_haul.specs.Names.{crane_steps, deposit_steps, feed_steps}
-use Rattle.cell_haul.specs.declared.crane.CraneProgress.{CraneProgress}
-use Rattle.cell_haul.specs.declared.crane.CraneReading.{CraneReading}
-use Rattle.cell_haul.specs.declared.deposit.DepositProgress.{DepositProgress}
-use Rattle.cell_haul.specs.declared.feed.FeedProgress.{FeedProgress}
+use Rattle.cell_belts_crane.specs.Names.{crane_steps, deposit_steps, feed_steps}
+use Rattle.cell_belts_crane.specs.declared.crane.CraneProgress.{CraneProgress}
+use Rattle.cell_belts_crane.specs.declared.crane.CraneReading.{CraneReading}
+use Rattle.cell_belts_crane.specs.declared.deposit.DepositProgress.{DepositProgress}
+use Rattle.cell_belts_crane.specs.declared.feed.FeedProgress.{FeedProgress}
 use Rattle.cell_robot.specs.Names.{RobotScales, robot_scales, near_lines, robot_steps}
 use Rattle.cell_robot.specs.declared.robot.RobotProgress.{RobotProgress}
 use Rattle.cell_robot.specs.declared.robot.RobotReading.{RobotReading}
-use Rattle.cell_stations.specs.Names.{press_steps, table_steps}
-use Rattle.cell_stations.specs.declared.press.PressProgress.{PressProgress}
-use Rattle.cell_stations.specs.declared.table.TableProgress.{TableProgress}
-use Rattle.cell_stations.specs.declared.table.TableReading.{TableReading}
+use Rattle.cell_table_press.specs.Names.{press_steps, table_steps}
+use Rattle.cell_table_press.specs.declared.press.PressProgress.{PressProgress}
+use Rattle.cell_table_press.specs.declared.table.TableProgress.{TableProgress}
+use Rattle.cell_table_press.specs.declared.table.TableReading.{TableReading}
 use Rattle.cell_parts.specs.Axes.{CellScales}
 
 -- the step of each machine, with its notes

@@ -1,34 +1,34 @@
 -- Programs that are wrong in one row: by each of them a machine is refused what its step doesn't wait for.
 use Rattle.std.specs.Prelude.{pos}
-use Rattle.cell_calib.specs.Scale.{Scale, scale_by}
+use Rattle.cell_sensors.specs.Scale.{Scale, scale_by}
 use Rattle.cell_control.specs.Names.{with_waits, Steps}
 use Rattle.cell_control.specs.declared.row.Row.{Row}
 use Rattle.cell_control.specs.declared.row.Waits.TheVariants.{Never}
 use Rattle.cell_control.specs.declared.row.Waits.TheVariants.{UntilFree}
-use Rattle.cell_haul.specs.declared.crane.CraneProgress.{CraneProgress}
-use Rattle.cell_haul.specs.declared.crane.CraneStep.{CraneStep}
-use Rattle.cell_haul.specs.declared.deposit.DepositProgress.{DepositProgress}
-use Rattle.cell_haul.specs.declared.deposit.DepositStep.{DepositStep}
-use Rattle.cell_haul.specs.declared.feed.FeedProgress.{FeedProgress}
-use Rattle.cell_haul.specs.declared.feed.FeedStep.{FeedStep}
-use Rattle.cell_haul.specs.declared.crane.CraneStep.TheVariants as crane_step
-use Rattle.cell_haul.specs.declared.deposit.DepositStep.TheVariants as deposit_step
-use Rattle.cell_haul.specs.declared.feed.FeedStep.TheVariants as feed_step
-use Rattle.cell_haul.specs.CraneProgram as crane_program
-use Rattle.cell_haul.specs.DepositProgram as deposit_program
-use Rattle.cell_haul.specs.FeedProgram as feed_program
+use Rattle.cell_belts_crane.specs.declared.crane.CraneProgress.{CraneProgress}
+use Rattle.cell_belts_crane.specs.declared.crane.CraneStep.{CraneStep}
+use Rattle.cell_belts_crane.specs.declared.deposit.DepositProgress.{DepositProgress}
+use Rattle.cell_belts_crane.specs.declared.deposit.DepositStep.{DepositStep}
+use Rattle.cell_belts_crane.specs.declared.feed.FeedProgress.{FeedProgress}
+use Rattle.cell_belts_crane.specs.declared.feed.FeedStep.{FeedStep}
+use Rattle.cell_belts_crane.specs.declared.crane.CraneStep.TheVariants as crane_step
+use Rattle.cell_belts_crane.specs.declared.deposit.DepositStep.TheVariants as deposit_step
+use Rattle.cell_belts_crane.specs.declared.feed.FeedStep.TheVariants as feed_step
+use Rattle.cell_belts_crane.specs.CraneProgram as crane_program
+use Rattle.cell_belts_crane.specs.DepositProgram as deposit_program
+use Rattle.cell_belts_crane.specs.FeedProgram as feed_program
 use Rattle.cell_robot.specs.declared.robot.RobotProgress.{RobotProgress}
 use Rattle.cell_robot.specs.declared.robot.RobotStep.{RobotStep}
 use Rattle.cell_robot.specs.declared.robot.RobotStep.TheVariants as robot_step
 use Rattle.cell_robot.specs.RobotProgram as robot_program
-use Rattle.cell_stations.specs.declared.press.PressProgress.{PressProgress}
-use Rattle.cell_stations.specs.declared.press.PressStep.{PressStep}
-use Rattle.cell_stations.specs.declared.table.TableProgress.{TableProgress}
-use Rattle.cell_stations.specs.declared.table.TableStep.{TableStep}
-use Rattle.cell_stations.specs.declared.press.PressStep.TheVariants as press_step
-use Rattle.cell_stations.specs.declared.table.TableStep.TheVariants as table_step
-use Rattle.cell_stations.specs.PressProgram as press_program
-use Rattle.cell_stations.specs.TableProgram as table_program
+use Rattle.cell_table_press.specs.declared.press.PressProgress.{PressProgress}
+use Rattle.cell_table_press.specs.declared.press.PressStep.{PressStep}
+use Rattle.cell_table_press.specs.declared.table.TableProgress.{TableProgress}
+use Rattle.cell_table_press.specs.declared.table.TableStep.{TableStep}
+use Rattle.cell_table_press.specs.declared.press.PressStep.TheVariants as press_step
+use Rattle.cell_table_press.specs.declared.table.TableStep.TheVariants as table_step
+use Rattle.cell_table_press.specs.PressProgram as press_program
+use Rattle.cell_table_press.specs.TableProgram as table_program
 use Rattle.cell_parts.specs.Axes.{CellScales}
 use Rattle.cell_team.specs.Team.{Programs, programs_of}
 use Rattle.cell_team.specs.Heeded.{NoneIsRefused}

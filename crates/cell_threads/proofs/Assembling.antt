@@ -4,7 +4,7 @@ use Rattle.cell_interlock.specs.Fresh.{AreFresh, fresh_pass}
 use Rattle.cell_threads.specs.Results.{SixResults, outputs_in, passes_in, seen_in}
 use Rattle.cell_threads.specs.Six.{TellsSix, six_fresh}
 use Rattle.cell_threads.specs.Watching.{HasWatched, HaveWorked, TellsWatched, WatchesOf, journal_with, seen_with}
-use Rattle.cell_threads.specs.declared.per_machine.PerMachine.{PerMachine}
+use Rattle.cell_threads.specs.declared.six_of.SixOf.{SixOf}
 use Rattle.cell_threads.specs.declared.six.SixRecord.{SixRecord}
 use Rattle.cell_threads.specs.declared.worker_result.WorkerResult.{WorkerResult}
 
@@ -18,7 +18,7 @@ all_fresh i passes all = record { feed = all.feed; table = all.table; robot = al
 
 -- six workers that have worked by the interlock's passes have worked by six fresh ones, and the watch by its own
 pub worked_by_fresh : {W1 W2 W3 W4 W5 W6 A B C D E F H : Type 0} → (gives1 : GivesOf W1 A) (gives2 : GivesOf W2 B) (gives3 : GivesOf W3 C) (gives4 : GivesOf W4 D) (gives5 : GivesOf W5 E) (gives6 : GivesOf W6 F) (watches : WatchesOf H)
-    (workers : PerMachine W1 W2 W3 W4 W5 W6) (watch : H) (i : InterlockView) (passes : Passes) (six : SixPasses) (pass : PassView) (limit : ℕ) (gate : Machine → GateOf) (results : SixResults A B C D E F) (watched : WorkerResult H)
+    (workers : SixOf W1 W2 W3 W4 W5 W6) (watch : H) (i : InterlockView) (passes : Passes) (six : SixPasses) (pass : PassView) (limit : ℕ) (gate : Machine → GateOf) (results : SixResults A B C D E F) (watched : WorkerResult H)
     → AreFresh i passes → six ≡ six_of passes → pass ≡ passes.watch
     → HaveWorked gives1 gives2 gives3 gives4 gives5 gives6 watches workers watch six pass i.tries gate limit results watched
     → HaveWorked gives1 gives2 gives3 gives4 gives5 gives6 watches workers watch (six_fresh i) (fresh_pass i Watch) i.tries gate limit results watched
@@ -27,7 +27,7 @@ worked_by_fresh gives1 gives2 gives3 gives4 gives5 gives6 watches workers watch 
     (subst (λ (q : SixPasses). HaveWorked gives1 gives2 gives3 gives4 gives5 gives6 watches workers watch q pass i.tries gate limit results watched) (e ∙ fresh_six i _ (all_fresh i passes fresh)) k)
 
 module _ {W1 W2 W3 W4 W5 W6 A B C D E F H : Type 0} (gives1 : GivesOf W1 A) (gives2 : GivesOf W2 B) (gives3 : GivesOf W3 C) (gives4 : GivesOf W4 D) (gives5 : GivesOf W5 E) (gives6 : GivesOf W6 F) (watches : WatchesOf H)
-    (workers : PerMachine W1 W2 W3 W4 W5 W6) (watch : H) (i : InterlockView) (limit : ℕ) (gate : Machine → GateOf) (results : SixResults A B C D E F)
+    (workers : SixOf W1 W2 W3 W4 W5 W6) (watch : H) (i : InterlockView) (limit : ℕ) (gate : Machine → GateOf) (results : SixResults A B C D E F)
     (given : GiveBack gives1 gives2 gives3 gives4 gives5 gives6 workers (six_fresh i) i.tries gate limit results)
     (watched : WorkerResult H) (watched_so : HasWatched watches i.tries watch (fresh_pass i Watch) watched) where
   -- the passes that came back are the interlock's
@@ -100,7 +100,7 @@ module _ {W1 W2 W3 W4 W5 W6 A B C D E F H : Type 0} (gives1 : GivesOf W1 A) (giv
 
 -- a watch that does nothing: the record is of the six alone
 module _ {W1 W2 W3 W4 W5 W6 A B C D E F H : Type 0} (gives1 : GivesOf W1 A) (gives2 : GivesOf W2 B) (gives3 : GivesOf W3 C) (gives4 : GivesOf W4 D) (gives5 : GivesOf W5 E) (gives6 : GivesOf W6 F)
-    (workers : PerMachine W1 W2 W3 W4 W5 W6) (watch : H) (opening : ModelState) (tries limit : ℕ) (gate : Machine → GateOf) (r : SixRecord A B C D E F) (watch_after : H)
+    (workers : SixOf W1 W2 W3 W4 W5 W6) (watch : H) (opening : ModelState) (tries limit : ℕ) (gate : Machine → GateOf) (r : SixRecord A B C D E F) (watch_after : H)
     (k : TellsWatched gives1 gives2 gives3 gives4 gives5 gives6 (λ _ got _ kept _. kept ≡ got) workers watch opening tries limit gate r watch_after) where
   seen_alone : (m : Machine) → seen_with k.results k.watched.pass m ≡ seen_in k.results m
   seen_alone Feed = refl

@@ -1,7 +1,3 @@
+pub mod lemmas
 mod Names
-pub mod Turning
-pub mod Passes
-pub mod Assembling
-pub mod FirstSteps
-pub mod Answering
-pub mod Telling
+mod Assembling

@@ -1,13 +1,13 @@
 -- The names of other crates, and of this one's definitions, that the proofs here use.
-pub use Rattle.cell_calib.specs.declared.sense.SensorFault.{SensorFault}
-pub use Rattle.cell_control.proofs.TurnMaps.{turn_either}
+pub use Rattle.cell_sensors.specs.declared.sense.SensorFault.{SensorFault}
+pub use Rattle.cell_control.proofs.lemmas.TurnMaps.{turn_either}
 pub use Rattle.cell_control.specs.Names.{Performed, PerformsCall, PerformsSensed, Rig, Steps, Turned, Turns, at_rest, step_after_reply, turned}
 pub use Rattle.cell_control.specs.declared.fault.CtlFault.{CtlFault}
 pub use Rattle.cell_interlock.specs.Ends.{ArePassesOf, IsEnd, pass_in}
 pub use Rattle.cell_interlock.specs.Lines.{LineAsks, LineView, PassAsks}
 pub use Rattle.cell_interlock.specs.Views.{InterlockView, PassView}
 pub use Rattle.cell_interlock.specs.declared.pass.Passes.{Passes}
-pub use Rattle.cell_notes.proofs.CountLemmas.{below_with, none_below}
+pub use Rattle.cell_notes.proofs.lemmas.CountLemmas.{below_with, none_below}
 pub use Rattle.cell_notes.specs.Names.{AreBelow, TurnCall, came_back, counts_with, is_busy_reply, is_done_reply, is_read_reply, is_refused_reply, no_counts}
 pub use Rattle.cell_notes.specs.declared.counts.Counts.{Counts}
 pub use Rattle.cell_notes.specs.declared.status.Status.{Status}

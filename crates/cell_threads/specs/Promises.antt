@@ -7,7 +7,7 @@ use Rattle.cell_interlock.specs.Fresh.{IsFresh}
 use Rattle.cell_interlock.specs.declared.pass.Passes.{Passes}
 use Rattle.cell_threads.specs.Workers.{GateOf, IsGivenBack}
 use Rattle.cell_threads.specs.declared.start.WorkerPromise.{WorkerPromise}
-use Rattle.cell_threads.specs.declared.per_machine.PerMachine.{PerMachine}
+use Rattle.cell_threads.specs.declared.six_of.SixOf.{SixOf}
 use Rattle.cell_threads.specs.Results.{SixResults}
 use Rattle.cell_threads.specs.declared.worker_result.WorkerResult.{WorkerResult}
 
@@ -18,7 +18,7 @@ GivesOf W B = W → PassView → ℕ → GateOf → ℕ → WorkerResult B → T
 
 -- the passes of the six: `SixPasses`, since antt has no name for an alias
 abbrev pub SixPasses : Type 0
-SixPasses = PerMachine PassView PassView PassView PassView PassView PassView
+SixPasses = SixOf PassView PassView PassView PassView PassView PassView
 
 -- the passes of the six, without the watch's
 abbrev pub six_of : Passes → SixPasses
@@ -44,7 +44,7 @@ pub record AreAllFresh (i : InterlockView) (passes : SixPasses) : Type 0 where
 -- each worker's progress follows from what its pass has seen
 pub record AreReady {W1 W2 W3 W4 W5 W6 : Type 0} (ready1 : W1 → PassView → Type 0) (ready2 : W2 → PassView → Type 0)
     (ready3 : W3 → PassView → Type 0) (ready4 : W4 → PassView → Type 0) (ready5 : W5 → PassView → Type 0)
-    (ready6 : W6 → PassView → Type 0) (workers : PerMachine W1 W2 W3 W4 W5 W6) (passes : SixPasses) : Type 0 where
+    (ready6 : W6 → PassView → Type 0) (workers : SixOf W1 W2 W3 W4 W5 W6) (passes : SixPasses) : Type 0 where
   pub feed : ready1 workers.feed passes.feed
   pub table : ready2 workers.table passes.table
   pub robot : ready3 workers.robot passes.robot
@@ -60,7 +60,7 @@ GivesBack gives worker pass tries gate turns result =
 -- each worker keeps its own promise
 pub record GiveBack {W1 W2 W3 W4 W5 W6 A B C D E F : Type 0} (gives1 : GivesOf W1 A) (gives2 : GivesOf W2 B)
     (gives3 : GivesOf W3 C) (gives4 : GivesOf W4 D) (gives5 : GivesOf W5 E) (gives6 : GivesOf W6 F)
-    (workers : PerMachine W1 W2 W3 W4 W5 W6) (passes : SixPasses) (tries : ℕ) (gate : Machine → GateOf) (turns : ℕ)
+    (workers : SixOf W1 W2 W3 W4 W5 W6) (passes : SixPasses) (tries : ℕ) (gate : Machine → GateOf) (turns : ℕ)
     (results : SixResults A B C D E F) : Type 0 where
   pub feed : GivesBack gives1 workers.feed passes.feed tries (gate passes.feed.machine) turns results.feed
   pub table : GivesBack gives2 workers.table passes.table tries (gate passes.table.machine) turns results.table
@@ -71,7 +71,7 @@ pub record GiveBack {W1 W2 W3 W4 W5 W6 A B C D E F : Type 0} (gives1 : GivesOf W
   pub crane : GivesBack gives6 workers.crane passes.crane tries (gate passes.crane.machine) turns results.crane
 
 -- workers are started one after another; after the first that couldn't be started, none is
-pub record AreStartedInTurn {A B C D E F : Type 0} (started : PerMachine (Option A) (Option B) (Option C) (Option D)
+pub record AreStartedInTurn {A B C D E F : Type 0} (started : SixOf (Option A) (Option B) (Option C) (Option D)
     (Option E) (Option F)) : Type 0 where
   pub table : started.feed ≡ None → started.table ≡ None
   pub robot : started.table ≡ None → started.robot ≡ None
@@ -102,7 +102,7 @@ HandleOf W G B = Option (PromisedHandle (WorkerResult B) (WorkerPromise W G))
 abbrev pub SixHandles : Type 0 → Type 0 → Type 0 → Type 0 → Type 0 → Type 0 → Type 0 → Type 0 → Type 0 → Type 0
     → Type 0 → Type 0 → Type 0 → Type 0
 SixHandles W1 W2 W3 W4 W5 W6 A B C D E F G =
-    PerMachine (HandleOf W1 G A) (HandleOf W2 G B) (HandleOf W3 G C) (HandleOf W4 G D) (HandleOf W5 G E)
+    SixOf (HandleOf W1 G A) (HandleOf W2 G B) (HandleOf W3 G C) (HandleOf W4 G D) (HandleOf W5 G E)
     (HandleOf W6 G F)
 
 -- each worker that was started has its promise
@@ -111,7 +111,7 @@ HasPromised interlock gate turns pass worker handle =
     IfSome handle (λ h. IsPromised interlock gate turns pass worker h.promise)
 
 pub record ArePromised {W1 W2 W3 W4 W5 W6 A B C D E F G : Type 0} (interlock : InterlockView) (gate : G) (turns : ℕ)
-    (passes : SixPasses) (workers : PerMachine W1 W2 W3 W4 W5 W6)
+    (passes : SixPasses) (workers : SixOf W1 W2 W3 W4 W5 W6)
     (started : SixHandles W1 W2 W3 W4 W5 W6 A B C D E F G) : Type 0 where
   pub feed : HasPromised interlock gate turns passes.feed workers.feed started.feed
   pub table : HasPromised interlock gate turns passes.table workers.table started.table

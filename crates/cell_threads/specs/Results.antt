@@ -4,16 +4,16 @@ use Rattle.cell_rules.specs.Types.{Machine, Feed, Table, Robot, Press, Deposit, 
 use Rattle.cell_interlock.specs.Views.{PassView}
 use Rattle.cell_interlock.specs.declared.pass.Passes.{Passes}
 use Rattle.cell_threads.specs.declared.worker_result.WorkerResult.{WorkerResult}
-use Rattle.cell_threads.specs.declared.per_machine.PerMachine.{PerMachine}
+use Rattle.cell_threads.specs.declared.six_of.SixOf.{SixOf}
 
 -- what six workers gave back
 abbrev pub SixResults : Type 0 → Type 0 → Type 0 → Type 0 → Type 0 → Type 0 → Type 0
 SixResults A B C D E F =
-    PerMachine (WorkerResult A) (WorkerResult B) (WorkerResult C) (WorkerResult D) (WorkerResult E) (WorkerResult F)
+    SixOf (WorkerResult A) (WorkerResult B) (WorkerResult C) (WorkerResult D) (WorkerResult E) (WorkerResult F)
 
 -- none is missing, and these are the six
-pub record AreAllThere {A B C D E F : Type 0} (each : PerMachine (Option A) (Option B) (Option C) (Option D)
-    (Option E) (Option F)) (six : PerMachine A B C D E F) : Type 0 where
+pub record AreAllThere {A B C D E F : Type 0} (each : SixOf (Option A) (Option B) (Option C) (Option D)
+    (Option E) (Option F)) (six : SixOf A B C D E F) : Type 0 where
   pub feed : each.feed ≡ Some six.feed
   pub table : each.table ≡ Some six.table
   pub robot : each.robot ≡ Some six.robot
@@ -56,7 +56,7 @@ module _ {A B C D E F : Type 0} where
       }
 
   -- what else each gave
-  abbrev pub outputs_in : SixResults A B C D E F → PerMachine A B C D E F
+  abbrev pub outputs_in : SixResults A B C D E F → SixOf A B C D E F
   outputs_in results =
       record {
         feed = results.feed.output;

@@ -7,7 +7,7 @@ use Rattle.cell_interlock.specs.Fresh.{fresh_pass}
 use Rattle.cell_threads.specs.Workers.{GateOf}
 use Rattle.cell_threads.specs.Promises.{AreReady, GiveBack, GivesOf, SixPasses}
 use Rattle.cell_threads.specs.Results.{SixResults, outputs_in, seen_in}
-use Rattle.cell_threads.specs.declared.per_machine.PerMachine.{PerMachine}
+use Rattle.cell_threads.specs.declared.six_of.SixOf.{SixOf}
 use Rattle.cell_threads.specs.declared.six.SixRecord.{SixRecord}
 
 -- the six passes of a new interlock
@@ -25,7 +25,7 @@ six_fresh i =
 -- each may begin by its machine's pass of a new interlock, whichever interlock opens with this state
 abbrev pub AreReadyAt : {W1 W2 W3 W4 W5 W6 : Type 0} → (W1 → PassView → Type 0) → (W2 → PassView → Type 0)
     → (W3 → PassView → Type 0) → (W4 → PassView → Type 0) → (W5 → PassView → Type 0) → (W6 → PassView → Type 0)
-    → ModelState → PerMachine W1 W2 W3 W4 W5 W6 → Type 0
+    → ModelState → SixOf W1 W2 W3 W4 W5 W6 → Type 0
 AreReadyAt ready1 ready2 ready3 ready4 ready5 ready6 opening workers =
     (i : InterlockView) → i.opening ≡ opening → AreReady ready1 ready2 ready3 ready4 ready5 ready6 workers (six_fresh i)
 
@@ -34,7 +34,7 @@ AreReadyAt ready1 ready2 ready3 ready4 ready5 ready6 opening workers =
 -- its machine; the journals are those of this history, and the end is the state after it.
 pub record TellsSix {W1 W2 W3 W4 W5 W6 A B C D E F : Type 0} (gives1 : GivesOf W1 A) (gives2 : GivesOf W2 B)
     (gives3 : GivesOf W3 C) (gives4 : GivesOf W4 D) (gives5 : GivesOf W5 E) (gives6 : GivesOf W6 F)
-    (workers : PerMachine W1 W2 W3 W4 W5 W6) (opening : ModelState) (tries limit : ℕ) (gate : Machine → GateOf)
+    (workers : SixOf W1 W2 W3 W4 W5 W6) (opening : ModelState) (tries limit : ℕ) (gate : Machine → GateOf)
     (r : SixRecord A B C D E F) : Type 0 where
   pub interlock : InterlockView
   pub opened : interlock.opening ≡ opening

@@ -9,7 +9,7 @@ use Rattle.cell_threads.specs.Workers.{GateOf, IsGivenBack}
 use Rattle.cell_threads.specs.Promises.{AreAllFresh, AreReady, GiveBack, GivesOf, SixPasses}
 use Rattle.cell_threads.specs.Results.{SixResults, journal_in, outputs_in, seen_in}
 use Rattle.cell_threads.specs.Six.{six_fresh}
-use Rattle.cell_threads.specs.declared.per_machine.PerMachine.{PerMachine}
+use Rattle.cell_threads.specs.declared.six_of.SixOf.{SixOf}
 use Rattle.cell_threads.specs.declared.six.SixRecord.{SixRecord}
 use Rattle.cell_threads.specs.declared.worker_result.WorkerResult.{WorkerResult}
 
@@ -27,7 +27,7 @@ pub record HasWatched {H : Type 0} (watches : WatchesOf H) (tries : ℕ) (watch 
 -- ready
 pub record MayBegin {W1 W2 W3 W4 W5 W6 : Type 0} (ready1 : W1 → PassView → Type 0) (ready2 : W2 → PassView → Type 0)
     (ready3 : W3 → PassView → Type 0) (ready4 : W4 → PassView → Type 0) (ready5 : W5 → PassView → Type 0)
-    (ready6 : W6 → PassView → Type 0) (i : InterlockView) (workers : PerMachine W1 W2 W3 W4 W5 W6) (passes : SixPasses)
+    (ready6 : W6 → PassView → Type 0) (i : InterlockView) (workers : SixOf W1 W2 W3 W4 W5 W6) (passes : SixPasses)
     (pass : PassView) : Type 0 where
   pub fresh : AreAllFresh i passes
   pub ready : AreReady ready1 ready2 ready3 ready4 ready5 ready6 workers passes
@@ -36,7 +36,7 @@ pub record MayBegin {W1 W2 W3 W4 W5 W6 : Type 0} (ready1 : W1 → PassView → T
 -- the six have kept their promises, and the watch has watched
 pub record HaveWorked {W1 W2 W3 W4 W5 W6 A B C D E F H : Type 0} (gives1 : GivesOf W1 A) (gives2 : GivesOf W2 B)
     (gives3 : GivesOf W3 C) (gives4 : GivesOf W4 D) (gives5 : GivesOf W5 E) (gives6 : GivesOf W6 F)
-    (watches : WatchesOf H) (workers : PerMachine W1 W2 W3 W4 W5 W6) (watch : H) (passes : SixPasses) (pass : PassView)
+    (watches : WatchesOf H) (workers : SixOf W1 W2 W3 W4 W5 W6) (watch : H) (passes : SixPasses) (pass : PassView)
     (tries : ℕ) (gate : Machine → GateOf) (turns : ℕ) (results : SixResults A B C D E F) (watched : WorkerResult H)
     : Type 0 where
   pub given : GiveBack gives1 gives2 gives3 gives4 gives5 gives6 workers passes tries gate turns results
@@ -58,7 +58,7 @@ module _ {A B C D E F : Type 0} where
 pub record TellsWatched {W1 W2 W3 W4 W5 W6 A B C D E F H : Type 0} (gives1 : GivesOf W1 A) (gives2 : GivesOf W2 B)
     (gives3 : GivesOf W3 C) (gives4 : GivesOf W4 D) (gives5 : GivesOf W5 E) (gives6 : GivesOf W6 F)
     (watches : WatchesOf H)
-    (workers : PerMachine W1 W2 W3 W4 W5 W6) (watch : H) (opening : ModelState) (tries limit : ℕ)
+    (workers : SixOf W1 W2 W3 W4 W5 W6) (watch : H) (opening : ModelState) (tries limit : ℕ)
     (gate : Machine → GateOf)
     (r : SixRecord A B C D E F) (watch_after : H) : Type 0 where
   pub interlock : InterlockView

@@ -5,7 +5,7 @@ ghost use Rattle.cell_threads.specs.Watching.{TellsWatched};
 
 use crate::fault::RunFault;
 use crate::gate::Gate;
-use crate::per_machine::{PerMachine, into_parts, six_and_watch};
+use crate::six_of::{SixOf, into_parts, six_and_watch};
 use crate::start::WorkerContext;
 use crate::threads::run_in_threads;
 use crate::watching::{NoWatch, Watching};
@@ -28,7 +28,7 @@ pub struct SixRecord<A, B, C, D, E, F> {
     /// The state that the interlock closed with.
     pub end: State,
     /// What else each worker gave back.
-    pub outputs: PerMachine<A, B, C, D, E, F>,
+    pub outputs: SixOf<A, B, C, D, E, F>,
 }
 
 /// Runs six workers, whose machines are the six. Each takes up to `turns` turns in a thread of its
@@ -46,7 +46,7 @@ pub struct SixRecord<A, B, C, D, E, F> {
 pub fn run_workers<R, W1, W2, W3, W4, W5, W6, G>(
     rt: &R,
     alloc: Global,
-    workers: PerMachine<W1, W2, W3, W4, W5, W6>,
+    workers: SixOf<W1, W2, W3, W4, W5, W6>,
     opening: State,
     tries: u8,
     turns: u32,
@@ -90,7 +90,7 @@ where
 pub fn run_watched<R, W1, W2, W3, W4, W5, W6, H, G>(
     rt: &R,
     alloc: Global,
-    workers: PerMachine<W1, W2, W3, W4, W5, W6>,
+    workers: SixOf<W1, W2, W3, W4, W5, W6>,
     watch: H,
     opening: State,
     tries: u8,

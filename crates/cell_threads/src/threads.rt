@@ -4,7 +4,7 @@ ghost use Rattle.cell_threads.specs.Promises.{AreAllFresh, AreKept, ArePromised,
 ghost use Rattle.cell_threads.specs.Watching.{HaveWorked, MayBegin};
 
 use crate::gate::Gate;
-use crate::per_machine::{PerMachine, SixPasses, SixResults, all_six};
+use crate::six_of::{SixOf, SixPasses, SixResults, all_six};
 use crate::start::{WorkerContext, WorkerPromise, join, start};
 use crate::watching::Watching;
 use crate::worker::Worker;
@@ -24,7 +24,7 @@ pub(crate) fn run_in_threads<R, W1, W2, W3, W4, W5, W6, H, G>(
     rt: &R,
     context: &WorkerContext<'_, G>,
     passes: SixPasses,
-    workers: PerMachine<W1, W2, W3, W4, W5, W6>,
+    workers: SixOf<W1, W2, W3, W4, W5, W6>,
     pass: Pass,
     watch: H,
 ) -> Option<
@@ -82,8 +82,8 @@ fn start_six<'s, E, W1, W2, W3, W4, W5, W6, G>(
     scope: &Scope<'s, E>,
     context: &WorkerContext<'s, G>,
     passes: SixPasses,
-    workers: PerMachine<W1, W2, W3, W4, W5, W6>,
-) -> PerMachine<
+    workers: SixOf<W1, W2, W3, W4, W5, W6>,
+) -> SixOf<
     WorkerHandle<W1::Output, W1, G>,
     WorkerHandle<W2::Output, W2, G>,
     WorkerHandle<W3::Output, W3, G>,
@@ -112,7 +112,7 @@ where
     ensures in_turn { AreStartedInTurn result }
 {
     let mut all_run = true;
-    PerMachine {
+    SixOf {
         feed: start(scope, context, &mut all_run, passes.feed, workers.feed),
         table: start(scope, context, &mut all_run, passes.table, workers.table),
         robot: start(scope, context, &mut all_run, passes.robot, workers.robot),
@@ -133,7 +133,7 @@ where
 // Returns `None` if one wasn't started; those that were have ended.
 fn join_six<R, W1, W2, W3, W4, W5, W6, G>(
     rt: &R,
-    started: PerMachine<
+    started: SixOf<
         WorkerHandle<W1::Output, W1, G>,
         WorkerHandle<W2::Output, W2, G>,
         WorkerHandle<W3::Output, W3, G>,
@@ -154,7 +154,7 @@ where
     ensures { IfSome result (AreKept W1.gives_back W2.gives_back W3.gives_back W4.gives_back W5.gives_back
         W6.gives_back G.may_answer started) }
 {
-    all_six(PerMachine {
+    all_six(SixOf {
         feed: join(rt, started.feed),
         table: join(rt, started.table),
         robot: join(rt, started.robot),

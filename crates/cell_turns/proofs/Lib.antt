@@ -1,3 +1,2 @@
-pub mod NumbersApart
-pub mod ReachedLemmas
-pub mod SituationLaws
+pub mod lemmas
+mod NumbersApart

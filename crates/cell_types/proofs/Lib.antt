@@ -1,6 +1,6 @@
-pub mod CallLemmas
-pub mod WayLemmas
-pub mod WordLemmas
-pub mod RefusalLemmas
-pub mod NumberLemmas
-pub mod SameLemmas
+pub mod lemmas
+mod CallLemmas
+mod WayLemmas
+mod WordLemmas
+mod RefusalLemmas
+mod NumberLemmas

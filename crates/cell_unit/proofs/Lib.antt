@@ -1,6 +1,2 @@
-pub mod Running
-pub mod Keeping
-pub mod Demanding
-pub mod Turning
-pub mod Others
-pub mod LiteralTurns
+pub mod lemmas
+mod LiteralTurns

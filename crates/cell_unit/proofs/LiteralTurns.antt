@@ -5,14 +5,14 @@ use Rattle.std.proofs.Math.Bool.{or-true}
 use Rattle.std.specs.Option.{is_none}
 use Rattle.cell_rules.specs.Types.{Machine, Call, Refusal, Stopped, Reply, Settled, Busy}
 use Rattle.cell_types.specs.declared.answer.Answer.TheVariants as answer
-use Rattle.cell_calib.specs.declared.sense.SensorFault.{SensorFault}
+use Rattle.cell_sensors.specs.declared.sense.SensorFault.{SensorFault}
 use Rattle.cell_rules.specs.Names.{ModelState, reply, next, Desk}
 use Rattle.cell_rules.specs.declared.heard.LineFault.{LineFault}
 use Rattle.cell_rules.specs.declared.heard.LineFault.TheVariants as line
 use Rattle.cell_control.specs.Names.{fault_of, Rig, waits_on, Steps, is_while_stopped, waits_out, step_after_reply, Turned, Turns, at_rest, turned, stops_with}
 use Rattle.cell_control.specs.declared.fault.CtlFault.{CtlFault}
 use Rattle.cell_control.specs.declared.fault.CtlFault.TheVariants as fault
-use Rattle.cell_control.proofs.TurnsByAnswers.{asked_own, drive_own, sensor_own}
+use Rattle.cell_control.proofs.lemmas.TurnsByAnswers.{asked_own, drive_own, sensor_own}
 use Rattle.cell_notes.specs.Names.{TurnCall, settled_in, Notes, notes_with}
 use Rattle.cell_unit.specs.Names.{Side, ActsAndMoves, part_set, side_set, side_moved, Answers, Leads, UnitTurn}
 use Rattle.cell_unit.specs.UnitRows.{StatusRows, IsAsking, IsDriving, PartSays, UnitAnswered, SideRows, IsAnswered, IsRefusedMemory, UnitRows}

@@ -3,7 +3,7 @@ use Rattle.std.specs.Prelude.{◌≡◌, ⊤, ◌⊎◌, ℕ, Bool, true, false,
 use Rattle.cell_rules.specs.Types.{Machine, Posture, Call, Refusal, Jump, Stopped, Reply, Settled, Busy}
 use Rattle.cell_types.specs.declared.answer.Refusal.TheVariants.{Worn as NoStamp}
 use Rattle.cell_types.specs.declared.answer.Answer.TheVariants as answer
-use Rattle.cell_calib.specs.declared.sense.SensorFault.{SensorFault}
+use Rattle.cell_sensors.specs.declared.sense.SensorFault.{SensorFault}
 use Rattle.cell_rules.specs.Names.{reply, next, event, Desk}
 use Rattle.cell_rules.specs.declared.heard.LineFault.{LineFault}
 use Rattle.cell_rules.specs.declared.heard.LineFault.TheVariants as line

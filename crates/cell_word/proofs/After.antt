@@ -2,7 +2,7 @@
 use Rattle.cell_word.proofs.Names.{◌≡◌, ◌≢◌, ℕ, ◌+◌, ◌<◌, ◌^◌, arith, Option, Some, None, Result, ◌∙◌, ap, sym, refl, subst, Machine, Zone, Call, Inquire, Refusal, Answer, Done, Shown, Refused, ModelState, IsSound, reply, refusal, done_unless, next, next_by, packed, with_written, written, first_refusal, unless, guards_of, Pattern, next_keeps}
 use Rattle.std.specs.Prelude.{IfOk}
 use Rattle.cell_word.specs.Changes.{word_after}
-use Rattle.cell_word.proofs.RoundTrip.{laid_out}
+use Rattle.cell_word.proofs.lemmas.RoundTrip.{laid_out}
 use Rattle.cell_word.proofs.Changing.{done_written}
 use Rattle.cell_word.proofs.GuardsHold.{guards_hold}
 

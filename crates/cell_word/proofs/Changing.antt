@@ -5,9 +5,9 @@ use Rattle.cell_word.proofs.Names.{all_zones, from_zones, from_places, all_state
 use Rattle.cell_word.proofs.Names.{bits_of, with_written, anything, mark_is, IsOffStamp, written, received_by, row_received, mark_becomes, Pattern}
 use Rattle.cell_rules.specs.Names.{other_party}
 use Rattle.cell_rules.specs.Refusals
-use Rattle.cell_rules.proofs.Tables.{all_places}
+use Rattle.cell_rules.proofs.lemmas.Tables.{all_places}
 use Rattle.cell_word.specs.Guards as guards
-use Rattle.cell_word.proofs.RoundTrip.{laid_out, place_field_read, stamp_read, mark_read, owner_fits, flag_fits, posture_fits}
+use Rattle.cell_word.proofs.lemmas.RoundTrip.{laid_out, place_field_read, stamp_read, mark_read, owner_fits, flag_fits, posture_fits}
 use Rattle.cell_word.proofs.SameAnswer.{same_row, one_row}
 use Rattle.cell_word.proofs.Seen.{zone_code, zone_five, is_lawful, lawful_at}
 use Rattle.cell_word.proofs.ZoneGuards.{either_way, given_once}

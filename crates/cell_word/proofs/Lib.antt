@@ -1,19 +1,19 @@
+pub mod lemmas
 mod Names
-pub mod Fields
-pub mod Growing
-pub mod RoundTrip
-pub mod Windows
-pub mod Seen
-pub mod PartyLemmas
-pub mod Trying
-pub mod Turning
-pub mod SameAnswer
-pub mod ZoneGuards
-pub mod PoseGuards
-pub mod Writing
-pub mod Changing
-pub mod Possible
-pub mod GuardsHold
-pub mod StateWordsHold
-pub mod ZonesAtOnce
-pub mod After
+mod Fields
+mod Growing
+mod Windows
+mod Seen
+mod PartyLemmas
+mod Trying
+mod Turning
+mod SameAnswer
+mod ZoneGuards
+mod PoseGuards
+mod Writing
+mod Changing
+mod Possible
+mod GuardsHold
+mod StateWordsHold
+mod ZonesAtOnce
+mod After

@@ -1,11 +1,11 @@
 -- The names of other crates, and of this one's definitions, that the proofs here use.
-pub use Rattle.cell_rules.proofs.Done.{claim_done, fresh, give_done, may_claim, may_give, may_release, may_take, may_yield, none_or, none_then, none_then_not, release_done, resume_done, stop_done, take_done, yield_done}
-pub use Rattle.cell_rules.proofs.Puts.{each_zone, has-put, put_cases, zone_in-map}
-pub use Rattle.cell_rules.proofs.Soundness.{done_none, next_keeps}
-pub use Rattle.cell_rules.proofs.Tables.{Finite, Passed, all_bools, all_machines, all_pass, all_poses, all_postures, all_states, all_zones, and_both, and_left, and_right, bools, from_bools, from_machines, from_places, from_poses}
-pub use Rattle.cell_rules.proofs.Tables.{from_states, from_zones, holds2, holds3, holds4, implied, machines, pairs, passed, places, poses, postures, states, zones}
-pub use Rattle.cell_rules.proofs.Tested.{five, sound_by_test}
-pub use Rattle.cell_rules.proofs.Transfers.{take_finds}
+pub use Rattle.cell_rules.proofs.lemmas.DoneCalls.{claim_done, fresh, give_done, may_claim, may_give, may_release, may_take, may_yield, none_or, none_then, none_then_not, release_done, resume_done, stop_done, take_done, yield_done}
+pub use Rattle.cell_rules.proofs.lemmas.Puts.{each_zone, has-put, put_cases, zone_in-map}
+pub use Rattle.cell_rules.proofs.lemmas.Soundness.{done_none, next_keeps}
+pub use Rattle.cell_rules.proofs.lemmas.Tables.{Finite, Passed, all_bools, all_machines, all_pass, all_poses, all_postures, all_states, all_zones, and_both, and_left, and_right, bools, from_bools, from_machines, from_places, from_poses}
+pub use Rattle.cell_rules.proofs.lemmas.Tables.{from_states, from_zones, holds2, holds3, holds4, implied, machines, pairs, passed, places, poses, postures, states, zones}
+pub use Rattle.cell_rules.proofs.lemmas.SoundnessTest.{five, sound_by_test}
+pub use Rattle.cell_rules.proofs.lemmas.Transfers.{take_finds}
 pub use Rattle.cell_rules.specs.Names.{IsSound, ModelState, PlaceSet, ZoneMap, changed, done_unless, emptied, empty, filled, given_by, halted, has, has_call, has_lawful_owner, has_one_plate, implies, insert_place, is_belt_of, is_full}
 pub use Rattle.cell_rules.specs.Names.{is_lawful_plate, is_of_some_pose, is_onto_full, is_open, is_open_to_guest, is_owned_by, is_party, is_received_by, is_sound, last_stamp, map_zones, model_state, moves_by_host, next, next_by, one_if}
 pub use Rattle.cell_rules.specs.Names.{order_of, posed, put_each, put_zone, refusal, reply, worked, zone_at, zone_in}
@@ -13,7 +13,7 @@ pub use Rattle.cell_rules.specs.Reply.{other_party}
 pub use Rattle.cell_rules.specs.Types.{Advance, AlreadyMine, Answer, Arm1, Arm2, Call, Claim, Closed, DepEnd, DepEntry, Deposit, Done, Feed, FeedEnd, FeedEntry, Give, Held, InUse, Inquire, Jump, Machine, Moving, NoPlate, NoPose, NotAtWork}
 pub use Rattle.cell_rules.specs.Types.{NotOwner, NotParty, NotStopped, OpenIn, OpenOut, Place, PlaceFull, PlateInZone, Pose, Posture, Press, PressIn, PressOut, Refusal, Refused, Release, Resume, Robot, Running, SetPose, Shown, Shut, Stop}
 pub use Rattle.cell_rules.specs.Types.{Stopped, Take, Transfer, Watch, Worn, WrongWay, Yield, Z1, Z2, Z3, Z4, Z5, Z6, Zone, all_places, guest_of, host_of, one_machine, one_posture, own_move_of, posture_of, same_machine}
-pub use Rattle.cell_types.proofs.SameLemmas.{one_place, one_zone}
+pub use Rattle.cell_types.proofs.lemmas.SameLemmas.{one_place, one_zone}
 pub use Rattle.cell_rules.specs.Types.{same_place, same_pose, same_posture, same_zone, transfer_of}
 pub use Rattle.cell_rules.specs.ZoneMap.{everywhere, free_zone}
 pub use Rattle.cell_rules.specs.declared.zones.ZoneState.{ZoneState}

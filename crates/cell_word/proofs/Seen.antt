@@ -1,6 +1,6 @@
 -- What the word of a sound state shows through windows on its zones, its places, its stamp and its mark.
 use Rattle.cell_word.proofs.Names.{◌≡◌, ℕ, ◌+◌, ◌*◌, ◌^◌, Bool, true, false, ◌&&◌, refl, ap, ◌∙◌, bit_and, bit_or, Zone, Place, transfer_of, ModelState, zone_at, is_full, one_if, IsSound, implies, has_lawful_owner, is_lawful_plate, is_received_by, is_onto_full, is_open_to_guest, moves_by_host, is_of_some_pose, ZoneState, and_both, zone_bit, place_bit, stamp_bit, mark_bit, owner_code, posture_code, packed, bits_of}
-use Rattle.cell_word.proofs.RoundTrip.{zone_fields_read, place_field_read, stamp_read, mark_read}
+use Rattle.cell_word.proofs.lemmas.RoundTrip.{zone_fields_read, place_field_read, stamp_read, mark_read}
 use Rattle.cell_word.proofs.Windows.{and_or, field_shown, five_bits}
 
 -- the five bits of a zone

@@ -3,7 +3,7 @@ use Rattle.cell_word.proofs.Names.{◌≡◌, ℕ, zero, suc, ◌+◌, ◌*◌, 
 use Rattle.cell_word.proofs.Names.{transfer_of, same_posture, one_posture, Machine, PlaceSet, ModelState, zone_at, is_full, one_if, IsSound, implies, has_lawful_owner, is_lawful_plate, is_onto_full, is_open_to_guest, moves_by_host, is_of_some_pose, has_one_plate, is_received_by, ZoneState, and_left, and_right, and_both, implied, all_bools, from_bools, from_zones, all_pass, zones, postures, states, holds2, zone_bit}
 use Rattle.cell_word.proofs.Names.{place_bit, mark_bit, packed, bits_of, is_bit_set, owner_of_code, posture_of_code, zone_told, state_told, stands, both, nothing, posture_is, place_is, field_is, zone_codes, onto_full, is_lawful_zone, is_lawful_press, is_state_word, Pattern}
 use Rattle.cell_types.specs.Everything.{all_zones as every_zone}
-use Rattle.cell_word.proofs.RoundTrip.{told_back, laid_out}
+use Rattle.cell_word.proofs.lemmas.RoundTrip.{told_back, laid_out}
 use Rattle.cell_word.proofs.SameAnswer.{same_bool, one_bool}
 use Rattle.cell_word.proofs.Windows.{and_or, stands-window, field_shown, all_below, from_below, five_fit}
 use Rattle.cell_word.proofs.Seen.{zone_code, zone_window, place_window, place_word, zone_five, is_lawful, lawful_at}

@@ -2,7 +2,7 @@
 use Rattle.cell_word.proofs.Names.{◌≡◌, ℕ, ◌+◌, ◌-◌, ◌*◌, ◌/◌, ◌%◌, ◌^◌, ◌<◌, List, [], ◌∷◌, sym, ap, ap₂, ◌∙◌, subst, arith, mod-eq_of_lt, bit_and, bit_or, All, div-eq_of_lt, pow-add, shr-shr, div-add-mod', and_shr, and_mod, or_shr, or_mod, and-not, and_comm, and_mask, or_comm, or_lt, mod_below, All-head, All-tail, Zone, Z1, Place, FeedEntry}
 use Rattle.cell_word.proofs.Names.{ModelState, zone_at, is_full, one_if, ZoneState, Field, field, word_of, zone_bit, place_bit, stamp_bit, mark_bit, owner_code, posture_code, zone_fields, fields_of, packed, bits_of, SideBySide, ReadsBack, IsOffStamp, with_written}
 use Rattle.cell_word.proofs.Fields.{word-cons, arranged}
-use Rattle.cell_word.proofs.RoundTrip.{ZoneRead, owner_fits, flag_fits, posture_fits, all_fields, all_three, side_by_side}
+use Rattle.cell_word.proofs.lemmas.RoundTrip.{ZoneRead, owner_fits, flag_fits, posture_fits, all_fields, all_three, side_by_side}
 use Rattle.cell_word.proofs.Seen.{zone_code}
 
 -- ---- a number is the word of the fields that read back from it

@@ -15,7 +15,7 @@ use crate::word::zone_told;
 use cell_types::{Answer, Call, Machine, Zone};
 
 /// The state of a zone.
-#[tactic(auto, using(crate::proofs::RoundTrip::zone_read))]
+#[tactic(auto, using(crate::proofs::lemmas::RoundTrip::zone_read))]
 fn show_zone(word: u64, zone: Zone) -> Answer
     ensures { (state : ModelState) → IsSound state → packed state ≡ word
         → result ≡ Shown (zone_at state zone).owner (zone_at state zone).flag

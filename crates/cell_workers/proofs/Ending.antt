@@ -1,6 +1,6 @@
 -- The end of a record.
 use Rattle.cell_workers.proofs.Names.{◌≡◌, ◌≢◌, ℕ, Bool, true, false, inl, inr, ⊎_elim, ◌⊎◌, List, [], ◌∷◌, ◌++◌, cond, get_or, map, Option, Some, None, refl, sym, ap, subst, ◌∙◌, Machine, Feed, Table, Robot, Press, Deposit, Crane, Watch, Z3, Release, Done, Refused, NotOwner, Event, Entry, journal_of, same_machine, ModelState, empty, start_state, after, own_events, event_by, reply, IsAudited, BeginsWith, RunRecord, CellScales, GateOf, TellsAnyWork, EndsAreReached, by_rule, press_released}
-use Rattle.cell_rules.proofs.Lasting.{own_head}
+use Rattle.cell_rules.proofs.lemmas.Lasting.{own_head}
 
 same_itself : (m : Machine) → same_machine m m ≡ true
 same_itself Feed = refl

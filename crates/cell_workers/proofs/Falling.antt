@@ -2,11 +2,11 @@
 use Rattle.cell_workers.proofs.Names.{◌≡◌, ℕ, pos, ◌≤ℤ◌, ◌+◌, false, ◌&&◌, ◌||◌, if◌then◌else◌, Some, None, Ok, Err, refl, ap, subst, ◌∙◌, arith, Press, PassAsks, Turns, turned, Off, Minus, press_steps, checked, press_rig, PressShows, counts_with, Counts, Acts, side_set, side_moved, SideOf, passes, answers_in, GateOf, TakesTurn, MomentOf, press_at}
 use Rattle.std.proofs.lemmas.Bool.{false_from_ne_true}
 use Rattle.std.proofs.lemmas.Int.{ints}
-use Rattle.cell_calib.specs.declared.sense.PressSense.{PressSense}
-use Rattle.cell_calib.specs.declared.sense.SensorFault.TheVariants.{Clash}
-use Rattle.cell_control.proofs.TurnsByAnswers.{drive_own}
+use Rattle.cell_sensors.specs.declared.sense.PressSense.{PressSense}
+use Rattle.cell_sensors.specs.declared.sense.SensorFault.TheVariants.{Clash}
+use Rattle.cell_control.proofs.lemmas.TurnsByAnswers.{drive_own}
 use Rattle.cell_devices.specs.declared.act.PressAct.{PressAct}
-use Rattle.cell_stations.specs.declared.press.PressStep.TheVariants.{MoveToBottom}
+use Rattle.cell_table_press.specs.declared.press.PressStep.TheVariants.{MoveToBottom}
 
 abbrev falling : SideOf Press
 falling = press_at MoveToBottom 1000 Off

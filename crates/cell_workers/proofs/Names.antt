@@ -1,8 +1,8 @@
 -- The names of other crates, and of this one's definitions, that the proofs here use.
-pub use Rattle.cell_calib.specs.declared.sense.SensorFault.{SensorFault}
+pub use Rattle.cell_sensors.specs.declared.sense.SensorFault.{SensorFault}
 pub use Rattle.cell_control.specs.Names.{IsReached, Performed, PerformsSensed, Rig, Steps, Turned, Turns, at_rest, step_after_reply, turned, with_senses}
 pub use Rattle.cell_devices.specs.declared.motor.Motor.TheVariants.{Minus, Off}
-pub use Rattle.cell_haul.specs.Names.{crane_start, crane_steps, deposit_steps, feed_steps}
+pub use Rattle.cell_belts_crane.specs.Names.{crane_start, crane_steps, deposit_steps, feed_steps}
 pub use Rattle.cell_interlock.specs.Fresh.{fresh_pass}
 pub use Rattle.cell_interlock.specs.Lines.{PassAsks}
 pub use Rattle.cell_interlock.specs.Views.{InterlockView, PassView}
@@ -17,8 +17,8 @@ pub use Rattle.cell_robot.specs.RobotProgram.{gauges_of, robot_start, robot_step
 pub use Rattle.cell_rules.specs.Names.{BeginsWith, EndsIn, IsAudited, IsLegal, IsStartState, Lawful, LawfulThroughout, ModelState, Waits, after, empty, event_by, noted, own_events, reply, start_state}
 pub use Rattle.cell_rules.specs.Types.{Busy, Call, Claim, Crane, Deposit, Done, Entry, Event, Feed, Journals, Machine, NotOwner, Press, Refused, Release, Reply, Robot, Settled, Table, Watch, Z3, all_machines, journal_of, same_machine}
 pub use Rattle.cell_rules.specs.declared.heard.LineFault.{LineFault}
-pub use Rattle.cell_stations.specs.Names.{checked, press_steps, table_steps}
-pub use Rattle.cell_threads.proofs.FirstSteps.{answers_along, busy_counted, busy_lost, ended, ends_fine, ends_kept_out, few_along, has_status_by, let_in_along, noted_at_most, once, own_at_first, stays, within}
+pub use Rattle.cell_table_press.specs.Names.{checked, press_steps, table_steps}
+pub use Rattle.cell_threads.proofs.lemmas.FirstSteps.{answers_along, busy_counted, busy_lost, ended, ends_fine, ends_kept_out, few_along, has_status_by, let_in_along, noted_at_most, once, own_at_first, stays, within}
 pub use Rattle.cell_threads.specs.Laws.{HadTurns, HasAtMost, answers_in}
 pub use Rattle.cell_threads.specs.Lines.{Lines, passes}
 pub use Rattle.cell_threads.specs.Results.{SixResults, journal_in, outputs_in, seen_in}

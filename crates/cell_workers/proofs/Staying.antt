@@ -1,7 +1,7 @@
 -- The record of workers that end at once.
 use Rattle.cell_workers.proofs.Names.{◌≡◌, ℕ, true, [], map, None, refl, sym, ap, subst, Machine, Feed, Table, Robot, Press, Deposit, Crane, Watch, ModelState, event_by, EndsIn, Lawful, InterlockView, no_counts, RunRecord, Status, Fine, CellScales, steps_of, rig_of, passes, HasEnded, Ends, AreCountsOf, MomentOf, first_moment, TellsAnyWork, has_worker, Rule, by_rule, TellsNothingDone, stays}
-use Rattle.cell_rules.proofs.Assembly.{lawful}
-use Rattle.cell_rules.proofs.Histories.{throughout}
+use Rattle.cell_rules.proofs.lemmas.Assembly.{lawful}
+use Rattle.cell_rules.proofs.lemmas.Histories.{throughout}
 
 module _ (c : CellScales) (opening : ModelState) (tries limit : ℕ) (lets : Rule) (r : RunRecord) (status : Status) where
   -- a worker may end at once, with this status

@@ -13,8 +13,8 @@ use Rattle.cell_control.specs.declared.fault.CtlFault.TheVariants as cause
 use Rattle.cell_devices.specs.declared.motor.Direction.TheVariants.{Minus as Downward}
 use Rattle.cell_devices.specs.declared.motor.Motor.{Motor}
 use Rattle.cell_devices.specs.declared.motor.Motor.TheVariants.{Off, Minus}
-use Rattle.cell_stations.specs.declared.press.PressStep.{PressStep}
-use Rattle.cell_stations.specs.declared.press.PressStep.TheVariants.{ClaimFirst, LeaveForMiddle, MoveToBottom}
+use Rattle.cell_table_press.specs.declared.press.PressStep.{PressStep}
+use Rattle.cell_table_press.specs.declared.press.PressStep.TheVariants.{ClaimFirst, LeaveForMiddle, MoveToBottom}
 use Rattle.cell_notes.specs.Names.{no_counts}
 use Rattle.cell_notes.specs.declared.counts.Counts.{Counts}
 use Rattle.cell_notes.specs.declared.run_record.RunRecord.{RunRecord}

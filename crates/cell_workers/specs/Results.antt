@@ -7,12 +7,12 @@ use Rattle.cell_parts.specs.declared.parts.press.PressPart.{PressPart}
 use Rattle.cell_parts.specs.declared.parts.deposit.DepositPart.{DepositPart}
 use Rattle.cell_parts.specs.declared.parts.crane.CranePart.{CranePart}
 use Rattle.cell_threads.specs.declared.worker_result.UnitOutput.{UnitOutput}
-use Rattle.cell_threads.specs.declared.per_machine.PerMachine.{PerMachine}
+use Rattle.cell_threads.specs.declared.six_of.SixOf.{SixOf}
 
 -- what is left of the machines of a cell
 abbrev pub CellOutputs : Type 0
 CellOutputs =
-    PerMachine (UnitOutput FeedPart) (UnitOutput TablePart) (UnitOutput RobotPart)
+    SixOf (UnitOutput FeedPart) (UnitOutput TablePart) (UnitOutput RobotPart)
     (UnitOutput PressPart) (UnitOutput DepositPart) (UnitOutput CranePart)
 
 abbrev pub parts_in : CellOutputs → PlantState

@@ -5,7 +5,7 @@ pub mod laws;
 pub mod run;
 
 pub use cell_threads::{
-    Gate, NoWatch, OpenGate, PacedGate, PerMachine, RunFault, SixRecord, UnitOutput, Watching,
-    Worker, WorkerResult, run_watched, run_workers,
+    Gate, NoWatch, OpenGate, PacedGate, RunFault, SixOf, SixRecord, UnitOutput, Watching, Worker,
+    WorkerResult, run_watched, run_workers,
 };
 pub use run::run_cell;

@@ -9,18 +9,18 @@ ghost use Rattle.cell_plant.specs.Records.{NoneRefused, positions_in};
 ghost use Rattle.cell_workers.specs.Records.{TellsWork};
 ghost use Rattle.cell_workers.specs.Results.{parts_in};
 
-use cell_calib::Gauge;
 use cell_notes::{Counts, RunRecord, Status};
 use cell_parts::{CranePart, DepositPart, FeedPart, PressPart, RobotPart, TablePart};
 use cell_plant::Cell;
 use cell_rules::State;
-use cell_threads::{Gate, PerMachine, RunFault, SixRecord, UnitOutput, run_workers};
+use cell_sensors::Gauge;
+use cell_threads::{Gate, RunFault, SixOf, SixRecord, UnitOutput, run_workers};
 use std::alloc::Global;
 use std::sync::Wait;
 use std::thread::Threads;
 
 // What is left of the machines of a cell.
-type CellOutputs = PerMachine<
+type CellOutputs = SixOf<
     UnitOutput<FeedPart>,
     UnitOutput<TablePart>,
     UnitOutput<RobotPart>,
@@ -79,7 +79,7 @@ where
         (G.may_answer gate.now)) }
     ensures none_refused { IfOk result NoneRefused }
 {
-    let workers = PerMachine {
+    let workers = SixOf {
         feed: cell.feed,
         table: cell.table,
         robot: cell.robot,

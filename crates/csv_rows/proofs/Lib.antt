@@ -1,4 +1,4 @@
-pub mod Digits
+pub mod lemmas
+mod Digits
 mod RecordLemmas
-pub mod RowsTaken
-pub mod ScriptEndRows
+mod ScriptEndRows

@@ -4,9 +4,9 @@ ghost use Rattle.std.specs.Prelude.{List, IfOk, OnOk};
 ghost use Rattle.csv.specs.Records.{fields_of};
 ghost use Rattle.csv_rows.specs.Rows.{HasRows, IsPlain, Row, TakesRow};
 
-use cell_text::InputFault;
 use csv::{ByteRecord, ErrorKind, Reader};
 use std::io::Read;
+use text_io::InputFault;
 
 /// Reads the next record into `row`. Returns whether there was one. `Read` if the reader failed,
 /// `Memory` if memory ran out.

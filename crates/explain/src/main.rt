@@ -1,7 +1,7 @@
 //! The program that says why `cell` refuses an input.
 #![tactic(auto)]
 
-use cell_explain::serve::{FAILED, start};
+use explain_app::serve::{FAILED, start};
 use std::process::ExitCode;
 
 fn main(rt: HostRuntime) -> ExitCode {

@@ -1,7 +1,7 @@
 //! The program that explores every schedule from a start.
 #![tactic(auto)]
 
-use cell_explore::serve::start;
+use explore_app::serve::start;
 use std::process::ExitCode;
 
 fn main(rt: HostRuntime) -> ExitCode {

@@ -1,7 +1,7 @@
 //! The program that makes a page of a run, on which the cell moves.
 #![tactic(auto)]
 
-use cell_film::serve::start;
+use film_app::serve::start;
 use std::process::ExitCode;
 
 fn main(rt: HostRuntime) -> ExitCode {

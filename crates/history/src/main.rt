@@ -1,7 +1,7 @@
 //! The program that runs the cell by six threads and writes the run's history as a script.
 #![tactic(auto)]
 
-use cell_recorder::serve::start;
+use history_app::serve::start;
 use std::process::ExitCode;
 
 fn main(rt: HostRuntime) -> ExitCode {

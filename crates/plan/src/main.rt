@@ -1,7 +1,7 @@
 //! The program for plans of any plant.
 #![tactic(auto)]
 
-use plan_command::serve::start;
+use plan_app::serve::start;
 use std::process::ExitCode;
 
 fn main(rt: HostRuntime) -> ExitCode {

@@ -1,3 +1,3 @@
-pub mod Reading
-pub mod Same
-pub mod Whole
+mod Reading
+mod Same
+mod Whole

@@ -17,7 +17,7 @@ use Rattle.cell_rules.specs.ModelState.{ModelState, zone_at}
 use Rattle.cell_rules.specs.Sound.{is_open}
 use Rattle.cell_rules.specs.Refusals as cell
 use Rattle.cell_rules.specs.Reply as cell_reply
-use Rattle.cell_rules.proofs.Done.{none_or, none_then}
+use Rattle.cell_rules.proofs.lemmas.DoneCalls.{none_or, none_then}
 use Rattle.plan_types.specs.declared.answer.Refusal.{Refusal as PlanRefusal}
 use Rattle.plan_types.specs.declared.answer.Answer.TheVariants.{Done as PlanDone}
 use Rattle.plan_types.specs.declared.call.Call.{Call as PlanCall}

@@ -22,7 +22,7 @@ use Rattle.cell_rules.specs.ModelState.{ModelState, zone_at, is_full}
 use Rattle.cell_rules.specs.Sound.{is_open, is_onto_full}
 use Rattle.cell_rules.specs.Refusals as cell
 use Rattle.cell_rules.specs.Reply.{reply, done_unless}
-use Rattle.cell_rules.proofs.Tables.{and_both}
+use Rattle.cell_rules.proofs.lemmas.Tables.{and_both}
 use Rattle.plan_types.specs.declared.answer.Refusal.{Refusal as PlanRefusal}
 use Rattle.plan_types.specs.declared.answer.Answer.TheVariants.{Done as PlanDone, Shown as PlanShown}
 use Rattle.plan_types.specs.declared.posture.Posture.{Posture as PlanPosture}
@@ -33,16 +33,16 @@ use Rattle.plan_types.specs.declared.call.Call.TheVariants.{Claim as DoClaim, Gi
 use Rattle.plan_types.specs.Same.{same_posture as plan_same_posture}
 use Rattle.plan_types.specs.Table as table
 use Rattle.plan_types.specs.Below.{any_below}
-use Rattle.plan_types.proofs.Below.{first_below_none}
+use Rattle.plan_types.proofs.lemmas.Below.{first_below_none}
 use Rattle.plan_rules.specs.declared.state.ZoneState.{ZoneState as PlanZoneState}
 use Rattle.plan_rules.specs.State.{zone_at as plan_zone_at, one_if, coming}
 use Rattle.plan_rules.specs.Sound.{is_open as plan_is_open}
 use Rattle.plan_rules.specs.Refusals as plan
 use Rattle.plan_rules.specs.Reply as plan_reply
-use Rattle.plan_rules.proofs.Below.{any_below_none}
-use Rattle.plan_rules.proofs.Done.{none_or, none_then, none_then_not}
-use Rattle.plan_rules.proofs.Plates.{no_plates}
-use Rattle.plan_rules.proofs.Soundness.{done_none}
+use Rattle.plan_rules.proofs.lemmas.Below.{any_below_none}
+use Rattle.plan_rules.proofs.lemmas.DoneCalls.{none_or, none_then, none_then_not}
+use Rattle.plan_rules.proofs.lemmas.Plates.{no_plates}
+use Rattle.plan_rules.proofs.lemmas.Soundness.{done_none}
 use Rattle.plan_cell.specs.Numbers.{machine_number, zone_number, place_number, pose_number}
 use Rattle.plan_cell.specs.CellPlan.{cell_table}
 use Rattle.plan_cell.specs.Mapping.{plan_state}

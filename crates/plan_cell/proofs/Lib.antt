@@ -1,7 +1,7 @@
-pub mod Names
-pub mod Alike
-pub mod Plates
-pub mod Posing
-pub mod Refusing
-pub mod Soundness
-pub mod Converse
+mod Names
+mod Alike
+mod Plates
+mod Posing
+mod Refusing
+mod Soundness
+mod Converse

@@ -20,7 +20,7 @@ use Rattle.cell_rules.specs.ModelState.{ModelState, zone_at, is_full}
 use Rattle.cell_rules.specs.Sound.{is_open, is_owned_by, is_party}
 use Rattle.cell_rules.specs.Refusals.{has_pose, is_moving_pose, passes_through_moving}
 use Rattle.cell_rules.specs.Reply.{other_party}
-use Rattle.cell_rules.proofs.Puts.{each_zone, each_place}
+use Rattle.cell_rules.proofs.lemmas.Puts.{each_zone, each_place}
 use Rattle.plan_types.specs.declared.posture.Posture.{Posture as PlanPosture}
 use Rattle.plan_types.specs.declared.table.Transfer.{Transfer as PlanTransfer}
 use Rattle.plan_types.specs.declared.table.PlanPose.{PlanPose}

@@ -12,16 +12,16 @@ use Rattle.cell_types.specs.declared.call.Call.TheVariants.{Give, Take}
 use Rattle.cell_types.specs.declared.answer.Refusal.TheVariants.{PlaceFull}
 use Rattle.cell_types.specs.declared.answer.Answer.TheVariants.{Done}
 use Rattle.cell_types.specs.Same.{same_machine, same_zone}
-use Rattle.cell_types.proofs.SameLemmas.{one_zone}
+use Rattle.cell_types.proofs.lemmas.SameLemmas.{one_zone}
 use Rattle.cell_types.specs.Tables.{transfer_of}
 use Rattle.cell_rules.specs.declared.zones.ZoneState.{ZoneState}
 use Rattle.cell_rules.specs.ZoneMap.{put_zone}
 use Rattle.cell_rules.specs.ModelState.{ModelState, zone_at, is_full}
 use Rattle.cell_rules.specs.Refusals as cell
 use Rattle.cell_rules.specs.Reply as cell_reply
-use Rattle.cell_rules.proofs.Tables.{all_zones, all_postures, from_zones, from_postures}
-use Rattle.cell_rules.proofs.Done.{none_or, none_then}
-use Rattle.cell_rules.proofs.Transfers.{give_finds}
+use Rattle.cell_rules.proofs.lemmas.Tables.{all_zones, all_postures, from_zones, from_postures}
+use Rattle.cell_rules.proofs.lemmas.DoneCalls.{none_or, none_then}
+use Rattle.cell_rules.proofs.lemmas.Transfers.{give_finds}
 use Rattle.plan_types.specs.declared.answer.Refusal.TheVariants.{PlaceFull as IsFull, NoPlate as HasNone}
 use Rattle.plan_types.specs.declared.call.Call.TheVariants.{Give as DoGive, Take as DoTake}
 use Rattle.plan_types.specs.Table as table

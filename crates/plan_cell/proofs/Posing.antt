@@ -19,10 +19,10 @@ use Rattle.cell_rules.specs.ModelState.{ModelState, zone_at, is_full}
 use Rattle.cell_rules.specs.Sound.{is_onto_full}
 use Rattle.cell_rules.specs.Refusals as cell
 use Rattle.cell_rules.specs.Reply as cell_reply
-use Rattle.cell_rules.proofs.Tables.{and_left, and_right, from_zones}
-use Rattle.cell_rules.proofs.Puts.{each_zone}
-use Rattle.cell_rules.proofs.Moves.{suits, posture_suits}
-use Rattle.cell_rules.proofs.Done.{none_or, none_then, none_then_not, no_zone}
+use Rattle.cell_rules.proofs.lemmas.Tables.{and_left, and_right, from_zones}
+use Rattle.cell_rules.proofs.lemmas.Puts.{each_zone}
+use Rattle.cell_rules.proofs.lemmas.Moves.{suits, posture_suits}
+use Rattle.cell_rules.proofs.lemmas.DoneCalls.{none_or, none_then, none_then_not, no_zone}
 use Rattle.plan_types.specs.declared.posture.Posture.{Posture as PlanPosture}
 use Rattle.plan_types.specs.declared.posture.Posture.TheVariants.{Moving as IsMoving, OpenIn as IsOpenIn}
 use Rattle.plan_types.specs.declared.table.PlanPose.{PlanPose}

@@ -14,13 +14,13 @@ use Rattle.cell_types.specs.Same.{same_zone}
 use Rattle.cell_types.specs.Tables.{host_of, guest_of, transfer_of}
 use Rattle.cell_rules.specs.ModelState.{ModelState, zone_at, is_full}
 use Rattle.cell_rules.specs.Sound as cell
-use Rattle.cell_rules.proofs.Tables.{all_zones, all_places, all_postures, from_zones, from_places, from_postures, and_left, and_right}
-use Rattle.cell_rules.proofs.Puts.{each_zone, each_place}
+use Rattle.cell_rules.proofs.lemmas.Tables.{all_zones, all_places, all_postures, from_zones, from_places, from_postures, and_left, and_right}
+use Rattle.cell_rules.proofs.lemmas.Puts.{each_zone, each_place}
 use Rattle.plan_types.specs.Table as table
 use Rattle.plan_types.specs.Below.{sum_below}
 use Rattle.plan_rules.specs.State.{zone_at as plan_zone_at, is_full as plan_is_full, one_if, leads_to, is_coming, coming, plates_for}
 use Rattle.plan_rules.specs.Sound as plan
-use Rattle.plan_rules.proofs.Puts.{nat_eq-apart}
+use Rattle.plan_rules.proofs.lemmas.Puts.{nat_eq-apart}
 use Rattle.plan_cell.specs.Numbers.{machine_number, zone_number, place_number, plan_posture}
 use Rattle.plan_cell.specs.CellPlan.{cell_table}
 use Rattle.plan_cell.specs.Mapping.{plan_zone, plan_state}

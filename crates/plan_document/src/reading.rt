@@ -2,7 +2,7 @@
 ghost use Rattle.std.specs.Prelude.{◌≤◌, length, map, IfOk, IfSome, IsOk};
 ghost use Rattle.std.specs.List.{AllZip};
 ghost use Rattle.toml.specs.View.{table_view, view};
-ghost use Rattle.cell_text.specs.Input.{TakesAtMost};
+ghost use Rattle.text_io.specs.Input.{TakesAtMost};
 ghost use Rattle.plan_document.specs.Keys.{key_word};
 ghost use Rattle.plan_document.specs.Limits.{byte_limit, max_bytes_read};
 ghost use Rattle.plan_document.specs.Reading.{HasRows, IsDocumentIn, IsMachineIn, IsPlanIn, IsPlanOfTable, IsPoseIn};
@@ -16,9 +16,9 @@ use crate::resolving::{ProgrammedPlan, programmed_plan_of};
 use crate::values::{
     check_keys, gives_at, table_in, tables_at, text_at, texts_at, truth_at, value_at, way_at,
 };
-use cell_text::{InputFault, read_up_to};
 use std::alloc::{AllocError, Global};
 use std::io::Read;
+use text_io::{InputFault, read_up_to};
 use toml::{Table, Value};
 use toml_places::line_at;
 

@@ -1,7 +1,7 @@
 //! How many situations are too many to be explored.
 
 use super::explorations::{CLAIMING, SILENT, YIELDING, plant_of};
-use plan_command::size::is_large;
+use plan_app::size::is_large;
 use plan_types::Call;
 use std::alloc::Global;
 

@@ -1,2 +1,2 @@
-pub mod Seen
-pub mod Order
+mod Seen
+mod Order

@@ -1,11 +1,11 @@
 -- What the engine says of the order of calls, by a plan.
 use Rattle.std.proofs.Common.{ℕ, arith}
 use Rattle.plan_types.specs.Table.{PlanTable}
-use Rattle.word_interlock.proofs.Histories.{sound-after}
-use Rattle.word_interlock.proofs.One.{history_is_seen, moments_are_shown}
-use Rattle.word_interlock.proofs.Receipts.{receipts_come_first}
-use Rattle.word_interlock.proofs.Running.{calls_follow_receipts, runs_keep_order}
-use Rattle.word_interlock.proofs.Settling as engine
+use Rattle.word_interlock.proofs.lemmas.Histories.{sound-after}
+use Rattle.word_interlock.proofs.lemmas.One.{history_is_seen, moments_are_shown}
+use Rattle.word_interlock.proofs.lemmas.Receipts.{receipts_come_first}
+use Rattle.word_interlock.proofs.lemmas.Running.{calls_follow_receipts, runs_keep_order}
+use Rattle.word_interlock.proofs.lemmas.Settling as engine
 use Rattle.plan_interlock.specs.declared.rules.PlanRules.{PlanRules}
 use Rattle.plan_interlock.specs.Book.{plan_book, plan_of}
 use Rattle.plan_interlock.specs.BookKept.{plan_is_rule_book}

@@ -5,9 +5,9 @@ use Rattle.plan_types.specs.Table.{PlanTable}
 use Rattle.plan_rules.specs.declared.state.State.{State}
 use Rattle.plan_rules.specs.Reply.{next}
 use Rattle.plan_rules.specs.History.{after, IsLegal}
-use Rattle.plan_rules.proofs.Lawful.{every_history}
+use Rattle.plan_rules.proofs.lemmas.Lawful.{every_history}
 use Rattle.word_interlock.specs.History.{after as after_by, IsLegal as IsLegalBy}
-use Rattle.word_interlock.proofs.Histories.{waits-foreign}
+use Rattle.word_interlock.proofs.lemmas.Histories.{waits-foreign}
 use Rattle.plan_interlock.specs.Book.{plan_book}
 use Rattle.plan_interlock.specs.Laws.{EveryPassSeesLaws, RightsLast}
 

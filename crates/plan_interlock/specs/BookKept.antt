@@ -10,7 +10,7 @@ use Rattle.plan_types.specs.Table.{PlanTable, watch}
 use Rattle.plan_rules.specs.declared.state.State.{State}
 use Rattle.plan_rules.specs.Reply.{reply, next_by}
 use Rattle.plan_rules.specs.History.{is_done_answer}
-use Rattle.plan_word.proofs.Staying.{next_stays}
+use Rattle.plan_word.proofs.lemmas.Staying.{next_stays}
 use Rattle.word_interlock.specs.RuleBook.{IsRuleBook, times}
 use Rattle.plan_interlock.specs.Book.{plan_book}
 

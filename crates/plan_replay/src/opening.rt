@@ -4,13 +4,13 @@ ghost use Rattle.csv_rows.specs.Rows.{HasRows, IsPlain, Row};
 ghost use Rattle.plan_replay.specs.Script as spec;
 
 use crate::start::read_start;
-use cell_text::InputFault;
 use csv::{ByteRecord, Reader, ReaderBuilder};
 use csv_rows::{ScriptFault, read_row};
 use plan_rules::State;
 use plan_text::NamedPlan;
 use std::alloc::Global;
 use std::io::Read;
+use text_io::InputFault;
 
 /// The start in record 0 of a script, or why there is none. `Read` or `Memory`: it wasn't read.
 pub fn start_of_script(

@@ -7,7 +7,6 @@ ghost use Rattle.plan_replay.specs.Script as spec;
 use crate::request::read_request;
 use crate::script::ScriptAnswers;
 use crate::start::{plates, read_start};
-use cell_text::InputFault;
 use csv::{ByteRecord, Reader, ReaderBuilder};
 use csv_rows::{MAX_RECORDS, Outcome, ScriptFault, push_end, read_row};
 use plan_rules::{State, apply};
@@ -15,6 +14,7 @@ use plan_text::NamedPlan;
 use plan_types::Answer;
 use std::alloc::{AllocError, Global};
 use std::io::Read;
+use text_io::InputFault;
 
 /// Answers a script: a line for each record, and the line of a fault if the script is refused.
 ///

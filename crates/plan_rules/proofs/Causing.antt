@@ -23,7 +23,7 @@ use Rattle.plan_rules.specs.Refusals.{owns, given_by, is_taken}
 use Rattle.plan_rules.specs.Causes.{number_of, order_of, is_cause, claim_cause, give_cause, yield_cause, take_cause, release_cause, pose_cause, inquire_cause, stop_cause, resume_cause, on_way, on_zone, is_other, is_at_stake, is_opened, lacks_room}
 use Rattle.plan_rules.proofs.Chains.{Line, line, chain, numbers, Tells, First, is_among, told_by, first_by}
 use Rattle.plan_rules.proofs.Tellings.{never, plain, names_owner, names_zone, names_holder, names_posture, names_moving, option_same, worn_at}
-use Rattle.plan_rules.proofs.Puts.{nat_eq-self}
+use Rattle.plan_rules.proofs.lemmas.Puts.{nat_eq-self}
 
 -- a call's refusal has its cause, and is in the call's order
 pub record TellsRight (causes : Refusal → Bool) (order : List ℕ) (o : Option Refusal) : Type 0 where

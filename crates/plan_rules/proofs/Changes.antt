@@ -17,13 +17,13 @@ use Rattle.plan_rules.specs.Sound.{IsSound}
 use Rattle.plan_rules.specs.Reply.{reply, next, next_by, changed, other_party, all_posed, emptied, filled}
 use Rattle.plan_rules.specs.History.{after, IsLegal, is_done, is_done_answer, posture_given, posture_since, posture_by_events}
 use Rattle.plan_rules.specs.Laws.{StampCountsChanges, PlatesAreKept, PostureByEvents}
-use Rattle.plan_rules.proofs.Below.{sum_below_same, sum_below_at_least}
-use Rattle.plan_rules.proofs.Puts.{put_cases, nat_eq-self}
-use Rattle.plan_rules.proofs.Zones.{gives_way}
-use Rattle.plan_rules.proofs.Done.{claim_done, give_done, yield_done, take_done, release_done}
-use Rattle.plan_rules.proofs.Plates.{zones_put, places_put, comes}
-use Rattle.plan_rules.proofs.Ways.{way_leads}
-use Rattle.plan_rules.proofs.Soundness.{done_none, never_done, next_keeps, in_ten, in_sixteen, plate_comes, zone_after_pose}
+use Rattle.plan_rules.proofs.lemmas.Below.{sum_below_same, sum_below_at_least}
+use Rattle.plan_rules.proofs.lemmas.Puts.{put_cases, nat_eq-self}
+use Rattle.plan_rules.proofs.lemmas.Zones.{gives_way}
+use Rattle.plan_rules.proofs.lemmas.DoneCalls.{claim_done, give_done, yield_done, take_done, release_done}
+use Rattle.plan_rules.proofs.lemmas.Plates.{zones_put, places_put, comes}
+use Rattle.plan_rules.proofs.lemmas.Ways.{way_leads}
+use Rattle.plan_rules.proofs.lemmas.Soundness.{done_none, never_done, next_keeps, in_ten, in_sixteen, plate_comes, zone_after_pose}
 
 -- ---- postures
 

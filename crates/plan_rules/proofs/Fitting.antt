@@ -17,13 +17,13 @@ use Rattle.plan_rules.specs.Sound.{IsSound}
 use Rattle.plan_rules.specs.Refusals.{owns, posture_with, is_concerned, stands_at, is_onto_taken, opens_onto_plate}
 use Rattle.plan_rules.specs.History.{after, IsLegal}
 use Rattle.plan_rules.specs.Laws.{PosesFit, HandoverByHolder, HasZone, done}
-use Rattle.plan_rules.proofs.Below.{any_below_none}
-use Rattle.plan_rules.proofs.Puts.{nat_eq-self}
-use Rattle.plan_rules.proofs.Zones.{owner_is}
+use Rattle.plan_rules.proofs.lemmas.Below.{any_below_none}
+use Rattle.plan_rules.proofs.lemmas.Puts.{nat_eq-self}
+use Rattle.plan_rules.proofs.lemmas.Zones.{owner_is}
 use Rattle.plan_rules.proofs.Given.{gives_moving}
-use Rattle.plan_rules.proofs.Done.{none_then, pose_done, give_done, yield_done, take_done, release_done, Poses, Holder}
-use Rattle.plan_rules.proofs.Plates.{no_plates}
-use Rattle.plan_rules.proofs.Soundness.{done_none, unless}
+use Rattle.plan_rules.proofs.lemmas.DoneCalls.{none_then, pose_done, give_done, yield_done, take_done, release_done, Poses, Holder}
+use Rattle.plan_rules.proofs.lemmas.Plates.{no_plates}
+use Rattle.plan_rules.proofs.lemmas.Soundness.{done_none, unless}
 use Rattle.plan_rules.proofs.Histories.{legal-left, replies_done}
 use Rattle.plan_rules.proofs.Holders.{holds_iff_owns}
 

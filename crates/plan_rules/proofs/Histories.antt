@@ -10,7 +10,7 @@ use Rattle.plan_rules.specs.Sound.{IsSound}
 use Rattle.plan_rules.specs.Reply.{reply, next}
 use Rattle.plan_rules.specs.History.{after, IsLegal}
 use Rattle.plan_rules.specs.Laws.{Throughout, done}
-use Rattle.plan_rules.proofs.Soundness.{next_keeps}
+use Rattle.plan_rules.proofs.lemmas.Soundness.{next_keeps}
 
 pub after-append : (t : PlanTable) (s : State) (a b : List Event) → after t s (a ++ b) ≡ after t (after t s a) b
 after-append t s [] b = refl

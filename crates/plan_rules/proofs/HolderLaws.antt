@@ -13,10 +13,10 @@ use Rattle.plan_rules.specs.Sound.{IsSound, is_owned_by, is_open}
 use Rattle.plan_rules.specs.Refusals.{owns}
 use Rattle.plan_rules.specs.History.{after, IsLegal, Holds}
 use Rattle.plan_rules.specs.Laws.{OneHolder, MoverIsHost, GuestOnlyWhileOpen, done}
-use Rattle.plan_rules.proofs.Puts.{nat_eq-self}
-use Rattle.plan_rules.proofs.Zones.{implied, owner_is}
-use Rattle.plan_rules.proofs.Done.{pose_done}
-use Rattle.plan_rules.proofs.Soundness.{done_none, posed_zone}
+use Rattle.plan_rules.proofs.lemmas.Puts.{nat_eq-self}
+use Rattle.plan_rules.proofs.lemmas.Zones.{implied, owner_is}
+use Rattle.plan_rules.proofs.lemmas.DoneCalls.{pose_done}
+use Rattle.plan_rules.proofs.lemmas.Soundness.{done_none, posed_zone}
 use Rattle.plan_rules.proofs.Histories.{sound-after, legal-left, replies_done}
 use Rattle.plan_rules.proofs.Holders.{holds_iff_owns, owned_as}
 use Rattle.plan_rules.proofs.Changes.{posture-after}

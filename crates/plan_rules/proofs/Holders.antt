@@ -17,9 +17,9 @@ use Rattle.plan_rules.specs.Sound.{IsSound, is_owned_by}
 use Rattle.plan_rules.specs.Refusals.{owns}
 use Rattle.plan_rules.specs.Reply.{reply, next, next_by, changed, other_party, all_posed}
 use Rattle.plan_rules.specs.History.{after, IsLegal, is_done_answer, gains, loses, is_gain, is_loss, IsLoss, LosesNothing, GainsAndKeeps, Holds}
-use Rattle.plan_rules.proofs.Puts.{nat_eq-self, nat_eq-apart, put_cases, zone_at-posed}
-use Rattle.plan_rules.proofs.Done.{claim_done, give_done, yield_done, take_done, release_done}
-use Rattle.plan_rules.proofs.Soundness.{done_none, never_done, next_keeps, in_ten}
+use Rattle.plan_rules.proofs.lemmas.Puts.{nat_eq-self, nat_eq-apart, put_cases, zone_at-posed}
+use Rattle.plan_rules.proofs.lemmas.DoneCalls.{claim_done, give_done, yield_done, take_done, release_done}
+use Rattle.plan_rules.proofs.lemmas.Soundness.{done_none, never_done, next_keeps, in_ten}
 use Rattle.plan_rules.proofs.Stopping.{not_true}
 use Rattle.std.proofs.Common.{length, arith}
 use Rattle.std.proofs.lemmas.Bool.{cases_lt}

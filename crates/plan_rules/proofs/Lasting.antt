@@ -17,11 +17,11 @@ use Rattle.plan_rules.specs.Refusals.{owns}
 use Rattle.plan_rules.specs.Reply.{reply, next, next_by, changed, other_party, emptied, filled}
 use Rattle.plan_rules.specs.History.{after, IsLegal, is_done_answer, is_done, Holds, own_events, posture_given, posture_since, posture_by_events}
 use Rattle.plan_rules.specs.Laws.{RightLasts}
-use Rattle.plan_rules.proofs.Puts.{put_cases, apart-nat_eq}
-use Rattle.plan_rules.proofs.Zones.{gives_way}
-use Rattle.plan_rules.proofs.Done.{claim_done, give_done, yield_done, take_done, release_done, pose_done, Holder}
-use Rattle.plan_rules.proofs.Ways.{way_leads}
-use Rattle.plan_rules.proofs.Soundness.{done_none, never_done, next_keeps, in_ten, plate_comes, posed_zone, zone_after_pose, some_or_none}
+use Rattle.plan_rules.proofs.lemmas.Puts.{put_cases, apart-nat_eq}
+use Rattle.plan_rules.proofs.lemmas.Zones.{gives_way}
+use Rattle.plan_rules.proofs.lemmas.DoneCalls.{claim_done, give_done, yield_done, take_done, release_done, pose_done, Holder}
+use Rattle.plan_rules.proofs.lemmas.Ways.{way_leads}
+use Rattle.plan_rules.proofs.lemmas.Soundness.{done_none, never_done, next_keeps, in_ten, plate_comes, posed_zone, zone_after_pose, some_or_none}
 use Rattle.plan_rules.proofs.Histories.{after-append, legal-left, sound-after}
 use Rattle.plan_rules.proofs.Holders.{holds_iff_owns, owned_as}
 

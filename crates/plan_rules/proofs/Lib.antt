@@ -1,22 +1,14 @@
-pub mod Below
-pub mod Puts
-pub mod Zones
-pub mod Done
-pub mod Plates
-pub mod Ways
-pub mod Soundness
-pub mod Histories
-pub mod Stopping
-pub mod Holders
-pub mod Changes
-pub mod Lasting
-pub mod HolderLaws
-pub mod Starts
-pub mod Fitting
-pub mod Lawful
-pub mod Literal
-pub mod Chains
-pub mod Tellings
-pub mod Causing
-pub mod Refusing
-pub mod Given
+pub mod lemmas
+mod Histories
+mod Stopping
+mod Holders
+mod Changes
+mod Lasting
+mod HolderLaws
+mod Fitting
+mod Literal
+mod Chains
+mod Tellings
+mod Causing
+mod Refusing
+mod Given

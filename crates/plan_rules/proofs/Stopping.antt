@@ -13,8 +13,8 @@ use Rattle.plan_rules.specs.declared.state.State.{State}
 use Rattle.plan_rules.specs.Reply.{reply, next, next_by, changed}
 use Rattle.plan_rules.specs.History.{after, IsLegal, is_done_answer, stops, resumes, is_stop, is_resume, NeverResumes, StopsAndStays, IsStopped}
 use Rattle.plan_rules.specs.Laws.{StoppedUntilResumed, is_barred, done}
-use Rattle.plan_rules.proofs.Done.{claim_done, give_done, pose_done, stop_done, resume_done}
-use Rattle.plan_rules.proofs.Soundness.{done_none}
+use Rattle.plan_rules.proofs.lemmas.DoneCalls.{claim_done, give_done, pose_done, stop_done, resume_done}
+use Rattle.plan_rules.proofs.lemmas.Soundness.{done_none}
 use Rattle.plan_rules.proofs.Given.{gives_moving}
 use Rattle.plan_rules.proofs.Histories.{legal-left, replies_done}
 

@@ -14,7 +14,7 @@ use Rattle.plan_types.specs.Same.{same_posture, one_posture}
 use Rattle.plan_rules.specs.Sound.{is_open}
 use Rattle.plan_rules.specs.Refusals.{held_by}
 use Rattle.plan_rules.specs.Causes.{number_of, is_shut}
-use Rattle.plan_rules.proofs.Puts.{nat_eq-self}
+use Rattle.plan_rules.proofs.lemmas.Puts.{nat_eq-self}
 use Rattle.plan_rules.proofs.Chains.{Tells}
 
 pub never : true ≡ false → ⊥

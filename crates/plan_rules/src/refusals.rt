@@ -154,7 +154,7 @@ impl State {
     }
 
     /// How many plates are on their way to a place.
-    #[tactic(auto, using(crate::proofs::Below::sum_below_more))]
+    #[tactic(auto, using(crate::proofs::lemmas::Below::sum_below_more))]
     fn plates_coming(&self, plan: &Plan, place: u8) -> u8
         ensures { result ≡ states.coming plan.now self.now place }
     {
@@ -292,7 +292,7 @@ impl State {
         unowned.then_some(Refusal::NotOwner(self.zone(zone).owner))
     }
 
-    #[tactic(auto, using(plan_types::proofs::Below::first_below_more))]
+    #[tactic(auto, using(plan_types::proofs::lemmas::Below::first_below_more))]
     fn any_unowned_by_pose(&self, plan: &Plan, machine: u8, pose: u8) -> Option<Refusal>
         ensures { result
             ≡ refusals.first_zone plan.now (refusals.unowned_by_pose plan.now self.now machine pose) }
@@ -311,7 +311,7 @@ impl State {
         under.then_some(Refusal::PlateInZone(zone))
     }
 
-    #[tactic(auto, using(plan_types::proofs::Below::first_below_more))]
+    #[tactic(auto, using(plan_types::proofs::lemmas::Below::first_below_more))]
     fn any_plate_under_pose(&self, plan: &Plan, machine: u8, pose: u8) -> Option<Refusal>
         ensures { result
             ≡ refusals.first_zone plan.now (refusals.plate_under_pose plan.now self.now machine pose) }
@@ -329,7 +329,7 @@ impl State {
         plan.zone(zone).host == machine && self.zone(zone).posture != Posture::Moving
     }
 
-    #[tactic(auto, using(crate::proofs::Below::any_below_more))]
+    #[tactic(auto, using(crate::proofs::lemmas::Below::any_below_more))]
     fn stands_anywhere(&self, plan: &Plan, machine: u8) -> bool
         ensures { result
             ≡ any_below (refusals.stands_at plan.now self.now machine) (zone_count plan.now) }
@@ -357,7 +357,7 @@ impl State {
         opens.then_some(Refusal::PlaceFull)
     }
 
-    #[tactic(auto, using(plan_types::proofs::Below::first_below_more))]
+    #[tactic(auto, using(plan_types::proofs::lemmas::Below::first_below_more))]
     fn any_opens_onto_plate(&self, plan: &Plan, pose: u8) -> Option<Refusal>
         ensures { result
             ≡ refusals.first_zone plan.now (refusals.opens_onto_plate plan.now self.now pose) }

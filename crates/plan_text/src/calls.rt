@@ -92,7 +92,7 @@ impl NamedPlan {
     }
 
     /// The pose that has this name among those of a machine, or `None` if none has it.
-    #[tactic(auto, using(plan_types::proofs::Below::first_below_more))]
+    #[tactic(auto, using(plan_types::proofs::lemmas::Below::first_below_more))]
     pub fn own_pose(&self, machine: u8, name: &[u8]) -> Option<u8>
         ensures { result ≡ spec.own_pose self.now machine name.now }
     {

@@ -77,7 +77,7 @@ impl Names {
     }
 
     /// The number of a name, or `None` if it isn't among them.
-    #[tactic(auto, using(plan_types::proofs::Below::first_below_more))]
+    #[tactic(auto, using(plan_types::proofs::lemmas::Below::first_below_more))]
     pub fn number_of(&self, name: &[u8]) -> Option<u8>
         ensures { result ≡ number_in self.now name.now }
     {

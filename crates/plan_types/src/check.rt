@@ -113,7 +113,7 @@ impl Tables {
         }
     }
 
-    #[tactic(auto, using(crate::proofs::Below::first_below_more))]
+    #[tactic(auto, using(crate::proofs::lemmas::Below::first_below_more))]
     fn keepers_fault(&self) -> Option<PlanFault>
         ensures { result ≡ first_below (faults.keeper_fault self.now) (table.place_count self.now) }
     {
@@ -138,7 +138,7 @@ impl Tables {
             .or(unless(outward, PlanFault::OutwardAstray { zone }))
     }
 
-    #[tactic(auto, using(crate::proofs::Below::first_below_more))]
+    #[tactic(auto, using(crate::proofs::lemmas::Below::first_below_more))]
     fn zones_fault(&self) -> Option<PlanFault>
         ensures { result ≡ first_below (faults.zone_fault self.now) (table.zone_count self.now) }
     {
@@ -158,7 +158,7 @@ impl Tables {
         foreign.then_some(PlanFault::ForeignZone { pose, zone })
     }
 
-    #[tactic(auto, using(crate::proofs::Below::first_below_more))]
+    #[tactic(auto, using(crate::proofs::lemmas::Below::first_below_more))]
     fn foreign_zone_fault(&self, pose: usize) -> Option<PlanFault>
         ensures { result ≡ first_below (faults.foreign_fault self.now pose) 10 }
     {
@@ -176,7 +176,7 @@ impl Tables {
         unless(known, PlanFault::NoSuchMachine { pose }).or(self.foreign_zone_fault(pose))
     }
 
-    #[tactic(auto, using(crate::proofs::Below::first_below_more))]
+    #[tactic(auto, using(crate::proofs::lemmas::Below::first_below_more))]
     fn poses_fault(&self) -> Option<PlanFault>
         ensures { result ≡ first_below (faults.pose_fault self.now) (table.pose_count self.now) }
     {

@@ -3,7 +3,7 @@ use Rattle.std.proofs.Common.{◌≡◌, ℕ, zero, suc, ◌+◌, ◌*◌, ◌/�
 use Rattle.std.proofs.Math.Nat.{add-mul, mul_assoc, mul_comm}
 use Rattle.std.proofs.lemmas.Nat.{pow-add, mul-add-lt, shr_high, mod_low}
 use Rattle.plan_types.specs.Below.{sum_below}
-use Rattle.plan_types.proofs.Below.{below_next}
+use Rattle.plan_types.proofs.lemmas.Below.{below_next}
 
 -- the number at i begins at the bit that `start` says
 abbrev pub row : (ℕ → ℕ) → (ℕ → ℕ) → ℕ → ℕ

@@ -1,7 +1,7 @@
-pub mod Apart
-pub mod Fields
-pub mod LaidOut
-pub mod RoundTrip
-pub mod Staying
-pub mod Soundness
-pub mod Packing
+pub mod lemmas
+mod Apart
+mod Fields
+mod LaidOut
+mod RoundTrip
+mod Soundness
+mod Packing

@@ -9,9 +9,9 @@ use Rattle.plan_rules.specs.declared.state.ZoneState.{ZoneState}
 use Rattle.plan_rules.specs.declared.state.State.{State}
 use Rattle.plan_rules.specs.State.{zone_at, is_full, one_if, leads_to, is_coming, coming, plates_for}
 use Rattle.plan_rules.specs.Sound.{IsSound, IsLawfulZone}
-use Rattle.plan_rules.proofs.Below.{sum_below_same}
-use Rattle.plan_rules.proofs.Puts.{nat_eq-apart}
-use Rattle.plan_rules.proofs.Ways.{way_leads}
+use Rattle.plan_rules.proofs.lemmas.Below.{sum_below_same}
+use Rattle.plan_rules.proofs.lemmas.Puts.{nat_eq-apart}
+use Rattle.plan_rules.proofs.lemmas.Ways.{way_leads}
 
 not_there : (f : Bool) (o : Option Transfer) (p : ℕ) → ((way : Transfer) → o ≡ Some way → way.to ≢ p) → (f && leads_to o p) ≡ false
 not_there false o p k = refl

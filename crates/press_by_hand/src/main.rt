@@ -11,7 +11,7 @@ ghost use Rattle.cell_types.specs.declared.machine.Machine.TheVariants.{Press};
 use cell_control::Wired;
 use cell_interlock::{Interlock, Pass, PassLine};
 use cell_rules::{Line, State};
-use cell_stations::PressProgram;
+use cell_table_press::PressProgram;
 use fault::PressFault;
 use std::alloc::Global;
 use texts::{motor_word, read_switches};

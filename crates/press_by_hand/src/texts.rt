@@ -1,10 +1,10 @@
 //! The texts of the switches and the motor.
 ghost use Rattle.std.specs.Prelude.{◌≡◌, Bool, Some, IfSome};
 ghost use Rattle.press_by_hand.specs.Texts.{switch_digit, switch_digits, motor_word as word_of};
-ghost use Rattle.cell_calib.specs.declared.sense.PressSense.{PressSense};
+ghost use Rattle.cell_sensors.specs.declared.sense.PressSense.{PressSense};
 
-use cell_calib::PressSense;
 use cell_devices::Motor;
+use cell_sensors::PressSense;
 
 /// The switches by three digits, bottom, middle and top: `001` is the top. `None` if the text isn't
 /// three digits of 0 and 1.

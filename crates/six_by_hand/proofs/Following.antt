@@ -6,7 +6,7 @@ use Rattle.cell_notes.specs.declared.status.Status.{Status}
 use Rattle.cell_threads.specs.Workers.{GateOf, ComesBy}
 use Rattle.cell_threads.specs.Promises.{GivesOf}
 use Rattle.cell_threads.specs.Watching.{WatchesOf}
-use Rattle.cell_threads.proofs.Turning.{all_along}
+use Rattle.cell_threads.proofs.lemmas.Turning.{all_along}
 use Rattle.cell_renewal.specs.declared.rounds.Round.{Round}
 use Rattle.cell_renewal.specs.declared.rounds.Leave.{Leave}
 use Rattle.cell_renewal.specs.Renewing.{GoesOnBy, OpensAfter, RoundMoment, TakesRound}

@@ -1,1 +1,1 @@
-pub mod Following
+mod Following

@@ -5,10 +5,10 @@ ghost use Rattle.std.specs.Prelude.{◌≡◌};
 ghost use Rattle.six_by_hand.specs.Devices as devices;
 
 use crate::axis::{Axis, STEP};
-use cell_calib::{CraneSense, DepositSense, FeedSense, PressSense, RobotSense, TableSense};
 use cell_control::Told;
 use cell_devices::{CraneAct, DepositAct, FeedAct, PressAct, RobotAct, TableAct};
 use cell_renewal::Devices;
+use cell_sensors::{CraneSense, DepositSense, FeedSense, PressSense, RobotSense, TableSense};
 
 // Where a plate is when it enters its belt's light barrier, and where it is last in it.
 const BARRIER_FIRST: u16 = 900;

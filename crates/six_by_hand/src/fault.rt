@@ -1,9 +1,9 @@
 //! Why the run by six workers ends.
 
-use cell_calib::PointsFault;
 use cell_renewal::RenewalFault;
 use cell_report::AuditFault;
 use cell_rules::StartFault;
+use cell_sensors::PointsFault;
 use cell_threads::RunFault;
 use std::io;
 

@@ -11,8 +11,8 @@ mod lookout;
 mod rounds;
 mod six;
 
-use cell_calib::{Points, line_at};
 use cell_rules::State;
+use cell_sensors::{Points, line_at};
 use fault::SixFault;
 use lookout::Lookout;
 use rounds::Audits;

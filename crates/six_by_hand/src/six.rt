@@ -5,15 +5,15 @@ use crate::axis::Axis;
 use crate::devices::{Belt, Crane, DepositBelt, FeedBelt, Press, Robot, Table};
 use crate::lookout::Lookout;
 use crate::rounds::{Audits, RoundsGate};
-use cell_calib::{Calibration, Gauge, Points};
-use cell_haul::{CraneProgram, DepositProgram, FeedProgram};
+use cell_belts_crane::{CraneProgram, DepositProgram, FeedProgram};
 use cell_notes::Status;
 use cell_renewal::{GoingWorker, Renewal, RenewalFault, run_renewed};
 use cell_report::AuditFault;
 use cell_robot::RobotProgram;
 use cell_rules::State;
-use cell_stations::{PressProgram, TableProgram};
-use cell_threads::PerMachine;
+use cell_sensors::{Calibration, Gauge, Points};
+use cell_table_press::{PressProgram, TableProgram};
+use cell_threads::SixOf;
 use cell_types::Machine;
 use std::alloc::Global;
 use std::sync::Wait;
@@ -59,7 +59,7 @@ impl RoundPlan {
 }
 
 /// How each machine ended.
-pub type SixStatuses = PerMachine<Status, Status, Status, Status, Status, Status>;
+pub type SixStatuses = SixOf<Status, Status, Status, Status, Status, Status>;
 
 /// Drives the six machines, each in a thread of its own and all at one pace, over one interlock
 /// after another. A watch looks at each. The closures are those of the arms, the robot's rotation, the table's rotation
@@ -97,7 +97,7 @@ where
     let crane = CraneProgram::new(Calibration::new(gripper, points.arm));
     let belt = FeedBelt(Belt::new());
     let deposit = DepositBelt(Belt::new());
-    let workers = PerMachine {
+    let workers = SixOf {
         feed: GoingWorker::at_start(FeedProgram, Machine::Feed, opening, belt),
         table: GoingWorker::at_start(table, Machine::Table, opening, Table::at_start()),
         robot: GoingWorker::at_start(robot, Machine::Robot, opening, Robot::at_start()),
@@ -113,7 +113,7 @@ where
         Err(fault) => return Err(fault),
     };
     let six = &left.outputs;
-    let statuses = PerMachine {
+    let statuses = SixOf {
         feed: six.feed.status,
         table: six.table.status,
         robot: six.robot.status,

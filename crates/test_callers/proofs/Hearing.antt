@@ -5,7 +5,7 @@ use Rattle.cell_rules.specs.Names.{ModelState, event, BeginsWith, SeenAfter, aft
 use Rattle.cell_interlock.specs.Views.{PassView, ReceiptView}
 use Rattle.cell_interlock.specs.Calls.{IfSettled, IsStampedAfter, stamp_in}
 use Rattle.cell_interlock.specs.Seen.{HasSeenMore}
-use Rattle.cell_interlock.proofs.Order.{stamp_seen, stamped_after}
+use Rattle.cell_interlock.proofs.lemmas.Order.{stamp_seen, stamped_after}
 use Rattle.test_callers.specs.Letters.{HasEvent, ComesLater, HasItsStamp}
 
 still_has : (e : Event) (h k : List Event) → BeginsWith k h → HasEvent h e → HasEvent k e

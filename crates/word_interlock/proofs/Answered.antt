@@ -10,8 +10,8 @@ use Rattle.word_interlock.specs.Rule.{WordMoment, seen_at, with_event, with_answ
 use Rattle.word_interlock.specs.Steps.{with_load, with_exchange, at_moments, Loaded, IsReady, Exchanged}
 use Rattle.word_interlock.specs.Seen.{IsSamePass, IsSettled, IsUnmade, HasChanges, IsOvertaken}
 use Rattle.word_interlock.specs.Going.{IsUnderWay}
-use Rattle.word_interlock.proofs.Histories.{waits-after, after-push, legal-append, legal-event, legal-left, own-push, sound-after}
-use Rattle.word_interlock.proofs.Moments.{begun, begun-as}
+use Rattle.word_interlock.proofs.lemmas.Histories.{waits-after, after-push, legal-append, legal-event, legal-left, own-push, sound-after}
+use Rattle.word_interlock.proofs.lemmas.Moments.{begun, begun-as}
 use Rattle.word_interlock.proofs.Overtaken.{changes-trans, changes-before, overtaken}
 
 pub same_after : {R S M E : Type 0} (v u w : PassView R S M E) → IsSamePass v u → IsSamePass u w → IsSamePass v w

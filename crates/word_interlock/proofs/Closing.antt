@@ -12,7 +12,7 @@ use Rattle.word_interlock.specs.declared.views.Moment.{Moment}
 use Rattle.word_interlock.specs.Moments.{events_of, AreCalls, AreInTime}
 use Rattle.word_interlock.specs.Run.{IsRun}
 use Rattle.word_interlock.specs.Bunches.{IsNext, bunch, AllLawful, IsBunch, AllHavePart, IsEnd}
-use Rattle.word_interlock.proofs.Histories.{sound-after}
+use Rattle.word_interlock.proofs.lemmas.Histories.{sound-after}
 
 module _ {R S M C A E : Type 0} (book : R → RuleBook S M C A E) where
   -- the first of several, on its own seat; and the others

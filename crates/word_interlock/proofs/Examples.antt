@@ -9,7 +9,7 @@ use Rattle.word_interlock.specs.Views.{PassView}
 use Rattle.word_interlock.specs.Moments.{events_of, actor_at, own_moments, HasBegun, AreCalls}
 use Rattle.word_interlock.specs.Timing.{Lasts}
 use Rattle.word_interlock.specs.MomentExamples.{AreTwoActors, CallExamples, LastsExamples, MomentExamples, receipt_with}
-use Rattle.word_interlock.proofs.Moments.{no_end, own-append, calls-begin, calls-answer, begun, begun-as, own-one, own-more, not_own, none_begun, none_answered, head_or, rest_of}
+use Rattle.word_interlock.proofs.lemmas.Moments.{no_end, own-append, calls-begin, calls-answer, begun, begun-as, own-one, own-more, not_own, none_begun, none_answered, head_or, rest_of}
 
 module _ {S M C A E : Type 0} (b : RuleBook S M C A E) (law : IsRuleBook b) where
   none_yet : AreCalls b []

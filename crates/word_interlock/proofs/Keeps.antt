@@ -17,8 +17,8 @@ use Rattle.word_interlock.specs.declared.views.Moment.TheVariants.{Begins, Answe
 use Rattle.word_interlock.specs.Moments.{events_of, HasBegun, AreCalls, AreOfPasses, IsInTime, AreInTime}
 use Rattle.word_interlock.specs.Rule.{new_view, spent, actor_alone, actor_with, SeatIsInTime, first_only, but_first, first_off, others_of, seen_in, receipts_of, together, all_views, Fits, AllFit, AllTell, TellFirst, SeatFits, times_in, times_in_all, WordTellsHistory, WordMoment, with_event, seen_at, with_answer, moments_at, with_moments, after_load, after_exchange, looked, exchanged, WordMomentOfAll, all_see, after_gathering, gathered}
 use Rattle.word_interlock.specs.Steps.{IsReady}
-use Rattle.word_interlock.proofs.Histories.{begins-more, legal-append, after-push, own-more, sound-after, legal-event, not_own, apart_back}
-use Rattle.word_interlock.proofs.Moments.{no_end, events-append, begun-as, begun, calls-begin, calls-answer, passes-push, in_time-whole, in_time-more, in_time-first, in_time-others, in_time-both, in_time-all_see, in_time-new, show-more, show-both, show-seen}
+use Rattle.word_interlock.proofs.lemmas.Histories.{begins-more, legal-append, after-push, own-more, sound-after, legal-event, not_own, apart_back}
+use Rattle.word_interlock.proofs.lemmas.Moments.{no_end, events-append, begun-as, begun, calls-begin, calls-answer, passes-push, in_time-whole, in_time-more, in_time-first, in_time-others, in_time-both, in_time-all_see, in_time-new, show-more, show-both, show-seen}
 
 -- a step that tells more than another one is allowed where that is
 pub allows_more : {T V : Type 0} (holds : State T V → Type 0) (slots id : ℕ) (me : Me T V) (i : ℕ) (f : ℕ → ℕ) (one other : ℕ → Me T V → Type 0) → ((n : ℕ) (me' : Me T V) → one n me' → other n me') → Allows holds slots id me i f one → Allows holds slots id me i f other

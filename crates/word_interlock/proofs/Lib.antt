@@ -1,17 +1,11 @@
-pub mod Histories
-pub mod Moments
-pub mod Keeps
-pub mod Seats
-pub mod Overtaken
-pub mod Answered
-pub mod Meeting
-pub mod Ordering
-pub mod Closing
-pub mod Timing
-pub mod Telling
-pub mod Running
-pub mod Settling
-pub mod One
-pub mod Examples
-pub mod Receipts
-pub mod OrderCases
+pub mod lemmas
+mod Keeps
+mod Seats
+mod Overtaken
+mod Answered
+mod Meeting
+mod Closing
+mod Timing
+mod Telling
+mod Examples
+mod OrderCases

@@ -9,7 +9,7 @@ use Rattle.word_interlock.specs.Moments.{own_moments}
 use Rattle.word_interlock.specs.Run.{AnsweredCall, EndsBefore}
 use Rattle.word_interlock.specs.MomentExamples.{AreTwoActors, pass_with}
 use Rattle.word_interlock.specs.OrderExamples.{OrderCases, SeenCases, SettledCases, OrderExamples}
-use Rattle.word_interlock.proofs.Moments.{head_or, rest_of, no_end, own-one}
+use Rattle.word_interlock.proofs.lemmas.Moments.{head_or, rest_of, no_end, own-one}
 use Rattle.word_interlock.proofs.Examples.{first_is, begins_once}
 
 module _ {S M C A E : Type 0} (b : RuleBook S M C A E) (law : IsRuleBook b) (m n : M) (e f : E) (two : AreTwoActors b m n e f) where

@@ -5,7 +5,7 @@ use Rattle.word_interlock.specs.History.{after, IsLegal, changes_by_others, Begi
 use Rattle.word_interlock.specs.Views.{PassView, view_of}
 use Rattle.word_interlock.specs.Rule.{WordMoment}
 use Rattle.word_interlock.specs.Seen.{HasChanges}
-use Rattle.word_interlock.proofs.Histories.{after-append, legal-right, waits-foreign, changes-append, unchanged}
+use Rattle.word_interlock.proofs.lemmas.Histories.{after-append, legal-right, waits-foreign, changes-append, unchanged}
 
 module _ {S M C A E : Type 0} (b : RuleBook S M C A E) where
   pub changes-trans : (m : M) (x y z : List E) (i j : ℕ) → HasChanges b m x y i → HasChanges b m y z j → HasChanges b m x z (i + j)

@@ -13,7 +13,7 @@ use Rattle.word_interlock.specs.Views.{PassView, ReceiptView, pass_of, view_of, 
 use Rattle.word_interlock.specs.Rule.{actor_alone, receipt_alone, together, actor_with, WordTellsHistory, with_event, seen_at, seen_by, moments_at, moments_by, with_begin, with_moments, after_load, after_exchange, looked, exchanged, gathered, IsSeat}
 use Rattle.word_interlock.specs.Steps.{IsReady}
 use Rattle.word_interlock.specs.Moments.{HasBegun}
-use Rattle.word_interlock.proofs.Histories.{legal-append, legal-event}
+use Rattle.word_interlock.proofs.lemmas.Histories.{legal-append, legal-event}
 use Rattle.word_interlock.proofs.Keeps.{allows_more, looks_as, exchanges_as, gathers_as}
 
 abbrev head_or : {T : Type 0} → T → List T → T

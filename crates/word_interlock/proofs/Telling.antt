@@ -13,9 +13,9 @@ use Rattle.word_interlock.specs.Moments.{events_of}
 use Rattle.word_interlock.specs.Calls.{IfSettled, SeenAfter, IsStampedAfter, stamp_in}
 use Rattle.word_interlock.specs.Order.{StandsBefore}
 use Rattle.word_interlock.specs.Timing.{Lasts, IsTimed, BeginsAfter}
-use Rattle.word_interlock.proofs.Histories.{begins-more}
-use Rattle.word_interlock.proofs.Moments.{events-append, none_begun, none_answered}
-use Rattle.word_interlock.proofs.Ordering.{in_order, KnewAt, stamped_known, stamp_seen}
+use Rattle.word_interlock.proofs.lemmas.Histories.{begins-more}
+use Rattle.word_interlock.proofs.lemmas.Moments.{events-append, none_begun, none_answered}
+use Rattle.word_interlock.proofs.lemmas.Ordering.{in_order, KnewAt, stamped_known, stamp_seen}
 
 module _ {R S M C A E : Type 0} (b : RuleBook S M C A E) (heard : List (HistoryView S M E)) (v w : PassView R S M E) (last : List (Moment M E)) (k : Lasts b heard v last w) where
   -- what a call sees: the events of the moments at its beginning, those after it, and its own

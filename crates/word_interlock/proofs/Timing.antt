@@ -11,7 +11,7 @@ use Rattle.word_interlock.specs.Rule.{WordMoment, AllTell, AllShow, with_answer,
 use Rattle.word_interlock.specs.Steps.{Loaded, Exchanged}
 use Rattle.word_interlock.specs.Going.{IsUnderWay}
 use Rattle.word_interlock.specs.Timing.{Lasts}
-use Rattle.word_interlock.proofs.Moments.{events-append, own-append, between-foreign}
+use Rattle.word_interlock.proofs.lemmas.Moments.{events-append, own-append, between-foreign}
 use Rattle.word_interlock.proofs.Answered.{Says, answer_at, seen_refused, seen_done, moments_done, won_at, lost_at}
 
 joined : {X : Type 0} (f k more last : List X) (x : X) → (((f ++ x ∷ k) ++ []) ++ more) ++ last ≡ (f ++ x ∷ (k ++ more)) ++ last

@@ -6,10 +6,10 @@ ghost use Rattle.cell_parts.specs.Plant.{crane_at_start};
 use crate::axis::Axis;
 use crate::plant::CranePlant;
 use crate::potentiometer::MeasuredAxis;
-use cell_calib::{CraneSense, Points};
 use cell_control::Part;
 use cell_devices::CraneAct;
 use cell_rules::State;
+use cell_sensors::{CraneSense, Points};
 use cell_types::{Event, Place};
 use std::marker::Model;
 
@@ -39,7 +39,7 @@ pub struct CranePart {
 }
 
 impl Model for CranePart {
-    ghost use Rattle.cell_calib.specs.Scale.{Scale};
+    ghost use Rattle.cell_sensors.specs.Scale.{Scale};
     ghost use Rattle.cell_parts.specs.Axes.{IsWithin, crane_end, gripper_end};
     ghost use Rattle.cell_parts.specs.declared.plant.CranePlant.{CranePlant};
     ghost use Rattle.cell_parts.specs.Plant.{Scaled};
@@ -97,7 +97,7 @@ impl CranePart {
 }
 
 impl Part for CranePart {
-    ghost use Rattle.cell_calib.specs.Scale.{Scale};
+    ghost use Rattle.cell_sensors.specs.Scale.{Scale};
     ghost use Rattle.cell_parts.specs.declared.plant.CranePlant.{CranePlant};
     ghost use Rattle.cell_parts.specs.Rigs.{crane_rig};
 

@@ -3,10 +3,10 @@ ghost use Rattle.std.specs.Prelude.{◌≡◌};
 ghost use Rattle.cell_parts.specs.Plant.{deposit_at_start, deposit_called};
 
 use crate::belt::Belt;
-use cell_calib::DepositSense;
 use cell_control::Part;
 use cell_devices::DepositAct;
 use cell_rules::State;
+use cell_sensors::DepositSense;
 use cell_types::{Answer, Call, Event, Machine, Zone};
 
 /// The deposit belt, with a light barrier.

@@ -3,10 +3,10 @@ ghost use Rattle.std.specs.Prelude.{◌≡◌};
 ghost use Rattle.cell_parts.specs.Plant.{feed_at_start, feed_called};
 
 use crate::belt::Belt;
-use cell_calib::FeedSense;
 use cell_control::Part;
 use cell_devices::FeedAct;
 use cell_rules::State;
+use cell_sensors::FeedSense;
 use cell_types::{Answer, Call, Event, Machine, Zone};
 
 /// The feed belt, with a light barrier.

@@ -4,9 +4,9 @@ ghost use Rattle.cell_parts.specs.Axes.{IsWithin, press_end};
 ghost use Rattle.cell_parts.specs.Plant.{press_at_start};
 
 use crate::axis::Axis;
-use cell_calib::PressSense;
 use cell_control::Part;
 use cell_devices::PressAct;
+use cell_sensors::PressSense;
 use cell_types::Event;
 use std::marker::Model;
 

@@ -5,10 +5,10 @@ ghost use Rattle.cell_parts.specs.Plant.{robot_at_start};
 
 use crate::plant::RobotPlant;
 use crate::potentiometer::MeasuredAxis;
-use cell_calib::{Points, RobotSense};
 use cell_control::Part;
 use cell_devices::RobotAct;
 use cell_rules::State;
+use cell_sensors::{Points, RobotSense};
 use cell_types::{Event, Place};
 use std::marker::Model;
 

@@ -6,9 +6,9 @@ ghost use Rattle.cell_parts.specs.Plant.{table_at_start};
 use crate::axis::Axis;
 use crate::plant::TablePlant;
 use crate::potentiometer::MeasuredAxis;
-use cell_calib::{Points, TableSense};
 use cell_control::Part;
 use cell_devices::TableAct;
+use cell_sensors::{Points, TableSense};
 use cell_types::Event;
 use std::marker::Model;
 
@@ -33,7 +33,7 @@ pub struct TablePart {
 }
 
 impl Model for TablePart {
-    ghost use Rattle.cell_calib.specs.Scale.{Scale};
+    ghost use Rattle.cell_sensors.specs.Scale.{Scale};
     ghost use Rattle.cell_parts.specs.Axes.{IsWithin, lift_end, turn_end};
     ghost use Rattle.cell_parts.specs.declared.plant.TablePlant.{TablePlant};
     ghost use Rattle.cell_parts.specs.Plant.{Scaled};
@@ -86,7 +86,7 @@ impl TablePart {
 }
 
 impl Part for TablePart {
-    ghost use Rattle.cell_calib.specs.Scale.{Scale};
+    ghost use Rattle.cell_sensors.specs.Scale.{Scale};
     ghost use Rattle.cell_parts.specs.declared.plant.TablePlant.{TablePlant};
     ghost use Rattle.cell_parts.specs.Rigs.{table_rig};
 

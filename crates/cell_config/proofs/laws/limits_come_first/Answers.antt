@@ -1,4 +1,4 @@
-use Rattle.cell_config.proofs.LimitLaws.{letter_limits, text_limits}
+use Rattle.cell_config.proofs.lemmas.LimitLaws.{letter_limits, text_limits}
 use Rattle.cell_config.proofs.laws.limits_come_first.Goals as goal
 
 pub returns-clause-bytes : goal.returns-clause-bytes

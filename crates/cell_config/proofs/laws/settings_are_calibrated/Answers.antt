@@ -1,4 +1,4 @@
-use Rattle.cell_config.proofs.CalibratedLaws.{calibrated}
+use Rattle.cell_config.proofs.lemmas.CalibratedLaws.{calibrated}
 use Rattle.cell_config.proofs.laws.settings_are_calibrated.Goals as goal
 
 pub returns : goal.returns

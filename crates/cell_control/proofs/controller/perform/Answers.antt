@@ -1,5 +1,5 @@
 use Rattle.std.proofs.Common.{ap, sym, ◌∙◌}
-use Rattle.cell_control.proofs.StepLemmas.{asks_on, drives_on, reached_by}
+use Rattle.cell_control.proofs.lemmas.StepLemmas.{asks_on, drives_on, reached_by}
 use Rattle.cell_control.proofs.controller.perform.Goals as goal
 
 pub returns-in-Ok-after_call-clause-goes_on : goal.returns-in-Ok-after_call-clause-goes_on

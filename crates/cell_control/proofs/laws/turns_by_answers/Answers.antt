@@ -1,4 +1,4 @@
-use Rattle.cell_control.proofs.TurnsByAnswers.{turn-rows}
+use Rattle.cell_control.proofs.lemmas.TurnsByAnswers.{turn-rows}
 use Rattle.cell_control.proofs.laws.turns_by_answers.Goals as goal
 
 pub returns : goal.returns

@@ -1,5 +1,5 @@
-use Rattle.word_interlock.proofs.One.{history_is_seen, moments_are_shown}
-use Rattle.word_interlock.proofs.Receipts.{receipts_come_first}
+use Rattle.word_interlock.proofs.lemmas.One.{history_is_seen, moments_are_shown}
+use Rattle.word_interlock.proofs.lemmas.Receipts.{receipts_come_first}
 use Rattle.cell_interlock.specs.Book.{cell_book}
 use Rattle.cell_interlock.specs.BookKept.{cell_is_rule_book}
 use Rattle.cell_interlock.proofs.laws.history_is_one.Goals as goal

@@ -1,5 +1,5 @@
 use Rattle.cell_interlock.proofs.Names.{sym, ap, ◌∙◌, List, [], ◌∷◌, ◌++◌, Entry}
-use Rattle.cell_interlock.proofs.Journals.{entry-settled, entry-busy}
+use Rattle.cell_interlock.proofs.lemmas.Journals.{entry-settled, entry-busy}
 use Rattle.cell_interlock.proofs.pass_line.ask_and_note.Goals as goal
 
 pub returns-in-Settled-clause-noted : goal.returns-in-Settled-clause-noted

@@ -1,6 +1,6 @@
 use Rattle.cell_plant.proofs.Names.{cell_gauges}
 use Rattle.cell_plant.specs.Cells.{cell_scales}
-use Rattle.cell_plant.proofs.Gauged.{by_gauges}
+use Rattle.cell_plant.proofs.lemmas.Gauged.{by_gauges}
 use Rattle.cell_plant.proofs.laws.runs_are_by_gauges.Goals as goal
 
 pub returns : goal.returns

@@ -1,7 +1,7 @@
 use Rattle.cell_plant.proofs.Names.{cell_gauges}
 use Rattle.cell_plant.specs.Cells.{cell_scales}
 use Rattle.cell_plant.proofs.FineRuns.{had_memory}
-use Rattle.cell_plant.proofs.OneRecord.{says_one}
+use Rattle.cell_plant.proofs.lemmas.OneRecord.{says_one}
 use Rattle.cell_plant.proofs.OneRun.{has_one_run}
 use Rattle.cell_plant.proofs.laws.runs_are_one.Goals as goal
 

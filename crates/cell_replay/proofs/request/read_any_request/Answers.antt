@@ -1,6 +1,6 @@
 use Rattle.std.proofs.Common.{◌≡◌, List, ℕ, Option, None, Some, sym, arith, rules, option_map, Bor}
 use Rattle.csv.specs.Records.{fields_of}
-use Rattle.cell_replay.proofs.Requests.{read_whole}
+use Rattle.cell_replay.proofs.lemmas.Requests.{read_whole}
 use Rattle.cell_replay.proofs.request.read_any_request.Goals as goal
 
 pub returns-in_err-call : goal.returns-in_err-call

@@ -1,7 +1,7 @@
 use Rattle.std.proofs.Common.{◌≡◌, rules, tests}
 use Rattle.csv.specs.Records.{fields_of}
 use Rattle.cell_replay.specs.Requests.{request_of}
-use Rattle.cell_replay.proofs.Requests.{version-same, version-written}
+use Rattle.cell_replay.proofs.lemmas.Requests.{version-same, version-written}
 use Rattle.cell_replay.proofs.request.read_request.Goals as goal
 
 pub returns-clause-same : goal.returns-clause-same

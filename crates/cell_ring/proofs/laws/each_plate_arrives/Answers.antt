@@ -1,5 +1,5 @@
-use Rattle.cell_ring.proofs.Together.{each_plate_arrives}
-use Rattle.cell_ring.proofs.Together.{in_each_stretch}
+use Rattle.cell_ring.proofs.lemmas.Together.{each_plate_arrives}
+use Rattle.cell_ring.proofs.lemmas.Together.{in_each_stretch}
 use Rattle.cell_ring.proofs.laws.each_plate_arrives.Goals as goal
 
 pub returns : goal.returns

@@ -1,5 +1,5 @@
 use Rattle.cell_ring.proofs.Followed.{none_overtakes}
-use Rattle.cell_ring.proofs.Together.{in_each_stretch}
+use Rattle.cell_ring.proofs.lemmas.Together.{in_each_stretch}
 use Rattle.cell_ring.proofs.laws.none_overtakes.Goals as goal
 
 pub returns : goal.returns

@@ -1,5 +1,5 @@
 use Rattle.cell_ring.proofs.Followed.{plates_are_followed}
-use Rattle.cell_ring.proofs.Together.{in_each_stretch}
+use Rattle.cell_ring.proofs.lemmas.Together.{in_each_stretch}
 use Rattle.cell_ring.proofs.laws.plates_are_followed.Goals as goal
 
 pub returns : goal.returns

@@ -1,4 +1,4 @@
-use Rattle.cell_ring.proofs.Together.{arrive_again}
+use Rattle.cell_ring.proofs.lemmas.Together.{arrive_again}
 use Rattle.cell_ring.proofs.laws.plates_arrive_again.Goals as goal
 
 pub returns : goal.returns

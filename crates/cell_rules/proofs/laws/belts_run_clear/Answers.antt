@@ -1,6 +1,6 @@
 use Rattle.cell_rules.proofs.Names.{subst, IsSound, BeltsRunClear}
-use Rattle.cell_rules.proofs.Histories.{throughout}
-use Rattle.cell_rules.proofs.Assembly.{belts_run_clear}
+use Rattle.cell_rules.proofs.lemmas.Histories.{throughout}
+use Rattle.cell_rules.proofs.lemmas.Assembly.{belts_run_clear}
 use Rattle.cell_rules.proofs.laws.belts_run_clear.Goals as goal
 
 pub returns : goal.returns

@@ -1,4 +1,4 @@
-use Rattle.cell_rules.proofs.FirstVersion.{first_version}
+use Rattle.cell_rules.proofs.lemmas.FirstVersion.{first_version}
 use Rattle.cell_rules.proofs.laws.first_version_stays.Goals as goal
 
 pub returns : goal.returns

@@ -1,4 +1,4 @@
-use Rattle.cell_rules.proofs.Assembly.{lawful_at}
+use Rattle.cell_rules.proofs.lemmas.Assembly.{lawful_at}
 use Rattle.cell_rules.proofs.laws.lawful_histories.Goals as goal
 
 pub returns : goal.returns

@@ -1,6 +1,6 @@
 use Rattle.cell_rules.proofs.Names.{subst}
 use Rattle.cell_rules.specs.Sound.{IsSound}
-use Rattle.cell_rules.proofs.Assembly.{lawful_at}
+use Rattle.cell_rules.proofs.lemmas.Assembly.{lawful_at}
 use Rattle.cell_rules.proofs.laws.plates_are_kept.Goals as goal
 
 pub returns : goal.returns

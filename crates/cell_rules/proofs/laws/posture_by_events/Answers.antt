@@ -1,7 +1,7 @@
 use Rattle.cell_rules.proofs.Names.{sym}
 use Rattle.cell_rules.specs.Laws.{PostureByEvents}
-use Rattle.cell_rules.proofs.Histories.{throughout}
-use Rattle.cell_rules.proofs.Postures.{posture-after}
+use Rattle.cell_rules.proofs.lemmas.Histories.{throughout}
+use Rattle.cell_rules.proofs.lemmas.Postures.{posture-after}
 use Rattle.cell_rules.proofs.laws.posture_by_events.Goals as goal
 
 pub returns : goal.returns

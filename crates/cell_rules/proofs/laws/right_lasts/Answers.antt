@@ -1,5 +1,5 @@
 use Rattle.cell_rules.proofs.Names.{IsSound, subst}
-use Rattle.cell_rules.proofs.Keepers.{right_lasts}
+use Rattle.cell_rules.proofs.lemmas.Keepers.{right_lasts}
 use Rattle.cell_rules.proofs.laws.right_lasts.Goals as goal
 
 pub returns : goal.returns

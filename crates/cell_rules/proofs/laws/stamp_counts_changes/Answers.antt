@@ -1,7 +1,7 @@
 use Rattle.cell_rules.proofs.Names.{subst}
 use Rattle.cell_rules.specs.History.{IsLegal}
-use Rattle.cell_rules.proofs.Stamps.{stamp-after}
-use Rattle.cell_rules.proofs.Histories.{legal-left}
+use Rattle.cell_rules.proofs.lemmas.Stamps.{stamp-after}
+use Rattle.cell_rules.proofs.lemmas.Histories.{legal-left}
 use Rattle.cell_rules.proofs.laws.stamp_counts_changes.Goals as goal
 
 pub returns : goal.returns

@@ -1,6 +1,6 @@
 use Rattle.cell_rules.specs.Laws.{StoppedUntilResumed}
-use Rattle.cell_rules.proofs.Histories.{throughout}
-use Rattle.cell_rules.proofs.Stopping.{stopped_along}
+use Rattle.cell_rules.proofs.lemmas.Histories.{throughout}
+use Rattle.cell_rules.proofs.lemmas.Stopping.{stopped_along}
 use Rattle.cell_rules.proofs.laws.stopped_until_resumed.Goals as goal
 
 pub returns : goal.returns

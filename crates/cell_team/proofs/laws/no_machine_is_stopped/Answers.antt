@@ -1,4 +1,4 @@
-use Rattle.cell_team.proofs.Stopping.{none-stopped}
+use Rattle.cell_team.proofs.lemmas.Stopping.{none-stopped}
 use Rattle.cell_team.proofs.laws.no_machine_is_stopped.Goals as goal
 
 pub returns : goal.returns

@@ -1,4 +1,4 @@
-use Rattle.cell_team.proofs.Renewed.{none_refused_renewed}
+use Rattle.cell_team.proofs.lemmas.Renewed.{none_refused_renewed}
 use Rattle.cell_team.proofs.laws.no_renewed_machine_is_refused.Goals as goal
 
 pub returns : goal.returns

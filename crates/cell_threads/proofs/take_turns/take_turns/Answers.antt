@@ -1,5 +1,5 @@
 use Rattle.cell_threads.proofs.Names.{◌∙◌, ◌+◌, sym, ap, subst, refl, no_counts, AreBelow, none_below, side_of, worker_moment}
-use Rattle.cell_threads.proofs.Turning.{has_begun_as, comes_by, few_more, one_turn_more, not_stopped}
+use Rattle.cell_threads.proofs.lemmas.Turning.{has_begun_as, comes_by, few_more, one_turn_more, not_stopped}
 use Rattle.cell_threads.proofs.take_turns.take_turns.Goals as goal
 
 pub loop-turn-init : goal.loop-turn-init

@@ -1,5 +1,5 @@
 use Rattle.cell_threads.proofs.Names.{◌∙◌, ap, subst, refl, PassView, no_counts, side_of, IsWorkerResult, worker_moment}
-use Rattle.cell_threads.proofs.Passes.{gives_back}
+use Rattle.cell_threads.proofs.lemmas.Passes.{gives_back}
 use Rattle.cell_threads.proofs.worker_result.take_turns_by_pass.Goals as goal
 
 pub returns : goal.returns

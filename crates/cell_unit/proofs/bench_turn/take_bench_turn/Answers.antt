@@ -2,7 +2,7 @@ use Rattle.std.proofs.Common.{◌≡◌, ◌∙◌, sym, ap, not, true}
 use Rattle.std.specs.Option.{is_none, is_some}
 use Rattle.cell_rules.specs.BenchView.{desk_of}
 use Rattle.cell_notes.specs.Notes.{notes_with}
-use Rattle.cell_unit.proofs.Turning.{acts_map, taken_on}
+use Rattle.cell_unit.proofs.lemmas.Turning.{acts_map, taken_on}
 use Rattle.cell_unit.proofs.bench_turn.take_bench_turn.Goals as goal
 
 pub returns-clause-turn : goal.returns-clause-turn

@@ -1,4 +1,4 @@
-use Rattle.cell_word.proofs.RoundTrip.{laid_out}
+use Rattle.cell_word.proofs.lemmas.RoundTrip.{laid_out}
 use Rattle.cell_word.proofs.laws.word_is_laid_out.Goals as goal
 
 pub returns : goal.returns

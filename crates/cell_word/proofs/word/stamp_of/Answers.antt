@@ -1,6 +1,6 @@
 use Rattle.cell_word.proofs.Names.{ℕ, sym, ap, ◌∙◌, state_told}
 use Rattle.cell_rules.specs.ModelState.{ModelState}
-use Rattle.cell_word.proofs.RoundTrip.{told_back}
+use Rattle.cell_word.proofs.lemmas.RoundTrip.{told_back}
 use Rattle.cell_word.proofs.word.stamp_of.Goals as goal
 
 pub returns-clause-stamp : goal.returns-clause-stamp

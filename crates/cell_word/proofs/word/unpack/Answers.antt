@@ -1,5 +1,5 @@
 use Rattle.cell_word.proofs.Names.{◌≡◌, sym, ◌∙◌, ap, refl, packed}
-use Rattle.cell_word.proofs.RoundTrip.{told_some, told_none}
+use Rattle.cell_word.proofs.lemmas.RoundTrip.{told_some, told_none}
 use Rattle.cell_word.proofs.word.unpack.Goals as goal
 use Rattle.cell_word.proofs.word.unpack.Goals.{in_default-via-in-Some+else-pack-word, in_default-via-in_default}
 

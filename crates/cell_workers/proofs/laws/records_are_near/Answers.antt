@@ -1,5 +1,5 @@
 use Rattle.cell_plant.specs.Cells.{cell_gauges, cell_scales}
-use Rattle.cell_workers.proofs.Recording.{work_near}
+use Rattle.cell_workers.proofs.lemmas.Recording.{work_near}
 use Rattle.cell_workers.proofs.laws.records_are_near.Goals as goal
 
 pub returns : goal.returns

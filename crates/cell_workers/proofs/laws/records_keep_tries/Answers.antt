@@ -1,4 +1,4 @@
-use Rattle.cell_workers.proofs.Telling.{keep_tries}
+use Rattle.cell_workers.proofs.lemmas.Telling.{keep_tries}
 use Rattle.cell_workers.proofs.laws.records_keep_tries.Goals as goal
 
 pub returns : goal.returns

@@ -1,4 +1,4 @@
-use Rattle.cell_workers.proofs.Telling.{records_tell}
+use Rattle.cell_workers.proofs.lemmas.Telling.{records_tell}
 use Rattle.cell_workers.proofs.laws.records_tell_turns.Goals as goal
 
 pub returns : goal.returns

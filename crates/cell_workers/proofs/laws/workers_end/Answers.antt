@@ -1,4 +1,4 @@
-use Rattle.cell_workers.proofs.Telling as telling
+use Rattle.cell_workers.proofs.lemmas.Telling as telling
 use Rattle.cell_workers.proofs.laws.workers_end.Goals as goal
 
 pub returns : goal.returns

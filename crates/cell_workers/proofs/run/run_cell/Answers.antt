@@ -1,7 +1,7 @@
 use Rattle.cell_workers.proofs.Names.{◌≡◌, ℕ, [], ◌∷◌, Some, ◌∙◌, refl, sym, ap, subst, Feed, Table, Robot, Press, Deposit, Crane, Journals, journal_of, ModelState, after, noted, LawfulThroughout, IsAudited, fresh_pass, feed_steps, deposit_steps, crane_steps, no_counts, Fine, gauges_of, robot_steps, press_steps, table_steps, table_rig, robot_rig, crane_rig, robot_gauges, robot_points, robot_axes, positions_in, cell_gauges, cell_scales, points_of, sides_of, Sides, sides_at_start, TellsWork}
 use Rattle.cell_workers.proofs.Names.{seen_in, CellOutputs, parts_in, worker_moment}
 use Rattle.cell_plant.specs.Watch.{watch_at_start}
-use Rattle.cell_workers.proofs.Recording.{AreWorkerResults, fitted_result, is_result_of, ready_at_start, tells}
+use Rattle.cell_workers.proofs.lemmas.Recording.{AreWorkerResults, fitted_result, is_result_of, ready_at_start, tells}
 use Rattle.cell_workers.proofs.Unrefused.{work-unrefused}
 use Rattle.cell_workers.proofs.run.run_cell.Goals as goal
 

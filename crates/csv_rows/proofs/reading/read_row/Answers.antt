@@ -1,5 +1,5 @@
 use Rattle.csv.specs.Records.{fields_of}
-use Rattle.csv_rows.proofs.RowsTaken.{takes-row}
+use Rattle.csv_rows.proofs.lemmas.RowsTaken.{takes-row}
 use Rattle.csv_rows.proofs.reading.read_row.Goals as goal
 
 pub returns-in-Ok-clause-found : goal.returns-in-Ok-clause-found

@@ -1,5 +1,5 @@
 use Rattle.std.proofs.Common.{refl}
-use Rattle.plan_types.proofs.Checked.{is_plan}
+use Rattle.plan_types.proofs.lemmas.Checked.{is_plan}
 use Rattle.plan_cell.specs.CellPlan.{cell_table}
 use Rattle.plan_cell.proofs.plan.cell_is_plan.Goals as goal
 

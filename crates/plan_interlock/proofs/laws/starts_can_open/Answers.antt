@@ -1,6 +1,6 @@
 use Rattle.std.proofs.Common.{subst}
 use Rattle.plan_types.specs.Plan.{IsPlan}
-use Rattle.plan_word.proofs.Staying.{start_stays}
+use Rattle.plan_word.proofs.lemmas.Staying.{start_stays}
 use Rattle.plan_interlock.proofs.laws.starts_can_open.Goals as goal
 
 pub returns : goal.returns

@@ -1,7 +1,7 @@
 use Rattle.std.proofs.Common.{◌≡◌, ◌∙◌, ap, sym, true, false, rules}
 use Rattle.csv.specs.Records.{fields_of}
 use Rattle.plan_replay.specs.Script.{rows_start}
-use Rattle.csv_rows.proofs.RowsTaken.{takes-none, takes-some}
+use Rattle.csv_rows.proofs.lemmas.RowsTaken.{takes-none, takes-some}
 use Rattle.plan_replay.proofs.opening.start_of_rows.Goals as goal
 
 pub returns-then-not-branch : goal.returns-then-not-branch

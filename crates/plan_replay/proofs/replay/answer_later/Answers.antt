@@ -3,7 +3,7 @@ use Rattle.csv.specs.Records.{fields_of}
 use Rattle.csv_rows.specs.ScriptEnd.{max_records}
 use Rattle.csv_rows.specs.declared.script_end.ScriptFault.TheVariants.{BadRow, Long}
 use Rattle.csv_rows.specs.declared.script_end.Outcome.TheVariants.{Clean, Refused}
-use Rattle.csv_rows.proofs.RowsTaken.{takes-none, takes-some}
+use Rattle.csv_rows.proofs.lemmas.RowsTaken.{takes-none, takes-some}
 use Rattle.plan_replay.specs.Requests.{request_of}
 use Rattle.plan_replay.specs.Script.{answers_of}
 use Rattle.plan_replay.proofs.Answering.{answers_of-bad, answers_of-long, answers_of-none, ended, ok_more, one_answered}

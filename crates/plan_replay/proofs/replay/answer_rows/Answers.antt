@@ -4,7 +4,7 @@ use Rattle.plan_types.specs.Table.{place_count}
 use Rattle.plan_replay.specs.Starts.{start_in}
 use Rattle.plan_replay.specs.Script.{answers_from, answers_of, rows_answers, start_line, with_text}
 use Rattle.plan_replay.proofs.Answering.{ok_more}
-use Rattle.csv_rows.proofs.RowsTaken.{takes-none, takes-some}
+use Rattle.csv_rows.proofs.lemmas.RowsTaken.{takes-none, takes-some}
 use Rattle.plan_replay.proofs.replay.answer_rows.Goals as goal
 
 pub returns-then-not-branch : goal.returns-then-not-branch

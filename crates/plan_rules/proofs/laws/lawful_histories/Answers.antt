@@ -1,4 +1,4 @@
-use Rattle.plan_rules.proofs.Lawful.{every_history}
+use Rattle.plan_rules.proofs.lemmas.Lawful.{every_history}
 use Rattle.plan_rules.proofs.laws.lawful_histories.Goals as goal
 
 pub returns : goal.returns

@@ -1,4 +1,4 @@
-use Rattle.plan_rules.proofs.Starts.{start_is_sound}
+use Rattle.plan_rules.proofs.lemmas.Starts.{start_is_sound}
 use Rattle.plan_rules.proofs.laws.starts_are_sound.Goals as goal
 
 pub returns : goal.returns

@@ -1,4 +1,4 @@
-use Rattle.plan_word.proofs.Staying.{start_stays}
+use Rattle.plan_word.proofs.lemmas.Staying.{start_stays}
 use Rattle.plan_word.proofs.laws.starts_are_of_plan.Goals as goal
 
 pub returns : goal.returns

@@ -1,4 +1,4 @@
-use Rattle.plan_word.proofs.Staying.{next_stays}
+use Rattle.plan_word.proofs.lemmas.Staying.{next_stays}
 use Rattle.plan_word.proofs.laws.stays_of_plan.Goals as goal
 
 pub returns : goal.returns

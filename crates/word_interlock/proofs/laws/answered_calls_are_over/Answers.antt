@@ -1,4 +1,4 @@
-use Rattle.word_interlock.proofs.Running.{answered_calls_are_over}
+use Rattle.word_interlock.proofs.lemmas.Running.{answered_calls_are_over}
 use Rattle.word_interlock.proofs.laws.answered_calls_are_over.Goals as goal
 
 pub returns : goal.returns

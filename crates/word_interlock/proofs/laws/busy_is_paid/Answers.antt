@@ -1,4 +1,4 @@
-use Rattle.word_interlock.proofs.Settling.{busy_is_paid}
+use Rattle.word_interlock.proofs.lemmas.Settling.{busy_is_paid}
 use Rattle.word_interlock.proofs.laws.busy_is_paid.Goals as goal
 
 pub returns : goal.returns

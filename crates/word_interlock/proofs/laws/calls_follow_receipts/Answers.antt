@@ -1,4 +1,4 @@
-use Rattle.word_interlock.proofs.Running.{calls_follow_receipts}
+use Rattle.word_interlock.proofs.lemmas.Running.{calls_follow_receipts}
 use Rattle.word_interlock.proofs.laws.calls_follow_receipts.Goals as goal
 
 pub returns : goal.returns

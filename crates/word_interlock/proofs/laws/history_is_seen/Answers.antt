@@ -1,4 +1,4 @@
-use Rattle.word_interlock.proofs.One.{history_is_seen}
+use Rattle.word_interlock.proofs.lemmas.One.{history_is_seen}
 use Rattle.word_interlock.proofs.laws.history_is_seen.Goals as goal
 
 pub returns : goal.returns

@@ -1,4 +1,4 @@
-use Rattle.word_interlock.proofs.One.{moments_are_shown}
+use Rattle.word_interlock.proofs.lemmas.One.{moments_are_shown}
 use Rattle.word_interlock.proofs.laws.moments_are_shown.Goals as goal
 
 pub returns : goal.returns

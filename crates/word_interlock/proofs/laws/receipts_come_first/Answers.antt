@@ -1,4 +1,4 @@
-use Rattle.word_interlock.proofs.Receipts.{receipts_come_first}
+use Rattle.word_interlock.proofs.lemmas.Receipts.{receipts_come_first}
 use Rattle.word_interlock.proofs.laws.receipts_come_first.Goals as goal
 
 pub returns : goal.returns

@@ -1,4 +1,4 @@
-use Rattle.word_interlock.proofs.Ordering.{receipts_order_calls, receipts_raise_stamps}
+use Rattle.word_interlock.proofs.lemmas.Ordering.{receipts_order_calls, receipts_raise_stamps}
 use Rattle.word_interlock.proofs.laws.receipts_order_calls.Goals as goal
 
 pub returns : goal.returns

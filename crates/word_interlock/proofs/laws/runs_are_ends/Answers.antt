@@ -1,4 +1,4 @@
-use Rattle.word_interlock.proofs.Running.{runs_are_ends}
+use Rattle.word_interlock.proofs.lemmas.Running.{runs_are_ends}
 use Rattle.word_interlock.proofs.laws.runs_are_ends.Goals as goal
 
 pub returns : goal.returns

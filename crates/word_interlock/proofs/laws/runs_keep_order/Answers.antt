@@ -1,4 +1,4 @@
-use Rattle.word_interlock.proofs.Running.{runs_keep_order}
+use Rattle.word_interlock.proofs.lemmas.Running.{runs_keep_order}
 use Rattle.word_interlock.proofs.laws.runs_keep_order.Goals as goal
 
 pub returns : goal.returns

@@ -1,5 +1,5 @@
 use Rattle.std.proofs.Common.{rules, sym}
-use Rattle.cell_control.proofs.TurnMaps.{turn_map, turn_of_sense}
+use Rattle.cell_control.proofs.lemmas.TurnMaps.{turn_map, turn_of_sense}
 use Rattle.cell_control.proofs.wired.Wired.turn.Goals as goal
 
 pub returns-clause-row : goal.returns-clause-row

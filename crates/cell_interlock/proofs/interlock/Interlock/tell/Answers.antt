@@ -2,7 +2,7 @@ use Rattle.cell_interlock.proofs.Names.{◌≡◌, ◌+◌, ◌≤◌, [], ◌�
 use Rattle.cell_interlock.specs.Calls.{IfBusy}
 use Rattle.cell_interlock.specs.Views.{receipt_of}
 use Rattle.cell_interlock.proofs.Instance.{lawful_here, same_here, seen_here, if_busy_here, since_here, all_lost_here, timed_here}
-use Rattle.cell_interlock.proofs.Order.{order_here, stamps_here, began_here}
+use Rattle.cell_interlock.proofs.lemmas.Order.{order_here, stamps_here, began_here}
 use Rattle.word_interlock.specs.Timing.{BeginsAfter}
 use Rattle.cell_interlock.proofs.interlock.Interlock.tell.Goals as goal
 

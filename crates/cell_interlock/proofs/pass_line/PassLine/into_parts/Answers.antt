@@ -1,4 +1,4 @@
-use Rattle.cell_interlock.proofs.Journals.{line_journal}
+use Rattle.cell_interlock.proofs.lemmas.Journals.{line_journal}
 use Rattle.cell_interlock.proofs.pass_line.PassLine.into_parts.Goals as goal
 
 pub returns-clause-journal : goal.returns-clause-journal

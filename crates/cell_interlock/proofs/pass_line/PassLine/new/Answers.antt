@@ -1,5 +1,5 @@
 use Rattle.cell_interlock.proofs.Instance.{legal_here}
-use Rattle.cell_interlock.proofs.Journals.{line_new}
+use Rattle.cell_interlock.proofs.lemmas.Journals.{line_new}
 use Rattle.cell_interlock.proofs.pass_line.PassLine.new.Goals as goal
 
 pub invariant_of-result : goal.invariant_of-result

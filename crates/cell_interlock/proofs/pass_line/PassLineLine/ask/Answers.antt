@@ -1,5 +1,5 @@
 use Rattle.std.proofs.Common.{◌∙◌}
-use Rattle.cell_interlock.proofs.Journals.{line_journal, asks-table, line_kept}
+use Rattle.cell_interlock.proofs.lemmas.Journals.{line_journal, asks-table, line_kept}
 use Rattle.cell_interlock.proofs.pass_line.PassLineLine.ask.Goals as goal
 
 pub ask_and_note-answered-requires-clause-noted : goal.ask_and_note-answered-requires-clause-noted

@@ -1,5 +1,5 @@
 use Rattle.cell_interlock.proofs.Names.{ap, ◌∙◌, subst, Waits, HasSeenMore, LineView}
-use Rattle.cell_interlock.proofs.Journals.{line_surveys}
+use Rattle.cell_interlock.proofs.lemmas.Journals.{line_surveys}
 use Rattle.cell_interlock.proofs.pass_line.PassLineSurvey.survey.Goals as goal
 
 pub invariant_of-self-inside : goal.invariant_of-self-inside

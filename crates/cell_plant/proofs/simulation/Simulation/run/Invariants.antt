@@ -8,5 +8,5 @@ invariant-turns g l = record {
   scales : l.self.scales ≡ l.fn.self.scales;
   gauges : l.self.gauges ≡ l.fn.self.gauges;
   opening : l.self.opening ≡ l.opening;
-  watched : Watched g.W.Watcher.sees (given_by (record { arm1 = g.F1.Gauge.gives; arm2 = g.F2.Gauge.gives; rotation = g.F3.Gauge.gives; turn = g.F4.Gauge.gives; gripper = g.F5.Gauge.gives })) l.fn.watcher l.watcher (take l.turn-index l.turns) (Ok tt) l.self;
+  watched : Watched g.W.Observer.sees (given_by (record { arm1 = g.F1.Gauge.gives; arm2 = g.F2.Gauge.gives; rotation = g.F3.Gauge.gives; turn = g.F4.Gauge.gives; gripper = g.F5.Gauge.gives })) l.fn.observer l.observer (take l.turn-index l.turns) (Ok tt) l.self;
 }

@@ -1,5 +1,5 @@
 use Rattle.cell_robot.specs.RobotProgram.{robot_scales, gauges_of}
-use Rattle.cell_robot.proofs.RobotFacts.{meets-demands}
+use Rattle.cell_robot.proofs.lemmas.RobotFacts.{meets-demands}
 use Rattle.cell_robot.proofs.robot.RobotProgramProgram.drive.Goals as goal
 
 pub returns-clause-motor_demands : goal.returns-clause-motor_demands

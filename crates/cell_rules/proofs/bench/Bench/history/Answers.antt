@@ -1,6 +1,6 @@
 use Rattle.cell_rules.proofs.Names.{∥∥₁_elim, Lawful, IsSound-prop, IsLegal-prop}
-use Rattle.cell_rules.proofs.Histories.{throughout}
-use Rattle.cell_rules.proofs.Assembly.{lawful}
+use Rattle.cell_rules.proofs.lemmas.Histories.{throughout}
+use Rattle.cell_rules.proofs.lemmas.Assembly.{lawful}
 use Rattle.cell_rules.proofs.bench.Bench.history.Goals as goal
 
 pub returns-clause-lawful : goal.returns-clause-lawful

@@ -1,5 +1,5 @@
 use Rattle.cell_rules.proofs.Names.{ap, refl, ◌∙◌, ∥∥₁_map}
-use Rattle.cell_rules.proofs.SeenLemmas.{history-push, settles-push, state_reached, last-push}
+use Rattle.cell_rules.proofs.lemmas.SeenLemmas.{history-push, settles-push, state_reached, last-push}
 use Rattle.cell_rules.proofs.bench.BenchLine.ask.Goals as goal
 
 pub invariant_of-self-in-Ok : goal.invariant_of-self-in-Ok

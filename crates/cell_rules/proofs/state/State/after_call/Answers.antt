@@ -1,5 +1,5 @@
 use Rattle.cell_rules.proofs.Names.{IsSound, ModelState, subst, ap}
-use Rattle.cell_rules.proofs.Soundness.{changed_stays}
+use Rattle.cell_rules.proofs.lemmas.Soundness.{changed_stays}
 use Rattle.cell_rules.proofs.state.State.after_call.Goals as goal
 
 pub invariant_of-result : goal.invariant_of-result

@@ -1,5 +1,5 @@
 use Rattle.cell_rules.proofs.Names.{sym, ◌∙◌, refl, model_state}
-use Rattle.cell_rules.proofs.Tested.{sound_by_test, test_of_sound}
+use Rattle.cell_rules.proofs.lemmas.SoundnessTest.{sound_by_test, test_of_sound}
 use Rattle.cell_rules.proofs.state.State.from_parts.Goals as goal
 
 pub invariant_of-result : goal.invariant_of-result

@@ -1,4 +1,4 @@
-use Rattle.cell_rules.proofs.Restamps.{same_if_places, not_same}
+use Rattle.cell_rules.proofs.lemmas.Restamps.{same_if_places, not_same}
 use Rattle.cell_rules.proofs.state.State.is_same_for.Goals as goal
 
 pub returns-then-has_same_zones : goal.returns-then-has_same_zones

@@ -1,7 +1,7 @@
 use Rattle.std.proofs.Common.{refl}
 use Rattle.cell_control.specs.Turns.{answered}
-use Rattle.cell_control.proofs.TurnMaps.{turn_map}
-use Rattle.cell_unit.proofs.Turning.{if_told, own_done, told_act, turn_tells}
+use Rattle.cell_control.proofs.lemmas.TurnMaps.{turn_map}
+use Rattle.cell_unit.proofs.lemmas.Turning.{if_told, own_done, told_act, turn_tells}
 use Rattle.cell_unit.proofs.unit.MachineUnit.turn.Goals as goal
 
 pub returns-clause-row : goal.returns-clause-row

@@ -3,7 +3,7 @@ use Rattle.plan_types.specs.declared.fault.PlanFault.{PlanFault}
 use Rattle.plan_types.specs.Below.{first_below}
 use Rattle.plan_types.specs.Faults.{◌or◌, count_fault, keeper_fault, plan_fault, pose_fault, width_fault, zone_fault}
 use Rattle.plan_types.specs.Table.{place_count, pose_count, zone_count}
-use Rattle.plan_types.proofs.Checked.{is_plan, no_fault_of_plan}
+use Rattle.plan_types.proofs.lemmas.Checked.{is_plan, no_fault_of_plan}
 use Rattle.plan_types.proofs.table.Tables.fault.Goals as goal
 
 none_at : (o : Option PlanFault) → IsNone o → o ≡ None

@@ -1,5 +1,5 @@
 use Rattle.std.proofs.Common.{◌≤◌, ◌<◌, ◌^◌, rules, subst}
-use Rattle.word_interlock.proofs.Settling.{still_first, still_after, settled_at_last, paid_for, answered_at_last}
+use Rattle.word_interlock.proofs.lemmas.Settling.{still_first, still_after, settled_at_last, paid_for, answered_at_last}
 use Rattle.word_interlock.proofs.interlock.Interlock.settle.Goals as goal
 
 pub loop-busy-init : goal.loop-busy-init

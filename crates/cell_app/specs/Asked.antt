@@ -1,0 +1,19 @@
+-- What words ask for.
+use Rattle.std.specs.Prelude.{◌≡◌, List, [], ◌∷◌, codes}
+use Rattle.clap.specs.Words.{Text}
+use Rattle.cell_words.specs.Words.{AreTaken, AskForReplay, AskForSim, mode_of}
+use Rattle.cell_words.specs.declared.words.Mode.{Mode}
+use Rattle.cell_words.specs.declared.words.Mode.TheVariants.{Replay, Sim}
+
+-- `clap` accepts the words, and they ask for this
+abbrev pub AskFor : Mode → List Text → Type 0
+AskFor mode words = AreTaken words × (mode_of words ≡ mode)
+
+-- The program's name alone asks for a replay, as does the word `replay` after it. The word `sim` asks for a simulation.
+-- Two dashes at the end change nothing.
+pub record WordsAreServed : Type 0 where
+  pub replay : (words : List Text) → AskForReplay words → AskFor Replay words
+  pub sim : (words : List Text) → AskForSim words → AskFor Sim words
+  pub nothing_more : AskFor Replay (codes "cell" ∷ codes "--" ∷ [])
+  pub replay_alone : AskFor Replay (codes "cell" ∷ codes "replay" ∷ codes "--" ∷ [])
+  pub sim_alone : AskFor Sim (codes "cell" ∷ codes "sim" ∷ codes "--" ∷ [])

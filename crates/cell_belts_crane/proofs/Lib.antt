@@ -1,0 +1,3 @@
+pub mod lemmas
+mod BeltRows
+mod CraneSenses

@@ -1,0 +1,4 @@
+pub mod CraneFacts
+pub mod CraneRows
+pub mod DepositFacts
+pub mod FeedFacts

@@ -1,0 +1,220 @@
+//! The feed belt's program: its steps, a row for each, and when the belt runs.
+ghost use Rattle.std.specs.Prelude.{◌≡◌};
+ghost use Rattle.cell_belts_crane.specs.FeedProgram as program;
+
+use cell_control::{Controller, Program, Row, Waits};
+use cell_devices::FeedAct;
+use cell_rules::State;
+use cell_sensors::{FeedSense, SensorFault};
+use cell_types::{Call, Machine, Place, Pose, Posture, Zone};
+
+/// A step of the feed belt's program.
+#[derive(Clone, Copy, Debug, PartialEq, Eq)]
+pub enum FeedStep {
+    /// Claims the zone shared with the crane for the first time.
+    ClaimEntry,
+    /// Gets ready for a plate.
+    PoseLanding,
+    /// Lets the crane in with a plate.
+    ReleaseEntry,
+    /// Waits for the plate and takes it.
+    TakePlate,
+    /// Sets out to bring the plate to its end.
+    StartIn,
+    /// Runs until the plate is in the barrier.
+    RunIn,
+    /// Notes the plate at its end.
+    MoveOn,
+    /// Waits until the table lets it in.
+    ClaimExit,
+    /// Sets out to bring the plate to the table.
+    StartOut,
+    /// Runs until the plate is out of the barrier.
+    RunOut,
+    /// Has stopped the belt.
+    Halt,
+    /// Hands the plate to the table.
+    GivePlate,
+}
+
+/// The feed belt's step in its program, with its notes.
+#[derive(Clone, Copy)]
+pub struct FeedProgress {
+    pub step: FeedStep,
+    /// Whether a plate is at its entry.
+    pub entry: bool,
+    /// Whether a plate is at its end.
+    pub last: bool,
+}
+
+impl FeedProgress {
+    // The row of its step.
+    #[inline(always)]
+    fn row(self) -> Row<FeedProgress>
+        ensures { result ≡ program.row_of self }
+    {
+        match self.step {
+            FeedStep::ClaimEntry => self.asks_by_plates(Call::Claim(Zone::Z6)),
+            FeedStep::PoseLanding => self.poses(Pose::Landing, FeedStep::ReleaseEntry),
+            FeedStep::ReleaseEntry => self.asks(Call::Release(Zone::Z6), FeedStep::TakePlate),
+            FeedStep::TakePlate => self
+                .with_plates(true, self.last)
+                .asks(Call::Take(Zone::Z6), FeedStep::StartIn)
+                .waits(Waits::UntilOwner),
+            FeedStep::StartIn => self.poses(Pose::Running, FeedStep::RunIn),
+            FeedStep::RunIn => self.drives(FeedStep::MoveOn),
+            FeedStep::MoveOn => self
+                .with_plates(false, true)
+                .asks(Call::Advance, FeedStep::ClaimExit),
+            FeedStep::ClaimExit => self
+                .asks(Call::Claim(Zone::Z1), FeedStep::StartOut)
+                .waits(Waits::UntilFreeAndOpen),
+            FeedStep::StartOut => self.poses(Pose::Running, FeedStep::RunOut),
+            FeedStep::RunOut => self.drives(FeedStep::Halt),
+            FeedStep::Halt => self.poses(Pose::Halted, FeedStep::GivePlate),
+            FeedStep::GivePlate => self
+                .with_plates(self.entry, false)
+                .asks_by_plates(Call::Give(Zone::Z1)),
+        }
+    }
+
+    // The row of a step that asks, with its next step.
+    #[inline(always)]
+    fn asks(self, call: Call, next: FeedStep) -> Row<FeedProgress>
+        ensures { result ≡ program.asks self call next }
+    {
+        Row::asks(call, FeedProgress { step: next, ..self })
+    }
+
+    // The row of a step that asks, and leads to the next group.
+    #[inline(always)]
+    fn asks_by_plates(self, call: Call) -> Row<FeedProgress>
+        ensures { result ≡ program.asks_by_plates self call }
+    {
+        self.asks(call, self.by_plates())
+    }
+
+    // The row of a step that sets a pose.
+    #[inline(always)]
+    fn poses(self, pose: Pose, next: FeedStep) -> Row<FeedProgress>
+        ensures { result ≡ program.poses self pose next }
+    {
+        self.asks(Call::SetPose(pose), next)
+    }
+
+    // The row of a step that drives.
+    #[inline(always)]
+    fn drives(self, next: FeedStep) -> Row<FeedProgress>
+        ensures { result ≡ program.drives self next }
+    {
+        Row::drives(FeedProgress { step: next, ..self })
+    }
+
+    // The same step with other notes of its plates.
+    #[inline(always)]
+    fn with_plates(self, entry: bool, last: bool) -> FeedProgress
+        ensures { result ≡ program.with_plates self entry last }
+    {
+        FeedProgress {
+            entry,
+            last,
+            ..self
+        }
+    }
+
+    // The first step of the next group, by the plates on the belt.
+    #[inline(always)]
+    fn by_plates(self) -> FeedStep
+        ensures { result ≡ program.by_plates self }
+    {
+        if self.last {
+            FeedStep::ClaimExit
+        } else if self.entry {
+            FeedStep::StartIn
+        } else {
+            FeedStep::PoseLanding
+        }
+    }
+}
+
+impl FeedStep {
+    // Whether the belt runs in a step that drives.
+    fn runs(self, barrier: bool) -> bool
+        ensures { result ≡ program.runs_at self barrier }
+    {
+        match self {
+            FeedStep::RunIn => !barrier,
+            FeedStep::RunOut => barrier,
+            _ => false,
+        }
+    }
+}
+
+/// The feed belt's program.
+#[derive(Clone, Copy)]
+pub struct FeedProgram;
+
+/// The feed belt's controller.
+pub type FeedCtl = Controller<FeedProgram>;
+
+impl Program for FeedProgram {
+    type Progress = FeedProgress;
+
+    type Sense = FeedSense;
+
+    type Reading = FeedSense;
+
+    type Act = FeedAct;
+
+    ghost steps = { λ _. program.feed_steps };
+
+    fn start(&self, state: &State) -> FeedProgress {
+        FeedProgress {
+            step: FeedStep::ClaimEntry,
+            entry: state.is_full(Place::FeedEntry),
+            last: state.is_full(Place::FeedEnd),
+        }
+    }
+
+    #[inline(always)]
+    fn row(&self, progress: FeedProgress) -> Row<FeedProgress> {
+        progress.row()
+    }
+
+    fn after_inquiry(
+        &self,
+        progress: FeedProgress,
+        _owner: Option<Machine>,
+        _flag: bool,
+        _posture: Posture,
+    ) -> FeedProgress {
+        progress
+    }
+
+    fn check(&self, sense: &FeedSense) -> Result<FeedSense, SensorFault> {
+        Ok(*sense)
+    }
+
+    fn drive(&self, progress: FeedProgress, reading: FeedSense) -> FeedAct {
+        FeedAct {
+            belt: progress.step.runs(reading.barrier),
+        }
+    }
+
+    fn after_drive(
+        &self,
+        progress: FeedProgress,
+        _reading: FeedSense,
+        act: FeedAct,
+    ) -> FeedProgress {
+        if act.belt {
+            progress
+        } else {
+            progress.row().next
+        }
+    }
+
+    fn rest(&self, _progress: FeedProgress) -> FeedAct {
+        FeedAct::at_rest()
+    }
+}

@@ -1,0 +1,25 @@
+//! Laws of the programs, row by row. Each is the contract of a function with an empty body.
+ghost use Rattle.cell_belts_crane.specs.CraneExamples.{CraneRowsAreMet};
+ghost use Rattle.cell_belts_crane.specs.DepositExamples.{DepositRowsAreMet};
+ghost use Rattle.cell_belts_crane.specs.FeedExamples.{FeedRowsAreMet};
+
+/// The rows of the feed belt's program, by examples: its start, by the places that are full; for
+/// each step and each state of its notes, what it asks, exactly the refusals on which it stays, and
+/// the next step; and whether the belt runs, by the light barrier.
+#[tactic(auto, using(crate::proofs::BeltRows::feed_rows))]
+pub fn feed_rows_are_met()
+    ensures { FeedRowsAreMet }
+{}
+
+/// The rows of the deposit belt's program, likewise.
+#[tactic(auto, using(crate::proofs::BeltRows::deposit_rows))]
+pub fn deposit_rows_are_met()
+    ensures { DepositRowsAreMet }
+{}
+
+/// The rows of the crane's program, likewise, with its gripper's motor and its travel at the last
+/// reading that is far enough and at the first that isn't.
+#[tactic(auto, using(crate::proofs::lemmas::CraneRows::crane_rows))]
+pub fn crane_rows_are_met()
+    ensures { CraneRowsAreMet }
+{}

@@ -1,6 +1,0 @@
-use Rattle.std.proofs.Common.{◌<◌, ℕ}
-use Rattle.cell_calib.specs.Curve.{IsNearPair, pair_at}
-use Rattle.cell_calib.proofs.curve.are_near.Given as goal
-
-abbrev pub invariant-pairs : goal.invariant-pairs
-invariant-pairs l = (k : ℕ) → k < l.i → IsNearPair l.points (pair_at l.pairs k)

@@ -1,6 +1,0 @@
-use Rattle.std.proofs.Common.{◌<◌, ◌+◌, ℕ}
-use Rattle.cell_calib.specs.Curve.{raw_at}
-use Rattle.cell_calib.proofs.curve.is_rising.Given as goal
-
-abbrev pub invariant-steps : goal.invariant-steps
-invariant-steps l = (k : ℕ) → k < l.i → raw_at l.pairs k < raw_at l.pairs (k + 1)

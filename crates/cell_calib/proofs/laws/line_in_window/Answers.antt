@@ -1,5 +1,0 @@
-use Rattle.cell_calib.proofs.LineLemmas.{line_in_window_lem}
-use Rattle.cell_calib.proofs.laws.line_in_window.Goals as goal
-
-pub returns : goal.returns
-returns c = line_in_window_lem

@@ -1,5 +1,0 @@
-use Rattle.cell_calib.proofs.CurveReadings.{one_on_curve}
-use Rattle.cell_calib.proofs.laws.one_position.Goals as goal
-
-pub returns : goal.returns
-returns c = λ s pairs raw v w curve one other. one_on_curve pairs raw v w curve.rising one other

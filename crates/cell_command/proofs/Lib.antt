@@ -1,5 +1,0 @@
-mod FlagLemmas
-mod NumberLemmas
-mod CommandLemmas
-pub mod Asked
-pub mod WordRows

@@ -1,8 +1,0 @@
-//! Laws of the program's words, each the contract of a function that does nothing.
-
-ghost use Rattle.cell_command.specs.WordExamples.{WordsAreMet};
-
-/// Examples: words and what they ask for, each flag with both ends of its range, and refused words.
-pub fn words_are_met()
-    ensures { WordsAreMet }
-{}

@@ -1,0 +1,7 @@
+pub mod StepLemmas
+pub mod Facts
+pub mod TurnMaps
+pub mod Senses
+pub mod BenchLemmas
+pub mod TurnsByAnswers
+pub mod WaitLemmas

@@ -1,4 +1,0 @@
-mod Simulated
-mod Found
-pub mod Workers
-pub mod WiredWorkers

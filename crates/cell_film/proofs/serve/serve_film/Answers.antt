@@ -1,7 +1,0 @@
-use Rattle.cell_film.proofs.Serving.{filmed}
-use Rattle.cell_film.proofs.serve.serve_film.Goals as goal
-
-pub returns : goal.returns
-returns g c =
-    filmed _ _ _ _ c.in-Ok.ensures.taken c.status-2.result c.in-Ok.config c.as_bytes.result.now c.in-Ok.ensures.says
-    (rw c.as_bytes.ensures.value c.in-Ok-film_configured.ensures) (rw c.status-2.ensures c.print.ensures.printed)

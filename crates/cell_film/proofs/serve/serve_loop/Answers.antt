@@ -1,7 +1,0 @@
-use Rattle.cell_film.proofs.Looping.{looped}
-use Rattle.cell_film.proofs.serve.serve_loop.Goals as goal
-
-pub returns : goal.returns
-returns g c =
-    looped _ _ _ _ c.in-Ok.ensures.taken c.status-2.result c.in-Ok.config c.as_bytes.result.now c.in-Ok.ensures.says
-    (rw c.as_bytes.ensures.value c.in-Ok-loop_configured.ensures) (rw c.status-2.ensures c.print.ensures.printed)

@@ -1,5 +1,0 @@
-use Rattle.cell_haul.proofs.DepositFacts.{drives-held}
-use Rattle.cell_haul.proofs.deposit.DepositProgramProgram.drive.Goals as goal
-
-pub returns-clause-motor_demands : goal.returns-clause-motor_demands
-returns-clause-motor_demands c = λ asks_nothing opening seen sound legal reached on. drives-held opening seen c.args.progress sound legal reached asks_nothing

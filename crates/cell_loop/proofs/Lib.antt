@@ -1,3 +1,0 @@
-pub mod Growing
-pub mod Takes
-pub mod PictureRows

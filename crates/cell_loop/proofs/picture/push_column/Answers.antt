@@ -1,5 +1,0 @@
-use Rattle.cell_loop.proofs.Growing.{no_value}
-use Rattle.cell_loop.proofs.picture.push_column.Goals as goal
-
-pub loop-at-init : goal.loop-at-init
-loop-at-init c = no_value _ _ _ _

@@ -1,5 +1,0 @@
-use Rattle.cell_loop.proofs.Growing.{no_piece}
-use Rattle.cell_loop.proofs.picture.push_pieces.Goals as goal
-
-pub loop-piece-init : goal.loop-piece-init
-loop-piece-init c = no_piece _ _ _

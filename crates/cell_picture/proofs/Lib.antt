@@ -1,0 +1,3 @@
+mod Growing
+mod Takes
+mod PictureRows

@@ -1,5 +1,0 @@
-use Rattle.cell_program.proofs.LawLemmas.{lines}
-use Rattle.cell_program.proofs.laws.fault_lines_are_met.Goals as goal
-
-pub returns : goal.returns
-returns c = lines

@@ -1,5 +1,0 @@
-use Rattle.cell_program.proofs.TextLemmas.{one_reports}
-use Rattle.cell_program.proofs.laws.reports_are_one.Goals as goal
-
-pub returns : goal.returns
-returns c = one_reports c.one_position.ensures

@@ -1,0 +1,7 @@
+-- Curves in figures.
+use Rattle.cell_sensors.specs.CurveExamples.{CurveExamples}
+use Rattle.cell_sensors.proofs.FaultFigures.{faults}
+use Rattle.cell_sensors.proofs.ReadingFigures.{readings}
+
+pub curve_figures : CurveExamples
+curve_figures = record { readings = readings; faults = faults }

@@ -1,0 +1,24 @@
+-- Rounding down, in figures.
+use Rattle.std.proofs.Common.{rules, ◌+◌, ◌+ℤ◌, pos, ℕ, ℤ, arith}
+use Rattle.std.specs.Int.Signed.{le_z, lt_z, le_z_yes, lt_z_yes}
+use Rattle.std.specs.Prelude.{T}
+use Rattle.cell_sensors.specs.Names.{Scale, IsScale, height_of, line_height, IsLineRoundedDown, IsRawAt}
+use Rattle.cell_sensors.specs.Examples.{GivesRaw, LiesAt, three_for_two, below_zero, RoundingExamples}
+use Rattle.cell_sensors.proofs.lemmas.LineLemmas.{one_raw_at, one_line_at}
+
+plain : IsScale three_for_two
+plain = record { raws_rise = omega arith; raws_fit = omega arith; ats_rise = lt_z_yes tt; lowest = le_z_yes tt; highest = le_z_yes tt; finest = le_z_yes tt; coarsest = le_z_yes tt }
+
+deep : IsScale below_zero
+deep = record { raws_rise = omega arith; raws_fit = omega arith; ats_rise = lt_z_yes tt; lowest = le_z_yes tt; highest = le_z_yes tt; finest = le_z_yes tt; coarsest = le_z_yes tt }
+
+gives : (s : Scale) (position : ℤ) (raw : ℕ) → IsScale s → T (le_z (line_height s raw) (height_of s position)) → T (lt_z (height_of s position) (line_height s (raw + 1)))
+    → GivesRaw s position raw
+gives s position raw k low high = let is : IsRawAt s position raw = record { not_above = le_z_yes low; next_above = lt_z_yes high } in (is, λ other also. one_raw_at s position raw other k is also)
+
+lies : (s : Scale) (raw : ℕ) (position : ℤ) → IsScale s → T (le_z (height_of s position) (line_height s raw)) → T (lt_z (line_height s raw) (height_of s (position +ℤ pos 1)))
+    → LiesAt s raw position
+lies s raw position k low high = let is : IsLineRoundedDown s raw position = record { not_above = le_z_yes low; next_above = lt_z_yes high } in (is, λ other also. one_line_at s raw position other k is also)
+
+pub roundings : RoundingExamples
+roundings = search (rules, gives, lies, plain, deep)

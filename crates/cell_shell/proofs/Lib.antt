@@ -1,5 +1,0 @@
-pub mod Prefixes
-pub mod Exits
-pub mod Serving
-pub mod Versions
-mod ShellRows

@@ -1,5 +1,0 @@
-use Rattle.cell_shell.proofs.ShellRows.{shell-met}
-use Rattle.cell_shell.proofs.laws.shell_is_met.Goals as goal
-
-pub returns : goal.returns
-returns c = shell-met

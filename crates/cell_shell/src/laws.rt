@@ -1,8 +1,0 @@
-//! Laws of programs' shells, each the contract of a function that does nothing.
-
-ghost use Rattle.cell_shell.specs.ShellExamples.{ShellIsMet};
-
-/// Examples: the exit statuses, a fault's line, and which words ask for the version, and for help.
-pub fn shell_is_met()
-    ensures { ShellIsMet }
-{}

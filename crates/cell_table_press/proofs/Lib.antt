@@ -1,0 +1,4 @@
+pub mod lemmas
+mod PressRows
+mod TableRows
+mod TableSenses

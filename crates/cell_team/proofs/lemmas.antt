@@ -1,0 +1,13 @@
+pub mod Shares
+pub mod Reaching
+pub mod TableTeam
+pub mod PressTeam
+pub mod DepositTeam
+pub mod FeedTeam
+pub mod CraneTeam
+pub mod RobotTeam
+pub mod Together
+pub mod Stopping
+pub mod Turned
+pub mod Sensed
+pub mod Renewed

@@ -1,0 +1,5 @@
+pub mod Turning
+pub mod Passes
+pub mod FirstSteps
+pub mod Answering
+pub mod Telling

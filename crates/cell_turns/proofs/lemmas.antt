@@ -1,0 +1,2 @@
+pub mod ReachedLemmas
+pub mod SituationLaws

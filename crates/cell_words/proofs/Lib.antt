@@ -1,0 +1,5 @@
+pub mod lemmas
+mod FlagLemmas
+mod NumberLemmas
+mod CommandLemmas
+mod WordRows

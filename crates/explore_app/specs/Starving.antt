@@ -1,0 +1,120 @@
+-- The screens of how plates starve from a start.
+use Rattle.std.specs.Prelude.{◌≡◌, ◌++◌, ◌⊎◌, ◌||◌, ℕ, Bool, true, false, not, List, [], ◌∷◌}
+use Rattle.std.specs.Prelude.{length, All, codes}
+use Rattle.std.specs.Prelude.{Option, Some, None, if◌then◌else◌}
+use Rattle.std.specs.Fmt.{decimal}
+use Rattle.std.specs.List.{flat_map}
+use Rattle.cell_rules.specs.Types.{Machine}
+use Rattle.cell_rules.specs.Names.{ModelState, reply}
+use Rattle.cell_notes.specs.declared.schedule.Turn.{Turn}
+use Rattle.cell_notes.specs.Names.{at_machine}
+use Rattle.cell_turns.specs.declared.turning.Prospect.{Prospect}
+use Rattle.cell_turns.specs.declared.turning.Prospect.TheVariants.{Acts, Waits, Stops}
+use Rattle.cell_turns.specs.Columns.{cell_columns}
+use Rattle.cell_turns.specs.Situations.{prospect_of, waits}
+use Rattle.cell_explorer.specs.Calls.{call_of}
+use Rattle.cell_explorer.specs.declared.walk.Walk.{Walk}
+use Rattle.cell_liveness.specs.Answers.{IfWithin}
+use Rattle.cell_liveness.specs.GoingOn.{PlatesGoOn}
+use Rattle.cell_liveness.specs.Starving.{IsStarving}
+use Rattle.cell_liveness.specs.declared.answers.Progress.{Progress}
+use Rattle.explore_app.specs.declared.bound.Bound.{Bound}
+use Rattle.explore_app.specs.declared.step.Step.{Step}
+use Rattle.explore_app.specs.Bounds.{Text, bound_of, bound_words}
+use Rattle.explore_app.specs.Rings.{going_on_line, waiting_line}
+use Rattle.explore_app.specs.Screens.{ComesTo, IsScreenOf, plates_line, start_key, schedule_key}
+
+-- ---- lines
+
+-- a turn of a round: its machine goes on, or waits
+abbrev pub round_line : Step → Text
+round_line step =
+    if step.goes_on
+    then going_on_line step.machine step.call (reply step.walk.end.state step.machine step.call)
+    else waiting_line step.machine step.call (reply step.walk.end.state step.machine step.call)
+
+abbrev pub round_lines : List Step → Text
+round_lines round = flat_map round_line round
+
+unfoldable pub stem_line : ℕ → Text
+stem_line turns =
+    codes "# no plate moves any more, if after " ++ decimal turns ++ codes " turns these go on for ever:\n"
+
+-- where no round is known
+unfoldable pub weak_line : Option Bound → Text
+weak_line (Some b) = codes "# a plate moves within " ++ bound_words b ++ codes " of each weakly fair schedule\n"
+weak_line None = codes "# it isn't known whether plates starve\n"
+
+-- ---- screens
+
+unfoldable pub round_head : ModelState → ℕ → List Step → Text
+round_head s turns round = plates_line s ++ stem_line turns ++ round_lines round ++ start_key s
+
+unfoldable pub round_screen : ModelState → ℕ → List Step → List Turn → Text
+round_screen s turns round schedule = round_head s turns round ++ schedule_key schedule
+
+unfoldable pub weak_screen : ModelState → Option Bound → Text
+weak_screen s bound = plates_line s ++ weak_line bound ++ start_key s
+
+-- ---- what they say
+
+-- a machine goes on, or waits
+abbrev pub is_of_round : Bool → Prospect → Bool
+is_of_round goes_on prospect = goes_on || waits prospect
+
+-- a turn of a round comes after some turns from the start: its machine asks this there, and goes on or waits
+pub record IsRoundTurn (s : ModelState) (step : Step) : Type 0 where
+  pub way : List Machine
+  pub comes_to : ComesTo s way step.walk
+  pub asks : call_of cell_columns step.machine step.walk.end ≡ Some step.call
+  pub is_of : is_of_round step.goes_on (prospect_of cell_columns step.machine step.walk.end) ≡ true
+
+-- a text shows a round after this many turns
+pub record ShowsRound (s : ModelState) (turns : ℕ) (text : Text) : Type 0 where
+  pub round : List Step
+  pub are : All (IsRoundTurn s) round
+  pub schedule : List Turn
+  pub shown : text ≡ round_screen s turns round schedule
+
+-- a machine's next turn changes something
+abbrev pub acts : Prospect → Bool
+acts Acts = true
+acts Waits = false
+acts Stops = false
+
+-- the first turn of a circle changes nothing, after a walk to it
+abbrev pub is_idle : Walk → List Machine → Bool
+is_idle walk [] = true
+is_idle walk (m ∷ ms) = not (acts (at_machine walk.next m).prospect)
+
+-- turns from a start lead into a circle of turns in which no plate moves; whether it is a standstill
+pub record Starves (s : ModelState) (turns : ℕ) (still : Bool) : Type 0 where
+  pub stem : List Machine
+  pub cycle : List Machine
+  pub leads : IsStarving s None None stem cycle
+  pub long : length stem ≡ turns
+  pub walk : Walk
+  pub comes_to : ComesTo s stem walk
+  pub idle : is_idle walk cycle ≡ still
+
+-- they lead to a standstill, and a text is the screen of the start
+pub record TellsStill (s : ModelState) (text : Text) : Type 0 where
+  pub turns : ℕ
+  pub starves : Starves s turns true
+  pub screen : IsScreenOf s text
+
+-- they lead to none, and a text shows the round
+pub record TellsRound (s : ModelState) (text : Text) : Type 0 where
+  pub turns : ℕ
+  pub starves : Starves s turns false
+  pub shown : ShowsRound s turns text
+
+-- a text shows within how many steps a plate moves, or that this isn't known
+pub record TellsBound (s : ModelState) (text : Text) : Type 0 where
+  pub found : Progress
+  pub go_on : IfWithin found (PlatesGoOn s None None)
+  pub shown : text ≡ weak_screen s (bound_of found)
+
+-- a text is the screen of how plates starve
+abbrev pub IsStarvingScreenOf : ModelState → Text → Type 0
+IsStarvingScreenOf s text = TellsStill s text ⊎ (TellsRound s text ⊎ TellsBound s text)

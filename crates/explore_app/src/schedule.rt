@@ -1,0 +1,202 @@
+//! The schedule that leads a simulated cell into a standstill, or to a refusal: the turns that were found, with those
+//! in which drives end.
+
+ghost use Rattle.cell_rules.specs.Start.{IsStartState};
+ghost use Rattle.cell_config.specs.Configured.{AreAxisScales, AreCurvesOf};
+
+use crate::ending::Ending;
+use cell_config::Config;
+use cell_configured::simulate_configured_observed;
+use cell_explorer::Walk;
+use cell_plant::{Frame, MachineSteps, Observer, SeenFault, Turn};
+use cell_rules::{State, answer};
+use cell_types::{Call, Machine, Reply};
+use std::alloc::{AllocError, Global};
+
+/// The most turns that one drive takes here.
+const MAX_TURNS: usize = 8_192;
+
+/// Why there is no schedule.
+#[derive(Clone, Copy, PartialEq, Eq, Debug)]
+pub enum ScheduleFault {
+    /// Out of memory.
+    Memory,
+    /// The simulated cell didn't come to the standstill, or to the refusal.
+    Apart,
+}
+
+impl From<AllocError> for ScheduleFault {
+    fn from(_error: AllocError) -> ScheduleFault {
+        ScheduleFault::Memory
+    }
+}
+
+// That a machine has asked.
+#[derive(Clone, Copy)]
+struct Asked;
+
+// Passes over a number of frames, and then looks for the first with a call. It keeps the last that it saw.
+#[derive(Clone, Copy)]
+struct AskSeeker {
+    skip: usize,
+    turns: usize,
+    last: Option<Frame>,
+}
+
+impl Observer for AskSeeker {
+    ghost use Rattle.std.specs.Prelude.{true, ⊤};
+
+    type Fault = Asked;
+
+    ghost LOOKS = { true };
+
+    const LOOKS: bool = true;
+
+    ghost sees = { λ _ _ _ _. ⊤ };
+
+    ghost blind = { λ _ _ _. tt };
+
+    fn see(&mut self, frame: &Frame) -> Result<(), Asked> {
+        self.last = Some(*frame);
+        if self.skip > 0 {
+            self.skip -= 1;
+            return Ok(());
+        }
+        self.turns = self.turns.saturating_add(1);
+        if frame.asked.is_some() {
+            Err(Asked)
+        } else {
+            Ok(())
+        }
+    }
+}
+
+/// The turns that lead a simulated cell to the end of a walk. Each machine has turns until it asks,
+/// once for each turn of the way that asks. At the end each that the ending is about asks again.
+///
+/// `Apart` if interlock and steps aren't those of the walk's end then, if a machine asked or was
+/// answered something else there, and if the ending is about no machine; `Memory` if memory ran out.
+pub fn schedule_into(
+    alloc: Global,
+    config: &Config,
+    ending: Ending,
+    way: &[Machine],
+    walk: &Walk,
+) -> Result<Vec<Turn>, ScheduleFault>
+    requires start { IsStartState config.now.start }
+    requires points { AreAxisScales config.now.points }
+    requires curves { AreCurvesOf config.now.points config.now.curves }
+{
+    let mut schedule = way_into(alloc, config, way, walk)?;
+    let mut end = None;
+    for machine in Machine::ALL {
+        let next = walk.next.at(machine);
+        if let Some(call) = next.call
+            && ending.is_about(next.prospect)
+        {
+            let frame = push_until_asked(alloc, config, &mut schedule, machine)?;
+            if !is_answered(&frame, machine, call, walk) {
+                return Err(ScheduleFault::Apart);
+            }
+            end = Some(frame);
+        }
+    }
+    match end {
+        Some(frame) if is_at(&frame, walk) => Ok(schedule),
+        _ => Err(ScheduleFault::Apart),
+    }
+}
+
+// The turns of a way, up to the last in which a machine asks. The errors are those of `schedule_into`.
+pub(crate) fn way_into(
+    alloc: Global,
+    config: &Config,
+    way: &[Machine],
+    walk: &Walk,
+) -> Result<Vec<Turn>, ScheduleFault>
+    requires start { IsStartState config.now.start }
+    requires points { AreAxisScales config.now.points }
+    requires curves { AreCurvesOf config.now.points config.now.curves }
+{
+    let mut schedule = Vec::new(alloc);
+    for (machine, asks) in way.iter().zip(&walk.asks) {
+        if *asks {
+            push_until_asked(alloc, config, &mut schedule, *machine)?;
+        }
+    }
+    Ok(schedule)
+}
+
+// Adds a machine's turns up to the first in which it asks, and answers what is seen after that.
+pub(crate) fn push_until_asked(
+    alloc: Global,
+    config: &Config,
+    schedule: &mut Vec<Turn>,
+    machine: Machine,
+) -> Result<Frame, ScheduleFault>
+    requires start { IsStartState config.now.start }
+    requires points { AreAxisScales config.now.points }
+    requires curves { AreCurvesOf config.now.points config.now.curves }
+{
+    let turn = Turn {
+        machine,
+        busy: false,
+    };
+    let trial = longer(alloc, schedule.as_slice(), turn)?;
+    // the first frame shows the start
+    let mut seeker = AskSeeker {
+        skip: schedule.len().saturating_add(1),
+        turns: 0,
+        last: None,
+    };
+    match simulate_configured_observed(alloc, config, trial.as_slice(), &mut seeker) {
+        Ok(_) => return Err(ScheduleFault::Apart),
+        Err(SeenFault::Memory) => return Err(ScheduleFault::Memory),
+        Err(SeenFault::Observer(Asked)) => (),
+    }
+    push_turns(schedule, turn, seeker.turns)?;
+    seeker.last.ok_or(ScheduleFault::Apart)
+}
+
+// A schedule with as many further turns as one drive may take.
+fn longer(alloc: Global, schedule: &[Turn], turn: Turn) -> Result<Vec<Turn>, AllocError> {
+    let mut trial = Vec::new(alloc);
+    for earlier in schedule {
+        trial.push(*earlier)?;
+    }
+    push_turns(&mut trial, turn, MAX_TURNS)?;
+    Ok(trial)
+}
+
+// Adds a turn a number of times.
+fn push_turns(schedule: &mut Vec<Turn>, turn: Turn, count: usize) -> Result<(), AllocError> {
+    for _ in 0..count {
+        schedule.push(turn)?;
+    }
+    Ok(())
+}
+
+// Whether a simulated machine has asked this, and was answered as at the end of a walk.
+pub(crate) fn is_answered(frame: &Frame, machine: Machine, call: Call, walk: &Walk) -> bool {
+    match frame.asked {
+        Some((asked, Ok(Reply::Settled(given, _)))) => {
+            asked == call && given == answer(&walk.end.state, machine, call)
+        }
+        _ => false,
+    }
+}
+
+// Whether a simulated cell is at the end of a walk: its interlock and its machines' steps are so there.
+pub(crate) fn is_at(frame: &Frame, walk: &Walk) -> bool {
+    let end = &walk.end;
+    let steps = MachineSteps {
+        feed: end.feed.step,
+        table: end.table.step,
+        robot: end.robot.step,
+        press: end.press.step,
+        deposit: end.deposit.step,
+        crane: end.crane.step,
+    };
+    let state: State = frame.state;
+    frame.steps == steps && state.restamped(0) == end.state
+}

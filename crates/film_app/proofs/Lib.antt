@@ -1,0 +1,6 @@
+mod Shown
+mod PlainLemmas
+mod PlainLines
+mod LineRows
+mod Serving
+mod Looping

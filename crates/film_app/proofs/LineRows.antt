@@ -1,0 +1,25 @@
+-- The examples of lines.
+use Rattle.std.proofs.Common.{refl}
+use Rattle.std.specs.Fmt.{digits}
+use Rattle.cell_word.specs.Layout.{packed}
+use Rattle.film_app.specs.LineExamples.{LineExamples}
+use Rattle.film_app.specs.Lines.{machine_text}
+use Rattle.film_app.specs.Pages.{max_turns}
+
+pub line-examples : LineExamples
+unfolding digits packed max_turns machine_text
+line-examples = record {
+  none = refl;
+  literal = refl;
+  waiting = refl;
+  busy = refl;
+  feed = refl;
+  table = refl;
+  robot = refl;
+  press = refl;
+  deposit = refl;
+  crane = refl;
+  watch = refl;
+  uncut = refl;
+  cut = refl;
+}

@@ -1,0 +1,55 @@
+-- What `plan check` prints of a plan.
+use Rattle.std.specs.Prelude.{ℕ, nat_eq, [], ◌++◌, codes, flat_map, length, List, if◌then◌else◌}
+use Rattle.std.specs.Fmt.{decimal}
+use Rattle.std.specs.List.{range_with_len}
+use Rattle.plan_word.specs.Layout.{Counts, bits_of, counts_of, has, start_of, width_of}
+use Rattle.plan_word.specs.declared.layout.Field.{Field}
+use Rattle.plan_word.specs.declared.layout.Field.TheVariants.{Zone, Place, Stamp, Stop}
+use Rattle.plan_text.specs.Names.{Text, name_in}
+use Rattle.plan_text.specs.Named.{Named}
+use Rattle.plan_app.specs.Words.{counted, zone_name}
+
+-- a colon before the first name, and a blank before each
+abbrev pub gap : ℕ → Text
+gap number = if nat_eq number 0 then codes ": " else codes " "
+
+abbrev pub listed : List Text → ℕ → Text
+listed names number = gap number ++ name_in names number
+
+-- `2 zones: lower upper`
+abbrev pub names_line : Text → List Text → Text
+names_line kind names =
+    counted (length names) kind ++ (flat_map (listed names) (range_with_len 0 (length names)) ++ codes "\n")
+
+abbrev pub width_line : Counts → Text
+width_line c = codes "a word of " ++ (decimal (width_of c) ++ codes " bits\n")
+
+-- the lowest bit of a field, how many bits it has, and what it is; nothing if the word has no such field
+abbrev pub bits_words : ℕ → Field → Text → Text
+bits_words first field what =
+    codes "bit " ++ (decimal first ++ (codes ", " ++ (counted (bits_of field) (codes "bit")
+    ++ (codes ": " ++ (what ++ codes "\n")))))
+
+abbrev pub field_line : Counts → Field → Text → Text
+field_line c field what = if has c field then bits_words (start_of c field) field what else []
+
+abbrev pub zone_line : Named → ℕ → Text
+zone_line n zone = field_line (counts_of n.plan) (Zone zone) (codes "zone " ++ zone_name n zone)
+
+abbrev pub place_line : Named → ℕ → Text
+place_line n place = field_line (counts_of n.plan) (Place place) (codes "place " ++ name_in n.places place)
+
+-- the zones, the places, the stamp and the stop
+abbrev pub field_lines : Named → Text
+field_lines n =
+    flat_map (zone_line n) (range_with_len 0 (length n.zones))
+    ++ (flat_map (place_line n) (range_with_len 0 (length n.places))
+    ++ (field_line (counts_of n.plan) Stamp (codes "stamp") ++ field_line (counts_of n.plan) Stop (codes "stop")))
+
+abbrev pub kind_lines : Named → Text
+kind_lines n =
+    names_line (codes "machine") n.machines ++ (names_line (codes "zone") n.zones
+    ++ (names_line (codes "place") n.places ++ names_line (codes "pose") n.poses))
+
+unfoldable pub report_text : Named → Text
+report_text n = kind_lines n ++ (width_line (counts_of n.plan) ++ field_lines n)

@@ -1,0 +1,32 @@
+-- What the words of the program ask for.
+use Rattle.std.specs.Prelude.{ℕ, List, [], ◌∷◌, codes, Option, Some, None, if◌then◌else◌}
+use Rattle.std.specs.Str.{bytes_eq}
+use Rattle.program_shell.specs.Asked.{asked_of}
+use Rattle.program_shell.specs.declared.asked.Asked.{Asked}
+use Rattle.program_shell.specs.declared.asked.Asked.TheVariants as asked
+use Rattle.plan_app.specs.declared.request.Request.{Request}
+use Rattle.plan_app.specs.declared.request.Request.TheVariants.{Check, Replay, Explore, Header, Help, Version}
+
+-- the words of this program alone
+abbrev pub own_words : List (List ℕ)
+own_words = codes "check" ∷ codes "replay" ∷ codes "explore" ∷ codes "header" ∷ []
+
+-- what each of them asks for
+abbrev pub request_by : List ℕ → Option Request
+request_by word =
+    if bytes_eq word (codes "check") then Some Check
+    else (if bytes_eq word (codes "replay") then Some Replay
+    else (if bytes_eq word (codes "explore") then Some Explore
+    else (if bytes_eq word (codes "header") then Some Header
+    else None)))
+
+-- what words ask for, by what they ask for of every program
+abbrev pub request_asked : Asked → List (List ℕ) → Option Request
+request_asked asked.Help words = Some Help
+request_asked asked.Version words = Some Version
+request_asked asked.Other (name ∷ word ∷ []) = request_by word
+request_asked asked.Other _ = None
+
+-- what words ask for; the first is the program's name
+abbrev pub request_of : List (List ℕ) → Option Request
+request_of words = request_asked (asked_of own_words words) words

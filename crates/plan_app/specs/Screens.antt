@@ -1,0 +1,105 @@
+-- What `plan explore` prints of a plan and its programs.
+use Rattle.std.specs.Prelude.{◌≡◌, ℕ, ◌++◌, codes, flat_map, length, List, [], string_bytes}
+use Rattle.std.specs.Prelude.{slice_get, Some, None}
+use Rattle.plan_types.specs.declared.answer.Event.{Event}
+use Rattle.plan_rules.specs.declared.state.State.{State}
+use Rattle.plan_explorer.specs.Explored.{AreShortest, ComeTo, LeadToStandstill, NoneStandsStill}
+use Rattle.plan_explorer.specs.Programs.{PlanPrograms}
+use Rattle.plan_explorer.specs.Runs.{NoRunStandsStill}
+use Rattle.plan_explorer.specs.Situations.{after_turns, first_situation}
+use Rattle.plan_explorer.specs.Walks.{outlook_of}
+use Rattle.plan_liveness.specs.declared.answer.Liveness.{Liveness}
+use Rattle.plan_liveness.specs.declared.answer.Progress.{Progress}
+use Rattle.plan_liveness.specs.Answers.{IfStarves, IfWithin, IsLiveness}
+use Rattle.plan_liveness.specs.Plates.{PlatesMove, PlatesRest}
+use Rattle.plan_text.specs.Answers.{answer_text}
+use Rattle.plan_text.specs.Names.{Text}
+use Rattle.plan_text.specs.Named.{Named}
+use Rattle.plan_app.specs.Going.{going_text}
+use Rattle.plan_app.specs.Words.{call_text, counted, machine_name, turn_word}
+use Rattle.plan_app.specs.declared.explore.TheConstants.{FREE, SHORTEST, STANDSTILL}
+use Rattle.plan_app.specs.declared.explore.Screen.{Screen}
+use Rattle.plan_app.specs.declared.explore.Screen.TheVariants.{Free, Standstill}
+
+-- ---- a standstill
+
+abbrev pub count_line : ℕ → Text
+count_line turns = STANDSTILL.now ++ (counted turns (codes "turn") ++ SHORTEST.now)
+
+-- what a machine asks, and why it waits
+abbrev pub wait_line : Named → Event → Text
+wait_line n e =
+    machine_name n e.machine ++ (codes " waits: " ++ (call_text n e.call
+    ++ (codes ": " ++ (answer_text n e.answer ++ codes "\n"))))
+
+-- whose turns lead to it
+abbrev pub turns_line : Named → List ℕ → Text
+turns_line n turns = codes "turns:" ++ (flat_map (turn_word n) turns ++ codes "\n")
+
+abbrev pub standstill_text : Named → List ℕ → List Event → Text
+standstill_text n turns waiting =
+    count_line (length turns) ++ (flat_map (wait_line n) waiting ++ turns_line n turns)
+
+-- what the machines ask after turns from an opening
+abbrev pub outlook_after : Named → PlanPrograms → State → List ℕ → List Event
+outlook_after n ps opening turns = outlook_of n.plan ps (after_turns n.plan ps (first_situation opening) turns)
+
+-- the fewest turns to a standstill, and what each machine waits for there
+pub record TellsStandstill (n : Named) (ps : PlanPrograms) (opening : State) (text : Text) : Type 0 where
+  pub turns : List ℕ
+  pub lead : LeadToStandstill n.plan ps opening turns
+  pub shortest : AreShortest n.plan ps opening turns
+  pub told : text ≡ standstill_text n turns (outlook_after n ps opening turns)
+
+-- ---- no standstill
+
+-- the number of situations
+abbrev pub free_line : ℕ → Text
+free_line situations = FREE.now ++ (counted situations (codes "situation") ++ codes "\n")
+
+abbrev pub MoveOn : Named → PlanPrograms → State → Progress → Type 0
+MoveOn n ps opening plates = IfWithin plates (PlatesMove n.plan ps None [] (first_situation opening))
+
+abbrev pub MayRest : Named → PlanPrograms → State → Progress → Type 0
+MayRest n ps opening plates = IfStarves plates (PlatesRest n.plan ps None [] (first_situation opening))
+
+-- the answers are those of explorations: of each machine, and of plates
+pub record AreAnswers (n : Named) (ps : PlanPrograms) (opening : State) (answers : List Liveness) (plates : Progress)
+    : Type 0 where
+  pub count : length answers ≡ length ps
+  pub each : (m : ℕ) (answer : Liveness) → slice_get answers m ≡ Some answer
+      → IsLiveness n.plan ps (first_situation opening) m answer
+  pub moving : MoveOn n ps opening plates
+  pub resting : MayRest n ps opening plates
+
+-- In no order of turns is there a standstill, and the machines come to so many situations. What is said of machines
+-- that go on is what explorations answer.
+pub record TellsFree (n : Named) (ps : PlanPrograms) (opening : State) (text : Text) : Type 0 where
+  pub free : NoneStandsStill n.plan ps opening
+  pub runs : NoRunStandsStill n.plan ps opening
+  pub situations : ℕ
+  pub come : ComeTo n.plan ps opening situations
+  pub answers : List Liveness
+  pub plates : Progress
+  pub are : AreAnswers n ps opening answers plates
+  pub told : text ≡ free_line situations ++ going_text n ps opening answers plates
+
+-- ---- what is printed is what was found
+
+abbrev pub IsScreen : Named → PlanPrograms → State → Screen → Type 0
+IsScreen n ps opening (Free text) = TellsFree n ps opening (string_bytes text)
+IsScreen n ps opening (Standstill text) = TellsStandstill n ps opening (string_bytes text)
+
+-- a screen says that nothing stands still; or that turns lead to a standstill, where the machines wait so
+abbrev pub ShowsFree : ℕ → Text → Screen → Type 0
+ShowsFree situations going (Free text) = string_bytes text ≡ free_line situations ++ going
+ShowsFree situations going (Standstill text) = ⊥
+
+abbrev pub ShowsGoing : Named → PlanPrograms → State → ℕ → Screen → Type 0
+ShowsGoing n ps opening situations screen =
+    (answers : List Liveness) × (plates : Progress) × AreAnswers n ps opening answers plates
+    × ShowsFree situations (going_text n ps opening answers plates) screen
+
+abbrev pub ShowsStandstill : Named → List Event → List ℕ → Screen → Type 0
+ShowsStandstill n waiting turns (Free text) = ⊥
+ShowsStandstill n waiting turns (Standstill text) = string_bytes text ≡ standstill_text n turns waiting

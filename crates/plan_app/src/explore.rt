@@ -1,0 +1,255 @@
+//! What `plan explore` prints: whether some order of the machines' turns leads to a standstill, and else whether each
+//! machine goes on for ever.
+ghost use Rattle.std.specs.Prelude.{◌≡◌, ◌++◌, ℕ, Some, IfOk, OnOk, flat_map, length, slice_get};
+ghost use Rattle.std.specs.Prelude.{string_bytes};
+ghost use Rattle.plan_explorer.specs.Situations.{first_situation};
+ghost use Rattle.plan_liveness.specs.declared.answer.Liveness.{Liveness};
+ghost use Rattle.plan_liveness.specs.Answers.{IsLiveness};
+ghost use Rattle.plan_app.specs.Going.{going_text};
+ghost use Rattle.plan_app.specs.Screens as spec;
+ghost use Rattle.plan_app.specs.Words.{turn_word};
+
+use crate::going::push_all;
+use crate::words::{push_call, push_counted};
+use plan_document::ProgrammedPlan;
+use plan_explorer::{Explored, Programs, explore, take_turns};
+use plan_liveness::{Liveness, Progress, explore_machines, explore_plates};
+use plan_rules::State;
+use plan_text::NamedPlan;
+use plan_types::Event;
+use std::alloc::{AllocError, Global};
+
+/// What is said where nothing stands still.
+const FREE: &str = "no standstill in any order of turns before the last stamp: ";
+
+/// What is said of a standstill, before the number of turns that lead to it.
+const STANDSTILL: &str = "a standstill after ";
+
+/// What is said after it.
+const SHORTEST: &str = ", and no fewer\n";
+
+/// What `plan explore` prints.
+#[derive(Drop)]
+pub enum Screen {
+    /// No order of turns leads to a standstill.
+    Free(String),
+    /// Some order does.
+    Standstill(String),
+}
+
+/// What `plan explore` prints of a plan and its programs, which begin at an opening. An error says that memory ran out.
+pub fn screen_of(
+    alloc: Global,
+    plan: &ProgrammedPlan,
+    opening: &State,
+) -> Result<Screen, AllocError>
+    ensures { IfOk result
+        (λ screen. spec.IsScreen plan.now.named plan.now.programs opening.now screen) }
+{
+    let ProgrammedPlan { named, programs } = plan;
+    match explore(alloc, named.plan(), opening, programs)? {
+        Explored::Free(situations) => free_screen(alloc, plan, opening, situations),
+        Explored::Standstill(turns) => {
+            standstill_screen(alloc, named, programs, opening, turns.as_slice())
+        }
+    }
+}
+
+/// What is printed where nothing stands still.
+fn free_screen(
+    alloc: Global,
+    plan: &ProgrammedPlan,
+    opening: &State,
+    situations: usize,
+) -> Result<Screen, AllocError>
+    ensures { IfOk result (λ screen. spec.ShowsGoing plan.now.named plan.now.programs opening.now
+        situations screen) }
+{
+    let answers = machines_of(alloc, plan, opening)?;
+    let plates = plates_of(alloc, plan, opening)?;
+    free_text(
+        alloc,
+        plan,
+        opening,
+        situations,
+        answers.as_slice(),
+        &plates,
+    )
+}
+
+/// Whether each machine goes on for ever.
+fn machines_of(
+    alloc: Global,
+    plan: &ProgrammedPlan,
+    opening: &State,
+) -> Result<Vec<Liveness>, AllocError>
+    ensures count { IfOk result (λ answers. length answers.items ≡ length plan.now.programs) }
+    ensures each { IfOk result (λ answers. (m : ℕ) (answer : Liveness)
+        → slice_get answers.items m ≡ Some answer
+        → IsLiveness plan.now.named.plan plan.now.programs (first_situation opening.now) m answer) }
+{
+    explore_machines(alloc, plan.named.plan(), opening, &plan.programs)
+}
+
+/// Whether plates move for ever.
+fn plates_of(alloc: Global, plan: &ProgrammedPlan, opening: &State) -> Result<Progress, AllocError>
+    ensures moving { IfOk result (λ plates. spec.MoveOn plan.now.named plan.now.programs opening.now plates) }
+    ensures resting { IfOk result (λ plates. spec.MayRest plan.now.named plan.now.programs opening.now plates) }
+{
+    explore_plates(alloc, plan.named.plan(), opening, &plan.programs, None, &[])
+}
+
+/// The text where nothing stands still.
+fn free_text(
+    alloc: Global,
+    plan: &ProgrammedPlan,
+    opening: &State,
+    situations: usize,
+    answers: &[Liveness],
+    plates: &Progress,
+) -> Result<Screen, AllocError>
+    ensures { IfOk result (λ screen. spec.ShowsFree situations
+        (going_text plan.now.named plan.now.programs opening.now answers.now plates.now) screen) }
+{
+    let mut text = String::new(alloc);
+    push_free(&mut text, plan, opening, situations, answers, plates)?;
+    Ok(Screen::Free(text))
+}
+
+/// Adds the line of the situations, and what is said of machines that go on.
+fn push_free(
+    text: &mut String,
+    plan: &ProgrammedPlan,
+    opening: &State,
+    situations: usize,
+    answers: &[Liveness],
+    plates: &Progress,
+) -> Result<(), AllocError>
+    ensures { OnOk result (string_bytes text.new ≡ string_bytes text.old ++ (spec.free_line situations
+        ++ going_text plan.now.named plan.now.programs opening.now answers.now plates.now)) }
+{
+    push_situations(text, situations)?;
+    push_all(text, plan, opening, answers, plates)
+}
+
+/// Adds how many situations there are, none of them a standstill.
+fn push_situations(text: &mut String, situations: usize) -> Result<(), AllocError>
+    ensures { OnOk result (string_bytes text.new ≡ string_bytes text.old ++ spec.free_line situations) }
+{
+    text.push_str(FREE)?;
+    push_counted(text, situations, "situation")?;
+    text.push_str("\n")
+}
+
+/// What is printed of turns that lead to a standstill: whose turns they are, and what each machine asks at their end.
+fn standstill_screen(
+    alloc: Global,
+    named: &NamedPlan,
+    programs: &Programs,
+    opening: &State,
+    turns: &[u8],
+) -> Result<Screen, AllocError>
+    ensures { IfOk result (λ screen. spec.ShowsStandstill named.now
+        (spec.outlook_after named.now programs.now opening.now turns.now) turns.now screen) }
+{
+    let waiting = waiting_after(alloc, named, programs, opening, turns)?;
+    standstill_text(alloc, named, turns, waiting.as_slice())
+}
+
+/// What each machine asks after turns from an opening.
+fn waiting_after(
+    alloc: Global,
+    named: &NamedPlan,
+    programs: &Programs,
+    opening: &State,
+    turns: &[u8],
+) -> Result<Vec<Event>, AllocError>
+    ensures { IfOk result (λ waiting. waiting.items
+        ≡ spec.outlook_after named.now programs.now opening.now turns.now) }
+{
+    let walk = take_turns(alloc, named.plan(), opening, programs, turns)?;
+    Ok(walk.outlook)
+}
+
+/// The text of a standstill.
+fn standstill_text(
+    alloc: Global,
+    named: &NamedPlan,
+    turns: &[u8],
+    waiting: &[Event],
+) -> Result<Screen, AllocError>
+    ensures { IfOk result (λ screen. spec.ShowsStandstill named.now waiting.now turns.now screen) }
+{
+    let mut text = String::new(alloc);
+    push_standstill(&mut text, named, turns, waiting)?;
+    Ok(Screen::Standstill(text))
+}
+
+/// Adds what is said of a standstill.
+fn push_standstill(
+    text: &mut String,
+    named: &NamedPlan,
+    turns: &[u8],
+    waiting: &[Event],
+) -> Result<(), AllocError>
+    ensures { OnOk result (string_bytes text.new
+        ≡ string_bytes text.old ++ spec.standstill_text named.now turns.now waiting.now) }
+{
+    push_count(text, turns.len())?;
+    push_waiting(text, named, waiting)?;
+    push_turns(text, named, turns)
+}
+
+/// Adds how many turns lead to a standstill.
+fn push_count(text: &mut String, count: usize) -> Result<(), AllocError>
+    ensures { OnOk result (string_bytes text.new ≡ string_bytes text.old ++ spec.count_line count) }
+{
+    text.push_str(STANDSTILL)?;
+    push_counted(text, count, "turn")?;
+    text.push_str(SHORTEST)
+}
+
+/// Adds a line for each machine that waits.
+fn push_waiting(text: &mut String, named: &NamedPlan, waiting: &[Event]) -> Result<(), AllocError>
+    ensures { OnOk result
+        (string_bytes text.new ≡ string_bytes text.old ++ flat_map (spec.wait_line named.now) waiting.now) }
+{
+    'events: for event in waiting {
+        push_wait(text, named, event)?;
+    }
+    Ok(())
+}
+
+/// Adds what a machine asks, and why it waits.
+fn push_wait(text: &mut String, named: &NamedPlan, event: &Event) -> Result<(), AllocError>
+    ensures { OnOk result (string_bytes text.new ≡ string_bytes text.old ++ spec.wait_line named.now event.now) }
+{
+    text.push_str(named.machines().name(event.machine))?;
+    text.push_str(" waits: ")?;
+    push_call(text, named, event.call)?;
+    text.push_str(": ")?;
+    named.push_answer(text, event.answer)?;
+    text.push_str("\n")
+}
+
+/// Adds a line with the machines whose turns they are.
+fn push_turns(text: &mut String, named: &NamedPlan, turns: &[u8]) -> Result<(), AllocError>
+    ensures { OnOk result
+        (string_bytes text.new ≡ string_bytes text.old ++ spec.turns_line named.now turns.now) }
+{
+    text.push_str("turns:")?;
+    push_machines(text, named, turns)?;
+    text.push_str("\n")
+}
+
+/// Adds these machines.
+fn push_machines(text: &mut String, named: &NamedPlan, turns: &[u8]) -> Result<(), AllocError>
+    ensures { OnOk result
+        (string_bytes text.new ≡ string_bytes text.old ++ flat_map (turn_word named.now) turns.now) }
+{
+    'machines: for machine in turns {
+        text.push_str(" ")?;
+        text.push_str(named.machines().name(*machine))?;
+    }
+    Ok(())
+}

@@ -1,0 +1,320 @@
+//! What the program `plan` does.
+ghost use Rattle.std.specs.Prelude.{◌≡◌, ◌≢◌, ◌≤◌, Some, None, IfOk, IfSome, codes, length};
+ghost use Rattle.std.specs.Io.KnownBytes.{Appends};
+ghost use Rattle.text_io.specs.Input.{TakesAtMost};
+ghost use Rattle.text_io.specs.Output.{WrotePrefix};
+ghost use Rattle.program_shell.specs.Printed.{Prints};
+ghost use Rattle.program_shell.specs.Versions.{version_line};
+ghost use Rattle.program_shell.specs.Words.{texts_of};
+ghost use Rattle.plan_app.specs.Input.{byte_limit, max_bytes_read, script_in};
+ghost use Rattle.plan_app.specs.Served.{AnswersInput, AnswersScript, FindsFree, FindsInputFree};
+ghost use Rattle.plan_app.specs.Served.{Reports, WritesFree, WritesHeader};
+ghost use Rattle.plan_app.specs.Requests.{request_of};
+
+use crate::explore::{Screen, screen_of};
+use crate::header::header_of;
+use crate::input::{MAX_BYTES, plan_length};
+use crate::report::report_of;
+use crate::request;
+use crate::request::Request;
+use crate::size::{MAX_SITUATIONS, is_large};
+use plan_document::{ProgrammedPlan, plan_of};
+use plan_replay::{Outcome, ScriptAnswers, answer_script, start_of_script};
+use plan_rules::State;
+use plan_text::NamedPlan;
+use program_shell::{Exit, fail, print, print_version, refuse_words, with_texts};
+use std::alloc::{AllocError, Global};
+use std::env::Env;
+use std::io::{Read, Write};
+use text_io::{InputFault, read_up_to};
+
+/// The help.
+const HELP: &str = "\
+Reads a plan of a plant, in TOML, from standard input.
+  plan check      says what it is, and the layout of its word, or its first fault
+  plan replay     answers the script after it, which begins with the line start,..
+  plan explore    says whether some order of turns of its programs leads from the start
+                  after it, a line start,.., to a standstill; and else whether each machine
+                  goes on for ever, or in which order it starves
+  plan header     prints its names and the layout of its word for C
+  plan --version  prints the version
+A script may follow the plan in each case. At most 1,000,000 situations are explored; more
+are fault large. Exit status: 0 on success, and for help; 2 for bad arguments; otherwise
+1: a fault, a standstill, or a failed write.
+
+Example:
+  cat examples/plans/press.toml examples/plans/press.csv | plan replay
+";
+
+/// What is printed for other words.
+const OTHER_WORDS: &str =
+    "error: the only argument is check, replay, explore, header, --help or --version\n";
+
+/// Reads a plan and a script after it: all bytes, unless there are too many.
+fn read_input<R: Read>(alloc: Global, reader: &mut R) -> Result<Vec<u8>, InputFault>
+    ensures whole { IfOk result (λ input. length input.items ≤ byte_limit →
+        IfSome (R.remaining reader.old) (λ bytes. input.items ≡ bytes)) }
+    ensures read { TakesAtMost (R.remaining reader.old) (R.remaining reader.new) max_bytes_read }
+{
+    read_up_to(alloc, reader, MAX_BYTES + 1)
+}
+
+/// Prints that the input wasn't read.
+fn fail_to_read<W: Write>(writer: &mut W, fault: InputFault) -> Exit
+    ensures { result ≡ Exit.Failed }
+{
+    match fault {
+        InputFault::Read => fail(writer, "read"),
+        InputFault::Memory => fail(writer, "memory"),
+    }
+}
+
+/// Reads a plan and a script after it, and prints what the request asks of them: what the plan is, its header, the
+/// answers to the script, or what the machines' programs come to from the start.
+fn serve_input<R: Read, W: Write>(
+    alloc: Global,
+    request: Request,
+    reader: &mut R,
+    writer: &mut W,
+) -> Exit
+    ensures status { result ≢ Exit.Refused }
+    ensures reported { request ≡ Request.Check → result ≡ Exit.Well →
+        Reports (W.contents writer.old) (W.contents writer.new) }
+    ensures answered { request ≡ Request.Replay → result ≡ Exit.Well →
+        AnswersInput (R.remaining reader.old) (W.contents writer.old) (W.contents writer.new) }
+    ensures free { request ≡ Request.Explore → result ≡ Exit.Well →
+        FindsInputFree (R.remaining reader.old) (W.contents writer.old) (W.contents writer.new) }
+    ensures header { request ≡ Request.Header → result ≡ Exit.Well →
+        WritesHeader (W.contents writer.old) (W.contents writer.new) }
+    ensures read { TakesAtMost (R.remaining reader.old) (R.remaining reader.new) max_bytes_read }
+{
+    match read_input(alloc, reader) {
+        Ok(bytes) => serve_bytes(alloc, request, bytes.as_slice(), writer),
+        Err(fault) => fail_to_read(writer, fault),
+    }
+}
+
+fn serve_bytes<W: Write>(alloc: Global, request: Request, bytes: &[u8], writer: &mut W) -> Exit
+    ensures status { result ≢ Exit.Refused }
+    ensures short { result ≡ Exit.Well → length bytes.now ≤ byte_limit }
+    ensures reported { request ≡ Request.Check → result ≡ Exit.Well →
+        Reports (W.contents writer.old) (W.contents writer.new) }
+    ensures answered { request ≡ Request.Replay → result ≡ Exit.Well →
+        AnswersScript (script_in bytes.now) (W.contents writer.old) (W.contents writer.new) }
+    ensures free { request ≡ Request.Explore → result ≡ Exit.Well →
+        FindsFree (script_in bytes.now) (W.contents writer.old) (W.contents writer.new) }
+    ensures header { request ≡ Request.Header → result ≡ Exit.Well →
+        WritesHeader (W.contents writer.old) (W.contents writer.new) }
+{
+    if bytes.len() > MAX_BYTES {
+        return fail(writer, "long");
+    }
+    let (document, script) = bytes.split_at(plan_length(bytes));
+    match plan_of(alloc, document) {
+        Ok(plan) => serve_plan(alloc, request, plan, script, writer),
+        Err(fault) => fail(writer, fault),
+    }
+}
+
+/// Prints what the request asks of a plan, and of the script after it for `Replay` and `Explore`.
+fn serve_plan<W: Write>(
+    alloc: Global,
+    request: Request,
+    plan: ProgrammedPlan,
+    script: &[u8],
+    writer: &mut W,
+) -> Exit
+    ensures status { result ≢ Exit.Refused }
+    ensures reported { request ≡ Request.Check → result ≡ Exit.Well →
+        Reports (W.contents writer.old) (W.contents writer.new) }
+    ensures answered { request ≡ Request.Replay → result ≡ Exit.Well →
+        AnswersScript script.now (W.contents writer.old) (W.contents writer.new) }
+    ensures free { request ≡ Request.Explore → result ≡ Exit.Well →
+        FindsFree script.now (W.contents writer.old) (W.contents writer.new) }
+    ensures header { request ≡ Request.Header → result ≡ Exit.Well →
+        WritesHeader (W.contents writer.old) (W.contents writer.new) }
+{
+    match request {
+        Request::Header => print_header(alloc, &plan.named, writer),
+        Request::Replay => replay_script(alloc, &plan.named, script, writer),
+        Request::Explore => explore_script(alloc, &plan, script, writer),
+        _ => print_report(alloc, &plan.named, writer),
+    }
+}
+
+fn print_report<W: Write>(alloc: Global, named: &NamedPlan, writer: &mut W) -> Exit
+    ensures status { result ≢ Exit.Refused }
+    ensures reported { result ≡ Exit.Well → Reports (W.contents writer.old) (W.contents writer.new) }
+{
+    match report_of(alloc, named) {
+        Ok(text) => print(writer, text.as_bytes()),
+        Err(AllocError) => fail(writer, "memory"),
+    }
+}
+
+fn print_header<W: Write>(alloc: Global, named: &NamedPlan, writer: &mut W) -> Exit
+    ensures status { result ≢ Exit.Refused }
+    ensures header { result ≡ Exit.Well → WritesHeader (W.contents writer.old) (W.contents writer.new) }
+{
+    match header_of(alloc, named) {
+        Ok(text) => print(writer, text.as_bytes()),
+        Err(AllocError) => fail(writer, "memory"),
+    }
+}
+
+fn replay_script<W: Write>(alloc: Global, named: &NamedPlan, script: &[u8], writer: &mut W) -> Exit
+    ensures status { result ≢ Exit.Refused }
+    ensures answered { result ≡ Exit.Well →
+        AnswersScript script.now (W.contents writer.old) (W.contents writer.new) }
+{
+    match answer_script(alloc, named, script) {
+        Ok(answered) => print_answers(writer, &answered),
+        Err(fault) => fail_to_read(writer, fault),
+    }
+}
+
+fn explore_script<W: Write>(
+    alloc: Global,
+    plan: &ProgrammedPlan,
+    script: &[u8],
+    writer: &mut W,
+) -> Exit
+    ensures status { result ≢ Exit.Refused }
+    ensures free { result ≡ Exit.Well →
+        FindsFree script.now (W.contents writer.old) (W.contents writer.new) }
+{
+    match start_of_script(alloc, &plan.named, script) {
+        Ok(Ok(opening)) => explore_from(alloc, plan, &opening, writer),
+        Ok(Err(fault)) => fail(writer, fault),
+        Err(fault) => fail_to_read(writer, fault),
+    }
+}
+
+fn explore_from<W: Write>(
+    alloc: Global,
+    plan: &ProgrammedPlan,
+    opening: &State,
+    writer: &mut W,
+) -> Exit
+    ensures status { result ≢ Exit.Refused }
+    ensures free { result ≡ Exit.Well → WritesFree plan.now.named plan.now.programs opening.now
+        (W.contents writer.old) (W.contents writer.new) }
+{
+    match is_large(
+        alloc,
+        plan.named.plan(),
+        &plan.programs,
+        opening,
+        MAX_SITUATIONS,
+    ) {
+        Ok(false) => print_screen(alloc, plan, opening, writer),
+        Ok(true) => fail(writer, "large"),
+        Err(AllocError) => fail(writer, "memory"),
+    }
+}
+
+fn print_screen<W: Write>(
+    alloc: Global,
+    plan: &ProgrammedPlan,
+    opening: &State,
+    writer: &mut W,
+) -> Exit
+    ensures status { result ≢ Exit.Refused }
+    ensures free { result ≡ Exit.Well → WritesFree plan.now.named plan.now.programs opening.now
+        (W.contents writer.old) (W.contents writer.new) }
+{
+    match screen_of(alloc, plan, opening) {
+        Ok(Screen::Free(text)) => print(writer, text.as_bytes()),
+        Ok(Screen::Standstill(text)) => print_standstill(writer, text.as_str()),
+        Err(AllocError) => fail(writer, "memory"),
+    }
+}
+
+/// Prints what was found of a standstill. That isn't well, whatever was written.
+fn print_standstill<W: Write>(writer: &mut W, text: &str) -> Exit
+    ensures { result ≡ Exit.Failed }
+{
+    let _ = print(writer, text.as_bytes());
+    Exit::Failed
+}
+
+/// Prints answers. Returns `Well` if they were written and no record was refused.
+fn print_answers<W: Write>(writer: &mut W, answered: &ScriptAnswers) -> Exit
+    ensures status { result ≢ Exit.Refused }
+    ensures clean { result ≡ Exit.Well → answered.now.outcome ≡ Outcome.Clean }
+    ensures written { result ≡ Exit.Well →
+        Appends (W.contents writer.old) (W.contents writer.new) answered.now.text }
+{
+    let printed = print(writer, answered.text().as_bytes());
+    match answered.outcome() {
+        Outcome::Clean => printed,
+        Outcome::Refused(_) => Exit::Failed,
+    }
+}
+
+/// Does what the words ask for, and returns the exit status: 0 on success, and for help; 1 for a refused plan or
+/// script, a standstill, a failed read or write, and if memory ran out; 2 for other words.
+pub fn serve<R: Read, W: Write>(alloc: Global, words: &[&str], reader: &mut R, writer: &mut W) -> u8
+    ensures status { result ≤ 2 }
+
+    // If they ask for help, status 0 says that help was printed, status 1 that a prefix was. For the version it says
+    // the same.
+    ensures help { request_of (texts_of words.now) ≡ Some Request.Help →
+        Prints result (W.contents writer.old) (W.contents writer.new) HELP.now }
+    ensures version { request_of (texts_of words.now) ≡ Some Request.Version →
+        Prints result (W.contents writer.old) (W.contents writer.new)
+        (version_line (codes "plan")) }
+
+    // With `replay`: status 0 says that each record of the script was answered, and that the answers were written.
+    ensures replay { request_of (texts_of words.now) ≡ Some Request.Replay → result ≡ 0 →
+        AnswersInput (R.remaining reader.old) (W.contents writer.old) (W.contents writer.new) }
+
+    // With `explore`: status 0 says that no order of turns of some plan's programs leads from the script's start to a
+    // standstill, and that this was written.
+    ensures explore { request_of (texts_of words.now) ≡ Some Request.Explore → result ≡ 0 →
+        FindsInputFree (R.remaining reader.old) (W.contents writer.old) (W.contents writer.new) }
+
+    // With `check` and with `header` it says that the report or the header of some plan was written.
+    ensures check { request_of (texts_of words.now) ≡ Some Request.Check → result ≡ 0 →
+        Reports (W.contents writer.old) (W.contents writer.new) }
+    ensures header { request_of (texts_of words.now) ≡ Some Request.Header → result ≡ 0 →
+        WritesHeader (W.contents writer.old) (W.contents writer.new) }
+
+    // Status 2 comes exactly for other words, of which a line was printed, or a prefix of it.
+    ensures refused { result ≡ 2 → request_of (texts_of words.now) ≡ None }
+    ensures other { request_of (texts_of words.now) ≡ None → result ≡ 2 }
+    ensures line { request_of (texts_of words.now) ≡ None →
+        WrotePrefix (W.contents writer.old) (W.contents writer.new) OTHER_WORDS.now }
+
+    // At most one byte more is read than a plan and a script may have.
+    ensures read { TakesAtMost (R.remaining reader.old) (R.remaining reader.new) max_bytes_read }
+{
+    match request::request_of(words) {
+        Some(Request::Check) => serve_input(alloc, Request::Check, reader, writer).status(),
+        Some(Request::Header) => serve_input(alloc, Request::Header, reader, writer).status(),
+        Some(Request::Replay) => serve_input(alloc, Request::Replay, reader, writer).status(),
+        Some(Request::Explore) => serve_input(alloc, Request::Explore, reader, writer).status(),
+        Some(Request::Help) => print(writer, HELP.as_bytes()).status(),
+        Some(Request::Version) => print_version(writer, "plan").status(),
+        None => refuse_words(writer, OTHER_WORDS).status(),
+    }
+}
+
+/// Runs the program with the words that it was started with, and returns the exit status.
+pub fn start<E: Env, R: Read, W: Write>(
+    alloc: Global,
+    env: &E,
+    reader: &mut R,
+    writer: &mut W,
+) -> u8
+    ensures status { result ≤ 2 }
+    ensures read { TakesAtMost (R.remaining reader.old) (R.remaining reader.new) max_bytes_read }
+{
+    with_texts!(
+        alloc,
+        env,
+        writer,
+        Exit::status,
+        |texts| serve(alloc, texts, reader, writer)
+    )
+}

@@ -1,7 +1,0 @@
-use Rattle.std.proofs.Common.{◌≡◌, ◌++◌, string_bytes, flat_map, take}
-use Rattle.plan_command.specs.Screens as spec
-use Rattle.plan_command.proofs.explore.push_waiting.Given as goal
-
-abbrev pub invariant-events : goal.invariant-events
-invariant-events l =
-    string_bytes l.text ≡ string_bytes l.initial.text ++ flat_map (spec.wait_line l.named) (take l.event-index l.waiting)

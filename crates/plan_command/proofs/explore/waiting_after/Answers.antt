@@ -1,5 +1,0 @@
-use Rattle.std.proofs.Common.{refl}
-use Rattle.plan_command.proofs.explore.waiting_after.Goals as goal
-
-pub returns : goal.returns
-returns c = rw (c.in_ok-walk.ensures.outlook, c.in_ok-walk.ensures.end, c.plan.ensures) refl

@@ -1,8 +1,0 @@
-use Rattle.std.proofs.Common.{◌≡◌, drop}
-use Rattle.plan_explorer.specs.Situations.{first_situation, after_turns}
-use Rattle.plan_command.proofs.going.end_of.Given as goal
-
-abbrev pub invariant-turners : goal.invariant-turners
-invariant-turners l =
-    after_turns l.plan.named.plan l.plan.programs l.at (drop l.turner-index l.turns)
-    ≡ after_turns l.plan.named.plan l.plan.programs (first_situation l.opening) l.turns

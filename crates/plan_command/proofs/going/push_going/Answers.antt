@@ -1,8 +1,0 @@
-use Rattle.plan_command.specs.Going as spec
-use Rattle.plan_command.proofs.Lines.{one_more}
-use Rattle.plan_command.proofs.going.push_going.Goals as goal
-
-pub machines-preserved : goal.machines-preserved
-machines-preserved c =
-    one_more (spec.machine_text c.args.plan.now.named c.args.plan.now.programs c.args.opening.now c.args.answers.now) _ _ _
-    c.machines.machine c.machines.invariant c.in_ok-push_machine.ensures

@@ -1,6 +1,0 @@
-use Rattle.plan_command.specs.Reports as spec
-use Rattle.plan_command.proofs.Lines.{one_more}
-use Rattle.plan_command.proofs.report.push_each.Goals as goal
-
-pub numbers-preserved : goal.numbers-preserved
-numbers-preserved c = one_more (spec.listed c.args.names.now) _ _ _ c.numbers.number c.numbers.invariant c.in_ok-push_listed.ensures

@@ -1,0 +1,9 @@
+pub mod Below
+pub mod Puts
+pub mod Zones
+pub mod DoneCalls
+pub mod Plates
+pub mod Ways
+pub mod Soundness
+pub mod Starts
+pub mod Lawful

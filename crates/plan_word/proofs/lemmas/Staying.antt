@@ -1,0 +1,111 @@
+-- A call on a state of a plan leaves a state of the plan.
+use Rattle.std.proofs.Common.{◌≡◌, ◌≢◌, ℕ, zero, suc, ◌<◌, ◌≤◌, inl, inr, Bool, true, false, get_or, set, replicate, Option, Some, None, refl, ap, ◌∙◌, arith, unwrap_or}
+use Rattle.std.proofs.lemmas.Bool.{cases_lt}
+use Rattle.std.proofs.lemmas.List.{get_or-set_other, get_or_past}
+use Rattle.plan_types.specs.declared.posture.Posture.{Posture}
+use Rattle.plan_types.specs.declared.call.Call.{Call}
+use Rattle.plan_types.specs.declared.call.Call.TheVariants.{Claim, Give, Yield, Take, Release, SetPose, Inquire, Stop, Resume}
+use Rattle.plan_types.specs.declared.answer.Answer.{Answer}
+use Rattle.plan_types.specs.declared.answer.Answer.TheVariants.{Done, Shown, Refused}
+use Rattle.plan_types.specs.Table.{PlanTable, zone_count, place_count, posture_of}
+use Rattle.plan_types.specs.Plan.{IsPlan}
+use Rattle.plan_rules.specs.declared.state.ZoneState.{ZoneState}
+use Rattle.plan_rules.specs.declared.state.State.{State}
+use Rattle.plan_rules.specs.State.{zone_at, is_full, posture_at, free_zone}
+use Rattle.plan_rules.specs.Sound.{IsStart}
+use Rattle.plan_rules.specs.Reply.{reply, next, next_by, changed, other_party, posed, all_posed, emptied, filled}
+use Rattle.plan_rules.proofs.lemmas.Puts.{zone_at-posed}
+use Rattle.plan_rules.proofs.lemmas.Zones.{gives_way}
+use Rattle.plan_rules.proofs.lemmas.DoneCalls.{claim_done, give_done, yield_done, take_done, release_done, pose_done}
+use Rattle.plan_rules.proofs.lemmas.Ways.{way_leads}
+use Rattle.plan_rules.proofs.lemmas.Soundness.{done_none, some_or_none, plate_comes, changed_keeps}
+use Rattle.plan_rules.proofs.lemmas.Starts.{start_is_sound}
+use Rattle.plan_word.specs.OfPlan.{IsOfPlan}
+
+abbrev NoMoreZones : PlanTable → State → Type 0
+NoMoreZones t s = (z : ℕ) → zone_count t ≤ z → zone_at s z ≡ free_zone
+
+abbrev NoMorePlates : PlanTable → State → Type 0
+NoMorePlates t s = (p : ℕ) → place_count t ≤ p → is_full s p ≡ false
+
+-- only a zone, or a place, of the plan is set
+zone_put : (t : PlanTable) (s : State) (y : ℕ) (v : ZoneState) → y < zone_count t → NoMoreZones t s → (z : ℕ) → zone_count t ≤ z → get_or (set s.zones y v) z free_zone ≡ free_zone
+zone_put t s y v l k z m = let ne : z ≢ y = omega arith in get_or-set_other s.zones y z v free_zone ne ∙ k z m
+
+place_put : (t : PlanTable) (s : State) (q : ℕ) (b : Bool) → q < place_count t → NoMorePlates t s → (p : ℕ) → place_count t ≤ p → get_or (set s.full q b) p false ≡ false
+place_put t s q b l k p m = let ne : p ≢ q = omega arith in get_or-set_other s.full q p b false ne ∙ k p m
+
+-- a pose gives no posture to a zone past the tables
+posed_kept : (t : PlanTable) (s : State) (m p z : ℕ) → IsPlan t → reply t s m (SetPose p) ≡ Done → zone_count t ≤ z → z < 10 → posed t s p z ≡ zone_at s z
+posed_kept t s m p z k e past ten =
+    let d = pose_done t s m p (done_none _ _ e) in
+    elim (some_or_none (posture_of t p z)) [
+      | inl none ↦ ap (λ (o : Option Posture). record (zone_at s z) { posture = unwrap_or o (posture_at s z) }) none
+      | inr q ↦ let host = k.pose_of_host p z q.0 d.there ten q.1 in let there = host.0 in absurd (omega arith)
+    ]
+
+pose_put : (t : PlanTable) (s : State) (m p : ℕ) → IsPlan t → reply t s m (SetPose p) ≡ Done → NoMoreZones t s → (z : ℕ) → zone_count t ≤ z → get_or (all_posed t s p) z free_zone ≡ free_zone
+pose_put t s m p k e none z past =
+    elim (cases_lt z 10) [
+      | inl ten ↦ zone_at-posed t s p z ten ∙ posed_kept t s m p z k e past ten ∙ none z past
+      | inr more ↦ get_or_past (all_posed t s p) z free_zone more
+    ]
+
+zones_changed : (t : PlanTable) (s : State) (m : ℕ) (c : Call) → IsPlan t → IsOfPlan t s → reply t s m c ≡ Done → NoMoreZones t (changed t s m c)
+zones_changed t s m (Claim y) p k e = zone_put t s y (record (zone_at s y) { owner = Some m }) (claim_done t s m y (done_none _ _ e)).caller.there k.no_more_zones
+zones_changed t s m (Give y) p k e = zone_put t s y (record (zone_at s y) { owner = Some (other_party t m y); flag = true }) (give_done t s m y (done_none _ _ e)).holder.caller.there k.no_more_zones
+zones_changed t s m (Yield y) p k e = zone_put t s y (record (zone_at s y) { owner = Some (other_party t m y) }) (yield_done t s m y (done_none _ _ e)).holder.caller.there k.no_more_zones
+zones_changed t s m (Take y) p k e = zone_put t s y (record (zone_at s y) { flag = false }) (take_done t s m y (done_none _ _ e)).holder.caller.there k.no_more_zones
+zones_changed t s m (Release y) p k e = zone_put t s y (record (zone_at s y) { owner = None }) (release_done t s m y (done_none _ _ e)).holder.caller.there k.no_more_zones
+zones_changed t s m (SetPose q) p k e = pose_put t s m q p e k.no_more_zones
+zones_changed t s m (Inquire y) p k e = k.no_more_zones
+zones_changed t s m Stop p k e = k.no_more_zones
+zones_changed t s m Resume p k e = k.no_more_zones
+
+places_changed : (t : PlanTable) (s : State) (m : ℕ) (c : Call) → IsPlan t → IsOfPlan t s → reply t s m c ≡ Done → NoMorePlates t (changed t s m c)
+places_changed t s m (Claim y) p k e = k.no_more_plates
+places_changed t s m (Yield y) p k e = k.no_more_plates
+places_changed t s m (Release y) p k e = k.no_more_plates
+places_changed t s m (SetPose q) p k e = k.no_more_plates
+places_changed t s m (Inquire y) p k e = k.no_more_plates
+places_changed t s m Stop p k e = k.no_more_plates
+places_changed t s m Resume p k e = k.no_more_plates
+places_changed t s m (Give y) p k e =
+    let d = give_done t s m y (done_none _ _ e) in
+    let l = d.holder.caller.there in
+    let g = gives_way t m y (posture_at s y) d.way (p.host_is_not_guest y l) d.is in
+    let leads = way_leads t p y (posture_at s y) d.way l g.is in
+    λ q past. ap (λ o. get_or (emptied s.full o) q false) d.is ∙ place_put t s d.way.from false leads.from k.no_more_plates q past
+places_changed t s m (Take y) p k e =
+    let d = take_done t s m y (done_none _ _ e) in
+    let l = d.holder.caller.there in
+    let c = plate_comes t s y k.sound l d.plate in
+    let leads = way_leads t p y (posture_at s y) c.way l c.is in
+    λ q past. ap (λ o. get_or (filled s.full o) q false) c.is ∙ place_put t s c.way.to true leads.to k.no_more_plates q past
+
+changed_stays : (t : PlanTable) (s : State) (m : ℕ) (c : Call) → IsPlan t → IsOfPlan t s → reply t s m c ≡ Done → IsOfPlan t (changed t s m c)
+changed_stays t s m c p k e = record {
+  sound = changed_keeps t s m c p k.sound e;
+  no_more_zones = zones_changed t s m c p k e;
+  no_more_plates = places_changed t s m c p k e;
+}
+
+stays_by : (a : Answer) (t : PlanTable) (s : State) (m : ℕ) (c : Call) → IsOfPlan t s → (a ≡ Done → IsOfPlan t (changed t s m c)) → IsOfPlan t (next_by a t s m c)
+stays_by Done t s m c h k = k refl
+stays_by (Refused r) t s m c h k = h
+stays_by (Shown o f q) t s m c h k = h
+
+pub next_stays : (t : PlanTable) (s : State) (m : ℕ) (c : Call) → IsPlan t → IsOfPlan t s → IsOfPlan t (next t s m c)
+next_stays t s m c p h = stays_by (reply t s m c) t s m c h (changed_stays t s m c p h)
+
+all_free : (n z : ℕ) → get_or (replicate n free_zone) z free_zone ≡ free_zone
+all_free zero z = refl
+all_free (suc n) zero = refl
+all_free (suc n) (suc z) = all_free n z
+
+pub start_stays : (t : PlanTable) (s : State) → IsPlan t → IsStart s → NoMorePlates t s → IsOfPlan t s
+start_stays t s p k few = record {
+  sound = start_is_sound t s p k;
+  no_more_zones = λ z past. ap (λ (x : State). zone_at x z) k.same ∙ all_free 10 z;
+  no_more_plates = few;
+}

@@ -1,0 +1,4 @@
+pub mod Prefixes
+pub mod Exits
+pub mod Serving
+pub mod Versions

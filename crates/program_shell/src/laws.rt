@@ -1,0 +1,8 @@
+//! Laws of programs' shells, each the contract of a function that does nothing.
+
+ghost use Rattle.program_shell.specs.ShellExamples.{ShellIsMet};
+
+/// Examples: the exit statuses, a fault's line, and which words ask for the version, and for help.
+pub fn shell_is_met()
+    ensures { ShellIsMet }
+{}

@@ -1,0 +1,94 @@
+//! Which words the program was started with.
+
+use super::reports::{EMPTY, PRESS, PRESS_REPORT, SIX_WORKERS};
+use super::served::{SCRIPT, TEXT};
+use cell_app::start::start;
+use program_shell::words_of;
+use std::alloc::Global;
+use std::sync::Wait;
+use std::thread::Threads;
+use test_doubles::Given;
+
+/// Arguments, and the words that they are. The first argument is the program's own name; whichever
+/// it is, the word is `cell`.
+const WORDS: &[(&[&[u8]], &[&str])] = &[
+    (&[b"./cell", b"sim"], &["cell", "sim"]),
+    (&[b"bad\xff", b"sim"], &["cell", "sim"]),
+    (&[b"", b"sim"], &["cell", "sim"]),
+    (&[b"replay", b"sim"], &["cell", "sim"]),
+    (&[b"\xff"], &["cell"]),
+    (&[], &["cell"]),
+    (&[b"cell", b"", b"\xc3\xa9"], &["cell", "", "\u{e9}"]),
+];
+
+/// Whether words are these.
+fn are_words(words: &[String], wanted: &[&str]) -> bool {
+    if words.len() != wanted.len() {
+        return false;
+    }
+    for at in 0..wanted.len() {
+        if words[at].as_str() != wanted[at] {
+            return false;
+        }
+    }
+    true
+}
+
+/// Whether arguments are read as these words.
+fn is_read_as(alloc: Global, arguments: &[&[u8]], wanted: &[&str]) -> bool {
+    match words_of(alloc, &Given { arguments }) {
+        Ok(words) => are_words(words.as_slice(), wanted),
+        Err(_) => false,
+    }
+}
+
+#[test]
+fn reads_the_words_after_the_name(rt: HostRuntime) {
+    for (arguments, wanted) in WORDS {
+        assert!(rt; is_read_as(rt.alloc(), arguments, wanted), "{wanted:?}");
+    }
+}
+
+/// Whether the program, started with these arguments, answers the input with this status and text.
+fn is_started<T: Threads + Wait + Sync>(
+    rt: &T,
+    alloc: Global,
+    arguments: &[&[u8]],
+    input: &str,
+    status: u8,
+    text: &str,
+) -> bool {
+    let mut written = Vec::new(alloc);
+    let env = Given { arguments };
+    let answered = start(rt, alloc, &env, &mut input.as_bytes(), &mut written);
+    answered == status && written.as_slice() == text.as_bytes()
+}
+
+// Arguments, an input, the status and the text.
+const STARTED: &[(&[&[u8]], &str, u8, &str)] = &[
+    (&[b"bad\xff"], SCRIPT, 0, TEXT),
+    (&[b"cell", b"replay"], SCRIPT, 0, TEXT),
+    (&[b"bad\xff", b"sim"], PRESS, 0, PRESS_REPORT),
+    (
+        &[b"", b"run", b"--turns", b"3", b"--tries", b"64"],
+        EMPTY,
+        0,
+        SIX_WORKERS,
+    ),
+    (
+        &[b"cell", b"\xff"],
+        SCRIPT,
+        2,
+        "error: a word isn't UTF-8\n",
+    ),
+];
+
+#[test]
+fn starts(rt: HostRuntime) {
+    for (arguments, input, status, text) in STARTED {
+        assert!(rt;
+            is_started(&rt, rt.alloc(), arguments, input, *status, text),
+            "{arguments:?}"
+        );
+    }
+}

@@ -1,0 +1,253 @@
+//! Words of the program, exit statuses, fault lines and help.
+
+use super::doubles::{is_served, run};
+use cell_words::{Mode, read_words};
+use program_shell::{Exit, VERSION, refuse_bytes};
+use std::alloc::Global;
+use std::sync::Wait;
+use std::test::Fail;
+use std::thread::Threads;
+
+pub const SCRIPT: &str =
+    "start,0000000000\npress,claim,z3\nrobot,claim,z3\npress,release,z3\nrobot,claim,z3\nwatch,inquire,z3\n";
+
+pub const TEXT: &str =
+    "0 0 start 0\n1 1 done\n2 1 held press\n3 2 done\n4 2 shut closed\n5 2 zone free 0 closed\n";
+
+// Words, an input, the status and the text.
+const SERVED: &[(&[&str], &str, u8, &str)] = &[
+    (&["cell"], SCRIPT, 0, TEXT),
+    (&["cell", "replay"], SCRIPT, 0, TEXT),
+    (&["cell", "--"], SCRIPT, 0, TEXT),
+    (&["cell"], "", 1, "fault nostart\n"),
+    (&["cell", "replay"], "start,1\n", 1, "fault badstart\n"),
+    (
+        &["cell"],
+        "start2,0000000000\nwatch,stop\n",
+        0,
+        "0 0 start2 0\n1 1 done\n",
+    ),
+];
+
+#[test]
+fn serves(rt: HostRuntime) {
+    for (words, input, status, text) in SERVED {
+        assert!(rt;
+            is_served(&rt, rt.alloc(), words, input, *status, text),
+            "{text}"
+        );
+    }
+}
+
+/// Whether words that ask for no mode are answered with this status and some text, and the script
+/// isn't read. For status 2, and only then, the text says that it is an error.
+fn is_told<T: Threads + Wait + Sync>(rt: &T, alloc: Global, words: &[&str], status: u8) -> bool {
+    let mut script = SCRIPT.as_bytes();
+    let mut written = Vec::new(alloc);
+    let answered = run(rt, alloc, words, &mut script, &mut written);
+    let is_error = written.as_slice().starts_with(b"error: ");
+    let is_other = !written.is_empty() && is_error == (status == 2);
+    answered == status && is_other && script.len() == SCRIPT.len()
+}
+
+const OTHERS: &[(&[&str], u8)] = &[
+    (&["cell", "--help"], 0),
+    (&["cell", "replay", "--help"], 0),
+    (&["cell", "sim", "--help"], 0),
+    (&["cell", "-h"], 0),
+    (&["cell", "help"], 0),
+    (&["cell", "--help", "go", "--version"], 0),
+    (&["cell", "run", "--turns", "3", "--help"], 0),
+    (&["cell", "go", "--help"], 2),
+    (&["cell", "sim", "run", "--help"], 2),
+    (&["cell", "--version", "--help"], 2),
+    (&["cell", "--version"], 0),
+    (&["cell", "-V"], 2),
+    (&["cell", "version"], 2),
+    (&["cell", "--version", "sim"], 2),
+    (&["cell", "sim", "--version"], 2),
+    (&["cell", "go"], 2),
+    (&["cell", "sim", "sim"], 2),
+    (&["cell", "run", "run"], 2),
+    (&["cell", "run", "--help"], 0),
+    (&["cell", "run", "--turns"], 2),
+    (&["cell", "run", "--turns", "0"], 2),
+    (&["cell", "run", "--turns", "100001"], 2),
+    (&["cell", "run", "--turns", "x"], 2),
+    (&["cell", "run", "--turns", "-1"], 2),
+    (&["cell", "run", "--turns="], 2),
+    (&["cell", "run", "--turns", "3", "4"], 2),
+    (&["cell", "run", "--turns", "3", "--turns", "3"], 2),
+    (&["cell", "run", "--tries"], 2),
+    (&["cell", "run", "--tries", "0"], 2),
+    (&["cell", "run", "--tries", "65"], 2),
+    (&["cell", "run", "--tries", "18446744073709551617"], 2),
+    (&["cell", "run", "--tries", "1.0"], 2),
+    (&["cell", "run", "--tries=3", "--tries=3"], 2),
+    (&["cell", "run", "-t", "3"], 2),
+    (&["cell", "sim", "--turns", "3"], 2),
+    (&["cell", "--turns", "3", "run"], 2),
+    (&["cell", "replay", "replay"], 2),
+    (&["cell", "--turns", "3"], 2),
+];
+
+#[test]
+fn serves_other_words(rt: HostRuntime) {
+    for (words, status) in OTHERS {
+        assert!(rt; is_told(&rt, rt.alloc(), words, *status), "{words:?}");
+    }
+}
+
+const RUN_BY_DEFAULT: Option<Mode> = Some(Mode::Run {
+    turns: 1000,
+    tries: 8,
+});
+
+const RUN_3_64: Option<Mode> = Some(Mode::Run {
+    turns: 3,
+    tries: 64,
+});
+
+const RUN_LONGEST: Option<Mode> = Some(Mode::Run {
+    turns: 100_000,
+    tries: 8,
+});
+
+const RUN_ONE_TRY: Option<Mode> = Some(Mode::Run {
+    turns: 1000,
+    tries: 1,
+});
+
+// Words, and what they ask for, if anything.
+const MODES: &[(&[&str], Option<Mode>)] = &[
+    (&["cell"], Some(Mode::Replay)),
+    (&["cell", "replay"], Some(Mode::Replay)),
+    (&["cell", "sim"], Some(Mode::Sim)),
+    (&["cell", "run"], RUN_BY_DEFAULT),
+    (&["cell", "run", "--turns", "3", "--tries", "64"], RUN_3_64),
+    (&["cell", "run", "--tries=64", "--turns=3"], RUN_3_64),
+    (
+        &["cell", "run", "--turns", "+0003", "--tries", "064"],
+        RUN_3_64,
+    ),
+    (&["cell", "run", "--turns", "100000"], RUN_LONGEST),
+    (&["cell", "run", "--tries", "1"], RUN_ONE_TRY),
+    (&["cell", "simulate"], None),
+    (&["cell", "run", "3"], None),
+    (&["cell", "Replay"], None),
+    (&["cell", "--version"], None),
+    (&["cell", ""], None),
+];
+
+/// What these words ask for, if anything.
+fn mode_of(alloc: Global, words: &[&str]) -> Option<Mode> {
+    read_words(alloc, words).ok()
+}
+
+#[test]
+fn reads_words(rt: HostRuntime) {
+    for (words, mode) in MODES {
+        assert!(rt; mode_of(rt.alloc(), words) == *mode, "{words:?}");
+    }
+}
+
+/// Whether a text has these parts, in this order.
+fn has_in_order(text: &str, parts: &[&str]) -> bool {
+    let mut rest = text;
+    for part in parts {
+        match rest.split_once(*part) {
+            Some((_, after)) => rest = after,
+            None => return false,
+        }
+    }
+    true
+}
+
+/// Whether the help that these words ask for has these parts, in this order.
+fn is_helped<T: Threads + Wait + Sync>(
+    rt: &T,
+    alloc: Global,
+    words: &[&str],
+    parts: &[&str],
+) -> bool {
+    let mut written = Vec::new(alloc);
+    let status = run(rt, alloc, words, &mut "".as_bytes(), &mut written);
+    match str::from_utf8(written.as_slice()) {
+        Ok(text) => status == 0 && has_in_order(text, parts),
+        Err(_) => false,
+    }
+}
+
+const OF_THE_WHOLE: &[&str] = &[
+    "Usage: cell [COMMAND]",
+    "replay",
+    "sim",
+    "run",
+    "docs/FORMATS.md",
+    "`explain`",
+    "cell replay < examples/interior.csv",
+    "cell sim < examples/press.toml",
+    "cell run --turns 3 --tries 64 < examples/six_workers.toml",
+];
+
+const OF_REPLAY: &[&str] = &[
+    "Usage: cell replay",
+    "Reads a script",
+    "Writes a line for each record",
+    "`explain replay < FILE`",
+    "docs/FORMATS.md",
+    "cell replay < examples/interior.csv",
+];
+
+const OF_SIM: &[&str] = &[
+    "Usage: cell sim",
+    "Reads a configuration",
+    "Writes a report",
+    "`explain sim < FILE`",
+    "docs/FORMATS.md",
+    "cell sim < examples/press.toml",
+];
+
+const OF_RUN: &[&str] = &[
+    "Usage: cell run [OPTIONS]",
+    "--turns <N>",
+    "[default: 1000]",
+    "--tries <N>",
+    "[default: 8]",
+    "Reads a configuration",
+    "Writes a",
+    "docs/FORMATS.md",
+    "cell run --turns 3 --tries 64 < examples/six_workers.toml",
+];
+
+// Words that ask for help, and what it has.
+const HELPS: &[(&[&str], &[&str])] = &[
+    (&["cell", "--help"], OF_THE_WHOLE),
+    (&["cell", "-h"], OF_THE_WHOLE),
+    (&["cell", "replay", "--help"], OF_REPLAY),
+    (&["cell", "sim", "--help"], OF_SIM),
+    (&["cell", "run", "--help"], OF_RUN),
+];
+
+// Help says what is read, what is written, what explains a refusal, where the formats are described, and an example.
+#[test]
+fn helps(rt: HostRuntime) {
+    for (words, parts) in HELPS {
+        assert!(rt; is_helped(&rt, rt.alloc(), words, parts), "{words:?}");
+    }
+}
+
+#[test]
+fn prints_its_version(rt: HostRuntime) -> Result<(), Fail> {
+    let wanted = format!(in rt.alloc(); "cell {VERSION}\n")?;
+    let words = ["cell", "--version"];
+    assert!(rt; is_served(&rt, rt.alloc(), &words, SCRIPT, 0, &wanted));
+    Ok(())
+}
+
+#[test]
+fn refuses_words_that_are_no_text(rt: HostRuntime) {
+    let mut written = Vec::new(rt.alloc());
+    assert!(rt; refuse_bytes(&mut written) == Exit::Refused);
+    assert!(rt; written.as_slice() == b"error: a word isn't UTF-8\n".as_slice());
+}
