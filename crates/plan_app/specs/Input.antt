@@ -1,6 +1,6 @@
 -- A plan and a script after it.
 use Rattle.std.specs.Prelude.{ℕ, ◌+◌, ◌-◌, ◌==◌, ◌&&◌, ◌||◌, Bool, List, length, drop, get_or, codes, min}
-use Rattle.std.specs.Prelude.{Option, unwrap_or}
+use Rattle.std.specs.Prelude.{Option, take, unwrap_or}
 use Rattle.std.specs.List.{starts_with}
 use Rattle.std.specs.Bool.{then_some}
 use Rattle.std.specs.Prelude.{nat_eq}
@@ -25,6 +25,9 @@ begin_at bytes at = then_some (is_begin bytes at) at
 -- how many bytes the plan has: those before the script, or all
 abbrev pub plan_length : List ℕ → ℕ
 plan_length bytes = min (unwrap_or (first_below (begin_at bytes) (length bytes)) (length bytes)) (length bytes)
+
+abbrev pub document_in : List ℕ → List ℕ
+document_in bytes = take (plan_length bytes) bytes
 
 abbrev pub script_in : List ℕ → List ℕ
 script_in bytes = drop (plan_length bytes) bytes

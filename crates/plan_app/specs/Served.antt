@@ -1,41 +1,67 @@
--- What the program has written. Each says it of some plan with names: here a clause can name the document's.
+-- What the program has written, by the plan of the document in its input.
 use Rattle.std.specs.Prelude.{◌≡◌, ℕ, List, Option, Ok, IfSome}
 use Rattle.std.specs.Io.KnownBytes.{Appends}
 use Rattle.plan_rules.specs.declared.state.State.{State}
 use Rattle.plan_explorer.specs.Programs.{PlanPrograms}
 use Rattle.plan_text.specs.Named.{Named}
+use Rattle.plan_document.specs.Reading.{IsPlanIn}
+use Rattle.plan_document.specs.declared.resolving.ProgrammedPlan.{ProgrammedPlan}
 use Rattle.csv_rows.specs.declared.script_end.Outcome.TheVariants.{Clean}
 use Rattle.plan_replay.specs.Script.{script_answers, script_start}
 use Rattle.plan_app.specs.Headers.{header_text}
-use Rattle.plan_app.specs.Input.{script_in}
+use Rattle.plan_app.specs.Input.{document_in, script_in}
 use Rattle.plan_app.specs.Reports.{report_text}
 use Rattle.plan_app.specs.Screens.{TellsFree}
 
--- by some plan with names each record of a script was answered, and the answers were written, and nothing else
-abbrev pub AnswersScript : List ℕ → Option (List ℕ) → Option (List ℕ) → Type 0
-AnswersScript script old new =
-    (n : Named) × ((script_answers n script).outcome ≡ Clean) × Appends old new (script_answers n script).text
+-- ---- by a plan
 
--- the script after a plan in the input was answered
-abbrev pub AnswersInput : Option (List ℕ) → Option (List ℕ) → Option (List ℕ) → Type 0
-AnswersInput input old new = IfSome input (λ bytes. AnswersScript (script_in bytes) old new)
+-- each record of a script was answered, and the answers were written, and nothing else
+abbrev pub AnswersScript : Named → List ℕ → Option (List ℕ) → Option (List ℕ) → Type 0
+AnswersScript n script old new =
+    ((script_answers n script).outcome ≡ Clean) × Appends old new (script_answers n script).text
 
--- of some plan with names the report was written, and nothing else; or the header
-abbrev pub Reports : Option (List ℕ) → Option (List ℕ) → Type 0
-Reports old new = (n : Named) × Appends old new (report_text n)
-
-abbrev pub WritesHeader : Option (List ℕ) → Option (List ℕ) → Type 0
-WritesHeader old new = (n : Named) × Appends old new (header_text n)
-
--- that no programs of some plan stand still, from a start, was written, and nothing else
+-- that no programs stand still, from a start, was written, and nothing else
 abbrev pub WritesFree : Named → PlanPrograms → State → Option (List ℕ) → Option (List ℕ) → Type 0
 WritesFree n ps opening old new = (text : List ℕ) × TellsFree n ps opening text × Appends old new text
 
 -- the start is the script's
-abbrev pub FindsFree : List ℕ → Option (List ℕ) → Option (List ℕ) → Type 0
-FindsFree script old new =
-    (n : Named) × (ps : PlanPrograms) × (opening : State) × (script_start n script ≡ Ok opening)
-    × WritesFree n ps opening old new
+abbrev pub FindsFree : ProgrammedPlan → List ℕ → Option (List ℕ) → Option (List ℕ) → Type 0
+FindsFree plan script old new =
+    (opening : State) × (script_start plan.named script ≡ Ok opening)
+    × WritesFree plan.named plan.programs opening old new
+
+-- ---- by the plan of the document in these bytes
+
+-- the script after it was answered
+abbrev pub AnswersIn : List ℕ → Option (List ℕ) → Option (List ℕ) → Type 0
+AnswersIn bytes old new =
+    (plan : ProgrammedPlan) × IsPlanIn (document_in bytes) plan × AnswersScript plan.named (script_in bytes) old new
+
+-- its programs were found free from the start of the script after it
+abbrev pub FindsFreeIn : List ℕ → Option (List ℕ) → Option (List ℕ) → Type 0
+FindsFreeIn bytes old new =
+    (plan : ProgrammedPlan) × IsPlanIn (document_in bytes) plan × FindsFree plan (script_in bytes) old new
+
+-- its report was written, and nothing else
+abbrev pub ReportsIn : List ℕ → Option (List ℕ) → Option (List ℕ) → Type 0
+ReportsIn bytes old new =
+    (plan : ProgrammedPlan) × IsPlanIn (document_in bytes) plan × Appends old new (report_text plan.named)
+
+-- or its header
+abbrev pub WritesHeaderIn : List ℕ → Option (List ℕ) → Option (List ℕ) → Type 0
+WritesHeaderIn bytes old new =
+    (plan : ProgrammedPlan) × IsPlanIn (document_in bytes) plan × Appends old new (header_text plan.named)
+
+-- ---- by the plan of the document in the input
+
+abbrev pub AnswersInput : Option (List ℕ) → Option (List ℕ) → Option (List ℕ) → Type 0
+AnswersInput input old new = IfSome input (λ bytes. AnswersIn bytes old new)
 
 abbrev pub FindsInputFree : Option (List ℕ) → Option (List ℕ) → Option (List ℕ) → Type 0
-FindsInputFree input old new = IfSome input (λ bytes. FindsFree (script_in bytes) old new)
+FindsInputFree input old new = IfSome input (λ bytes. FindsFreeIn bytes old new)
+
+abbrev pub Reports : Option (List ℕ) → Option (List ℕ) → Option (List ℕ) → Type 0
+Reports input old new = IfSome input (λ bytes. ReportsIn bytes old new)
+
+abbrev pub WritesHeader : Option (List ℕ) → Option (List ℕ) → Option (List ℕ) → Type 0
+WritesHeader input old new = IfSome input (λ bytes. WritesHeaderIn bytes old new)

@@ -6,9 +6,12 @@ ghost use Rattle.text_io.specs.Output.{WrotePrefix};
 ghost use Rattle.program_shell.specs.Printed.{Prints};
 ghost use Rattle.program_shell.specs.Versions.{version_line};
 ghost use Rattle.program_shell.specs.Words.{texts_of};
-ghost use Rattle.plan_app.specs.Input.{byte_limit, max_bytes_read, script_in};
-ghost use Rattle.plan_app.specs.Served.{AnswersInput, AnswersScript, FindsFree, FindsInputFree};
-ghost use Rattle.plan_app.specs.Served.{Reports, WritesFree, WritesHeader};
+ghost use Rattle.plan_app.specs.Headers.{header_text};
+ghost use Rattle.plan_app.specs.Input.{byte_limit, max_bytes_read};
+ghost use Rattle.plan_app.specs.Reports.{report_text};
+ghost use Rattle.plan_app.specs.Served.{AnswersIn, AnswersInput, AnswersScript, FindsFree};
+ghost use Rattle.plan_app.specs.Served.{FindsFreeIn, FindsInputFree, Reports, ReportsIn};
+ghost use Rattle.plan_app.specs.Served.{WritesFree, WritesHeader, WritesHeaderIn};
 ghost use Rattle.plan_app.specs.Requests.{request_of};
 
 use crate::explore::{Screen, screen_of};
@@ -79,13 +82,13 @@ fn serve_input<R: Read, W: Write>(
 ) -> Exit
     ensures status { result ≢ Exit.Refused }
     ensures reported { request ≡ Request.Check → result ≡ Exit.Well →
-        Reports (W.contents writer.old) (W.contents writer.new) }
+        Reports (R.remaining reader.old) (W.contents writer.old) (W.contents writer.new) }
     ensures answered { request ≡ Request.Replay → result ≡ Exit.Well →
         AnswersInput (R.remaining reader.old) (W.contents writer.old) (W.contents writer.new) }
     ensures free { request ≡ Request.Explore → result ≡ Exit.Well →
         FindsInputFree (R.remaining reader.old) (W.contents writer.old) (W.contents writer.new) }
     ensures header { request ≡ Request.Header → result ≡ Exit.Well →
-        WritesHeader (W.contents writer.old) (W.contents writer.new) }
+        WritesHeader (R.remaining reader.old) (W.contents writer.old) (W.contents writer.new) }
     ensures read { TakesAtMost (R.remaining reader.old) (R.remaining reader.new) max_bytes_read }
 {
     match read_input(alloc, reader) {
@@ -98,13 +101,13 @@ fn serve_bytes<W: Write>(alloc: Global, request: Request, bytes: &[u8], writer: 
     ensures status { result ≢ Exit.Refused }
     ensures short { result ≡ Exit.Well → length bytes.now ≤ byte_limit }
     ensures reported { request ≡ Request.Check → result ≡ Exit.Well →
-        Reports (W.contents writer.old) (W.contents writer.new) }
+        ReportsIn bytes.now (W.contents writer.old) (W.contents writer.new) }
     ensures answered { request ≡ Request.Replay → result ≡ Exit.Well →
-        AnswersScript (script_in bytes.now) (W.contents writer.old) (W.contents writer.new) }
+        AnswersIn bytes.now (W.contents writer.old) (W.contents writer.new) }
     ensures free { request ≡ Request.Explore → result ≡ Exit.Well →
-        FindsFree (script_in bytes.now) (W.contents writer.old) (W.contents writer.new) }
+        FindsFreeIn bytes.now (W.contents writer.old) (W.contents writer.new) }
     ensures header { request ≡ Request.Header → result ≡ Exit.Well →
-        WritesHeader (W.contents writer.old) (W.contents writer.new) }
+        WritesHeaderIn bytes.now (W.contents writer.old) (W.contents writer.new) }
 {
     if bytes.len() > MAX_BYTES {
         return fail(writer, "long");
@@ -126,13 +129,13 @@ fn serve_plan<W: Write>(
 ) -> Exit
     ensures status { result ≢ Exit.Refused }
     ensures reported { request ≡ Request.Check → result ≡ Exit.Well →
-        Reports (W.contents writer.old) (W.contents writer.new) }
+        Appends (W.contents writer.old) (W.contents writer.new) (report_text plan.named) }
     ensures answered { request ≡ Request.Replay → result ≡ Exit.Well →
-        AnswersScript script.now (W.contents writer.old) (W.contents writer.new) }
+        AnswersScript plan.named script.now (W.contents writer.old) (W.contents writer.new) }
     ensures free { request ≡ Request.Explore → result ≡ Exit.Well →
-        FindsFree script.now (W.contents writer.old) (W.contents writer.new) }
+        FindsFree plan script.now (W.contents writer.old) (W.contents writer.new) }
     ensures header { request ≡ Request.Header → result ≡ Exit.Well →
-        WritesHeader (W.contents writer.old) (W.contents writer.new) }
+        Appends (W.contents writer.old) (W.contents writer.new) (header_text plan.named) }
 {
     match request {
         Request::Header => print_header(alloc, &plan.named, writer),
@@ -144,7 +147,8 @@ fn serve_plan<W: Write>(
 
 fn print_report<W: Write>(alloc: Global, named: &NamedPlan, writer: &mut W) -> Exit
     ensures status { result ≢ Exit.Refused }
-    ensures reported { result ≡ Exit.Well → Reports (W.contents writer.old) (W.contents writer.new) }
+    ensures reported { result ≡ Exit.Well →
+        Appends (W.contents writer.old) (W.contents writer.new) (report_text named.now) }
 {
     match report_of(alloc, named) {
         Ok(text) => print(writer, text.as_bytes()),
@@ -154,7 +158,8 @@ fn print_report<W: Write>(alloc: Global, named: &NamedPlan, writer: &mut W) -> E
 
 fn print_header<W: Write>(alloc: Global, named: &NamedPlan, writer: &mut W) -> Exit
     ensures status { result ≢ Exit.Refused }
-    ensures header { result ≡ Exit.Well → WritesHeader (W.contents writer.old) (W.contents writer.new) }
+    ensures header { result ≡ Exit.Well →
+        Appends (W.contents writer.old) (W.contents writer.new) (header_text named.now) }
 {
     match header_of(alloc, named) {
         Ok(text) => print(writer, text.as_bytes()),
@@ -165,7 +170,7 @@ fn print_header<W: Write>(alloc: Global, named: &NamedPlan, writer: &mut W) -> E
 fn replay_script<W: Write>(alloc: Global, named: &NamedPlan, script: &[u8], writer: &mut W) -> Exit
     ensures status { result ≢ Exit.Refused }
     ensures answered { result ≡ Exit.Well →
-        AnswersScript script.now (W.contents writer.old) (W.contents writer.new) }
+        AnswersScript named.now script.now (W.contents writer.old) (W.contents writer.new) }
 {
     match answer_script(alloc, named, script) {
         Ok(answered) => print_answers(writer, &answered),
@@ -181,7 +186,7 @@ fn explore_script<W: Write>(
 ) -> Exit
     ensures status { result ≢ Exit.Refused }
     ensures free { result ≡ Exit.Well →
-        FindsFree script.now (W.contents writer.old) (W.contents writer.new) }
+        FindsFree plan.now script.now (W.contents writer.old) (W.contents writer.new) }
 {
     match start_of_script(alloc, &plan.named, script) {
         Ok(Ok(opening)) => explore_from(alloc, plan, &opening, writer),
@@ -265,20 +270,21 @@ pub fn serve<R: Read, W: Write>(alloc: Global, words: &[&str], reader: &mut R, w
         Prints result (W.contents writer.old) (W.contents writer.new)
         (version_line (codes "plan")) }
 
-    // With `replay`: status 0 says that each record of the script was answered, and that the answers were written.
+    // With `replay`: status 0 says that each record of the script was answered by the plan of the document in the
+    // input, and that the answers were written.
     ensures replay { request_of (texts_of words.now) ≡ Some Request.Replay → result ≡ 0 →
         AnswersInput (R.remaining reader.old) (W.contents writer.old) (W.contents writer.new) }
 
-    // With `explore`: status 0 says that no order of turns of some plan's programs leads from the script's start to a
+    // With `explore`: status 0 says that no order of turns of this plan's programs leads from the script's start to a
     // standstill, and that this was written.
     ensures explore { request_of (texts_of words.now) ≡ Some Request.Explore → result ≡ 0 →
         FindsInputFree (R.remaining reader.old) (W.contents writer.old) (W.contents writer.new) }
 
-    // With `check` and with `header` it says that the report or the header of some plan was written.
+    // With `check` and with `header` it says that the report or the header of this plan was written.
     ensures check { request_of (texts_of words.now) ≡ Some Request.Check → result ≡ 0 →
-        Reports (W.contents writer.old) (W.contents writer.new) }
+        Reports (R.remaining reader.old) (W.contents writer.old) (W.contents writer.new) }
     ensures header { request_of (texts_of words.now) ≡ Some Request.Header → result ≡ 0 →
-        WritesHeader (W.contents writer.old) (W.contents writer.new) }
+        WritesHeader (R.remaining reader.old) (W.contents writer.old) (W.contents writer.new) }
 
     // Status 2 comes exactly for other words, of which a line was printed, or a prefix of it.
     ensures refused { result ≡ 2 → request_of (texts_of words.now) ≡ None }
