@@ -73,7 +73,8 @@ fn word_step_by_step() {
     word.store(0, SeqCst);
     let is_done = word.compare_exchange(old, old | press, SeqCst, SeqCst).is_ok();
     let is_right = word.into_inner() == press;
-    println!("a word without stamp: the exchange {}, and the word is {}", told(is_done), if is_right { "right" } else { "wrong" });
+    let word = if is_right { "right" } else { "wrong" };
+    println!("a word without stamp: the exchange {}, and the word is {word}", told(is_done));
 }
 
 /// One caller looks at cell 0 and at cell 1 below it. The other takes both, and puts cell 0 back.

@@ -159,7 +159,8 @@ fn main() {
     println!("exchange {}", made_meanwhile(None));
     println!("lock     {}", made_meanwhile(Some(&lock)));
     println!("two flags        both in    of");
-    for (name, raise, look) in [("Relaxed", Relaxed, Relaxed), ("Release, Acquire", Release, Acquire), ("SeqCst", SeqCst, SeqCst)] {
+    let acquire = ("Release, Acquire", Release, Acquire);
+    for (name, raise, look) in [("Relaxed", Relaxed, Relaxed), acquire, ("SeqCst", SeqCst, SeqCst)] {
         let (both, rounds) = both_in(raise, look);
         println!("{name:<16} {both:>7} {rounds:>7}");
     }
