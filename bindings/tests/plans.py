@@ -9,7 +9,7 @@ from compare import table, text_of, value
 
 NUMBERS = "crates/plan_c/specs/Numbers.antt"
 REPLIES = "crates/plan_c/specs/Replies.antt"
-EXAMPLES = "crates/plan_bytes/specs/Examples.antt"
+EXAMPLES = "crates/plan_types/specs/ByteExamples.antt"
 STAMPS = "crates/plan_rules/specs/State.antt"
 WATCH = "crates/plan_types/specs/Table.antt"
 STRUCT = "crates/plan_c/src/reply.rt"
@@ -18,7 +18,7 @@ TESTS = "crates/plan_c/src/tests.rt"
 HEADER = "bindings/bagunjoki_plan.h"
 BUSY = 66
 TYPES = compare.TYPES | {"bagunjoki_plan_reply": "Reply"}
-# The plans that programs here carry, by the examples of plan_bytes.
+# The plans that programs here carry, by the byte examples of plan_types.
 PLANS = [("press", "bindings/examples/plan_press.c")]
 PLANS += [("lift", f"bindings/tests/plan_{it}.c") for it in ("walk", "memory")]
 PLANS += [("press", "bindings/tests/settle.c")]

@@ -7,7 +7,7 @@ use Rattle.cell_rules.specs.declared.heard.Heard.{Heard}
 use Rattle.cell_control.specs.declared.fault.CtlFault.{CtlFault}
 use Rattle.cell_control.specs.Steps.{Steps, GoesOn, IsReached}
 use Rattle.cell_control.specs.Turns.{Turns, answered}
-use Rattle.cell_control.specs.declared.told.Told.{Told}
+use Rattle.cell_control.specs.declared.commands.Commands.{Commands}
 
 -- a program, the progress in it, what has stopped it, and the line on which it asks
 pub record Wiring (P S L : Type 0) : Type 0 where
@@ -47,7 +47,7 @@ pub record IsUnwired {S Sense Reading Act : Type 0} (t : Steps S Sense Reading A
 
 -- a turn is the controller's turn on its line
 abbrev pub TurnsWired : {P S Sense Reading Act L : Type 0} → Steps S Sense Reading Act
-    → (L → Call → Result Reply LineFault → L → Type 0) → (L → Heard) → Wiring P S L → Sense → Told Act → Wiring P S L
+    → (L → Call → Result Reply LineFault → L → Type 0) → (L → Heard) → Wiring P S L → Sense → Commands Act → Wiring P S L
     → Type 0
 TurnsWired t asks heard w s told w' =
     Turns t (w'.line ≡ w.line) (λ c r. asks w.line c r w'.line × (heard w'.line ≡ heard_after (heard w.line) c r))

@@ -6,11 +6,11 @@ ghost use Rattle.cell_control.specs.Controllers.{program_in, rest_in, step_in, s
 ghost use Rattle.cell_control.specs.Steps.{GoesOn, IsReached, step_after_reply};
 ghost use Rattle.cell_control.specs.Turns.{Performs, Reads, HearsOnce};
 
+use crate::commands::Commands;
 use crate::fault::CtlFault;
 use crate::part::{Sensors, Values};
 use crate::program::Program;
 use crate::row::Row;
-use crate::told::Told;
 use cell_rules::{Answered, Line, State};
 use cell_types::{Answer, Call, Refusal, Reply};
 
@@ -116,13 +116,13 @@ impl<P: Program> Controller<P> {
         match performed {
             Ok((progress, act)) => {
                 self.progress = progress;
-                TakenTurn::new(asked, Told::well(act))
+                TakenTurn::new(asked, Commands::well(act))
             }
             Err(fault) => {
                 if self.stopped.is_none() {
                     self.stopped = Some(fault);
                 }
-                TakenTurn::new(asked, Told::after(fault, self.rest()))
+                TakenTurn::new(asked, Commands::after(fault, self.rest()))
             }
         }
     }
@@ -134,11 +134,11 @@ pub struct TakenTurn<A: Copy> {
     /// The call that was asked, and what came back. `None` if nothing was asked.
     pub asked: Option<(Call, Answered)>,
     /// What the actuators are told, and the fault, if there is one.
-    pub told: Told<A>,
+    pub told: Commands<A>,
 }
 
 impl<A: Copy> TakenTurn<A> {
-    fn new(asked: Option<(Call, Answered)>, told: Told<A>) -> TakenTurn<A>
+    fn new(asked: Option<(Call, Answered)>, told: Commands<A>) -> TakenTurn<A>
         ensures { result ≡ record { asked = asked; told = told } }
     {
         TakenTurn { asked, told }

@@ -2,21 +2,21 @@
 //! program, step by step; and the controller at the end of its line.
 #![tactic(auto)]
 
+pub mod commands;
 pub mod controller;
 pub mod fault;
 pub mod laws;
 pub mod part;
 pub mod program;
 pub mod row;
-pub mod told;
 pub mod unwired;
 pub mod wired;
 
+pub use commands::Commands;
 pub use controller::{Controller, TakenTurn};
 pub use fault::CtlFault;
 pub use part::{Part, PartSensors, Sensors, Values};
 pub use program::Program;
 pub use row::{Row, Waits};
-pub use told::Told;
 pub use unwired::Unwired;
 pub use wired::Wired;

@@ -5,11 +5,11 @@ ghost use Rattle.cell_rules.specs.Seen.{Waits};
 ghost use Rattle.cell_control.specs.Controllers.{HasReached, program_in, step_in, stopped_in};
 ghost use Rattle.cell_control.specs.Wiring.{GoesOnWired, TurnsWired};
 
+use crate::commands::Commands;
 use crate::controller::Controller;
 use crate::fault::CtlFault;
 use crate::part::Values;
 use crate::program::Program;
-use crate::told::Told;
 use crate::unwired::Unwired;
 use cell_rules::{Line, State, Survey};
 use std::marker::Model;
@@ -69,7 +69,7 @@ impl<P: Program, L: Line> Wired<P, L> {
     /// asks the line once or drives. Answers what the actuators are told, also after a fault.
     ///
     /// After any fault the machine has stopped: its motors are off, and in each later turn too.
-    pub fn turn(&mut self, sense: &P::Sense) -> Told<P::Act>
+    pub fn turn(&mut self, sense: &P::Sense) -> Commands<P::Act>
         ensures row { TurnsWired (P.steps self.old.program) L.asks L.heard
             self.old sense.now result self.new }
         ensures rest { result.fault ≢ None
@@ -87,11 +87,11 @@ impl<P: Program, L: Line> Wired<P, L> {
 
     /// What the actuators are told while nothing is known of the sensors: motors and belts are off,
     /// and magnets stay as the program has noted them.
-    pub fn at_rest(&self) -> Told<P::Act>
+    pub fn at_rest(&self) -> Commands<P::Act>
         ensures act { result.act ≡ (P.steps self.now.program).rest self.now.progress }
         ensures no_fault { result.fault ≡ None }
     {
-        Told::well(self.controller.rest())
+        Commands::well(self.controller.rest())
     }
 
     /// What has stopped the machine; `None` while it runs.

@@ -2,7 +2,7 @@
 
 use cell_rules::State;
 use cell_types::{Answer, Call, Event, Machine};
-use cell_word::{pack, stamp_of, step_sound, unpack};
+use cell_word::{pack, stamp_of, step_state_word, unpack};
 use word_interlock::Rules;
 
 /// The rules of the cell: calls are answered as `cell_rules` answers them, on the words of
@@ -27,7 +27,7 @@ impl Rules for CellRules {
     ghost book = { λ _. cell_book };
 
     fn step(&self, word: u64, machine: Machine, call: Call) -> (Answer, u64) {
-        step_sound(word, machine, call)
+        step_state_word(word, machine, call)
     }
 
     fn is_done(&self, answer: Answer) -> bool {

@@ -4,4 +4,6 @@
 #[cfg(test)]
 mod bounds;
 #[cfg(test)]
+mod rounds;
+#[cfg(test)]
 mod starving;

@@ -9,7 +9,7 @@ use cell_robot::{RobotCtl, RobotProgram};
 use cell_rules::{Bench, Line, State};
 use cell_sensors::{
     Calibration, CraneSense, DepositSense, FeedSense, Gauge, Points, PressSense, RobotSense,
-    SensorFault, TableSense, line_at,
+    SensorFault, TableSense, position_on_line,
 };
 use cell_table_press::{PressCtl, PressProgram, TableCtl, TableProgram};
 use cell_types::Machine;
@@ -130,10 +130,10 @@ fn crane_stops<F: Gauge>(alloc: Global, start: State, gauge: F, points: Points, 
 fn a_table_or_a_crane_whose_sensors_are_wrong_stops(rt: HostRuntime) {
     for row in ROWS {
         let points = Points::new(row.0, row.1, 0, 500, 5).expect(&rt, "points");
-        let gauge = move |raw: u16| line_at(&points, raw);
+        let gauge = move |raw: u16| position_on_line(&points, raw);
         let is_right = table_stops(rt.alloc(), start(&rt), gauge, points, row);
         assert!(rt; is_right, "{row:?}");
-        let gauge = move |raw: u16| line_at(&points, raw);
+        let gauge = move |raw: u16| position_on_line(&points, raw);
         let is_right = crane_stops(rt.alloc(), start(&rt), gauge, points, row);
         assert!(rt; is_right, "{row:?}");
     }
@@ -186,7 +186,7 @@ fn robot_stops<F: Gauge + Copy>(
 fn a_robot_whose_sensors_are_wrong_stops(rt: HostRuntime) {
     let points = Points::new(100, 4100, 0, 1000, 5).expect(&rt, "points");
     for (arm1, arm2, rotation, fault) in BROKEN {
-        let gauge = move |raw: u16| line_at(&points, raw);
+        let gauge = move |raw: u16| position_on_line(&points, raw);
         let broken = robot_shows(*arm1, *arm2, *rotation);
         let is_right = robot_stops(rt.alloc(), start(&rt), gauge, points, broken, *fault);
         assert!(rt; is_right, "{arm1} {arm2} {rotation}");

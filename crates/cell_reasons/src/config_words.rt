@@ -13,7 +13,7 @@ use cell_types::Machine;
 use std::alloc::{AllocError, Global};
 use std::str;
 use toml::Table;
-use toml_places::{OwnedStep, Place, Step, key_around, line_at, place_of, places_in};
+use toml_places::{OwnedStep, Place, Step, key_around, line_number, place_of, places_in};
 
 /// What the key `start` takes.
 const START_TAKES: &str = "start takes a text of ten digits; put quotes round them";
@@ -90,7 +90,7 @@ fn push_no_toml(
     write!(words, "line {line}: it is no TOML: {message}")?;
     let places = places_of(alloc, bytes)?;
     match key_around(places.as_slice(), before) {
-        Some(place) => push_value_around(words, place, line_at(bytes, place.start), line),
+        Some(place) => push_value_around(words, place, line_number(bytes, place.start), line),
         None => Ok(()),
     }
 }
@@ -99,9 +99,9 @@ fn push_no_toml(
 /// scripts.
 fn line_of_fault(bytes: &[u8], before: usize) -> usize {
     if str::from_utf8(bytes).is_ok() {
-        line_at(bytes, before)
+        line_number(bytes, before)
     } else {
-        records::line_at(bytes, before)
+        records::line_number(bytes, before)
     }
 }
 

@@ -76,11 +76,11 @@ fn line_after(script: &[u8], before: usize) -> usize {
     };
     let rest = script.get(before..).unwrap_or(&[]);
     let blank = rest.iter().take_while(|byte| is_line_end(**byte)).count();
-    line_at(script, before.saturating_add(blank))
+    line_number(script, before.saturating_add(blank))
 }
 
 /// The line of the byte at offset `before`.
-pub fn line_at(bytes: &[u8], before: usize) -> usize {
+pub fn line_number(bytes: &[u8], before: usize) -> usize {
     line_ends(&bytes[..before.min(bytes.len())]).saturating_add(1)
 }
 

@@ -1,7 +1,7 @@
 //! The text of a configuration, and the places in it.
 
 use std::alloc::AllocError;
-use toml_places::{Place, Step, line_at, nearest_place};
+use toml_places::{Place, Step, line_number, nearest_place};
 
 /// The most brackets of a value in which a key is looked for: those of a section that is written as a table.
 pub const MAX_DEPTH: usize = 1;
@@ -22,7 +22,7 @@ impl Source<'_> {
 
     /// Adds the line of the byte at offset `before`.
     pub fn push_line_at(&self, words: &mut String, before: usize) -> Result<(), AllocError> {
-        let line = line_at(self.bytes, before);
+        let line = line_number(self.bytes, before);
         write!(words, "line {line}: ")
     }
 }

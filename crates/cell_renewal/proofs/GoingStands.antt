@@ -1,6 +1,6 @@
 -- A machine that goes on from a step of its program stands at a step to which it has come from there.
 use Rattle.cell_renewal.proofs.Names.{◌≡◌, ℕ, zero, suc, Bool, true, false, ◌||◌, if◌then◌else◌, inl, inr, List, [], ◌∷◌, ◌++◌, Option, Some, None, Result, Ok, Err, refl, sym, ap, ◌∙◌, subst, append_assoc, Machine, Call, Answer, Done, Shown, Refusal, Event, Reply, Settled, Busy, SensorFault, ModelState, after, IsLegal, own_events, Program, MovesIn, Reached, event, Waits, LineFault, PassView, InterlockView, fresh_pass, HasSeenMore, fault_of, Steps, waits_out, step_after_reply, Performed}
-use Rattle.cell_renewal.proofs.Names.{PerformsCall, PerformsSensed, Turned, Turns, at_rest, CtlFault, Told, DrivesOn, LeadsOrStays, HasComeFrom, program_with_stops, is_worn, IsHeeded, IsStoppedBy, Stands, stands_later, GateOf, AreTaken, ComesBy, WiredMoment, TakesCycle, wired_moment}
+use Rattle.cell_renewal.proofs.Names.{PerformsCall, PerformsSensed, Turned, Turns, at_rest, CtlFault, Commands, DrivesOn, LeadsOrStays, HasComeFrom, program_with_stops, is_worn, IsHeeded, IsStoppedBy, Stands, stands_later, GateOf, AreTaken, ComesBy, WiredMoment, TakesCycle, wired_moment}
 use Rattle.cell_rules.specs.Types.{Refused, Worn}
 use Rattle.cell_rules.proofs.lemmas.SeenLemmas.{legal-right, own-append}
 use Rattle.cell_control.specs.declared.fault.CtlFault.TheVariants as fault
@@ -60,7 +60,7 @@ module _ {S Sense Reading Act : Type 0} (t : Steps S Sense Reading Act) (first :
     turns_from (Some f) p sense w k = k
     turns_from None p sense w k = (k.0, record { sensed = k.1.sensed; senses = k.1.senses; performs = sensed_from k.1.sensed p k.0 k.1.performs }, k.2)
 
-  module _ {D : Type 0} (tries : ℕ) (shows : D → Option Sense → D → Type 0) (sets : D → Told Act → D → Type 0) (gate : GateOf) where
+  module _ {D : Type 0} (tries : ℕ) (shows : D → Option Sense → D → Type 0) (sets : D → Commands Act → D → Type 0) (gate : GateOf) where
     cycle_from : (before now : WiredMoment S D) → TakesCycle tries t shows sets gate before now → TakesCycle tries u shows sets gate before now
     cycle_from before now (inl k) =
         inl (record {

@@ -4,7 +4,7 @@ pub use Rattle.cell_sensors.specs.declared.sense.SensorFault.{SensorFault}
 pub use Rattle.cell_control.proofs.lemmas.TurnMaps.{turn_either, turn_map}
 pub use Rattle.cell_control.specs.Names.{Performed, PerformsCall, PerformsSensed, Steps, Turned, Turns, answered, at_rest, fault_of, step_after_reply, turned, waits_out}
 pub use Rattle.cell_control.specs.declared.fault.CtlFault.{CtlFault}
-pub use Rattle.cell_control.specs.declared.told.Told.{Told}
+pub use Rattle.cell_control.specs.declared.commands.Commands.{Commands}
 pub use Rattle.cell_belts_crane.specs.Names.{crane_steps, deposit_steps, feed_steps}
 pub use Rattle.cell_belts_crane.specs.declared.crane.CraneProgram.{CraneProgram}
 pub use Rattle.cell_interlock.specs.Fresh.{fresh_pass}

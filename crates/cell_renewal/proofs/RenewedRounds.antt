@@ -1,5 +1,5 @@
 -- One machine's round: where it stands after it, and that it is worn only when the stamps are used up.
-use Rattle.cell_renewal.proofs.Names.{◌≡◌, ◌≢◌, ◌≤◌, ℕ, ◌+◌, List, Option, Some, None, refl, sym, ◌∙◌, subst, arith, length, Refusal, Event, last_stamp, IsSound, IsLegal, own_events, done_count, Waits, InterlockView, fresh_pass, Steps, CtlFault, Told, Status, Fine, Refused, Sensor, Worn, Memory, Stands, GateOf, ComesBy, Ends, WorkerResult, within, ended, GoingLeft, GoingOn, Runs, going_gives, TakesCycle, wired_moment}
+use Rattle.cell_renewal.proofs.Names.{◌≡◌, ◌≢◌, ◌≤◌, ℕ, ◌+◌, List, Option, Some, None, refl, sym, ◌∙◌, subst, arith, length, Refusal, Event, last_stamp, IsSound, IsLegal, own_events, done_count, Waits, InterlockView, fresh_pass, Steps, CtlFault, Commands, Status, Fine, Refused, Sensor, Worn, Memory, Stands, GateOf, ComesBy, Ends, WorkerResult, within, ended, GoingLeft, GoingOn, Runs, going_gives, TakesCycle, wired_moment}
 use Rattle.cell_control.specs.declared.fault.CtlFault.TheVariants as fault
 use Rattle.cell_renewal.proofs.GoingStands.{from_step, going_stands}
 use Rattle.cell_renewal.proofs.Wearing.{wears-last}
@@ -13,7 +13,7 @@ fine_runs gate limit cycles (Some fault.Worn) s h e = let lie : Worn ≡ Fine = 
 fine_runs gate limit cycles (Some fault.Memory) s h e = let lie : Memory ≡ Fine = sym h.0 ∙ e in cc
 fine_runs gate limit cycles (Some fault.Stopped) s h e = let lie : Refused ≡ Fine = sym h.0 ∙ e in cc
 
-module _ {P S Sense Reading Act D : Type 0} (steps : P → Steps S Sense Reading Act) (shows : D → Option Sense → D → Type 0) (sets : D → Told Act → D → Type 0) (gate : GateOf)
+module _ {P S Sense Reading Act D : Type 0} (steps : P → Steps S Sense Reading Act) (shows : D → Option Sense → D → Type 0) (sets : D → Commands Act → D → Type 0) (gate : GateOf)
     (tries limit : ℕ) (i : InterlockView) (history : List Event) (w : GoingOn P S D) (r : WorkerResult (GoingLeft P S D)) (runs : Runs w)
     (k : going_gives steps shows sets w (fresh_pass i (steps w.machine.program).machine) tries gate limit r) (waits : Waits (steps w.machine.program).machine r.pass.seen history) where
   abbrev t : Steps S Sense Reading Act

@@ -1,6 +1,6 @@
 -- A worker that goes on is worn only by the last stamp.
 use Rattle.cell_renewal.proofs.Names.{◌≡◌, ℕ, suc, ◌+◌, ◌≤◌, ◌<◌, Bool, true, false, cond, if◌then◌else◌, inl, inr, List, [], ◌∷◌, ◌++◌, Option, Some, None, Result, Ok, Err, refl, sym, ap, ◌∙◌, subst, arith, length, length-append, append_assoc, Machine, Feed, Table, Robot, Press, Deposit, Crane, Watch, same_machine, Call, Refusal, Done, Shown, Event, Reply, Settled, Busy, SensorFault, ModelState, last_stamp, one_if, IsSound, reply, after, IsLegal, own_events, is_done, done_count, event}
-use Rattle.cell_renewal.proofs.Names.{BeginsWith, LineFault, legal-left, sound-after, stamps_only_wear, PassView, PassAsks, IsSamePass, fault_of, Steps, waits_out, step_after_reply, Performed, PerformsCall, PerformsSensed, Turned, Turns, at_rest, turned, answered, CtlFault, Told, turn_either, Status, GateOf, ComesBy, Ends, all_along, asks_same, unchanged_pass, WiredMoment, TakesWiredTurn, RestsUnread, TakesCycle}
+use Rattle.cell_renewal.proofs.Names.{BeginsWith, LineFault, legal-left, sound-after, stamps_only_wear, PassView, PassAsks, IsSamePass, fault_of, Steps, waits_out, step_after_reply, Performed, PerformsCall, PerformsSensed, Turned, Turns, at_rest, turned, answered, CtlFault, Commands, turn_either, Status, GateOf, ComesBy, Ends, all_along, asks_same, unchanged_pass, WiredMoment, TakesWiredTurn, RestsUnread, TakesCycle}
 use Rattle.std.proofs.Math.Nat.{lt_of_not-le}
 use Rattle.std.proofs.lemmas.List.Sums.{sum_by-append}
 use Rattle.cell_rules.specs.Types.{Worn, Refused}
@@ -70,7 +70,7 @@ module _ {S Sense Reading Act : Type 0} (t : Steps S Sense Reading Act) (tries :
       let same : length (own_events w.seen t.machine) ≡ length (own_events v.seen t.machine) = ap (λ x. length (own_events x.seen t.machine)) k in
       omega arith
 
-module _ {S Sense Reading Act D : Type 0} (tries : ℕ) (t : Steps S Sense Reading Act) (shows : D → Option Sense → D → Type 0) (sets : D → Told Act → D → Type 0) (gate : GateOf) (o : ModelState) where
+module _ {S Sense Reading Act D : Type 0} (tries : ℕ) (t : Steps S Sense Reading Act) (shows : D → Option Sense → D → Type 0) (sets : D → Commands Act → D → Type 0) (gate : GateOf) (o : ModelState) where
   record GoesBy (m : WiredMoment S D) : Type 0 where
     machine : m.pass.machine ≡ t.machine
     opening : m.pass.opening ≡ o
@@ -178,7 +178,7 @@ changes-are-calls (e ∷ h) =
 
 -- ---- the law
 
-pub wears-last : {S Sense Reading Act D : Type 0} (t : Steps S Sense Reading Act) (shows : D → Option Sense → D → Type 0) (sets : D → Told Act → D → Type 0) (gate : GateOf) → WearsLast t shows sets gate
+pub wears-last : {S Sense Reading Act D : Type 0} (t : Steps S Sense Reading Act) (shows : D → Option Sense → D → Type 0) (sets : D → Commands Act → D → Type 0) (gate : GateOf) → WearsLast t shows sets gate
 wears-last t shows sets gate = record {
   worn = λ tries limit first kept turns missed s devices p stopped left history r runs own none zero sound legal w is.
       let o = first.pass.opening in

@@ -1,5 +1,5 @@
 -- How a worker with devices of your own ends.
-use Rattle.cell_renewal.proofs.Names.{◌≡◌, ◌≢◌, ◌<◌, ◌+◌, ◌⊎◌, inl, inr, ⊎_elim, ℕ, true, false, List, [], ◌∷◌, Option, Some, None, Result, Ok, Err, refl, sym, ap, subst, ◌∙◌, below_more, arith, Call, Reply, LineFault, PassView, Steps, Performed, Turned, Turns, turned, answered, CtlFault, Told, Status, Fine, GateLimit, Sensor, Refused, Worn, Memory, GateOf, AreTaken, Ends, last_of, all_along, WiredMoment, TakesWiredTurn, TakesCycle, IsWiredResult, wired_moment, AreToldToRest, WiredWorkerEnds}
+use Rattle.cell_renewal.proofs.Names.{◌≡◌, ◌≢◌, ◌<◌, ◌+◌, ◌⊎◌, inl, inr, ⊎_elim, ℕ, true, false, List, [], ◌∷◌, Option, Some, None, Result, Ok, Err, refl, sym, ap, subst, ◌∙◌, below_more, arith, Call, Reply, LineFault, PassView, Steps, Performed, Turned, Turns, turned, answered, CtlFault, Commands, Status, Fine, GateLimit, Sensor, Refused, Worn, Memory, GateOf, AreTaken, Ends, last_of, all_along, WiredMoment, TakesWiredTurn, TakesCycle, IsWiredResult, wired_moment, AreToldToRest, WiredWorkerEnds}
 use Rattle.cell_control.specs.declared.fault.CtlFault.TheVariants as cause
 use Rattle.cell_unit.specs.Statuses.{status_of}
 
@@ -27,7 +27,7 @@ module _ {S Act : Type 0} (p : S) (act : Act) (told : Option CtlFault) (q : S) (
   told_so (Err fault) e none =
       let lie : Ok act ≡ Err fault = sym (ap (answered act) none) ∙ ap (λ (w : Turned S Act). w.result) e in cc
 
-module _ {S Sense Reading Act D : Type 0} (tries : ℕ) (t : Steps S Sense Reading Act) (shows : D → Option Sense → D → Type 0) (sets : D → Told Act → D → Type 0) (gate : GateOf) where
+module _ {S Sense Reading Act D : Type 0} (tries : ℕ) (t : Steps S Sense Reading Act) (shows : D → Option Sense → D → Type 0) (sets : D → Commands Act → D → Type 0) (gate : GateOf) where
   abbrev Turn : WiredMoment S D → WiredMoment S D → Type 0
   Turn = TakesWiredTurn tries t shows sets gate
 

@@ -1,5 +1,5 @@
 -- Cycles of a press with devices of your own.
-use Rattle.cell_renewal.proofs.Names.{◌≡◌, ◌≢◌, ℕ, ◌+◌, Bool, true, false, inl, inr, Option, Some, None, Result, Err, refl, sym, ap, subst, ◌∙◌, IsSomeAnd, Press, Call, Reply, Z3, SensorFault, Holds, PressMoves, LineFault, PassAsks, PerformsSensed, Turned, Turns, turned, answered, CtlFault, Told, press_steps, checked, PressProgress, GateOf, WiredMoment, TakesCycle, WiredPressTurns, told_clash, told_unread}
+use Rattle.cell_renewal.proofs.Names.{◌≡◌, ◌≢◌, ℕ, ◌+◌, Bool, true, false, inl, inr, Option, Some, None, Result, Err, refl, sym, ap, subst, ◌∙◌, IsSomeAnd, Press, Call, Reply, Z3, SensorFault, Holds, PressMoves, LineFault, PassAsks, PerformsSensed, Turned, Turns, turned, answered, CtlFault, Commands, press_steps, checked, PressProgress, GateOf, WiredMoment, TakesCycle, WiredPressTurns, told_clash, told_unread}
 use Rattle.cell_sensors.specs.declared.sense.PressSense.{PressSense}
 use Rattle.cell_sensors.specs.declared.sense.SensorFault.TheVariants.{Clash}
 use Rattle.cell_control.specs.declared.fault.CtlFault.TheVariants.{Sensor}
@@ -26,11 +26,11 @@ stops_by_sensors same asks fault p s w e k =
     (performs.0, k.2 ∙ ap (turned p) performs.1)
 
 -- a motor that is on is told so in a turn without a fault
-drives_so : (told : Told PressAct) (fault : Option CtlFault) (P : Type 0) → (fault ≡ None → told.act.press ≢ Off → P) → (fault ≢ None → told.act ≡ record { press = Off }) → told.act.press ≢ Off → P
+drives_so : (told : Commands PressAct) (fault : Option CtlFault) (P : Type 0) → (fault ≡ None → told.act.press ≢ Off → P) → (fault ≢ None → told.act ≡ record { press = Off }) → told.act.press ≢ Off → P
 drives_so told None P f rest on = f refl on
 drives_so told (Some fault) P f rest on = absurd (on (ap (λ (a : PressAct). a.press) (rest (λ e. cc))))
 
-module _ {D : Type 0} (shows : D → Option PressSense → D → Type 0) (sets : D → Told PressAct → D → Type 0) (gate : GateOf) where
+module _ {D : Type 0} (shows : D → Option PressSense → D → Type 0) (sets : D → Commands PressAct → D → Type 0) (gate : GateOf) where
   abbrev Cycle : ℕ → WiredMoment PressProgress D → WiredMoment PressProgress D → Type 0
   Cycle tries = TakesCycle tries press_steps shows sets gate
 

@@ -1,5 +1,5 @@
 -- What a record tells of six workers with devices of your own, by what each gave back.
-use Rattle.cell_renewal.proofs.Names.{◌≡◌, ◌≢◌, ℕ, List, [], ◌∷◌, Option, None, refl, sym, ◌∙◌, subst, All, append-nil, Machine, Feed, Table, Robot, Press, Deposit, Crane, Ghosts, IsLegal, ModelState, IsStartState, InterlockView, fresh_pass, Steps, Told, crane_steps, deposit_steps, feed_steps, CraneProgram, press_steps, table_steps, TableProgram, Status, Fine, Refused, CellScales, CellGauges, GateOf, SixOf, WorkerResult, NoneEndsRefused, Sets, Shows, WiredTeam, IsWiredResult, wired_moment}
+use Rattle.cell_renewal.proofs.Names.{◌≡◌, ◌≢◌, ℕ, List, [], ◌∷◌, Option, None, refl, sym, ◌∙◌, subst, All, append-nil, Machine, Feed, Table, Robot, Press, Deposit, Crane, Ghosts, IsLegal, ModelState, IsStartState, InterlockView, fresh_pass, Steps, Commands, crane_steps, deposit_steps, feed_steps, CraneProgram, press_steps, table_steps, TableProgram, Status, Fine, Refused, CellScales, CellGauges, GateOf, SixOf, WorkerResult, NoneEndsRefused, Sets, Shows, WiredTeam, IsWiredResult, wired_moment}
 use Rattle.std.proofs.lemmas.List.Elements.{All-head, All-tail}
 use Rattle.cell_robot.specs.Names.{gauges_of, robot_scales, robot_steps}
 use Rattle.cell_robot.specs.declared.robot.RobotProgram.{RobotProgram}
@@ -9,7 +9,7 @@ use Rattle.cell_renewal.specs.declared.wired_worker.WiredWorker.{WiredWorker}
 use Rattle.cell_renewal.proofs.WiredUnrefused.{wired-unrefused}
 
 -- what a worker gave back that began with the interlock's opening, and whose calls may lose as many exchanges
-given_as : {P D S Sense Reading Act : Type 0} → (m : Machine) (steps : P → Steps S Sense Reading Act) (shows : D → Option Sense → D → Type 0) (sets : D → Told Act → D → Type 0) (i : InterlockView) (tries limit : ℕ) (gate : GateOf) (opening : ModelState) (w : WiredWorker P D) (r : WorkerResult (WiredOutput D))
+given_as : {P D S Sense Reading Act : Type 0} → (m : Machine) (steps : P → Steps S Sense Reading Act) (shows : D → Option Sense → D → Type 0) (sets : D → Commands Act → D → Type 0) (i : InterlockView) (tries limit : ℕ) (gate : GateOf) (opening : ModelState) (w : WiredWorker P D) (r : WorkerResult (WiredOutput D))
     → i.opening ≡ opening → i.tries ≡ tries → w.opening ≡ opening → wired_gives steps shows sets w (fresh_pass i m) i.tries gate limit r
     → IsWiredResult tries (steps w.program) shows sets gate limit (wired_moment (fresh_pass i m) ((steps w.program).start i.opening) None w.devices 0 0) r.pass r.output.turns r.output.missed r.output.status r.output.devices
 given_as m steps shows sets i tries limit gate opening w r opened losing begins k =

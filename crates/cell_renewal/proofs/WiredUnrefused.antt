@@ -1,5 +1,5 @@
 -- A worker with devices of your own stands at a step of its program after each turn, so none of six ends as refused.
-use Rattle.cell_renewal.proofs.Names.{◌≡◌, ℕ, ◌+◌, false, inl, inr, Option, None, Result, Ok, Err, refl, sym, ap, ◌∙◌, subst, Machine, Feed, Table, Robot, Press, Deposit, Crane, Watch, same_machine, Call, Reply, LineFault, ModelState, PassView, PassAsks, IsSamePass, Steps, Turned, Turns, answered, CtlFault, Told, turn_either, CellScales, CellGauges, ProgressOf, steps_by, Stands, Sees, sees_of, stands_on, stands_later, GateOf, ComesBy, all_along, asks_same, unchanged_pass, ended, WiredMoment}
+use Rattle.cell_renewal.proofs.Names.{◌≡◌, ℕ, ◌+◌, false, inl, inr, Option, None, Result, Ok, Err, refl, sym, ap, ◌∙◌, subst, Machine, Feed, Table, Robot, Press, Deposit, Crane, Watch, same_machine, Call, Reply, LineFault, ModelState, PassView, PassAsks, IsSamePass, Steps, Turned, Turns, answered, CtlFault, Commands, turn_either, CellScales, CellGauges, ProgressOf, steps_by, Stands, Sees, sees_of, stands_on, stands_later, GateOf, ComesBy, all_along, asks_same, unchanged_pass, ended, WiredMoment}
 use Rattle.cell_renewal.proofs.Names.{TakesWiredTurn, TakesCycle, Shows, Sets, WiredTeam, NoneEndsRefused, NoWiredWorkerIsRefused}
 use Rattle.cell_plant.proofs.lemmas.Standing.{none_refused_by}
 
@@ -8,7 +8,7 @@ seen_after : (tries : ℕ) (m : Machine) (v w : PassView) (c : Call) (r : Result
 seen_after tries m v w c (Ok reply) e k = subst (λ n. Sees n c (Ok reply) v.seen w.seen) e (sees_of v.machine c (Ok reply) v.opening v.seen w.seen k.seen)
 seen_after tries m v w c (Err why) e k = ap (λ x. x.seen) k
 
-module _ {S Sense Reading Act D : Type 0} (tries : ℕ) (t : Steps S Sense Reading Act) (shows : D → Option Sense → D → Type 0) (sets : D → Told Act → D → Type 0) (gate : GateOf) (o : ModelState) where
+module _ {S Sense Reading Act D : Type 0} (tries : ℕ) (t : Steps S Sense Reading Act) (shows : D → Option Sense → D → Type 0) (sets : D → Commands Act → D → Type 0) (gate : GateOf) (o : ModelState) where
   pub record StandsBy (m : WiredMoment S D) : Type 0 where
     pub machine : m.pass.machine ≡ t.machine
     pub opening : m.pass.opening ≡ o

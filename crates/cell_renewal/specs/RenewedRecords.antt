@@ -11,7 +11,7 @@ use Rattle.cell_devices.specs.declared.act.TableAct.{TableAct}
 use Rattle.cell_rules.specs.Names.{ModelState, last_stamp, IsSound, IsStartState, own_events}
 use Rattle.cell_interlock.specs.Views.{PassView}
 use Rattle.cell_control.specs.Names.{Steps}
-use Rattle.cell_control.specs.declared.told.Told.{Told}
+use Rattle.cell_control.specs.declared.commands.Commands.{Commands}
 use Rattle.cell_notes.specs.declared.status.Status.{Status}
 use Rattle.cell_notes.specs.declared.status.Status.TheVariants.{Refused, Worn}
 use Rattle.cell_belts_crane.specs.Names.{crane_steps, deposit_steps, feed_steps}
@@ -45,7 +45,7 @@ use Rattle.cell_renewal.specs.declared.rounds.Round.{Round}
 
 -- what a `GoingWorker` promises to give back (its `gives_back`), by the steps of its program and by its devices
 abbrev pub going_gives : {P D S Sense Reading Act : Type 0} → (P → Steps S Sense Reading Act) →
-    (D → Option Sense → D → Type 0) → (D → Told Act → D → Type 0) → GivesOf (GoingOn P S D) (GoingLeft P S D)
+    (D → Option Sense → D → Type 0) → (D → Commands Act → D → Type 0) → GivesOf (GoingOn P S D) (GoingLeft P S D)
 going_gives steps shows sets w pass tries gate limit r =
     (r.output.machine.program ≡ w.machine.program)
     × IsGoingResult tries (steps w.machine.program) shows sets gate limit

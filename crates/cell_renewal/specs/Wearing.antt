@@ -5,7 +5,7 @@ use Rattle.cell_rules.specs.Names.{ModelState, last_stamp, IsSound, IsLegal, own
 use Rattle.cell_interlock.specs.Views.{PassView}
 use Rattle.cell_control.specs.Names.{Steps}
 use Rattle.cell_control.specs.declared.fault.CtlFault.{CtlFault}
-use Rattle.cell_control.specs.declared.told.Told.{Told}
+use Rattle.cell_control.specs.declared.commands.Commands.{Commands}
 use Rattle.cell_notes.specs.declared.status.Status.{Status}
 use Rattle.cell_notes.specs.declared.status.Status.TheVariants.{Worn}
 use Rattle.cell_threads.specs.Workers.{GateOf}
@@ -23,7 +23,7 @@ ChangesAreCalls =
 -- A worker that began running, with the fresh pass of its machine. If it ends as worn, the history of its interlock has
 -- used up all stamps. It has made at most one call in each turn.
 pub record WearsLast {S Sense Reading Act D : Type 0} (t : Steps S Sense Reading Act)
-    (shows : D → Option Sense → D → Type 0) (sets : D → Told Act → D → Type 0) (gate : GateOf) : Type 0 where
+    (shows : D → Option Sense → D → Type 0) (sets : D → Commands Act → D → Type 0) (gate : GateOf) : Type 0 where
   pub worn : (tries limit : ℕ) (first : WiredMoment S D) (kept : PassView) (turns missed : ℕ) (status : Status)
       (devices : D) (p : S) (stopped : Option CtlFault) (left : ModelState) (history : List Event)
       → IsGoingResult tries t shows sets gate limit first kept turns missed status devices p stopped left

@@ -8,7 +8,7 @@ use Rattle.cell_interlock.specs.Views.{PassView}
 use Rattle.cell_control.specs.Names.{Steps}
 use Rattle.cell_control.specs.declared.fault.CtlFault.{CtlFault}
 use Rattle.cell_control.specs.declared.fault.CtlFault.TheVariants.{Sensor}
-use Rattle.cell_control.specs.declared.told.Told.{Told}
+use Rattle.cell_control.specs.declared.commands.Commands.{Commands}
 use Rattle.cell_devices.specs.declared.act.PressAct.{PressAct}
 use Rattle.cell_devices.specs.declared.motor.Motor.TheVariants.{Off}
 use Rattle.cell_table_press.specs.Names.{press_steps}
@@ -21,10 +21,10 @@ use Rattle.cell_renewal.specs.WiredWorkers.{wired_moment}
 
 -- the last that these devices were told is to rest: all motors off
 pub record AreToldToRest {S Sense Reading Act D : Type 0} (t : Steps S Sense Reading Act)
-    (sets : D → Told Act → D → Type 0) (devices : D) : Type 0 where
+    (sets : D → Commands Act → D → Type 0) (devices : D) : Type 0 where
   pub progress : S
   pub before : D
-  pub told : Told Act
+  pub told : Commands Act
   pub set : sets before told devices
   pub is_fault : told.fault ≢ None
   pub rest : told.act ≡ t.rest progress
@@ -33,7 +33,7 @@ pub record AreToldToRest {S Sense Reading Act D : Type 0} (t : Steps S Sense Rea
 -- no cycle that its gate refused; if it is fine, through all. If neither its cycles nor its gate ended it, a fault did;
 -- then the last that its devices were told is to rest.
 pub record WiredWorkerEnds {S Sense Reading Act D : Type 0} (t : Steps S Sense Reading Act)
-    (sets : D → Told Act → D → Type 0) (gate : GateOf) (limit cycles : ℕ) (status : Status) (devices : D) : Type 0 where
+    (sets : D → Commands Act → D → Type 0) (gate : GateOf) (limit cycles : ℕ) (status : Status) (devices : D) : Type 0 where
   pub within : cycles ≤ limit
   pub let_in : (cycle : ℕ) → cycle < cycles → gate cycle true
   pub fine : status ≡ Fine → cycles ≡ limit
@@ -42,18 +42,18 @@ pub record WiredWorkerEnds {S Sense Reading Act D : Type 0} (t : Steps S Sense R
 
 -- whatever a worker gives back that ran when it began
 abbrev pub WiredWorkersEnd : {S Sense Reading Act D : Type 0} → Steps S Sense Reading Act →
-    (D → Option Sense → D → Type 0) → (D → Told Act → D → Type 0) → GateOf → Type 0
+    (D → Option Sense → D → Type 0) → (D → Commands Act → D → Type 0) → GateOf → Type 0
 WiredWorkersEnd {S = S} {D = D} t shows sets gate =
     (tries limit : ℕ) (pass kept : PassView) (p : S) (first devices : D) (turns missed : ℕ) (status : Status)
     → IsWiredResult tries t shows sets gate limit (wired_moment pass p None first 0 0) kept turns missed status devices
     → WiredWorkerEnds t sets gate limit (turns + missed) status devices
 
 -- what a press is told if its switches clash: its motor is off
-abbrev pub told_clash : Told PressAct
+abbrev pub told_clash : Commands PressAct
 told_clash = record { act = record { press = Off }; fault = Some (Sensor Clash) }
 
 -- and if nothing is known of them
-abbrev pub told_unread : Told PressAct
+abbrev pub told_unread : Commands PressAct
 told_unread = at_rest_by (record { press = Off })
 
 -- Cycles of a press with devices of your own. Stopped, it takes none, nor if its gate refuses. If its devices can show
@@ -61,7 +61,7 @@ told_unread = at_rest_by (record { press = Off })
 -- and stops. If they can show nothing at all, its motor is off too; it makes no call, and goes on where it was. While
 -- it is told to switch its motor on, it holds its interior, which moves.
 pub record WiredPressTurns {D : Type 0} (shows : D → Option PressSense → D → Type 0)
-    (sets : D → Told PressAct → D → Type 0) (gate : GateOf) : Type 0 where
+    (sets : D → Commands PressAct → D → Type 0) (gate : GateOf) : Type 0 where
   pub stopped : (tries : ℕ) (before now : WiredMoment PressProgress D) (fault : CtlFault) → before.stopped ≡ Some fault
       → ¬ TakesCycle tries press_steps shows sets gate before now
   pub kept_out : (tries : ℕ) (before now : WiredMoment PressProgress D) → ¬ gate (before.turns + before.missed) true

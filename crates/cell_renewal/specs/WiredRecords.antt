@@ -6,7 +6,7 @@ use Rattle.cell_rules.specs.Names.{ModelState, IsStartState, after, noted, Waits
 use Rattle.cell_interlock.specs.Views.{PassView, InterlockView}
 use Rattle.cell_interlock.specs.Fresh.{fresh_pass}
 use Rattle.cell_control.specs.Names.{Steps}
-use Rattle.cell_control.specs.declared.told.Told.{Told}
+use Rattle.cell_control.specs.declared.commands.Commands.{Commands}
 use Rattle.cell_notes.specs.declared.run_record.RunRecord.{RunRecord}
 use Rattle.cell_notes.specs.declared.status.Status.{Status}
 use Rattle.cell_notes.specs.declared.status.Status.TheVariants.{Fine, Refused}
@@ -34,7 +34,7 @@ use Rattle.cell_renewal.specs.declared.wired_worker.WiredWorker.{WiredWorker}
 
 -- what a `WiredWorker` promises to give back (its `gives_back`), by the steps of its program and by its devices
 abbrev pub wired_gives : {P D S Sense Reading Act : Type 0} → (P → Steps S Sense Reading Act) →
-    (D → Option Sense → D → Type 0) → (D → Told Act → D → Type 0) → GivesOf (WiredWorker P D) (WiredOutput D)
+    (D → Option Sense → D → Type 0) → (D → Commands Act → D → Type 0) → GivesOf (WiredWorker P D) (WiredOutput D)
 wired_gives steps shows sets w pass tries gate limit r =
     IsWiredResult tries (steps w.program) shows sets gate limit
     (wired_moment pass ((steps w.program).start w.opening) None w.devices 0 0) r.pass r.output.turns

@@ -4,7 +4,7 @@ use Rattle.cell_rules.specs.Types.{Machine, Feed, Table, Robot, Press, Deposit, 
 use Rattle.cell_rules.specs.Names.{Waits, IsStartState, IsLegal}
 use Rattle.cell_interlock.specs.Views.{PassView, InterlockView}
 use Rattle.cell_interlock.specs.Fresh.{fresh_pass}
-use Rattle.cell_control.specs.declared.told.Told.{Told}
+use Rattle.cell_control.specs.declared.commands.Commands.{Commands}
 use Rattle.cell_notes.specs.declared.status.Status.{Status}
 use Rattle.cell_notes.specs.declared.status.Status.TheVariants.{Refused}
 use Rattle.cell_parts.specs.Axes.{CellScales}
@@ -17,7 +17,7 @@ abbrev pub Shows : Type 0 → Machine → Type 1
 Shows D m = D → Option (SenseOf m) → D → Type 0
 
 abbrev pub Sets : Type 0 → Machine → Type 1
-Sets D m = D → Told (ActOf m) → D → Type 0
+Sets D m = D → Commands (ActOf m) → D → Type 0
 
 -- a machine's worker began with a fresh pass of the interlock, at the start of its program, with these devices; by its
 -- cycles it has come to the pass that it gave back, and it ended with this status

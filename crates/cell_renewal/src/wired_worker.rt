@@ -7,7 +7,7 @@ ghost use Rattle.cell_control.specs.Turns.{answered};
 ghost use Rattle.cell_threads.specs.Workers.{ComesBy, Ends};
 ghost use Rattle.cell_renewal.specs.WiredWorkers.{TakesCycle, wired_moment};
 
-use cell_control::{Program, Told, Wired};
+use cell_control::{Commands, Program, Wired};
 use cell_interlock::{Interlock, Pass, PassLine};
 use cell_notes::Status;
 use cell_rules::{Line, State};
@@ -18,7 +18,7 @@ use std::alloc::Global;
 /// The sensors and actuators of a machine.
 pub trait Devices: Drop {
     ghost use Rattle.std.specs.Prelude.{⊤, Option};
-    ghost use Rattle.cell_control.specs.declared.told.Told.{Told};
+    ghost use Rattle.cell_control.specs.declared.commands.Commands.{Commands};
 
     /// What the sensors show.
     type Sense;
@@ -31,7 +31,7 @@ pub trait Devices: Drop {
     ghost shows: { Self → Option Self.Sense → Self → Type 0 } = { λ _ _ _. ⊤ };
 
     // The devices after their actuators are set as told. The default is anything.
-    ghost sets: { Self → Told Self.Act → Self → Type 0 } = { λ _ _ _. ⊤ };
+    ghost sets: { Self → Commands Self.Act → Self → Type 0 } = { λ _ _ _. ⊤ };
 
     /// What the sensors show now; `None` if one of them doesn't answer. Then the actuators are told
     /// to rest, and the machine has no turn.
@@ -40,7 +40,7 @@ pub trait Devices: Drop {
 
     /// Sets the actuators as they are told, each time. After a fault, and without a reading, motors
     /// are off.
-    fn set(&mut self, told: &Told<Self::Act>)
+    fn set(&mut self, told: &Commands<Self::Act>)
         ensures { sets self.old told.now self.new };
 }
 
@@ -220,7 +220,7 @@ fn take_cycle<'a, P: Program, D: Devices<Sense = P::Sense, Act = P::Act>, G: Gat
 fn turn_by_line<'a, P: Program>(
     wired: &mut Wired<P, PassLine<'a>>,
     sense: &P::Sense,
-) -> Told<P::Act>
+) -> Commands<P::Act>
     ensures same { IsSamePass wired.old.line.pass wired.new.line.pass }
     ensures row { Turns (P.steps wired.old.program) (wired.new.line.pass ≡ wired.old.line.pass)
         (λ c r. PassAsks wired.old.line.tries wired.old.line.pass c r wired.new.line.pass)

@@ -8,7 +8,7 @@ use Rattle.cell_report.specs.Order.{InOrder, is_done_noted, stamp_of, done_stamp
 use Rattle.cell_report.specs.AuditFaults.{HasStamps, Fits, IsMisfit}
 use Rattle.cell_report.specs.Retraced.{Retraced}
 
--- holds: what the keeper has
+-- holds: what the sink has
 pub record IsTrace (holds : List Event → Type 0) (start : ModelState) (least : ℕ) (ordered : List Noted)
     (trace : Trace) : Type 0 where
   pub stamps : trace.stamps.items ≡ done_stamps ordered

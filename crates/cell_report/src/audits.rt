@@ -12,9 +12,9 @@ ghost use Rattle.cell_report.specs.Traces.{IsTraceOf, IsStampedTrace};
 ghost use Rattle.cell_report.specs.declared.audit_faults.AuditFault.TheVariants.{Memory};
 
 use crate::audit_faults::AuditFault;
-use crate::keepers::{Keeper, NoEvents};
 use crate::ordered::all_sorted;
 use crate::same::is_same_state;
+use crate::sinks::{EventSink, NoEvents};
 use crate::stamps::{least_gap, least_twice};
 use crate::traces::Trace;
 use cell_rules::State;
@@ -44,39 +44,39 @@ fn room(journals: &Journals) -> usize
 }
 
 /// The trace of all entries. Journals that are each in turn are merged, others sorted.
-fn trace_of<K: Keeper>(
+fn trace_of<K: EventSink>(
     alloc: Global,
     journals: &Journals,
     start: &State,
     least: u32,
-    keeper: &mut K,
+    sink: &mut K,
 ) -> Result<Trace, AllocError>
     ensures { IfOk result
-        (IsTraceOf (K.holds keeper.new) start.now least (all_noted (journal_of journals.now))) }
+        (IsTraceOf (K.holds sink.new) start.now least (all_noted (journal_of journals.now))) }
 {
-    let trace = Trace::new(alloc, start, least, keeper);
-    if let Some(trace) = trace.follow_merged(start, journals, keeper)? {
+    let trace = Trace::new(alloc, start, least, sink);
+    if let Some(trace) = trace.follow_merged(start, journals, sink)? {
         return Ok(trace);
     }
     let sorted = all_sorted(alloc, journals)?;
-    Trace::new(alloc, start, least, keeper).follow_sorted(start, &sorted, keeper)
+    Trace::new(alloc, start, least, sink).follow_sorted(start, &sorted, sink)
 }
 
 /// The trace of all entries, if each stamp after the start's, up to the greatest, belongs to
 /// exactly one Done entry.
-fn checked_trace<K: Keeper>(
+fn checked_trace<K: EventSink>(
     alloc: Global,
     journals: &Journals,
     start: &State,
     least: u32,
-    keeper: &mut K,
+    sink: &mut K,
 ) -> Result<Trace, AuditFault>
     ensures { let all = all_noted (journal_of journals.now) in
         MatchResult result
-        (λ trace. IsStampedTrace (K.holds keeper.new) start.now least all trace)
+        (λ trace. IsStampedTrace (K.holds sink.new) start.now least all trace)
         (λ fault. IsStampFault start.now.stamp (greatest least all) all fault) }
 {
-    let trace = trace_of(alloc, journals, start, least, keeper)?;
+    let trace = trace_of(alloc, journals, start, least, sink)?;
     if let Some(stamp) = least_twice(&trace.stamps) {
         return Err(AuditFault::Twice(stamp));
     }
@@ -86,22 +86,22 @@ fn checked_trace<K: Keeper>(
     Ok(trace)
 }
 
-/// Finds the legal history that explains the journals, and gives its events to the keeper.
-fn retrace<K: Keeper>(
+/// Finds the legal history that explains the journals, and gives its events to the sink.
+fn retrace<K: EventSink>(
     alloc: Global,
     journals: &Journals,
     start: &State,
     end: Option<&State>,
-    keeper: &mut K,
+    sink: &mut K,
 ) -> Result<(), AuditFault>
     ensures ok { let journals = journal_of journals.now in
-        IfOk result (λ _. Retraces (K.holds keeper.new) start.now journals
+        IfOk result (λ _. Retraces (K.holds sink.new) start.now journals
         (option_copied end.entry)) }
     ensures fault { IfErr result
         (λ fault. IsFault start.now (journal_of journals.now) (option_copied end.entry) fault) }
 {
     let least = start.stamp().max(stamp_of_end(end));
-    let trace = checked_trace(alloc, journals, start, least, keeper)?;
+    let trace = checked_trace(alloc, journals, start, least, sink)?;
     if let Some(stamp) = trace.misfit {
         return Err(AuditFault::Differs(stamp));
     }

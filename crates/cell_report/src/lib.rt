@@ -4,13 +4,13 @@
 
 pub mod audit_faults;
 pub mod audits;
-mod keepers;
 pub mod laws;
 mod merged;
 mod ordered;
 pub mod report;
 mod rests;
 mod same;
+mod sinks;
 mod stamps;
 mod traces;
 

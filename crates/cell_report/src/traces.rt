@@ -6,14 +6,14 @@ ghost use Rattle.cell_report.specs.Order.{all_noted, in_order};
 ghost use Rattle.cell_report.specs.Merged.{run_of};
 ghost use Rattle.cell_report.specs.Traces.{IsTrace, Repeats};
 
-use crate::keepers::Keeper;
 use crate::ordered::Noted;
 use crate::rests::{Merge, Run};
+use crate::sinks::EventSink;
 use cell_rules::{State, apply};
 use cell_types::Journals;
 use std::alloc::{AllocError, Global};
 
-/// The trace of entries that are taken one by one, in the order of an audit. A keeper has the
+/// The trace of entries that are taken one by one, in the order of an audit. A sink has the
 /// events, up to the first entry that doesn't fit.
 #[derive(Drop)]
 pub struct Trace {
@@ -28,11 +28,11 @@ pub struct Trace {
 }
 
 impl Trace {
-    /// The trace of no entries, from a start and a stamp. The keeper forgets what it has.
-    pub fn new<K: Keeper>(alloc: Global, start: &State, least: u32, keeper: &mut K) -> Trace
-        ensures { IsTrace (K.holds keeper.new) start.now least [] result }
+    /// The trace of no entries, from a start and a stamp. The sink forgets what it has.
+    pub fn new<K: EventSink>(alloc: Global, start: &State, least: u32, sink: &mut K) -> Trace
+        ensures { IsTrace (K.holds sink.new) start.now least [] result }
     {
-        keeper.clear();
+        sink.clear();
         Trace {
             stamps: Vec::new(alloc),
             top: least,
@@ -43,15 +43,15 @@ impl Trace {
 
     // Takes an entry. Returns whether the same entry would fit again, and change nothing.
     #[inline(always)]
-    fn take<K: Keeper>(
+    fn take<K: EventSink>(
         &mut self,
         start: &State,
         noted: &Noted,
-        keeper: &mut K,
+        sink: &mut K,
     ) -> Result<bool, AllocError>
         ensures trace { IfOk result (λ _. (least : ℕ) → (before : List Noted)
-            → IsTrace (K.holds keeper.old) start.now least before self.old
-            → IsTrace (K.holds keeper.new) start.now least (before ++ noted.now ∷ []) self.new) }
+            → IsTrace (K.holds sink.old) start.now least before self.old
+            → IsTrace (K.holds sink.new) start.now least (before ++ noted.now ∷ []) self.new) }
         ensures repeats { IfOk result (λ repeats. IsTrue repeats
             → Repeats start.now noted.now self.new) }
     {
@@ -68,20 +68,20 @@ impl Trace {
             self.misfit = Some(noted.entry.stamp);
             return Ok(false);
         }
-        keeper.keep(noted.machine, &noted.entry, 1)?;
+        sink.keep(noted.machine, &noted.entry, 1)?;
         Ok(!is_done)
     }
 
     // Takes a run. Once its entry has fitted and changed nothing, the interlock isn't asked again.
-    fn take_run<K: Keeper>(
+    fn take_run<K: EventSink>(
         &mut self,
         start: &State,
         run: &Run<'_>,
-        keeper: &mut K,
+        sink: &mut K,
     ) -> Result<(), AllocError>
         ensures { IfOk result (λ _. (least : ℕ) → (before : List Noted)
-            → IsTrace (K.holds keeper.old) start.now least before self.old
-            → IsTrace (K.holds keeper.new) start.now least (before ++ run_of run.now) self.new) }
+            → IsTrace (K.holds sink.old) start.now least before self.old
+            → IsTrace (K.holds sink.new) start.now least (before ++ run_of run.now) self.new) }
     {
         let noted = Noted {
             machine: run.machine,
@@ -89,8 +89,8 @@ impl Trace {
             in_turn: true,
         };
         for taken in 0..run.count {
-            if self.take(start, &noted, keeper)? {
-                return keeper.keep(run.machine, run.entry, run.count - taken - 1);
+            if self.take(start, &noted, sink)? {
+                return sink.keep(run.machine, run.entry, run.count - taken - 1);
             }
         }
         Ok(())
@@ -98,16 +98,16 @@ impl Trace {
 
     /// The trace of all entries of journals, if none has been taken yet; `None` if one of them isn't
     /// in turn.
-    pub fn follow_merged<K: Keeper>(
+    pub fn follow_merged<K: EventSink>(
         self,
         start: &State,
         journals: &Journals,
-        keeper: &mut K,
+        sink: &mut K,
     ) -> Result<Option<Trace>, AllocError>
         ensures { let ordered = in_order (all_noted (journal_of journals.now)) in
             IfOk result (λ merged. IfSome merged (λ trace. (least : ℕ)
-            → IsTrace (K.holds keeper.old) start.now least [] self
-            → IsTrace (K.holds keeper.new) start.now least ordered trace)) }
+            → IsTrace (K.holds sink.old) start.now least [] self
+            → IsTrace (K.holds sink.new) start.now least ordered trace)) }
     {
         let mut trace = self;
         let mut left = Merge::new(journals);
@@ -115,25 +115,25 @@ impl Trace {
             if !run.in_turn {
                 return Ok(None);
             }
-            trace.take_run(start, &run, keeper)?;
+            trace.take_run(start, &run, sink)?;
         }
         Ok(Some(trace))
     }
 
     /// The trace of sorted entries, if none has been taken yet.
-    pub fn follow_sorted<K: Keeper>(
+    pub fn follow_sorted<K: EventSink>(
         self,
         start: &State,
         sorted: &[Noted],
-        keeper: &mut K,
+        sink: &mut K,
     ) -> Result<Trace, AllocError>
         ensures { IfOk result (λ trace. (least : ℕ)
-            → IsTrace (K.holds keeper.old) start.now least [] self
-            → IsTrace (K.holds keeper.new) start.now least sorted.now trace) }
+            → IsTrace (K.holds sink.old) start.now least [] self
+            → IsTrace (K.holds sink.new) start.now least sorted.now trace) }
     {
         let mut trace = self;
         for noted in sorted {
-            trace.take(start, noted, keeper)?;
+            trace.take(start, noted, sink)?;
         }
         Ok(trace)
     }

@@ -6,7 +6,7 @@ use Rattle.cell_rules.specs.Names.{ModelState, zone_at, owns, posture_at, same_f
 use Rattle.cell_rules.proofs.lemmas.Tables.{and_left, and_right, and_both}
 use Rattle.cell_resume.specs.declared.keep.Share.{Share}
 use Rattle.cell_resume.specs.declared.keep.Share.TheVariants.{Clear, Loaded, Held, Lent, Any}
-use Rattle.cell_resume.specs.declared.keep.Keep.{Keep}
+use Rattle.cell_resume.specs.declared.keep.ZoneShare.{ZoneShare}
 use Rattle.cell_resume.specs.Keeping.{has_share, is_posed, is_kept}
 
 abbrev pub Shared : Share → Bool → Bool → Type 0
@@ -20,7 +20,7 @@ abbrev pub Posed : Option Posture → Posture → Type 0
 Posed None now = ⊤
 Posed (Some posture) now = now ≡ posture
 
-abbrev pub Kept : Keep → Machine → ModelState → Zone → Type 0
+abbrev pub Kept : ZoneShare → Machine → ModelState → Zone → Type 0
 Kept k m z y = Shared k.share (owns z m y) (zone_at z y).flag × Posed k.posture (posture_at z y)
 
 share_of : (s : Share) (owned plate : Bool) → has_share s owned plate ≡ true → Shared s owned plate
@@ -61,10 +61,10 @@ of_posed : (o : Option Posture) (now : Posture) → Posed o now → is_posed o n
 of_posed None now e = refl
 of_posed (Some posture) now e = subst (λ q. same_posture now q ≡ true) e (itself now)
 
-pub kept_of : (k : Keep) (m : Machine) (z : ModelState) (y : Zone) → is_kept k m z y ≡ true → Kept k m z y
+pub kept_of : (k : ZoneShare) (m : Machine) (z : ModelState) (y : Zone) → is_kept k m z y ≡ true → Kept k m z y
 kept_of k m z y e = (share_of k.share _ _ (and_left _ _ e), posed_of k.posture _ (and_right (has_share k.share (owns z m y) (zone_at z y).flag) _ e))
 
-pub of_kept : (k : Keep) (m : Machine) (z : ModelState) (y : Zone) → Kept k m z y → is_kept k m z y ≡ true
+pub of_kept : (k : ZoneShare) (m : Machine) (z : ModelState) (y : Zone) → Kept k m z y → is_kept k m z y ≡ true
 of_kept k m z y h = and_both _ _ (of_share k.share _ _ h.0) (of_posed k.posture _ h.1)
 
 -- a note agrees with a place

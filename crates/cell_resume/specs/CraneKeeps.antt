@@ -11,11 +11,11 @@ use Rattle.cell_belts_crane.specs.declared.crane.CraneStep.TheVariants.{DropPlat
 use Rattle.cell_belts_crane.specs.declared.crane.CraneProgress.{CraneProgress}
 use Rattle.cell_belts_crane.specs.declared.crane.CraneStep.TheVariants.{TakePlate, GivePlate}
 use Rattle.cell_resume.specs.declared.keep.Share.TheVariants.{Clear, Loaded, Held, Lent, Any}
-use Rattle.cell_resume.specs.declared.keep.Keep.{Keep}
+use Rattle.cell_resume.specs.declared.keep.ZoneShare.{ZoneShare}
 use Rattle.cell_resume.specs.Keeping.{is_kept, posed, unposed}
 
 -- the zone that it shares with the deposit belt
-abbrev pub deposit : CraneStep → Keep
+abbrev pub deposit : CraneStep → ZoneShare
 deposit LowerToPlate = posed Loaded OpenOut
 deposit GripPlate = posed Loaded OpenOut
 deposit RaiseWithPlate = posed Loaded OpenOut
@@ -24,7 +24,7 @@ deposit ReleaseDeposit = posed Clear OpenOut
 deposit _ = unposed Any
 
 -- the zone that it shares with the feed belt
-abbrev pub feed : CraneStep → Keep
+abbrev pub feed : CraneStep → ZoneShare
 feed LowerToFeed = posed Held OpenIn
 feed DropPlate = posed Held OpenIn
 feed RaiseFromFeed = posed Held OpenIn

@@ -9,11 +9,11 @@ use Rattle.cell_belts_crane.specs.declared.deposit.DepositStep.TheVariants.{Give
 use Rattle.cell_belts_crane.specs.declared.deposit.DepositProgress.{DepositProgress}
 use Rattle.cell_belts_crane.specs.declared.deposit.DepositStep.TheVariants.{ClaimExit}
 use Rattle.cell_resume.specs.declared.keep.Share.TheVariants.{Clear, Lent}
-use Rattle.cell_resume.specs.declared.keep.Keep.{Keep}
+use Rattle.cell_resume.specs.declared.keep.ZoneShare.{ZoneShare}
 use Rattle.cell_resume.specs.Keeping.{is_kept, posed, unposed}
 
 -- the zone that it shares with the robot
-abbrev pub entry : DepositStep → Keep
+abbrev pub entry : DepositStep → ZoneShare
 entry ClaimEntry = posed Lent Closed
 entry ClaimExit = unposed Clear
 entry PoseLanding = unposed Clear
@@ -28,7 +28,7 @@ entry GivePlate = posed Clear Closed
 entry ClaimBack = posed Clear Closed
 
 -- the zone that it shares with the crane
-abbrev pub exit : DepositStep → Keep
+abbrev pub exit : DepositStep → ZoneShare
 exit ClaimEntry = posed Lent Closed
 exit ClaimExit = posed Lent Closed
 exit PoseLanding = unposed Clear

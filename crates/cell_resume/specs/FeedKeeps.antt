@@ -8,11 +8,11 @@ use Rattle.cell_belts_crane.specs.declared.feed.FeedProgress.{FeedProgress}
 use Rattle.cell_belts_crane.specs.declared.feed.FeedStep.TheVariants.{ClaimEntry, PoseLanding, ReleaseEntry, TakePlate}
 use Rattle.cell_belts_crane.specs.declared.feed.FeedStep.TheVariants.{RunIn, MoveOn, RunOut, GivePlate}
 use Rattle.cell_resume.specs.declared.keep.Share.TheVariants.{Clear, Held, Lent}
-use Rattle.cell_resume.specs.declared.keep.Keep.{Keep}
+use Rattle.cell_resume.specs.declared.keep.ZoneShare.{ZoneShare}
 use Rattle.cell_resume.specs.Keeping.{is_kept, posed, unposed}
 
 -- the zone that it shares with the crane
-abbrev pub entry : FeedStep → Keep
+abbrev pub entry : FeedStep → ZoneShare
 entry ClaimEntry = posed Lent Closed
 entry PoseLanding = unposed Clear
 entry ReleaseEntry = posed Clear OpenIn
@@ -27,7 +27,7 @@ entry Halt = posed Clear Moving
 entry GivePlate = posed Clear Closed
 
 -- the zone that it shares with the table
-abbrev pub exit : FeedStep → Keep
+abbrev pub exit : FeedStep → ZoneShare
 exit StartOut = posed Held OpenIn
 exit RunOut = posed Held OpenIn
 exit Halt = posed Held OpenIn

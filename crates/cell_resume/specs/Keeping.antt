@@ -4,7 +4,7 @@ use Rattle.cell_rules.specs.Types.{Machine, Zone, Posture, same_posture}
 use Rattle.cell_rules.specs.Names.{ModelState, zone_at, implies, owns, posture_at}
 use Rattle.cell_resume.specs.declared.keep.Share.{Share}
 use Rattle.cell_resume.specs.declared.keep.Share.TheVariants.{Clear, Loaded, Held, Lent, Any}
-use Rattle.cell_resume.specs.declared.keep.Keep.{Keep}
+use Rattle.cell_resume.specs.declared.keep.ZoneShare.{ZoneShare}
 
 -- the machine has this share of a zone, by whether it owns the zone and whether a plate is there
 abbrev pub has_share : Share → Bool → Bool → Bool
@@ -19,12 +19,12 @@ abbrev pub is_posed : Option Posture → Posture → Bool
 is_posed None now = true
 is_posed (Some posture) now = same_posture now posture
 
-abbrev pub is_kept : Keep → Machine → ModelState → Zone → Bool
+abbrev pub is_kept : ZoneShare → Machine → ModelState → Zone → Bool
 is_kept k m z y = has_share k.share (owns z m y) (zone_at z y).flag && is_posed k.posture (posture_at z y)
 
 -- the share with a posture, and in any posture
-abbrev pub posed : Share → Posture → Keep
+abbrev pub posed : Share → Posture → ZoneShare
 posed share posture = record { share = share; posture = Some posture }
 
-abbrev pub unposed : Share → Keep
+abbrev pub unposed : Share → ZoneShare
 unposed share = record { share = share; posture = None }

@@ -13,11 +13,11 @@ use Rattle.cell_table_press.specs.declared.press.PressStep.TheVariants.{LeaveFor
 use Rattle.cell_table_press.specs.declared.press.PressStep.TheVariants.{ClaimBack}
 use Rattle.cell_table_press.specs.declared.press.PressProgress.{PressProgress}
 use Rattle.cell_resume.specs.declared.keep.Share.TheVariants.{Clear, Lent}
-use Rattle.cell_resume.specs.declared.keep.Keep.{Keep}
+use Rattle.cell_resume.specs.declared.keep.ZoneShare.{ZoneShare}
 use Rattle.cell_resume.specs.Keeping.{is_kept, posed, unposed}
 
 -- its interior
-abbrev pub interior : PressStep → Keep
+abbrev pub interior : PressStep → ZoneShare
 interior ClaimFirst = posed Lent Closed
 interior LeaveForMiddle = unposed Clear
 interior ReleaseInterior = posed Clear OpenIn

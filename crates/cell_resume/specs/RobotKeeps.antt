@@ -17,11 +17,11 @@ use Rattle.cell_robot.specs.declared.robot.RobotNotes.{RobotNotes}
 use Rattle.cell_robot.specs.declared.robot.RobotMagnets.{RobotMagnets}
 pub use Rattle.cell_team.specs.RobotPlates.{has_plates}
 use Rattle.cell_resume.specs.declared.keep.Share.TheVariants.{Clear, Loaded, Held, Lent, Any}
-use Rattle.cell_resume.specs.declared.keep.Keep.{Keep}
+use Rattle.cell_resume.specs.declared.keep.ZoneShare.{ZoneShare}
 use Rattle.cell_resume.specs.Keeping.{is_kept, posed, unposed}
 
 -- the zone that it shares with the table
-abbrev pub table : RobotStep → Keep
+abbrev pub table : RobotStep → ZoneShare
 table ReachTable = posed Loaded OpenOut
 table GripPlate = posed Loaded OpenOut
 table LeaveTable = posed Loaded OpenOut
@@ -30,7 +30,7 @@ table ReleaseTable = posed Clear OpenOut
 table _ = unposed Any
 
 -- the press's interior
-abbrev pub interior : RobotStep → Keep
+abbrev pub interior : RobotStep → ZoneShare
 interior InspectPress = unposed Held
 interior ReleasePress = unposed Held
 interior ReachToLoad = posed Held OpenIn
@@ -45,7 +45,7 @@ interior ReleaseUnloaded = posed Clear OpenOut
 interior _ = unposed Lent
 
 -- the zone that it shares with the deposit belt
-abbrev pub deposit : RobotStep → Keep
+abbrev pub deposit : RobotStep → ZoneShare
 deposit ReachDeposit = posed Held OpenIn
 deposit DropOnDeposit = posed Held OpenIn
 deposit LeaveDeposit = posed Held OpenIn

@@ -12,11 +12,11 @@ use Rattle.cell_table_press.specs.declared.table.TableStep.TheVariants.{PoseUnlo
 use Rattle.cell_table_press.specs.declared.table.TableProgress.{TableProgress}
 use Rattle.cell_table_press.specs.declared.table.TableStep.TheVariants.{TakePlate, GivePlate, ClaimBack}
 use Rattle.cell_resume.specs.declared.keep.Share.TheVariants.{Clear, Lent}
-use Rattle.cell_resume.specs.declared.keep.Keep.{Keep}
+use Rattle.cell_resume.specs.declared.keep.ZoneShare.{ZoneShare}
 use Rattle.cell_resume.specs.Keeping.{is_kept, posed, unposed}
 
 -- the zone that it shares with the feed belt
-abbrev pub entry : TableStep → Keep
+abbrev pub entry : TableStep → ZoneShare
 entry ClaimEntry = posed Lent Closed
 entry ClaimExit = unposed Clear
 entry LeaveForLoading = unposed Clear
@@ -31,7 +31,7 @@ entry GivePlate = posed Clear Closed
 entry ClaimBack = posed Clear Closed
 
 -- the zone that it shares with the robot
-abbrev pub exit : TableStep → Keep
+abbrev pub exit : TableStep → ZoneShare
 exit ClaimEntry = posed Lent Closed
 exit ClaimExit = posed Lent Closed
 exit LeaveForLoading = unposed Clear

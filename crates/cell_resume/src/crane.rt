@@ -7,7 +7,7 @@ ghost use Rattle.cell_resume.specs.Testing.{tested};
 ghost use Rattle.cell_resume.specs.CraneKeeps as keeps;
 
 use crate::fault::ResumeFault;
-use crate::keep::{Keep, Share, agree, pick};
+use crate::keep::{Share, ZoneShare, agree, pick};
 use crate::resumable::Resumable;
 use cell_belts_crane::{CraneProgram, CraneProgress, CraneStep};
 use cell_rules::State;
@@ -90,7 +90,7 @@ fn has_zones(step: CraneStep, state: &State) -> bool
 }
 
 // The zone that it shares with the deposit belt.
-fn deposit(step: CraneStep) -> Keep
+fn deposit(step: CraneStep) -> ZoneShare
     ensures { result ≡ keeps.deposit step }
 {
     match step {
@@ -112,7 +112,7 @@ fn deposit(step: CraneStep) -> Keep
 }
 
 // The zone that it shares with the feed belt.
-fn feed(step: CraneStep) -> Keep
+fn feed(step: CraneStep) -> ZoneShare
     ensures { result ≡ keeps.feed step }
 {
     match step {

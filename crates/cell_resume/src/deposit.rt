@@ -7,7 +7,7 @@ ghost use Rattle.cell_resume.specs.Testing.{tested};
 ghost use Rattle.cell_resume.specs.DepositKeeps as keeps;
 
 use crate::fault::ResumeFault;
-use crate::keep::{Keep, Share, agree, pick};
+use crate::keep::{Share, ZoneShare, agree, pick};
 use crate::resumable::Resumable;
 use cell_belts_crane::{DepositProgram, DepositProgress, DepositStep};
 use cell_rules::State;
@@ -88,7 +88,7 @@ fn has_zones(step: DepositStep, state: &State) -> bool
 }
 
 // The zone that it shares with the robot.
-fn entry(step: DepositStep) -> Keep
+fn entry(step: DepositStep) -> ZoneShare
     ensures { result ≡ keeps.entry step }
 {
     match step {
@@ -107,7 +107,7 @@ fn entry(step: DepositStep) -> Keep
 }
 
 // The zone that it shares with the crane.
-fn exit(step: DepositStep) -> Keep
+fn exit(step: DepositStep) -> ZoneShare
     ensures { result ≡ keeps.exit step }
 {
     match step {

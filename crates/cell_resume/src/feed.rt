@@ -7,7 +7,7 @@ ghost use Rattle.cell_resume.specs.Testing.{tested};
 ghost use Rattle.cell_resume.specs.FeedKeeps as keeps;
 
 use crate::fault::ResumeFault;
-use crate::keep::{Keep, Share, agree, pick};
+use crate::keep::{Share, ZoneShare, agree, pick};
 use crate::resumable::Resumable;
 use cell_belts_crane::{FeedProgram, FeedProgress, FeedStep};
 use cell_rules::State;
@@ -88,7 +88,7 @@ fn has_zones(step: FeedStep, state: &State) -> bool
 }
 
 // The zone that it shares with the crane.
-fn entry(step: FeedStep) -> Keep
+fn entry(step: FeedStep) -> ZoneShare
     ensures { result ≡ keeps.entry step }
 {
     match step {
@@ -104,7 +104,7 @@ fn entry(step: FeedStep) -> Keep
 }
 
 // The zone that it shares with the table.
-fn exit(step: FeedStep) -> Keep
+fn exit(step: FeedStep) -> ZoneShare
     ensures { result ≡ keeps.exit step }
 {
     match step {

@@ -24,7 +24,7 @@ pub enum Share {
 
 /// What a machine keeps of a zone.
 #[derive(Clone, Copy, Debug, PartialEq, Eq)]
-pub struct Keep {
+pub struct ZoneShare {
     /// Its share.
     pub share: Share,
     /// The zone's posture; `None` if it may be any.
@@ -34,10 +34,10 @@ pub struct Keep {
 impl Share {
     /// The share of a zone in this posture.
     #[inline(always)]
-    pub(crate) fn in_posture(self, posture: Posture) -> Keep
+    pub(crate) fn in_posture(self, posture: Posture) -> ZoneShare
         ensures { result ≡ keeping.posed self posture }
     {
-        Keep {
+        ZoneShare {
             share: self,
             posture: Some(posture),
         }
@@ -45,10 +45,10 @@ impl Share {
 
     /// The share of a zone in any posture.
     #[inline(always)]
-    pub(crate) fn in_any_posture(self) -> Keep
+    pub(crate) fn in_any_posture(self) -> ZoneShare
         ensures { result ≡ keeping.unposed self }
     {
-        Keep {
+        ZoneShare {
             share: self,
             posture: None,
         }
@@ -69,7 +69,7 @@ impl Share {
     }
 }
 
-impl Keep {
+impl ZoneShare {
     /// Whether the machine keeps this of the zone in a state.
     pub fn is_kept(self, machine: Machine, state: &State, zone: Zone) -> bool
         ensures { result ≡ keeping.is_kept self machine state.now zone }

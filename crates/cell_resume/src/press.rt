@@ -7,7 +7,7 @@ ghost use Rattle.cell_resume.specs.Testing.{tested};
 ghost use Rattle.cell_resume.specs.PressKeeps as keeps;
 
 use crate::fault::ResumeFault;
-use crate::keep::{Keep, Share, agree, pick};
+use crate::keep::{Share, ZoneShare, agree, pick};
 use crate::resumable::Resumable;
 use cell_devices::Direction;
 use cell_rules::State;
@@ -114,7 +114,7 @@ fn has_zones(step: PressStep, state: &State) -> bool
 }
 
 // Its interior.
-fn interior(step: PressStep) -> Keep
+fn interior(step: PressStep) -> ZoneShare
     ensures { result ≡ keeps.interior step }
 {
     match step {

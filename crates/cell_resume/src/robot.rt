@@ -7,7 +7,7 @@ ghost use Rattle.cell_resume.specs.Testing.{tested};
 ghost use Rattle.cell_resume.specs.RobotKeeps as keeps;
 
 use crate::fault::ResumeFault;
-use crate::keep::{Keep, Share, agree, pick};
+use crate::keep::{Share, ZoneShare, agree, pick};
 use crate::resumable::Resumable;
 use cell_robot::{RobotMagnets, RobotNotes, RobotProgram, RobotProgress, RobotStep};
 use cell_rules::State;
@@ -130,7 +130,7 @@ fn has_zones(step: RobotStep, state: &State) -> bool
 }
 
 // The zone that it shares with the table.
-fn table(step: RobotStep) -> Keep
+fn table(step: RobotStep) -> ZoneShare
     ensures { result ≡ keeps.table step }
 {
     match step {
@@ -166,7 +166,7 @@ fn table(step: RobotStep) -> Keep
 }
 
 // The press's interior.
-fn interior(step: RobotStep) -> Keep
+fn interior(step: RobotStep) -> ZoneShare
     ensures { result ≡ keeps.interior step }
 {
     match step {
@@ -201,7 +201,7 @@ fn interior(step: RobotStep) -> Keep
 }
 
 // The zone that it shares with the deposit belt.
-fn deposit(step: RobotStep) -> Keep
+fn deposit(step: RobotStep) -> ZoneShare
     ensures { result ≡ keeps.deposit step }
 {
     match step {

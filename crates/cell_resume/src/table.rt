@@ -7,7 +7,7 @@ ghost use Rattle.cell_resume.specs.Testing.{tested};
 ghost use Rattle.cell_resume.specs.TableKeeps as keeps;
 
 use crate::fault::ResumeFault;
-use crate::keep::{Keep, Share, agree, pick};
+use crate::keep::{Share, ZoneShare, agree, pick};
 use crate::resumable::Resumable;
 use cell_rules::State;
 use cell_sensors::Gauge;
@@ -88,7 +88,7 @@ fn has_zones(step: TableStep, state: &State) -> bool
 }
 
 // The zone that it shares with the feed belt.
-fn entry(step: TableStep) -> Keep
+fn entry(step: TableStep) -> ZoneShare
     ensures { result ≡ keeps.entry step }
 {
     match step {
@@ -106,7 +106,7 @@ fn entry(step: TableStep) -> Keep
 }
 
 // The zone that it shares with the robot.
-fn exit(step: TableStep) -> Keep
+fn exit(step: TableStep) -> ZoneShare
     ensures { result ≡ keeps.exit step }
 {
     match step {

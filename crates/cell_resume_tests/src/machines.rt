@@ -9,7 +9,7 @@ use cell_interlock::{Interlock, PassLine, Passes};
 use cell_resume::{Checkpoint, CheckpointBytes, Resumed, ResumedCell, Team, resume_at};
 use cell_robot::RobotProgram;
 use cell_rules::State;
-use cell_sensors::{Calibration, Gauge, Points, line_at};
+use cell_sensors::{Calibration, Gauge, Points, position_on_line};
 use cell_table_press::{PressProgram, TableProgram};
 use std::alloc::Global;
 use std::test::Fail;
@@ -138,11 +138,11 @@ pub fn at_start(places: [bool; 10]) -> Result<CheckpointBytes, Fail> {
     let opening = State::start(places, 0)?;
     let points = AxisPoints::new()?;
     let gauges = (
-        move |raw: u16| line_at(&points.arm, raw),
-        move |raw: u16| line_at(&points.arm, raw),
-        move |raw: u16| line_at(&points.rotation, raw),
-        move |raw: u16| line_at(&points.turn, raw),
-        move |raw: u16| line_at(&points.arm, raw),
+        move |raw: u16| position_on_line(&points.arm, raw),
+        move |raw: u16| position_on_line(&points.arm, raw),
+        move |raw: u16| position_on_line(&points.rotation, raw),
+        move |raw: u16| position_on_line(&points.turn, raw),
+        move |raw: u16| position_on_line(&points.arm, raw),
     );
     Ok(start_by(&opening, gauges, points))
 }
@@ -212,11 +212,11 @@ pub fn go_on(
     let points = AxisPoints::new()?;
     let cell = resume_at(bytes)?;
     let gauges = (
-        move |raw: u16| line_at(&points.arm, raw),
-        move |raw: u16| line_at(&points.arm, raw),
-        move |raw: u16| line_at(&points.rotation, raw),
-        move |raw: u16| line_at(&points.turn, raw),
-        move |raw: u16| line_at(&points.arm, raw),
+        move |raw: u16| position_on_line(&points.arm, raw),
+        move |raw: u16| position_on_line(&points.arm, raw),
+        move |raw: u16| position_on_line(&points.rotation, raw),
+        move |raw: u16| position_on_line(&points.turn, raw),
+        move |raw: u16| position_on_line(&points.arm, raw),
     );
     go_on_by(alloc, &cell, gauges, points, plant, first, turns)
 }

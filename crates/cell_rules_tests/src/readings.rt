@@ -2,7 +2,8 @@
 ghost use Rattle.std.specs.Prelude.{◌≡◌, ◌≤◌, slice_get};
 
 use cell_sensors::{
-    Calibration, Gauge, Points, PointsFault, SensorFault, SensorVector, line_at, switches_agree,
+    Calibration, Gauge, Points, PointsFault, SensorFault, SensorVector, position_on_line,
+    switches_agree,
 };
 use std::process::Abort;
 
@@ -59,7 +60,12 @@ const BY_LINE: &[(u16, Result<i32, SensorFault>)] = &[
 #[test]
 fn reads_by_the_line(rt: HostRuntime) {
     let points = Points::new(100, 4000, 0, 1000, 1).expect(&rt, "points");
-    let faults = expect_readings(&rt, move |raw: u16| line_at(&points, raw), points, BY_LINE);
+    let faults = expect_readings(
+        &rt,
+        move |raw: u16| position_on_line(&points, raw),
+        points,
+        BY_LINE,
+    );
     assert!(rt; faults == 2);
 }
 

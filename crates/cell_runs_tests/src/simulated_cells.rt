@@ -5,7 +5,7 @@ ghost use Rattle.cell_rules.specs.Start.{IsStartState};
 
 use cell_plant::{Cell, RunRecord, SimFault, Turn, simulate};
 use cell_rules::State;
-use cell_sensors::{Calibration, Gauge, Points, PointsFault, line_at};
+use cell_sensors::{Calibration, Gauge, Points, PointsFault, position_on_line};
 use cell_types::Place;
 use std::alloc::Global;
 use std::test::Fail;
@@ -73,11 +73,11 @@ pub fn run(
         turn: scale_to(500)?,
     };
     let gauges = (
-        move |raw: u16| line_at(&scales.arm, raw),
-        move |raw: u16| line_at(&scales.arm, raw),
-        move |raw: u16| line_at(&scales.rotation, raw),
-        move |raw: u16| line_at(&scales.turn, raw),
-        move |raw: u16| line_at(&scales.arm, raw),
+        move |raw: u16| position_on_line(&scales.arm, raw),
+        move |raw: u16| position_on_line(&scales.arm, raw),
+        move |raw: u16| position_on_line(&scales.rotation, raw),
+        move |raw: u16| position_on_line(&scales.turn, raw),
+        move |raw: u16| position_on_line(&scales.arm, raw),
     );
     Ok(run_by(alloc, start, gauges, scales, turns))
 }

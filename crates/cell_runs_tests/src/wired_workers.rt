@@ -3,7 +3,7 @@ ghost use Rattle.std.specs.Prelude.{◌≡◌};
 ghost use Rattle.cell_rules.specs.Start.{IsStartState};
 
 use cell_belts_crane::{CraneProgram, DepositProgram, FeedProgram};
-use cell_control::{CtlFault, Program, Told};
+use cell_control::{Commands, CtlFault, Program};
 use cell_devices::{CraneAct, DepositAct, FeedAct, Motor, PressAct, RobotAct, TableAct};
 use cell_notes::Status;
 use cell_renewal::{Devices, WiredOutput, WiredWorker};
@@ -11,7 +11,7 @@ use cell_robot::RobotProgram;
 use cell_rules::State;
 use cell_sensors::{
     Calibration, CraneSense, DepositSense, FeedSense, Gauge, Points, PressSense, RobotSense,
-    SensorFault, TableSense, line_at,
+    SensorFault, TableSense, position_on_line,
 };
 use cell_table_press::{PressProgram, TableProgram};
 use cell_threads::{OpenGate, RunFault, SixOf, SixRecord, run_workers};
@@ -30,7 +30,7 @@ struct Recorder<S, A> {
     then: Option<S>,
     reads: u32,
     sets: u32,
-    last: Option<Told<A>>,
+    last: Option<Commands<A>>,
 }
 
 impl<S: Copy, A: Copy> Devices for Recorder<S, A> {
@@ -53,7 +53,7 @@ impl<S: Copy, A: Copy> Devices for Recorder<S, A> {
         Some(self.shows)
     }
 
-    fn set(&mut self, told: &Told<A>) {
+    fn set(&mut self, told: &Commands<A>) {
         self.sets = self.sets.saturating_add(1);
         self.last = Some(*told);
     }
@@ -198,11 +198,11 @@ fn run_until<R: Threads + Wait + Sync>(
         turn: Points::new(0, 500, 0, 500, 5)?,
     };
     let gauges = (
-        move |raw: u16| line_at(&points.arm, raw),
-        move |raw: u16| line_at(&points.arm, raw),
-        move |raw: u16| line_at(&points.rotation, raw),
-        move |raw: u16| line_at(&points.turn, raw),
-        move |raw: u16| line_at(&points.arm, raw),
+        move |raw: u16| position_on_line(&points.arm, raw),
+        move |raw: u16| position_on_line(&points.arm, raw),
+        move |raw: u16| position_on_line(&points.rotation, raw),
+        move |raw: u16| position_on_line(&points.turn, raw),
+        move |raw: u16| position_on_line(&points.arm, raw),
     );
     let press = Recorder::new(AT_TOP, good, then);
     Ok(run_by(rt, alloc, opening, gauges, points, press, turns))

@@ -7,7 +7,7 @@ ghost use Rattle.cell_rules.specs.Start.{IsStartState};
 use cell_notes::RunRecord;
 use cell_plant::Cell;
 use cell_rules::State;
-use cell_sensors::{Calibration, Gauge, Points, PointsFault, line_at};
+use cell_sensors::{Calibration, Gauge, Points, PointsFault, position_on_line};
 use cell_workers::{OpenGate, RunFault, run_cell};
 use std::alloc::Global;
 use std::sync::Wait;
@@ -99,11 +99,11 @@ pub fn work<R: Threads + Wait + Sync>(
     let rotation = points_of(2000)?;
     let turn = points_of(500)?;
     let gauges = (
-        move |raw: u16| line_at(&arm, raw),
-        move |raw: u16| line_at(&arm, raw),
-        move |raw: u16| line_at(&rotation, raw),
-        move |raw: u16| line_at(&turn, raw),
-        move |raw: u16| line_at(&arm, raw),
+        move |raw: u16| position_on_line(&arm, raw),
+        move |raw: u16| position_on_line(&arm, raw),
+        move |raw: u16| position_on_line(&rotation, raw),
+        move |raw: u16| position_on_line(&turn, raw),
+        move |raw: u16| position_on_line(&arm, raw),
     );
     let points = AxisPoints {
         arm,

@@ -6,7 +6,7 @@ ghost use Rattle.cell_sensors.specs.Curve.{IsOnCurve, pairs_of};
 
 use crate::curve::Curve;
 use crate::gauge::Gauge;
-use crate::line::line_at;
+use crate::line::position_on_line;
 use crate::points::Points;
 use crate::sense::SensorFault;
 
@@ -79,7 +79,7 @@ pub fn line_reading(points: Points, raw: u16) -> Result<i32, SensorFault>
     ensures high { (result ≡ Err SensorFault.High) ↔ (points.raw_hi < raw) }
     ensures floor { IfOk result (λ v. IsLineRoundedDown points raw v) }
 {
-    reading(move |raw: u16| line_at(&points, raw), points, raw)
+    reading(move |raw: u16| position_on_line(&points, raw), points, raw)
 }
 
 /// The reading of a calibration whose closure is a curve. A raw value below `raw_lo` is `Low`, one

@@ -72,7 +72,7 @@ impl Curve {
         })
     }
 
-    /// The curve that is the line of `points`: it answers what `line_at` answers.
+    /// The curve that is the line of `points`: it answers what `position_on_line` answers.
     pub fn of_line(points: Points) -> Curve
         ensures scale { result.scale ≡ points }
         ensures pairs { pairs_of result ≡ ends_of points }

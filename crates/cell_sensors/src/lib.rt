@@ -13,7 +13,7 @@ pub mod sense;
 pub use calibration::{Calibration, curve_reading, line_reading};
 pub use curve::{Curve, CurveFault, MAX_PAIRS};
 pub use gauge::Gauge;
-pub use line::line_at;
+pub use line::position_on_line;
 pub use points::{Points, PointsFault};
 pub use sense::{
     CraneSense, DepositSense, FeedSense, PressSense, RobotSense, SensorFault, SensorVector,

@@ -5,7 +5,7 @@ ghost use Rattle.cell_sensors.specs.Line.{IsLineRoundedDown, IsReading};
 use crate::points::Points;
 
 /// The line's position at a raw value from `raw_lo` to `raw_hi`, rounded down.
-pub fn line_at(points: &Points, raw: u16) -> i32
+pub fn position_on_line(points: &Points, raw: u16) -> i32
     requires low { points.now.raw_lo ≤ raw }
     requires high { raw ≤ points.now.raw_hi }
     ensures floor { IsLineRoundedDown points.now raw result }

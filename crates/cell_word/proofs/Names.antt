@@ -25,7 +25,7 @@ unfoldable pub use Rattle.cell_word.specs.Layout.{packed}
 pub use Rattle.cell_word.specs.Layout.{Field, field, fields_at, fields_of, last_fields, mark_bit, owner_code, place_bit, place_field, posture_code, stamp_bit, term_of, word_of, zone_bit, zone_fields}
 pub use Rattle.cell_word.specs.Parties.{giving_posture, is_guest, machine_of, opposite}
 pub use Rattle.cell_word.specs.Patterns.{anything, both, field_is, flag_is, high_differs, low_differs, mark_is, nothing, owner_is, pattern, place_is, posture_is, stands, when, with_written}
-pub use Rattle.cell_word.specs.Reading.{bits_of, is_bit_set, is_told_full, owner_of_code, posture_of_code, state_told, zone_told}
+pub use Rattle.cell_word.specs.Reading.{bits_of, is_bit_set, is_told_full, owner_of_code, posture_of_code, state_told, zone_in_word}
 pub use Rattle.cell_word.specs.StateWords.{is_lawful_press, is_lawful_zone, is_state_word, onto_full, zone_codes}
 pub use Rattle.cell_word.specs.declared.parties.Party.{Party}
 pub use Rattle.cell_word.specs.declared.parties.Party.TheVariants.{Guest, Host}

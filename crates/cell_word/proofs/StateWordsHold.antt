@@ -1,7 +1,7 @@
 -- A word is a sound state's exactly if the masks say so.
 use Rattle.cell_word.proofs.Names.{◌≡◌, ℕ, zero, suc, ◌+◌, ◌*◌, ◌/◌, ◌%◌, ◌^◌, ◌<◌, ◌≤◌, Bool, true, false, ◌&&◌, not, nat_eq, Option, Some, None, refl, sym, ap, ap₂, ◌∙◌, arith, eqb-true, eq-eqb, bit_and, bit_or, list_all, and-false, and_parts, not-true, shr-shr, mod_below, five, Zone, Z1, Z3, Transfer, Place, FeedEntry, PressIn, PressOut, Posture, Closed, Moving, OpenIn, OpenOut}
 use Rattle.cell_word.proofs.Names.{transfer_of, same_posture, one_posture, Machine, PlaceSet, ModelState, zone_at, is_full, one_if, IsSound, implies, has_lawful_owner, is_lawful_plate, is_onto_full, is_open_to_guest, moves_by_host, is_of_some_pose, has_one_plate, is_received_by, ZoneState, and_left, and_right, and_both, implied, all_bools, from_bools, from_zones, all_pass, zones, postures, states, holds2, zone_bit}
-use Rattle.cell_word.proofs.Names.{place_bit, mark_bit, packed, bits_of, is_bit_set, owner_of_code, posture_of_code, zone_told, state_told, stands, both, nothing, posture_is, place_is, field_is, zone_codes, onto_full, is_lawful_zone, is_lawful_press, is_state_word, Pattern}
+use Rattle.cell_word.proofs.Names.{place_bit, mark_bit, packed, bits_of, is_bit_set, owner_of_code, posture_of_code, zone_in_word, state_told, stands, both, nothing, posture_is, place_is, field_is, zone_codes, onto_full, is_lawful_zone, is_lawful_press, is_state_word, Pattern}
 use Rattle.cell_types.specs.Everything.{all_zones as every_zone}
 use Rattle.cell_word.proofs.lemmas.RoundTrip.{told_back, laid_out}
 use Rattle.cell_word.proofs.SameAnswer.{same_bool, one_bool}
@@ -17,7 +17,7 @@ zone_of_code z c = record { owner = owner_of_code z (c % 4); flag = nat_eq (c / 
 low_bits : (a : ℕ) → (a % 4 ≡ a % 32 % 4) × (a / 4 % 2 ≡ a % 32 / 4 % 2) × (a / 8 % 4 ≡ a % 32 / 8 % 4)
 low_bits a = (omega arith, omega arith, omega arith)
 
-told_by_code : (w : ℕ) (z : Zone) → zone_told w z ≡ zone_of_code z (bits_of w (zone_bit z) 5)
+told_by_code : (w : ℕ) (z : Zone) → zone_in_word w z ≡ zone_of_code z (bits_of w (zone_bit z) 5)
 told_by_code w z =
     let k = zone_bit z in
     let bits = low_bits (w / 2 ^ k) in
@@ -25,7 +25,7 @@ told_by_code w z =
     let posture : bits_of w (k + 3) 2 ≡ bits_of w k 5 / 8 % 4 = ap (λ n. n % 4) (sym (shr-shr w k 3)) ∙ bits.2 in
     λ i. record { owner = owner_of_code z (bits.0 i); flag = nat_eq (flag i) 1; posture = posture_of_code (posture i) }
 
-zone_of_state : (w : ℕ) (z : Zone) → zone_at (state_told w) z ≡ zone_told w z
+zone_of_state : (w : ℕ) (z : Zone) → zone_at (state_told w) z ≡ zone_in_word w z
 zone_of_state w Z1 = refl
 zone_of_state w _ = refl
 

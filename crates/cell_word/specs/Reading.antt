@@ -22,25 +22,25 @@ posture_of_code n = if nat_eq n 0 then Closed else if nat_eq n 1 then Moving els
 abbrev pub is_bit_set : ℕ → ℕ → Bool
 is_bit_set w lowest = nat_eq (bits_of w lowest 1) 1
 
-abbrev pub zone_told : ℕ → Zone → ZoneState
-zone_told w z = record {
+abbrev pub zone_in_word : ℕ → Zone → ZoneState
+zone_in_word w z = record {
   owner = owner_of_code z (bits_of w (zone_bit z) 2);
   flag = is_bit_set w (zone_bit z + 2);
   posture = posture_of_code (bits_of w (zone_bit z + 3) 2);
 }
 
-abbrev pub zones_told : ℕ → ZoneMap
-zones_told w =
-    zone_map (zone_told w Z1) (zone_told w Z2) (zone_told w Z3) (zone_told w Z4) (zone_told w Z5) (zone_told w Z6)
+abbrev pub zones_in_word : ℕ → ZoneMap
+zones_in_word w =
+    zone_map (zone_in_word w Z1) (zone_in_word w Z2) (zone_in_word w Z3) (zone_in_word w Z4) (zone_in_word w Z5) (zone_in_word w Z6)
 
 abbrev pub is_told_full : ℕ → Place → Bool
 is_told_full w p = is_bit_set w (place_bit p)
 
-abbrev pub places_told : ℕ → PlaceSet
-places_told w =
+abbrev pub places_in_word : ℕ → PlaceSet
+places_in_word w =
     place_set (is_told_full w FeedEntry) (is_told_full w FeedEnd) (is_told_full w Table) (is_told_full w Arm1)
     (is_told_full w PressIn) (is_told_full w PressOut) (is_told_full w Arm2) (is_told_full w DepEntry)
     (is_told_full w DepEnd) (is_told_full w Crane)
 
 abbrev pub state_told : ℕ → ModelState
-state_told w = model_state (zones_told w) (places_told w) (bits_of w stamp_bit 20) (is_bit_set w mark_bit)
+state_told w = model_state (zones_in_word w) (places_in_word w) (bits_of w stamp_bit 20) (is_bit_set w mark_bit)

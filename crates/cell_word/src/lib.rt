@@ -14,5 +14,5 @@ mod step;
 mod word;
 
 pub use changes::masks;
-pub use step::{step_sound, step_word};
+pub use step::{step_state_word, step_word};
 pub use word::{pack, stamp_of, unpack};

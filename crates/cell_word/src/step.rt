@@ -11,7 +11,7 @@ use crate::guards::{check, claim, give, hand_over, release, resume, stop, take};
 use crate::patterns::word_after_check;
 use crate::pose_guards::{advance, word_after_pose};
 use crate::state_words::is_state_word;
-use crate::word::zone_told;
+use crate::word::zone_in_word;
 use cell_types::{Answer, Call, Machine, Zone};
 
 /// The state of a zone.
@@ -21,7 +21,7 @@ fn show_zone(word: u64, zone: Zone) -> Answer
         → result ≡ Shown (zone_at state zone).owner (zone_at state zone).flag
         (zone_at state zone).posture }
 {
-    let at = zone_told(word, zone);
+    let at = zone_in_word(word, zone);
     Answer::Shown {
         owner: at.owner,
         flag: at.flag,
@@ -120,7 +120,7 @@ fn answer_at(word: u64, machine: Machine, call: Call) -> Answer
 /// Makes a call on the word of a sound state without unpacking it. Returns the interlock's answer
 /// and the word of the state after it: the same word unless the answer is Done.
 #[inline(always)]
-pub fn step_sound(word: u64, machine: Machine, call: Call) -> (Answer, u64)
+pub fn step_state_word(word: u64, machine: Machine, call: Call) -> (Answer, u64)
     requires { (state : ModelState) × IsSound state × (packed state ≡ word) }
     ensures { (state : ModelState) → IsSound state → packed state ≡ word
         → result ≡ (reply state machine call, packed (next state machine call)) }
@@ -142,7 +142,7 @@ pub fn step_word(word: u64, machine: Machine, call: Call) -> Option<(Answer, u64
     ensures none { IsNone result ↔ ((state : ModelState) → IsSound state → packed state ≢ word) }
 {
     if is_state_word(word) {
-        Some(step_sound(word, machine, call))
+        Some(step_state_word(word, machine, call))
     } else {
         None
     }

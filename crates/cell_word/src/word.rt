@@ -54,8 +54,8 @@ pub fn pack(state: &State) -> u64
     with_bits(word, MARK_BIT, 1, u64::from(state.stopped()))
 }
 
-pub(crate) fn zone_told(word: u64, zone: Zone) -> ZoneState
-    ensures { result ≡ reading.zone_told word zone }
+pub(crate) fn zone_in_word(word: u64, zone: Zone) -> ZoneState
+    ensures { result ≡ reading.zone_in_word word zone }
 {
     let lowest = zone_bit(zone);
     ZoneState {
@@ -65,18 +65,18 @@ pub(crate) fn zone_told(word: u64, zone: Zone) -> ZoneState
     }
 }
 
-fn zones_told(word: u64) -> Zones
-    ensures { result ≡ reading.zones_told word }
+fn zones_in_word(word: u64) -> Zones
+    ensures { result ≡ reading.zones_in_word word }
 {
     let mut zones = Zones::all_free();
     for zone in Zone::ALL {
-        zones.set(zone, zone_told(word, zone));
+        zones.set(zone, zone_in_word(word, zone));
     }
     zones
 }
 
-fn places_told(word: u64) -> Places
-    ensures { result ≡ reading.places_told word }
+fn places_in_word(word: u64) -> Places
+    ensures { result ≡ reading.places_in_word word }
 {
     Places::from_flags(Place::ALL.map(|place| bits(word, place_bit(place), 1) == 1))
 }
@@ -97,7 +97,12 @@ fn sound_state_told(word: u64) -> Option<State>
     ensures value { IfSome result (λ state. state ≡ state_told word) }
 {
     let stopped = bits(word, MARK_BIT, 1) == 1;
-    State::from_parts(zones_told(word), places_told(word), stamp_of(word), stopped)
+    State::from_parts(
+        zones_in_word(word),
+        places_in_word(word),
+        stamp_of(word),
+        stopped,
+    )
 }
 
 /// The sound state that packs to a word, or `None` if there is none: a bit above the mark is set,

@@ -5,7 +5,7 @@ use Rattle.cell_rules.specs.Types.{Machine, Feed, Table, Robot, Press, Deposit, 
 use Rattle.cell_rules.specs.ModelState.{ModelState}
 use Rattle.cell_notes.specs.ByMachine.{at_machine, values_of}
 use Rattle.cell_notes.specs.declared.by_machine.ByMachine.{ByMachine}
-use Rattle.cell_turns.specs.Columns.{cell_columns}
+use Rattle.cell_explorer.specs.Columns.{cell_columns}
 use Rattle.cell_explorer.specs.Walks.{next_turn}
 use Rattle.cell_explorer.specs.declared.walk.NextTurn.{NextTurn}
 use Rattle.cell_explorer.specs.declared.walk.Walk.{Walk}

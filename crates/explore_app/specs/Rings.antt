@@ -7,8 +7,8 @@ use Rattle.cell_rules.specs.Types.{Claim, Give, Yield, Take, Release, Inquire, S
 use Rattle.cell_rules.specs.Types.{all_machines, machine_word, call_text, answer_text}
 use Rattle.cell_rules.specs.Names.{ModelState, reply, other_party}
 use Rattle.cell_notes.specs.Names.{at_machine}
-use Rattle.cell_turns.specs.declared.turning.Prospect.{Prospect}
-use Rattle.cell_turns.specs.Situations.{waits, stops}
+use Rattle.cell_explorer.specs.declared.turning.Prospect.{Prospect}
+use Rattle.cell_explorer.specs.Situations.{waits, stops}
 use Rattle.cell_explorer.specs.declared.walk.Walk.{Walk}
 use Rattle.explore_app.specs.declared.ending.Ending.{Ending}
 use Rattle.explore_app.specs.declared.ending.Ending.TheVariants.{Standstill, Refusal}

@@ -8,10 +8,10 @@ use Rattle.cell_rules.specs.Types.{Machine}
 use Rattle.cell_rules.specs.Names.{ModelState, reply}
 use Rattle.cell_notes.specs.declared.schedule.Turn.{Turn}
 use Rattle.cell_notes.specs.Names.{at_machine}
-use Rattle.cell_turns.specs.declared.turning.Prospect.{Prospect}
-use Rattle.cell_turns.specs.declared.turning.Prospect.TheVariants.{Acts, Waits, Stops}
-use Rattle.cell_turns.specs.Columns.{cell_columns}
-use Rattle.cell_turns.specs.Situations.{prospect_of, waits}
+use Rattle.cell_explorer.specs.declared.turning.Prospect.{Prospect}
+use Rattle.cell_explorer.specs.declared.turning.Prospect.TheVariants.{Acts, Waits, Stops}
+use Rattle.cell_explorer.specs.Columns.{cell_columns}
+use Rattle.cell_explorer.specs.Situations.{prospect_of, waits}
 use Rattle.cell_explorer.specs.Calls.{call_of}
 use Rattle.cell_explorer.specs.declared.walk.Walk.{Walk}
 use Rattle.cell_liveness.specs.Answers.{IfWithin}

@@ -3,7 +3,7 @@
 ghost use Rattle.std.specs.Prelude.{◌≡◌};
 ghost use Rattle.explore_app.specs.Rings as rings;
 
-use cell_turns::Prospect;
+use cell_explorer::Prospect;
 
 /// How the turns end that an exploration has found.
 #[derive(Clone, Copy)]

@@ -13,12 +13,11 @@ use crate::schedule::{ScheduleFault, is_answered, is_at, push_until_asked, way_i
 use crate::screen::{push_plates_line, push_schedule, push_start, screen_of};
 use crate::step::Step;
 use cell_config::Config;
-use cell_explorer::{Walk, take_turns};
+use cell_explorer::{Prospect, Walk, take_turns};
 use cell_liveness::{Progress, explore_progress};
 use cell_notes::ByMachine;
 use cell_plant::{Frame, Turn};
 use cell_rules::{State, answer};
-use cell_turns::Prospect;
 use cell_types::Machine;
 use std::alloc::{AllocError, Global};
 

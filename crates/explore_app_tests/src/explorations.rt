@@ -1,9 +1,8 @@
 //! What explorations answer where there is memory, and walks. The numbers are those that plain Rust finds, written
 //! apart from the proved program.
 
-use cell_explorer::{Explored, NextTurn, Walk, explore_start, machine_at, take_turns};
+use cell_explorer::{Explored, NextTurn, Prospect, Walk, explore_start, machine_at, take_turns};
 use cell_rules::State;
-use cell_turns::Prospect;
 use cell_types::{Call, Machine, Pose, Zone};
 use std::alloc::Global;
 use std::test::Fail;

@@ -2,9 +2,8 @@
 //! machines that they would be stopped, though they only wait.
 
 use cell_config::read_config;
-use cell_explorer::{Explored, NextTurn, Walk, take_turns};
-use cell_turns::Prospect;
-use cell_turns::Prospect::{Acts, Stops, Waits};
+use cell_explorer::Prospect::{Acts, Stops, Waits};
+use cell_explorer::{Explored, NextTurn, Prospect, Walk, take_turns};
 use cell_types::Machine;
 use explore_app::ending::Ending;
 use explore_app::schedule::ScheduleFault;

@@ -1,8 +1,7 @@
 //! The lines of who waits for whom, and of who is refused. They are worked out by hand.
 
-use cell_explorer::{NextTurn, Walk, take_turns};
+use cell_explorer::{NextTurn, Prospect, Walk, take_turns};
 use cell_rules::State;
-use cell_turns::Prospect;
 use cell_types::{Call, Machine, Pose, Zone};
 use explore_app::ending::Ending;
 use explore_app::ring::push_ring;

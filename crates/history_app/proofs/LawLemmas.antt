@@ -5,8 +5,8 @@ use Rattle.cell_types.specs.Journals.{journal_of}
 use Rattle.cell_rules.specs.Names.{IsStartState, noted}
 use Rattle.cell_notes.specs.declared.run_record.RunRecord.{RunRecord}
 use Rattle.cell_replay.specs.Script.{event_lines, start_line}
-use Rattle.cell_history.specs.Answered.{start_of}
-use Rattle.cell_history.proofs.lemmas.Answering.{histories_answered}
+use Rattle.history_app.specs.Answered.{start_of}
+use Rattle.history_app.proofs.lemmas.Answering.{histories_answered}
 use Rattle.history_app.specs.Laws.{AnswersAs, RecordingsAreAnswered}
 use Rattle.history_app.specs.Recorded.{IsHistoryOf, WroteScript}
 

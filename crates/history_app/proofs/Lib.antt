@@ -1,3 +1,7 @@
-mod TellLemmas
+mod WriteLemmas
 mod ServeLemmas
 mod LawLemmas
+pub mod lemmas
+mod Lines
+mod Reading
+mod Openings

@@ -6,7 +6,7 @@ use Rattle.cell_rules.specs.Journal.{noted}
 use Rattle.cell_notes.specs.declared.run_record.RunRecord.{RunRecord}
 use Rattle.csv_rows.specs.declared.script_end.Outcome.TheVariants.{Clean}
 use Rattle.cell_replay.specs.Script.{event_lines, script_events, script_outcome, script_text, start_line}
-use Rattle.cell_history.specs.Answered.{start_of}
+use Rattle.history_app.specs.Answered.{start_of}
 use Rattle.history_app.specs.Recorded.{IsHistoryOf, TellsPacedRun, WasRecorded}
 
 -- A replay of a script gives the answers that a run's machines got: it is clean, its events are a legal history of the

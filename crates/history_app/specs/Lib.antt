@@ -1,3 +1,6 @@
 pub mod Recorded
 pub mod Served
 pub mod Laws
+pub mod Scripts
+pub mod Answered
+pub mod ScriptExamples

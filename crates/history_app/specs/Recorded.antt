@@ -6,7 +6,7 @@ use Rattle.cell_rules.specs.Names.{IsAudited, IsStartState}
 use Rattle.text_io.specs.Output.{WrotePrefix}
 use Rattle.cell_notes.specs.declared.run_record.RunRecord.{RunRecord}
 use Rattle.csv_rows.specs.ScriptEnd.{max_records}
-use Rattle.cell_history.specs.Scripts.{script_of}
+use Rattle.history_app.specs.Scripts.{script_of}
 use Rattle.cell_config.specs.Configured.{Says}
 use Rattle.cell_config.specs.ConfigWords.{config_fault_text}
 use Rattle.cell_config.specs.declared.fault.ConfigFault.{ConfigFault}

@@ -5,7 +5,7 @@ ghost use Rattle.text_io.specs.Input.{TakesAtMost};
 ghost use Rattle.cell_config.specs.Settings.{max_bytes_read};
 ghost use Rattle.history_app.specs.Recorded.{RecordingFails, WasRecorded};
 
-use crate::tell::tell;
+use crate::history::write_history;
 use cell_app::serve_run::run_configured;
 use cell_config::read_config;
 use cell_threads::PacedGate;
@@ -45,7 +45,7 @@ where
     };
     let gate = PacedGate::new(rt);
     match run_configured(rt, alloc, &config, turns, tries, &gate) {
-        Ok(run) => tell(alloc, &run, writer),
+        Ok(run) => write_history(alloc, &run, writer),
         Err(fault) => fail(writer, fault.text()),
     }
 }

@@ -4,7 +4,7 @@ use Rattle.std.specs.Prelude.{if◌then◌else◌}
 use Rattle.std.specs.Fmt.{decimal}
 use Rattle.std.specs.List.{range_with_len}
 use Rattle.plan_types.specs.Table.{guest_of, host_of, keeper_of, machine_of}
-use Rattle.plan_bytes.specs.Bytes.{bytes_of}
+use Rattle.plan_types.specs.Bytes.{bytes_of}
 use Rattle.plan_word.specs.Layout.{Counts, counts_of, has, start_of, width_of}
 use Rattle.plan_word.specs.declared.layout.Field.{Field}
 use Rattle.plan_word.specs.declared.layout.Field.TheVariants.{Zone, Place, Stamp, Stop}

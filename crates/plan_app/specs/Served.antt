@@ -7,7 +7,7 @@ use Rattle.plan_text.specs.Named.{Named}
 use Rattle.plan_document.specs.Reading.{IsPlanIn}
 use Rattle.plan_document.specs.declared.resolving.ProgrammedPlan.{ProgrammedPlan}
 use Rattle.csv_rows.specs.declared.script_end.Outcome.TheVariants.{Clean}
-use Rattle.plan_replay.specs.Script.{script_answers, script_start}
+use Rattle.plan_text.specs.Script.{script_answers, script_start}
 use Rattle.plan_app.specs.Headers.{header_text}
 use Rattle.plan_app.specs.Input.{document_in, script_in}
 use Rattle.plan_app.specs.Reports.{report_text}

@@ -2,14 +2,13 @@
 ghost use Rattle.std.specs.Prelude.{◌≡◌, ◌<◌, ◌++◌, IfOk, OnOk, flat_map, length, string_bytes};
 ghost use Rattle.std.specs.List.{range_with_len};
 ghost use Rattle.plan_types.specs.Table.{keeper_of};
-ghost use Rattle.plan_bytes.specs.Bytes.{bytes_of};
+ghost use Rattle.plan_types.specs.Bytes.{bytes_of};
 ghost use Rattle.plan_word.specs.Layout.{counts_of};
 ghost use Rattle.plan_app.specs.Headers as spec;
 ghost use Rattle.plan_app.specs.Words as words;
 
-use plan_bytes::write_tables;
 use plan_text::{NamedPlan, Names};
-use plan_types::Plan;
+use plan_types::{Plan, write_tables};
 use plan_word::{Field, Layout};
 use std::alloc::{AllocError, Global};
 
@@ -308,19 +307,19 @@ fn push_keeper(
 ) -> Result<(), AllocError>
     ensures { OnOk result (string_bytes text.new ≡ string_bytes text.old ++ spec.keeper_line named.now place) }
 {
-    let keeper = keeper(named.plan(), place);
+    let owner_of_place = owner_of_place(named.plan(), place);
     push_party(
         alloc,
         text,
         named,
         "keeper_of_",
         named.places().name(place),
-        keeper,
+        owner_of_place,
     )
 }
 
 /// The machine that keeps a place.
-fn keeper(plan: &Plan, place: u8) -> u8
+fn owner_of_place(plan: &Plan, place: u8) -> u8
     ensures { result ≡ keeper_of plan.now place }
 {
     match plan.tables().places.as_slice().get(usize::from(place)) {

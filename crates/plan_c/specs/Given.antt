@@ -5,7 +5,7 @@ use Rattle.plan_types.specs.Plan.{IsPlan}
 use Rattle.plan_rules.specs.declared.state.State.{State}
 use Rattle.plan_word.specs.OfPlan.{IsOfPlan}
 use Rattle.plan_word.specs.Packed.{packed}
-use Rattle.plan_bytes.specs.Bytes.{bytes_of, HasWholeRows}
+use Rattle.plan_types.specs.Bytes.{bytes_of, HasWholeRows}
 
 -- the bytes are those of a plan
 pub record IsPlanOf (bytes : List ℕ) (t : PlanTable) : Type 0 where

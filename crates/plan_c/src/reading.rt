@@ -4,8 +4,7 @@ ghost use Rattle.plan_types.specs.Table.{PlanTable};
 ghost use Rattle.plan_word.specs.Layout.{counts_of};
 ghost use Rattle.plan_c.specs.Given.{IsPlanOf, NoPlan};
 
-use plan_bytes::read_tables;
-use plan_types::Plan;
+use plan_types::{Plan, read_tables};
 use plan_word::Layout;
 use std::alloc::{AllocError, Global};
 

@@ -5,9 +5,8 @@ use crate::exports::{
     bagunjoki_plan_restamp, bagunjoki_plan_stamp, bagunjoki_plan_start, bagunjoki_plan_step,
 };
 use crate::reply::{NO_CALL, Reply, bare_reply, reply_of};
-use plan_bytes::write_tables;
 use plan_rules::{LAST_STAMP, State, apply};
-use plan_types::{Plan, examples};
+use plan_types::{Plan, examples, write_tables};
 use plan_word::{Layout, pack};
 use std::test::Fail;
 

@@ -3,7 +3,7 @@
 use crate::fault::{DocumentFault, Key, Location, RowOf, Wrong};
 use std::alloc::{AllocError, Global};
 use std::str;
-use toml_places::{Step, line_at, nearest_place, places_in};
+use toml_places::{Step, line_number, nearest_place, places_in};
 
 /// The most brackets of a value around what a fault is about: a zone in what a pose gives, in a list of machines.
 const MAX_DEPTH: usize = 5;
@@ -30,7 +30,7 @@ fn line_of_steps(
     };
     let places = places_in(alloc, text, MAX_DEPTH)?;
     let nearest = nearest_place(places.as_slice(), steps);
-    Ok(nearest.map(|place| line_at(bytes, place.start)))
+    Ok(nearest.map(|place| line_number(bytes, place.start)))
 }
 
 /// The steps to what a fault is about.

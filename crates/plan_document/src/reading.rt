@@ -20,7 +20,7 @@ use std::alloc::{AllocError, Global};
 use std::io::Read;
 use text_io::{InputFault, read_up_to};
 use toml::{Table, Value};
-use toml_places::line_at;
+use toml_places::line_number;
 
 /// The most bytes of a document.
 pub const MAX_BYTES: usize = 65_536;
@@ -67,7 +67,7 @@ pub fn plan_of(alloc: Global, bytes: &[u8]) -> Result<ProgrammedPlan, PlanTextFa
         Err(error) => {
             let before = error.span().map_or(0, |span| span.start);
             Err(PlanTextFault::NoToml {
-                line: line_at(bytes, before),
+                line: line_number(bytes, before),
                 message: String::from_str(alloc, error.message())?,
             })
         }

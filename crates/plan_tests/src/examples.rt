@@ -1,8 +1,7 @@
 //! The programs of the READMEs.
 
-use plan_bytes::{read_tables, write_tables};
 use plan_rules::{State, apply};
-use plan_types::{Answer, Call, Plan, PlanFault, Refusal, examples};
+use plan_types::{Answer, Call, Plan, PlanFault, Refusal, examples, read_tables, write_tables};
 use plan_word::{Layout, pack, stamp_of, step_word, unpack};
 use std::test::Fail;
 

@@ -3,11 +3,31 @@
 #![tactic(auto)]
 
 #[cfg(test)]
+mod answered_examples;
+#[cfg(test)]
 mod cell;
+#[cfg(test)]
+mod doubles;
 #[cfg(test)]
 mod examples;
 #[cfg(test)]
+mod explorations;
+#[cfg(test)]
+mod faults;
+#[cfg(test)]
+mod going;
+#[cfg(test)]
+mod headers;
+#[cfg(test)]
+mod programs;
+#[cfg(test)]
+mod progress;
+#[cfg(test)]
 mod runs;
+#[cfg(test)]
+mod served;
+#[cfg(test)]
+mod sizes;
 #[cfg(test)]
 mod word_calls;
 #[cfg(test)]

@@ -5,3 +5,6 @@ pub mod Faults
 pub mod Plan
 pub mod Examples
 pub mod Readings
+pub mod Bytes
+pub mod Parts
+pub mod ByteExamples

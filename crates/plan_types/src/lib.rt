@@ -3,20 +3,26 @@
 #![tactic(auto)]
 
 pub mod answer;
+pub mod byte_laws;
 pub mod call;
 mod check;
 pub mod examples;
 pub mod fault;
 pub mod plan;
 pub mod posture;
+mod read;
+mod rows;
 pub mod table;
+mod write;
 
 pub use answer::{Answer, Event, Refusal};
 pub use call::Call;
 pub use fault::PlanFault;
 pub use plan::Plan;
 pub use posture::Posture;
+pub use read::read_tables;
 pub use table::{
     MAX_MACHINES, MAX_PLACES, MAX_POSES, MAX_ZONES, PlanPose, PlanZone, Tables, Transfer, WATCH,
     Way,
 };
+pub use write::write_tables;

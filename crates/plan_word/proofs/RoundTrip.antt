@@ -14,7 +14,7 @@ use Rattle.plan_word.specs.declared.layout.Field.TheVariants.{Zone, Place, Stamp
 use Rattle.plan_word.specs.Layout.{counts_of}
 use Rattle.plan_word.specs.OfPlan.{IsOfPlan}
 use Rattle.plan_word.specs.Packed.{owner_code, posture_code, zone_code, packed}
-use Rattle.plan_word.specs.Reading.{told, owner_of_code, posture_of_code, zone_of_code, zone_told, place_told, state_told}
+use Rattle.plan_word.specs.Reading.{told, owner_of_code, posture_of_code, zone_of_code, zone_in_word, place_told, state_told}
 use Rattle.plan_word.proofs.LaidOut.{owner_fits, flag_fits, held_back}
 
 -- ---- the codes
@@ -64,7 +64,7 @@ zone_code_back t z v h =
 not_below : (a b : ℕ) → nat_lt a b ≡ false → b ≤ a
 not_below a b e = elim (cases_lt a b) [ inl l ↦ absurd (let h = lt-ltb a b l in cc) | inr l ↦ l ]
 
-zone_seen : (t : PlanTable) (s : State) → IsOfPlan t s → (z : ℕ) → zone_told t (packed t s) z ≡ zone_at s z
+zone_seen : (t : PlanTable) (s : State) → IsOfPlan t s → (z : ℕ) → zone_in_word t (packed t s) z ≡ zone_at s z
 zone_seen t s k z =
     let w = packed t s in
     let At : Bool → Type 0 = λ b. nat_lt z (zone_count t) ≡ b → (if b then zone_of_code t z (told (counts_of t) w (Zone z)) else free_zone) ≡ zone_at s z in
@@ -89,7 +89,7 @@ pub told_back : (t : PlanTable) (s : State) → IsOfPlan t s → state_told t (p
 told_back t s k =
     let w = packed t s in
     let small = k.sound.stamp_in_range in
-    let zones : s.zones ≡ (state_told t w).zones = fill_by_all (zone_told t w) s.zones 10 free_zone k.sound.has_ten_zones (λ z l. sym (zone_seen t s k z)) in
+    let zones : s.zones ≡ (state_told t w).zones = fill_by_all (zone_in_word t w) s.zones 10 free_zone k.sound.has_ten_zones (λ z l. sym (zone_seen t s k z)) in
     let places : s.full ≡ (state_told t w).full = fill_by_all (place_told t w) s.full 16 false k.sound.has_sixteen_places (λ p l. sym (place_seen t s k p)) in
     let stamp : (state_told t w).stamp ≡ s.stamp = held_back t s small Stamp refl in
     let stopped : (state_told t w).stopped ≡ s.stopped = ap (λ n. nat_eq n 1) (held_back t s small Stop refl) ∙ flag_back s.stopped in
@@ -120,7 +120,7 @@ not_there a b past = false_from_ne_true (nat_lt a b) (λ e. let l = ltb-true a b
 no_more_told : (t : PlanTable) (w z : ℕ) → zone_count t ≤ z → zone_at (state_told t w) z ≡ free_zone
 no_more_told t w z past =
     elim (cases_lt z 10) [
-      | inl ten ↦ get_or-map-range_with_len (zone_told t w) 0 10 z z free_zone ten (omega arith)
+      | inl ten ↦ get_or-map-range_with_len (zone_in_word t w) 0 10 z z free_zone ten (omega arith)
           ∙ ap (λ b. if b then zone_of_code t z (told (counts_of t) w (Zone z)) else free_zone) (not_there z (zone_count t) past)
       | inr more ↦ get_or_past (state_told t w).zones z free_zone more
     ]

@@ -31,22 +31,22 @@ zone_of_code t z n = record {
 }
 
 -- no field tells of a zone or a place past the end of the plan's tables
-abbrev pub zone_told : PlanTable → ℕ → ℕ → ZoneState
-zone_told t w z = if nat_lt z (zone_count t) then zone_of_code t z (told (counts_of t) w (Zone z)) else free_zone
+abbrev pub zone_in_word : PlanTable → ℕ → ℕ → ZoneState
+zone_in_word t w z = if nat_lt z (zone_count t) then zone_of_code t z (told (counts_of t) w (Zone z)) else free_zone
 
 abbrev pub place_told : PlanTable → ℕ → ℕ → Bool
 place_told t w p = nat_lt p (place_count t) && nat_eq (told (counts_of t) w (Place p)) 1
 
-abbrev pub zones_told : PlanTable → ℕ → List ZoneState
-zones_told t w = map (zone_told t w) (range_with_len 0 10)
+abbrev pub zones_in_word : PlanTable → ℕ → List ZoneState
+zones_in_word t w = map (zone_in_word t w) (range_with_len 0 10)
 
-abbrev pub places_told : PlanTable → ℕ → List Bool
-places_told t w = map (place_told t w) (range_with_len 0 16)
+abbrev pub places_in_word : PlanTable → ℕ → List Bool
+places_in_word t w = map (place_told t w) (range_with_len 0 16)
 
 abbrev pub state_told : PlanTable → ℕ → State
 state_told t w = record {
-  zones = zones_told t w;
-  full = places_told t w;
+  zones = zones_in_word t w;
+  full = places_in_word t w;
   stamp = told (counts_of t) w Stamp;
   stopped = nat_eq (told (counts_of t) w Stop) 1;
 }

@@ -43,9 +43,9 @@ pub fn pack(plan: &Plan, layout: &Layout, state: &State) -> u64
     layout.with(word, Field::Stop, u64::from(state.stopped))
 }
 
-fn zone_in(plan: &Plan, layout: &Layout, word: u64, zone: u8) -> ZoneState
+fn zone_in_word(plan: &Plan, layout: &Layout, word: u64, zone: u8) -> ZoneState
     requires { layout.now ≡ counts_of plan.now }
-    ensures { result ≡ reading.zone_told plan.now word zone }
+    ensures { result ≡ reading.zone_in_word plan.now word zone }
 {
     if zone < plan.zone_count() {
         zone_of_code(plan, zone, layout.value_in(word, Field::Zone(zone)))
@@ -61,20 +61,20 @@ fn is_full_in(plan: &Plan, layout: &Layout, word: u64, place: u8) -> bool
     place < plan.place_count() && layout.value_in(word, Field::Place(place)) == 1
 }
 
-fn zones_in(plan: &Plan, layout: &Layout, word: u64) -> [ZoneState; MAX_ZONES]
+fn zones_in_word(plan: &Plan, layout: &Layout, word: u64) -> [ZoneState; MAX_ZONES]
     requires { layout.now ≡ counts_of plan.now }
-    ensures { result ≡ reading.zones_told plan.now word }
+    ensures { result ≡ reading.zones_in_word plan.now word }
 {
     let mut zones = [FREE_ZONE; MAX_ZONES];
     for zone in 0..MAX_ZONES {
-        zones[zone] = zone_in(plan, layout, word, zone as u8);
+        zones[zone] = zone_in_word(plan, layout, word, zone as u8);
     }
     zones
 }
 
-fn places_in(plan: &Plan, layout: &Layout, word: u64) -> [bool; MAX_PLACES]
+fn places_in_word(plan: &Plan, layout: &Layout, word: u64) -> [bool; MAX_PLACES]
     requires { layout.now ≡ counts_of plan.now }
-    ensures { result ≡ reading.places_told plan.now word }
+    ensures { result ≡ reading.places_in_word plan.now word }
 {
     let mut places = [false; MAX_PLACES];
     for place in 0..MAX_PLACES {
@@ -98,8 +98,8 @@ fn state_in(plan: &Plan, layout: &Layout, word: u64) -> State
     ensures { result ≡ reading.state_told plan.now word }
 {
     State {
-        zones: zones_in(plan, layout, word),
-        full: places_in(plan, layout, word),
+        zones: zones_in_word(plan, layout, word),
+        full: places_in_word(plan, layout, word),
         stamp: stamp_of(layout, word),
         stopped: layout.value_in(word, Field::Stop) == 1,
     }

@@ -14,7 +14,7 @@ use cell_configured::CellPoints;
 use cell_notes::{RunRecord, Status};
 use cell_plant::{Cell, simulate};
 use cell_report::{audit, write_report};
-use cell_sensors::{Calibration, Gauge, line_at};
+use cell_sensors::{Calibration, Gauge, position_on_line};
 use cell_workers::{OpenGate, run_cell};
 use std::alloc::Global;
 use std::sync::Wait;
@@ -80,11 +80,11 @@ fn record_of<T: Threads + Wait + Sync>(
 {
     let [arm1, arm2, rotation, turn, gripper] = config.points;
     let gauges = (
-        move |raw: u16| line_at(&arm1, raw),
-        move |raw: u16| line_at(&arm2, raw),
-        move |raw: u16| line_at(&rotation, raw),
-        move |raw: u16| line_at(&turn, raw),
-        move |raw: u16| line_at(&gripper, raw),
+        move |raw: u16| position_on_line(&arm1, raw),
+        move |raw: u16| position_on_line(&arm2, raw),
+        move |raw: u16| position_on_line(&rotation, raw),
+        move |raw: u16| position_on_line(&turn, raw),
+        move |raw: u16| position_on_line(&gripper, raw),
     );
     let points = CellPoints {
         arm1,

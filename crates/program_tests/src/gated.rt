@@ -8,7 +8,7 @@ use super::gates::{Doorkeeper, NOTES, Rule};
 use cell_notes::{RunRecord, Status};
 use cell_plant::Cell;
 use cell_rules::State;
-use cell_sensors::{Calibration, Gauge, Points, PointsFault, line_at};
+use cell_sensors::{Calibration, Gauge, Points, PointsFault, position_on_line};
 use cell_types::Machine;
 use cell_workers::{Gate, RunFault, run_cell};
 use std::alloc::Global;
@@ -109,7 +109,7 @@ fn line_with_count(calls: &AtomicU64, points: Points, raw: u16) -> i32
     ensures { IsReading points raw result }
 {
     calls.fetch_add(1, Ordering::SeqCst);
-    line_at(&points, raw)
+    position_on_line(&points, raw)
 }
 
 /// The greatest number of turns of each worker, the gate's rule, and the number of turns that each

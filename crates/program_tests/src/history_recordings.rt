@@ -7,7 +7,7 @@ use cell_replay::{Outcome, replay};
 use cell_report::audit;
 use cell_threads::PacedGate;
 use cell_types::{Answer, Call, Entry, Event, Journals, Machine, Zone};
-use history_app::tell::tell;
+use history_app::history::write_history;
 use program_shell::Exit;
 use std::alloc::Global;
 use std::test::Fail;
@@ -87,7 +87,7 @@ fn is_answered_alike(alloc: Global, run: &RunRecord) -> Result<bool, Fail> {
     let events = audit(alloc, &run.journals, &run.start, run.end.as_ref())?;
     let wanted = answers_by(alloc, run, events.as_slice())?;
     let mut script = Vec::new(alloc);
-    let exit = tell(alloc, run, &mut script);
+    let exit = write_history(alloc, run, &mut script);
     Ok(exit == Exit::Well && is_replayed(alloc, script.as_slice(), wanted.as_str()))
 }
 

@@ -5,7 +5,7 @@ ghost use Rattle.std.specs.Prelude.{◌≡◌};
 ghost use Rattle.six_by_hand.specs.Devices as devices;
 
 use crate::axis::{Axis, STEP};
-use cell_control::Told;
+use cell_control::Commands;
 use cell_devices::{CraneAct, DepositAct, FeedAct, PressAct, RobotAct, TableAct};
 use cell_renewal::Devices;
 use cell_sensors::{CraneSense, DepositSense, FeedSense, PressSense, RobotSense, TableSense};
@@ -68,7 +68,7 @@ impl Devices for FeedBelt {
         })
     }
 
-    fn set(&mut self, told: &Told<FeedAct>) {
+    fn set(&mut self, told: &Commands<FeedAct>) {
         self.0.run(told.act.belt);
     }
 }
@@ -95,7 +95,7 @@ impl Devices for DepositBelt {
         })
     }
 
-    fn set(&mut self, told: &Told<DepositAct>) {
+    fn set(&mut self, told: &Commands<DepositAct>) {
         self.0.run(told.act.belt);
     }
 }
@@ -137,7 +137,7 @@ impl Devices for Table {
         })
     }
 
-    fn set(&mut self, told: &Told<TableAct>) {
+    fn set(&mut self, told: &Commands<TableAct>) {
         self.height.drive(told.act.height);
         self.turn.drive(told.act.rotation);
     }
@@ -182,7 +182,7 @@ impl Devices for Robot {
         })
     }
 
-    fn set(&mut self, told: &Told<RobotAct>) {
+    fn set(&mut self, told: &Commands<RobotAct>) {
         self.arm1.drive(told.act.arm1);
         self.arm2.drive(told.act.arm2);
         self.rotation.drive(told.act.rotation);
@@ -224,7 +224,7 @@ impl Devices for Press {
         })
     }
 
-    fn set(&mut self, told: &Told<PressAct>) {
+    fn set(&mut self, told: &Commands<PressAct>) {
         self.height.drive(told.act.press);
     }
 }
@@ -266,7 +266,7 @@ impl Devices for Crane {
         })
     }
 
-    fn set(&mut self, told: &Told<CraneAct>) {
+    fn set(&mut self, told: &Commands<CraneAct>) {
         self.travel.drive(told.act.travel);
         self.gripper.drive(told.act.height);
     }

@@ -12,7 +12,7 @@ mod rounds;
 mod six;
 
 use cell_rules::State;
-use cell_sensors::{Points, line_at};
+use cell_sensors::{Points, position_on_line};
 use fault::SixFault;
 use lookout::Lookout;
 use rounds::Audits;
@@ -49,11 +49,11 @@ fn main(rt: HostRuntime) -> Result<(), SixFault> {
         turn: Points::new(0, 500, 0, 500, 5)?,
     };
     let gauges = (
-        move |raw: u16| line_at(&points.arm, raw),
-        move |raw: u16| line_at(&points.arm, raw),
-        move |raw: u16| line_at(&points.rotation, raw),
-        move |raw: u16| line_at(&points.turn, raw),
-        move |raw: u16| line_at(&points.arm, raw),
+        move |raw: u16| position_on_line(&points.arm, raw),
+        move |raw: u16| position_on_line(&points.arm, raw),
+        move |raw: u16| position_on_line(&points.rotation, raw),
+        move |raw: u16| position_on_line(&points.turn, raw),
+        move |raw: u16| position_on_line(&points.arm, raw),
     );
     let mut words = env::args(&rt)?;
     let _name = words.next();

@@ -7,6 +7,6 @@ pub mod places;
 pub mod scanning;
 mod skipping;
 
-pub use lines::line_at;
+pub use lines::line_number;
 pub use places::{OwnedStep, Place, Step, key_around, nearest_place, place_of};
 pub use scanning::places_in;

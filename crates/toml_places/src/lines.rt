@@ -5,7 +5,7 @@ ghost use Rattle.std.specs.Prelude.{◌≡◌, ◌+◌, ◌==◌, take, count_by
 const LINE_END: u8 = b'\n';
 
 /// The line, from 1, of the byte at offset `before`.
-pub fn line_at(bytes: &[u8], before: usize) -> usize
+pub fn line_number(bytes: &[u8], before: usize) -> usize
     ensures { result ≡ 1 + count_by (λ byte. byte == LINE_END) (take before bytes.now) }
 {
     let earlier = &bytes[..before.min(bytes.len())];

@@ -1,6 +1,6 @@
 -- The word of a sound state encodes that state.
 use Rattle.cell_word.proofs.Names.{◌≡◌, ℕ, ◌+◌, ◌-◌, ◌*◌, ◌/◌, ◌<◌, ◌≤◌, Bool, true, false, ◌||◌, if◌then◌else◌, nat_eq, Option, Some, None, is_none, List, [], ◌∷◌, ◌++◌, map, get_or, refl, sym, ap, ◌∙◌, subst, arith, rules, ◌↔◌, All, flat_map, All-nil, All-cons, All-append, All-map, Machine, Zone, Z1, Z2, Z3, Z4, Z5, Z6, Place, FeedEntry, FeedEnd, Arm1, PressIn, PressOut, Arm2, DepEntry, DepEnd, Posture, Closed}
-use Rattle.cell_word.proofs.Names.{host_of, guest_of, same_machine, one_machine, all_places, Table, Crane, ModelState, zone_at, is_full, one_if, last_stamp, IsSound, has_lawful_owner, is_owned_by, ZoneState, Field, field, zone_bit, place_bit, stamp_bit, mark_bit, owner_code, posture_code, zone_fields, fields_at, place_field, last_fields, fields_of, packed, bits_of, owner_of_code, posture_of_code, is_bit_set, is_told_full, zone_told, state_told, Fits, SideBySide, ReadsBack, IsLaidOut}
+use Rattle.cell_word.proofs.Names.{host_of, guest_of, same_machine, one_machine, all_places, Table, Crane, ModelState, zone_at, is_full, one_if, last_stamp, IsSound, has_lawful_owner, is_owned_by, ZoneState, Field, field, zone_bit, place_bit, stamp_bit, mark_bit, owner_code, posture_code, zone_fields, fields_at, place_field, last_fields, fields_of, packed, bits_of, owner_of_code, posture_of_code, is_bit_set, is_told_full, zone_in_word, state_told, Fits, SideBySide, ReadsBack, IsLaidOut}
 use Rattle.cell_rules.specs.Types.{all_zones}
 use Rattle.cell_word.proofs.Fields.{whole_word_below, whole_word_back}
 
@@ -73,11 +73,11 @@ posture_back _ = refl
 
 -- ---- a zone, and a state
 zone_back : (w : ℕ) (z : Zone) (v : ZoneState) → has_lawful_owner z v ≡ true → bits_of w (zone_bit z) 2 ≡ owner_code z v.owner → bits_of w (zone_bit z + 2) 1 ≡ one_if v.flag
-    → bits_of w (zone_bit z + 3) 2 ≡ posture_code v.posture → zone_told w z ≡ v
+    → bits_of w (zone_bit z + 3) 2 ≡ posture_code v.posture → zone_in_word w z ≡ v
 zone_back w z v h by_owner by_flag by_posture =
-    let owner : (zone_told w z).owner ≡ v.owner = ap (owner_of_code z) by_owner ∙ owner_back z v.owner h in
-    let flag : (zone_told w z).flag ≡ v.flag = ap (λ n. nat_eq n 1) by_flag ∙ flag_back v.flag in
-    let posture : (zone_told w z).posture ≡ v.posture = ap posture_of_code by_posture ∙ posture_back v.posture in
+    let owner : (zone_in_word w z).owner ≡ v.owner = ap (owner_of_code z) by_owner ∙ owner_back z v.owner h in
+    let flag : (zone_in_word w z).flag ≡ v.flag = ap (λ n. nat_eq n 1) by_flag ∙ flag_back v.flag in
+    let posture : (zone_in_word w z).posture ≡ v.posture = ap posture_of_code by_posture ∙ posture_back v.posture in
     λ i. record { owner = owner i; flag = flag i; posture = posture i }
 
 bit_back : (w bit : ℕ) (b : Bool) → bits_of w bit 1 ≡ one_if b → is_bit_set w bit ≡ b
@@ -98,7 +98,7 @@ zone_fields_read s sound z =
     let k = zone_bit z / 5 * 3 in
     record { owner = read s sound k (omega arith); flag = read s sound (k + 1) (omega arith); posture = read s sound (k + 2) (omega arith) }
 
-pub zone_read : (s : ModelState) → IsSound s → (z : Zone) → zone_told (packed s) z ≡ zone_at s z
+pub zone_read : (s : ModelState) → IsSound s → (z : Zone) → zone_in_word (packed s) z ≡ zone_at s z
 zone_read s sound z = let r = zone_fields_read s sound z in zone_back (packed s) z (zone_at s z) (sound.owner_is_party z) r.owner r.flag r.posture
 
 pub place_field_read : (s : ModelState) → IsSound s → (p : Place) → bits_of (packed s) (place_bit p) 1 ≡ one_if (is_full s p)

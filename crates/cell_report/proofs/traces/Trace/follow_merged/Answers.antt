@@ -17,4 +17,4 @@ returns g c = λ least is.
     let old = c.loop-run.invariant in
     let up : IsInTurn c.new-left.result = old.2 (none_rise c.loop-run.left.rests c.in_default.ensures) in
     let whole = sym (c.new-left.ensures up) ∙ ((old.1 up).1 ∙ (ap (λ l. old.0 ++ in_order l) c.in_default.ensures ∙ append-nil old.0)) in
-    subst (λ l. IsTrace (g.K.Keeper.holds c.loop-run.keeper) c.args.start.now least l c.loop-run.trace) (sym whole) (old.3 least is)
+    subst (λ l. IsTrace (g.K.EventSink.holds c.loop-run.sink) c.args.start.now least l c.loop-run.trace) (sym whole) (old.3 least is)

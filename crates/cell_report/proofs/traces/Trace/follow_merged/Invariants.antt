@@ -5,7 +5,7 @@ abbrev pub invariant-loop-run : goal.invariant-loop-run
 invariant-loop-run g l =
     (before : List Noted) × (IsInTurn l.initial.left → IsInTurn l.left × (rest_of l.initial.left ≡ before ++ rest_of l.left))
     × (IsInTurn l.left → IsInTurn l.initial.left)
-    × ((least : ℕ) → IsTrace (g.K.Keeper.holds l.initial.keeper) l.start least [] l.initial.trace → IsTrace (g.K.Keeper.holds l.keeper) l.start least before l.trace)
+    × ((least : ℕ) → IsTrace (g.K.EventSink.holds l.initial.sink) l.start least [] l.initial.trace → IsTrace (g.K.EventSink.holds l.sink) l.start least before l.trace)
 
 abbrev pub decreases-loop-run : goal.decreases-loop-run
 decreases-loop-run g l = length (left_of_all l.left.rests)

@@ -3,7 +3,7 @@ use Rattle.cell_report.proofs.traces.Trace.follow_sorted.Goals as goal
 
 pub loop-noted-preserved : goal.loop-noted-preserved
 loop-noted-preserved g c = λ least is.
-    subst (λ l. IsTrace (g.K.Keeper.holds c.take.new.keeper) c.args.start.now least l c.take.new.self)
+    subst (λ l. IsTrace (g.K.EventSink.holds c.take.new.sink) c.args.start.now least l c.take.new.self)
     (sym (take_more c.args.sorted.now c.loop-noted.noted-index _ c.loop-noted-test.true))
     (c.in_ok-take.ensures.trace least _ (c.loop-noted.invariant least is))
 

@@ -5,7 +5,7 @@ use Rattle.cell_report.proofs.traces.Trace.take.Goals.{then-is_done+in_ok-push, 
 
 pub returns-then-is_some-clause-trace : goal.returns-then-is_some-clause-trace
 returns-then-is_some-clause-trace g c = λ least before old.
-    let s : IsStamped (g.K.Keeper.holds c.args.keeper.now) c.args.start.now least before c.args.noted.now c.if-is_done.self = elim c.if-is_done.branch [
+    let s : IsStamped (g.K.EventSink.holds c.args.sink.now) c.args.start.now least before c.args.noted.now c.if-is_done.self = elim c.if-is_done.branch [
       | then-is_done+in_ok-push w ↦ stamped _ c.args.start.now least before c.args.noted.now c.args.self.now c.if-is_done.self old (rw (sym c.is_done-is_done.ensures ∙ w.if-is_done.true) (ap (λ (t : Trace). t.stamps.items) w.self-is ∙ w.in_ok-push.ensures.items)) (ap (λ (t : Trace). t.top) w.self-is ∙ c.max-self.ensures) (ap (λ (t : Trace). t.misfit) w.self-is) (ap (λ (t : Trace). t.state) w.self-is)
       | else-is_done w ↦ stamped _ c.args.start.now least before c.args.noted.now c.args.self.now c.if-is_done.self old (rw (sym c.is_done-is_done.ensures ∙ w.if-is_done.false) (ap (λ (t : Trace). t.stamps.items) w.self-is ∙ sym (append-nil _))) (ap (λ (t : Trace). t.top) w.self-is ∙ c.max-self.ensures) (ap (λ (t : Trace). t.misfit) w.self-is) (ap (λ (t : Trace). t.state) w.self-is)
     ] in
@@ -17,7 +17,7 @@ returns-then-is_some-clause-trace g c = λ least before old.
 
 pub returns-clause-trace : goal.returns-clause-trace
 returns-clause-trace g c = λ least before old.
-    let s : IsStamped (g.K.Keeper.holds c.args.keeper.now) c.args.start.now least before c.args.noted.now c.if-is_done.self = elim c.if-is_done.branch [
+    let s : IsStamped (g.K.EventSink.holds c.args.sink.now) c.args.start.now least before c.args.noted.now c.if-is_done.self = elim c.if-is_done.branch [
       | then-is_done+in_ok-push w ↦ stamped _ c.args.start.now least before c.args.noted.now c.args.self.now c.if-is_done.self old (rw (sym c.is_done-is_done.ensures ∙ w.if-is_done.true) (ap (λ (t : Trace). t.stamps.items) w.self-is ∙ w.in_ok-push.ensures.items)) (ap (λ (t : Trace). t.top) w.self-is ∙ c.max-self.ensures) (ap (λ (t : Trace). t.misfit) w.self-is) (ap (λ (t : Trace). t.state) w.self-is)
       | else-is_done w ↦ stamped _ c.args.start.now least before c.args.noted.now c.args.self.now c.if-is_done.self old (rw (sym c.is_done-is_done.ensures ∙ w.if-is_done.false) (ap (λ (t : Trace). t.stamps.items) w.self-is ∙ sym (append-nil _))) (ap (λ (t : Trace). t.top) w.self-is ∙ c.max-self.ensures) (ap (λ (t : Trace). t.misfit) w.self-is) (ap (λ (t : Trace). t.state) w.self-is)
     ] in

@@ -6,6 +6,6 @@ pub returns-then-branch : goal.returns-then-branch
 returns-then-branch g c =
     let run = c.args.run.now in
     let n = c.loop-taken.taken in
-    told_rest (g.K.Keeper.holds c.args.keeper.now) (g.K.Keeper.holds c.take.new.keeper) (g.K.Keeper.holds c.keep.new.self) c.args.start.now c.args.self.now (noted_in_turn run.machine run.entry.now) n (run.count - n - 1) run.count c.take.new.self c.keep.result
+    told_rest (g.K.EventSink.holds c.args.sink.now) (g.K.EventSink.holds c.take.new.sink) (g.K.EventSink.holds c.keep.new.self) c.args.start.now c.args.self.now (noted_in_turn run.machine run.entry.now) n (run.count - n - 1) run.count c.take.new.self c.keep.result
     (λ least before is. c.in_ok-take.ensures.trace least _ (c.loop-taken.invariant least before is))
     (c.in_ok-take.ensures.repeats c.if-branch.true) (omega (arith, c.loop-taken-test.true)) c.keep.ensures

@@ -1,4 +1,0 @@
-pub mod lemmas
-mod Lines
-mod Reading
-mod Openings

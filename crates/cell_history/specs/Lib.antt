@@ -1,3 +1,0 @@
-pub mod Scripts
-pub mod Answered
-pub mod ScriptExamples

@@ -1,5 +1,0 @@
-//! Tests of rounds from whole starts, by public calls only.
-#![tactic(auto)]
-
-#[cfg(test)]
-mod rounds;

@@ -1,2 +1,0 @@
-pub mod ReachedLemmas
-pub mod SituationLaws

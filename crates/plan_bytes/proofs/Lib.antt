@@ -1,3 +1,0 @@
-mod Reading
-mod Same
-mod Whole

@@ -1,6 +1,0 @@
-use Rattle.std.proofs.Common.{◌≡◌, ◌++◌, flat_map, take}
-use Rattle.plan_bytes.specs.Bytes.{pose_bytes}
-use Rattle.plan_bytes.proofs.write.write_poses.Given as goal
-
-abbrev pub invariant-loop-pose : goal.invariant-loop-pose
-invariant-loop-pose l = l.out.items ≡ l.fn.out.items ++ flat_map pose_bytes (take l.pose-index l.poses)

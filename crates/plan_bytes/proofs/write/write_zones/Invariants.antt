@@ -1,6 +1,0 @@
-use Rattle.std.proofs.Common.{◌≡◌, ◌++◌, flat_map, take}
-use Rattle.plan_bytes.specs.Bytes.{zone_bytes}
-use Rattle.plan_bytes.proofs.write.write_zones.Given as goal
-
-abbrev pub invariant-loop-zone : goal.invariant-loop-zone
-invariant-loop-zone l = l.out.items ≡ l.fn.out.items ++ flat_map zone_bytes (take l.zone-index l.zones)

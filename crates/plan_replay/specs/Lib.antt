@@ -1,3 +1,0 @@
-pub mod Requests
-pub mod Starts
-pub mod Script

@@ -1,0 +1,584 @@
+//! Whether the machines of plans go on for ever: what is printed of it.
+
+use super::answered_examples::PRESS;
+use super::doubles::is_answered;
+use std::alloc::AllocError;
+
+/// What is printed at the end.
+const FAIRNESS: &str = "\
+in an order that is fair with bound k, each machine that could go on at k turns on end goes on;
+a machine isn't passed over for ever if it goes on wherever it could at k turns, on end or not
+";
+
+/// Of the press.
+const PRESS_GOES: &str = "\
+no standstill in any order of turns before the last stamp: 15 situations
+loader goes on for ever in each fair order: within k * 7 turns
+press goes on for ever in each fair order: within k * 3 turns
+plates move for ever in each fair order: within k * 6 turns
+";
+
+/// The example of a junction.
+const JUNCTION: &str = "\
+[[machine]]
+name = \"points\"
+poses = [
+  { name = \"switching\", gives = { north_road = \"moving\", south_road = \"moving\" } },
+  { name = \"set_north\", gives = { north_road = \"openin\", south_road = \"closed\" }, \
+     after_moving = true },
+  { name = \"set_south\", gives = { north_road = \"closed\", south_road = \"openin\" }, \
+     after_moving = true },
+]
+program = [
+  \"claim north_road\",
+  \"claim south_road\",
+  \"pose switching\",
+  \"pose set_north\",
+  \"release north_road\",
+  \"claim north_road\",
+  \"pose switching\",
+  \"pose set_south\",
+  \"release south_road\",
+  \"release north_road\",
+]
+
+[[machine]]
+name = \"north_train\"
+program = [\"claim north_road\", \"release north_road\"]
+
+[[machine]]
+name = \"south_train\"
+program = [\"claim south_road\", \"release south_road\"]
+
+[[zone]]
+name = \"north_road\"
+host = \"points\"
+guest = \"north_train\"
+
+[[zone]]
+name = \"south_road\"
+host = \"points\"
+guest = \"south_train\"
+";
+
+/// Of a junction.
+const JUNCTION_GOES: &str = "\
+no standstill in any order of turns before the last stamp: 17 situations
+points goes on for ever if it isn't passed over for ever: within k * 1 + k * k * 1 turns
+  a fair order in which it starves: first points points points points points
+  and then again and again
+  points could go on: claim north_road: done
+  north_train asks: claim north_road: done
+  points waits: claim north_road: held north_train
+  north_train asks: release north_road: done
+north_train goes on for ever if neither it nor points is passed over for ever: within k * 10 * \
+     (k * 1 + k * k * 1) turns; points brings it chances
+  a fair order in which it starves: first points points points
+  and then again and again
+  north_train waits: claim north_road: held points
+  points asks: pose set_north: done
+  points asks: release north_road: done
+  north_train could go on: claim north_road: done
+  points asks: claim north_road: done
+  north_train waits: claim north_road: held points
+  points asks: pose switching: done
+  points asks: pose set_south: done
+  points asks: release south_road: done
+  south_train asks: claim south_road: done
+  points asks: release north_road: done
+  north_train waits: claim north_road: shut closed
+  points asks: claim north_road: done
+  north_train waits: claim north_road: held points
+  south_train asks: release south_road: done
+  points asks: claim south_road: done
+  points asks: pose switching: done
+south_train goes on for ever if neither it nor points is passed over for ever: within k * 10 * \
+     (k * 1 + k * k * 1) turns; points brings it chances
+  a fair order in which it starves: first points points points
+  and then again and again
+  south_train waits: claim south_road: held points
+  points asks: pose set_north: done
+  points asks: release north_road: done
+  north_train asks: claim north_road: done
+  north_train asks: release north_road: done
+  points asks: claim north_road: done
+  points asks: pose switching: done
+  points asks: pose set_south: done
+  points asks: release south_road: done
+  south_train could go on: claim south_road: done
+  points asks: release north_road: done
+  points asks: claim north_road: done
+  points asks: claim south_road: done
+  south_train waits: claim south_road: held points
+  points asks: pose switching: done
+";
+
+/// The example of a lift.
+const LIFT: &str = "\
+[[machine]]
+name = \"lift\"
+places = [\"cabin\"]
+poses = [
+  { name = \"travelling\", gives = { lower = \"moving\", upper = \"moving\" } },
+  { name = \"load_below\", gives = { lower = \"openin\", upper = \"closed\" }, after_moving = \
+     true },
+  { name = \"unload_above\", gives = { lower = \"closed\", upper = \"openout\" }, after_moving \
+     = true },
+  { name = \"unload_below\", gives = { lower = \"openout\", upper = \"closed\" }, after_moving \
+     = true },
+  { name = \"load_above\", gives = { lower = \"closed\", upper = \"openin\" }, after_moving = \
+     true },
+]
+program = [
+  \"claim lower\", \"claim upper\", \"pose travelling\", \"pose load_below\", \"yield lower\", \
+     \"take lower\",
+  \"pose travelling\", \"pose unload_above\", \"give upper\",
+  \"pose travelling\", \"pose load_above\", \"yield upper\", \"take upper\",
+  \"pose travelling\", \"pose unload_below\", \"give lower\", \"release upper\",
+]
+
+[[machine]]
+name = \"below\"
+places = [\"ground\"]
+program = [\"give lower\", \"take lower\", \"release lower\"]
+
+[[machine]]
+name = \"above\"
+places = [\"gallery\"]
+program = [\"take upper\", \"yield upper\", \"give upper\"]
+
+[[zone]]
+name = \"lower\"
+host = \"lift\"
+guest = \"below\"
+inward = [\"ground\", \"cabin\"]
+outward = [\"cabin\", \"ground\"]
+
+[[zone]]
+name = \"upper\"
+host = \"lift\"
+guest = \"above\"
+inward = [\"gallery\", \"cabin\"]
+outward = [\"cabin\", \"gallery\"]
+";
+
+/// Of a lift.
+const LIFT_GOES: &str = "\
+no standstill in any order of turns before the last stamp: 28 situations
+lift goes on for ever in each fair order: within k * 3 turns
+below goes on for ever in each fair order: within k * 16 turns
+above goes on for ever in each fair order: within k * 18 turns
+plates move for ever in each fair order: within k * 8 turns
+";
+
+/// The example of two presses, up to the program of the left one.
+const PRESSES_BEGIN: &str = "\
+[[machine]]
+name = \"left_arm\"
+places = [\"left_hand\"]
+poses = [{ name = \"sharing\", gives = { rack = \"openin\" } }]
+program = [\"claim rack\", \"pose sharing\", \"release rack\", \"give left\", \"take left\", \
+     \"release left\"]
+
+[[machine]]
+name = \"right_arm\"
+places = [\"right_hand\"]
+program = [\"claim rack\", \"release rack\", \"give right\", \"take right\", \"release right\"]
+
+[[machine]]
+name = \"left_press\"
+places = [\"left_die\"]
+poses = [
+  { name = \"travelling\", gives = { left = \"moving\" } },
+  { name = \"load\", gives = { left = \"openin\" }, after_moving = true },
+  { name = \"forge\", gives = { left = \"closed\" }, after_moving = true },
+  { name = \"unload\", gives = { left = \"openout\" }, after_moving = true },
+]
+";
+
+/// The program of the left press.
+const LEFT_PROGRAM: &str = "\
+program = [\"claim left\", \"pose travelling\", \"pose load\", \"yield left\", \"take left\", \
+     \"pose travelling\", \"pose forge\",
+  \"pose travelling\", \"pose unload\", \"give left\"]
+";
+
+/// What comes after it.
+const PRESSES_END: &str = "\
+
+[[machine]]
+name = \"right_press\"
+places = [\"right_die\"]
+poses = [
+  { name = \"travelling\", gives = { right = \"moving\" } },
+  { name = \"load\", gives = { right = \"openin\" }, after_moving = true },
+  { name = \"forge\", gives = { right = \"closed\" }, after_moving = true },
+  { name = \"unload\", gives = { right = \"openout\" }, after_moving = true },
+]
+program = [\"claim right\", \"pose travelling\", \"pose load\", \"yield right\", \"take \
+     right\", \"pose travelling\", \"pose forge\",
+  \"pose travelling\", \"pose unload\", \"give right\"]
+
+[[zone]]
+name = \"rack\"
+host = \"left_arm\"
+guest = \"right_arm\"
+
+[[zone]]
+name = \"left\"
+host = \"left_press\"
+guest = \"left_arm\"
+inward = [\"left_hand\", \"left_die\"]
+outward = [\"left_die\", \"left_hand\"]
+
+[[zone]]
+name = \"right\"
+host = \"right_press\"
+guest = \"right_arm\"
+inward = [\"right_hand\", \"right_die\"]
+outward = [\"right_die\", \"right_hand\"]
+";
+
+/// Of two presses.
+const TWO_PRESSES_GO: &str = "\
+no standstill in any order of turns before the last stamp: 860 situations
+left_arm goes on for ever if it isn't passed over for ever: within k * 22 + k * k * 5 turns
+  a fair order in which it starves: first left_arm left_arm left_arm left_press left_press \
+     left_press left_press left_arm left_press left_press left_press left_press left_press \
+     left_press left_arm left_arm left_press left_press left_press left_press right_press \
+     right_press
+  and then again and again
+  left_arm could go on: claim rack: done
+  right_arm asks: claim rack: done
+  left_arm waits: claim rack: held right_arm
+  right_arm asks: release rack: done
+  left_arm could go on: claim rack: done
+  right_press asks: pose load: done
+  right_press asks: yield right: done
+  right_arm asks: give right: done
+  right_press asks: take right: done
+  right_press asks: pose travelling: done
+  right_press asks: pose forge: done
+  right_press asks: pose travelling: done
+  right_press asks: pose unload: done
+  right_press asks: give right: done
+  right_arm asks: take right: done
+  right_arm asks: release right: done
+  right_press asks: claim right: done
+  right_press asks: pose travelling: done
+right_arm goes on for ever if it isn't passed over for ever: within k * 22 + k * k * 6 turns
+  a fair order in which it starves: first left_arm left_arm left_press left_press right_press \
+     right_press right_press right_press
+  and then again and again
+  right_arm waits: claim rack: held left_arm
+  left_arm asks: release rack: done
+  right_arm could go on: claim rack: done
+  left_press asks: pose load: done
+  left_press asks: yield left: done
+  left_arm asks: give left: done
+  left_press asks: take left: done
+  left_press asks: pose travelling: done
+  left_press asks: pose forge: done
+  left_press asks: pose travelling: done
+  left_press asks: pose unload: done
+  left_press asks: give left: done
+  left_arm asks: take left: done
+  left_arm asks: release left: done
+  left_arm asks: claim rack: done
+  right_arm waits: claim rack: held left_arm
+  left_press asks: claim left: done
+  left_arm asks: pose sharing: done
+  left_press asks: pose travelling: done
+left_press goes on for ever if left_arm isn't passed over for ever: within k * 27 + k * k * 5 \
+     turns
+  a fair order in which it starves: first left_arm left_arm left_arm left_press left_press \
+     left_press left_press left_arm left_press left_press left_press left_press left_press \
+     left_press left_arm left_arm left_press left_press left_press left_press right_press \
+     right_press
+  and then again and again
+  left_press waits: take left: notowner left_arm
+  right_arm asks: claim rack: done
+  right_arm asks: release rack: done
+  right_press asks: pose load: done
+  right_press asks: yield right: done
+  right_arm asks: give right: done
+  right_press asks: take right: done
+  right_press asks: pose travelling: done
+  right_press asks: pose forge: done
+  right_press asks: pose travelling: done
+  right_press asks: pose unload: done
+  right_press asks: give right: done
+  right_arm asks: take right: done
+  right_arm asks: release right: done
+  right_press asks: claim right: done
+  right_press asks: pose travelling: done
+right_press goes on for ever if right_arm isn't passed over for ever: within k * 27 + k * k * 6 \
+     turns
+  a fair order in which it starves: first left_arm left_arm left_press left_press right_press \
+     right_press right_press right_press
+  and then again and again
+  right_press waits: take right: notowner right_arm
+  left_arm asks: release rack: done
+  left_press asks: pose load: done
+  left_press asks: yield left: done
+  left_arm asks: give left: done
+  left_press asks: take left: done
+  left_press asks: pose travelling: done
+  left_press asks: pose forge: done
+  left_press asks: pose travelling: done
+  left_press asks: pose unload: done
+  left_press asks: give left: done
+  left_arm asks: take left: done
+  left_arm asks: release left: done
+  left_arm asks: claim rack: done
+  left_press asks: claim left: done
+  left_arm asks: pose sharing: done
+  left_press asks: pose travelling: done
+plates move for ever in each fair order: within k * 16 turns
+";
+
+/// The example of the production cell.
+const CELL: &str = "\
+[[machine]]
+name = \"feed\"
+places = [\"feed_belt\"]
+poses = [
+  { name = \"running\", gives = { z6 = \"moving\" } },
+  { name = \"landing\", gives = { z6 = \"openin\" } },
+  { name = \"halted\", gives = { z6 = \"closed\" } },
+]
+program = [\"claim z6\", \"claim z1\", \"pose running\", \"pose halted\", \"give z1\", \"pose \
+     landing\", \"release z6\", \"take z6\",
+  \"pose running\", \"pose halted\", \"release z6\"]
+
+[[machine]]
+name = \"table\"
+places = [\"table_top\"]
+poses = [
+  { name = \"turning\", gives = { z1 = \"moving\", z2 = \"moving\" } },
+  { name = \"loading\", gives = { z1 = \"openin\", z2 = \"closed\" }, after_moving = true },
+  { name = \"unloading\", gives = { z1 = \"closed\", z2 = \"openout\" }, after_moving = true },
+]
+program = [\"claim z1\", \"claim z2\", \"pose turning\", \"pose loading\", \"release z1\", \
+     \"take z1\", \"pose turning\",
+  \"pose unloading\", \"give z2\", \"release z1\"]
+
+[[machine]]
+name = \"robot\"
+places = [\"arm1\", \"arm2\"]
+program = [\"take z2\", \"release z2\", \"give z3\", \"take z3\", \"release z3\", \"claim z4\", \
+     \"give z4\"]
+
+[[machine]]
+name = \"press\"
+places = [\"die\"]
+poses = [
+  { name = \"travelling\", gives = { z3 = \"moving\" } },
+  { name = \"middle\", gives = { z3 = \"openin\" }, after_moving = true },
+  { name = \"low\", gives = { z3 = \"openout\" }, after_moving = true },
+  { name = \"top\", gives = { z3 = \"closed\" }, after_moving = true },
+]
+program = [\"claim z3\", \"pose travelling\", \"pose middle\", \"yield z3\", \"take z3\", \
+     \"pose travelling\", \"pose top\",
+  \"pose travelling\", \"pose low\", \"give z3\"]
+
+[[machine]]
+name = \"deposit\"
+places = [\"deposit_belt\"]
+poses = [
+  { name = \"running\", gives = { z4 = \"moving\", z5 = \"moving\" } },
+  { name = \"landing\", gives = { z4 = \"openin\", z5 = \"closed\" } },
+  { name = \"offering\", gives = { z4 = \"closed\", z5 = \"openout\" } },
+  { name = \"standing\", gives = { z4 = \"openin\", z5 = \"openout\" } },
+  { name = \"halted\", gives = { z4 = \"closed\", z5 = \"closed\" } },
+]
+program = [\"claim z4\", \"claim z5\", \"pose landing\", \"release z4\", \"take z4\", \"pose \
+     running\", \"pose offering\", \"give z5\",
+  \"release z4\"]
+
+[[machine]]
+name = \"crane\"
+places = [\"gripper\"]
+program = [\"take z5\", \"release z5\", \"claim z6\", \"give z6\"]
+
+[[zone]]
+name = \"z1\"
+host = \"table\"
+guest = \"feed\"
+inward = [\"feed_belt\", \"table_top\"]
+
+[[zone]]
+name = \"z2\"
+host = \"table\"
+guest = \"robot\"
+outward = [\"table_top\", \"arm1\"]
+
+[[zone]]
+name = \"z3\"
+host = \"press\"
+guest = \"robot\"
+inward = [\"arm1\", \"die\"]
+outward = [\"die\", \"arm2\"]
+
+[[zone]]
+name = \"z4\"
+host = \"deposit\"
+guest = \"robot\"
+inward = [\"arm2\", \"deposit_belt\"]
+
+[[zone]]
+name = \"z5\"
+host = \"deposit\"
+guest = \"crane\"
+outward = [\"deposit_belt\", \"gripper\"]
+
+[[zone]]
+name = \"z6\"
+host = \"feed\"
+guest = \"crane\"
+inward = [\"gripper\", \"feed_belt\"]
+";
+
+/// Of the production cell.
+const CELL_GOES: &str = "\
+no standstill in any order of turns before the last stamp: 8622 situations
+feed goes on for ever in each fair order: within k * 50 turns
+table goes on for ever in each fair order: within k * 51 turns
+robot goes on for ever in each fair order: within k * 43 turns
+press goes on for ever in each fair order: within k * 54 turns
+deposit goes on for ever in each fair order: within k * 53 turns
+crane goes on for ever in each fair order: within k * 60 turns
+plates move for ever in each fair order: within k * 23 turns
+";
+
+/// A cart and a door that take a dock and let it go.
+const DOCK: &str = "\
+[[machine]]
+name = \"cart\"
+program = [\"claim dock\", \"release dock\"]
+
+[[machine]]
+name = \"door\"
+poses = [
+  { name = \"swinging\", gives = { dock = \"moving\" } },
+  { name = \"open\", gives = { dock = \"openin\" }, after_moving = true },
+]
+program = [\"claim dock\", \"pose swinging\", \"pose open\", \"release dock\"]
+
+[[zone]]
+name = \"dock\"
+host = \"door\"
+guest = \"cart\"
+";
+
+/// Of the dock: each of both may keep the other one out.
+const DOCK_GOES: &str = "\
+no standstill in any order of turns before the last stamp: 7 situations
+cart goes on for ever if it isn't passed over for ever: within k * 3 + k * k * 3 turns
+  a fair order in which it starves: first door door
+  and then again and again
+  cart waits: claim dock: held door
+  door asks: pose open: done
+  door asks: release dock: done
+  cart could go on: claim dock: done
+  door asks: claim dock: done
+  cart waits: claim dock: held door
+  door asks: pose swinging: done
+door goes on for ever if it isn't passed over for ever: within k * 1 + k * k * 1 turns
+  a fair order in which it starves: first door door door door
+  and then again and again
+  door could go on: claim dock: done
+  cart asks: claim dock: done
+  door waits: claim dock: held cart
+  cart asks: release dock: done
+";
+
+/// Of the two presses if the left one is out of use.
+const ONE_PRESS_GOES: &str = "\
+no standstill in any order of turns before the last stamp: 44 situations
+left_arm may starve though no machine is passed over for ever
+  a fair order in which it starves: first left_arm left_arm left_arm right_press right_press
+  and then again and again
+  left_arm waits: give left: notowner free
+  right_arm asks: claim rack: done
+  right_press asks: pose load: done
+  right_arm asks: release rack: done
+  right_press asks: yield right: done
+  right_arm asks: give right: done
+  right_press asks: take right: done
+  right_press asks: pose travelling: done
+  right_press asks: pose forge: done
+  right_press asks: pose travelling: done
+  right_press asks: pose unload: done
+  right_press asks: give right: done
+  right_arm asks: take right: done
+  right_arm asks: release right: done
+  right_press asks: claim right: done
+  right_press asks: pose travelling: done
+right_arm goes on for ever in each fair order: within k * 8 turns
+left_press asks nothing
+right_press goes on for ever in each fair order: within k * 7 turns
+plates move for ever in each fair order: within k * 10 turns
+";
+
+/// Whether these words and what is meant by fair orders are printed of a plan and a start.
+fn is_explored(
+    rt: &HostRuntime,
+    plan: &str,
+    start: &str,
+    screen: &str,
+) -> Result<bool, AllocError> {
+    let input = format!(in rt.alloc(); "{plan}{start}\n")?;
+    let text = format!(in rt.alloc(); "{screen}{FAIRNESS}")?;
+    Ok(is_answered(rt.alloc(), b"explore", input.as_str(), 0, text.as_str()))
+}
+
+/// The small example plans, their starts, and what is printed of them.
+const EXAMPLES: &[(&str, &str, &str)] = &[
+    (PRESS, "start,10", PRESS_GOES),
+    (JUNCTION, "start,", JUNCTION_GOES),
+    (LIFT, "start,010,100", LIFT_GOES),
+];
+
+#[test]
+fn explores_small_examples(rt: HostRuntime) -> Result<(), AllocError> {
+    for (plan, start, screen) in EXAMPLES {
+        assert!(rt; is_explored(&rt, plan, start, screen)?, "{start}");
+    }
+    Ok(())
+}
+
+#[test]
+fn explores_the_cell(rt: HostRuntime) -> Result<(), AllocError> {
+    assert!(rt; is_explored(&rt, CELL, "start,1000000", CELL_GOES)?);
+    Ok(())
+}
+
+#[test]
+fn explores_two_presses(rt: HostRuntime) -> Result<(), AllocError> {
+    let both = format!(in rt.alloc(); "{PRESSES_BEGIN}{LEFT_PROGRAM}{PRESSES_END}")?;
+    assert!(rt; is_explored(&rt, both.as_str(), "start,1100", TWO_PRESSES_GO)?);
+    let one = format!(in rt.alloc(); "{PRESSES_BEGIN}program = []\n{PRESSES_END}")?;
+    assert!(rt; is_explored(&rt, one.as_str(), "start,1100", ONE_PRESS_GOES)?);
+    Ok(())
+}
+
+#[test]
+fn explores_a_dock(rt: HostRuntime) -> Result<(), AllocError> {
+    assert!(rt; is_explored(&rt, DOCK, "start,", DOCK_GOES)?);
+    Ok(())
+}
+
+/// What is printed of all five examples.
+const SCREENS: &[&str] = &[
+    PRESS_GOES,
+    JUNCTION_GOES,
+    LIFT_GOES,
+    TWO_PRESSES_GO,
+    CELL_GOES,
+];
+
+#[test]
+fn of_each_machine_of_the_examples_it_is_known(rt: HostRuntime) {
+    assert!(rt; SCREENS.iter().all(|screen| !screen.contains("known")));
+}

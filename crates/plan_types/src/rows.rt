@@ -1,0 +1,152 @@
+//! The bytes of one row, and the row that has them.
+ghost use Rattle.std.specs.Prelude.{◌≡◌, ◌↔◌, ◌∷◌, [], Bool, List, Option, map, IfSome};
+ghost use mir.Val.{bool_byte};
+ghost use Rattle.plan_types.specs.declared.posture.Posture.{Posture};
+ghost use Rattle.plan_types.specs.declared.table.Way.{Way};
+ghost use Rattle.plan_types.specs.declared.table.PlanZone.{PlanZone};
+ghost use Rattle.plan_types.specs.declared.table.PlanPose.{PlanPose};
+ghost use Rattle.plan_types.specs.Bytes as bytes;
+
+use crate::{MAX_ZONES, PlanPose, PlanZone, Posture, Way};
+
+/// The bytes of a zone.
+pub(crate) const ZONE_BYTES: usize = 8;
+
+/// The bytes of a pose.
+pub(crate) const POSE_BYTES: usize = 12;
+
+fn way_row(way: Option<Way>) -> [u8; 3]
+    ensures { result ≡ bytes.way_byte way ∷ bytes.from_byte way ∷ bytes.to_byte way ∷ [] }
+{
+    match way {
+        None => [0, 0, 0],
+        Some(Way { from, to }) => [1, from, to],
+    }
+}
+
+fn way_with(row: [u8; 3]) -> Option<Option<Way>>
+    ensures { (way : Option Way) → (result ≡ Some way)
+        ↔ (bytes.way_byte way ∷ bytes.from_byte way ∷ bytes.to_byte way ∷ [] ≡ row) }
+{
+    match row {
+        [0, 0, 0] => Some(None),
+        [1, from, to] => Some(Some(Way { from, to })),
+        _ => None,
+    }
+}
+
+/// The row of a zone.
+pub(crate) fn zone_row(zone: PlanZone) -> [u8; ZONE_BYTES]
+    ensures { result ≡ bytes.zone_bytes zone }
+{
+    let [enters, in_from, in_to] = way_row(zone.inward);
+    let [leaves, out_from, out_to] = way_row(zone.outward);
+    [
+        zone.host, zone.guest, enters, in_from, in_to, leaves, out_from, out_to,
+    ]
+}
+
+/// The zone with a row, if there is one.
+pub(crate) fn zone_with(row: &[u8; ZONE_BYTES]) -> Option<PlanZone>
+    ensures { (zone : PlanZone) → (result ≡ Some zone) ↔ (bytes.zone_bytes zone ≡ row.now) }
+{
+    let [
+        host,
+        guest,
+        enters,
+        in_from,
+        in_to,
+        leaves,
+        out_from,
+        out_to,
+    ] = *row;
+    let inward = way_with([enters, in_from, in_to])?;
+    let outward = way_with([leaves, out_from, out_to])?;
+    Some(PlanZone {
+        host,
+        guest,
+        inward,
+        outward,
+    })
+}
+
+fn posture_byte(posture: Option<Posture>) -> u8
+    ensures { result ≡ bytes.posture_byte posture }
+{
+    match posture {
+        None => 0,
+        Some(Posture::Closed) => 1,
+        Some(Posture::Moving) => 2,
+        Some(Posture::OpenIn) => 3,
+        Some(Posture::OpenOut) => 4,
+    }
+}
+
+fn posture_with(byte: u8) -> Option<Option<Posture>>
+    ensures { (posture : Option Posture) → (result ≡ Some posture) ↔ (bytes.posture_byte posture ≡ byte) }
+{
+    match byte {
+        0 => Some(None),
+        1 => Some(Some(Posture::Closed)),
+        2 => Some(Some(Posture::Moving)),
+        3 => Some(Some(Posture::OpenIn)),
+        4 => Some(Some(Posture::OpenOut)),
+        _ => None,
+    }
+}
+
+/// The row of a pose.
+pub(crate) fn pose_row(pose: PlanPose) -> [u8; POSE_BYTES]
+    ensures { result ≡ bytes.pose_bytes pose }
+{
+    let [a, b, c, d, e, f, g, h, i, j] = pose.gives;
+    [
+        pose.machine,
+        u8::from(pose.after_moving),
+        posture_byte(a),
+        posture_byte(b),
+        posture_byte(c),
+        posture_byte(d),
+        posture_byte(e),
+        posture_byte(f),
+        posture_byte(g),
+        posture_byte(h),
+        posture_byte(i),
+        posture_byte(j),
+    ]
+}
+
+fn gives_with(row: [u8; MAX_ZONES]) -> Option<[Option<Posture>; MAX_ZONES]>
+    ensures { (gives : List (Option Posture)) → (result ≡ Some gives) ↔ (map bytes.posture_byte gives ≡ row) }
+{
+    let mut gives = [None; MAX_ZONES];
+    for zone in 0..MAX_ZONES {
+        gives[zone] = posture_with(row[zone])?;
+    }
+    Some(gives)
+}
+
+fn flag_with(byte: u8) -> Option<bool>
+    ensures { (flag : Bool) → (result ≡ Some flag) ↔ (bool_byte flag ≡ byte) }
+{
+    match byte {
+        0 => Some(false),
+        1 => Some(true),
+        _ => None,
+    }
+}
+
+/// The pose with a row, if there is one.
+pub(crate) fn pose_with(row: &[u8; POSE_BYTES]) -> Option<PlanPose>
+    ensures whole { IfSome result bytes.IsForTenZones }
+    ensures row { (pose : PlanPose) → (result ≡ Some pose) ↔ (bytes.pose_bytes pose ≡ row.now) }
+{
+    let [machine, moving, a, b, c, d, e, f, g, h, i, j] = *row;
+    let after_moving = flag_with(moving)?;
+    let gives = gives_with([a, b, c, d, e, f, g, h, i, j])?;
+    Some(PlanPose {
+        machine,
+        after_moving,
+        gives,
+    })
+}

@@ -1,7 +1,0 @@
-use Rattle.std.proofs.Common.{◌≡◌, ℕ, ◌<◌, length, get_or}
-use Rattle.plan_rules.specs.State.{free_zone}
-use Rattle.plan_word.specs.Reading.{zone_told}
-use Rattle.plan_word.proofs.word.zones_in.Given as goal
-
-abbrev pub invariant-loop-zone : goal.invariant-loop-zone
-invariant-loop-zone l = (length l.zones ≡ 10) × ((k : ℕ) → k < l.zone → get_or l.zones k free_zone ≡ zone_told l.plan l.word k)
