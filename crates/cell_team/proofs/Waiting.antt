@@ -182,13 +182,13 @@ unlike : (b more : Bool) → ((b && not b) && more) ≡ false
 unlike true more = refl
 unlike false more = refl
 
-behind : (a b : Bool) → b ≡ false → (a && b) ≡ false
-behind true b e = e
-behind false b e = refl
+shut : (a b : Bool) → b ≡ false → (a && b) ≡ false
+shut true b e = e
+shut false b e = refl
 
 opens_clear : (o : Option Posture) (q : Posture) (blocked : Bool) → (o ≡ Some OpenIn → blocked ≡ false) → ((same_posture (unwrap_or o q) OpenIn && not (same_posture q OpenIn)) && blocked) ≡ false
 opens_clear None q blocked k = unlike (same_posture q OpenIn) blocked
-opens_clear (Some OpenIn) q blocked k = behind (not (same_posture q OpenIn)) blocked (k refl)
+opens_clear (Some OpenIn) q blocked k = shut (not (same_posture q OpenIn)) blocked (k refl)
 opens_clear (Some x) q blocked k = refl
 
 abbrev pub HasRoom : ModelState → Machine → Pose → Type 0

@@ -47,7 +47,7 @@ fn who_asks_nothing_is_silent(rt: HostRuntime) {
     assert!(rt; matches!(answers.as_slice(), [Liveness::Silent, Liveness::Silent]));
 }
 
-/// Whether all turns of an order are those of one machine, and so many come again and again.
+/// Whether all turns of an order are those of one machine, and this number of them come again and again.
 fn is_by(order: &FairOrder, machine: u8, turns: usize) -> bool {
     order.cycle.len() == turns
         && order.stem.iter().all(|turner| *turner == machine)

@@ -5,7 +5,7 @@ use plan_app::size::is_large;
 use plan_types::Call;
 use std::alloc::Global;
 
-/// Whether there are more situations than so many. `None` if memory runs out.
+/// Whether there are more situations than this number. `None` if memory runs out.
 fn is_larger(alloc: Global, lists: &[&[Call]], full: &[usize], most: usize) -> Option<bool> {
     let (plan, programs, opening) = plant_of(alloc, lists, full, 0)?;
     is_large(alloc, &plan, &programs, &opening, most).ok()

@@ -70,7 +70,7 @@ pub fn plates(state: &State) -> usize
     state.full.iter().filter(|full| **full).count()
 }
 
-/// The start with these digits and this stamp, if they make one for so many places.
+/// The start with these digits and this stamp, if they make one for this number of places.
 fn start_of(count: u8, digits: &[u8], stamp: Option<u32>) -> Option<State>
     ensures { result ≡ spec.start_of count digits.now stamp }
 {
