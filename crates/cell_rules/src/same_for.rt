@@ -6,7 +6,7 @@ ghost use Rattle.cell_rules.specs.Restamping as tests;
 ghost use Rattle.cell_rules.specs.Restamping.{IsSameFor};
 
 use crate::state::State;
-use cell_types::{Machine, Place, Zone, host, owner_of_place};
+use cell_types::{Machine, Place, Zone, host, keeper};
 
 impl State {
     /// Whether what a machine knows of this state is so in another one: of each zone that it owns
@@ -45,7 +45,7 @@ impl State {
     fn is_same_place(&self, machine: Machine, other: &State, place: Place) -> bool
         ensures { result ≡ tests.is_same_place machine self.now other.now place }
     {
-        owner_of_place(place) != machine || same_flag(other.is_full(place), self.is_full(place))
+        keeper(place) != machine || same_flag(other.is_full(place), self.is_full(place))
     }
 }
 

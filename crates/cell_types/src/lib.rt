@@ -23,5 +23,5 @@ pub use place::Place;
 pub use pose::Pose;
 pub use posture::Posture;
 pub use reply::Reply;
-pub use tables::{guest, host, own_move, owner_of_place, posture_in, transfer};
+pub use tables::{guest, host, keeper, own_move, posture_in, transfer};
 pub use zone::{Transfer, Zone};

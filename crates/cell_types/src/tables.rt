@@ -34,7 +34,7 @@ pub fn guest(zone: Zone) -> Machine
 }
 
 /// The machine that a place belongs to: its calls alone fill or empty the place.
-pub fn owner_of_place(place: Place) -> Machine
+pub fn keeper(place: Place) -> Machine
     ensures { result ≡ keeper_of place }
 {
     match place {

@@ -307,19 +307,19 @@ fn push_keeper(
 ) -> Result<(), AllocError>
     ensures { OnOk result (string_bytes text.new ≡ string_bytes text.old ++ spec.keeper_line named.now place) }
 {
-    let owner_of_place = owner_of_place(named.plan(), place);
+    let keeper = keeper(named.plan(), place);
     push_party(
         alloc,
         text,
         named,
         "keeper_of_",
         named.places().name(place),
-        owner_of_place,
+        keeper,
     )
 }
 
 /// The machine that keeps a place.
-fn owner_of_place(plan: &Plan, place: u8) -> u8
+fn keeper(plan: &Plan, place: u8) -> u8
     ensures { result ≡ keeper_of plan.now place }
 {
     match plan.tables().places.as_slice().get(usize::from(place)) {

@@ -54,7 +54,7 @@ impl Tables {
     }
 
     /// The machine that keeps a place; the first where there is no such place.
-    pub(crate) fn owner_of_place(&self, place: usize) -> u8
+    pub(crate) fn keeper(&self, place: usize) -> u8
         ensures { result ≡ table.keeper_of self.now place }
     {
         if place < self.places.len() {
@@ -75,7 +75,7 @@ impl Tables {
         ensures { result ≡ table.is_place_of self.now place machine }
     {
         let place = usize::from(place);
-        place < self.places.len() && self.owner_of_place(place) == machine
+        place < self.places.len() && self.keeper(place) == machine
     }
 
     fn leads(&self, giver: u8, receiver: u8, way: Option<Way>) -> bool
@@ -119,7 +119,7 @@ impl Tables {
     {
         let mut first = None;
         for place in 0..self.places.len() {
-            let known = self.owner_of_place(place) < self.machines;
+            let known = self.keeper(place) < self.machines;
             first = first.or(unless(known, PlanFault::NoSuchKeeper { place }));
         }
         first
