@@ -1,5 +1,5 @@
 use Rattle.cell_report.proofs.Names.{◌≡◌, ◌++◌, [], ◌∷◌, ap, arith, ◌∙◌, append_assoc, replicate_more, event_by}
-use Rattle.cell_report.proofs.keepers.VecEventKeeper.keep.Goals as goal
+use Rattle.cell_report.proofs.sinks.VecEventEventSink.keep.Goals as goal
 
 pub loop-preserved : goal.loop-preserved
 loop-preserved c =
