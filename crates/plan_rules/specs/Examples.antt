@@ -1,6 +1,6 @@
--- Literal histories of three plants: each answer is written out.
+-- Literal histories of four plants: each answer is written out.
 use Rattle.std.specs.Prelude.{◌≡◌, ℕ, true, false, List, [], ◌∷◌, replicate, Some, None}
-use Rattle.plan_types.specs.declared.posture.Posture.TheVariants.{Closed, Moving, OpenIn}
+use Rattle.plan_types.specs.declared.posture.Posture.TheVariants.{Closed, Moving, OpenIn, OpenOut}
 use Rattle.plan_types.specs.declared.call.Call.{Call}
 use Rattle.plan_types.specs.declared.call.Call.TheVariants.{Claim, Give, Yield, Take, Release, SetPose, Inquire, Stop}
 use Rattle.plan_types.specs.declared.call.Call.TheVariants.{Resume}
@@ -88,17 +88,19 @@ abbrev pub lifting : List Event
 lifting =
     did 0 (Claim 1) ∷ refused 0 (SetPose 0) (NotOwner None) ∷ did 0 (Claim 0) ∷ did 0 (SetPose 0) ∷ did 0 (SetPose 1)
     ∷ refused 1 (Claim 1) NotParty ∷ refused 2 (Claim 1) (Held 0) ∷ did 0 (Yield 0) ∷ did 1 (Give 0)
-    ∷ refused 0 (SetPose 0) (PlateInZone 0) ∷ did 0 (Take 0) ∷ did 0 (SetPose 0) ∷ refused 0 (SetPose 4) PlaceFull
-    ∷ did 0 (SetPose 2) ∷ did 0 (Give 1) ∷ refused 2 (Yield 1) (PlateInZone 1) ∷ did 2 (Take 1)
-    ∷ refused 0 (SetPose 0) (NotOwner (Some 2)) ∷ did 2 (Yield 1) ∷ did 0 (SetPose 0) ∷ []
+    ∷ refused 0 (SetPose 0) (PlateInZone 0) ∷ did 0 (Release 1) ∷ refused 0 (SetPose 0) (NotOwner None)
+    ∷ did 0 (Claim 1) ∷ did 0 (Take 0) ∷ did 0 (SetPose 0) ∷ refused 0 (SetPose 4) PlaceFull ∷ did 0 (SetPose 2)
+    ∷ did 0 (Give 1) ∷ refused 0 (SetPose 0) (NotOwner (Some 2)) ∷ refused 2 (Yield 1) (PlateInZone 1)
+    ∷ did 2 (Take 1) ∷ refused 0 (SetPose 0) (NotOwner (Some 2)) ∷ did 2 (Yield 1) ∷ did 0 (SetPose 0) ∷ []
 
 -- machine 0 hosts two doors, and moves the first alone; machine 1 is the guest at the first, 2 at the second; places:
 -- each machine's own
--- poses: 0 moves the first door, 1 opens the second inward, 2 closes both, after moving
+-- poses: 0 moves the first door, 1 opens the second inward, 2 closes both, after moving, 3 opens the first outward
 abbrev pub doors_table : PlanTable
 doors_table =
     plan_table 3 (zone 0 1 None None ∷ zone 0 2 (way 2 0) (way 0 2) ∷ [])
-    (pose 0 false (Some Moving) None ∷ pose 0 false None (Some OpenIn) ∷ pose 0 true (Some Closed) (Some Closed) ∷ [])
+    (pose 0 false (Some Moving) None ∷ pose 0 false None (Some OpenIn) ∷ pose 0 true (Some Closed) (Some Closed)
+    ∷ pose 0 false (Some OpenOut) None ∷ [])
     (0 ∷ 1 ∷ 2 ∷ [])
 
 -- machine 2 has a plate
@@ -115,6 +117,32 @@ moving_one_door =
     ∷ refused 0 (SetPose 0) (PlateInZone 1) ∷ did 0 (Take 1) ∷ did 0 (SetPose 0) ∷ did watch Stop
     ∷ refused 0 (SetPose 0) Stopped ∷ []
 
+-- the pose that opens the second door wants that one alone: the first is nobody's, or is machine 1's
+abbrev pub opening_one_door : List Event
+opening_one_door =
+    did 0 (Claim 1) ∷ did 0 (SetPose 1) ∷ event 0 (Inquire 0) (Shown None false Closed) ∷ []
+
+abbrev pub opening_beside_a_guest : List Event
+opening_beside_a_guest =
+    did 0 (Claim 0) ∷ did 0 (SetPose 3) ∷ did 0 (Yield 0) ∷ did 0 (Claim 1) ∷ did 0 (SetPose 1)
+    ∷ event 0 (Inquire 0) (Shown (Some 1) false OpenOut) ∷ event 0 (Inquire 1) (Shown (Some 0) false OpenIn) ∷ []
+
+-- machine 0 loads two presses, 1 and 2; places: each machine's own
+-- poses: 0 moves the first press, 1 opens it, after moving; 2 moves the second, 3 opens it, after moving
+abbrev pub presses_table : PlanTable
+presses_table =
+    plan_table 3 (zone 1 0 (way 0 1) None ∷ zone 2 0 (way 0 2) None ∷ [])
+    (pose 1 false (Some Moving) None ∷ pose 1 true (Some OpenIn) None ∷ pose 2 false None (Some Moving)
+    ∷ pose 2 true None (Some OpenIn) ∷ [])
+    (0 ∷ 1 ∷ 2 ∷ [])
+
+-- each press moves and opens while the other one stands: closed and nobody's, then open and the loader's
+abbrev pub opening_two_presses : List Event
+opening_two_presses =
+    did 1 (Claim 0) ∷ did 1 (SetPose 0) ∷ did 1 (SetPose 1) ∷ did 1 (Yield 0) ∷ did 2 (Claim 1) ∷ did 2 (SetPose 2)
+    ∷ did 2 (SetPose 3) ∷ event 0 (Inquire 0) (Shown (Some 0) false OpenIn)
+    ∷ event 0 (Inquire 1) (Shown (Some 2) false OpenIn) ∷ []
+
 -- these histories are legal: each answer in them is the reply
 pub record ExamplesAreLegal : Type 0 where
   pub press_loads : IsLegal press_table press_start loading
@@ -124,3 +152,7 @@ pub record ExamplesAreLegal : Type 0 where
   pub lift_lifts : IsLegal lift_table lift_start lifting
   pub doors_are_a_plan : plan_fault doors_table ≡ None
   pub one_door_moves : IsLegal doors_table doors_start moving_one_door
+  pub one_door_opens : IsLegal doors_table doors_start opening_one_door
+  pub door_opens_beside_a_guest : IsLegal doors_table doors_start opening_beside_a_guest
+  pub presses_are_a_plan : plan_fault presses_table ≡ None
+  pub presses_open : IsLegal presses_table press_start opening_two_presses

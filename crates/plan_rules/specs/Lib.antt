@@ -7,3 +7,4 @@ pub mod Laws
 pub mod Examples
 pub mod Causes
 pub mod RefusalLaws
+pub mod OrderExamples

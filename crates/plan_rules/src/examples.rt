@@ -1,8 +1,15 @@
-//! Literal histories of three plants.
+//! Literal histories of four plants, and literal refusals.
 ghost use Rattle.plan_rules.specs.Examples.{ExamplesAreLegal};
+ghost use Rattle.plan_rules.specs.OrderExamples.{OrdersAreMet};
 
-/// Histories of a press, of a lift and of two doors, written out, are legal: each refusal stands in one of them, and
-/// each call is done in one. The pose that moves one door leaves the other alone, and wants it all the same.
+/// Histories of a press, of a lift, of two doors and of two presses, written out, are legal: each refusal stands in one
+/// of them, and each call is done in one. The pose that moves one door leaves the other alone, and wants it all the
+/// same; one that opens a door, or a press, wants no other zone.
 pub fn examples_are_legal()
     ensures { ExamplesAreLegal }
+{}
+
+/// Where two causes of a refusal are there, the answer is the one that comes first in the call's order.
+pub fn orders_are_met()
+    ensures { OrdersAreMet }
 {}

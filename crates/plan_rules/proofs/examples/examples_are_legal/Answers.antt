@@ -2,7 +2,7 @@ use Rattle.std.proofs.Common.{refl, replicate, false}
 use Rattle.plan_types.specs.Examples.{press_table, lift_table}
 use Rattle.plan_rules.specs.State.{start_state}
 use Rattle.plan_rules.specs.History.{after}
-use Rattle.plan_rules.specs.Examples.{press_start, full_press, loading, unloading, stopping, wearing, lift_start, lifting, doors_table, doors_start, moving_one_door}
+use Rattle.plan_rules.specs.Examples.{press_start, full_press, loading, unloading, stopping, wearing, lift_start, lifting, doors_table, doors_start, moving_one_door, opening_one_door, opening_beside_a_guest, presses_table, opening_two_presses}
 use Rattle.plan_rules.proofs.Literal.{legal_by}
 use Rattle.plan_rules.proofs.examples.examples_are_legal.Goals as goal
 
@@ -15,4 +15,8 @@ returns c = record {
   lift_lifts = legal_by lift_table lift_start lifting refl;
   doors_are_a_plan = refl;
   one_door_moves = legal_by doors_table doors_start moving_one_door refl;
+  one_door_opens = legal_by doors_table doors_start opening_one_door refl;
+  door_opens_beside_a_guest = legal_by doors_table doors_start opening_beside_a_guest refl;
+  presses_are_a_plan = refl;
+  presses_open = legal_by presses_table press_start opening_two_presses refl;
 }
