@@ -66,6 +66,21 @@ two_at row poses = plan_table 2 (row ∷ []) poses (0 ∷ 1 ∷ [])
 abbrev pub three_at : PlanZone → PlanTable
 three_at row = plan_table 3 (row ∷ []) [] (0 ∷ 1 ∷ 2 ∷ [])
 
+-- as many zones and places as these numbers say, without a fault in them
+abbrev pub counted : ℕ → ℕ → PlanTable
+counted zones places = plan_table 2 (replicate zones (zone 1 0 None None)) [] (replicate places 0)
+
+-- the largest tables are plans: 15 machines, of which the last hosts a zone and keeps a place; 64 poses; 16 places
+pub record LargestPlans : Type 0 where
+  pub machines : plan_fault (plan_table 15 (zone 14 13 None None ∷ []) [] (14 ∷ [])) ≡ None
+  pub poses : plan_fault (two_at press_zone (replicate 64 (pose 1 false None None))) ≡ None
+  pub places : plan_fault (counted 0 16) ≡ None
+  -- a word of 64 bits
+  pub eight_zones : plan_fault (counted 8 3) ≡ None
+  pub seven_zones : plan_fault (counted 7 8) ≡ None
+  pub six_zones : plan_fault (counted 6 13) ≡ None
+  pub five_zones : plan_fault (counted 5 16) ≡ None
+
 -- tables with faults, and the first fault of each
 pub record FirstFaults : Type 0 where
   pub machines : plan_fault (plan_table 16 (zone 1 1 None None ∷ []) [] []) ≡ Some TooManyMachines
@@ -75,6 +90,7 @@ pub record FirstFaults : Type 0 where
   -- eight zones and four places take 65 bits, ten zones and sixteen places 87
   pub wide : plan_fault (plan_table 2 (replicate 8 (zone 1 1 None None)) [] (replicate 4 2)) ≡ Some (TooWide 1)
   pub widest : plan_fault (plan_table 2 (replicate 10 press_zone) [] (replicate 16 0)) ≡ Some (TooWide 23)
+  pub wide_by_a_place : plan_fault (counted 7 9) ≡ Some (TooWide 1)
   pub keeper : plan_fault (plan_table 2 (zone 1 1 None None ∷ []) [] (0 ∷ 2 ∷ [])) ≡ Some (NoSuchKeeper 1)
   pub host : plan_fault (two_at (zone 2 2 None None) []) ≡ Some (NoSuchHost 0)
   pub guest : plan_fault (two_at (zone 1 2 None None) []) ≡ Some (NoSuchGuest 0)
@@ -92,7 +108,37 @@ pub record FirstFaults : Type 0 where
   pub inward_from_nowhere : plan_fault (two_at (zone 1 0 (way 2 1) None) []) ≡ Some (InwardAstray 0)
   pub outward_from_nowhere : plan_fault (two_at (zone 0 1 None (way 2 1)) []) ≡ Some (OutwardAstray 0)
   pub outward_to_nowhere : plan_fault (two_at (zone 0 1 None (way 0 2)) []) ≡ Some (OutwardAstray 0)
+  -- a way within the places of the host, or of the guest
+  pub inward_within_host : plan_fault (two_at (zone 1 0 (way 1 1) None) []) ≡ Some (InwardAstray 0)
+  pub inward_within_guest : plan_fault (two_at (zone 1 0 (way 0 0) None) []) ≡ Some (InwardAstray 0)
+  pub outward_within_host : plan_fault (two_at (zone 1 0 None (way 1 1)) []) ≡ Some (OutwardAstray 0)
+  pub outward_within_guest : plan_fault (two_at (zone 1 0 None (way 0 0)) []) ≡ Some (OutwardAstray 0)
   pub machine : plan_fault (two_at press_zone (pose 2 false (Some Moving) None ∷ [])) ≡ Some (NoSuchMachine 0)
   pub foreign : plan_fault (two_at press_zone (press_poses ++ pose 0 false (Some Moving) None ∷ []))
       ≡ Some (ForeignZone 4 0)
   pub beyond : plan_fault (two_at press_zone (pose 1 false (Some Moving) (Some Moving) ∷ [])) ≡ Some (ForeignZone 0 1)
+
+-- a pose of a machine that no table has
+abbrev pub strange_pose : PlanPose
+strange_pose = pose 15 false (Some Moving) None
+
+-- as many rows as these numbers say, each of them wrong: no table has a machine 15 or a place 99
+abbrev pub wrong : ℕ → ℕ → ℕ → ℕ → PlanTable
+wrong machines zones poses places =
+    plan_table machines (replicate zones (zone 15 15 (way 99 99) (way 99 99)))
+    (replicate poses strange_pose) (replicate places 15)
+
+-- the order of faults: each table has more than one, and lacks that of the row before it
+pub record FaultsInOrder : Type 0 where
+  pub machines : plan_fault (wrong 16 11 65 17) ≡ Some TooManyMachines
+  pub zones : plan_fault (wrong 15 11 65 17) ≡ Some TooManyZones
+  pub poses : plan_fault (wrong 15 10 65 17) ≡ Some TooManyPoses
+  pub places : plan_fault (wrong 15 10 64 17) ≡ Some TooManyPlaces
+  pub width : plan_fault (wrong 15 10 64 16) ≡ Some (TooWide 23)
+  pub keeper : plan_fault (wrong 15 8 64 3) ≡ Some (NoSuchKeeper 0)
+  pub host : plan_fault (wrong 15 8 64 0) ≡ Some (NoSuchHost 0)
+  pub guest : plan_fault (two_at (zone 1 15 (way 99 99) (way 99 99)) (strange_pose ∷ [])) ≡ Some (NoSuchGuest 0)
+  pub same : plan_fault (two_at (zone 1 1 (way 99 99) (way 99 99)) (strange_pose ∷ [])) ≡ Some (HostIsGuest 0)
+  pub ways : plan_fault (two_at (zone 1 0 (way 99 99) (way 99 99)) (strange_pose ∷ [])) ≡ Some (InwardAstray 0)
+  pub outward : plan_fault (two_at (zone 1 0 None (way 99 99)) (strange_pose ∷ [])) ≡ Some (OutwardAstray 0)
+  pub pose : plan_fault (wrong 15 0 64 0) ≡ Some (NoSuchMachine 0)

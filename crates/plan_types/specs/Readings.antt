@@ -6,7 +6,7 @@ use Rattle.plan_types.specs.declared.table.PlanPose.{PlanPose}
 use Rattle.plan_types.specs.declared.table.Transfer.{Transfer}
 use Rattle.plan_types.specs.Table.{PlanTable, plan_table, watch, is_party, has_pose, is_moving_pose, transfer_of}
 use Rattle.plan_types.specs.Table.{posture_of}
-use Rattle.plan_types.specs.Examples.{way, zone, press_table, lift_table, two_at}
+use Rattle.plan_types.specs.Examples.{way, zone, pose, press_table, lift_table, two_at}
 
 -- one pose, which gives one zone a posture and leaves the others
 abbrev pub gives_at : ℕ → Posture → PlanTable
@@ -14,11 +14,18 @@ gives_at z q =
     let gives = replicate z None ++ Some q ∷ replicate (9 - z) None in
     plan_table 1 [] (record { machine = 0; after_moving = false; gives = gives } ∷ []) []
 
--- a pose moves if it gives any zone Moving, be it the third or the last
+-- one pose, which gives two zones a posture
+abbrev pub gives_both : Posture → Posture → PlanTable
+gives_both first second = plan_table 1 [] (pose 0 false (Some first) (Some second) ∷ []) []
+
+-- a pose moves if it gives any zone Moving, be it the third or the last, and whatever it gives another zone
 pub record MovingPoses : Type 0 where
   pub first_zone : is_moving_pose (gives_at 0 Moving) 0 ≡ true
   pub third_zone : is_moving_pose (gives_at 2 Moving) 0 ≡ true
   pub tenth_zone : is_moving_pose (gives_at 9 Moving) 0 ≡ true
+  pub first_of_two : is_moving_pose (gives_both Moving OpenIn) 0 ≡ true
+  pub second_of_two : is_moving_pose (gives_both OpenIn Moving) 0 ≡ true
+  pub neither : is_moving_pose (gives_both OpenIn OpenOut) 0 ≡ false
   pub closes : is_moving_pose (gives_at 9 Closed) 0 ≡ false
   pub opens : is_moving_pose (gives_at 2 OpenIn) 0 ≡ false
   pub past_the_end : is_moving_pose (gives_at 0 Moving) 1 ≡ false

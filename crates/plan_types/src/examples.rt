@@ -1,6 +1,6 @@
 //! Two plants as examples, what `Plan::new` says of faulty tables, and what tables tell.
 ghost use Rattle.std.specs.Prelude.{◌≡◌, IfOk};
-ghost use Rattle.plan_types.specs.Examples.{ExamplesArePlans, FirstFaults};
+ghost use Rattle.plan_types.specs.Examples.{ExamplesArePlans, FaultsInOrder, FirstFaults, LargestPlans};
 ghost use Rattle.plan_types.specs.Readings.{TablesTell};
 ghost use Rattle.plan_types.specs.Examples as examples;
 
@@ -97,8 +97,18 @@ pub fn first_faults()
     ensures { FirstFaults }
 {}
 
-/// Tables, written out, and what they tell: which poses move, also by the tenth zone alone; the way of a plate; a zone's
-/// parties; a machine's poses.
+/// Faults come in their order: tables with several have the first.
+pub fn faults_in_order()
+    ensures { FaultsInOrder }
+{}
+
+/// The largest tables are plans: 15 machines, 64 poses, 16 places, and words of 64 bits.
+pub fn largest_plans()
+    ensures { LargestPlans }
+{}
+
+/// Tables, written out, and what they tell: which poses move, also by the tenth zone alone; the way of a plate; a
+/// zone's parties; a machine's poses.
 pub fn tables_tell()
     ensures { TablesTell }
 {}

@@ -3,7 +3,7 @@ use Rattle.plan_types.proofs.examples.tables_tell.Goals as goal
 
 pub returns : goal.returns
 returns c = record {
-  moving_poses = record { first_zone = refl; third_zone = refl; tenth_zone = refl; closes = refl; opens = refl; past_the_end = refl; given = refl; left = refl };
+  moving_poses = record { first_zone = refl; third_zone = refl; tenth_zone = refl; first_of_two = refl; second_of_two = refl; neither = refl; closes = refl; opens = refl; past_the_end = refl; given = refl; left = refl };
   transfers = record {
     inward = refl;
     outward = refl;
