@@ -80,6 +80,24 @@ fn tells_what_is_no_plan(rt: HostRuntime) -> Result<(), Fail> {
     Ok(())
 }
 
+// The most machines, and the most poses, none of which gives a posture.
+#[test]
+fn the_largest_counts_are_a_plan(rt: HostRuntime) -> Result<(), Fail> {
+    let mut plan = bare_zone(1).to_vec(rt.alloc())?;
+    plan[0] = 15;
+    plan[2] = 64;
+    for _ in 0..64 {
+        plan.extend_from_slice(&[0; 12])?;
+    }
+    let start = bagunjoki_plan_start(rt.alloc(), &plan, b"", 0);
+    assert!(rt; start == 0);
+    let reply = bagunjoki_plan_step(rt.alloc(), &plan, start, 0, 6, 63);
+    assert!(rt; reply.answer == 0);
+    assert!(rt; bagunjoki_plan_stamp(rt.alloc(), &plan, reply.next) == 1);
+    assert!(rt; bagunjoki_plan_step(rt.alloc(), &plan, start, 0, 6, 64).answer == 12);
+    Ok(())
+}
+
 // No pose opens the zone, so no start comes to this word. It is a state's all the same.
 #[test]
 fn an_open_free_zone_is_a_state(rt: HostRuntime) -> Result<(), Fail> {
