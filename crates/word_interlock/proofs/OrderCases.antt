@@ -1,5 +1,5 @@
--- Literal cases of order, of what was seen, and of a call that was Busy once.
-use Rattle.std.proofs.Common.{◌≡◌, true, List, [], ◌∷◌, ◌++◌, inl, inr, ⊎_elim, refl, sym, ap, ◌∙◌, subst, append_assoc}
+-- Literal cases of order, of what was seen, of a call that was Busy once, and of stamps.
+use Rattle.std.proofs.Common.{◌≡◌, ◌<◌, ◌≤◌, true, false, arith, List, [], ◌∷◌, ◌++◌, inl, inr, ⊎_elim, refl, sym, ap, ◌∙◌, subst, append_assoc}
 use Rattle.std.proofs.lemmas.List.{same_from_push}
 use Rattle.word_interlock.specs.RuleBook.{RuleBook, IsRuleBook}
 use Rattle.word_interlock.specs.declared.views.Moment.{Moment}
@@ -8,7 +8,7 @@ use Rattle.word_interlock.specs.Views.{PassView}
 use Rattle.word_interlock.specs.Moments.{own_moments}
 use Rattle.word_interlock.specs.Run.{AnsweredCall, EndsBefore}
 use Rattle.word_interlock.specs.MomentExamples.{AreTwoActors, pass_with}
-use Rattle.word_interlock.specs.OrderExamples.{OrderCases, SeenCases, SettledCases, OrderExamples}
+use Rattle.word_interlock.specs.OrderExamples.{OrderCases, SeenCases, SettledCases, StampCases, OrderExamples}
 use Rattle.word_interlock.proofs.lemmas.Moments.{head_or, rest_of, no_end, own-one}
 use Rattle.word_interlock.proofs.Examples.{first_is, begins_once}
 
@@ -99,6 +99,16 @@ module _ {R S M C A E : Type 0} (b : RuleBook S M C A E) (law : IsRuleBook b) (m
         (subst (λ (x : M). own_moments b k.lasts.first x ≡ own_moments b k.before.moments x) k.pass.actor k.lasts.own_first ∙ k.own) (subst (λ (x : M). own_moments b k.lasts.between x ≡ []) k.pass.actor k.lasts.own_between);
   }
 
+stamp_cases_of : {S M C A E : Type 0} (b : RuleBook S M C A E) (a : A) → StampCases b a
+stamp_cases_of b a = record {
+  done_with_the_next = (omega arith, λ yes. omega arith);
+  done_with_the_same = λ yes k. let higher : 3 < 3 = k.1 yes in omega (arith, higher);
+  refused_with_the_same = λ no. (omega arith, λ yes. absurd (let f : true ≡ false = sym yes ∙ no in cc));
+  answered_with_a_lower_one = λ k. let same : 3 ≤ 2 = k.0 in omega (arith, same);
+  busy_with_the_same = λ lost. omega arith;
+  busy_with_a_lower_one = λ lost k. let same : 3 ≤ 2 = k in omega (arith, same);
+}
+
 pub order_cases : {S M C A E : Type 0} (b : RuleBook S M C A E) (law : IsRuleBook b) (R : Type 0) → OrderExamples R b
 order_cases b law R m n c a f rules opening v two =
-    (order_cases_of b law m n (b.event m c a) f two, seen_cases_of b law m n (b.event m c a) f two rules opening, settled_cases_of b law m n c a f two v)
+    (order_cases_of b law m n (b.event m c a) f two, seen_cases_of b law m n (b.event m c a) f two rules opening, settled_cases_of b law m n c a f two v, stamp_cases_of b a)

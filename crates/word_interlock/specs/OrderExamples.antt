@@ -1,11 +1,13 @@
--- Literal cases of what stands before what, of who has seen what, and of a call that was Busy once: by two actors, and an
--- event of each.
-use Rattle.std.specs.Prelude.{List, [], ◌∷◌, ◌++◌}
+-- Literal cases of what stands before what, of who has seen what, of a call that was Busy once, and of stamps: by two
+-- actors, and an event of each.
+use Rattle.std.specs.Prelude.{◌≡◌, ℕ, true, false, List, [], ◌∷◌, ◌++◌}
 use Rattle.word_interlock.specs.RuleBook.{RuleBook}
+use Rattle.word_interlock.specs.declared.reply.Reply.TheVariants.{Settled, Busy}
 use Rattle.word_interlock.specs.declared.views.ActorView.{ActorView}
 use Rattle.word_interlock.specs.declared.views.Moment.{Moment}
 use Rattle.word_interlock.specs.declared.views.Moment.TheVariants.{Begins, Answered}
 use Rattle.word_interlock.specs.Views.{PassView}
+use Rattle.word_interlock.specs.Calls.{IsStampedAfter}
 use Rattle.word_interlock.specs.Rule.{new_view}
 use Rattle.word_interlock.specs.Timing.{BeginsAfter}
 use Rattle.word_interlock.specs.Run.{AnsweredCall, EndsBefore}
@@ -48,9 +50,19 @@ module _ {R S M C A E : Type 0} (b : RuleBook S M C A E) (m n : M) (c : C) (a : 
     pub not_busy : ¬ IsAnsweredAtLast b 0 (pass_with b m n (b.event m c a) f v [] [] []) c a
         (answered_after (Begins m ∷ Begins m ∷ []))
 
+-- replies to a caller that was told the stamp 3
+module _ {S M C A E : Type 0} (b : RuleBook S M C A E) (a : A) where
+  pub record StampCases : Type 0 where
+    pub done_with_the_next : IsStampedAfter b 3 (Settled a 4)
+    pub done_with_the_same : b.is_done a ≡ true → ¬ IsStampedAfter b 3 (Settled a 3)
+    pub refused_with_the_same : b.is_done a ≡ false → IsStampedAfter b 3 (Settled a 3)
+    pub answered_with_a_lower_one : ¬ IsStampedAfter b 3 (Settled a 2)
+    pub busy_with_the_same : (lost : ℕ) → IsStampedAfter b 3 (Busy lost 3)
+    pub busy_with_a_lower_one : (lost : ℕ) → ¬ IsStampedAfter b 3 (Busy lost 2)
+
 abbrev pub OrderExamples : {S M C A E : Type 0} → Type 0 → RuleBook S M C A E → Type 0
 OrderExamples {S} {M} {C} {A} {E} R b =
     (m n : M) (c : C) (a : A) (f : E) (rules : R) (opening : S) (v : PassView R S M E)
     → AreTwoActors b m n (b.event m c a) f
     → OrderCases b m n (b.event m c a) f × SeenCases b m n (b.event m c a) f rules opening
-    × SettledCases b m n c a f v
+    × SettledCases b m n c a f v × StampCases b a

@@ -78,7 +78,7 @@ pub fn moments_are_known<R: Rules>(rules: &R)
 }
 
 /// Cases of calls one after another and of calls that overlap, of who has seen and was shown what,
-/// and of a call that was Busy once.
+/// of a call that was Busy once, and of stamps after one that was told.
 pub fn order_is_known<R: Rules>(rules: &R)
     ensures { OrderExamples R (R.book rules.now) }
 {
