@@ -12,7 +12,8 @@ A script, line by line:
 
 --show prints the state after each line, --answers the answers alone, as `cell replay` does. The library is the file
 that the variable BAGUNJOKI names, or else libbagunjoki.so beside this file, one folder above, or where the system
-finds it.
+finds it. Where there is none, Word() raises NoLibrary. The status is 1 for a script that is refused, 2 where nothing
+can be played: bad arguments, no script, no library.
 """
 
 import csv
@@ -177,6 +178,10 @@ class RawReply(ctypes.Structure):
     ]
 
 
+class NoLibrary(OSError):
+    """There is no library, or what is there is another one."""
+
+
 def library_path():
     """Where the library is."""
     here = os.path.dirname(os.path.realpath(__file__))
@@ -187,7 +192,7 @@ def library_path():
             return f"{folder}/libbagunjoki.so"
     found = ctypes.util.find_library("bagunjoki")
     if not found:
-        raise OSError("there is no libbagunjoki.so: tools/bindings makes it")
+        raise NoLibrary("there is no libbagunjoki.so: tools/bindings makes it, with the Rattle kit; exercises/play.py needs none")
     return found
 
 
@@ -206,10 +211,14 @@ FUNCTIONS = {
 
 def load_library(path=None):
     """The library, with the types of its functions."""
-    library = ctypes.CDLL(path or library_path())
-    for name, (result, arguments) in FUNCTIONS.items():
-        function = getattr(library, f"bagunjoki_{name}")
-        function.restype, function.argtypes = result, arguments
+    path = path or library_path()
+    try:
+        library = ctypes.CDLL(path)
+        for name, (result, arguments) in FUNCTIONS.items():
+            function = getattr(library, f"bagunjoki_{name}")
+            function.restype, function.argtypes = result, arguments
+    except (OSError, AttributeError) as why:
+        raise NoLibrary(f"this isn't the library of bagunjoki: {why}") from None
     return library
 
 
@@ -383,16 +392,20 @@ def main(words):
     if set(flags) - {"--show", "--answers"} or len(files) > 1:
         print(__doc__, file=sys.stderr)
         return 2
-    source = open(files[0], "rb") if files else sys.stdin.buffer
     try:
+        library = load_library()
+        source = open(files[0], "rb") if files else sys.stdin.buffer
         with io.TextIOWrapper(source, encoding="utf-8-sig", errors="replace", newline="") as script:
-            for record, answer, cell in answers_of(script):
+            for record, answer, cell in answers_of(script, library):
                 print(answer if "--answers" in flags else f"{record:<22}{answer}", flush=True)
                 if "--show" in flags:
                     print(cell.table() + "\n", flush=True)
     except Fault as fault:
         print(fault)
         return 1
+    except (OSError, csv.Error) as why:
+        print(f"bagunjoki: {why}", file=sys.stderr)
+        return 2
     return 0
 
 

@@ -191,7 +191,7 @@ def as_in_plain_c(trials, compiler):
 
 
 def python(trials, version):
-    """Example, scripts, the table of a state, renewals, the session of docs/FROM_C.md, and what is no call."""
+    """Example, scripts, the table of a state, renewals, the session of docs/FROM_C.md, what is no call, and no library."""
     module = {"PYTHONPATH": f"{trials.prefix}/lib/python", "PYTHONDONTWRITEBYTECODE": "1", "PYTHONWARNINGS": "error"}
     wants(trials.run([version, f"{trials.here}/examples/interior.py"], **module), INTERIOR)
     shows = "from bagunjoki import Word; cell = Word(); cell.ask('press', 'claim', 'z3'); cell.show()"
@@ -203,6 +203,10 @@ def python(trials, version):
         said = trials.run([version, "-c", f"from bagunjoki import *; Word().ask({call})"], status=1, **module)
         if "ValueError" not in said:
             raise Failed(f"ask({call}): {said}")
+    for environment in ({"BAGUNJOKI": "/absent"}, {"BAGUNJOKI": f"{trials.here}/bagunjoki.py"}):
+        said = trials.run([version, "-m", "bagunjoki"], status=2, **module, **environment)
+        if said.count("\n") != 1 or "library" not in said:
+            raise Failed(f"without a library: {said}")
     return scripts(trials, [version, "-m", "bagunjoki", "--answers"], **module)
 
 
