@@ -22,6 +22,9 @@ extern "C" {
 #include <stdatomic.h>
 #endif
 
+/* That of the programs too. Releases with one major number are compatible. */
+#define BAGUNJOKI_VERSION "1.0.0"
+
 /* Machines. NOBODY is an owner, and makes no calls. */
 enum bagunjoki_machine {
     BAGUNJOKI_NOBODY = 0,

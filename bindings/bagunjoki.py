@@ -26,6 +26,8 @@ import sys
 import threading
 from typing import NamedTuple, Optional
 
+__version__ = "1.0.0"
+
 
 class Machine(enum.IntEnum):
     """Who calls. NOBODY is an owner, and makes no calls."""

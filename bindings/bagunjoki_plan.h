@@ -25,6 +25,9 @@ extern "C" {
 #include <stdatomic.h>
 #endif
 
+/* That of the programs too. Releases with one major number are compatible. */
+#define BAGUNJOKI_PLAN_VERSION "1.0.0"
+
 /* The watch's number as a machine: it inquires, stops and resumes. */
 #define BAGUNJOKI_PLAN_WATCH 15
 

@@ -85,6 +85,19 @@ def of_module(root):
     return found, limits, [(name, TYPES.get(kind.__name__, kind.__name__)) for name, kind in from_file.RawReply._fields_]
 
 
+def of_rust(root):
+    """The same as the crate for cargo has them, but for places and postures, which it hands on as numbers."""
+    text = text_of(f"{root}/bindings/rust/src/lib.rs")
+    cases = re.findall(r"^pub enum (\w+) \{(.*?)\n\}", text, re.M | re.S)
+    found = {kind.lower(): {snake(name): int(number) for name, number in re.findall(r"(\w+) = (\d+)", its)} for kind, its in cases}
+    of_loop = OF_THE_LOOP["answer"]
+    answers = {name: int(number) for name, number in re.findall(r"pub const (\w+): Answer = Answer\((\d+)\)", text)}
+    found["answer"] = {name: number for name, number in answers.items() if of_loop.get(name) != number}
+    limits = {"NO_WORD": 2**64 - 1, "LAST_STAMP": int(re.search(r"LAST_STAMP: u32 = ([\d_]+)", text)[1])}
+    struct = re.search(r"^pub struct Reply \{(.*?)\n\}", text, re.M | re.S)[1]
+    return found, limits, [(name, "u8" if kind == "Answer" else kind) for name, kind in re.findall(r"pub (\w+): (\w+),", struct)]
+
+
 def functions_of_crate(root):
     """The exported functions: what each gives, and its arguments."""
     found = {}
@@ -130,9 +143,10 @@ def differences(root):
     """A line for each difference."""
     numbers, limits, fields = of_crates(root)
     said = wrong_words(root)
-    for where, its in (("bagunjoki.h", of_header(root)), ("bagunjoki.py", of_module(root))):
+    for where, its in (("bagunjoki.h", of_header(root)), ("bagunjoki.py", of_module(root)), ("rust/src/lib.rs", of_rust(root))):
         its_numbers, its_limits, its_fields = its
-        for kind in sorted({*numbers, *its_numbers}):
+        absent = {"place", "posture"} if where.startswith("rust") else set()
+        for kind in sorted({*numbers, *its_numbers} - absent):
             here, there = numbers.get(kind, {}), its_numbers.get(kind, {})
             for name in sorted({*here, *there}):
                 if here.get(name) != there.get(name):

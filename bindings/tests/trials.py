@@ -143,10 +143,28 @@ def example_by_pkg_config(trials):
 
 
 def example_in_rust(trials):
-    to = f"{trials.room}/in_rust"
-    words = ["rustc", "-O", "--edition", "2021", f"{trials.here}/examples/interior.rs", "-L", f"{trials.prefix}/lib"]
-    trials.run([*words, "-l", "static=bagunjoki", "-o", to])
+    """The crate for cargo, by rustc alone: a machine may have no cargo."""
+    to, words = f"{trials.room}/in_rust", ["rustc", "-O", "--edition", "2021", "-L", f"{trials.prefix}/lib", "-L", trials.room]
+    crate = ["--crate-name", "bagunjoki", "--crate-type", "rlib", f"{trials.here}/rust/src/lib.rs", "-l", "static=bagunjoki"]
+    trials.run([*words, *crate, "-o", f"{trials.room}/libbagunjoki.rlib"])
+    trials.run([*words, f"{trials.here}/examples/interior.rs", "--extern", "bagunjoki", "-o", to])
     return wants(trials.run([to]), INTERIOR)
+
+
+def example_by_cargo(trials):
+    words = ["cargo", "run", "--quiet", "--offline", "--manifest-path", f"{trials.here}/rust/Cargo.toml", "--example", "interior"]
+    return wants(trials.run(words, BAGUNJOKI_PREFIX=trials.prefix, CARGO_TARGET_DIR=f"{trials.room}/cargo"), INTERIOR)
+
+
+def example_by_wheel(trials):
+    """The module from a wheel that carries the library, in an environment that has nothing else."""
+    wheels, home = f"{trials.room}/wheels", f"{trials.room}/environment"
+    library = {"BAGUNJOKI": f"{trials.prefix}/lib/libbagunjoki.so"}
+    trials.run([sys.executable, "-m", "pip", "wheel", "--quiet", "--no-index", "-w", wheels, trials.here], **library)
+    trials.run([sys.executable, "-m", "venv", home])
+    trials.run([f"{home}/bin/python", "-m", "pip", "install", "--quiet", "--no-index", *glob.glob(f"{wheels}/*.whl")])
+    wants(trials.run([f"{home}/bin/python", f"{trials.here}/examples/interior.py"]), INTERIOR)
+    return scripts(trials, [f"{home}/bin/python", "-m", "bagunjoki", "--answers"])
 
 
 def press_in_c(trials, compiler):
@@ -290,6 +308,9 @@ def in_all_languages(trials, compilers):
         trials.attempt("interior.c by pkg-config", example_by_pkg_config, trials)
     if trials.there("rustc"):
         trials.attempt("interior.rs", example_in_rust, trials)
+    if trials.there("cargo"):
+        trials.attempt("interior.rs by cargo", example_by_cargo, trials)
+    trials.attempt("interior.py by a wheel", example_by_wheel, trials)
     for version, path in pythons():
         trials.attempt(f"Python {version}", python, trials, path)
 
