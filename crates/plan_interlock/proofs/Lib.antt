@@ -1,2 +1,3 @@
 mod Seen
 mod Order
+mod Callers

@@ -29,18 +29,18 @@ counts_by (Refused r) t s m c e = cc
 itself : (m : ℕ) → nat_eq m m ≡ true
 itself m = grind (arith, nat_tests)
 
-one_number : (m n : ℕ) → nat_eq m n ≡ true → m ≡ n
+pub one_number : (m n : ℕ) → nat_eq m n ≡ true → m ≡ n
 one_number m n e = grind (arith, nat_tests, e)
 
 other_number : (m n : ℕ) → m < n → (nat_eq n m ≡ false) × (nat_eq m n ≡ false)
 other_number m n less = (grind (arith, nat_tests, less), grind (arith, nat_tests, less))
 
-times-append : (m : ℕ) (xs ys : List ℕ) → times nat_eq m (xs ++ ys) ≡ times nat_eq m xs + times nat_eq m ys
+pub times-append : (m : ℕ) (xs ys : List ℕ) → times nat_eq m (xs ++ ys) ≡ times nat_eq m xs + times nat_eq m ys
 times-append m [] ys = omega arith
 times-append m (x ∷ xs) ys = omega (arith, times-append m xs ys)
 
 -- a number below a range isn't in it, nor one past its end; one within is in it once
-below-range : (m a n : ℕ) → m < a → times nat_eq m (range_with_len a n) ≡ 0
+pub below-range : (m a n : ℕ) → m < a → times nat_eq m (range_with_len a n) ≡ 0
 below-range m a zero less = refl
 below-range m a (suc n) less =
     let rest = below-range m (a + 1) n (omega (arith, less)) in
@@ -48,7 +48,7 @@ below-range m a (suc n) less =
     (other_number m a less).0 in
     omega (arith, head, rest)
 
-past-range : (m a n : ℕ) → a + n ≤ m → times nat_eq m (range_with_len a n) ≡ 0
+pub past-range : (m a n : ℕ) → a + n ≤ m → times nat_eq m (range_with_len a n) ≡ 0
 past-range m a zero past = refl
 past-range m a (suc n) past =
     let rest = past-range m (a + 1) n (omega (arith, past)) in

@@ -2,3 +2,4 @@ pub mod Book
 pub mod BookKept
 pub mod Laws
 pub mod Order
+pub mod Callers

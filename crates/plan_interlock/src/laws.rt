@@ -4,6 +4,7 @@ ghost use Rattle.plan_types.specs.Table.{place_count};
 ghost use Rattle.plan_rules.specs.State.{is_full};
 ghost use Rattle.plan_rules.specs.Sound.{IsStart};
 ghost use Rattle.plan_interlock.specs.Book.{plan_book, plan_of};
+ghost use Rattle.plan_interlock.specs.Callers.{EveryMachineCalls, PassesInOrder};
 ghost use Rattle.plan_interlock.specs.Laws.{EveryPassSeesLaws, RightsLast};
 ghost use Rattle.plan_interlock.specs.Order.{BusyCallsAreFew, CallsKeepOrder, HistoryIsOne};
 
@@ -18,6 +19,18 @@ pub fn starts_can_open(rules: &PlanRules, opening: &State)
 {
     let _ = rules.plan().machines();
 }
+
+/// Each machine of the plan has one pass, the watch has one, and nobody else has any.
+pub fn every_machine_calls(rules: &PlanRules)
+    ensures { EveryMachineCalls (plan_of rules.now) }
+{
+    let _ = rules.plan().machines();
+}
+
+/// The passes of the press and of the lift come in the order of the machines' numbers, the watch's last.
+pub fn passes_in_order()
+    ensures { PassesInOrder }
+{}
 
 /// All that a pass sees keeps the laws of plans: no zone has two holders, plates are neither lost nor made, and so on.
 pub fn passes_see_laws(rules: &PlanRules)
