@@ -183,8 +183,9 @@ def main():
     given = reader.parse_args()
     program = os.path.realpath(given.program or f"{HERE}/../crates/plan/out/plan")
     os.makedirs(OUT, exist_ok=True)
-    if not given.program:
-        subprocess.run([f"{HERE}/../plan", "--help"], stdout=subprocess.DEVNULL, check=True)
+    if not given.program and subprocess.run([f"{HERE}/../plan", "--help"], stdout=subprocess.DEVNULL).returncode:
+        # (it has said why)
+        sys.exit(1)
     begun = time.monotonic()
     jobs = [(given.seed, first, min(first + AT_ONCE, given.plans), program) for first in range(0, given.plans, AT_ONCE)]
     results = []
