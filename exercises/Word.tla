@@ -2,12 +2,14 @@
 (* The word, look, attempt, and a plain store, in PlusCal: the same as word.pml.
 
    Three callers claim and release in turn: the table its z1, press and robot z3, which is open throughout. What callers were
-   told is kept in made, holder and fault, which no step looks at. To run it, with TLA+'s tools (they weren't at hand where this
-   was written, so it was never translated or run; word.pml was):
+   told is kept in made, holder and fault, which no step looks at. To run it, with TLA+'s tools (Debian has none, and they weren't at
+   hand where this was written, so it was never translated or run; word.pml was):
 
      java -cp tla2tools.jar pcal.trans -nocfg Word.tla
      java -cp tla2tools.jar tlc2.TLC Word             no error is expected
-   and then with Store = TRUE in Word.cfg: NoFault is expected to be violated, as of word.pml with the store. *)
+   and then with Store = TRUE in Word.cfg: AllTold is expected to be violated after 5 steps and, where the configuration hasn't
+   AllTold, NoFault after 6, as of word.pml with the store. (Plain Python that takes the same steps says so, and finds no error in
+   124,172 states without the store.) *)
 EXTENDS Integers
 
 CONSTANTS Tries, Rounds, Store
