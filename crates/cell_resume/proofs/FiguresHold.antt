@@ -1,10 +1,21 @@
 -- What the fourteen bytes mean, computed.
-use Rattle.std.proofs.Common.{◌≡◌, refl}
+use Rattle.std.proofs.Common.{◌≡◌, ◌≤◌, ℕ, ◌/◌, refl, arith}
+use Rattle.std.proofs.lemmas.Option.{slice_get_past}
 use Rattle.cell_rules.proofs.lemmas.SoundnessTest.{sound_by_test}
 use Rattle.cell_rules.specs.Names.{ModelState}
 use Rattle.cell_word.specs.Layout.{packed}
 use Rattle.cell_resume.specs.Checkpoints.{IsCheckpointOf, checkpoint_in}
+use Rattle.cell_resume.specs.FeedKeeps as feed
+use Rattle.cell_resume.specs.TableKeeps as table
+use Rattle.cell_resume.specs.RobotKeeps as robot
+use Rattle.cell_resume.specs.PressKeeps as press
+use Rattle.cell_resume.specs.DepositKeeps as deposit
+use Rattle.cell_resume.specs.CraneKeeps as crane
 use Rattle.cell_resume.specs.Figures.{NumberRows, FigureRows, start_bytes, start_state, start_team, full_bytes, full_state, full_team, forged_bytes, forged_state, forged_team}
+
+-- two numbers name one step of the press
+halved : (n : ℕ) → 30 ≤ n → 15 ≤ n / 2
+halved n past = grind arith
 
 numbers : (s : ModelState) → NumberRows s
 numbers s = record {
@@ -15,12 +26,12 @@ numbers s = record {
   press_upward = (refl, (refl, (refl, (refl, (refl, (refl, (refl, (refl, (refl, (refl, (refl, (refl, (refl, (refl, (refl, tt)))))))))))))));
   deposit = (refl, (refl, (refl, (refl, (refl, (refl, (refl, (refl, (refl, (refl, (refl, (refl, tt))))))))))));
   crane = (refl, (refl, (refl, (refl, (refl, (refl, (refl, (refl, (refl, (refl, (refl, (refl, (refl, (refl, tt))))))))))))));
-  no_feed = refl;
-  no_table = refl;
-  no_robot = refl;
-  no_press = refl;
-  no_deposit = refl;
-  no_crane = refl;
+  no_feed = λ n past. rw (slice_get_past feed.steps n past);
+  no_table = λ n past. rw (slice_get_past table.steps n past);
+  no_robot = λ n past. rw (slice_get_past robot.steps n past);
+  no_press = λ n past. rw (slice_get_past press.steps (n / 2) (halved n past));
+  no_deposit = λ n past. rw (slice_get_past deposit.steps n past);
+  no_crane = λ n past. rw (slice_get_past crane.steps n past);
 }
 
 start_word : packed start_state ≡ (checkpoint_in start_bytes).word

@@ -1,5 +1,5 @@
 -- What the fourteen bytes mean, in figures: those that one version of the program hands out, each other one takes back.
-use Rattle.std.specs.Prelude.{◌≡◌, ℕ, ⊤, true, false, List, [], ◌∷◌, Option, Some, None, option_map}
+use Rattle.std.specs.Prelude.{◌≡◌, ◌≤◌, ℕ, ⊤, true, false, List, [], ◌∷◌, Option, Some, None, option_map}
 use Rattle.cell_types.specs.declared.machine.Machine.{Machine}
 use Rattle.cell_types.specs.declared.machine.Machine.TheVariants as machine
 use Rattle.cell_types.specs.declared.posture.Posture.{Posture}
@@ -36,6 +36,10 @@ use Rattle.cell_resume.specs.CraneKeeps as crane
 abbrev pub Name : {Step : Type 0} → (ℕ → Option Step) → List (ℕ × Step) → Type 0
 Name step_at [] = ⊤
 Name step_at (row ∷ rows) = (step_at row.0 ≡ Some row.1) × Name step_at rows
+
+-- this number and each greater one names no step
+abbrev pub NoneFrom : {Step : Type 0} → ℕ → (ℕ → Option Step) → Type 0
+NoneFrom end step_at = (number : ℕ) → end ≤ number → step_at number ≡ None
 
 -- the step that a number names; of the press with the last direction of its motor
 abbrev pub feed_step : ModelState → ℕ → Option FeedStep
@@ -108,13 +112,13 @@ pub record NumberRows (s : ModelState) : Type 0 where
       (6, at_crane.TakePlate) ∷ (7, at_crane.ReleaseDeposit) ∷ (8, at_crane.TravelToFeed) ∷
       (9, at_crane.ClaimFeed) ∷ (10, at_crane.LowerToFeed) ∷ (11, at_crane.DropPlate) ∷
       (12, at_crane.RaiseFromFeed) ∷ (13, at_crane.GivePlate) ∷ [])
-  -- the first number that names none
-  pub no_feed : feed_step s 12 ≡ None
-  pub no_table : table_step s 12 ≡ None
-  pub no_robot : robot_step s 28 ≡ None
-  pub no_press : press_step s 30 ≡ None
-  pub no_deposit : deposit_step s 12 ≡ None
-  pub no_crane : crane_step 14 ≡ None
+  -- past the last number none is named
+  pub no_feed : NoneFrom 12 (feed_step s)
+  pub no_table : NoneFrom 12 (table_step s)
+  pub no_robot : NoneFrom 28 (robot_step s)
+  pub no_press : NoneFrom 30 (press_step s)
+  pub no_deposit : NoneFrom 12 (deposit_step s)
+  pub no_crane : NoneFrom 14 crane_step
 
 -- a zone's owner and posture, without a plate, and with one on its way
 abbrev pub clear : Option Machine → Posture → ZoneState
