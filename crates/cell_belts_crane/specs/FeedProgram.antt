@@ -1,13 +1,19 @@
 -- The feed belt's program, row by row.
-use Rattle.std.specs.Prelude.{◌≡◌, pos, Bool, true, false, not, if◌then◌else◌, List, Ok}
+use Rattle.std.specs.Prelude.{◌≡◌, pos, ℕ, Bool, true, false, not, ◌&&◌, if◌then◌else◌, List, [], ◌∷◌, Ok}
 use Rattle.cell_rules.specs.Types.{Feed, Z1, Z6, FeedEntry, FeedEnd, Pose, Landing, Running, Halted, Call, Claim}
-use Rattle.cell_rules.specs.Types.{Give, Take, Release, SetPose, Advance, Event}
+use Rattle.cell_rules.specs.Types.{Give, Take, Release, SetPose, Advance, Event, Zone, Closed, OpenIn, Moving}
 use Rattle.cell_sensors.specs.declared.sense.FeedSense.{FeedSense}
 use Rattle.cell_devices.specs.declared.act.FeedAct.{FeedAct}
-use Rattle.cell_rules.specs.Names.{ModelState, is_full, Holds, Moves, plates_at}
+use Rattle.cell_rules.specs.Names.{ModelState, is_full, Holds, Moves, plates_at, same_flag}
 use Rattle.cell_control.specs.Names.{row_that_asks, row_that_drives, with_waits, Steps}
+use Rattle.cell_control.specs.Keeping.{posed, unposed, are_kept}
 use Rattle.cell_control.specs.declared.row.Row.{Row}
 use Rattle.cell_control.specs.declared.row.Waits.TheVariants.{UntilOwner, UntilFreeAndOpen}
+use Rattle.cell_control.specs.declared.share.Share.TheVariants.{Clear, Held, Lent, Unclaimed}
+use Rattle.cell_control.specs.declared.share.ZoneShare.{ZoneShare}
+use Rattle.cell_belts_crane.specs.BeltShares.{keeps, are_there}
+use Rattle.cell_belts_crane.specs.declared.belt_share.BeltPlates.TheVariants.{Any, Empty, AtEntry, AtEnd}
+use Rattle.cell_belts_crane.specs.declared.belt_share.BeltShare.{BeltShare}
 use Rattle.cell_belts_crane.specs.declared.feed.FeedStep.{FeedStep}
 use Rattle.cell_belts_crane.specs.declared.feed.FeedStep.TheVariants.{ClaimEntry, PoseLanding, ReleaseEntry, TakePlate}
 use Rattle.cell_belts_crane.specs.declared.feed.FeedStep.TheVariants.{StartIn, RunIn, MoveOn, ClaimExit, StartOut, RunOut}
@@ -52,6 +58,54 @@ row_at GivePlate p = asks_by_plates (with_plates p p.entry false) (Give Z1)
 
 abbrev pub row_of : FeedProgress → Row FeedProgress
 row_of p = row_at p.step p
+
+-- what the belt keeps at each step: of the zone that it shares with the crane, of that with the table, and its plates
+abbrev pub keeps_at : FeedStep → BeltShare
+keeps_at ClaimEntry = keeps (posed Unclaimed Closed) (unposed Lent) Any
+keeps_at PoseLanding = keeps (unposed Clear) (unposed Lent) Empty
+keeps_at ReleaseEntry = keeps (posed Clear OpenIn) (unposed Lent) Empty
+keeps_at TakePlate = keeps (posed Lent OpenIn) (unposed Lent) Empty
+keeps_at StartIn = keeps (unposed Clear) (unposed Lent) AtEntry
+keeps_at RunIn = keeps (posed Clear Moving) (unposed Lent) AtEntry
+keeps_at MoveOn = keeps (posed Clear Moving) (unposed Lent) AtEntry
+keeps_at ClaimExit = keeps (unposed Clear) (unposed Lent) AtEnd
+keeps_at StartOut = keeps (unposed Clear) (posed Held OpenIn) AtEnd
+keeps_at RunOut = keeps (posed Clear Moving) (posed Held OpenIn) AtEnd
+keeps_at Halt = keeps (posed Clear Moving) (posed Held OpenIn) AtEnd
+keeps_at GivePlate = keeps (posed Clear Closed) (posed Held OpenIn) AtEnd
+
+-- the number of each step, and the steps in that order
+abbrev pub number_at : FeedStep → ℕ
+number_at ClaimEntry = 0
+number_at PoseLanding = 1
+number_at ReleaseEntry = 2
+number_at TakePlate = 3
+number_at StartIn = 4
+number_at RunIn = 5
+number_at MoveOn = 6
+number_at ClaimExit = 7
+number_at StartOut = 8
+number_at RunOut = 9
+number_at Halt = 10
+number_at GivePlate = 11
+
+abbrev pub steps : List FeedStep
+steps =
+    ClaimEntry ∷ PoseLanding ∷ ReleaseEntry ∷ TakePlate ∷ StartIn ∷ RunIn ∷ MoveOn ∷ ClaimExit ∷ StartOut ∷
+    RunOut ∷ Halt ∷ GivePlate ∷ []
+
+-- its zones, with its shares
+abbrev pub zones_at : FeedStep → List (Zone × ZoneShare)
+zones_at step = (Z6, (keeps_at step).entry) ∷ (Z1, (keeps_at step).exit) ∷ []
+
+-- its notes agree with its places
+abbrev pub is_noted : FeedProgress → ModelState → Bool
+is_noted p s = same_flag (is_full s FeedEntry) p.entry && same_flag (is_full s FeedEnd) p.last
+
+-- the step is in step with a state: the zones, plates and notes are as it keeps them
+abbrev pub in_step : FeedProgress → ModelState → Bool
+in_step p s =
+    are_kept (zones_at p.step) Feed s && (are_there (keeps_at p.step).plates p.entry p.last && is_noted p s)
 
 abbrev pub after_done : FeedProgress → FeedProgress
 after_done p = (row_of p).next

@@ -1,8 +1,9 @@
 //! The feed belt's program: its steps, a row for each, and when the belt runs.
-ghost use Rattle.std.specs.Prelude.{◌≡◌};
+ghost use Rattle.std.specs.Prelude.{◌≡◌, slice_get};
 ghost use Rattle.cell_belts_crane.specs.FeedProgram as program;
 
-use cell_control::{Controller, Program, Row, Waits};
+use crate::belt_share::{BeltPlates, BeltShare};
+use cell_control::{Controller, Program, Row, Share, Waits, are_kept};
 use cell_devices::FeedAct;
 use cell_rules::State;
 use cell_sensors::{FeedSense, SensorFault};
@@ -48,6 +49,18 @@ pub struct FeedProgress {
 }
 
 impl FeedProgress {
+    /// Whether the step is in step with a state: the zones, plates and notes are as it keeps them.
+    pub fn is_in_step(self, state: &State) -> bool
+        ensures { result ≡ program.in_step self state.now }
+    {
+        let keeps = self.step.keeps();
+        let zones = [(Zone::Z6, keeps.entry), (Zone::Z1, keeps.exit)];
+        are_kept(&zones, Machine::Feed, state)
+            && keeps.plates.are_there(self.entry, self.last)
+            && state.is_full(Place::FeedEntry) == self.entry
+            && state.is_full(Place::FeedEnd) == self.last
+    }
+
     // The row of its step.
     #[inline(always)]
     fn row(self) -> Row<FeedProgress>
@@ -138,6 +151,74 @@ impl FeedProgress {
 }
 
 impl FeedStep {
+    /// The steps, in the order of their numbers.
+    pub const ALL: [FeedStep; 12] = [
+        FeedStep::ClaimEntry,
+        FeedStep::PoseLanding,
+        FeedStep::ReleaseEntry,
+        FeedStep::TakePlate,
+        FeedStep::StartIn,
+        FeedStep::RunIn,
+        FeedStep::MoveOn,
+        FeedStep::ClaimExit,
+        FeedStep::StartOut,
+        FeedStep::RunOut,
+        FeedStep::Halt,
+        FeedStep::GivePlate,
+    ];
+
+    /// The step with this number; `None` if no step has it.
+    pub fn with_number(number: u8) -> Option<FeedStep>
+        ensures { result ≡ slice_get program.steps number }
+    {
+        FeedStep::ALL.get(usize::from(number)).copied()
+    }
+
+    /// The number of the step.
+    pub fn number(self) -> u8
+        ensures { result ≡ program.number_at self }
+    {
+        self as u8
+    }
+
+    /// What the belt keeps at the step.
+    pub fn keeps(self) -> BeltShare
+        ensures { result ≡ program.keeps_at self }
+    {
+        let clear = Share::Clear.in_any_posture();
+        let moving = Share::Clear.in_posture(Posture::Moving);
+        let lent = Share::Lent.in_any_posture();
+        let open = Share::Held.in_posture(Posture::OpenIn);
+        match self {
+            FeedStep::ClaimEntry => BeltShare::new(
+                Share::Unclaimed.in_posture(Posture::Closed),
+                lent,
+                BeltPlates::Any,
+            ),
+            FeedStep::PoseLanding => BeltShare::new(clear, lent, BeltPlates::Empty),
+            FeedStep::ReleaseEntry => BeltShare::new(
+                Share::Clear.in_posture(Posture::OpenIn),
+                lent,
+                BeltPlates::Empty,
+            ),
+            FeedStep::TakePlate => BeltShare::new(
+                Share::Lent.in_posture(Posture::OpenIn),
+                lent,
+                BeltPlates::Empty,
+            ),
+            FeedStep::StartIn => BeltShare::new(clear, lent, BeltPlates::AtEntry),
+            FeedStep::RunIn | FeedStep::MoveOn => BeltShare::new(moving, lent, BeltPlates::AtEntry),
+            FeedStep::ClaimExit => BeltShare::new(clear, lent, BeltPlates::AtEnd),
+            FeedStep::StartOut => BeltShare::new(clear, open, BeltPlates::AtEnd),
+            FeedStep::RunOut | FeedStep::Halt => BeltShare::new(moving, open, BeltPlates::AtEnd),
+            FeedStep::GivePlate => BeltShare::new(
+                Share::Clear.in_posture(Posture::Closed),
+                open,
+                BeltPlates::AtEnd,
+            ),
+        }
+    }
+
     // Whether the belt runs in a step that drives.
     fn runs(self, barrier: bool) -> bool
         ensures { result ≡ program.runs_at self barrier }

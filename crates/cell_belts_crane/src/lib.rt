@@ -1,11 +1,13 @@
 //! The controllers of the belts and of the crane.
 #![tactic(auto)]
 
+pub mod belt_share;
 pub mod crane;
 pub mod deposit;
 pub mod feed;
 pub mod laws;
 
+pub use belt_share::{BeltPlates, BeltShare};
 pub use cell_control::CtlFault;
 pub use crane::{CraneCtl, CraneProgram, CraneProgress, CraneReading, CraneStep};
 pub use deposit::{DepositCtl, DepositProgram, DepositProgress, DepositStep};

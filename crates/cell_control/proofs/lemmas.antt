@@ -1,5 +1,6 @@
 pub mod StepLemmas
 pub mod Facts
+pub mod SharedZones
 pub mod TurnMaps
 pub mod Senses
 pub mod BenchLemmas

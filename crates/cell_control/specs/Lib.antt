@@ -1,6 +1,7 @@
 pub mod Controllers
 pub mod Demands
 pub mod Faults
+pub mod Keeping
 pub mod Rigs
 pub mod Row
 pub mod Rows

@@ -9,6 +9,7 @@ pub mod laws;
 pub mod part;
 pub mod program;
 pub mod row;
+pub mod share;
 pub mod unwired;
 pub mod wired;
 
@@ -18,5 +19,6 @@ pub use fault::CtlFault;
 pub use part::{Part, PartSensors, Sensors, Values};
 pub use program::Program;
 pub use row::{Row, Waits};
+pub use share::{Share, ZoneShare, are_kept};
 pub use unwired::Unwired;
 pub use wired::Wired;

@@ -4,16 +4,17 @@ use Rattle.std.specs.Prelude.{⊤}
 use Rattle.cell_rules.specs.Types.{Machine, Zone, Posture, Closed, Moving, OpenIn, OpenOut, same_posture, one_posture}
 use Rattle.cell_rules.specs.Names.{ModelState, zone_at, owns, posture_at, same_flag}
 use Rattle.cell_rules.proofs.lemmas.Tables.{and_left, and_right, and_both}
-use Rattle.cell_resume.specs.declared.keep.Share.{Share}
-use Rattle.cell_resume.specs.declared.keep.Share.TheVariants.{Clear, Loaded, Held, Lent, Any}
-use Rattle.cell_resume.specs.declared.keep.ZoneShare.{ZoneShare}
-use Rattle.cell_resume.specs.Keeping.{has_share, is_posed, is_kept}
+use Rattle.cell_control.specs.declared.share.Share.{Share}
+use Rattle.cell_control.specs.declared.share.Share.TheVariants.{Clear, Loaded, Held, Lent, Unclaimed, Any}
+use Rattle.cell_control.specs.declared.share.ZoneShare.{ZoneShare}
+use Rattle.cell_control.specs.Keeping.{has_share, is_posed, is_kept}
 
 abbrev pub Shared : Share → Bool → Bool → Type 0
 Shared Clear owned plate = (owned ≡ true) × (plate ≡ false)
 Shared Loaded owned plate = (owned ≡ true) × (plate ≡ true)
 Shared Held owned plate = owned ≡ true
 Shared Lent owned plate = owned ≡ true → plate ≡ true
+Shared Unclaimed owned plate = owned ≡ true → plate ≡ true
 Shared Any owned plate = ⊤
 
 abbrev pub Posed : Option Posture → Posture → Type 0
@@ -33,6 +34,8 @@ share_of Loaded false plate e = cc
 share_of Held owned plate e = e
 share_of Lent true plate e = λ o. e
 share_of Lent false plate e = λ o. cc
+share_of Unclaimed true plate e = λ o. e
+share_of Unclaimed false plate e = λ o. cc
 share_of Any owned plate e = tt
 
 of_share : (s : Share) (owned plate : Bool) → Shared s owned plate → has_share s owned plate ≡ true
@@ -45,6 +48,8 @@ of_share Loaded false plate k = let e = k.0 in cc
 of_share Held owned plate k = k
 of_share Lent true plate k = k refl
 of_share Lent false plate k = refl
+of_share Unclaimed true plate k = k refl
+of_share Unclaimed false plate k = refl
 of_share Any owned plate k = refl
 
 posed_of : (o : Option Posture) (now : Posture) → is_posed o now ≡ true → Posed o now

@@ -11,7 +11,7 @@ pub use Rattle.cell_belts_crane.specs.declared.feed.FeedProgress.{FeedProgress}
 pub use Rattle.cell_belts_crane.specs.declared.feed.FeedStep.{FeedStep}
 pub use Rattle.cell_resume.proofs.Keeping.{Kept, kept_of, of_kept, one_flag, own_flag}
 pub use Rattle.cell_resume.specs.Checkpoints.{AreNumbersOf, IsCheckpointOf, IsWrong, NamesNoStep, NamesStepAstray}
-pub use Rattle.cell_resume.specs.Keeping.{is_kept}
+pub use Rattle.cell_control.specs.Keeping.{is_kept}
 pub use Rattle.cell_resume.specs.Resuming.{IsResumable, resumed_steps}
 pub use Rattle.cell_resume.specs.TeamTest.{team_in, then_test}
 pub use Rattle.cell_resume.specs.Teams.{AreInStep, Stood, stood}

@@ -10,9 +10,9 @@ use Rattle.cell_belts_crane.specs.declared.crane.CraneStep.TheVariants.{ReleaseD
 use Rattle.cell_belts_crane.specs.declared.crane.CraneStep.TheVariants.{DropPlate, RaiseFromFeed}
 use Rattle.cell_belts_crane.specs.declared.crane.CraneProgress.{CraneProgress}
 use Rattle.cell_belts_crane.specs.declared.crane.CraneStep.TheVariants.{TakePlate, GivePlate}
-use Rattle.cell_resume.specs.declared.keep.Share.TheVariants.{Clear, Loaded, Held, Lent, Any}
-use Rattle.cell_resume.specs.declared.keep.ZoneShare.{ZoneShare}
-use Rattle.cell_resume.specs.Keeping.{is_kept, posed, unposed}
+use Rattle.cell_control.specs.declared.share.Share.TheVariants.{Clear, Loaded, Held, Lent, Any}
+use Rattle.cell_control.specs.declared.share.ZoneShare.{ZoneShare}
+use Rattle.cell_control.specs.Keeping.{is_kept, posed, unposed}
 
 -- the zone that it shares with the deposit belt
 abbrev pub deposit : CraneStep → ZoneShare

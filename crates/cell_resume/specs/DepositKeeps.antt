@@ -8,9 +8,9 @@ use Rattle.cell_belts_crane.specs.declared.deposit.DepositStep.TheVariants.{Star
 use Rattle.cell_belts_crane.specs.declared.deposit.DepositStep.TheVariants.{GivePlate, ClaimBack}
 use Rattle.cell_belts_crane.specs.declared.deposit.DepositProgress.{DepositProgress}
 use Rattle.cell_belts_crane.specs.declared.deposit.DepositStep.TheVariants.{ClaimExit}
-use Rattle.cell_resume.specs.declared.keep.Share.TheVariants.{Clear, Lent}
-use Rattle.cell_resume.specs.declared.keep.ZoneShare.{ZoneShare}
-use Rattle.cell_resume.specs.Keeping.{is_kept, posed, unposed}
+use Rattle.cell_control.specs.declared.share.Share.TheVariants.{Clear, Lent}
+use Rattle.cell_control.specs.declared.share.ZoneShare.{ZoneShare}
+use Rattle.cell_control.specs.Keeping.{is_kept, posed, unposed}
 
 -- the zone that it shares with the robot
 abbrev pub entry : DepositStep → ZoneShare

@@ -1,4 +1,3 @@
-pub mod Keeping
 pub mod FeedKeeps
 pub mod TableKeeps
 pub mod RobotKeeps

@@ -12,9 +12,9 @@ use Rattle.cell_table_press.specs.declared.press.PressStep.TheVariants.{LeaveFor
 use Rattle.cell_table_press.specs.declared.press.PressStep.TheVariants.{LeaveForBottom, MoveToBottom, PoseLow, GivePlate}
 use Rattle.cell_table_press.specs.declared.press.PressStep.TheVariants.{ClaimBack}
 use Rattle.cell_table_press.specs.declared.press.PressProgress.{PressProgress}
-use Rattle.cell_resume.specs.declared.keep.Share.TheVariants.{Clear, Lent}
-use Rattle.cell_resume.specs.declared.keep.ZoneShare.{ZoneShare}
-use Rattle.cell_resume.specs.Keeping.{is_kept, posed, unposed}
+use Rattle.cell_control.specs.declared.share.Share.TheVariants.{Clear, Lent}
+use Rattle.cell_control.specs.declared.share.ZoneShare.{ZoneShare}
+use Rattle.cell_control.specs.Keeping.{is_kept, posed, unposed}
 
 -- its interior
 abbrev pub interior : PressStep → ZoneShare

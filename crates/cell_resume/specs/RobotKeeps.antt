@@ -16,9 +16,9 @@ use Rattle.cell_robot.specs.declared.robot.RobotProgress.{RobotProgress}
 use Rattle.cell_robot.specs.declared.robot.RobotNotes.{RobotNotes}
 use Rattle.cell_robot.specs.declared.robot.RobotMagnets.{RobotMagnets}
 pub use Rattle.cell_team.specs.RobotPlates.{has_plates}
-use Rattle.cell_resume.specs.declared.keep.Share.TheVariants.{Clear, Loaded, Held, Lent, Any}
-use Rattle.cell_resume.specs.declared.keep.ZoneShare.{ZoneShare}
-use Rattle.cell_resume.specs.Keeping.{is_kept, posed, unposed}
+use Rattle.cell_control.specs.declared.share.Share.TheVariants.{Clear, Loaded, Held, Lent, Any}
+use Rattle.cell_control.specs.declared.share.ZoneShare.{ZoneShare}
+use Rattle.cell_control.specs.Keeping.{is_kept, posed, unposed}
 
 -- the zone that it shares with the table
 abbrev pub table : RobotStep → ZoneShare

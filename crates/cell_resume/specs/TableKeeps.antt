@@ -11,9 +11,9 @@ use Rattle.cell_table_press.specs.declared.table.TableStep.TheVariants.{LeaveFor
 use Rattle.cell_table_press.specs.declared.table.TableStep.TheVariants.{PoseUnloading}
 use Rattle.cell_table_press.specs.declared.table.TableProgress.{TableProgress}
 use Rattle.cell_table_press.specs.declared.table.TableStep.TheVariants.{TakePlate, GivePlate, ClaimBack}
-use Rattle.cell_resume.specs.declared.keep.Share.TheVariants.{Clear, Lent}
-use Rattle.cell_resume.specs.declared.keep.ZoneShare.{ZoneShare}
-use Rattle.cell_resume.specs.Keeping.{is_kept, posed, unposed}
+use Rattle.cell_control.specs.declared.share.Share.TheVariants.{Clear, Lent}
+use Rattle.cell_control.specs.declared.share.ZoneShare.{ZoneShare}
+use Rattle.cell_control.specs.Keeping.{is_kept, posed, unposed}
 
 -- the zone that it shares with the feed belt
 abbrev pub entry : TableStep → ZoneShare

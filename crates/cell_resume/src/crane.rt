@@ -7,9 +7,10 @@ ghost use Rattle.cell_resume.specs.Testing.{tested};
 ghost use Rattle.cell_resume.specs.CraneKeeps as keeps;
 
 use crate::fault::ResumeFault;
-use crate::keep::{Share, ZoneShare, agree, pick};
+use crate::keep::{agree, pick};
 use crate::resumable::Resumable;
 use cell_belts_crane::{CraneProgram, CraneProgress, CraneStep};
+use cell_control::{Share, ZoneShare};
 use cell_rules::State;
 use cell_sensors::Gauge;
 use cell_types::{Machine, Place, Posture, Zone};

@@ -19,7 +19,6 @@ pub mod team;
 
 pub use checkpoint::{Checkpoint, CheckpointBytes};
 pub use fault::ResumeFault;
-pub use keep::{Share, ZoneShare};
 pub use resumable::{Resumable, Resumed};
 pub use resume::resume_at;
 pub use resuming::ResumedCell;

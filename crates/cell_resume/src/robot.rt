@@ -7,8 +7,9 @@ ghost use Rattle.cell_resume.specs.Testing.{tested};
 ghost use Rattle.cell_resume.specs.RobotKeeps as keeps;
 
 use crate::fault::ResumeFault;
-use crate::keep::{Share, ZoneShare, agree, pick};
+use crate::keep::{agree, pick};
 use crate::resumable::Resumable;
+use cell_control::{Share, ZoneShare};
 use cell_robot::{RobotMagnets, RobotNotes, RobotProgram, RobotProgress, RobotStep};
 use cell_rules::State;
 use cell_sensors::Gauge;

@@ -7,8 +7,9 @@ ghost use Rattle.cell_resume.specs.Testing.{tested};
 ghost use Rattle.cell_resume.specs.TableKeeps as keeps;
 
 use crate::fault::ResumeFault;
-use crate::keep::{Share, ZoneShare, agree, pick};
+use crate::keep::{agree, pick};
 use crate::resumable::Resumable;
+use cell_control::{Share, ZoneShare};
 use cell_rules::State;
 use cell_sensors::Gauge;
 use cell_table_press::{TableProgram, TableProgress, TableStep};

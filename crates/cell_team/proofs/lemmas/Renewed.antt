@@ -7,6 +7,8 @@ use Rattle.cell_belts_crane.proofs.lemmas.FeedFacts as feed_facts
 use Rattle.cell_robot.proofs.lemmas.RobotFacts as robot_facts
 use Rattle.cell_table_press.proofs.lemmas.PressFacts as press_facts
 use Rattle.cell_table_press.proofs.lemmas.TableFacts as table_facts
+use Rattle.cell_control.proofs.lemmas.SharedZones.{are_shared_same}
+use Rattle.cell_belts_crane.specs.FeedProgram.{zones_at}
 use Rattle.cell_team.specs.Renewals.{NoRenewedMachineIsRefused}
 use Rattle.cell_team.proofs.lemmas.Shares.{Share, Clear, Loaded, Lent, Stands, IsSo, AreSo}
 use Rattle.cell_team.proofs.lemmas.Together.{AllKnow, all_begin, all_know, all_heeded, sound_start}
@@ -29,7 +31,7 @@ all_renewed : (c : CellScales) (team : Team) (z : ModelState) (stamp : ℕ) → 
 all_renewed c team z stamp k =
     let w = restamped z stamp in
     record {
-      feed = (feed_facts.feed-knowing.same_for team.feed z w (same_for _ z stamp) k.feed.0, shares_are _ z stamp _ k.feed.1);
+      feed = (feed_facts.feed-knowing.same_for team.feed z w (same_for _ z stamp) k.feed.0, are_shared_same _ z w (same_for _ z stamp) (λ y lent. lent) (zones_at team.feed.step) (feed_facts.feed_firm team.feed.step) k.feed.1);
       table = (
         (table_facts.table-knowing c.turn (IsReading c.turn)).same_for team.table z w (same_for _ z stamp) k.table.0,
         record { shares = shares_are _ z stamp _ k.table.1.shares; plate = k.table.1.plate; noted = k.table.1.noted },

@@ -4,7 +4,9 @@ use Rattle.cell_team.proofs.Names.{changed, posed, halted, is_belt_of, implied, 
 use Rattle.cell_rules.specs.declared.zones.ZoneState.{ZoneState}
 use Rattle.cell_rules.proofs.lemmas.SoundAfterCalls.{claimed, released}
 use Rattle.cell_rules.proofs.lemmas.Plates.{given, taken}
+use Rattle.cell_control.specs.declared.share.ZoneShare.{ZoneShare}
 use Rattle.cell_control.proofs.lemmas.Facts.{handed}
+use Rattle.cell_control.proofs.lemmas.SharedZones.{AreShared, AreFirm, are_shared_same, foreign_same}
 
 -- a call hands over no empty zone
 abbrev pub yields : Call → Bool
@@ -79,6 +81,11 @@ is_foreign m n c z (Stands y q) apart sound polite k = (k.0, posture-foreign z n
 pub are_foreign : (m n : Machine) (c : Call) (z : ModelState) (fs : List Share) → same_machine n m ≡ false → IsSound z → IsYieldless z n c → AreSo m z fs → AreSo m (next z n c) fs
 are_foreign m n c z [] apart sound polite k = k
 are_foreign m n c z (f ∷ fs) apart sound polite k = (is_foreign m n c z f apart sound polite k.0, are_foreign m n c z fs apart sound polite k.1)
+
+-- nor what a machine's shares of its zones say
+pub shared_foreign : (m n : Machine) (c : Call) (z : ModelState) (zones : List (Zone × ZoneShare)) → AreFirm m zones → same_machine n m ≡ false → IsSound z → IsYieldless z n c → AreShared m z zones → AreShared m (next z n c) zones
+shared_foreign m n c z zones firm apart sound polite k =
+    are_shared_same m z (next z n c) (foreign_same m n c z apart sound) (λ y lent. lent_by (reply z n c) m n c z y refl apart polite lent) zones firm k
 
 -- ---- what soundness says of plates and owners
 
