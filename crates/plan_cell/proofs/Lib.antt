@@ -5,3 +5,4 @@ mod Posing
 mod Refusing
 mod Soundness
 mod Converse
+mod OwnRules

@@ -1,5 +1,5 @@
 -- What the cell does, its plan does.
-use Rattle.std.proofs.Common.{◌≡◌, not, Option, Some, None, refl, ap, ◌∙◌, subst}
+use Rattle.std.proofs.Common.{◌≡◌, not, Option, Some, None, refl, sym, ap, ◌∙◌, subst}
 use Rattle.std.specs.Bool.{then_some}
 use Rattle.cell_types.specs.declared.machine.Machine.{Machine}
 use Rattle.cell_types.specs.declared.call.Call.{Call}
@@ -13,8 +13,9 @@ use Rattle.plan_types.specs.declared.call.Call.TheVariants.{Claim as DoClaim, Gi
 use Rattle.plan_types.specs.declared.answer.Answer.TheVariants.{Shown as IsShown}
 use Rattle.plan_types.specs.declared.answer.Refusal.TheVariants.{NotParty}
 use Rattle.plan_rules.specs.declared.state.ZoneState.{ZoneState as PlanZoneState}
-use Rattle.plan_rules.specs.Reply.{accepted, answer_by}
-use Rattle.plan_cell.specs.Numbers.{zone_number, pose_number, plan_call}
+use Rattle.plan_rules.specs.Reply.{accepted, answer_by, reply as plan_reply}
+use Rattle.plan_cell.specs.Numbers.{machine_number, zone_number, pose_number, plan_call}
+use Rattle.plan_cell.specs.CellPlan.{cell_table}
 use Rattle.plan_cell.specs.Mapping.{plan_state}
 use Rattle.plan_cell.specs.Laws.{CellRefusesMore, InquiriesAreAlike}
 use Rattle.plan_cell.proofs.Names.{there, zone_is}
@@ -22,7 +23,7 @@ use Rattle.plan_cell.proofs.Alike.{Alike, claim_alike, yield_alike, release_alik
 use Rattle.plan_cell.proofs.Plates.{give_alike, take_alike}
 use Rattle.plan_cell.proofs.Posing.{pose_alike}
 
-unrefused : (r : Option Refusal) → done_unless r ≡ Done → r ≡ None
+pub unrefused : (r : Option Refusal) → done_unless r ≡ Done → r ≡ None
 unrefused None e = refl
 unrefused (Some r) e = cc
 
@@ -45,6 +46,7 @@ pub cell_refuses_more : CellRefusesMore
 cell_refuses_more = alike
 
 pub inquiries_are_alike : InquiriesAreAlike
-inquiries_are_alike s m z =
-    ap (λ b. answer_by (then_some (not b) NotParty) (accepted (plan_state s) (DoInquire (zone_number z)))) (there z)
+inquiries_are_alike s m z d is =
+    ap (plan_reply cell_table (plan_state s) (machine_number m)) (sym (the_call (DoInquire (zone_number z)) d is))
+    ∙ ap (λ b. answer_by (then_some (not b) NotParty) (accepted (plan_state s) (DoInquire (zone_number z)))) (there z)
     ∙ ap (λ (v : PlanZoneState). IsShown v.owner v.flag v.posture) (zone_is s z)

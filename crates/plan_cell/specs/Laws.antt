@@ -1,5 +1,5 @@
 -- What the cell and its plan have in common.
-use Rattle.std.specs.Prelude.{◌≡◌, Bool, false, ◌&&◌, not, ◌⊎◌, Some, option_map, IsTrue}
+use Rattle.std.specs.Prelude.{◌≡◌, ◌≢◌, ◌↔◌, Bool, false, ◌&&◌, not, ◌⊎◌, Some, None, option_map, IsTrue}
 use Rattle.cell_types.specs.declared.machine.Machine.{Machine}
 use Rattle.cell_types.specs.declared.machine.Machine.TheVariants.{Feed, Press, Deposit}
 use Rattle.cell_types.specs.declared.zone.Zone.{Zone}
@@ -8,7 +8,7 @@ use Rattle.cell_types.specs.declared.place.Place.TheVariants.{FeedEnd, PressOut,
 use Rattle.cell_types.specs.declared.posture.Posture.TheVariants.{Moving}
 use Rattle.cell_types.specs.declared.pose.Pose.TheVariants.{Middle, Running}
 use Rattle.cell_types.specs.declared.call.Call.{Call}
-use Rattle.cell_types.specs.declared.call.Call.TheVariants.{Yield, Release, SetPose}
+use Rattle.cell_types.specs.declared.call.Call.TheVariants.{Yield, Release, SetPose, Advance, Inquire}
 use Rattle.cell_types.specs.declared.answer.Refusal.{Refusal}
 use Rattle.cell_types.specs.declared.answer.Refusal.TheVariants.{PlaceFull, InUse}
 use Rattle.cell_types.specs.declared.answer.Answer.TheVariants.{Done, Refused}
@@ -18,11 +18,10 @@ use Rattle.cell_rules.specs.Sound.{IsSound}
 use Rattle.cell_rules.specs.Refusals.{owns}
 use Rattle.cell_rules.specs.Reply.{reply, next}
 use Rattle.plan_types.specs.declared.call.Call.{Call as PlanCall}
-use Rattle.plan_types.specs.declared.call.Call.TheVariants.{Inquire}
 use Rattle.plan_types.specs.declared.answer.Answer.TheVariants.{Done as PlanDone, Shown}
 use Rattle.plan_rules.specs.Sound.{IsSound as IsSoundByPlan}
 use Rattle.plan_rules.specs.Reply.{reply as plan_reply, next as plan_next}
-use Rattle.plan_cell.specs.Numbers.{machine_number, zone_number, plan_posture, plan_call}
+use Rattle.plan_cell.specs.Numbers.{machine_number, plan_posture, plan_call}
 use Rattle.plan_cell.specs.CellPlan.{cell_table}
 use Rattle.plan_cell.specs.Mapping.{plan_state}
 
@@ -61,11 +60,20 @@ RefusesByItsOwnRules =
     → plan_reply cell_table (plan_state s) (machine_number m) d ≡ PlanDone
     → (reply s m c ≡ Done) ⊎ RefusedByOwnRule s m c
 
--- an inquiry shows the same
+-- and where one of these rules holds, the cell doesn't do the call
+abbrev pub OwnRulesRefuse : Type 0
+OwnRulesRefuse =
+    (s : ModelState) (m : Machine) (c : Call) (r : Refusal) → IsTrue (is_own_rule s m c r) → reply s m c ≢ Done
+
+-- each call is a call by the plan, but Advance
+abbrev pub AdvanceAloneIsMissing : Type 0
+AdvanceAloneIsMissing = (m : Machine) (c : Call) → (plan_call m c ≡ None) ↔ (c ≡ Advance)
+
+-- an inquiry by the plan shows the zone as the cell has it
 abbrev pub InquiriesAreAlike : Type 0
 InquiriesAreAlike =
-    (s : ModelState) (m : Machine) (z : Zone)
-    → plan_reply cell_table (plan_state s) (machine_number m) (Inquire (zone_number z))
+    (s : ModelState) (m : Machine) (z : Zone) (d : PlanCall) → plan_call m (Inquire z) ≡ Some d
+    → plan_reply cell_table (plan_state s) (machine_number m) d
     ≡ Shown (option_map machine_number (zone_at s z).owner) (zone_at s z).flag (plan_posture (zone_at s z).posture)
 
 -- a sound state of the cell is sound by the plan

@@ -1,5 +1,13 @@
 //! Laws of the cell and its plan, each the contract of a function that does nothing.
-ghost use Rattle.plan_cell.specs.Laws.{CellRefusesMore, InquiriesAreAlike, RefusesByItsOwnRules, SoundByPlan};
+ghost use Rattle.plan_types.specs.Plan.{IsPlan};
+ghost use Rattle.plan_cell.specs.CellPlan.{cell_table};
+ghost use Rattle.plan_cell.specs.Laws.{CellRefusesMore, RefusesByItsOwnRules, OwnRulesRefuse};
+ghost use Rattle.plan_cell.specs.Laws.{AdvanceAloneIsMissing, InquiriesAreAlike, SoundByPlan};
+
+/// The tables of the cell are a plan.
+pub fn cell_is_plan()
+    ensures { IsPlan cell_table }
+{}
 
 /// Whatever the cell answers Done its plan answers Done too, and both leave the same state: the cell only refuses more.
 /// `Advance` is a call that plans don't have.
@@ -14,7 +22,17 @@ pub fn cell_refuses_by_its_own_rules()
     ensures { RefusesByItsOwnRules }
 {}
 
-/// An inquiry shows the same zone in the cell and by its plan.
+/// Where one of these rules holds, the cell doesn't do the call.
+pub fn own_rules_refuse()
+    ensures { OwnRulesRefuse }
+{}
+
+/// Each call of the cell but `Advance` is a call by its plan.
+pub fn advance_alone_is_missing()
+    ensures { AdvanceAloneIsMissing }
+{}
+
+/// An inquiry, as a call by the plan, shows the same zone there as in the cell.
 pub fn inquiries_are_alike()
     ensures { InquiriesAreAlike }
 {}

@@ -1,8 +1,8 @@
-//! The program of the README of `plan_cell`.
+//! One call, by the interlock of the cell and by that of its plan.
 
+use crate::cell_plan::{cell_tables, machine_number, plan_call, plan_state};
 use cell_rules::{State, apply};
 use cell_types::{Answer, Call, Machine, Zone};
-use plan_cell::{cell_tables, machine_number, plan_call, plan_state};
 use plan_rules::apply as plan_apply;
 use plan_types::{Answer as PlanAnswer, Plan};
 

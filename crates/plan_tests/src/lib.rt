@@ -7,6 +7,8 @@ mod answered_examples;
 #[cfg(test)]
 mod cell;
 #[cfg(test)]
+mod cell_plan;
+#[cfg(test)]
 mod doubles;
 #[cfg(test)]
 mod examples;
