@@ -39,16 +39,16 @@ press_state zone loader press = record {
 abbrev pub free : State
 free = press_state (interior None Closed false) true false
 
--- the press, which is full, moves; or is open to unload
+-- the press, which is full, moves; or is open outward
 abbrev pub moving : State
 moving = press_state (interior (Some 1) Moving false) true true
 
-abbrev pub unloading : State
-unloading = press_state (interior (Some 1) OpenOut false) false true
+abbrev pub open_outward : State
+open_outward = press_state (interior (Some 1) OpenOut false) false true
 
--- the loader may give, but the press is full; it has a plate, or none
-abbrev pub loading : Bool → State
-loading plate = press_state (interior (Some 0) OpenIn false) plate true
+-- the interior is open inward and the loader's, but the press is full; the loader has a plate, or none
+abbrev pub owned_by_loader : Bool → State
+owned_by_loader plate = press_state (interior (Some 0) OpenIn false) plate true
 
 -- a plate has been given to the press; or to the loader
 abbrev pub given : State
@@ -79,8 +79,8 @@ pub record GiveOrder : Type 0 where
   pub owner_too : ComesFirst given 0 (Give 0) (NotOwner (Some 1)) NoPlate
   pub plate : ComesFirst given 1 (Give 0) (PlateInZone 0) WrongWay
   pub way : ComesFirst (with_last_stamp moving) 1 (Give 0) WrongWay Worn
-  pub no_plate : ComesFirst (loading false) 0 (Give 0) NoPlate PlaceFull
-  pub full : ComesFirst (with_last_stamp (loading true)) 0 (Give 0) PlaceFull Worn
+  pub no_plate : ComesFirst (owned_by_loader false) 0 (Give 0) NoPlate PlaceFull
+  pub full : ComesFirst (with_last_stamp (owned_by_loader true)) 0 (Give 0) PlaceFull Worn
 
 pub record YieldOrder : Type 0 where
   pub party : ComesFirst free watch (Yield 0) NotParty (NotOwner None)
@@ -106,7 +106,7 @@ pub record PoseOrder : Type 0 where
   pub stopped : ComesFirst (with_stop free) 1 (SetPose 3) Stopped (NotOwner None)
   pub owner : ComesFirst given_back 1 (SetPose 3) (NotOwner (Some 0)) (PlateInZone 0)
   pub plate : ComesFirst given 1 (SetPose 2) (PlateInZone 0) Jump
-  pub jump : ComesFirst unloading 1 (SetPose 0) Jump PlaceFull
+  pub jump : ComesFirst open_outward 1 (SetPose 0) Jump PlaceFull
   pub full : ComesFirst (with_last_stamp moving) 1 (SetPose 0) PlaceFull Worn
 
 pub record StopOrder : Type 0 where
