@@ -1,6 +1,7 @@
 pub mod lemmas
 mod Histories
 mod Stopping
+mod Unbarred
 mod Holders
 mod Changes
 mod Lasting

@@ -62,6 +62,13 @@ stopping =
     ∷ refused 1 (Give 0) Stopped ∷ refused 0 (Claim 0) Stopped ∷ did 1 (Release 0) ∷ did watch Resume
     ∷ did 0 (Claim 0) ∷ refused 0 (Give 0) NoPlate ∷ []
 
+-- a stop bars no take, no yield, no release and no inquiry; the guest yields too, and the host claims an open zone
+abbrev pub standing : List Event
+standing =
+    did 1 (Claim 0) ∷ did 1 (SetPose 3) ∷ did 1 (SetPose 0) ∷ did 1 (Yield 0) ∷ did 0 (Give 0) ∷ did watch Stop
+    ∷ did 1 (Take 0) ∷ did 1 (Yield 0) ∷ did 0 (Yield 0) ∷ did 1 (Yield 0) ∷ did 0 (Release 0)
+    ∷ event watch (Inquire 0) (Shown None false OpenIn) ∷ did watch Resume ∷ did 1 (Claim 0) ∷ []
+
 -- a zone of the press, open inward and owned by a machine
 abbrev pub open_inward : ℕ → ZoneState
 open_inward m = record { owner = Some m; flag = false; posture = OpenIn }
@@ -80,13 +87,18 @@ wearing =
     refused 0 (Give 0) PlaceFull ∷ refused 0 (Yield 0) Worn ∷ refused 0 (Release 0) Worn ∷ refused watch Stop Worn
     ∷ event 1 (Inquire 0) (Shown (Some 0) false OpenIn) ∷ []
 
+-- at the last stamp but one a call is done
+abbrev pub last_change : List Event
+last_change = did watch Stop ∷ refused watch Resume Worn ∷ []
+
 -- the lower floor, 1, has a plate, which the lift, 0, brings to the upper floor, 2
 abbrev pub lift_start : State
 lift_start = start_state (false ∷ true ∷ replicate 14 false) 0
 
 abbrev pub lifting : List Event
 lifting =
-    did 0 (Claim 1) ∷ refused 0 (SetPose 0) (NotOwner None) ∷ did 0 (Claim 0) ∷ did 0 (SetPose 0) ∷ did 0 (SetPose 1)
+    did 0 (Claim 1) ∷ event 1 (Inquire 1) (Shown (Some 0) false Closed) ∷ refused 0 (SetPose 0) (NotOwner None)
+    ∷ did 0 (Claim 0) ∷ did 0 (SetPose 0) ∷ did 0 (SetPose 1)
     ∷ refused 1 (Claim 1) NotParty ∷ refused 2 (Claim 1) (Held 0) ∷ did 0 (Yield 0) ∷ did 1 (Give 0)
     ∷ refused 0 (SetPose 0) (PlateInZone 0) ∷ did 0 (Release 1) ∷ refused 0 (SetPose 0) (NotOwner None)
     ∷ did 0 (Claim 1) ∷ did 0 (Take 0) ∷ did 0 (SetPose 0) ∷ refused 0 (SetPose 4) PlaceFull ∷ did 0 (SetPose 2)
@@ -107,24 +119,26 @@ doors_table =
 abbrev pub doors_start : State
 doors_start = start_state (false ∷ false ∷ true ∷ replicate 13 false) 0
 
--- the pose that moves the first door wants the second one too: its own, and without a plate
+-- the pose that moves the first door wants the second one too: its own, and without a plate; a door that is open
+-- inward stays so, though the place is full
 abbrev pub moving_one_door : List Event
 moving_one_door =
     refused 0 (SetPose 0) (NotOwner None) ∷ did 0 (Claim 0) ∷ refused 0 (SetPose 0) (NotOwner None) ∷ did 0 (Claim 1)
     ∷ did 0 (SetPose 0) ∷ event 0 (Inquire 0) (Shown (Some 0) false Moving)
     ∷ event 0 (Inquire 1) (Shown (Some 0) false Closed) ∷ refused 0 (SetPose 2) Jump ∷ did 0 (SetPose 1)
     ∷ did 0 (Yield 1) ∷ refused 0 (SetPose 0) (NotOwner (Some 2)) ∷ did 2 (Give 1)
-    ∷ refused 0 (SetPose 0) (PlateInZone 1) ∷ did 0 (Take 1) ∷ did 0 (SetPose 0) ∷ did watch Stop
+    ∷ refused 0 (SetPose 0) (PlateInZone 1) ∷ did 0 (Take 1) ∷ did 0 (SetPose 1) ∷ did 0 (SetPose 0) ∷ did watch Stop
     ∷ refused 0 (SetPose 0) Stopped ∷ []
 
--- the pose that opens the second door wants that one alone: the first is nobody's, or is machine 1's
+-- the pose that opens the second door wants that one alone: the first is nobody's, or is machine 1's; one that leaves
+-- a door as it is wants none
 abbrev pub opening_one_door : List Event
 opening_one_door =
     did 0 (Claim 1) ∷ did 0 (SetPose 1) ∷ event 0 (Inquire 0) (Shown None false Closed) ∷ []
 
 abbrev pub opening_beside_a_guest : List Event
 opening_beside_a_guest =
-    did 0 (Claim 0) ∷ did 0 (SetPose 3) ∷ did 0 (Yield 0) ∷ did 0 (Claim 1) ∷ did 0 (SetPose 1)
+    did 0 (Claim 0) ∷ did 0 (SetPose 3) ∷ did 0 (Yield 0) ∷ did 0 (SetPose 3) ∷ did 0 (Claim 1) ∷ did 0 (SetPose 1)
     ∷ event 0 (Inquire 0) (Shown (Some 1) false OpenOut) ∷ event 0 (Inquire 1) (Shown (Some 0) false OpenIn) ∷ []
 
 -- machine 0 loads two presses, 1 and 2; places: each machine's own
@@ -148,7 +162,9 @@ pub record ExamplesAreLegal : Type 0 where
   pub press_loads : IsLegal press_table press_start loading
   pub press_unloads : IsLegal press_table (after press_table press_start loading) unloading
   pub press_stops : IsLegal press_table (start_state (replicate 16 false) 7) stopping
+  pub press_stands : IsLegal press_table press_start standing
   pub press_wears : IsLegal press_table full_press wearing
+  pub last_change_is_done : IsLegal press_table (start_state (replicate 16 false) 1048574) last_change
   pub lift_lifts : IsLegal lift_table lift_start lifting
   pub doors_are_a_plan : plan_fault doors_table ≡ None
   pub one_door_moves : IsLegal doors_table doors_start moving_one_door

@@ -16,6 +16,7 @@ use Rattle.plan_rules.specs.declared.state.State.{State}
 use Rattle.plan_rules.specs.State.{zone_at, owner_of, posture_at, is_full, plates_for, plates_of}
 use Rattle.plan_rules.specs.Sound.{IsSound, is_open}
 use Rattle.plan_rules.specs.Refusals.{owns}
+use Rattle.plan_rules.specs.Reply.{reply}
 use Rattle.plan_rules.specs.History.{after, IsLegal, own_events, done_count, Holds, Moves, posture_by_events, IsStopped}
 
 -- a law holds of each prefix of a history
@@ -117,6 +118,16 @@ is_barred t (Claim _) = true
 is_barred t (Give _) = true
 is_barred t (SetPose p) = is_moving_pose t p
 is_barred t _ = false
+
+-- a state, stopped or not
+abbrev pub marked : State → Bool → State
+marked s b = record s { stopped = b }
+
+-- a stop bars these calls alone: all others, but Stop and Resume, are answered as if the plant weren't stopped
+abbrev pub StopBarsNoOthers : Type 0
+StopBarsNoOthers =
+    (t : PlanTable) (s : State) (m : ℕ) (c : Call) → is_barred t c ≡ false → c ≢ Stop → c ≢ Resume
+    → reply t (marked s true) m c ≡ reply t (marked s false) m c
 
 -- the state after is stopped exactly if the events say so; while the plant is stopped, no barred call is Done, and no
 -- pose that is Done gives any zone Moving; the watch alone stops and resumes, in turn

@@ -90,6 +90,11 @@ pub fn stopped_until_resumed(plan: &Plan, opening: &State, history: &[Event])
     ensures { Throughout (law.StoppedUntilResumed plan.now opening.now) history.now }
 {}
 
+/// A stop bars no other calls: all but `Stop` and `Resume` are answered as if the plant weren't stopped.
+pub fn stop_bars_no_others()
+    ensures { law.StopBarsNoOthers }
+{}
+
 /// A machine takes only its own poses; one that may come only after moving only while all zones that the machine hosts
 /// move; one that moves only while the machine owns all zones that it hosts, and no plate is in one; and one that opens
 /// a zone inward only while the place that a plate would come to has none, and none coming.
