@@ -10,11 +10,10 @@ use Rattle.plan_text.specs.Named.{Named}
 use Rattle.plan_text.specs.Answers.{answer_text}
 use Rattle.csv_rows.specs.Rows.{Row}
 use Rattle.csv_rows.specs.ScriptEnd.{max_records}
-use Rattle.csv_rows.specs.declared.script_end.ScriptFault.TheVariants.{BadRow, Long}
-use Rattle.csv_rows.specs.declared.script_end.Outcome.{Outcome}
+use Rattle.csv_rows.specs.declared.script_end.ScriptFault.TheVariants.{Long}
 use Rattle.csv_rows.specs.declared.script_end.Outcome.TheVariants.{Clean, Refused}
 use Rattle.plan_text.specs.Requests.{request_of}
-use Rattle.plan_text.specs.Script.{Answers, answers_of, ends, line_of, with_text}
+use Rattle.plan_text.specs.Script.{Answers, answers_of, ends, line_of, row_refused, with_text}
 use Rattle.plan_text.specs.declared.request.Request.{Request}
 
 pub with_text-twice : (a b : List ℕ) (x : Answers) → with_text (a ++ b) x ≡ with_text a (with_text b x)
@@ -28,7 +27,7 @@ unfolding answers_of
 answers_of-none n done s = refl
 
 pub answers_of-bad : (n : Named) (done : ℕ) (s : State) (row : Row) (rows : List Row) → done < max_records → request_of n row ≡ None
-    → answers_of n done s (row ∷ rows) ≡ ends (Refused (BadRow (done + 1)))
+    → answers_of n done s (row ∷ rows) ≡ row_refused n (done + 1) row
 unfolding answers_of
 answers_of-bad n done s row rows few bad = rw (below done few, bad) refl
 
@@ -62,6 +61,6 @@ one_answered n p done s s2 row rest rest2 r answer text text2 whole few is good 
     ∙ rw (line, after, said, is) refl
 
 -- no further record is answered
-pub ended : (n : Named) (done : ℕ) (s : State) (rest : List Row) (text : List ℕ) (whole : Answers) (outcome : Outcome)
-    → answers_of n done s rest ≡ ends outcome → whole ≡ with_text text (answers_of n done s rest) → (a : Answers) → a ≡ with_text text (ends outcome) → a ≡ whole
-ended n done s rest text whole outcome is before a said = said ∙ ap (with_text text) (sym is) ∙ sym before
+pub ended : (n : Named) (done : ℕ) (s : State) (rest : List Row) (text : List ℕ) (whole last : Answers)
+    → answers_of n done s rest ≡ last → whole ≡ with_text text (answers_of n done s rest) → (a : Answers) → a ≡ with_text text last → a ≡ whole
+ended n done s rest text whole last is before a said = said ∙ ap (with_text text) (sym is) ∙ sym before

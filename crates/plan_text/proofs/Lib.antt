@@ -1,2 +1,3 @@
 mod Told
 mod Answering
+mod OwnPoses

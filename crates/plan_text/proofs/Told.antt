@@ -18,11 +18,11 @@ or_cases None b v e = inr e
 or_cases (Some w) b v e = inl e
 
 -- what is found below a number is that of some number
-found : (f : ℕ → Option ℕ) (n v : ℕ) → first_below f n ≡ Some v → (k : ℕ) × (f k ≡ Some v)
+pub found : (f : ℕ → Option ℕ) (n v : ℕ) → first_below f n ≡ Some v → (k : ℕ) × (f k ≡ Some v)
 found f zero v e = absurd (cc)
 found f (suc n) v e = elim (or_cases (first_below f n) (f n) v e) [ inl h ↦ found f n v h | inr h ↦ (n, h) ]
 
-passed : (test : Bool) (k v : ℕ) → then_some test k ≡ Some v → (test ≡ true) × (k ≡ v)
+pub passed : (test : Bool) (k v : ℕ) → then_some test k ≡ Some v → (test ≡ true) × (k ≡ v)
 passed true k v e = (refl, cc)
 passed false k v e = absurd (cc)
 

@@ -1,12 +1,14 @@
--- Laws of words: a word is read as what it is told for.
-use Rattle.std.specs.Prelude.{◌≡◌, ℕ, codes, Some}
+-- Laws of words: a word is read as what it is told for, words of scripts are taken, and own poses come first.
+use Rattle.std.specs.Prelude.{◌≡◌, ℕ, ◌<◌, true, false, codes, length, Some, is_some, IsTrue}
+use Rattle.plan_types.specs.Table.{machine_of}
 use Rattle.plan_types.specs.declared.call.Call.{Call}
+use Rattle.plan_types.specs.declared.call.Call.TheVariants.{SetPose}
 use Rattle.plan_types.specs.declared.posture.Posture.{Posture}
 use Rattle.plan_types.specs.declared.posture.Posture.TheVariants.{Closed, Moving, OpenIn, OpenOut}
-use Rattle.plan_text.specs.Names.{Text}
+use Rattle.plan_text.specs.Names.{Text, is_reserved, name_in}
 use Rattle.plan_text.specs.Named.{Named}
 use Rattle.plan_text.specs.Answers.{posture_of, posture_word}
-use Rattle.plan_text.specs.Calls.{call_of, call_text, verb_of, verb_word, words}
+use Rattle.plan_text.specs.Calls.{call_of, call_text, own_pose, verb_of, verb_word, words}
 use Rattle.plan_text.specs.declared.calls.Verb.{Verb}
 use Rattle.plan_text.specs.declared.calls.Verb.TheVariants.{Claim, Give, Yield, Take, Release, Inquire, Pose}
 
@@ -39,3 +41,29 @@ pub record PosturesHaveWords : Type 0 where
 pub record CallsAreToldAsRead : Type 0 where
   pub same : (n : Named) (machine : ℕ) (verb : Verb) (name : Text) (c : Call)
       → call_of n machine verb name ≡ Some c → call_text n c ≡ words verb name
+
+-- the words of scripts and of answers, which name no machine; others do
+pub record WordsAreTaken : Type 0 where
+  pub watch : is_reserved (codes "watch") ≡ true
+  pub free : is_reserved (codes "free") ≡ true
+  pub start : is_reserved (codes "start") ≡ true
+  pub claim : is_reserved (codes "claim") ≡ true
+  pub give : is_reserved (codes "give") ≡ true
+  pub yield : is_reserved (codes "yield") ≡ true
+  pub take : is_reserved (codes "take") ≡ true
+  pub release : is_reserved (codes "release") ≡ true
+  pub inquire : is_reserved (codes "inquire") ≡ true
+  pub pose : is_reserved (codes "pose") ≡ true
+  pub stop : is_reserved (codes "stop") ≡ true
+  pub resume : is_reserved (codes "resume") ≡ true
+  pub press : is_reserved (codes "press") ≡ false
+  pub take_out : is_reserved (codes "take_out") ≡ false
+
+-- a machine means one of its own poses, if any has the name, also where another machine's pose has it
+pub record OwnPosesComeFirst : Type 0 where
+  pub first : (n : Named) (machine pose : ℕ) (name : Text)
+      → own_pose n machine name ≡ Some pose → call_of n machine Pose name ≡ Some (SetPose pose)
+  pub own : (n : Named) (machine pose : ℕ) (name : Text)
+      → own_pose n machine name ≡ Some pose → machine_of n.plan pose ≡ machine
+  pub found : (n : Named) (machine pose : ℕ) → pose < length n.poses → machine_of n.plan pose ≡ machine
+      → IsTrue (is_some (own_pose n machine (name_in n.poses pose)))

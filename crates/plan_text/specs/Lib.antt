@@ -4,5 +4,6 @@ pub mod Calls
 pub mod Answers
 pub mod Laws
 pub mod Requests
+pub mod Reasons
 pub mod Starts
 pub mod Script

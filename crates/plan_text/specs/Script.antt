@@ -14,6 +14,7 @@ use Rattle.plan_rules.specs.declared.state.State.{State}
 use Rattle.plan_rules.specs.Reply.{next, reply}
 use Rattle.plan_text.specs.Named.{Named}
 use Rattle.plan_text.specs.Answers.{answer_text}
+use Rattle.plan_text.specs.Reasons.{why_no_call}
 use Rattle.plan_text.specs.Requests.{request_of}
 use Rattle.plan_text.specs.Starts.{start_in}
 use Rattle.plan_text.specs.declared.request.Request.{Request}
@@ -38,10 +39,16 @@ abbrev pub start_line : State → List ℕ
 start_line s =
     codes "0 " ++ decimal s.stamp ++ codes " start " ++ decimal (count_by (λ full. full) s.full) ++ codes "\n"
 
+-- the lines of a record that is no call: why, and the fault
+abbrev pub row_refused : Named → ℕ → Row → Answers
+row_refused n number row =
+    with_text (codes "record " ++ decimal number ++ codes ", " ++ why_no_call n row ++ codes "\n")
+    (ends (Refused (BadRow number)))
+
 -- the answer to a call by the plan's interlock, and then the answers in the state after it; or no call
-abbrev pub answer_by : Named → ℕ → State → Option Request → (State → Answers) → Answers
-answer_by n number s None more = ends (Refused (BadRow number))
-answer_by n number s (Some r) more =
+abbrev pub answer_by : Named → ℕ → State → Row → Option Request → (State → Answers) → Answers
+answer_by n number s row None more = row_refused n number row
+answer_by n number s row (Some r) more =
     with_text (line_of number (next n.plan s r.machine r.call).stamp (answer_text n (reply n.plan s r.machine r.call)))
     (more (next n.plan s r.machine r.call))
 
@@ -50,7 +57,7 @@ unfoldable pub answers_of : Named → ℕ → State → List Row → Answers
 answers_of n done s [] = ends Clean
 answers_of n done s (row ∷ rows) =
     if nat_lt done max_records
-    then answer_by n (done + 1) s (request_of n row) (λ after. answers_of n (done + 1) after rows)
+    then answer_by n (done + 1) s row (request_of n row) (λ after. answers_of n (done + 1) after rows)
     else ends (Refused Long)
 
 -- the answers from the start in record 0

@@ -15,3 +15,13 @@ pub fn postures_have_words()
 pub fn calls_are_told_as_read()
     ensures { laws.CallsAreToldAsRead }
 {}
+
+/// Each word of scripts and of answers is taken: no machine may have it as its name.
+pub fn words_are_taken()
+    ensures { laws.WordsAreTaken }
+{}
+
+/// A machine that has a pose of some name means that one, also where another machine's pose has the name.
+pub fn own_poses_come_first()
+    ensures { laws.OwnPosesComeFirst }
+{}

@@ -7,6 +7,7 @@ pub mod laws;
 pub mod named_plan;
 pub mod names;
 pub mod opening;
+pub mod reason;
 pub mod replay;
 pub mod request;
 pub mod script;

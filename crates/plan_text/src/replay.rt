@@ -1,10 +1,12 @@
 //! Answers a script.
 ghost use Rattle.std.specs.Prelude.{◌≡◌, ◌++◌, ◌<◌, List, OnOk, IfOk, string_bytes};
+ghost use Rattle.csv.specs.Records.{fields_of};
 ghost use Rattle.csv_rows.specs.Rows.{HasRows, IsPlain, Row};
 ghost use Rattle.plan_text.specs.Answers.{answer_text};
 ghost use Rattle.plan_text.specs.Script as spec;
 
 use crate::NamedPlan;
+use crate::reason::why_no_call;
 use crate::request::read_request;
 use crate::script::ScriptAnswers;
 use crate::start::{plates, read_start};
@@ -16,7 +18,8 @@ use std::alloc::{AllocError, Global};
 use std::io::Read;
 use text_io::InputFault;
 
-/// Answers a script: a line for each record, and the line of a fault if the script is refused.
+/// Answers a script: a line for each record, and if the script is refused, the line of the fault; before it, of a record
+/// that is no call, a line that says why.
 ///
 /// `Read` or `Memory`: there is no answer.
 pub fn answer_script(
@@ -77,7 +80,7 @@ fn answer_later<R: Read>(
             return end(text, Outcome::Clean);
         }
         let Some(request) = read_request(named, &row) else {
-            return end(text, Outcome::Refused(ScriptFault::BadRow(done + 1)));
+            return end_at(text, named, &row, done + 1);
         };
         let answer = apply(named.plan(), &mut state, request.machine, request.call);
         push_line(&mut text, named, done + 1, state.stamp, answer)?;
@@ -96,6 +99,22 @@ fn end(before: String, outcome: Outcome) -> Result<ScriptAnswers, InputFault>
     let mut text = before;
     push_end(&mut text, outcome)?;
     Ok(ScriptAnswers { text, outcome })
+}
+
+/// The answers with why a record is no call, and the line of that fault.
+fn end_at(
+    before: String,
+    named: &NamedPlan,
+    row: &ByteRecord,
+    number: u32,
+) -> Result<ScriptAnswers, InputFault>
+    ensures { IfOk result (λ answered. answered ≡ spec.with_text (string_bytes before)
+        (spec.row_refused named.now number (fields_of row.now))) }
+{
+    let mut text = before;
+    let why = why_no_call(named, row);
+    writeln!(text, "record {number}, {why}")?;
+    end(text, Outcome::Refused(ScriptFault::BadRow(number)))
 }
 
 /// Adds the line of record 0.
