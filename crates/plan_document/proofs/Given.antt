@@ -1,5 +1,5 @@
 -- What rows give a zone, one row after another.
-use Rattle.std.proofs.Common.{◌≡◌, ◌≢◌, ◌∙◌, ◌+◌, ◌<◌, ◌++◌, ◌∷◌, [], ℕ, List, true, length, take, get_or, set, refl, sym, ap, arith, inl, inr, append-nil, eq-eqb, ne_eqb, string_bytes, IsTrue}
+use Rattle.std.proofs.Common.{◌≡◌, ◌≢◌, ◌∙◌, ◌+◌, ◌<◌, ◌++◌, ◌∷◌, [], ℕ, List, length, take, get_or, set, refl, sym, ap, inl, inr, append-nil, eq-eqb, ne_eqb, string_bytes, IsTrue}
 use Rattle.std.proofs.Common.{Option, Some, None, filter_map, get_or-set_same, get_or-set_other}
 use Rattle.std.proofs.lemmas.Bool.{cases_eq}
 use Rattle.std.proofs.lemmas.List.Elements.{filter_map-append}

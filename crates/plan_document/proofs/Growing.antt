@@ -1,6 +1,5 @@
 -- What rows say, one row after another.
-use Rattle.std.proofs.Common.{◌≡◌, ◌∙◌, ◌+◌, ◌<◌, ◌≤◌, ◌++◌, ◌∷◌, [], ℕ, List, Bool, true, ◌&&◌, length, map, take, get_or, replicate, refl, append_assoc, sym, ap, subst, arith, take_all, string_bytes}
-use Rattle.std.proofs.Common.{Option, Some, None}
+use Rattle.std.proofs.Common.{◌≡◌, ◌∙◌, ◌+◌, ◌<◌, ◌≤◌, ◌++◌, ◌∷◌, [], ℕ, List, Bool, true, length, map, take, get_or, replicate, refl, append_assoc, sym, ap, subst, arith, take_all, string_bytes}
 use Rattle.std.specs.Prelude.{String}
 use Rattle.std.specs.declared.alloc.Global.{Global}
 use Rattle.std.proofs.lemmas.List.{flat_map_more, length-take-le, map_more, map_push, take_more}

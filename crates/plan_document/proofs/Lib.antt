@@ -2,3 +2,5 @@ mod Growing
 mod Given
 mod Written
 mod Distinct
+mod Doable
+mod Theirs

@@ -1,6 +1,6 @@
 -- What is read of TOML, one value after another.
-use Rattle.std.proofs.Common.{◌≡◌, ◌∙◌, ◌+◌, ◌<◌, ◌≤◌, ◌++◌, ◌∷◌, [], ℕ, Bool, true, false, List, length, map, take, get_or, refl, sym, ap, subst, arith, take_all, string_bytes}
-use Rattle.std.proofs.Common.{Option, Some, None}
+use Rattle.std.proofs.Common.{◌≡◌, ◌∙◌, ◌+◌, ◌<◌, ◌≤◌, ◌++◌, ◌∷◌, [], ℕ, Bool, true, List, length, map, take, get_or, refl, sym, ap, subst, arith, take_all, string_bytes}
+use Rattle.std.proofs.Common.{Some}
 use Rattle.std.specs.Prelude.{String}
 use Rattle.std.specs.declared.alloc.Global.{Global}
 use Rattle.std.proofs.lemmas.List.{map_more, map_push}
@@ -10,8 +10,8 @@ use Rattle.std.proofs.lemmas.Slice.Eq.{bytes_eq-Decides}
 use Rattle.std.specs.Str.{bytes_eq}
 use Rattle.plan_text.specs.Calls.{all_verbs, verb_of, verb_word}
 use Rattle.plan_text.specs.declared.calls.Verb.{Verb}
-use Rattle.toml.specs.Data.{Data, Items, Members, array, boolean, item, no_items, member, no_members, string, table, integer, float, datetime, as_array, as_bool, as_str, as_table}
-use Rattle.toml.specs.View.{items_of, items_view, view}
+use Rattle.toml.specs.Data.{Data, Items, Members, array, boolean, member, no_members, string, table, integer, float, datetime, as_array, as_bool, as_str, as_table}
+use Rattle.toml.specs.View.{items_of, view}
 use Rattle.toml.specs.declared.value.Value.{Value}
 use Rattle.plan_document.specs.Reading.{gives_written, list_of, written}
 use Rattle.plan_document.specs.declared.document.PostureRow.{PostureRow}

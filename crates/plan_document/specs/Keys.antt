@@ -1,9 +1,14 @@
--- The words of a document's keys.
-use Rattle.std.specs.Prelude.{codes}
+-- The words of a document's keys, and which keys a document and its rows may have.
+use Rattle.std.specs.Prelude.{Bool, List, [], ◌∷◌, codes}
+use Rattle.std.specs.List.{list_all, list_any}
+use Rattle.std.specs.Str.{bytes_eq}
+use Rattle.toml.specs.Data.{Members, member, no_members}
 use Rattle.plan_text.specs.Names.{Text}
 use Rattle.plan_document.specs.declared.fault.Key.{Key}
 use Rattle.plan_document.specs.declared.fault.Key.TheVariants.{Machine, Zone, Name, Places, Poses, Program, Gives}
 use Rattle.plan_document.specs.declared.fault.Key.TheVariants.{AfterMoving, Host, Guest, Inward, Outward}
+use Rattle.plan_document.specs.declared.fault.RowOf.{RowOf}
+use Rattle.plan_document.specs.declared.fault.RowOf.TheVariants as row
 
 abbrev pub key_word : Key → Text
 key_word Machine = codes "machine"
@@ -18,3 +23,35 @@ key_word Host = codes "host"
 key_word Guest = codes "guest"
 key_word Inward = codes "inward"
 key_word Outward = codes "outward"
+
+abbrev pub top_keys : List Key
+top_keys = Machine ∷ Zone ∷ []
+
+abbrev pub machine_keys : List Key
+machine_keys = Name ∷ Places ∷ Poses ∷ Program ∷ []
+
+abbrev pub pose_keys : List Key
+pose_keys = Name ∷ Gives ∷ AfterMoving ∷ []
+
+abbrev pub zone_keys : List Key
+zone_keys = Name ∷ Host ∷ Guest ∷ Inward ∷ Outward ∷ []
+
+-- the keys that a row may have
+abbrev pub keys_in : RowOf → List Key
+keys_in row.Document = top_keys
+keys_in (row.Machine _) = machine_keys
+keys_in (row.Pose _ _) = pose_keys
+keys_in (row.Zone _) = zone_keys
+
+-- a text is the word of one of these keys
+abbrev pub is_word_of : List Key → Text → Bool
+is_word_of keys name = list_any (λ key. bytes_eq (key_word key) name) keys
+
+-- the keys that a table has
+abbrev pub names_of : Members → List Text
+names_of no_members = []
+names_of (member name value members) = name ∷ names_of members
+
+-- a table has no key but these
+abbrev pub has_only : List Key → Members → Bool
+has_only keys members = list_all (is_word_of keys) (names_of members)

@@ -3,3 +3,4 @@ pub mod Names
 pub mod Keys
 pub mod Saying
 pub mod Reading
+pub mod Laws

@@ -1,6 +1,6 @@
 -- The rows of a document in its TOML.
 use Rattle.std.specs.Prelude.{◌≡◌, ℕ, Bool, false, List, [], ◌∷◌, codes, map}
-use Rattle.std.specs.Prelude.{String, string_bytes, Option, Some, None, option_map, ⊤}
+use Rattle.std.specs.Prelude.{String, string_bytes, Option, Some, None, option_map, IsTrue, ⊤}
 use Rattle.std.specs.declared.alloc.Global.{Global}
 use Rattle.std.specs.List.{AllZip}
 use Rattle.toml.specs.Data.{Data, Items, Members, array, boolean, item, no_items, member, no_members, string, table}
@@ -14,6 +14,7 @@ use Rattle.plan_document.specs.declared.document.PostureRow.{PostureRow}
 use Rattle.plan_document.specs.declared.document.WayRow.{WayRow}
 use Rattle.plan_document.specs.declared.document.ZoneRow.{ZoneRow}
 use Rattle.plan_document.specs.declared.resolving.ProgrammedPlan.{ProgrammedPlan}
+use Rattle.plan_document.specs.Keys.{has_only, machine_keys, pose_keys, top_keys, zone_keys}
 use Rattle.plan_document.specs.Saying.{IsPlanOf}
 
 -- a text, as TOML has it
@@ -66,6 +67,7 @@ gives_written (row ∷ rows) = member (string_bytes row.zone) (written row.postu
 pub record IsPoseIn (value : Data) (row : PoseRow) : Type 0 where
   pub members : Members
   pub is_table : value ≡ table members
+  pub keys : IsTrue (has_only pose_keys members)
   pub name : HasText (codes "name") members row.name
   pub gives : get_member (codes "gives") members ≡ Some (table (gives_written row.gives.items))
   pub after_moving : IsTruth (get_member (codes "after_moving") members) row.after_moving
@@ -73,6 +75,7 @@ pub record IsPoseIn (value : Data) (row : PoseRow) : Type 0 where
 pub record IsMachineIn (value : Data) (row : MachineRow) : Type 0 where
   pub members : Members
   pub is_table : value ≡ table members
+  pub keys : IsTrue (has_only machine_keys members)
   pub name : HasText (codes "name") members row.name
   pub places : HasTexts (codes "places") members row.places.items
   pub poses : HasRows IsPoseIn (codes "poses") members row.poses.items
@@ -81,6 +84,7 @@ pub record IsMachineIn (value : Data) (row : MachineRow) : Type 0 where
 pub record IsZoneIn (value : Data) (row : ZoneRow) : Type 0 where
   pub members : Members
   pub is_table : value ≡ table members
+  pub keys : IsTrue (has_only zone_keys members)
   pub name : HasText (codes "name") members row.name
   pub host : HasText (codes "host") members row.host
   pub guest : HasText (codes "guest") members row.guest
@@ -90,6 +94,7 @@ pub record IsZoneIn (value : Data) (row : ZoneRow) : Type 0 where
 -- ---- documents
 
 pub record IsDocumentIn (members : Members) (d : Document) : Type 0 where
+  pub keys : IsTrue (has_only top_keys members)
   pub machines : HasRows IsMachineIn (codes "machine") members d.machines.items
   pub zones : HasRows IsZoneIn (codes "zone") members d.zones.items
 

@@ -1,25 +1,10 @@
 //! What is wrong with a plan's document, in words.
 ghost use Rattle.std.specs.Prelude.{◌≡◌};
+ghost use Rattle.plan_document.specs.Keys as keys;
 ghost use Rattle.plan_document.specs.Keys.{key_word};
 ghost use Rattle.plan_document.specs.declared.fault.Wrong.TheVariants.{Memory as NoMemory};
 
-use crate::reading::MAX_BYTES;
 use std::alloc::{AllocError, AllocFailed};
-use std::fmt;
-
-/// The most characters of a text that are shown.
-const MAX_SHOWN: usize = 40;
-
-/// What is said of a text that is no name.
-const NO_NAME: &str =
-    " is no name: a letter, then letters, digits or underscores, lower case, at most 32";
-
-/// What is said of a text that is no posture.
-const NO_POSTURE: &str = " is no posture: known are closed moving openin openout";
-
-/// What is said of a text that is no call.
-const NO_CALL: &str =
-    " is no call: claim, give, yield, take or release with a zone, or pose with a pose";
 
 /// What a fault is about: the document, or a row of it. Rows are counted from 0.
 #[derive(Clone, Copy)]
@@ -90,6 +75,36 @@ impl Key {
     }
 }
 
+/// The keys of a document's top, of a machine, of a pose and of a zone.
+const TOP_KEYS: [Key; 2] = [Key::Machine, Key::Zone];
+
+const MACHINE_KEYS: [Key; 4] = [Key::Name, Key::Places, Key::Poses, Key::Program];
+
+const POSE_KEYS: [Key; 3] = [Key::Name, Key::Gives, Key::AfterMoving];
+
+const ZONE_KEYS: [Key; 5] = [Key::Name, Key::Host, Key::Guest, Key::Inward, Key::Outward];
+
+impl RowOf {
+    /// The keys that such a row may have.
+    pub fn keys(self) -> &'static [Key]
+        ensures { result.now ≡ keys.keys_in self }
+    {
+        match self {
+            RowOf::Document => &TOP_KEYS,
+            RowOf::Machine(_) => &MACHINE_KEYS,
+            RowOf::Pose { .. } => &POSE_KEYS,
+            RowOf::Zone(_) => &ZONE_KEYS,
+        }
+    }
+
+    /// Whether such a row may have a key of this name.
+    pub fn has_key(self, name: &str) -> bool
+        ensures { result ≡ keys.is_word_of (keys.keys_in self) name.now }
+    {
+        self.keys().iter().any(|key| key.word() == name)
+    }
+}
+
 /// Why a line of a program is never done.
 #[derive(Clone, Copy)]
 pub enum Never {
@@ -105,7 +120,7 @@ pub enum Never {
 
 impl Never {
     /// What is said of such a line.
-    fn text(self) -> &'static str {
+    pub(crate) fn text(self) -> &'static str {
         match self {
             Never::NoParty => " is never done: the machine is neither host nor guest of the zone",
             Never::GivesNothing => " is never done: the machine gives no plates through the zone",
@@ -118,6 +133,8 @@ impl Never {
 /// What is wrong with the value of a key.
 #[derive(Drop)]
 pub enum Wrong {
+    /// The document has no machine.
+    NoMachines,
     /// The key is missing.
     Missing,
     /// The row has this key, which isn't known.
@@ -140,7 +157,7 @@ pub enum Wrong {
     NoName(String),
     /// A machine may not have this name.
     Reserved(String),
-    /// A name is there twice.
+    /// A name is defined twice.
     Twice(String),
     /// With its machine's name before it, a pose's name is this, and so is another pose's.
     SameInC(String),
@@ -278,7 +295,7 @@ pub enum PlanTextFault {
     Memory,
     /// The document has more than 65,536 bytes.
     Long,
-    /// It is no TOML: on which line this is found, and why.
+    /// It isn't TOML: on which line this is found, and why.
     NoToml {
         /// The line, from 1.
         line: usize,
@@ -289,14 +306,44 @@ pub enum PlanTextFault {
     Row {
         /// The line of what the fault is about, from 1; `None` if that isn't in the document.
         line: Option<usize>,
+        /// The names of the rows that the fault is about.
+        names: RowNames,
         /// The fault.
         fault: DocumentFault,
     },
     /// The word has more than 64 bits.
-    TooWide {
-        /// How many bits it has above 64.
-        missing: u8,
-    },
+    TooWide(TooWide),
+}
+
+/// The names of the row that a fault is about, and of the one in which that is. `None` where a row has no name, and
+/// where the fault is about the name.
+#[derive(Drop)]
+pub struct RowNames {
+    /// The name of the machine or of the zone.
+    pub row: Option<String>,
+    /// The name of the machine's pose.
+    pub pose: Option<String>,
+}
+
+impl RowNames {
+    /// No names.
+    pub fn none() -> RowNames {
+        RowNames {
+            row: None,
+            pose: None,
+        }
+    }
+}
+
+/// A plan whose word has more than 64 bits.
+#[derive(Clone, Copy)]
+pub struct TooWide {
+    /// How many zones it has.
+    pub zones: usize,
+    /// How many places it has.
+    pub places: usize,
+    /// How many bits are missing.
+    pub missing: u8,
 }
 
 impl From<AllocError> for PlanTextFault {
@@ -311,130 +358,9 @@ impl From<DocumentFault> for PlanTextFault {
             Wrong::Memory => PlanTextFault::Memory,
             wrong => PlanTextFault::Row {
                 line: None,
+                names: RowNames::none(),
                 fault: fault.location.fault(wrong),
             },
-        }
-    }
-}
-
-/// A text in quotes: its first 40 characters, and `?` for one that isn't printable ASCII.
-#[derive(Clone, Copy)]
-struct Quoted<'a> {
-    text: &'a str,
-}
-
-impl fmt::Display for Quoted<'_> {
-    fn fmt<W: fmt::Write>(&self, f: &mut fmt::Formatter<W>) -> fmt::Result {
-        f.write_str("\"")?;
-        for letter in self.text.chars().take(MAX_SHOWN) {
-            if letter == ' ' || letter.is_ascii_graphic() {
-                f.write_char(letter)?;
-            } else {
-                f.write_str("?")?;
-            }
-        }
-        if self.text.chars().nth(MAX_SHOWN).is_some() {
-            f.write_str("..")?;
-        }
-        f.write_str("\"")
-    }
-}
-
-impl fmt::Display for RowOf {
-    fn fmt<W: fmt::Write>(&self, f: &mut fmt::Formatter<W>) -> fmt::Result {
-        match self {
-            RowOf::Document => f.write_str("the document"),
-            RowOf::Machine(machine) => write_row(f, "machine ", *machine),
-            RowOf::Pose { machine, pose } => {
-                write_row(f, "machine ", *machine)?;
-                write_row(f, ": pose ", *pose)
-            }
-            RowOf::Zone(zone) => write_row(f, "zone ", *zone),
-        }
-    }
-}
-
-/// Writes the number of a row, from 1.
-fn write_row<W: fmt::Write>(f: &mut fmt::Formatter<W>, kind: &str, index: usize) -> fmt::Result {
-    f.write_str(kind)?;
-    let number = index.saturating_add(1);
-    write!(f, "{number}")
-}
-
-impl fmt::Display for DocumentFault {
-    fn fmt<W: fmt::Write>(&self, f: &mut fmt::Formatter<W>) -> fmt::Result {
-        let Location { row, key, .. } = self.location;
-        write!(f, "{row}: ")?;
-        if let Some(key) = key {
-            let word = key.word();
-            write!(f, "{word}: ")?;
-        }
-        write_wrong(&self.wrong, f)
-    }
-}
-
-fn write_wrong<W: fmt::Write>(wrong: &Wrong, f: &mut fmt::Formatter<W>) -> fmt::Result {
-    let (before, text, after) = match wrong {
-        Wrong::Unknown(key) => ("", key, " is no key of it"),
-        Wrong::NoName(text) => ("", text, NO_NAME),
-        Wrong::Reserved(text) => ("", text, " is a word of scripts, and names no machine"),
-        Wrong::Twice(text) => ("", text, " is there twice"),
-        Wrong::SameInC(text) => ("for C it is ", text, ", and so is another pose's"),
-        Wrong::NoMachine(text) => ("no machine is named ", text, ""),
-        Wrong::NoZone(text) => ("no zone is named ", text, ""),
-        Wrong::NoPlace(text) => ("no place is named ", text, ""),
-        Wrong::NoPose(text) => ("the machine has no pose ", text, ""),
-        Wrong::NoPosture { word, .. } => ("", word, NO_POSTURE),
-        Wrong::NoCall(text) => ("", text, NO_CALL),
-        Wrong::Never(why, text) => ("", text, why.text()),
-        Wrong::Foreign(text) => ("the machine doesn't host ", text, ""),
-        other => return write_plain(other, f),
-    };
-    f.write_str(before)?;
-    let quoted = Quoted {
-        text: text.as_str(),
-    };
-    write!(f, "{quoted}")?;
-    f.write_str(after)
-}
-
-fn write_plain<W: fmt::Write>(wrong: &Wrong, f: &mut fmt::Formatter<W>) -> fmt::Result {
-    let text = match wrong {
-        Wrong::Missing => "it is missing",
-        Wrong::NoText => "it takes a text; put quotes round it",
-        Wrong::NoTexts => "it takes a list of texts, such as [\"hand\", \"die\"]",
-        Wrong::NoLines => "it takes a list of texts, such as [\"claim door\", \"release door\"]",
-        Wrong::NoTable => "it takes a table, such as { interior = \"closed\" }",
-        Wrong::NoTables => "it takes a list of tables",
-        Wrong::NoTruth => "it takes true or false",
-        Wrong::NoWay => "it takes two places: from which one, and to which",
-        Wrong::TooMany(most) => return write!(f, "there are more than {most}"),
-        Wrong::TooManyLines(most) => return write!(f, "it has more than {most} lines"),
-        Wrong::HostIsGuest => "the host is its own guest",
-        Wrong::Astray => "it doesn't lead from a place of the giver to one of the receiver",
-        _ => "memory ran out",
-    };
-    f.write_str(text)
-}
-
-impl fmt::Display for PlanTextFault {
-    fn fmt<W: fmt::Write>(&self, f: &mut fmt::Formatter<W>) -> fmt::Result {
-        match self {
-            PlanTextFault::Read => f.write_str("read"),
-            PlanTextFault::Memory => f.write_str("memory"),
-            PlanTextFault::Long => write!(f, "plan long: it has more than {MAX_BYTES} bytes"),
-            PlanTextFault::NoToml { line, message } => {
-                let message = message.as_str();
-                write!(f, "plan line {line}: it is no TOML: {message}")
-            }
-            PlanTextFault::Row {
-                line: Some(line),
-                fault,
-            } => write!(f, "plan line {line}: {fault}"),
-            PlanTextFault::Row { line: None, fault } => write!(f, "plan {fault}"),
-            PlanTextFault::TooWide { missing } => {
-                write!(f, "plan wide: its word has {missing} bits more than 64")
-            }
         }
     }
 }

@@ -3,14 +3,17 @@
 
 pub mod document;
 pub mod fault;
+mod fault_words;
+pub mod laws;
 mod locating;
 mod programs;
 mod reading;
 mod resolving;
+mod row_names;
 mod tables;
 mod values;
 
 pub use document::{Document, MachineRow, PoseRow, PostureRow, WayRow, ZoneRow};
-pub use fault::{DocumentFault, Key, Location, PlanTextFault, RowOf, Wrong};
+pub use fault::{DocumentFault, Key, Location, PlanTextFault, RowNames, RowOf, TooWide, Wrong};
 pub use reading::{MAX_BYTES, plan_of, read_plan};
 pub use resolving::ProgrammedPlan;

@@ -1,5 +1,5 @@
 //! The machines' programs: the calls in their lines.
-ghost use Rattle.std.specs.Prelude.{◌≡◌, ◌++◌, codes, is_none, map, IfOk, IfSome, string_bytes};
+ghost use Rattle.std.specs.Prelude.{◌≡◌, ◌++◌, codes, is_none, map, IfOk, IfSome};
 ghost use Rattle.std.specs.List.{AllZip};
 ghost use Rattle.plan_text.specs.Calls.{verb_word};
 ghost use Rattle.plan_document.specs.Names.{numbered};

@@ -1,18 +1,19 @@
 //! Reads a plan's document.
-ghost use Rattle.std.specs.Prelude.{◌≤◌, length, map, IfOk, IfSome, IsOk};
+ghost use Rattle.std.specs.Prelude.{◌≤◌, length, map, IfOk, IfSome, IsOk, IsTrue, OnOk};
 ghost use Rattle.std.specs.List.{AllZip};
 ghost use Rattle.toml.specs.View.{table_view, view};
 ghost use Rattle.text_io.specs.Input.{TakesAtMost};
-ghost use Rattle.plan_document.specs.Keys.{key_word};
+ghost use Rattle.plan_document.specs.Keys.{has_only, key_word, top_keys};
 ghost use Rattle.plan_document.specs.Limits.{byte_limit, max_bytes_read};
 ghost use Rattle.plan_document.specs.Reading.{HasRows, IsDocumentIn, IsMachineIn, IsPlanIn, IsPlanOfTable, IsPoseIn};
 ghost use Rattle.plan_document.specs.Reading.{IsZoneIn};
 ghost use Rattle.plan_document.specs.declared.fault.Key.TheVariants.{Machine, Poses, Zone};
 
 use crate::document::{Document, MachineRow, PoseRow, ZoneRow};
-use crate::fault::{DocumentFault, Key, PlanTextFault, RowOf, Wrong};
+use crate::fault::{DocumentFault, Key, PlanTextFault, RowNames, RowOf, Wrong};
 use crate::locating::line_of;
 use crate::resolving::{ProgrammedPlan, programmed_plan_of};
+use crate::row_names::names_of;
 use crate::values::{
     check_keys, gives_at, table_in, tables_at, text_at, texts_at, truth_at, value_at, way_at,
 };
@@ -24,15 +25,6 @@ use toml_places::line_number;
 
 /// The most bytes of a document.
 pub const MAX_BYTES: usize = 65_536;
-
-/// The keys at the top, of a machine, of a pose and of a zone.
-const TOP_KEYS: [&str; 2] = ["machine", "zone"];
-
-const MACHINE_KEYS: [&str; 4] = ["name", "places", "poses", "program"];
-
-const POSE_KEYS: [&str; 3] = ["name", "gives", "after_moving"];
-
-const ZONE_KEYS: [&str; 5] = ["name", "host", "guest", "inward", "outward"];
 
 /// Reads a plan from the bytes that the reader has left. At most 65,537 bytes are taken from it.
 ///
@@ -61,7 +53,7 @@ pub fn plan_of(alloc: Global, bytes: &[u8]) -> Result<ProgrammedPlan, PlanTextFa
     match toml::table_from_slice(alloc, bytes) {
         Ok(table) => match plan_in(alloc, &table) {
             Ok(plan) => Ok(plan),
-            Err(fault) => Err(with_line(alloc, bytes, fault)),
+            Err(fault) => Err(placed(alloc, bytes, &table, fault)),
         },
         Err(error) if error.is_memory() => Err(PlanTextFault::Memory),
         Err(error) => {
@@ -81,15 +73,26 @@ fn plan_in(alloc: Global, table: &Table) -> Result<ProgrammedPlan, PlanTextFault
     programmed_plan_of(alloc, &document)
 }
 
-/// A fault with its line, if it is one of a row.
-fn with_line(alloc: Global, bytes: &[u8], fault: PlanTextFault) -> PlanTextFault {
+/// A fault with its line and the names of its rows, if it is one of a row.
+fn placed(alloc: Global, bytes: &[u8], table: &Table, fault: PlanTextFault) -> PlanTextFault {
     match fault {
-        PlanTextFault::Row { fault, .. } => match line_of(alloc, bytes, &fault) {
-            Ok(line) => PlanTextFault::Row { line, fault },
+        PlanTextFault::Row { fault, .. } => match places_of(alloc, bytes, table, &fault) {
+            Ok((line, names)) => PlanTextFault::Row { line, names, fault },
             Err(AllocError) => PlanTextFault::Memory,
         },
         other => other,
     }
+}
+
+/// The line of a fault, if it has one, and the names of its rows.
+fn places_of(
+    alloc: Global,
+    bytes: &[u8],
+    table: &Table,
+    fault: &DocumentFault,
+) -> Result<(Option<usize>, RowNames), AllocError> {
+    let names = names_of(alloc, table, fault.location)?;
+    Ok((line_of(alloc, bytes, fault)?, names))
 }
 
 /// The rows in a table.
@@ -103,11 +106,13 @@ fn document_in(alloc: Global, table: &Table) -> Result<Document, DocumentFault>
 }
 
 /// Refuses a document with an unknown key at the top, or without machines.
-fn check_top(alloc: Global, table: &Table) -> Result<(), DocumentFault> {
-    check_keys(alloc, table, &TOP_KEYS, RowOf::Document)?;
+fn check_top(alloc: Global, table: &Table) -> Result<(), DocumentFault>
+    ensures { OnOk result (IsTrue (has_only top_keys (table_view table.now))) }
+{
+    check_keys(alloc, table, RowOf::Document)?;
     match value_at(table, Key::Machine) {
         Some(_) => Ok(()),
-        None => Err(RowOf::Document.key(Key::Machine).fault(Wrong::Missing)),
+        None => Err(RowOf::Document.whole().fault(Wrong::NoMachines)),
     }
 }
 
@@ -135,7 +140,7 @@ fn machine_in(alloc: Global, value: &Value, machine: usize) -> Result<MachineRow
 {
     let at = RowOf::Machine(machine);
     let table = table_in(value, RowOf::Document, Key::Machine)?;
-    check_keys(alloc, table, &MACHINE_KEYS, at)?;
+    check_keys(alloc, table, at)?;
     let name = text_at(alloc, table, at, Key::Name)?;
     let places = texts_at(alloc, table, at, Key::Places)?;
     let poses = poses_at(alloc, table, machine)?;
@@ -177,7 +182,7 @@ fn pose_in(
 {
     let at = RowOf::Pose { machine, pose };
     let table = table_in(value, RowOf::Machine(machine), Key::Poses)?;
-    check_keys(alloc, table, &POSE_KEYS, at)?;
+    check_keys(alloc, table, at)?;
     let name = text_at(alloc, table, at, Key::Name)?;
     let gives = gives_at(alloc, table, at)?;
     let after_moving = truth_at(table, at, Key::AfterMoving)?;
@@ -212,7 +217,7 @@ fn zone_in(alloc: Global, value: &Value, zone: usize) -> Result<ZoneRow, Documen
 {
     let at = RowOf::Zone(zone);
     let table = table_in(value, RowOf::Document, Key::Zone)?;
-    check_keys(alloc, table, &ZONE_KEYS, at)?;
+    check_keys(alloc, table, at)?;
     let name = text_at(alloc, table, at, Key::Name)?;
     let host = text_at(alloc, table, at, Key::Host)?;
     let guest = text_at(alloc, table, at, Key::Guest)?;

@@ -3,7 +3,7 @@ ghost use Rattle.std.specs.Prelude.{IfOk};
 ghost use Rattle.plan_document.specs.Saying.{IsNamedPlanOf, IsPlanOf};
 
 use crate::document::Document;
-use crate::fault::{DocumentFault, Key, PlanTextFault, RowOf, Wrong, too_many};
+use crate::fault::{DocumentFault, Key, PlanTextFault, RowOf, TooWide, Wrong, too_many};
 use crate::programs::programs_of;
 use crate::tables::rows_of;
 use crate::values::copy;
@@ -60,7 +60,9 @@ fn named_plan_of(alloc: Global, document: &Document) -> Result<NamedPlan, PlanTe
 /// The fault of tables in words of the document.
 fn table_fault(alloc: Global, document: &Document, fault: PlanFault) -> PlanTextFault {
     let fault = match fault {
-        PlanFault::TooWide { missing } => return PlanTextFault::TooWide { missing },
+        PlanFault::TooWide { missing } => return PlanTextFault::TooWide(too_wide(
+            document, missing,
+        )),
         PlanFault::TooManyMachines => too_many(Key::Machine, usize::from(MAX_MACHINES)),
         PlanFault::TooManyZones => too_many(Key::Zone, MAX_ZONES),
         PlanFault::TooManyPoses => too_many(Key::Poses, MAX_POSES),
@@ -83,6 +85,19 @@ fn table_fault(alloc: Global, document: &Document, fault: PlanFault) -> PlanText
         PlanFault::ForeignZone { pose, zone } => foreign_zone(alloc, document, pose, zone),
     };
     fault.into()
+}
+
+/// What a document has whose plan's word lacks bits.
+fn too_wide(document: &Document, missing: u8) -> TooWide {
+    let mut places = 0usize;
+    for machine in 0..document.machines.len() {
+        places = places.saturating_add(document.machines[machine].places.len());
+    }
+    TooWide {
+        zones: document.zones.len(),
+        places,
+        missing,
+    }
 }
 
 /// The fault of a pose that gives a zone which its machine doesn't host.

@@ -1,9 +1,11 @@
 //! The values of a document's keys.
-ghost use Rattle.std.specs.Prelude.{◌≡◌, [], Some, map, option_map, string_bytes, IfOk, OnOk};
+ghost use Rattle.std.specs.Prelude.{◌≡◌, ◌≢◌, false, Some, map, option_map, string_bytes, IfOk, IfErr, OnOk, IsTrue};
 ghost use Rattle.toml.specs.Data.{as_array, get_member, table};
 ghost use Rattle.toml.specs.View.{table_view, view};
 ghost use Rattle.plan_document.specs.Keys.{key_word};
+ghost use Rattle.plan_document.specs.Keys.{has_only, keys_in};
 ghost use Rattle.plan_document.specs.declared.fault.Key.TheVariants.{Gives};
+ghost use Rattle.plan_document.specs.declared.fault.Wrong.TheVariants.{Memory as NoMemory};
 ghost use Rattle.plan_document.specs.Reading as reading;
 
 use crate::document::{PostureRow, WayRow};
@@ -210,15 +212,14 @@ fn posture_row(alloc: Global, zone: &str, posture: &str) -> Result<PostureRow, A
     Ok(PostureRow { zone, posture })
 }
 
-/// Refuses a table with a key that isn't among these.
-pub fn check_keys(
-    alloc: Global,
-    table: &Table,
-    known: &[&str],
-    row: RowOf,
-) -> Result<(), DocumentFault> {
-    'keys: for (key, _) in table.iter() {
-        if !(&*known).contains(&key.as_str()) {
+/// Refuses a row with a key that such a row may not have.
+pub fn check_keys(alloc: Global, table: &Table, row: RowOf) -> Result<(), DocumentFault>
+    ensures known { OnOk result (IsTrue (has_only (keys_in row) (table_view table.now))) }
+    ensures unknown { IfErr result (λ fault. fault.wrong ≢ NoMemory
+        → has_only (keys_in row) (table_view table.now) ≡ false) }
+{
+    'entries: for (key, _) in table.iter() {
+        if !row.has_key(key.as_str()) {
             let key = copy(alloc, key.as_str())?;
             return Err(row.whole().fault(Wrong::Unknown(key)));
         }

@@ -1,8 +1,7 @@
-use Rattle.std.proofs.Common.{◌≡◌, ◌∙◌, ◌++◌, ℕ, List, ap, sym, subst, take, arith}
+use Rattle.std.proofs.Common.{◌≡◌, ◌∙◌, ◌++◌, ap, sym, subst, take, arith}
 use Rattle.std.specs.List.{AllZip}
 use Rattle.plan_document.specs.Names.{all_poses, names_in, numbered_poses}
 use Rattle.plan_document.specs.Saying.{IsPoseOf}
-use Rattle.plan_document.specs.declared.document.PoseRow.{PoseRow}
 use Rattle.plan_document.proofs.Growing.{all_poses_more, pose_names_more}
 use Rattle.plan_document.proofs.tables.add_all_poses.Goals as goal
 

@@ -1,4 +1,4 @@
-use Rattle.std.proofs.Common.{◌≡◌, ◌∙◌, ◌++◌, ◌∷◌, [], ap, append_assoc, arith, sym, string_bytes, take}
+use Rattle.std.proofs.Common.{◌∙◌, ◌++◌, ◌∷◌, [], ap, append_assoc, arith, sym, string_bytes, take}
 use Rattle.plan_document.specs.Names.{names_in}
 use Rattle.plan_document.specs.Saying.{IsPoseOf}
 use Rattle.plan_document.proofs.Growing.{names_in_more, poses_more}

@@ -1,5 +1,5 @@
-use Rattle.std.proofs.Common.{◌≡◌, ◌∙◌, map, ap, Some, List, sym}
-use Rattle.toml.specs.Data.{Data, array, get_member}
+use Rattle.std.proofs.Common.{◌≡◌, ◌∙◌, map, ap, Some, sym}
+use Rattle.toml.specs.Data.{array, get_member}
 use Rattle.toml.specs.View.{items_view, table_view, view}
 use Rattle.plan_document.specs.Keys.{key_word}
 use Rattle.plan_document.specs.Reading.{items_in}

@@ -1,7 +1,7 @@
 use Rattle.std.proofs.Common.{◌≡◌, ◌∙◌, map, ap, Some, sym}
 use Rattle.std.specs.Prelude.{String, Vec}
 use Rattle.std.specs.declared.alloc.Global.{Global}
-use Rattle.toml.specs.Data.{Data, array, get_member}
+use Rattle.toml.specs.Data.{array, get_member}
 use Rattle.toml.specs.View.{items_view, table_view, view}
 use Rattle.plan_document.specs.Keys.{key_word}
 use Rattle.plan_document.specs.Reading.{HasTexts, items_at, items_in, written}

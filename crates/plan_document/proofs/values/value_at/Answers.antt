@@ -1,5 +1,4 @@
 use Rattle.toml.proofs.Views.{table_get}
-use Rattle.std.proofs.Common.{subst}
 use Rattle.plan_document.proofs.values.value_at.Goals as goal
 
 pub returns : goal.returns

@@ -1,0 +1,202 @@
+//! The words of faults.
+
+use crate::fault::{DocumentFault, Location, PlanTextFault, RowNames, RowOf, TooWide, Wrong};
+use crate::reading::MAX_BYTES;
+use std::fmt;
+
+/// The most characters of a text that are shown.
+const MAX_SHOWN: usize = 40;
+
+/// What is said of a text that isn't a name.
+const NO_NAME: &str =
+    " isn't a name: a letter, then letters, digits or underscores, lower case, at most 32";
+
+/// What is said of a text that isn't a posture.
+const NO_POSTURE: &str = " isn't a posture; known: closed, moving, openin, openout";
+
+/// What is said of a text that isn't a call.
+const NO_CALL: &str =
+    " isn't a call: claim, give, yield, take or release with a zone, or pose with a pose";
+
+/// A text in quotes: its first 40 characters, and `?` for one that isn't printable ASCII.
+#[derive(Clone, Copy)]
+struct Quoted<'a> {
+    text: &'a str,
+}
+
+impl fmt::Display for Quoted<'_> {
+    fn fmt<W: fmt::Write>(&self, f: &mut fmt::Formatter<W>) -> fmt::Result {
+        f.write_str("\"")?;
+        for letter in self.text.chars().take(MAX_SHOWN) {
+            if letter == ' ' || letter.is_ascii_graphic() {
+                f.write_char(letter)?;
+            } else {
+                f.write_str("?")?;
+            }
+        }
+        if self.text.chars().nth(MAX_SHOWN).is_some() {
+            f.write_str("..")?;
+        }
+        f.write_str("\"")
+    }
+}
+
+/// Writes a row by its name, or else by its number, from 1.
+fn write_row<W: fmt::Write>(
+    f: &mut fmt::Formatter<W>,
+    kind: &str,
+    index: usize,
+    name: &Option<String>,
+) -> fmt::Result {
+    f.write_str(kind)?;
+    match name {
+        Some(name) => f.write_str(name.as_str()),
+        None => {
+            let number = index.saturating_add(1);
+            write!(f, "{number}")
+        }
+    }
+}
+
+/// Writes the rows that a fault is about.
+fn write_rows<W: fmt::Write>(
+    f: &mut fmt::Formatter<W>,
+    row: RowOf,
+    names: &RowNames,
+) -> fmt::Result {
+    match row {
+        RowOf::Document => f.write_str("the document"),
+        RowOf::Machine(machine) => write_row(f, "machine ", machine, &names.row),
+        RowOf::Pose { machine, pose } => {
+            write_row(f, "machine ", machine, &names.row)?;
+            write_row(f, ": pose ", pose, &names.pose)
+        }
+        RowOf::Zone(zone) => write_row(f, "zone ", zone, &names.row),
+    }
+}
+
+/// Writes a fault after its line.
+fn write_fault<W: fmt::Write>(
+    f: &mut fmt::Formatter<W>,
+    names: &RowNames,
+    fault: &DocumentFault,
+) -> fmt::Result {
+    let Location { row, key, .. } = fault.location;
+    write_rows(f, row, names)?;
+    f.write_str(": ")?;
+    if let Some(key) = key {
+        let word = key.word();
+        write!(f, "{word}: ")?;
+    }
+    match &fault.wrong {
+        Wrong::Unknown(key) => write_unknown(f, row, key.as_str()),
+        wrong => write_wrong(wrong, f),
+    }
+}
+
+/// Writes that a row has a key which isn't known, and the known ones.
+fn write_unknown<W: fmt::Write>(f: &mut fmt::Formatter<W>, row: RowOf, text: &str) -> fmt::Result {
+    let quoted = Quoted { text };
+    write!(f, "{quoted} isn't a key here; known: ")?;
+    let mut before = "";
+    for key in row.keys() {
+        f.write_str(before)?;
+        f.write_str(key.word())?;
+        before = ", ";
+    }
+    Ok(())
+}
+
+fn write_wrong<W: fmt::Write>(wrong: &Wrong, f: &mut fmt::Formatter<W>) -> fmt::Result {
+    let (before, text, after) = match wrong {
+        Wrong::NoName(text) => ("", text, NO_NAME),
+        Wrong::Reserved(text) => ("", text, " is a word of scripts, and names no machine"),
+        Wrong::Twice(text) => ("", text, " is defined twice"),
+        Wrong::SameInC(text) => ("for C it is ", text, ", and so is another pose's"),
+        Wrong::NoMachine(text) => ("no machine is named ", text, ""),
+        Wrong::NoZone(text) => ("no zone is named ", text, ""),
+        Wrong::NoPlace(text) => ("no place is named ", text, ""),
+        Wrong::NoPose(text) => ("the machine has no pose ", text, ""),
+        Wrong::NoPosture { word, .. } => ("", word, NO_POSTURE),
+        Wrong::NoCall(text) => ("", text, NO_CALL),
+        Wrong::Never(why, text) => ("", text, why.text()),
+        Wrong::Foreign(text) => ("the machine doesn't host ", text, ""),
+        other => return write_plain(other, f),
+    };
+    f.write_str(before)?;
+    let quoted = Quoted {
+        text: text.as_str(),
+    };
+    write!(f, "{quoted}")?;
+    f.write_str(after)
+}
+
+fn write_plain<W: fmt::Write>(wrong: &Wrong, f: &mut fmt::Formatter<W>) -> fmt::Result {
+    let text = match wrong {
+        Wrong::NoMachines => "there is no [[machine]]",
+        Wrong::Missing => "it is missing",
+        Wrong::NoText => "it takes a text; put quotes round it",
+        Wrong::NoTexts => "it takes a list of texts, such as [\"hand\", \"die\"]",
+        Wrong::NoLines => "it takes a list of texts, such as [\"claim door\", \"release door\"]",
+        Wrong::NoTable => "it takes a table, such as { interior = \"closed\" }",
+        Wrong::NoTables => "it takes a list of tables",
+        Wrong::NoTruth => "it takes true or false",
+        Wrong::NoWay => "it takes two places: from which one, and to which",
+        Wrong::TooMany(most) => return write!(f, "there are more than {most}"),
+        Wrong::TooManyLines(most) => return write!(f, "it has more than {most} lines"),
+        Wrong::HostIsGuest => "the host is its own guest",
+        Wrong::Astray => "it doesn't lead from a place of the giver to one of the receiver",
+        _ => "memory ran out",
+    };
+    f.write_str(text)
+}
+
+impl fmt::Display for PlanTextFault {
+    fn fmt<W: fmt::Write>(&self, f: &mut fmt::Formatter<W>) -> fmt::Result {
+        match self {
+            PlanTextFault::Read => f.write_str("read"),
+            PlanTextFault::Memory => f.write_str("memory"),
+            PlanTextFault::Long => write!(f, "plan long: it has more than {MAX_BYTES} bytes"),
+            PlanTextFault::NoToml { line, message } => {
+                let message = message.as_str();
+                write!(f, "plan line {line}: this isn't TOML: {message}")
+            }
+            PlanTextFault::Row { line, names, fault } => {
+                f.write_str("plan ")?;
+                if let Some(line) = line {
+                    write!(f, "line {line}: ")?;
+                }
+                write_fault(f, names, fault)
+            }
+            PlanTextFault::TooWide(plan) => write!(f, "plan wide: {plan}"),
+        }
+    }
+}
+
+impl fmt::Display for TooWide {
+    /// Says what would help: to leave out places, if there are enough, or zones, of which each takes five bits.
+    fn fmt<W: fmt::Write>(&self, f: &mut fmt::Formatter<W>) -> fmt::Result {
+        let TooWide {
+            zones,
+            places,
+            missing,
+        } = *self;
+        let missing = usize::from(missing);
+        let needed = missing + 64;
+        write_count(f, zones, "zone")?;
+        f.write_str(" and ")?;
+        write_count(f, places, "place")?;
+        write!(f, " need {needed} bits, and 64 fit: leave out ")?;
+        if missing <= places {
+            write_count(f, missing, "place")?;
+            f.write_str(" or ")?;
+        }
+        write_count(f, missing.div_ceil(5), "zone")
+    }
+}
+
+/// Writes how many there are.
+fn write_count<W: fmt::Write>(f: &mut fmt::Formatter<W>, count: usize, kind: &str) -> fmt::Result {
+    let ending = if count == 1 { "" } else { "s" };
+    write!(f, "{count} {kind}{ending}")
+}
