@@ -128,7 +128,7 @@ def differences(verb, text, lines, wanted, status, said):
 
 def is_later_toml(wanted, status, said):
     """Whether only the twin, which reads TOML 1.0, takes an input for no TOML."""
-    return wanted[1] == ("toml",) and not re.match(rb"fault plan line \d+: it is no TOML", said)
+    return wanted[1] == ("toml",) and not re.match(rb"fault plan line \d+: this isn't TOML", said)
 
 
 def kind_of(verb, wanted):
