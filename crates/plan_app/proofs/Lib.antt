@@ -1,3 +1,4 @@
 mod Inputs
 mod Lines
 mod Screens
+mod WordRows

@@ -46,7 +46,7 @@ going_is_shown n ps opening situations answers plates (Err e) are shown = tt
 
 standstill_is_screen : (n : Named) (ps : PlanPrograms) (opening : State) (turns : List ℕ) (screen : Screen)
     → LeadToStandstill n.plan ps opening turns → AreShortest n.plan ps opening turns
-    → ShowsStandstill n (outlook_after n ps opening turns) turns screen → IsScreen n ps opening screen
+    → ShowsStandstill n ps opening (outlook_after n ps opening turns) turns screen → IsScreen n ps opening screen
 standstill_is_screen n ps opening turns (Free text) lead shortest shown = absurd shown
 standstill_is_screen n ps opening turns (Standstill text) lead shortest shown = record {
   turns = turns;
@@ -57,7 +57,7 @@ standstill_is_screen n ps opening turns (Standstill text) lead shortest shown = 
 
 pub standstill_is_shown : {E : Type 0} (n : Named) (ps : PlanPrograms) (opening : State) (turns : List ℕ)
     (r : Result Screen E) → LeadToStandstill n.plan ps opening turns → AreShortest n.plan ps opening turns
-    → IfOk r (λ screen. ShowsStandstill n (outlook_after n ps opening turns) turns screen)
+    → IfOk r (λ screen. ShowsStandstill n ps opening (outlook_after n ps opening turns) turns screen)
     → IfOk r (λ screen. IsScreen n ps opening screen)
 standstill_is_shown n ps opening turns (Ok screen) lead shortest shown =
     standstill_is_screen n ps opening turns screen lead shortest shown
@@ -80,7 +80,7 @@ free_is_found n ps opening t found situations r same is none runs come shown =
 pub standstill_is_found : {E : Type 0} (n : Named) (ps : PlanPrograms) (opening : State) (t : PlanTable)
     (turns told : List ℕ) (r : Result Screen E) → t ≡ n.plan → told ≡ turns → LeadToStandstill t ps opening turns
     → AreShortest t ps opening turns
-    → IfOk r (λ screen. ShowsStandstill n (outlook_after n ps opening told) told screen)
+    → IfOk r (λ screen. ShowsStandstill n ps opening (outlook_after n ps opening told) told screen)
     → IfOk r (λ screen. IsScreen n ps opening screen)
 standstill_is_found n ps opening t turns told r same all lead shortest shown =
     standstill_is_shown n ps opening told r

@@ -21,9 +21,10 @@ use Rattle.plan_liveness.specs.declared.answer.Progress.{Progress}
 use Rattle.plan_liveness.specs.declared.answer.Progress.TheVariants as progress
 use Rattle.plan_liveness.specs.declared.answer.Relay.{Relay}
 use Rattle.plan_text.specs.Answers.{answer_text}
+use Rattle.plan_text.specs.Calls.{call_text}
 use Rattle.plan_text.specs.Names.{Text}
 use Rattle.plan_text.specs.Named.{Named}
-use Rattle.plan_app.specs.Words.{call_text, machine_name, turn_word}
+use Rattle.plan_app.specs.Words.{machine_name}
 use Rattle.plan_app.specs.declared.going.TheConstants.{AGAIN, BRINGS, FAIRNESS, TURNS}
 
 -- ---- how soon
@@ -117,32 +118,37 @@ news n last now = if same_outlook now last then [] else outlook_line n now
 abbrev pub step_text : Named → Option Event → Option Event → Option Event → Text
 step_text n last now asked = news n last now ++ asked_line n asked
 
-abbrev pub cycle_text : Named → PlanPrograms → Option ℕ → Situation → Option Event → List ℕ → Text
-cycle_text n ps who at last [] = []
-cycle_text n ps who at last (m ∷ ms) =
+-- turn by turn what is asked
+abbrev pub walk_text : Named → PlanPrograms → Option ℕ → Situation → Option Event → List ℕ → Text
+walk_text n ps who at last [] = []
+walk_text n ps who at last (m ∷ ms) =
     step_text n last (outlook_at n ps who at) (event_of n.plan ps at m)
-    ++ cycle_text n ps who (turn_of n.plan ps at m) (outlook_at n ps who at) ms
+    ++ walk_text n ps who (turn_of n.plan ps at m) (outlook_at n ps who at) ms
+
+-- what turns from an opening ask
+abbrev pub way_text : Named → PlanPrograms → State → List ℕ → Text
+way_text n ps opening turns = walk_text n ps None (first_situation opening) None turns
 
 abbrev pub after_all : Named → PlanPrograms → State → List ℕ → Situation
 after_all n ps opening turns = after_turns n.plan ps (first_situation opening) turns
 
--- whose turns lead into a cycle
-abbrev pub way_text : Named → FairOrder → Text
-way_text n order = flat_map (turn_word n) order.stem.items ++ AGAIN.now
+-- what comes first, and leads into a cycle
+abbrev pub stem_text : Named → PlanPrograms → State → FairOrder → Text
+stem_text n ps opening order = way_text n ps opening order.stem.items ++ AGAIN.now
 
--- and then turn by turn what comes again and again
+-- and then what comes again and again
 abbrev pub loop_text : Named → PlanPrograms → State → Option ℕ → FairOrder → Text
 loop_text n ps opening who order =
-    cycle_text n ps who (after_all n ps opening order.stem.items) None order.cycle.items
+    walk_text n ps who (after_all n ps opening order.stem.items) None order.cycle.items
 
 abbrev pub order_text : Named → PlanPrograms → State → Option ℕ → FairOrder → Text
-order_text n ps opening who order = way_text n order ++ loop_text n ps opening who order
+order_text n ps opening who order = stem_text n ps opening order ++ loop_text n ps opening who order
 
 -- ---- what is said of each machine, and of plates
 
 abbrev pub starves_text : Named → PlanPrograms → State → ℕ → FairOrder → Text
 starves_text n ps opening machine order =
-    codes "  a fair order in which it starves: first" ++ order_text n ps opening (Some machine) order
+    codes "  a fair order in which it starves: first\n" ++ order_text n ps opening (Some machine) order
 
 abbrev pub starving_text : Named → PlanPrograms → State → ℕ → Liveness → Text
 starving_text n ps opening machine liveness.Silent = []
@@ -172,7 +178,7 @@ moving_text bound = codes "plates move for ever in each fair order: " ++ within_
 
 abbrev pub resting_text : Named → PlanPrograms → State → FairOrder → Text
 resting_text n ps opening order =
-    codes "plates may rest for ever\n  a fair order in which none moves: first" ++ order_text n ps opening None order
+    codes "plates may rest for ever\n  a fair order in which none moves: first\n" ++ order_text n ps opening None order
 
 abbrev pub plates_text : Named → PlanPrograms → State → Progress → Text
 plates_text n ps opening (progress.Within bound) = moving_text bound

@@ -6,3 +6,4 @@ pub mod Headers
 pub mod Going
 pub mod Screens
 pub mod Served
+pub mod WordExamples

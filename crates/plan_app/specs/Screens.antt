@@ -13,10 +13,11 @@ use Rattle.plan_liveness.specs.declared.answer.Progress.{Progress}
 use Rattle.plan_liveness.specs.Answers.{IfStarves, IfWithin, IsLiveness}
 use Rattle.plan_liveness.specs.Plates.{PlatesMove, PlatesRest}
 use Rattle.plan_text.specs.Answers.{answer_text}
+use Rattle.plan_text.specs.Calls.{call_text}
 use Rattle.plan_text.specs.Names.{Text}
 use Rattle.plan_text.specs.Named.{Named}
-use Rattle.plan_app.specs.Going.{going_text}
-use Rattle.plan_app.specs.Words.{call_text, counted, machine_name, turn_word}
+use Rattle.plan_app.specs.Going.{going_text, way_text}
+use Rattle.plan_app.specs.Words.{counted, machine_name}
 use Rattle.plan_app.specs.declared.explore.TheConstants.{FREE, SHORTEST, STANDSTILL}
 use Rattle.plan_app.specs.declared.explore.Screen.{Screen}
 use Rattle.plan_app.specs.declared.explore.Screen.TheVariants.{Free, Standstill}
@@ -32,13 +33,13 @@ wait_line n e =
     machine_name n e.machine ++ (codes " waits: " ++ (call_text n e.call
     ++ (codes ": " ++ (answer_text n e.answer ++ codes "\n"))))
 
--- whose turns lead to it
-abbrev pub turns_line : Named → List ℕ → Text
-turns_line n turns = codes "turns:" ++ (flat_map (turn_word n) turns ++ codes "\n")
+-- what the turns that lead to it ask
+abbrev pub turns_text : Named → PlanPrograms → State → List ℕ → Text
+turns_text n ps opening turns = codes "turns:\n" ++ way_text n ps opening turns
 
-abbrev pub standstill_text : Named → List ℕ → List Event → Text
-standstill_text n turns waiting =
-    count_line (length turns) ++ (flat_map (wait_line n) waiting ++ turns_line n turns)
+abbrev pub standstill_text : Named → PlanPrograms → State → List ℕ → List Event → Text
+standstill_text n ps opening turns waiting =
+    count_line (length turns) ++ (flat_map (wait_line n) waiting ++ turns_text n ps opening turns)
 
 -- what the machines ask after turns from an opening
 abbrev pub outlook_after : Named → PlanPrograms → State → List ℕ → List Event
@@ -49,7 +50,7 @@ pub record TellsStandstill (n : Named) (ps : PlanPrograms) (opening : State) (te
   pub turns : List ℕ
   pub lead : LeadToStandstill n.plan ps opening turns
   pub shortest : AreShortest n.plan ps opening turns
-  pub told : text ≡ standstill_text n turns (outlook_after n ps opening turns)
+  pub told : text ≡ standstill_text n ps opening turns (outlook_after n ps opening turns)
 
 -- ---- no standstill
 
@@ -72,8 +73,8 @@ pub record AreAnswers (n : Named) (ps : PlanPrograms) (opening : State) (answers
   pub moving : MoveOn n ps opening plates
   pub resting : MayRest n ps opening plates
 
--- In no order of turns is there a standstill, and the machines come to so many situations. What is said of machines
--- that go on is what explorations answer.
+-- In no order of turns is there a standstill, and `situations` is the number of situations that the machines come to.
+-- What is said of machines that go on is what explorations answer.
 pub record TellsFree (n : Named) (ps : PlanPrograms) (opening : State) (text : Text) : Type 0 where
   pub free : NoneStandsStill n.plan ps opening
   pub runs : NoRunStandsStill n.plan ps opening
@@ -100,6 +101,7 @@ ShowsGoing n ps opening situations screen =
     (answers : List Liveness) × (plates : Progress) × AreAnswers n ps opening answers plates
     × ShowsFree situations (going_text n ps opening answers plates) screen
 
-abbrev pub ShowsStandstill : Named → List Event → List ℕ → Screen → Type 0
-ShowsStandstill n waiting turns (Free text) = ⊥
-ShowsStandstill n waiting turns (Standstill text) = string_bytes text ≡ standstill_text n turns waiting
+abbrev pub ShowsStandstill : Named → PlanPrograms → State → List Event → List ℕ → Screen → Type 0
+ShowsStandstill n ps opening waiting turns (Free text) = ⊥
+ShowsStandstill n ps opening waiting turns (Standstill text) =
+    string_bytes text ≡ standstill_text n ps opening turns waiting

@@ -7,10 +7,9 @@ ghost use Rattle.plan_liveness.specs.declared.answer.Liveness.{Liveness};
 ghost use Rattle.plan_liveness.specs.Answers.{IsLiveness};
 ghost use Rattle.plan_app.specs.Going.{going_text};
 ghost use Rattle.plan_app.specs.Screens as spec;
-ghost use Rattle.plan_app.specs.Words.{turn_word};
 
-use crate::going::push_all;
-use crate::words::{push_call, push_counted};
+use crate::going::{push_all, push_way};
+use crate::words::push_counted;
 use plan_document::ProgrammedPlan;
 use plan_explorer::{Explored, Programs, explore, take_turns};
 use plan_liveness::{Liveness, Progress, explore_machines, explore_plates};
@@ -49,9 +48,7 @@ pub fn screen_of(
     let ProgrammedPlan { named, programs } = plan;
     match explore(alloc, named.plan(), opening, programs)? {
         Explored::Free(situations) => free_screen(alloc, plan, opening, situations),
-        Explored::Standstill(turns) => {
-            standstill_screen(alloc, named, programs, opening, turns.as_slice())
-        }
+        Explored::Standstill(turns) => { standstill_screen(alloc, plan, opening, turns.as_slice()) }
     }
 }
 
@@ -141,19 +138,18 @@ fn push_situations(text: &mut String, situations: usize) -> Result<(), AllocErro
     text.push_str("\n")
 }
 
-/// What is printed of turns that lead to a standstill: whose turns they are, and what each machine asks at their end.
+/// What is printed of turns that lead to a standstill: what they ask, and what each machine asks at their end.
 fn standstill_screen(
     alloc: Global,
-    named: &NamedPlan,
-    programs: &Programs,
+    plan: &ProgrammedPlan,
     opening: &State,
     turns: &[u8],
 ) -> Result<Screen, AllocError>
-    ensures { IfOk result (λ screen. spec.ShowsStandstill named.now
-        (spec.outlook_after named.now programs.now opening.now turns.now) turns.now screen) }
+    ensures { IfOk result (λ screen. spec.ShowsStandstill plan.now.named plan.now.programs opening.now
+        (spec.outlook_after plan.now.named plan.now.programs opening.now turns.now) turns.now screen) }
 {
-    let waiting = waiting_after(alloc, named, programs, opening, turns)?;
-    standstill_text(alloc, named, turns, waiting.as_slice())
+    let waiting = waiting_after(alloc, &plan.named, &plan.programs, opening, turns)?;
+    standstill_text(alloc, plan, opening, turns, waiting.as_slice())
 }
 
 /// What each machine asks after turns from an opening.
@@ -174,30 +170,33 @@ fn waiting_after(
 /// The text of a standstill.
 fn standstill_text(
     alloc: Global,
-    named: &NamedPlan,
+    plan: &ProgrammedPlan,
+    opening: &State,
     turns: &[u8],
     waiting: &[Event],
 ) -> Result<Screen, AllocError>
-    ensures { IfOk result (λ screen. spec.ShowsStandstill named.now waiting.now turns.now screen) }
+    ensures { IfOk result (λ screen. spec.ShowsStandstill plan.now.named plan.now.programs opening.now
+        waiting.now turns.now screen) }
 {
     let mut text = String::new(alloc);
-    push_standstill(&mut text, named, turns, waiting)?;
+    push_standstill(&mut text, plan, opening, turns, waiting)?;
     Ok(Screen::Standstill(text))
 }
 
 /// Adds what is said of a standstill.
 fn push_standstill(
     text: &mut String,
-    named: &NamedPlan,
+    plan: &ProgrammedPlan,
+    opening: &State,
     turns: &[u8],
     waiting: &[Event],
 ) -> Result<(), AllocError>
-    ensures { OnOk result (string_bytes text.new
-        ≡ string_bytes text.old ++ spec.standstill_text named.now turns.now waiting.now) }
+    ensures { OnOk result (string_bytes text.new ≡ string_bytes text.old
+        ++ spec.standstill_text plan.now.named plan.now.programs opening.now turns.now waiting.now) }
 {
     push_count(text, turns.len())?;
-    push_waiting(text, named, waiting)?;
-    push_turns(text, named, turns)
+    push_waiting(text, &plan.named, waiting)?;
+    push_turns(text, plan, opening, turns)
 }
 
 /// Adds how many turns lead to a standstill.
@@ -226,30 +225,22 @@ fn push_wait(text: &mut String, named: &NamedPlan, event: &Event) -> Result<(), 
 {
     text.push_str(named.machines().name(event.machine))?;
     text.push_str(" waits: ")?;
-    push_call(text, named, event.call)?;
+    named.push_call(text, event.call)?;
     text.push_str(": ")?;
     named.push_answer(text, event.answer)?;
     text.push_str("\n")
 }
 
-/// Adds a line with the machines whose turns they are.
-fn push_turns(text: &mut String, named: &NamedPlan, turns: &[u8]) -> Result<(), AllocError>
-    ensures { OnOk result
-        (string_bytes text.new ≡ string_bytes text.old ++ spec.turns_line named.now turns.now) }
+/// Adds what the turns that lead to a standstill ask.
+fn push_turns(
+    text: &mut String,
+    plan: &ProgrammedPlan,
+    opening: &State,
+    turns: &[u8],
+) -> Result<(), AllocError>
+    ensures { OnOk result (string_bytes text.new ≡ string_bytes text.old
+        ++ spec.turns_text plan.now.named plan.now.programs opening.now turns.now) }
 {
-    text.push_str("turns:")?;
-    push_machines(text, named, turns)?;
-    text.push_str("\n")
-}
-
-/// Adds these machines.
-fn push_machines(text: &mut String, named: &NamedPlan, turns: &[u8]) -> Result<(), AllocError>
-    ensures { OnOk result
-        (string_bytes text.new ≡ string_bytes text.old ++ flat_map (turn_word named.now) turns.now) }
-{
-    'machines: for machine in turns {
-        text.push_str(" ")?;
-        text.push_str(named.machines().name(*machine))?;
-    }
-    Ok(())
+    text.push_str("turns:\n")?;
+    push_way(text, plan, opening, turns)
 }

@@ -1,10 +1,8 @@
 //! What `plan explore` prints where nothing stands still: whether each machine goes on for ever.
-ghost use Rattle.std.specs.Prelude.{◌≡◌, ◌++◌, None, OnOk, flat_map, string_bytes};
+ghost use Rattle.std.specs.Prelude.{◌≡◌, ◌++◌, None, OnOk, string_bytes};
 ghost use Rattle.plan_explorer.specs.Walks as walks;
 ghost use Rattle.plan_app.specs.Going as spec;
-ghost use Rattle.plan_app.specs.Words.{turn_word};
 
-use crate::words::push_call;
 use plan_document::ProgrammedPlan;
 use plan_explorer::Situation;
 use plan_explorer::turning::{call_of, turn};
@@ -27,7 +25,7 @@ const TURNS: &str = ") turns; ";
 const BRINGS: &str = " brings it chances\n";
 
 /// What stands between the turns that lead into a cycle and those that come again and again.
-const AGAIN: &str = "\n  and then again and again\n";
+const AGAIN: &str = "  and then again and again\n";
 
 /// Adds what is said of machines that go on, and of plates.
 pub fn push_all(
@@ -303,7 +301,7 @@ fn push_resting(
     ensures { OnOk result (string_bytes text.new ≡ string_bytes text.old
         ++ spec.resting_text plan.now.named plan.now.programs opening.now order.now) }
 {
-    text.push_str("plates may rest for ever\n  a fair order in which none moves: first")?;
+    text.push_str("plates may rest for ever\n  a fair order in which none moves: first\n")?;
     push_turns(text, plan, opening, None, order)
 }
 
@@ -318,12 +316,11 @@ fn push_order(
     ensures { OnOk result (string_bytes text.new ≡ string_bytes text.old
         ++ spec.starves_text plan.now.named plan.now.programs opening.now machine order.now) }
 {
-    text.push_str("  a fair order in which it starves: first")?;
+    text.push_str("  a fair order in which it starves: first\n")?;
     push_turns(text, plan, opening, Some(machine), order)
 }
 
-/// Adds the turns of an order: whose lead into a cycle, and then turn by turn what comes again and
-/// again.
+/// Adds what is asked in an order, turn by turn: first, and then again and again.
 fn push_turns(
     text: &mut String,
     plan: &ProgrammedPlan,
@@ -334,16 +331,35 @@ fn push_turns(
     ensures { OnOk result (string_bytes text.new ≡ string_bytes text.old
         ++ spec.order_text plan.now.named plan.now.programs opening.now machine order.now) }
 {
-    push_way(text, &plan.named, order)?;
+    push_stem(text, plan, opening, order)?;
     push_loop(text, plan, opening, machine, order)
 }
 
-/// Adds whose turns lead into a cycle.
-fn push_way(text: &mut String, named: &NamedPlan, order: &FairOrder) -> Result<(), AllocError>
-    ensures { OnOk result (string_bytes text.new ≡ string_bytes text.old ++ spec.way_text named.now order.now) }
+/// Adds what comes first in an order.
+fn push_stem(
+    text: &mut String,
+    plan: &ProgrammedPlan,
+    opening: &State,
+    order: &FairOrder,
+) -> Result<(), AllocError>
+    ensures { OnOk result (string_bytes text.new ≡ string_bytes text.old
+        ++ spec.stem_text plan.now.named plan.now.programs opening.now order.now) }
 {
-    push_stem(text, named, order.stem.as_slice())?;
+    push_way(text, plan, opening, order.stem.as_slice())?;
     text.push_str(AGAIN)
+}
+
+/// Adds what turns from an opening ask, and are answered.
+pub fn push_way(
+    text: &mut String,
+    plan: &ProgrammedPlan,
+    opening: &State,
+    turns: &[u8],
+) -> Result<(), AllocError>
+    ensures { OnOk result (string_bytes text.new ≡ string_bytes text.old
+        ++ spec.way_text plan.now.named plan.now.programs opening.now turns.now) }
+{
+    push_walk(text, plan, Situation::first(opening), None, turns)
 }
 
 /// Adds what comes again and again.
@@ -358,18 +374,7 @@ fn push_loop(
         ++ spec.loop_text plan.now.named plan.now.programs opening.now machine order.now) }
 {
     let at = end_of(plan, opening, order.stem.as_slice());
-    push_cycle(text, plan, at, machine, order.cycle.as_slice())
-}
-
-/// Adds whose turns these are.
-fn push_stem(text: &mut String, named: &NamedPlan, stem: &[u8]) -> Result<(), AllocError>
-    ensures { OnOk result (string_bytes text.new ≡ string_bytes text.old ++ flat_map (turn_word named.now) stem.now) }
-{
-    'turners: for turner in stem {
-        text.push_str(" ")?;
-        text.push_str(named.machines().name(*turner))?;
-    }
-    Ok(())
+    push_walk(text, plan, at, machine, order.cycle.as_slice())
 }
 
 /// The situation after these turns.
@@ -383,21 +388,21 @@ fn end_of(plan: &ProgrammedPlan, opening: &State, turns: &[u8]) -> Situation
     at
 }
 
-/// Adds what each turn of a cycle asks, and what a machine that starves would be answered, as often
-/// as that changes.
-fn push_cycle(
+/// Adds what each of these turns asks, and what a machine that starves would be answered, as often as
+/// that changes.
+fn push_walk(
     text: &mut String,
     plan: &ProgrammedPlan,
     start: Situation,
     machine: Option<u8>,
-    cycle: &[u8],
+    turns: &[u8],
 ) -> Result<(), AllocError>
     ensures { OnOk result (string_bytes text.new ≡ string_bytes text.old
-        ++ spec.cycle_text plan.now.named plan.now.programs machine start None cycle.now) }
+        ++ spec.walk_text plan.now.named plan.now.programs machine start None turns.now) }
 {
     let mut at = start;
     let mut last = None;
-    'turners: for turner in cycle {
+    'turners: for turner in turns {
         let outlook = outlook_of(plan, &at, machine);
         push_step(
             text,
@@ -501,7 +506,7 @@ fn push_event(
     text.push_str("  ")?;
     text.push_str(named.machines().name(event.machine))?;
     text.push_str(words)?;
-    push_call(text, named, event.call)?;
+    named.push_call(text, event.call)?;
     text.push_str(": ")?;
     named.push_answer(text, event.answer)?;
     text.push_str("\n")

@@ -5,6 +5,7 @@ pub mod explore;
 pub mod going;
 pub mod header;
 pub mod input;
+pub mod laws;
 pub mod report;
 pub mod request;
 pub mod serve;

@@ -27,6 +27,7 @@ use plan_text::{NamedPlan, Outcome, ScriptAnswers, answer_script, start_of_scrip
 use program_shell::{Exit, fail, print, print_version, refuse_words, with_texts};
 use std::alloc::{AllocError, Global};
 use std::env::Env;
+use std::fmt::Display;
 use std::io::{Read, Write};
 use text_io::{InputFault, read_up_to};
 
@@ -48,6 +49,9 @@ Example:
   cat examples/plans/press.toml examples/plans/press.csv | plan replay
 ";
 
+// The help names this number.
+const _: () = prove!(MAX_SITUATIONS == 1_000_000);
+
 /// What is printed for other words.
 const OTHER_WORDS: &str =
     "error: the only argument is check, replay, explore, header, --help or --version\n";
@@ -68,6 +72,16 @@ fn fail_to_read<W: Write>(writer: &mut W, fault: InputFault) -> Exit
     match fault {
         InputFault::Read => fail(writer, "read"),
         InputFault::Memory => fail(writer, "memory"),
+    }
+}
+
+/// Prints the line of a fault that says where it is.
+fn fail_as<W: Write, D: Display + Drop>(alloc: Global, writer: &mut W, fault: D) -> Exit
+    ensures { result ≡ Exit.Failed }
+{
+    match format!(in alloc; "{fault}") {
+        Ok(text) => fail(writer, text.as_str()),
+        Err(AllocError) => fail(writer, "memory"),
     }
 }
 
@@ -114,7 +128,7 @@ fn serve_bytes<W: Write>(alloc: Global, request: Request, bytes: &[u8], writer: 
     let (document, script) = bytes.split_at(plan_length(bytes));
     match plan_of(alloc, document) {
         Ok(plan) => serve_plan(alloc, request, plan, script, writer),
-        Err(fault) => fail(writer, fault),
+        Err(fault) => fail_as(alloc, writer, fault),
     }
 }
 
@@ -189,7 +203,7 @@ fn explore_script<W: Write>(
 {
     match start_of_script(alloc, &plan.named, script) {
         Ok(Ok(opening)) => explore_from(alloc, plan, &opening, writer),
-        Ok(Err(fault)) => fail(writer, fault),
+        Ok(Err(fault)) => fail_as(alloc, writer, fault),
         Err(fault) => fail_to_read(writer, fault),
     }
 }

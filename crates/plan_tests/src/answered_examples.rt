@@ -204,7 +204,22 @@ const STANDSTILL: &str = "\
 a standstill after 15 turns, and no fewer
 loader waits: give interior: wrongway
 press waits: claim interior: held loader
-turns: press press press press loader loader press press press press press press loader loader loader
+turns:
+  press asks: claim interior: done
+  press asks: pose travelling: done
+  press asks: pose load: done
+  press asks: release interior: done
+  loader asks: claim interior: done
+  loader asks: give interior: done
+  press asks: take interior: done
+  press asks: pose travelling: done
+  press asks: pose closed: done
+  press asks: pose travelling: done
+  press asks: pose unload: done
+  press asks: give interior: done
+  loader asks: take interior: done
+  loader asks: release interior: done
+  loader asks: claim interior: done
 ";
 
 #[test]
@@ -234,7 +249,8 @@ inward = [\"hand\", \"die\"]
 const WAITS_AT_ONCE: &str = "\
 a standstill after 1 turn, and no fewer
 press waits: take interior: noplate
-turns: press
+turns:
+  press asks: claim interior: done
 ";
 
 const RESTS: &str = "\

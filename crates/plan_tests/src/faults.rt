@@ -394,7 +394,7 @@ const PROGRAMS: &[(usize, &[u8], u8, &str)] = &[
         255,
         b"explore",
         1,
-        "a standstill after 1 turn, and no fewer\nc waits: claim y: already\nturns: c\n",
+        "a standstill after 1 turn, and no fewer\nc waits: claim y: already\nturns:\n  c asks: claim y: done\n",
     ),
     (256, b"explore", 1, LONG),
     (257, b"replay", 1, LONG),

@@ -65,7 +65,12 @@ guest = \"south_train\"
 const JUNCTION_GOES: &str = "\
 no standstill in any order of turns before the last stamp: 17 situations
 points goes on for ever if it isn't passed over for ever: within k * 1 + k * k * 1 turns
-  a fair order in which it starves: first points points points points points
+  a fair order in which it starves: first
+  points asks: claim north_road: done
+  points asks: claim south_road: done
+  points asks: pose switching: done
+  points asks: pose set_north: done
+  points asks: release north_road: done
   and then again and again
   points could go on: claim north_road: done
   north_train asks: claim north_road: done
@@ -73,7 +78,10 @@ points goes on for ever if it isn't passed over for ever: within k * 1 + k * k *
   north_train asks: release north_road: done
 north_train goes on for ever if neither it nor points is passed over for ever: within k * 10 * \
      (k * 1 + k * k * 1) turns; points brings it chances
-  a fair order in which it starves: first points points points
+  a fair order in which it starves: first
+  points asks: claim north_road: done
+  points asks: claim south_road: done
+  points asks: pose switching: done
   and then again and again
   north_train waits: claim north_road: held points
   points asks: pose set_north: done
@@ -94,7 +102,10 @@ north_train goes on for ever if neither it nor points is passed over for ever: w
   points asks: pose switching: done
 south_train goes on for ever if neither it nor points is passed over for ever: within k * 10 * \
      (k * 1 + k * k * 1) turns; points brings it chances
-  a fair order in which it starves: first points points points
+  a fair order in which it starves: first
+  points asks: claim north_road: done
+  points asks: claim south_road: done
+  points asks: pose switching: done
   and then again and again
   south_train waits: claim south_road: held points
   points asks: pose set_north: done
@@ -243,10 +254,29 @@ outward = [\"right_die\", \"right_hand\"]
 const TWO_PRESSES_GO: &str = "\
 no standstill in any order of turns before the last stamp: 860 situations
 left_arm goes on for ever if it isn't passed over for ever: within k * 22 + k * k * 5 turns
-  a fair order in which it starves: first left_arm left_arm left_arm left_press left_press \
-     left_press left_press left_arm left_press left_press left_press left_press left_press \
-     left_press left_arm left_arm left_press left_press left_press left_press right_press \
-     right_press
+  a fair order in which it starves: first
+  left_arm asks: claim rack: done
+  left_arm asks: pose sharing: done
+  left_arm asks: release rack: done
+  left_press asks: claim left: done
+  left_press asks: pose travelling: done
+  left_press asks: pose load: done
+  left_press asks: yield left: done
+  left_arm asks: give left: done
+  left_press asks: take left: done
+  left_press asks: pose travelling: done
+  left_press asks: pose forge: done
+  left_press asks: pose travelling: done
+  left_press asks: pose unload: done
+  left_press asks: give left: done
+  left_arm asks: take left: done
+  left_arm asks: release left: done
+  left_press asks: claim left: done
+  left_press asks: pose travelling: done
+  left_press asks: pose load: done
+  left_press asks: yield left: done
+  right_press asks: claim right: done
+  right_press asks: pose travelling: done
   and then again and again
   left_arm could go on: claim rack: done
   right_arm asks: claim rack: done
@@ -267,8 +297,15 @@ left_arm goes on for ever if it isn't passed over for ever: within k * 22 + k * 
   right_press asks: claim right: done
   right_press asks: pose travelling: done
 right_arm goes on for ever if it isn't passed over for ever: within k * 22 + k * k * 6 turns
-  a fair order in which it starves: first left_arm left_arm left_press left_press right_press \
-     right_press right_press right_press
+  a fair order in which it starves: first
+  left_arm asks: claim rack: done
+  left_arm asks: pose sharing: done
+  left_press asks: claim left: done
+  left_press asks: pose travelling: done
+  right_press asks: claim right: done
+  right_press asks: pose travelling: done
+  right_press asks: pose load: done
+  right_press asks: yield right: done
   and then again and again
   right_arm waits: claim rack: held left_arm
   left_arm asks: release rack: done
@@ -291,10 +328,29 @@ right_arm goes on for ever if it isn't passed over for ever: within k * 22 + k *
   left_press asks: pose travelling: done
 left_press goes on for ever if left_arm isn't passed over for ever: within k * 27 + k * k * 5 \
      turns
-  a fair order in which it starves: first left_arm left_arm left_arm left_press left_press \
-     left_press left_press left_arm left_press left_press left_press left_press left_press \
-     left_press left_arm left_arm left_press left_press left_press left_press right_press \
-     right_press
+  a fair order in which it starves: first
+  left_arm asks: claim rack: done
+  left_arm asks: pose sharing: done
+  left_arm asks: release rack: done
+  left_press asks: claim left: done
+  left_press asks: pose travelling: done
+  left_press asks: pose load: done
+  left_press asks: yield left: done
+  left_arm asks: give left: done
+  left_press asks: take left: done
+  left_press asks: pose travelling: done
+  left_press asks: pose forge: done
+  left_press asks: pose travelling: done
+  left_press asks: pose unload: done
+  left_press asks: give left: done
+  left_arm asks: take left: done
+  left_arm asks: release left: done
+  left_press asks: claim left: done
+  left_press asks: pose travelling: done
+  left_press asks: pose load: done
+  left_press asks: yield left: done
+  right_press asks: claim right: done
+  right_press asks: pose travelling: done
   and then again and again
   left_press waits: take left: notowner left_arm
   right_arm asks: claim rack: done
@@ -314,8 +370,15 @@ left_press goes on for ever if left_arm isn't passed over for ever: within k * 2
   right_press asks: pose travelling: done
 right_press goes on for ever if right_arm isn't passed over for ever: within k * 27 + k * k * 6 \
      turns
-  a fair order in which it starves: first left_arm left_arm left_press left_press right_press \
-     right_press right_press right_press
+  a fair order in which it starves: first
+  left_arm asks: claim rack: done
+  left_arm asks: pose sharing: done
+  left_press asks: claim left: done
+  left_press asks: pose travelling: done
+  right_press asks: claim right: done
+  right_press asks: pose travelling: done
+  right_press asks: pose load: done
+  right_press asks: yield right: done
   and then again and again
   right_press waits: take right: notowner right_arm
   left_arm asks: release rack: done
@@ -475,7 +538,9 @@ guest = \"cart\"
 const DOCK_GOES: &str = "\
 no standstill in any order of turns before the last stamp: 7 situations
 cart goes on for ever if it isn't passed over for ever: within k * 3 + k * k * 3 turns
-  a fair order in which it starves: first door door
+  a fair order in which it starves: first
+  door asks: claim dock: done
+  door asks: pose swinging: done
   and then again and again
   cart waits: claim dock: held door
   door asks: pose open: done
@@ -485,7 +550,11 @@ cart goes on for ever if it isn't passed over for ever: within k * 3 + k * k * 3
   cart waits: claim dock: held door
   door asks: pose swinging: done
 door goes on for ever if it isn't passed over for ever: within k * 1 + k * k * 1 turns
-  a fair order in which it starves: first door door door door
+  a fair order in which it starves: first
+  door asks: claim dock: done
+  door asks: pose swinging: done
+  door asks: pose open: done
+  door asks: release dock: done
   and then again and again
   door could go on: claim dock: done
   cart asks: claim dock: done
@@ -497,7 +566,12 @@ door goes on for ever if it isn't passed over for ever: within k * 1 + k * k * 1
 const ONE_PRESS_GOES: &str = "\
 no standstill in any order of turns before the last stamp: 44 situations
 left_arm may starve though no machine is passed over for ever
-  a fair order in which it starves: first left_arm left_arm left_arm right_press right_press
+  a fair order in which it starves: first
+  left_arm asks: claim rack: done
+  left_arm asks: pose sharing: done
+  left_arm asks: release rack: done
+  right_press asks: claim right: done
+  right_press asks: pose travelling: done
   and then again and again
   left_arm waits: give left: notowner free
   right_arm asks: claim rack: done

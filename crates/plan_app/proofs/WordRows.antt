@@ -1,0 +1,19 @@
+-- The examples of `words_are_told`.
+use Rattle.std.proofs.Common.{refl}
+use Rattle.std.specs.Fmt.{digits}
+use Rattle.plan_app.specs.WordExamples.{WordsAreTold}
+
+pub words-told : WordsAreTold
+unfolding digits
+words-told = record {
+  silent = λ t. refl;
+  always = λ t. refl;
+  if_it = λ t order. refl;
+  if_other = λ t order. refl;
+  if_all = λ t order. refl;
+  if_it_by_relay = λ t order. refl;
+  if_two = λ t order. refl;
+  starves = λ t order. refl;
+  unknown = λ t reason. refl;
+  plates = refl;
+}
