@@ -5,6 +5,7 @@
 pub mod bound;
 pub mod ending;
 pub mod every_start;
+pub mod laws;
 pub mod request;
 pub mod ring;
 pub mod schedule;

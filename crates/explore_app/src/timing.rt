@@ -1,10 +1,9 @@
 //! How long the program took.
 
-use program_shell::print_prefix;
 use std::io;
 use std::io::Write;
 use std::time::{Clock, Instant};
-use text_io::Page;
+use text_io::{Page, write_text};
 
 /// Writes to `progress` how long it is since work began, in seconds and thousandths, such as `took
 /// 0.250 s`. Where the clock can't be read it writes nothing.
@@ -19,6 +18,6 @@ pub fn tell_time<C: Clock, P: Write>(clock: &C, begun: io::Result<Instant>, prog
     let thousandths = taken.subsec_millis();
     let mut page = Page::new();
     if writeln!(page, "took {seconds}.{thousandths:03} s").is_ok() {
-        print_prefix(progress, page.as_bytes());
+        let _ = write_text(progress, page.as_bytes());
     }
 }

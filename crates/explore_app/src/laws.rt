@@ -1,0 +1,13 @@
+//! Laws of the starts that are explored, each the contract of a function that does nothing.
+
+ghost use Rattle.explore_app.specs.Starts.{StartsAreAll, StartsAreCounted};
+
+/// Each start is among those that are explored with its number of plates.
+pub fn starts_are_all()
+    ensures { StartsAreAll }
+{}
+
+/// How many starts there are with each number of plates: 1, 10, 44, 112, 182, 196 and 140.
+pub fn starts_are_counted()
+    ensures { StartsAreCounted }
+{}
