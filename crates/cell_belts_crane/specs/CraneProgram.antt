@@ -1,6 +1,6 @@
 -- The crane's program, row by row.
 use Rattle.std.specs.Prelude.{◌≡◌, ◌≢◌, ◌<◌, ◌≤◌, ℕ, ℤ, ◌+ℤ◌, ◌≤ℤ◌, Bool, true, false, ◌&&◌, ◌||◌, not, ◌↔◌, IsTrue}
-use Rattle.std.specs.Prelude.{if◌then◌else◌, List, Option, Some, None, Result, Ok, Err}
+use Rattle.std.specs.Prelude.{if◌then◌else◌, List, [], ◌∷◌, Option, Some, None, Result, Ok, Err}
 use Rattle.cell_rules.specs.Types.{Machine, Crane, Zone, Z5, Z6, Posture, OpenIn, OpenOut, Call, Claim, Give, Take}
 use Rattle.cell_rules.specs.Types.{Release, Inquire, Event}
 use Rattle.cell_types.specs.declared.place.Place.TheVariants.{Crane as OnCrane}
@@ -15,10 +15,14 @@ use Rattle.cell_devices.specs.declared.motor.Motor.TheVariants.{Off, Plus, Minus
 use Rattle.cell_devices.specs.declared.stops.Stop.{Stop}
 use Rattle.cell_devices.specs.declared.stops.TheConstants.{GRIPPER_DEPOSIT, GRIPPER_FEED, GRIPPER_TRAVEL}
 use Rattle.cell_devices.specs.declared.act.CraneAct.{CraneAct}
-use Rattle.cell_rules.specs.ModelState.{ModelState, is_full}
+use Rattle.cell_rules.specs.Names.{ModelState, is_full, same_flag, implies}
 use Rattle.cell_control.specs.Names.{row_that_asks, row_that_drives, with_waits, Steps, HoldsIn}
+use Rattle.cell_control.specs.Keeping.{posed, unposed, are_kept}
 use Rattle.cell_control.specs.declared.row.Row.{Row}
 use Rattle.cell_control.specs.declared.row.Waits.TheVariants.{UntilFreeAndOpen}
+use Rattle.cell_control.specs.declared.share.Share.TheVariants.{Clear, Loaded, Held, Lent, Any}
+use Rattle.cell_control.specs.declared.share.ZoneShare.{ZoneShare}
+use Rattle.cell_belts_crane.specs.declared.crane.CraneShare.{CraneShare}
 use Rattle.cell_belts_crane.specs.declared.crane.CraneStep.{CraneStep}
 use Rattle.cell_belts_crane.specs.declared.crane.CraneStep.TheVariants.{RaiseToFetch, TravelToDeposit, AwaitPlate}
 use Rattle.cell_belts_crane.specs.declared.crane.CraneStep.TheVariants.{LowerToPlate, GripPlate, RaiseWithPlate, TakePlate}
@@ -58,6 +62,59 @@ row_at GivePlate p = asks p (Give Z6) RaiseToFetch
 
 abbrev pub row_of : CraneProgress → Row CraneProgress
 row_of p = row_at p.step p
+
+-- what the crane keeps at each step: of the zone that it shares with the deposit belt, of that with the feed belt, that it
+-- has a plate, and whether its magnet is on
+abbrev pub keeps : ZoneShare → ZoneShare → Bool → Bool → CraneShare
+keeps deposit feed plate magnet = record { deposit = deposit; feed = feed; plate = plate; magnet = magnet }
+
+abbrev pub keeps_at : CraneStep → CraneShare
+keeps_at RaiseToFetch = keeps (unposed Any) (unposed Lent) false false
+keeps_at TravelToDeposit = keeps (unposed Any) (unposed Lent) false false
+keeps_at AwaitPlate = keeps (unposed Any) (unposed Lent) false false
+keeps_at LowerToPlate = keeps (posed Loaded OpenOut) (unposed Lent) false false
+keeps_at GripPlate = keeps (posed Loaded OpenOut) (unposed Lent) false false
+keeps_at RaiseWithPlate = keeps (posed Loaded OpenOut) (unposed Lent) false true
+keeps_at TakePlate = keeps (posed Loaded OpenOut) (unposed Lent) false true
+keeps_at ReleaseDeposit = keeps (posed Clear OpenOut) (unposed Lent) true true
+keeps_at TravelToFeed = keeps (unposed Any) (unposed Lent) true true
+keeps_at ClaimFeed = keeps (unposed Any) (unposed Lent) true true
+keeps_at LowerToFeed = keeps (unposed Any) (posed Held OpenIn) true true
+keeps_at DropPlate = keeps (unposed Any) (posed Held OpenIn) true true
+keeps_at RaiseFromFeed = keeps (unposed Any) (posed Held OpenIn) true false
+keeps_at GivePlate = keeps (unposed Any) (posed Held OpenIn) true false
+
+-- the number of each step, and the steps in that order
+abbrev pub number_at : CraneStep → ℕ
+number_at RaiseToFetch = 0
+number_at TravelToDeposit = 1
+number_at AwaitPlate = 2
+number_at LowerToPlate = 3
+number_at GripPlate = 4
+number_at RaiseWithPlate = 5
+number_at TakePlate = 6
+number_at ReleaseDeposit = 7
+number_at TravelToFeed = 8
+number_at ClaimFeed = 9
+number_at LowerToFeed = 10
+number_at DropPlate = 11
+number_at RaiseFromFeed = 12
+number_at GivePlate = 13
+
+abbrev pub steps : List CraneStep
+steps =
+    RaiseToFetch ∷ TravelToDeposit ∷ AwaitPlate ∷ LowerToPlate ∷ GripPlate ∷ RaiseWithPlate ∷ TakePlate ∷
+    ReleaseDeposit ∷ TravelToFeed ∷ ClaimFeed ∷ LowerToFeed ∷ DropPlate ∷ RaiseFromFeed ∷ GivePlate ∷ []
+
+-- its zones, with its shares
+abbrev pub zones_at : CraneStep → List (Zone × ZoneShare)
+zones_at step = (Z5, (keeps_at step).deposit) ∷ (Z6, (keeps_at step).feed) ∷ []
+
+-- the step is in step with a state: the zones, its plate and its magnet are as it keeps them
+abbrev pub in_step : CraneProgress → ModelState → Bool
+in_step p s =
+    are_kept (zones_at p.step) Crane s
+    && (implies (keeps_at p.step).plate (is_full s OnCrane) && same_flag (keeps_at p.step).magnet p.magnet)
 
 abbrev pub after_done : CraneProgress → CraneProgress
 after_done p = (row_of p).next

@@ -1,14 +1,20 @@
 -- The deposit belt's program, row by row.
-use Rattle.std.specs.Prelude.{◌≡◌, Bool, true, false, not, if◌then◌else◌, List, Ok}
+use Rattle.std.specs.Prelude.{◌≡◌, ℕ, Bool, true, false, not, ◌&&◌, if◌then◌else◌, List, [], ◌∷◌, Ok}
 use Rattle.cell_rules.specs.Types.{Deposit, Z4, Z5, DepEntry, DepEnd, Pose, Landing, Running, Offering, Call, Claim}
-use Rattle.cell_rules.specs.Types.{Give, Take, Release, SetPose, Advance, Event}
+use Rattle.cell_rules.specs.Types.{Give, Take, Release, SetPose, Advance, Event, Zone, Closed, OpenIn, OpenOut, Moving}
 use Rattle.cell_sensors.specs.declared.sense.DepositSense.{DepositSense}
 use Rattle.cell_devices.specs.declared.act.DepositAct.{DepositAct}
-use Rattle.cell_rules.specs.Names.{ModelState, is_full, Holds, Moves}
+use Rattle.cell_rules.specs.Names.{ModelState, is_full, Holds, Moves, same_flag}
 use Rattle.cell_control.specs.Names.{row_that_asks, row_that_drives, with_waits, Steps}
+use Rattle.cell_control.specs.Keeping.{posed, unposed, are_kept}
 use Rattle.cell_control.specs.declared.row.Row.{Row}
 use Rattle.cell_control.specs.declared.row.Waits.TheVariants.{UntilOwner, UntilRoom}
 use Rattle.cell_control.specs.declared.row.Waits.TheVariants.{UntilFree}
+use Rattle.cell_control.specs.declared.share.Share.TheVariants.{Clear, Lent, Unclaimed}
+use Rattle.cell_control.specs.declared.share.ZoneShare.{ZoneShare}
+use Rattle.cell_belts_crane.specs.BeltShares.{keeps, are_there}
+use Rattle.cell_belts_crane.specs.declared.belt_share.BeltPlates.TheVariants.{Any, Empty, AtEntry, AtEnd, NoneAtEnd}
+use Rattle.cell_belts_crane.specs.declared.belt_share.BeltShare.{BeltShare}
 use Rattle.cell_belts_crane.specs.declared.deposit.DepositStep.{DepositStep}
 use Rattle.cell_belts_crane.specs.declared.deposit.DepositStep.TheVariants.{ClaimEntry, ClaimExit, PoseLanding, ReleaseEntry}
 use Rattle.cell_belts_crane.specs.declared.deposit.DepositStep.TheVariants.{TakePlate, StartRun, RunIn, RunOut, MoveOn}
@@ -53,6 +59,54 @@ row_at ClaimBack p = with_waits (asks_by_plates p (Claim Z5)) UntilFree
 
 abbrev pub row_of : DepositProgress → Row DepositProgress
 row_of p = row_at p.step p
+
+-- what the belt keeps at each step: of the zone that it shares with the robot, of that with the crane, and its plates
+abbrev pub keeps_at : DepositStep → BeltShare
+keeps_at ClaimEntry = keeps (posed Unclaimed Closed) (posed Unclaimed Closed) Any
+keeps_at ClaimExit = keeps (unposed Clear) (posed Unclaimed Closed) Any
+keeps_at PoseLanding = keeps (unposed Clear) (unposed Clear) Empty
+keeps_at ReleaseEntry = keeps (posed Clear OpenIn) (posed Clear Closed) Empty
+keeps_at TakePlate = keeps (posed Lent OpenIn) (posed Clear Closed) Empty
+keeps_at StartRun = keeps (unposed Clear) (unposed Clear) AtEntry
+keeps_at RunIn = keeps (posed Clear Moving) (posed Clear Moving) AtEntry
+keeps_at RunOut = keeps (posed Clear Moving) (posed Clear Moving) AtEntry
+keeps_at MoveOn = keeps (posed Clear Moving) (posed Clear Moving) AtEntry
+keeps_at PoseOffering = keeps (unposed Clear) (unposed Clear) AtEnd
+keeps_at GivePlate = keeps (posed Clear Closed) (posed Clear OpenOut) AtEnd
+keeps_at ClaimBack = keeps (posed Clear Closed) (posed Lent OpenOut) NoneAtEnd
+
+-- the number of each step, and the steps in that order
+abbrev pub number_at : DepositStep → ℕ
+number_at ClaimEntry = 0
+number_at ClaimExit = 1
+number_at PoseLanding = 2
+number_at ReleaseEntry = 3
+number_at TakePlate = 4
+number_at StartRun = 5
+number_at RunIn = 6
+number_at RunOut = 7
+number_at MoveOn = 8
+number_at PoseOffering = 9
+number_at GivePlate = 10
+number_at ClaimBack = 11
+
+abbrev pub steps : List DepositStep
+steps =
+    ClaimEntry ∷ ClaimExit ∷ PoseLanding ∷ ReleaseEntry ∷ TakePlate ∷ StartRun ∷ RunIn ∷ RunOut ∷ MoveOn ∷
+    PoseOffering ∷ GivePlate ∷ ClaimBack ∷ []
+
+-- its zones, with its shares
+abbrev pub zones_at : DepositStep → List (Zone × ZoneShare)
+zones_at step = (Z4, (keeps_at step).entry) ∷ (Z5, (keeps_at step).exit) ∷ []
+
+-- its notes agree with its places
+abbrev pub is_noted : DepositProgress → ModelState → Bool
+is_noted p s = same_flag (is_full s DepEntry) p.entry && same_flag (is_full s DepEnd) p.last
+
+-- the step is in step with a state: the zones, plates and notes are as it keeps them
+abbrev pub in_step : DepositProgress → ModelState → Bool
+in_step p s =
+    are_kept (zones_at p.step) Deposit s && (are_there (keeps_at p.step).plates p.entry p.last && is_noted p s)
 
 abbrev pub after_done : DepositProgress → DepositProgress
 after_done p = (row_of p).next

@@ -27,6 +27,8 @@ pub enum BeltPlates {
     AtEntry,
     /// One at its end, and perhaps another at its entry.
     AtEnd,
+    /// None at its end.
+    NoneAtEnd,
 }
 
 impl BeltShare {
@@ -53,6 +55,7 @@ impl BeltPlates {
             BeltPlates::Empty => !entry && !last,
             BeltPlates::AtEntry => entry && !last,
             BeltPlates::AtEnd => last,
+            BeltPlates::NoneAtEnd => !last,
         }
     }
 }

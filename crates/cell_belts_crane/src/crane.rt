@@ -1,11 +1,11 @@
 //! The crane's program: its steps, a row for each, and what its motors and its magnet do.
-ghost use Rattle.std.specs.Prelude.{◌≡◌, ◌↔◌, ◌≤◌, IfSome, IsTrue, ◌+ℤ◌, ◌≤ℤ◌};
+ghost use Rattle.std.specs.Prelude.{◌≡◌, ◌↔◌, ◌≤◌, true, false, IfSome, IsTrue, ◌+ℤ◌, ◌≤ℤ◌, slice_get};
 ghost use Rattle.cell_devices.specs.Drives.{DrivesTo, narrowest_half};
 ghost use Rattle.cell_devices.specs.Limits.{travel_from};
 ghost use Rattle.cell_belts_crane.specs.CraneProgram as program;
 ghost use Rattle.cell_belts_crane.specs.Calibrations.{gripper_in};
 
-use cell_control::{Controller, Program, Row, Waits};
+use cell_control::{Controller, Program, Row, Share, Waits, ZoneShare, are_kept};
 use cell_devices::stops::{GRIPPER_DEPOSIT, GRIPPER_FEED, GRIPPER_TRAVEL};
 use cell_devices::{
     CraneAct, Motor, Stop, crane_to_deposit, crane_to_feed, drive_to, is_travel_high,
@@ -55,6 +55,53 @@ pub struct CraneProgress {
     pub magnet: bool,
 }
 
+/// What the crane keeps at a step.
+#[derive(Clone, Copy, Debug, PartialEq, Eq)]
+pub struct CraneShare {
+    /// Its share of the zone of the deposit belt.
+    pub deposit: ZoneShare,
+    /// Its share of the zone of the feed belt.
+    pub feed: ZoneShare,
+    /// Whether it has a plate; else it may have one.
+    pub plate: bool,
+    /// Whether its magnet is on.
+    pub magnet: bool,
+}
+
+impl CraneShare {
+    // These shares of its zones, perhaps without a plate, and with the magnet off.
+    fn new(deposit: ZoneShare, feed: ZoneShare) -> CraneShare
+        ensures { result ≡ program.keeps deposit feed false false }
+    {
+        CraneShare {
+            deposit,
+            feed,
+            plate: false,
+            magnet: false,
+        }
+    }
+
+    // The same with a plate.
+    fn with_plate(self) -> CraneShare
+        ensures { result ≡ record self { plate = true } }
+    {
+        CraneShare {
+            plate: true,
+            ..self
+        }
+    }
+
+    // The same with the magnet on.
+    fn with_magnet(self) -> CraneShare
+        ensures { result ≡ record self { magnet = true } }
+    {
+        CraneShare {
+            magnet: true,
+            ..self
+        }
+    }
+}
+
 /// What the crane's sensors say after the check.
 #[derive(Clone, Copy)]
 pub struct CraneReading {
@@ -67,6 +114,18 @@ pub struct CraneReading {
 }
 
 impl CraneProgress {
+    /// Whether the step is in step with a state: the zones, the plate and the magnet are as it keeps
+    /// them.
+    pub fn is_in_step(self, state: &State) -> bool
+        ensures { result ≡ program.in_step self state.now }
+    {
+        let keeps = self.step.keeps();
+        let zones = [(Zone::Z5, keeps.deposit), (Zone::Z6, keeps.feed)];
+        are_kept(&zones, Machine::Crane, state)
+            && (!keeps.plate || state.is_full(Place::Crane))
+            && keeps.magnet == self.magnet
+    }
+
     // The row of its step. An inquiry isn't done: it leads on by what it shows.
     #[inline(always)]
     fn row(self) -> Row<CraneProgress>
@@ -120,6 +179,68 @@ impl CraneProgress {
 }
 
 impl CraneStep {
+    /// The steps, in the order of their numbers.
+    pub const ALL: [CraneStep; 14] = [
+        CraneStep::RaiseToFetch,
+        CraneStep::TravelToDeposit,
+        CraneStep::AwaitPlate,
+        CraneStep::LowerToPlate,
+        CraneStep::GripPlate,
+        CraneStep::RaiseWithPlate,
+        CraneStep::TakePlate,
+        CraneStep::ReleaseDeposit,
+        CraneStep::TravelToFeed,
+        CraneStep::ClaimFeed,
+        CraneStep::LowerToFeed,
+        CraneStep::DropPlate,
+        CraneStep::RaiseFromFeed,
+        CraneStep::GivePlate,
+    ];
+
+    /// The step with this number; `None` if no step has it.
+    pub fn with_number(number: u8) -> Option<CraneStep>
+        ensures { result ≡ slice_get program.steps number }
+    {
+        CraneStep::ALL.get(usize::from(number)).copied()
+    }
+
+    /// The number of the step.
+    pub fn number(self) -> u8
+        ensures { result ≡ program.number_at self }
+    {
+        self as u8
+    }
+
+    /// What the crane keeps at the step.
+    pub fn keeps(self) -> CraneShare
+        ensures { result ≡ program.keeps_at self }
+    {
+        let any = Share::Any.in_any_posture();
+        let loaded = Share::Loaded.in_posture(Posture::OpenOut);
+        let clear = Share::Clear.in_posture(Posture::OpenOut);
+        let lent = Share::Lent.in_any_posture();
+        let held = Share::Held.in_posture(Posture::OpenIn);
+        match self {
+            CraneStep::RaiseToFetch | CraneStep::TravelToDeposit | CraneStep::AwaitPlate => {
+                CraneShare::new(any, lent)
+            }
+            CraneStep::LowerToPlate | CraneStep::GripPlate => CraneShare::new(loaded, lent),
+            CraneStep::RaiseWithPlate | CraneStep::TakePlate => {
+                CraneShare::new(loaded, lent).with_magnet()
+            }
+            CraneStep::ReleaseDeposit => { CraneShare::new(clear, lent).with_plate().with_magnet() }
+            CraneStep::TravelToFeed | CraneStep::ClaimFeed => {
+                CraneShare::new(any, lent).with_plate().with_magnet()
+            }
+            CraneStep::LowerToFeed | CraneStep::DropPlate => {
+                CraneShare::new(any, held).with_plate().with_magnet()
+            }
+            CraneStep::RaiseFromFeed | CraneStep::GivePlate => {
+                CraneShare::new(any, held).with_plate()
+            }
+        }
+    }
+
     // The next step after an inquiry that showed this owner and this flag.
     fn after_inquiry(self, owner: Option<Machine>, flag: bool) -> CraneStep
         ensures { result ≡ program.step_after_inquiry self owner flag }

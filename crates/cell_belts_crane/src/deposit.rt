@@ -1,8 +1,9 @@
 //! The deposit belt's program: its steps, a row for each, and when the belt runs.
-ghost use Rattle.std.specs.Prelude.{◌≡◌};
+ghost use Rattle.std.specs.Prelude.{◌≡◌, slice_get};
 ghost use Rattle.cell_belts_crane.specs.DepositProgram as program;
 
-use cell_control::{Controller, Program, Row, Waits};
+use crate::belt_share::{BeltPlates, BeltShare};
+use cell_control::{Controller, Program, Row, Share, Waits, are_kept};
 use cell_devices::DepositAct;
 use cell_rules::State;
 use cell_sensors::{DepositSense, SensorFault};
@@ -48,6 +49,18 @@ pub struct DepositProgress {
 }
 
 impl DepositProgress {
+    /// Whether the step is in step with a state: the zones, plates and notes are as it keeps them.
+    pub fn is_in_step(self, state: &State) -> bool
+        ensures { result ≡ program.in_step self state.now }
+    {
+        let keeps = self.step.keeps();
+        let zones = [(Zone::Z4, keeps.entry), (Zone::Z5, keeps.exit)];
+        are_kept(&zones, Machine::Deposit, state)
+            && keeps.plates.are_there(self.entry, self.last)
+            && state.is_full(Place::DepEntry) == self.entry
+            && state.is_full(Place::DepEnd) == self.last
+    }
+
     // The row of its step.
     #[inline(always)]
     fn row(self) -> Row<DepositProgress>
@@ -139,6 +152,78 @@ impl DepositProgress {
 }
 
 impl DepositStep {
+    /// The steps, in the order of their numbers.
+    pub const ALL: [DepositStep; 12] = [
+        DepositStep::ClaimEntry,
+        DepositStep::ClaimExit,
+        DepositStep::PoseLanding,
+        DepositStep::ReleaseEntry,
+        DepositStep::TakePlate,
+        DepositStep::StartRun,
+        DepositStep::RunIn,
+        DepositStep::RunOut,
+        DepositStep::MoveOn,
+        DepositStep::PoseOffering,
+        DepositStep::GivePlate,
+        DepositStep::ClaimBack,
+    ];
+
+    /// The step with this number; `None` if no step has it.
+    pub fn with_number(number: u8) -> Option<DepositStep>
+        ensures { result ≡ slice_get program.steps number }
+    {
+        DepositStep::ALL.get(usize::from(number)).copied()
+    }
+
+    /// The number of the step.
+    pub fn number(self) -> u8
+        ensures { result ≡ program.number_at self }
+    {
+        self as u8
+    }
+
+    /// What the belt keeps at the step.
+    pub fn keeps(self) -> BeltShare
+        ensures { result ≡ program.keeps_at self }
+    {
+        let unclaimed = Share::Unclaimed.in_posture(Posture::Closed);
+        let clear = Share::Clear.in_any_posture();
+        let shut = Share::Clear.in_posture(Posture::Closed);
+        let moving = Share::Clear.in_posture(Posture::Moving);
+        match self {
+            DepositStep::ClaimEntry => BeltShare::new(unclaimed, unclaimed, BeltPlates::Any),
+            DepositStep::ClaimExit => BeltShare::new(clear, unclaimed, BeltPlates::Any),
+            DepositStep::PoseLanding => BeltShare::new(clear, clear, BeltPlates::Empty),
+            DepositStep::ReleaseEntry => BeltShare::new(
+                Share::Clear.in_posture(Posture::OpenIn),
+                shut,
+                BeltPlates::Empty,
+            ),
+            DepositStep::TakePlate => BeltShare::new(
+                Share::Lent.in_posture(Posture::OpenIn),
+                shut,
+                BeltPlates::Empty,
+            ),
+            DepositStep::StartRun => BeltShare::new(clear, clear, BeltPlates::AtEntry),
+            DepositStep::RunIn | DepositStep::RunOut | DepositStep::MoveOn => BeltShare::new(
+                moving,
+                moving,
+                BeltPlates::AtEntry,
+            ),
+            DepositStep::PoseOffering => BeltShare::new(clear, clear, BeltPlates::AtEnd),
+            DepositStep::GivePlate => BeltShare::new(
+                shut,
+                Share::Clear.in_posture(Posture::OpenOut),
+                BeltPlates::AtEnd,
+            ),
+            DepositStep::ClaimBack => BeltShare::new(
+                shut,
+                Share::Lent.in_posture(Posture::OpenOut),
+                BeltPlates::NoneAtEnd,
+            ),
+        }
+    }
+
     // Whether the belt runs in a step that drives.
     fn runs(self, barrier: bool) -> bool
         ensures { result ≡ program.runs_at self barrier }

@@ -9,6 +9,6 @@ pub mod laws;
 
 pub use belt_share::{BeltPlates, BeltShare};
 pub use cell_control::CtlFault;
-pub use crane::{CraneCtl, CraneProgram, CraneProgress, CraneReading, CraneStep};
+pub use crane::{CraneCtl, CraneProgram, CraneProgress, CraneReading, CraneShare, CraneStep};
 pub use deposit::{DepositCtl, DepositProgram, DepositProgress, DepositStep};
 pub use feed::{FeedCtl, FeedProgram, FeedProgress, FeedStep};

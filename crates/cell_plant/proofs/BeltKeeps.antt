@@ -1,6 +1,7 @@
 -- The invariant of a belt's side: it holds in every state of a run. The feed belt and the deposit belt have one form.
 use Rattle.cell_plant.proofs.Names.{◌≡◌, Bool, false, IsTrue, List, [], ◌∷◌, Option, Some, None, refl, sym, ap, ◌∙◌, subst, Machine, Feed, Deposit, Z1, Z4, Z5, Z6, Place, FeedEntry, FeedEnd, DepEntry, DepEnd, Moving, OpenIn, OpenOut, Call, Done, keeper_of, same_machine, ModelState, is_full, event, reply, changed, Rig, Steps, Fact, AreSo, Finds, Knowing}
 use Rattle.cell_plant.proofs.Names.{feed_start, feed_steps, FeedStep, FeedProgress, FeedKnows, feed_begins, feed-knowing, feed_at_start, feed_rig, deposit_start, deposit_steps, DepositStep, DepositProgress, DepositKnows, deposit-knowing, deposit_at_start, deposit_rig, Keeping, Demanding, WhileOn, demanding_while_on, set_belt, moved_belt, Belt}
+use Rattle.cell_control.proofs.lemmas.SharedZones.{AreSure}
 use Rattle.std.specs.Prelude.{⊤}
 use Rattle.cell_belts_crane.specs.declared.feed.FeedStep.TheVariants as feed
 use Rattle.cell_belts_crane.specs.declared.deposit.DepositStep.TheVariants as deposit
@@ -82,12 +83,12 @@ abbrev pub DepositInv : ModelState → DepositProgress → Belt → Type 0
 DepositInv = BeltInv DepositKnows DepEntry DepEnd
 
 pub deposit-start : (s : ModelState) → DepositInv s (deposit_start s) (deposit_at_start s)
-deposit-start s = record { knows = tt; plates = record { entry = plate_stands (is_full s DepEntry) _; end = plate_stands (is_full s DepEnd) _ } }
+deposit-start s = record { knows = deposit_facts.deposit_begins s; plates = record { entry = plate_stands (is_full s DepEntry) _; end = plate_stands (is_full s DepEnd) _ } }
 
-deposit_stands : (s : DepositStep) (p : DepositProgress) (z : ModelState) (b : Belt) → AreSo Deposit z (deposit_facts.facts_at s) → PlatesStand z DepEntry DepEnd b → StandAfter deposit_steps deposit_rig (λ act. act.belt) DepEntry DepEnd z p b (deposit_program.row_at s p).call
-deposit_stands deposit.TakePlate p z b i k = λ d. taken z Deposit DepEntry DepEnd b k Z4 OpenIn i.1.0.1 (refl, refl)
+deposit_stands : (s : DepositStep) (p : DepositProgress) (z : ModelState) (b : Belt) → AreSure Deposit z (deposit_program.zones_at s) → PlatesStand z DepEntry DepEnd b → StandAfter deposit_steps deposit_rig (λ act. act.belt) DepEntry DepEnd z p b (deposit_program.row_at s p).call
+deposit_stands deposit.TakePlate p z b i k = λ d. taken z Deposit DepEntry DepEnd b k Z4 OpenIn i.0.1 (refl, refl)
 deposit_stands deposit.MoveOn p z b i k = λ d. moved_on z Deposit DepEntry DepEnd b k d refl (refl, refl)
-deposit_stands deposit.GivePlate p z b i k = λ d. given z Deposit DepEntry DepEnd b k Z5 OpenOut i.1.1.1.0.1 (refl, refl)
+deposit_stands deposit.GivePlate p z b i k = λ d. given z Deposit DepEntry DepEnd b k Z5 OpenOut i.1.0.1 (refl, refl)
 deposit_stands deposit.RunIn p z b i k = tt
 deposit_stands deposit.RunOut p z b i k = tt
 deposit_stands s p z b i k = λ d. record { entry = k.entry; end = k.end }

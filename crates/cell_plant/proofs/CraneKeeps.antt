@@ -1,7 +1,9 @@
 -- The invariant of the crane's side: it holds in every state of a run.
-use Rattle.cell_plant.proofs.Names.{◌≡◌, ℤ, pos, ◌<ℤ◌, ◌≤ℤ◌, Bool, true, false, not, ◌&&◌, ◌||◌, ◌⊎◌, inl, inr, Option, Some, None, Result, Ok, refl, sym, ap, ◌∙◌, if◌then◌else◌, arith, ⊤, ints, clamps, Machine, Crane, Call, Reply, Scale, IsNear, IsReading, CraneSense, DrivesTo, Motor, Off, Plus, Minus, CraneAct, ModelState, is_full, changed, LineFault, Turned, Turns, CtlFault, AreSo, row_at, row_of, step_after_inquiry, after_done}
-use Rattle.cell_plant.proofs.Names.{first_step, crane_start, is_done, gripper_stop, Senses, Acts, crane_steps, CraneStep, RaiseToFetch, TravelToDeposit, AwaitPlate, LowerToPlate, GripPlate, RaiseWithPlate, TravelToFeed, ClaimFeed, LowerToFeed, DropPlate, RaiseFromFeed, CraneProgress, CraneReading, is_off, travels, travel_for, facts_at, CraneKnows, crane_begins, crane-knowing, act_or_rest, Keeping, turn_tells, IsAxisScale, IsWithin}
+use Rattle.cell_plant.proofs.Names.{◌≡◌, ℤ, pos, ◌<ℤ◌, ◌≤ℤ◌, Bool, true, false, not, ◌&&◌, ◌||◌, ◌⊎◌, inl, inr, Option, Some, None, Result, Ok, refl, sym, ap, ◌∙◌, if◌then◌else◌, arith, ⊤, ints, clamps, Machine, Crane, Call, Reply, Scale, IsNear, IsReading, CraneSense, DrivesTo, Motor, Off, Plus, Minus, CraneAct, ModelState, is_full, changed, LineFault, Turned, Turns, CtlFault, row_at, row_of, step_after_inquiry, after_done}
+use Rattle.cell_plant.proofs.Names.{first_step, crane_start, is_done, gripper_stop, Senses, Acts, crane_steps, CraneStep, RaiseToFetch, TravelToDeposit, AwaitPlate, LowerToPlate, GripPlate, RaiseWithPlate, TravelToFeed, ClaimFeed, LowerToFeed, DropPlate, RaiseFromFeed, CraneProgress, CraneReading, is_off, travels, travel_for, CraneKnows, crane_begins, crane-knowing, act_or_rest, Keeping, turn_tells, IsAxisScale, IsWithin}
 use Rattle.cell_plant.proofs.Names.{crane_end, gripper_end, crane_at_start, moved_to, moved_axis, set_axis, set_crane, crane_rig, IsOn, IsGripperDown, IsOverDeposit, IsOverFeed, LetsGo, CraneMayLetGo, DrivesPast, ErrandDemands, Axis, CranePlant, gripper_start, CraneShows, TravelsHigh, CraneHasDeposit, CraneHasFeed}
+use Rattle.cell_control.proofs.lemmas.SharedZones.{AreSure}
+use Rattle.cell_belts_crane.specs.CraneProgram.{zones_at}
 use Rattle.cell_types.specs.declared.place.Place.TheVariants.{Crane as OnCrane}
 use Rattle.cell_plant.specs.Errands.{errand_of}
 use Rattle.cell_plant.proofs.Magnets.{still_on}
@@ -243,24 +245,24 @@ module _ (points : Scale) (axis : IsAxisScale gripper_end points) where
   }
 
 -- where its gripper may be down, and why it is driven at each step
-down_at : (s : CraneStep) (z : ModelState) (c : CranePlant) → AreSo Crane z (facts_at s) → IsAt (level_of s) c.gripper.position → IsOver (stand_of s) c.travel.position → IsGripperDown c
+down_at : (s : CraneStep) (z : ModelState) (c : CranePlant) → AreSure Crane z (zones_at s) → IsAt (level_of s) c.gripper.position → IsOver (stand_of s) c.travel.position → IsGripperDown c
     → (IsOverDeposit c × CraneHasDeposit z) ⊎ (IsOverFeed c × CraneHasFeed z)
 down_at LowerToPlate z c k level stand down = inl (omega (arith, ints), k.0)
 down_at GripPlate z c k level stand down = inl (omega (arith, ints), k.0)
 down_at RaiseWithPlate z c k level stand down = inl (omega (arith, ints), k.0)
-down_at LowerToFeed z c k level stand down = inr (omega (arith, ints), k.0)
-down_at DropPlate z c k level stand down = inr (omega (arith, ints), k.0)
-down_at RaiseFromFeed z c k level stand down = inr (omega (arith, ints), k.0)
+down_at LowerToFeed z c k level stand down = inr (omega (arith, ints), k.1.0)
+down_at DropPlate z c k level stand down = inr (omega (arith, ints), k.1.0)
+down_at RaiseFromFeed z c k level stand down = inr (omega (arith, ints), k.1.0)
 down_at s z c k level stand down = absurd (omega (arith, ints))
 
 pub gripper-down : (z : ModelState) (p : CraneProgress) (c : CranePlant) → CraneInv z p c → IsGripperDown c → (IsOverDeposit c × CraneHasDeposit z) ⊎ (IsOverFeed c × CraneHasFeed z)
 gripper-down z p c i down = down_at p.step z c i.knows i.level i.stand down
 
-errand_met : (s : CraneStep) (z : ModelState) → AreSo Crane z (facts_at s) → ErrandDemands (errand_of s) z
+errand_met : (s : CraneStep) (z : ModelState) → AreSure Crane z (zones_at s) → ErrandDemands (errand_of s) z
 errand_met LowerToPlate z k = k.0
 errand_met RaiseWithPlate z k = k.0
-errand_met LowerToFeed z k = k.0
-errand_met RaiseFromFeed z k = k.0
+errand_met LowerToFeed z k = k.1.0
+errand_met RaiseFromFeed z k = k.1.0
 errand_met s z k = tt
 
 pub gripper-driven : (z : ModelState) (p : CraneProgress) (c : CranePlant) → CraneInv z p c → ErrandDemands (errand_of p.step) z

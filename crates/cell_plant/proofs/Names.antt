@@ -28,7 +28,7 @@ pub use Rattle.cell_devices.specs.declared.motor.Direction.{Direction}
 pub use Rattle.cell_devices.specs.declared.motor.Motor.{Motor}
 pub use Rattle.cell_devices.specs.declared.motor.Motor.TheVariants.{Minus, Off, Plus}
 pub use Rattle.cell_devices.specs.declared.stops.TheConstants.{ARM1_PRESS, ARM2_DEPOSIT, GRIPPER_FEED, RETRACTED, ROTATION_ARM1_PRESS, ROTATION_ARM1_TABLE, ROTATION_ARM2_DEPOSIT, ROTATION_ARM2_PRESS}
-pub use Rattle.cell_belts_crane.proofs.lemmas.CraneFacts.{CraneKnows, crane-knowing, crane_begins, facts_at}
+pub use Rattle.cell_belts_crane.proofs.lemmas.CraneFacts.{CraneKnows, crane-knowing, crane_begins}
 pub use Rattle.cell_belts_crane.proofs.lemmas.CraneRows.{acts_one}
 pub use Rattle.cell_belts_crane.proofs.lemmas.DepositFacts.{DepositKnows, deposit-knowing}
 pub use Rattle.cell_belts_crane.proofs.lemmas.FeedFacts.{FeedKnows, feed-knowing, feed_begins}

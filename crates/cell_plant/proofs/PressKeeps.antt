@@ -4,7 +4,7 @@ use Rattle.cell_plant.proofs.Names.{LineFault, posture-foreign, posture-changed,
 use Rattle.cell_plant.proofs.Names.{PressShows, IsOn, RestsAtMiddle, RestsAtBottom, DrivesPast, press_rig, Axis, set_press, moved_press}
 use Rattle.cell_table_press.specs.Names.{row_at}
 use Rattle.cell_table_press.specs.PressProgram.{row_of, after_done}
-use Rattle.cell_table_press.proofs.lemmas.PressFacts.{drives_at}
+use Rattle.cell_table_press.proofs.lemmas.PressFacts.{drives_at, press_begins}
 use Rattle.cell_plant.proofs.WithinLemmas.{moved_within}
 
 -- what its controller knows of the interlock; it is within its ends, rests where an open posture says, and is at a
@@ -22,7 +22,7 @@ pub press-start : (s : ModelState) → IsStartState s → PressInv s (press_star
 press-start s k =
     let shut : posture_at s Z3 ≡ Closed = ap (λ x. posture_at x Z3) k.same in
     record {
-      knows = tt;
+      knows = press_begins s;
       within = omega (arith, ints);
       open_in = λ o. absurd (cc);
       open_out = λ o. absurd (cc);

@@ -1,13 +1,14 @@
 -- The invariant of the robot's side: it holds in every state of a run.
 use Rattle.cell_plant.proofs.Names.{◌≡◌, ℤ, pos, ◌≤ℤ◌, Bool, true, false, not, ◌&&◌, ◌||◌, ◌⊎◌, inl, inr, Option, Some, None, Result, Ok, refl, sym, ap, ◌∙◌, subst, if◌then◌else◌, arith, ⊤, ints, Machine, Robot, Call, Reply, Posture, OpenIn, OpenOut, Z2, Z3, Z4, IsNear, RobotSense, DrivesTo, Motor, Off, RobotAct, RETRACTED, ARM1_PRESS, ARM2_DEPOSIT, ROTATION_ARM1_TABLE, ROTATION_ARM1_PRESS, ROTATION_ARM2_PRESS, ROTATION_ARM2_DEPOSIT}
-use Rattle.cell_plant.proofs.Names.{ModelState, changed, LineFault, Turned, Turns, CtlFault, AreSo, choice, notes_at, robot_start, RobotScales, near_lines, turns_to, arm1_stop, arm2_stop, robot_rest, robot_steps, RobotStep, TurnToTable, ReachTable, LeaveTable, TurnToLoad, ClaimPress, InspectPress, ReleasePress, ReachToLoad, DropInPress, LeaveLoaded, TurnToUnload, AwaitForged, ReachToUnload, GripForged, LeaveUnloaded, TurnToDeposit}
+use Rattle.cell_plant.proofs.Names.{ModelState, changed, LineFault, Turned, Turns, CtlFault, choice, notes_at, robot_start, RobotScales, near_lines, turns_to, arm1_stop, arm2_stop, robot_rest, robot_steps, RobotStep, TurnToTable, ReachTable, LeaveTable, TurnToLoad, ClaimPress, InspectPress, ReleasePress, ReachToLoad, DropInPress, LeaveLoaded, TurnToUnload, AwaitForged, ReachToUnload, GripForged, LeaveUnloaded, TurnToDeposit}
 use Rattle.cell_plant.proofs.Names.{ClaimDeposit, ReachDeposit, DropOnDeposit, LeaveDeposit, RobotNotes, RobotProgress, RobotReading, turns, RobotKnows, at_choice, robot-knowing, act_or_rest, Keeping, turn_tells, IsAxisScale, IsWithin, IsIn, arm_end, rotation_end, robot_at_start, moved_axis, set_axis, set_robot, robot_rig, IsOn, IsOut, IsArm1AtTable, IsArm1InPress, IsArm2InPress, IsArm2AtDeposit, LetsGo, Arm1MayLetGo, Arm2MayLetGo}
 use Rattle.cell_plant.proofs.Names.{DrivesPast, RotatesRetracted, HoldsIn, Axis, RobotPlant, RobotShows}
 use Rattle.cell_devices.specs.declared.stops.Stop.{Stop}
 use Rattle.cell_robot.specs.Names.{row_at, row_of, step_after_inquiry, after_done, Senses, Acts, is_done}
 use Rattle.cell_robot.specs.declared.robot.RobotStep.TheVariants.{AwaitPlate, GripPlate}
 use Rattle.cell_robot.specs.RobotProgram.{rotation_stop, is_off}
-use Rattle.cell_robot.proofs.lemmas.RobotFacts.{facts_at}
+use Rattle.cell_control.proofs.lemmas.SharedZones.{AreSure}
+use Rattle.cell_robot.specs.RobotKeeps.{zones_at}
 use Rattle.cell_parts.specs.Axes.{RobotScales as PartScales}
 use Rattle.cell_plant.proofs.Magnets.{still_on}
 use Rattle.cell_plant.proofs.Stops.{reading_near, span_of, at_stop, StopsWithin, not_on, off_within, driven_within}
@@ -289,7 +290,7 @@ stands_in : (a : Axis) → StandsAt (Some RETRACTED) a → IsOut a ⊎ IsOn a �
 stands_in a k (inl out) = not_out a k out
 stands_in a k (inr on) = on k.1
 
-arm1_has : (s : RobotStep) (z : ModelState) (r : RobotPlant) → AreSo Robot z (facts_at s) → StandsAt (arm1_at s) r.arm1 → StandsAt (rotation_at s) r.rotation → IsOut r.arm1 ⊎ IsOn r.arm1
+arm1_has : (s : RobotStep) (z : ModelState) (r : RobotPlant) → AreSure Robot z (zones_at s) → StandsAt (arm1_at s) r.arm1 → StandsAt (rotation_at s) r.rotation → IsOut r.arm1 ⊎ IsOn r.arm1
     → (IsArm1AtTable r × HoldsIn OpenOut z Robot Z2) ⊎ (IsArm1InPress r × HoldsIn OpenIn z Robot Z3)
 arm1_has ReachTable z r k arm at out = search (inl, arith, ints)
 arm1_has GripPlate z r k arm at out = search (inl, arith, ints)
@@ -299,7 +300,7 @@ arm1_has DropInPress z r k arm at out = search (inr, arith, ints)
 arm1_has LeaveLoaded z r k arm at out = search (inr, arith, ints)
 arm1_has s z r k arm at out = absurd (stands_in r.arm1 arm out)
 
-arm2_has : (s : RobotStep) (z : ModelState) (r : RobotPlant) → AreSo Robot z (facts_at s) → StandsAt (arm2_at s) r.arm2 → StandsAt (rotation_at s) r.rotation → IsOut r.arm2 ⊎ IsOn r.arm2
+arm2_has : (s : RobotStep) (z : ModelState) (r : RobotPlant) → AreSure Robot z (zones_at s) → StandsAt (arm2_at s) r.arm2 → StandsAt (rotation_at s) r.rotation → IsOut r.arm2 ⊎ IsOn r.arm2
     → (IsArm2InPress r × HoldsIn OpenOut z Robot Z3) ⊎ (IsArm2AtDeposit r × HoldsIn OpenIn z Robot Z4)
 arm2_has ReachToUnload z r k arm at out = search (inl, arith, ints)
 arm2_has GripForged z r k arm at out = search (inl, arith, ints)

@@ -5,7 +5,7 @@ use Rattle.cell_types.specs.declared.machine.Machine.TheVariants.{Table as Table
 use Rattle.cell_table_press.specs.Names.{row_of, after_done, is_off, Senses, Acts}
 use Rattle.cell_table_press.specs.declared.table.TableStep.TheVariants.{ClaimExit}
 use Rattle.cell_table_press.specs.TableProgram.{row_at}
-use Rattle.cell_table_press.proofs.lemmas.TableFacts.{drives_at}
+use Rattle.cell_table_press.proofs.lemmas.TableFacts.{drives_at, table_begins}
 use Rattle.cell_plant.proofs.Stops.{reading_near, StopsWithin, off_within, driven_within}
 use Rattle.cell_plant.proofs.WithinLemmas.{moved_within}
 
@@ -29,7 +29,7 @@ pub table-start : (s : ModelState) → IsStartState s → TableInv s (table_star
 table-start s k =
     let rests : RestsAtLoading table_at_start = record { lift_off = refl; turn_off = refl; bottom = omega (arith, ints); turned = omega (arith, ints) } in
     record {
-      knows = tt;
+      knows = table_begins s;
       lift_within = omega (arith, ints);
       turn_within = omega (arith, ints);
       open_in = λ o. rests;

@@ -1,5 +1,5 @@
 mod Names
-mod Keeping
+mod Flags
 mod DemandsMet
 mod TeamTested
 mod Taking

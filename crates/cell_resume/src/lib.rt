@@ -7,7 +7,6 @@ pub mod crane;
 pub mod deposit;
 pub mod fault;
 pub mod feed;
-pub mod keep;
 pub mod laws;
 pub mod press;
 pub mod resumable;

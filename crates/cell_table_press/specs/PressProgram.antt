@@ -1,7 +1,7 @@
 -- The press's program, row by row.
-use Rattle.std.specs.Prelude.{◌≡◌, ◌≢◌, Bool, true, false, ◌&&◌, ◌||◌, if◌then◌else◌, List, Result, Ok, Err}
+use Rattle.std.specs.Prelude.{◌≡◌, ◌≢◌, ℕ, Bool, true, false, not, ◌&&◌, ◌||◌, if◌then◌else◌, List, [], ◌∷◌, Result, Ok, Err}
 use Rattle.cell_rules.specs.Types.{Press, Z3, PressIn, PressOut, Pose, Travelling, Middle, Low, Top, Call, Claim}
-use Rattle.cell_rules.specs.Types.{Give, Take, Release, SetPose, Advance, Event}
+use Rattle.cell_rules.specs.Types.{Give, Take, Release, SetPose, Advance, Event, Zone, Closed, OpenIn, OpenOut, Moving}
 use Rattle.cell_sensors.specs.declared.sense.PressSense.{PressSense}
 use Rattle.cell_sensors.specs.declared.sense.SensorFault.{SensorFault}
 use Rattle.cell_sensors.specs.declared.sense.SensorFault.TheVariants.{Clash}
@@ -12,11 +12,17 @@ use Rattle.cell_devices.specs.declared.motor.Motor.TheVariants.{Off, Plus, Minus
 use Rattle.cell_devices.specs.declared.act.PressAct.{PressAct}
 use Rattle.cell_devices.specs.declared.motor.Direction.TheVariants.{Minus as Downward}
 use Rattle.cell_devices.specs.Motors.{latest}
-use Rattle.cell_rules.specs.Names.{ModelState, is_full, Holds, PressMoves}
+use Rattle.cell_rules.specs.Names.{ModelState, is_full, Holds, PressMoves, same_flag}
 use Rattle.cell_control.specs.Names.{row_that_asks, row_that_drives, with_waits, Steps}
+use Rattle.cell_control.specs.Keeping.{posed, unposed, are_kept}
 use Rattle.cell_control.specs.declared.row.Row.{Row}
 use Rattle.cell_control.specs.declared.row.Waits.TheVariants.{UntilOwner, UntilRoom}
 use Rattle.cell_control.specs.declared.row.Waits.TheVariants.{UntilFree}
+use Rattle.cell_control.specs.declared.share.Share.TheVariants.{Clear, Lent, Unclaimed}
+use Rattle.cell_control.specs.declared.share.ZoneShare.{ZoneShare}
+use Rattle.cell_table_press.specs.declared.press.PressPlates.{PressPlates}
+use Rattle.cell_table_press.specs.declared.press.PressPlates.TheVariants.{OneAtMost, Empty, Unforged, Forged}
+use Rattle.cell_table_press.specs.declared.press.PressShare.{PressShare}
 use Rattle.cell_table_press.specs.declared.press.PressStep.{PressStep}
 use Rattle.cell_table_press.specs.declared.press.PressStep.TheVariants.{ClaimFirst, LeaveForMiddle, MoveToMiddle}
 use Rattle.cell_table_press.specs.declared.press.PressStep.TheVariants.{PoseMiddle, ReleaseInterior, TakePlate}
@@ -63,6 +69,69 @@ row_at ClaimBack p = with_waits (asks p (Claim Z3) LeaveForMiddle) UntilFree
 
 abbrev pub row_of : PressProgress → Row PressProgress
 row_of p = row_at p.step p
+
+-- what the press keeps at each step: of its interior, and its plates
+abbrev pub keeps : ZoneShare → PressPlates → PressShare
+keeps interior plates = record { interior = interior; plates = plates }
+
+abbrev pub keeps_at : PressStep → PressShare
+keeps_at ClaimFirst = keeps (posed Unclaimed Closed) OneAtMost
+keeps_at LeaveForMiddle = keeps (unposed Clear) Empty
+keeps_at MoveToMiddle = keeps (posed Clear Moving) Empty
+keeps_at PoseMiddle = keeps (posed Clear Moving) Empty
+keeps_at ReleaseInterior = keeps (posed Clear OpenIn) Empty
+keeps_at TakePlate = keeps (posed Lent OpenIn) Empty
+keeps_at LeaveForTop = keeps (unposed Clear) Unforged
+keeps_at MoveToTop = keeps (posed Clear Moving) Unforged
+keeps_at PoseTop = keeps (posed Clear Moving) Unforged
+keeps_at Forge = keeps (posed Clear Closed) Unforged
+keeps_at LeaveForBottom = keeps (unposed Clear) Forged
+keeps_at MoveToBottom = keeps (posed Clear Moving) Forged
+keeps_at PoseLow = keeps (posed Clear Moving) Forged
+keeps_at GivePlate = keeps (posed Clear OpenOut) Forged
+keeps_at ClaimBack = keeps (posed Lent OpenOut) Empty
+
+-- the number of each step, and the steps in that order
+abbrev pub number_at : PressStep → ℕ
+number_at ClaimFirst = 0
+number_at LeaveForMiddle = 1
+number_at MoveToMiddle = 2
+number_at PoseMiddle = 3
+number_at ReleaseInterior = 4
+number_at TakePlate = 5
+number_at LeaveForTop = 6
+number_at MoveToTop = 7
+number_at PoseTop = 8
+number_at Forge = 9
+number_at LeaveForBottom = 10
+number_at MoveToBottom = 11
+number_at PoseLow = 12
+number_at GivePlate = 13
+number_at ClaimBack = 14
+
+abbrev pub steps : List PressStep
+steps =
+    ClaimFirst ∷ LeaveForMiddle ∷ MoveToMiddle ∷ PoseMiddle ∷ ReleaseInterior ∷ TakePlate ∷ LeaveForTop ∷
+    MoveToTop ∷ PoseTop ∷ Forge ∷ LeaveForBottom ∷ MoveToBottom ∷ PoseLow ∷ GivePlate ∷ ClaimBack ∷ []
+
+-- its zone, with its share; its plates, by its notes: never two
+abbrev pub zones_at : PressStep → List (Zone × ZoneShare)
+zones_at step = (Z3, (keeps_at step).interior) ∷ []
+
+abbrev pub are_there : PressPlates → Bool → Bool → Bool
+are_there OneAtMost unforged forged = not (unforged && forged)
+are_there Empty unforged forged = not unforged && not forged
+are_there Unforged unforged forged = unforged && not forged
+are_there Forged unforged forged = not unforged && forged
+
+-- its notes agree with its places
+abbrev pub is_noted : PressProgress → ModelState → Bool
+is_noted p s = same_flag (is_full s PressIn) p.loaded && same_flag (is_full s PressOut) p.forged
+
+-- the step is in step with a state: the zone, the plates and the notes are as it keeps them
+abbrev pub in_step : PressProgress → ModelState → Bool
+in_step p s =
+    are_kept (zones_at p.step) Press s && (are_there (keeps_at p.step).plates p.loaded p.forged && is_noted p s)
 
 abbrev pub after_done : PressProgress → PressProgress
 after_done p = (row_of p).next

@@ -1,9 +1,9 @@
 -- The table's program, row by row.
-use Rattle.std.specs.Prelude.{◌≡◌, ◌≢◌, ◌⊎◌, ◌<◌, ◌≤◌, ℕ, ℤ, Bool, true, false, ◌&&◌, if◌then◌else◌, List, Option}
-use Rattle.std.specs.Prelude.{Some, None, Result, Ok, Err}
+use Rattle.std.specs.Prelude.{◌≡◌, ◌≢◌, ◌⊎◌, ◌<◌, ◌≤◌, ℕ, ℤ, Bool, true, false, not, ◌&&◌, if◌then◌else◌, List, Option}
+use Rattle.std.specs.Prelude.{Some, None, [], ◌∷◌, Result, Ok, Err}
 use Rattle.cell_types.specs.declared.machine.Machine.TheVariants.{Table as TableMachine}
 use Rattle.cell_rules.specs.Types.{Z1, Z2, Pose, Turning, Loading, Unloading, Call, Claim, Give, Take, Release}
-use Rattle.cell_rules.specs.Types.{SetPose, Event}
+use Rattle.cell_rules.specs.Types.{SetPose, Event, Zone, Closed, OpenIn, OpenOut, Moving}
 use Rattle.cell_types.specs.declared.place.Place.TheVariants.{Table as OnTable}
 use Rattle.cell_sensors.specs.Names.{Scale, IsReading}
 use Rattle.cell_sensors.specs.declared.sense.TableSense.{TableSense}
@@ -16,11 +16,17 @@ use Rattle.cell_devices.specs.declared.stops.TheConstants.{TURN_LOADING, TURN_UN
 use Rattle.cell_devices.specs.declared.motor.Motor.TheVariants.{Off, Plus, Minus}
 use Rattle.cell_devices.specs.declared.stops.Stop.{Stop}
 use Rattle.cell_devices.specs.declared.act.TableAct.{TableAct}
-use Rattle.cell_rules.specs.Names.{ModelState, is_full, Holds, Moves}
+use Rattle.cell_rules.specs.Names.{ModelState, is_full, Holds, Moves, same_flag}
 use Rattle.cell_control.specs.Names.{row_that_asks, row_that_drives, with_waits, Steps}
+use Rattle.cell_control.specs.Keeping.{posed, unposed, are_kept}
 use Rattle.cell_control.specs.declared.row.Row.{Row}
 use Rattle.cell_control.specs.declared.row.Waits.TheVariants.{UntilOwner, UntilRoom}
 use Rattle.cell_control.specs.declared.row.Waits.TheVariants.{UntilFree}
+use Rattle.cell_control.specs.declared.share.Share.TheVariants.{Clear, Lent, Unclaimed}
+use Rattle.cell_control.specs.declared.share.ZoneShare.{ZoneShare}
+use Rattle.cell_table_press.specs.declared.table.TablePlate.{TablePlate}
+use Rattle.cell_table_press.specs.declared.table.TablePlate.TheVariants.{Any, Empty, Full}
+use Rattle.cell_table_press.specs.declared.table.TableShare.{TableShare}
 use Rattle.cell_table_press.specs.declared.table.TableStep.{TableStep}
 use Rattle.cell_table_press.specs.declared.table.TableStep.TheVariants.{ClaimEntry, ClaimExit, LeaveForLoading}
 use Rattle.cell_table_press.specs.declared.table.TableStep.TheVariants.{MoveToLoading, PoseLoading, ReleaseEntry}
@@ -64,6 +70,59 @@ row_at ClaimBack p = with_waits (asks p (Claim Z2) LeaveForLoading) UntilFree
 
 abbrev pub row_of : TableProgress → Row TableProgress
 row_of p = row_at p.step p
+
+-- what the table keeps at each step: of the zone that it shares with the feed belt, of that with the robot, and its plate
+abbrev pub keeps : ZoneShare → ZoneShare → TablePlate → TableShare
+keeps entry exit plate = record { entry = entry; exit = exit; plate = plate }
+
+abbrev pub keeps_at : TableStep → TableShare
+keeps_at ClaimEntry = keeps (posed Unclaimed Closed) (posed Unclaimed Closed) Any
+keeps_at ClaimExit = keeps (unposed Clear) (posed Unclaimed Closed) Any
+keeps_at LeaveForLoading = keeps (unposed Clear) (unposed Clear) Empty
+keeps_at MoveToLoading = keeps (posed Clear Moving) (posed Clear Moving) Empty
+keeps_at PoseLoading = keeps (posed Clear Moving) (posed Clear Moving) Empty
+keeps_at ReleaseEntry = keeps (posed Clear OpenIn) (posed Clear Closed) Empty
+keeps_at TakePlate = keeps (posed Lent OpenIn) (posed Clear Closed) Empty
+keeps_at LeaveForUnloading = keeps (unposed Clear) (unposed Clear) Full
+keeps_at MoveToUnloading = keeps (posed Clear Moving) (posed Clear Moving) Full
+keeps_at PoseUnloading = keeps (posed Clear Moving) (posed Clear Moving) Full
+keeps_at GivePlate = keeps (posed Clear Closed) (posed Clear OpenOut) Full
+keeps_at ClaimBack = keeps (posed Clear Closed) (posed Lent OpenOut) Empty
+
+-- the number of each step, and the steps in that order
+abbrev pub number_at : TableStep → ℕ
+number_at ClaimEntry = 0
+number_at ClaimExit = 1
+number_at LeaveForLoading = 2
+number_at MoveToLoading = 3
+number_at PoseLoading = 4
+number_at ReleaseEntry = 5
+number_at TakePlate = 6
+number_at LeaveForUnloading = 7
+number_at MoveToUnloading = 8
+number_at PoseUnloading = 9
+number_at GivePlate = 10
+number_at ClaimBack = 11
+
+abbrev pub steps : List TableStep
+steps =
+    ClaimEntry ∷ ClaimExit ∷ LeaveForLoading ∷ MoveToLoading ∷ PoseLoading ∷ ReleaseEntry ∷ TakePlate ∷
+    LeaveForUnloading ∷ MoveToUnloading ∷ PoseUnloading ∷ GivePlate ∷ ClaimBack ∷ []
+
+-- its zones, with its shares; its plate, by its note
+abbrev pub zones_at : TableStep → List (Zone × ZoneShare)
+zones_at step = (Z1, (keeps_at step).entry) ∷ (Z2, (keeps_at step).exit) ∷ []
+
+abbrev pub is_there : TablePlate → Bool → Bool
+is_there Any loaded = true
+is_there Empty loaded = not loaded
+is_there Full loaded = loaded
+
+-- the step is in step with a state: the zones, the plate and the note are as it keeps them
+abbrev pub in_step : TableProgress → ModelState → Bool
+in_step p s =
+    are_kept (zones_at p.step) TableMachine s
+    && (is_there (keeps_at p.step).plate p.loaded && same_flag (is_full s OnTable) p.loaded)
 
 abbrev pub after_done : TableProgress → TableProgress
 after_done p = (row_of p).next

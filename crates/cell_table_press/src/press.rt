@@ -1,8 +1,8 @@
 //! The press's program: its steps, a row for each, and what its motor does.
-ghost use Rattle.std.specs.Prelude.{◌≡◌};
+ghost use Rattle.std.specs.Prelude.{◌≡◌, ◌≤◌, slice_get};
 ghost use Rattle.cell_table_press.specs.PressProgram as program;
 
-use cell_control::{Controller, Program, Row, Waits};
+use cell_control::{Controller, Program, Row, Share, Waits, ZoneShare, are_kept};
 use cell_devices::{Direction, Motor, PressAct, press_to_bottom, press_to_middle, press_to_top};
 use cell_rules::State;
 use cell_sensors::{PressSense, SensorFault};
@@ -55,7 +55,133 @@ pub struct PressProgress {
     pub direction: Direction,
 }
 
+/// What the press keeps at a step.
+#[derive(Clone, Copy, Debug, PartialEq, Eq)]
+pub struct PressShare {
+    /// Its share of its interior.
+    pub interior: ZoneShare,
+    /// Its plates.
+    pub plates: PressPlates,
+}
+
+/// The plates in the press.
+#[derive(Clone, Copy, Debug, PartialEq, Eq)]
+pub enum PressPlates {
+    /// One at most, unforged or forged.
+    OneAtMost,
+    /// None.
+    Empty,
+    /// An unforged one.
+    Unforged,
+    /// A forged one.
+    Forged,
+}
+
+impl PressShare {
+    fn new(interior: ZoneShare, plates: PressPlates) -> PressShare
+        ensures { result ≡ program.keeps interior plates }
+    {
+        PressShare { interior, plates }
+    }
+}
+
+impl PressPlates {
+    /// Whether the press has these plates, by whether it has an unforged and a forged one.
+    pub fn are_there(self, unforged: bool, forged: bool) -> bool
+        ensures { result ≡ program.are_there self unforged forged }
+    {
+        match self {
+            PressPlates::OneAtMost => !(unforged && forged),
+            PressPlates::Empty => !unforged && !forged,
+            PressPlates::Unforged => unforged && !forged,
+            PressPlates::Forged => !unforged && forged,
+        }
+    }
+}
+
+impl PressStep {
+    /// The steps, in the order of their numbers.
+    pub const ALL: [PressStep; 15] = [
+        PressStep::ClaimFirst,
+        PressStep::LeaveForMiddle,
+        PressStep::MoveToMiddle,
+        PressStep::PoseMiddle,
+        PressStep::ReleaseInterior,
+        PressStep::TakePlate,
+        PressStep::LeaveForTop,
+        PressStep::MoveToTop,
+        PressStep::PoseTop,
+        PressStep::Forge,
+        PressStep::LeaveForBottom,
+        PressStep::MoveToBottom,
+        PressStep::PoseLow,
+        PressStep::GivePlate,
+        PressStep::ClaimBack,
+    ];
+
+    /// The step with this number; `None` if no step has it.
+    pub fn with_number(number: u8) -> Option<PressStep>
+        ensures { result ≡ slice_get program.steps number }
+    {
+        PressStep::ALL.get(usize::from(number)).copied()
+    }
+
+    /// The number of the step.
+    pub fn number(self) -> u8
+        ensures number { result ≡ program.number_at self }
+        ensures small { result ≤ 14 }
+    {
+        self as u8
+    }
+
+    /// What the press keeps at the step.
+    pub fn keeps(self) -> PressShare
+        ensures { result ≡ program.keeps_at self }
+    {
+        let unclaimed = Share::Unclaimed.in_posture(Posture::Closed);
+        let clear = Share::Clear.in_any_posture();
+        let shut = Share::Clear.in_posture(Posture::Closed);
+        let moving = Share::Clear.in_posture(Posture::Moving);
+        let opened = Share::Clear.in_posture(Posture::OpenIn);
+        let lent = Share::Lent.in_posture(Posture::OpenIn);
+        let offered = Share::Clear.in_posture(Posture::OpenOut);
+        let emptied = Share::Lent.in_posture(Posture::OpenOut);
+        match self {
+            PressStep::ClaimFirst => PressShare::new(unclaimed, PressPlates::OneAtMost),
+            PressStep::LeaveForMiddle => PressShare::new(clear, PressPlates::Empty),
+            PressStep::MoveToMiddle | PressStep::PoseMiddle => {
+                PressShare::new(moving, PressPlates::Empty)
+            }
+            PressStep::ReleaseInterior => PressShare::new(opened, PressPlates::Empty),
+            PressStep::TakePlate => PressShare::new(lent, PressPlates::Empty),
+            PressStep::LeaveForTop => PressShare::new(clear, PressPlates::Unforged),
+            PressStep::MoveToTop | PressStep::PoseTop => {
+                PressShare::new(moving, PressPlates::Unforged)
+            }
+            PressStep::Forge => PressShare::new(shut, PressPlates::Unforged),
+            PressStep::LeaveForBottom => PressShare::new(clear, PressPlates::Forged),
+            PressStep::MoveToBottom | PressStep::PoseLow => {
+                PressShare::new(moving, PressPlates::Forged)
+            }
+            PressStep::GivePlate => PressShare::new(offered, PressPlates::Forged),
+            PressStep::ClaimBack => PressShare::new(emptied, PressPlates::Empty),
+        }
+    }
+}
+
 impl PressProgress {
+    /// Whether the step is in step with a state: the zone, the plates and the notes are as it keeps
+    /// them.
+    pub fn is_in_step(self, state: &State) -> bool
+        ensures { result ≡ program.in_step self state.now }
+    {
+        let keeps = self.step.keeps();
+        are_kept(&[(Zone::Z3, keeps.interior)], Machine::Press, state)
+            && keeps.plates.are_there(self.loaded, self.forged)
+            && state.is_full(Place::PressIn) == self.loaded
+            && state.is_full(Place::PressOut) == self.forged
+    }
+
     // The row of its step.
     #[inline(always)]
     fn row(self) -> Row<PressProgress>

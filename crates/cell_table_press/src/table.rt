@@ -1,10 +1,10 @@
 //! The table's program: its steps, a row for each, and what its motors do.
-ghost use Rattle.std.specs.Prelude.{◌≡◌, ◌≤◌, IfSome};
+ghost use Rattle.std.specs.Prelude.{◌≡◌, ◌≤◌, IfSome, slice_get};
 ghost use Rattle.cell_devices.specs.Drives.{DrivesTo, narrowest_half};
 ghost use Rattle.cell_table_press.specs.TableProgram as program;
 ghost use Rattle.cell_table_press.specs.Calibrations.{turn_in};
 
-use cell_control::{Controller, Program, Row, Waits};
+use cell_control::{Controller, Program, Row, Share, Waits, ZoneShare, are_kept};
 use cell_devices::stops::{TURN_LOADING, TURN_UNLOADING};
 use cell_devices::{Motor, Stop, TableAct, drive_to, table_to_bottom, table_to_top};
 use cell_rules::State;
@@ -57,7 +57,62 @@ pub struct TableReading {
     pub turn: i32,
 }
 
+/// What the table keeps at a step.
+#[derive(Clone, Copy, Debug, PartialEq, Eq)]
+pub struct TableShare {
+    /// Its share of the zone of the feed belt.
+    pub entry: ZoneShare,
+    /// Its share of the zone of the robot.
+    pub exit: ZoneShare,
+    /// Its plate.
+    pub plate: TablePlate,
+}
+
+/// The plate on the table.
+#[derive(Clone, Copy, Debug, PartialEq, Eq)]
+pub enum TablePlate {
+    /// Perhaps one.
+    Any,
+    /// None.
+    Empty,
+    /// One.
+    Full,
+}
+
+impl TableShare {
+    fn new(entry: ZoneShare, exit: ZoneShare, plate: TablePlate) -> TableShare
+        ensures { result ≡ program.keeps entry exit plate }
+    {
+        TableShare { entry, exit, plate }
+    }
+}
+
+impl TablePlate {
+    /// Whether this is so, by the table's note.
+    pub fn is_there(self, loaded: bool) -> bool
+        ensures { result ≡ program.is_there self loaded }
+    {
+        match self {
+            TablePlate::Any => true,
+            TablePlate::Empty => !loaded,
+            TablePlate::Full => loaded,
+        }
+    }
+}
+
 impl TableProgress {
+    /// Whether the step is in step with a state: the zones, the plate and the note are as it keeps
+    /// them.
+    pub fn is_in_step(self, state: &State) -> bool
+        ensures { result ≡ program.in_step self state.now }
+    {
+        let keeps = self.step.keeps();
+        let zones = [(Zone::Z1, keeps.entry), (Zone::Z2, keeps.exit)];
+        are_kept(&zones, Machine::Table, state)
+            && keeps.plate.is_there(self.loaded)
+            && state.is_full(Place::Table) == self.loaded
+    }
+
     // The row of its step.
     #[inline(always)]
     fn row(self) -> Row<TableProgress>
@@ -133,6 +188,86 @@ impl TableProgress {
 }
 
 impl TableStep {
+    /// The steps, in the order of their numbers.
+    pub const ALL: [TableStep; 12] = [
+        TableStep::ClaimEntry,
+        TableStep::ClaimExit,
+        TableStep::LeaveForLoading,
+        TableStep::MoveToLoading,
+        TableStep::PoseLoading,
+        TableStep::ReleaseEntry,
+        TableStep::TakePlate,
+        TableStep::LeaveForUnloading,
+        TableStep::MoveToUnloading,
+        TableStep::PoseUnloading,
+        TableStep::GivePlate,
+        TableStep::ClaimBack,
+    ];
+
+    /// The step with this number; `None` if no step has it.
+    pub fn with_number(number: u8) -> Option<TableStep>
+        ensures { result ≡ slice_get program.steps number }
+    {
+        TableStep::ALL.get(usize::from(number)).copied()
+    }
+
+    /// The number of the step.
+    pub fn number(self) -> u8
+        ensures { result ≡ program.number_at self }
+    {
+        self as u8
+    }
+
+    /// What the table keeps at the step.
+    pub fn keeps(self) -> TableShare
+        ensures { result ≡ program.keeps_at self }
+    {
+        let unclaimed = Share::Unclaimed.in_posture(Posture::Closed);
+        let clear = Share::Clear.in_any_posture();
+        let shut = Share::Clear.in_posture(Posture::Closed);
+        let moving = Share::Clear.in_posture(Posture::Moving);
+        match self {
+            TableStep::ClaimEntry => TableShare::new(unclaimed, unclaimed, TablePlate::Any),
+            TableStep::ClaimExit => TableShare::new(clear, unclaimed, TablePlate::Any),
+            TableStep::LeaveForLoading => TableShare::new(clear, clear, TablePlate::Empty),
+            TableStep::MoveToLoading | TableStep::PoseLoading => {
+                TableShare::new(moving, moving, TablePlate::Empty)
+            }
+            TableStep::ReleaseEntry => {
+                TableShare::new(
+                    Share::Clear.in_posture(Posture::OpenIn),
+                    shut,
+                    TablePlate::Empty,
+                )
+            }
+            TableStep::TakePlate => {
+                TableShare::new(
+                    Share::Lent.in_posture(Posture::OpenIn),
+                    shut,
+                    TablePlate::Empty,
+                )
+            }
+            TableStep::LeaveForUnloading => TableShare::new(clear, clear, TablePlate::Full),
+            TableStep::MoveToUnloading | TableStep::PoseUnloading => {
+                TableShare::new(moving, moving, TablePlate::Full)
+            }
+            TableStep::GivePlate => {
+                TableShare::new(
+                    shut,
+                    Share::Clear.in_posture(Posture::OpenOut),
+                    TablePlate::Full,
+                )
+            }
+            TableStep::ClaimBack => {
+                TableShare::new(
+                    shut,
+                    Share::Lent.in_posture(Posture::OpenOut),
+                    TablePlate::Empty,
+                )
+            }
+        }
+    }
+
     // The height motor's command in the step.
     fn height(self, table: &TableSense) -> Motor
         ensures { result ≡ program.height_for self table.now }

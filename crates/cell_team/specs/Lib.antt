@@ -2,5 +2,4 @@ pub mod Team
 pub mod Heeded
 pub mod WrongPrograms
 pub mod Renewals
-pub mod RobotPlates
 pub mod Names

@@ -1,38 +1,18 @@
 -- The robot is never refused.
-use Rattle.cell_team.proofs.Names.{◌≡◌, ◌+◌, ◌&&◌, Bool, true, false, not, if◌then◌else◌, List, [], ◌∷◌, Option, Some, None, refl, sym, ap, ◌∙◌, subst, arith, ⊤, ◌||◌, Machine, Robot, Deposit, Z2, Z3, Z4, Arm1, Arm2, PressIn, PressOut, DepEntry, Posture, Closed, Moving, OpenIn, OpenOut, Call, Give, Take, Release, Inquire, PlaceFull, Done, Shown, transfer_of, same_posture, has, ModelState, zone_at, is_full, one_if, IsSound, is_owned_by, is_open, is_received_by, owns, owner_of, posture_at}
+use Rattle.cell_team.proofs.Names.{◌≡◌, ◌+◌, ◌&&◌, Bool, true, false, not, if◌then◌else◌, [], ◌∷◌, Option, Some, None, refl, sym, ap, ◌∙◌, subst, arith, ⊤, ◌||◌, Machine, Robot, Deposit, Z2, Z3, Z4, Arm1, Arm2, PressIn, PressOut, DepEntry, Posture, Closed, Moving, OpenIn, OpenOut, Call, Give, Take, Release, Inquire, PlaceFull, Done, Shown, transfer_of, same_posture, has, ModelState, zone_at, is_full, one_if, IsSound, is_owned_by, is_open, is_received_by, owns, owner_of, posture_at}
 use Rattle.cell_team.proofs.Names.{given_by, reply, changed, emptied, filled, IsStartState, owned_as, take_owned, and_left, implied, full-foreign, Never, robot_steps, RobotStep, RobotProgress}
 use Rattle.cell_robot.specs.Names.{RobotScales, RobotGauges, row_at, row_of, step_after_inquiry, after_done, is_done, robot_start}
-use Rattle.cell_robot.specs.declared.robot.RobotStep.TheVariants.{TurnToTable, AwaitPlate, ReachTable, GripPlate, LeaveTable, TakePlate, ReleaseTable, TurnToLoad, ClaimPress, InspectPress, ReleasePress, ReachToLoad, DropInPress, LeaveLoaded, GiveToPress, TurnToUnload, AwaitForged, ReachToUnload, GripForged, LeaveUnloaded, TakeForged, ReleaseUnloaded, TurnToDeposit, ClaimDeposit, ReachDeposit, DropOnDeposit, LeaveDeposit, GiveToDeposit}
-use Rattle.cell_team.specs.RobotPlates.{has_plates}
+use Rattle.cell_robot.specs.declared.robot.RobotStep.TheVariants.{TurnToTable, AwaitPlate, TakePlate, ReleaseTable, TurnToLoad, ClaimPress, InspectPress, ReleasePress, GiveToPress, TurnToUnload, AwaitForged, TakeForged, ReleaseUnloaded, TurnToDeposit, ClaimDeposit, GiveToDeposit}
+use Rattle.cell_control.specs.Keeping.{unposed}
+use Rattle.cell_control.specs.declared.share.Share.TheVariants.{Lent, Any}
+use Rattle.cell_control.proofs.lemmas.SharedZones.{AreSure, AreShared}
+use Rattle.cell_robot.specs.RobotKeeps.{zones_at, has_plates}
 use Rattle.cell_robot.proofs.lemmas.RobotFacts as known
 use Rattle.cell_control.proofs.lemmas.Facts as facts
 use Rattle.cell_team.proofs.Waiting.{Heeds, none_only, unless, claim_in, take_own, give_only, release_only}
-use Rattle.cell_team.proofs.lemmas.Shares.{Share, Clear, Loaded, Lent, AreSo, are_foreign, no_both, unowned, clear_of, noted_full}
+use Rattle.cell_team.proofs.lemmas.Shares.{shared_foreign, no_both, unowned, clear_of, noted_full}
 use Rattle.cell_team.proofs.InsidePress.{inside, inside-changed, inside-foreign, none_inside}
 use Rattle.cell_team.proofs.lemmas.Reaching.{KnowingMore, asks_no_yield}
-
-abbrev pub shares_at : RobotStep → List Share
-shares_at ReachTable = Lent Z3 ∷ Lent Z4 ∷ Loaded Z2 ∷ []
-shares_at GripPlate = Lent Z3 ∷ Lent Z4 ∷ Loaded Z2 ∷ []
-shares_at LeaveTable = Lent Z3 ∷ Lent Z4 ∷ Loaded Z2 ∷ []
-shares_at TakePlate = Lent Z3 ∷ Lent Z4 ∷ Loaded Z2 ∷ []
-shares_at ReleaseTable = Lent Z3 ∷ Lent Z4 ∷ Clear Z2 ∷ []
-shares_at InspectPress = Lent Z4 ∷ []
-shares_at ReleasePress = Lent Z4 ∷ []
-shares_at ReachToLoad = Lent Z4 ∷ []
-shares_at DropInPress = Lent Z4 ∷ []
-shares_at LeaveLoaded = Lent Z4 ∷ []
-shares_at GiveToPress = Lent Z4 ∷ []
-shares_at ReachToUnload = Lent Z4 ∷ Loaded Z3 ∷ []
-shares_at GripForged = Lent Z4 ∷ Loaded Z3 ∷ []
-shares_at LeaveUnloaded = Lent Z4 ∷ Loaded Z3 ∷ []
-shares_at TakeForged = Lent Z4 ∷ Loaded Z3 ∷ []
-shares_at ReleaseUnloaded = Lent Z4 ∷ Clear Z3 ∷ []
-shares_at ReachDeposit = Lent Z3 ∷ []
-shares_at DropOnDeposit = Lent Z3 ∷ []
-shares_at LeaveDeposit = Lent Z3 ∷ []
-shares_at GiveToDeposit = Lent Z3 ∷ []
-shares_at _ = Lent Z3 ∷ Lent Z4 ∷ []
 
 -- the notes agree with the arms' places, and with the plates that the robot brought into the press and hasn't fetched
 pub record Noted (first second fed : Bool) (z : ModelState) : Type 0 where
@@ -41,7 +21,7 @@ pub record Noted (first second fed : Bool) (z : ModelState) : Type 0 where
   pub press : inside z ≡ one_if fed
 
 pub record MoreAt (s : RobotStep) (first second fed : Bool) (z : ModelState) : Type 0 where
-  pub shares : AreSo Robot z (shares_at s)
+  pub shares : AreShared Robot z (zones_at s)
   pub plates : has_plates s first second fed ≡ true
   pub noted : Noted first second fed z
 
@@ -58,7 +38,7 @@ drive_on true p z e k = done_drive p.step p z e k
 drive_on false p z e k = k
 
 -- at the first step of a group
-at_choice : (first second fed : Bool) (z : ModelState) → AreSo Robot z (Lent Z3 ∷ Lent Z4 ∷ []) → Noted first second fed z
+at_choice : (first second fed : Bool) (z : ModelState) → AreShared Robot z ((Z2, unposed Any) ∷ (Z3, unposed Lent) ∷ (Z4, unposed Lent) ∷ []) → Noted first second fed z
     → MoreAt (if second then TurnToDeposit else (if fed then TurnToUnload else (if first then TurnToLoad else TurnToTable))) first second fed z
 at_choice first true fed z k n = record { shares = k; plates = refl; noted = n }
 at_choice first false true z k n = record { shares = k; plates = refl; noted = n }
@@ -109,24 +89,24 @@ abbrev AfterCall : ModelState → Option Call → RobotProgress → Type 0
 AfterCall z None q = ⊤
 AfterCall z (Some c) q = reply z Robot c ≡ Done → RobotMore q (changed z Robot c)
 
-after_call : (s : RobotStep) (p : RobotProgress) (z : ModelState) → IsSound z → facts.AreSo Robot z (known.facts_at s) → MoreAt s p.notes.arm1 p.notes.arm2 p.notes.fed z → AfterCall z (row_at s p).call (row_at s p).next
+after_call : (s : RobotStep) (p : RobotProgress) (z : ModelState) → IsSound z → AreSure Robot z (zones_at s) → MoreAt s p.notes.arm1 p.notes.arm2 p.notes.fed z → AfterCall z (row_at s p).call (row_at s p).next
 after_call AwaitPlate p z sound f k = λ d. cc
-after_call TakePlate p z sound f k = λ d. record { shares = (k.shares.0, (k.shares.1.0, ((take_owned z Robot Z2 d, refl), tt))); plates = refl; noted = took_table z sound _ _ _ k.noted f.0.1 d }
-after_call ReleaseTable p z sound f k = λ d. at_choice p.notes.arm1 p.notes.arm2 p.notes.fed (changed z Robot (Release Z2)) (k.shares.0, (k.shares.1.0, tt)) (record { arm1 = k.noted.arm1; arm2 = k.noted.arm2; press = k.noted.press })
-after_call ClaimPress p z sound f k = λ d. record { shares = (k.shares.1.0, tt); plates = k.plates; noted = record { arm1 = k.noted.arm1; arm2 = k.noted.arm2; press = k.noted.press } }
+after_call TakePlate p z sound f k = λ d. record { shares = ((take_owned z Robot Z2 d, refl), k.shares.1); plates = refl; noted = took_table z sound _ _ _ k.noted f.0.1 d }
+after_call ReleaseTable p z sound f k = λ d. at_choice p.notes.arm1 p.notes.arm2 p.notes.fed (changed z Robot (Release Z2)) (tt, k.shares.1) (record { arm1 = k.noted.arm1; arm2 = k.noted.arm2; press = k.noted.press })
+after_call ClaimPress p z sound f k = λ d. record { shares = (tt, (refl, k.shares.1.1)); plates = k.plates; noted = record { arm1 = k.noted.arm1; arm2 = k.noted.arm2; press = k.noted.press } }
 after_call InspectPress p z sound f k = λ d. cc
-after_call ReleasePress p z sound f k = λ d. record { shares = (λ o. cc, (k.shares.0, tt)); plates = k.plates; noted = record { arm1 = k.noted.arm1; arm2 = k.noted.arm2; press = k.noted.press } }
-after_call GiveToPress p z sound f k = λ d. at_choice false p.notes.arm2 true (changed z Robot (Give Z3)) (λ o. cc, (k.shares.0, tt)) (gave_press z sound _ _ _ k.noted f.0.1 d (not_fed p.notes.arm1 p.notes.fed k.plates))
+after_call ReleasePress p z sound f k = λ d. record { shares = (tt, (λ o. cc, k.shares.1.1)); plates = k.plates; noted = record { arm1 = k.noted.arm1; arm2 = k.noted.arm2; press = k.noted.press } }
+after_call GiveToPress p z sound f k = λ d. at_choice false p.notes.arm2 true (changed z Robot (Give Z3)) (tt, (λ o. cc, k.shares.1.1)) (gave_press z sound _ _ _ k.noted f.1.0.1 d (not_fed p.notes.arm1 p.notes.fed k.plates))
 after_call AwaitForged p z sound f k = λ d. cc
-after_call TakeForged p z sound f k = λ d. record { shares = (k.shares.0, ((take_owned z Robot Z3 d, refl), tt)); plates = refl; noted = took_press z sound _ _ _ k.noted f.0.1 d k.plates }
-after_call ReleaseUnloaded p z sound f k = λ d. at_choice p.notes.arm1 p.notes.arm2 p.notes.fed (changed z Robot (Release Z3)) (λ o. cc, (k.shares.0, tt)) (record { arm1 = k.noted.arm1; arm2 = k.noted.arm2; press = k.noted.press })
-after_call ClaimDeposit p z sound f k = λ d. record { shares = (k.shares.0, tt); plates = k.plates; noted = record { arm1 = k.noted.arm1; arm2 = k.noted.arm2; press = k.noted.press } }
-after_call GiveToDeposit p z sound f k = λ d. at_choice p.notes.arm1 false p.notes.fed (changed z Robot (Give Z4)) (k.shares.0, (λ o. cc, tt)) (gave_deposit z sound _ _ _ k.noted f.0.1 d)
+after_call TakeForged p z sound f k = λ d. record { shares = (tt, ((take_owned z Robot Z3 d, refl), k.shares.1.1)); plates = refl; noted = took_press z sound _ _ _ k.noted f.1.0.1 d k.plates }
+after_call ReleaseUnloaded p z sound f k = λ d. at_choice p.notes.arm1 p.notes.arm2 p.notes.fed (changed z Robot (Release Z3)) (tt, (λ o. cc, k.shares.1.1)) (record { arm1 = k.noted.arm1; arm2 = k.noted.arm2; press = k.noted.press })
+after_call ClaimDeposit p z sound f k = λ d. record { shares = (tt, (k.shares.1.0, (refl, tt))); plates = k.plates; noted = record { arm1 = k.noted.arm1; arm2 = k.noted.arm2; press = k.noted.press } }
+after_call GiveToDeposit p z sound f k = λ d. at_choice p.notes.arm1 false p.notes.fed (changed z Robot (Give Z4)) (tt, (k.shares.1.0, (λ o. cc, tt))) (gave_deposit z sound _ _ _ k.noted f.1.1.0.1 d)
 after_call _ p z sound f k = tt
 
 -- ---- after an inquiry that showed this
 at_table : (z : ModelState) (o : Option Machine) (f : Bool) (q : Posture) (first second fed : Bool) → facts.Stands z Z2 o f q → MoreAt AwaitPlate first second fed z → MoreAt (step_after_inquiry AwaitPlate o f q) first second fed z
-at_table z (Some Robot) true q first second fed s k = record { shares = (k.shares.0, (k.shares.1.0, ((ap (λ x. is_owned_by x Robot) s.owner, s.flag), tt))); plates = refl; noted = k.noted }
+at_table z (Some Robot) true q first second fed s k = record { shares = ((ap (λ x. is_owned_by x Robot) s.owner, s.flag), k.shares.1); plates = refl; noted = k.noted }
 at_table z o f q first second fed s k = k
 
 before_press : (z : ModelState) (o : Option Machine) (f : Bool) (q : Posture) (first second fed : Bool) → MoreAt InspectPress first second fed z → MoreAt (step_after_inquiry InspectPress o f q) first second fed z
@@ -134,7 +114,7 @@ before_press z o f OpenIn first second fed k = record { shares = k.shares; plate
 before_press z o f q first second fed k = record { shares = k.shares; plates = k.plates; noted = k.noted }
 
 at_press : (z : ModelState) (o : Option Machine) (f : Bool) (q : Posture) (first second fed : Bool) → facts.Stands z Z3 o f q → MoreAt AwaitForged first second fed z → MoreAt (step_after_inquiry AwaitForged o f q) first second fed z
-at_press z (Some Robot) true q first second fed s k = record { shares = (k.shares.1.0, ((ap (λ x. is_owned_by x Robot) s.owner, s.flag), tt)); plates = k.plates; noted = k.noted }
+at_press z (Some Robot) true q first second fed s k = record { shares = (tt, ((ap (λ x. is_owned_by x Robot) s.owner, s.flag), k.shares.1.1)); plates = k.plates; noted = k.noted }
 at_press z o f q first second fed s k = k
 
 asked : (a c : Call) → Some a ≡ Some c → c ≡ a
@@ -149,7 +129,7 @@ shown_call s p c z o f q a b g e d k = k
 pub robot-more : (points : RobotScales) (gives : RobotGauges) → KnowingMore (robot_steps points gives) known.RobotKnows RobotMore
 robot-more points gives = record {
   foreign = λ p z n c apart sound polite k. record {
-    shares = are_foreign Robot n c z (shares_at p.step) apart sound polite k.shares;
+    shares = shared_foreign Robot n c z (zones_at p.step) (known.robot_firm p.step) apart sound polite k.shares;
     plates = k.plates;
     noted = record {
       arm1 = full-foreign z n c Arm1 sound apart ∙ k.noted.arm1;
@@ -172,7 +152,7 @@ one_of false false e = refl
 pub robot_begins : (z : ModelState) → IsStartState z → RobotMore (robot_start z) z
 robot_begins z k =
     let At : ModelState → Type 0 = λ x. (is_full x PressIn && is_full x PressOut) ≡ false → RobotMore (robot_start x) x in
-    subst At (sym k.same) (λ e. at_choice _ _ _ _ (λ o. cc, (λ o. cc, tt)) (record { arm1 = refl; arm2 = refl; press = one_of _ _ e })) k.start.one_in_press_at_most
+    subst At (sym k.same) (λ e. at_choice _ _ _ _ (tt, (λ o. cc, (λ o. cc, tt))) (record { arm1 = refl; arm2 = refl; press = one_of _ _ e })) k.start.one_in_press_at_most
 
 pub never_yields : (s : RobotStep) (p : RobotProgress) → asks_no_yield (row_at s p).call ≡ true
 never_yields AwaitPlate p = refl
@@ -204,27 +184,27 @@ others z own = owned_as (owner_of z Z4) Robot Deposit own
 abbrev pub DepositHasRoom : ModelState → Type 0
 DepositHasRoom z = posture_at z Z4 ≡ OpenIn → owns z Deposit Z4 ≡ false → is_full z DepEntry ≡ false
 
-heeds_at : (s : RobotStep) (p : RobotProgress) (z : ModelState) → IsSound z → DepositHasRoom z → facts.AreSo Robot z (known.facts_at s) → MoreAt s p.notes.arm1 p.notes.arm2 p.notes.fed z → Heeds (row_at s p).waits z Robot (row_at s p).call
+heeds_at : (s : RobotStep) (p : RobotProgress) (z : ModelState) → IsSound z → DepositHasRoom z → AreSure Robot z (zones_at s) → MoreAt s p.notes.arm1 p.notes.arm2 p.notes.fed z → Heeds (row_at s p).waits z Robot (row_at s p).call
 heeds_at AwaitPlate p z sound space f k = none_only Never
-heeds_at TakePlate p z sound space f k = take_own z Robot Z2 refl k.shares.1.1.0.0 k.shares.1.1.0.1
-heeds_at ReleaseTable p z sound space f k = release_only z Robot Z2 refl k.shares.1.1.0.0 k.shares.1.1.0.1 (ap (λ q. same_posture q Moving) f.0.1) refl
+heeds_at TakePlate p z sound space f k = take_own z Robot Z2 refl k.shares.0.0 k.shares.0.1
+heeds_at ReleaseTable p z sound space f k = release_only z Robot Z2 refl k.shares.0.0 k.shares.0.1 (ap (λ q. same_posture q Moving) f.0.1) refl
 heeds_at ClaimPress p z sound space f k =
-    claim_in z Robot Z3 refl (without_plate (owns z Robot Z3) (zone_at z Z3).flag k.shares.0 (nothing z sound _ _ _ k.noted (not_fed p.notes.arm1 p.notes.fed k.plates)).2)
+    claim_in z Robot Z3 refl (without_plate (owns z Robot Z3) (zone_at z Z3).flag k.shares.1.0 (nothing z sound _ _ _ k.noted (not_fed p.notes.arm1 p.notes.fed k.plates)).2)
 heeds_at InspectPress p z sound space f k = none_only Never
 heeds_at ReleasePress p z sound space f k =
-    release_only z Robot Z3 refl f.0 (nothing z sound _ _ _ k.noted (not_fed p.notes.arm1 p.notes.fed k.plates)).2
-    (open_stands (posture_at z Z3) (implied (owns z Robot Z3) (is_open (posture_at z Z3)) (sound.guest_only_while_open Z3) f.0)) refl
+    release_only z Robot Z3 refl f.1.0.0 (nothing z sound _ _ _ k.noted (not_fed p.notes.arm1 p.notes.fed k.plates)).2
+    (open_stands (posture_at z Z3) (implied (owns z Robot Z3) (is_open (posture_at z Z3)) (sound.guest_only_while_open Z3) f.1.0.0)) refl
 heeds_at GiveToPress p z sound space f k =
     let none = nothing z sound _ _ _ k.noted (not_fed p.notes.arm1 p.notes.fed k.plates) in
-    give_only Never z Robot Z3 _ refl f.0.0 none.2 (ap (λ q. given_by Robot (transfer_of Z3 q)) f.0.1)
+    give_only Never z Robot Z3 _ refl f.1.0.0 none.2 (ap (λ q. given_by Robot (transfer_of Z3 q)) f.1.0.1)
     (noted_full _ _ k.noted.arm1 (and_left p.notes.arm1 (not p.notes.fed) k.plates)) (unless Never (is_full z PressIn) PlaceFull none.0)
 heeds_at AwaitForged p z sound space f k = none_only Never
 heeds_at TakeForged p z sound space f k = take_own z Robot Z3 refl k.shares.1.0.0 k.shares.1.0.1
-heeds_at ReleaseUnloaded p z sound space f k = release_only z Robot Z3 refl k.shares.1.0.0 k.shares.1.0.1 (ap (λ q. same_posture q Moving) f.0.1) refl
-heeds_at ClaimDeposit p z sound space f k = claim_in z Robot Z4 refl (unowned z Robot Z4 (posture_at z Z4) sound refl (only_gives (posture_at z Z4)) k.shares.1.0)
+heeds_at ReleaseUnloaded p z sound space f k = release_only z Robot Z3 refl k.shares.1.0.0 k.shares.1.0.1 (ap (λ q. same_posture q Moving) f.1.0.1) refl
+heeds_at ClaimDeposit p z sound space f k = claim_in z Robot Z4 refl (unowned z Robot Z4 (posture_at z Z4) sound refl (only_gives (posture_at z Z4)) k.shares.1.1.0)
 heeds_at GiveToDeposit p z sound space f k =
-    let own : owns z Robot Z4 ≡ true = f.0.0 in
-    let opens : posture_at z Z4 ≡ OpenIn = f.0.1 in
+    let own : owns z Robot Z4 ≡ true = f.1.1.0.0 in
+    let opens : posture_at z Z4 ≡ OpenIn = f.1.1.0.1 in
     give_only Never z Robot Z4 _ refl own (clear_of z Robot Z4 OpenIn sound opens refl own) (ap (λ q. given_by Robot (transfer_of Z4 q)) opens)
     (noted_full _ _ k.noted.arm2 k.plates) (unless Never (is_full z DepEntry) PlaceFull (space opens (others z own)))
 heeds_at _ p z sound space f k = tt

@@ -1,6 +1,6 @@
 -- What a machine may know of the plates in its zones; no other machine changes it, if none yields.
-use Rattle.cell_team.proofs.Names.{◌≡◌, Bool, true, false, ◌||◌, not, is_none, if◌then◌else◌, Option, Some, None, List, [], ◌∷◌, refl, sym, ap, ◌∙◌, subst, ⊤, Machine, Zone, Transfer, Posture, Closed, Call, Claim, Give, Yield, Take, Release, SetPose, Advance, Inquire, Stop, Resume, Answer, Done, Shown, Refused, host_of, guest_of, transfer_of, same_machine, ModelState, zone_at, IsSound, implies, is_owned_by, is_open, is_received_by, is_onto_full, owns, owner_of, posture_at, reply, next, next_by}
-use Rattle.cell_team.proofs.Names.{changed, posed, halted, is_belt_of, implied, and_left, zone_in-map, put_cases, owner_is, owned_as, claim_unowned, take_owned, zone-foreign, posture-foreign}
+use Rattle.cell_team.proofs.Names.{◌≡◌, Bool, true, false, ◌||◌, not, is_none, if◌then◌else◌, Option, Some, None, List, refl, sym, ap, ◌∙◌, subst, Machine, Zone, Transfer, Posture, Closed, Call, Claim, Give, Yield, Take, Release, SetPose, Advance, Inquire, Stop, Resume, Answer, Done, Shown, Refused, host_of, guest_of, transfer_of, same_machine, ModelState, zone_at, IsSound, implies, is_owned_by, is_open, is_received_by, is_onto_full, owns, owner_of, posture_at, reply, next, next_by}
+use Rattle.cell_team.proofs.Names.{changed, posed, halted, is_belt_of, implied, and_left, zone_in-map, put_cases, owner_is, owned_as, claim_unowned, take_owned}
 use Rattle.cell_rules.specs.declared.zones.ZoneState.{ZoneState}
 use Rattle.cell_rules.proofs.lemmas.SoundAfterCalls.{claimed, released}
 use Rattle.cell_rules.proofs.lemmas.Plates.{given, taken}
@@ -19,24 +19,6 @@ IsYieldless z n c = reply z n c ≡ Done → yields c ≡ false
 -- a machine that owns a zone has a plate there
 abbrev pub IsLent : Machine → ZoneState → Type 0
 IsLent m v = is_owned_by v.owner m ≡ true → v.flag ≡ true
-
--- the machine owns a zone without a plate, or with one; it gets the zone only with a plate; it hosts the zone, which
--- has this posture
-pub data Share : Type 0 where
-  Clear : Zone → Share
-  Loaded : Zone → Share
-  Lent : Zone → Share
-  Stands : Zone → Posture → Share
-
-abbrev pub IsSo : Machine → ModelState → Share → Type 0
-IsSo m z (Clear y) = (owns z m y ≡ true) × ((zone_at z y).flag ≡ false)
-IsSo m z (Loaded y) = (owns z m y ≡ true) × ((zone_at z y).flag ≡ true)
-IsSo m z (Lent y) = IsLent m (zone_at z y)
-IsSo m z (Stands y q) = (host_of y ≡ m) × (posture_at z y ≡ q)
-
-abbrev pub AreSo : Machine → ModelState → List Share → Type 0
-AreSo m z [] = ⊤
-AreSo m z (f ∷ fs) = IsSo m z f × AreSo m z fs
 
 pub no_both : (b : Bool) (P : Type 0) → b ≡ true → b ≡ false → P
 no_both true P e f = cc
@@ -68,21 +50,7 @@ lent_by Done m n c z y e apart polite k = lent_done m n c z y apart (polite e) e
 lent_by (Refused r) m n c z y e apart polite k = k
 lent_by (Shown o f q) m n c z y e apart polite k = k
 
-is_foreign : (m n : Machine) (c : Call) (z : ModelState) (f : Share) → same_machine n m ≡ false → IsSound z → IsYieldless z n c → IsSo m z f → IsSo m (next z n c) f
-is_foreign m n c z (Clear y) apart sound polite k =
-    let same = zone-foreign z n m c y sound apart k.0 in
-    (ap (λ v. is_owned_by v.owner m) same ∙ k.0, ap (λ v. v.flag) same ∙ k.1)
-is_foreign m n c z (Loaded y) apart sound polite k =
-    let same = zone-foreign z n m c y sound apart k.0 in
-    (ap (λ v. is_owned_by v.owner m) same ∙ k.0, ap (λ v. v.flag) same ∙ k.1)
-is_foreign m n c z (Lent y) apart sound polite k = lent_by (reply z n c) m n c z y refl apart polite k
-is_foreign m n c z (Stands y q) apart sound polite k = (k.0, posture-foreign z n c y (ap (λ x. same_machine n x) k.0 ∙ apart) ∙ k.1)
-
-pub are_foreign : (m n : Machine) (c : Call) (z : ModelState) (fs : List Share) → same_machine n m ≡ false → IsSound z → IsYieldless z n c → AreSo m z fs → AreSo m (next z n c) fs
-are_foreign m n c z [] apart sound polite k = k
-are_foreign m n c z (f ∷ fs) apart sound polite k = (is_foreign m n c z f apart sound polite k.0, are_foreign m n c z fs apart sound polite k.1)
-
--- nor what a machine's shares of its zones say
+-- so it keeps what a machine's shares of its zones say
 pub shared_foreign : (m n : Machine) (c : Call) (z : ModelState) (zones : List (Zone × ZoneShare)) → AreFirm m zones → same_machine n m ≡ false → IsSound z → IsYieldless z n c → AreShared m z zones → AreShared m (next z n c) zones
 shared_foreign m n c z zones firm apart sound polite k =
     are_shared_same m z (next z n c) (foreign_same m n c z apart sound) (λ y lent. lent_by (reply z n c) m n c z y refl apart polite lent) zones firm k

@@ -42,10 +42,10 @@ pub record AllKnow (team : Team) (z : ModelState) : Type 0 where
 pub all_begin : (c : CellScales) (opening : ModelState) → IsStartState opening → AllKnow (first_team (programs_of c) opening) opening
 all_begin c opening start = record {
   feed = (feed_facts.feed_begins opening, feed.feed_begins opening start);
-  table = (tt, table.table_begins opening start);
+  table = (table_facts.table_begins opening, table.table_begins opening start);
   robot = (robot_facts.at_choice (notes_at opening) opening, robot.robot_begins opening start);
-  press = (tt, press.press_begins opening start);
-  deposit = (tt, deposit.deposit_begins opening start);
+  press = (press_facts.press_begins opening, press.press_begins opening start);
+  deposit = (deposit_facts.deposit_begins opening, deposit.deposit_begins opening start);
   crane = (crane_facts.crane_begins opening, crane.crane_begins opening start);
 }
 
