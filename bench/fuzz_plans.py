@@ -88,6 +88,8 @@ def make_input(seed, index):
         document, lines = change(r, document), None
     elif script and r.randrange(6) == 0:
         script = change(r, script)
+        # (what begins in another way is a part of the document)
+        lines = lines if script.startswith(b"start,") else None
     if r.randrange(LONG_ONE_OF) == 0 and (script or verb == "check"):
         document, script = lengthen(r, document, script)
     return verb, document + script, lines
