@@ -164,7 +164,7 @@ def main():
         if lines is None:
             sys.exit("the first line isn't 'start', ten digits that make a start, and tries from 1 to 64")
     elif kind != RIGHT and kind not in RULES:
-        sys.exit("a script has no steps, so no word can be wrong in it")
+        sys.exit('a script has no steps, so no word can be wrong in it; exercises/README.md, "Steps", says how one writes steps')
     else:
         lines, accepted = play_script(rows, with_words, kind, broken)
     print("\n".join(lines + broken))
