@@ -1,6 +1,6 @@
 //! Example plans: what is said of them, and the answers to their scripts.
 
-use super::doubles::{is_answered, run};
+use super::doubles::is_answered;
 use super::headers::HEADER;
 use std::alloc::AllocError;
 
@@ -124,27 +124,42 @@ const SCRIPTS: &[(&str, u8, &str)] = &[
     (
         "start,00\npress,claim,door\n",
         1,
-        "0 0 start 0\nfault badrow 1\n",
+        "0 0 start 0\nrecord 1, field 3: no zone has this name\nfault badrow 1\n",
     ),
     (
         "start,00\npress,claim\n",
         1,
-        "0 0 start 0\nfault badrow 1\n",
+        "0 0 start 0\nrecord 1, field 3: a name is missing\nfault badrow 1\n",
     ),
     (
         "start,00\npress,pose,open\n",
         1,
-        "0 0 start 0\nfault badrow 1\n",
+        "0 0 start 0\nrecord 1, field 3: no pose has this name\nfault badrow 1\n",
     ),
     (
         "start,00\nrobot,claim,interior\n",
         1,
-        "0 0 start 0\nfault badrow 1\n",
+        "0 0 start 0\nrecord 1, field 1: no machine has this name\nfault badrow 1\n",
     ),
     (
         "start,00\npress,claim,interior,\n",
         1,
-        "0 0 start 0\nfault badrow 1\n",
+        "0 0 start 0\nrecord 1, field 4: a record has at most three fields\nfault badrow 1\n",
+    ),
+    (
+        "start,00\npress\n",
+        1,
+        "0 0 start 0\nrecord 1, field 2: a verb is missing\nfault badrow 1\n",
+    ),
+    (
+        "start,00\nwatch,stop\npress,clam\n",
+        1,
+        "0 0 start 0\n1 1 done\nrecord 2, field 2: this isn't a verb\nfault badrow 2\n",
+    ),
+    (
+        "start,00\nwatch,stop,interior\n",
+        1,
+        "0 0 start 0\nrecord 1, field 2: this isn't a verb that takes a name\nfault badrow 1\n",
     ),
     (
         "start,00\n\nwatch,claim,interior\nloader,stop\n",
@@ -168,6 +183,52 @@ fn answers_scripts(rt: HostRuntime) -> Result<(), AllocError> {
         );
     }
     Ok(())
+}
+
+/// Two machines, each with a pose of the same name, and what each does with its own.
+const NAMESAKES: &str = "\
+[[machine]]
+name = \"left\"
+poses = [{ name = \"open\", gives = { table = \"openin\" } }]
+
+[[machine]]
+name = \"right\"
+poses = [{ name = \"open\", gives = { rack = \"openin\" } }]
+
+[[zone]]
+name = \"table\"
+host = \"left\"
+guest = \"right\"
+
+[[zone]]
+name = \"rack\"
+host = \"right\"
+guest = \"left\"
+
+start,
+left,claim,table
+right,claim,rack
+right,pose,open
+watch,inquire,table
+watch,inquire,rack
+left,pose,open
+watch,inquire,table
+";
+
+const OWN_ANSWERS: &str = "\
+0 0 start 0
+1 1 done
+2 2 done
+3 3 done
+4 3 zone left 0 closed
+5 3 zone right 0 openin
+6 4 done
+7 4 zone left 0 openin
+";
+
+#[test]
+fn each_takes_its_own_pose(rt: HostRuntime) {
+    assert!(rt; is_answered(rt.alloc(), b"replay", NAMESAKES, 0, OWN_ANSWERS));
 }
 
 /// A press whose loader may claim the interior before the press has claimed it back, and a start.
@@ -271,10 +332,10 @@ fn counts_one(rt: HostRuntime) -> Result<(), AllocError> {
 
 /// Inputs that aren't explored, and why.
 const UNEXPLORED: &[(&str, &str)] = &[
-    ("", "fault plan the document: machine: it is missing\n"),
+    ("", "fault plan the document: there is no [[machine]]\n"),
     (
         "start,10\n",
-        "fault plan the document: machine: it is missing\n",
+        "fault plan the document: there is no [[machine]]\n",
     ),
 ];
 

@@ -21,6 +21,8 @@ mod going;
 #[cfg(test)]
 mod headers;
 #[cfg(test)]
+mod limits;
+#[cfg(test)]
 mod programs;
 #[cfg(test)]
 mod progress;
