@@ -11,8 +11,8 @@ use Rattle.cell_replay.specs.Script.{script_outcome}
 use Rattle.cell_config.specs.ConfigWords.{config_fault_text}
 use Rattle.cell_config.specs.Settings.{Settings, settings_of}
 use Rattle.cell_config.specs.declared.fault.ConfigFault.{ConfigFault}
-use Rattle.explain_app.specs.declared.fault.ExplainFault.{ExplainFault}
-use Rattle.explain_app.specs.declared.fault.ExplainFault.TheVariants.{Read, Write, Memory}
+use Rattle.cell_replay.specs.declared.fault.ReplayFault.{ReplayFault}
+use Rattle.cell_replay.specs.declared.fault.ReplayFault.TheVariants.{Read, Write, Memory}
 use Rattle.explain_app.specs.declared.verdict.Verdict.{Verdict}
 use Rattle.explain_app.specs.declared.verdict.Verdict.TheVariants.{Taken, Refused}
 
@@ -60,7 +60,7 @@ abbrev pub IsTextOfConfig : Option (List ℕ) → List ℕ → Type 0
 IsTextOfConfig input text = IfSome input (λ bytes. IsTextOfSettings (settings_of bytes) text)
 
 -- After a failed read, or out of memory, nothing was written. After a failed write a prefix of such a text was.
-abbrev pub LeavesUnsaid : (List ℕ → Type 0) → ExplainFault → Option (List ℕ) → Option (List ℕ) → Type 0
+abbrev pub LeavesUnsaid : (List ℕ → Type 0) → ReplayFault → Option (List ℕ) → Option (List ℕ) → Type 0
 LeavesUnsaid IsText Read old new = Keeps old new
 LeavesUnsaid IsText Memory old new = Keeps old new
 LeavesUnsaid IsText Write old new = (text : List ℕ) × (IsText text × WrotePrefix old new text)

@@ -7,7 +7,7 @@ use Rattle.cell_words.specs.declared.words.Mode.TheVariants.{Replay}
 use Rattle.cell_replay.specs.Script.{max_bytes_read, script_outcome}
 use Rattle.cell_config.specs.Settings.{settings_of, max_bytes_read as config_bytes_read}
 use Rattle.explain_app.specs.Explained.{IsTextOfConfig, IsTextOfScript, LeavesUnsaid, SaysOfConfig, SaysOfScript}
-use Rattle.explain_app.specs.declared.fault.ExplainFault.{ExplainFault}
+use Rattle.cell_replay.specs.declared.fault.ReplayFault.{ReplayFault}
 use Rattle.explain_app.specs.declared.verdict.Verdict.{Verdict}
 use Rattle.explain_app.specs.declared.verdict.Verdict.TheVariants.{Taken, Refused}
 
@@ -26,7 +26,7 @@ verdict_status Refused = 1
 
 -- no explanation was written, for some fault
 abbrev pub IsUnsaid : (List ℕ → Type 0) → Option (List ℕ) → Option (List ℕ) → Type 0
-IsUnsaid IsText old new = (fault : ExplainFault) × LeavesUnsaid IsText fault old new
+IsUnsaid IsText old new = (fault : ReplayFault) × LeavesUnsaid IsText fault old new
 
 -- What `serve` says of an input of one kind: the exit status, with what was written; and the most that was taken of the
 -- input. Known bytes of the input are `input` before and `rest` after it; of the output, `old` and `new`.

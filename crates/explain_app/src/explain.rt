@@ -3,13 +3,12 @@
 ghost use Rattle.std.specs.Prelude.{◌≡◌, ◌≢◌, ℕ, List, Err, IfErr, IfOk, IfSome};
 ghost use Rattle.text_io.specs.Input.{TakesAtMost};
 ghost use Rattle.cell_replay.specs.Script.{max_bytes_read, script_outcome};
+ghost use Rattle.cell_replay.specs.declared.fault.ReplayFault.TheVariants.{Write};
 ghost use Rattle.cell_config.specs.Configured.{Refuses};
 ghost use Rattle.cell_config.specs.Settings.{max_bytes_read as config_bytes_read, settings_of};
 ghost use Rattle.explain_app.specs.Explained.{IsTextOfConfig, IsTextOfOutcome, IsTextOfScript};
 ghost use Rattle.explain_app.specs.Explained.{IsTextOfSettings, LeavesUnsaid, SaysOfConfig, SaysOfScript};
-ghost use Rattle.explain_app.specs.declared.fault.ExplainFault.TheVariants.{Write};
 
-use crate::fault::ExplainFault;
 use crate::report::{report_configuration, report_script};
 use crate::sink::Sink;
 use crate::verdict::Verdict;
@@ -27,7 +26,7 @@ pub fn explain_script<R: Read, W: Write>(
     alloc: Global,
     reader: &mut R,
     writer: &mut W,
-) -> Result<Verdict, ExplainFault>
+) -> Result<Verdict, ReplayFault>
     ensures says { IfOk result (λ verdict. IfSome (R.remaining reader.old) (λ bytes. SaysOfScript
         (script_outcome bytes) verdict (W.contents writer.old) (W.contents writer.new))) }
     ensures failed { IfErr result (λ fault. LeavesUnsaid (IsTextOfScript (R.remaining reader.old))
@@ -44,7 +43,7 @@ fn explain_script_bytes<W: Write>(
     alloc: Global,
     script: &[u8],
     writer: &mut W,
-) -> Result<Verdict, ExplainFault>
+) -> Result<Verdict, ReplayFault>
     ensures says { IfOk result (λ verdict. SaysOfScript (script_outcome script.now) verdict
         (W.contents writer.old) (W.contents writer.new)) }
     ensures failed { IfErr result
@@ -55,14 +54,14 @@ fn explain_script_bytes<W: Write>(
     let fault = match replay(alloc, &mut reader, &mut Sink) {
         Ok(Outcome::Clean) => return Ok(Verdict::Taken),
         Ok(Outcome::Refused(fault)) => fault,
-        Err(ReplayFault::Read) => return Err(ExplainFault::Read),
+        Err(ReplayFault::Read) => return Err(ReplayFault::Read),
         // (a `Sink` takes all that it is given, so this is never `Write`)
-        Err(ReplayFault::Memory | ReplayFault::Write) => return Err(ExplainFault::Memory),
+        Err(ReplayFault::Memory | ReplayFault::Write) => return Err(ReplayFault::Memory),
     };
     let text = report_script(alloc, script, fault)?;
     match write_text(writer, text.as_str().as_bytes()) {
         Ok(()) => Ok(Verdict::Refused),
-        Err(_) => Err(ExplainFault::Write),
+        Err(_) => Err(ReplayFault::Write),
     }
 }
 
@@ -74,7 +73,7 @@ pub fn explain_configuration<R: Read, W: Write>(
     alloc: Global,
     reader: &mut R,
     writer: &mut W,
-) -> Result<Verdict, ExplainFault>
+) -> Result<Verdict, ReplayFault>
     ensures says { IfOk result (λ verdict. IfSome (R.remaining reader.old) (λ bytes. SaysOfConfig
         (settings_of bytes) verdict (W.contents writer.old) (W.contents writer.new))) }
     ensures failed { IfErr result (λ fault. LeavesUnsaid (IsTextOfConfig (R.remaining reader.old))
@@ -92,7 +91,7 @@ fn explain_configuration_bytes<W: Write>(
     alloc: Global,
     bytes: &[u8],
     writer: &mut W,
-) -> Result<Verdict, ExplainFault>
+) -> Result<Verdict, ReplayFault>
     ensures says { IfOk result (λ verdict. SaysOfConfig (settings_of bytes.now) verdict
         (W.contents writer.old) (W.contents writer.new)) }
     ensures failed { IfErr result
@@ -107,19 +106,19 @@ fn explain_configuration_bytes<W: Write>(
     let text = report_configuration(alloc, bytes, fault)?;
     match write_text(writer, text.as_str().as_bytes()) {
         Ok(()) => Ok(Verdict::Refused),
-        Err(_) => Err(ExplainFault::Write),
+        Err(_) => Err(ReplayFault::Write),
     }
 }
 
 /// The fault, if it is one of the bytes; the error, if reading failed or memory ran out.
-fn fault_of_bytes(fault: ConfigFault) -> Result<ConfigFault, ExplainFault>
+fn fault_of_bytes(fault: ConfigFault) -> Result<ConfigFault, ReplayFault>
     ensures first { IfOk result (λ first. (bytes : List ℕ) → Refuses bytes fault →
         settings_of bytes ≡ Err first) }
     ensures unsaid { IfErr result (λ fault. fault ≢ Write) }
 {
     match fault {
-        ConfigFault::Read => Err(ExplainFault::Read),
-        ConfigFault::Memory => Err(ExplainFault::Memory),
+        ConfigFault::Read => Err(ReplayFault::Read),
+        ConfigFault::Memory => Err(ReplayFault::Memory),
         fault => Ok(fault),
     }
 }

@@ -3,12 +3,10 @@
 #![tactic(auto)]
 
 pub mod explain;
-pub mod fault;
 mod report;
 pub mod serve;
 mod sink;
 pub mod verdict;
 
 pub use explain::{explain_configuration, explain_script};
-pub use fault::ExplainFault;
 pub use verdict::Verdict;

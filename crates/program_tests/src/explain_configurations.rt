@@ -1,14 +1,15 @@
 //! Configurations as people write them: texts that are no TOML, the keys `start`, `stamp` and
 //! `schedule`.
 
-use explain_app::{ExplainFault, Verdict, explain_configuration};
+use cell_replay::ReplayFault;
+use explain_app::{Verdict, explain_configuration};
 use std::alloc::Global;
 
 /// Whether a configuration gets this explanation; empty for one that isn't refused.
 pub fn is_explained(alloc: Global, text: &[u8], wanted: &str) -> bool {
     let mut reader = text;
     let mut written = Vec::new(alloc);
-    let verdict: Result<Verdict, ExplainFault> = explain_configuration(
+    let verdict: Result<Verdict, ReplayFault> = explain_configuration(
         alloc,
         &mut reader,
         &mut written,
