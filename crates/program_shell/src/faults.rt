@@ -1,33 +1,33 @@
 //! Fault lines.
 
-ghost use Rattle.std.specs.Prelude.{◌≡◌, IfOk, IfSome};
+ghost use Rattle.std.specs.Prelude.{◌≡◌, OnErr, OnOk};
+ghost use Rattle.std.specs.Io.KnownBytes.{Appends};
 ghost use Rattle.text_io.specs.Output.{WrotePrefix};
 ghost use Rattle.program_shell.specs.Faults.{fault_line};
 
 use crate::exit::Exit;
-use crate::printing::print_prefix;
-use std::fmt;
-use std::fmt::Display;
 use std::io::Write;
-use text_io::Page;
+use text_io::{WriteFault, write_bytes, write_text};
 
 /// Prints a fault's line, as far as the writer takes it, and returns `Failed`. It takes no memory.
-pub fn fail<W: Write, D: Display + Drop>(writer: &mut W, fault: D) -> Exit
+pub fn fail<W: Write>(writer: &mut W, fault: &str) -> Exit
     ensures status { result ≡ Exit.Failed }
-    ensures line { IfSome (D.output fault) (λ text.
-        WrotePrefix (W.contents writer.old) (W.contents writer.new) (fault_line text)) }
+    ensures line { WrotePrefix (W.contents writer.old) (W.contents writer.new)
+        (fault_line fault.now) }
 {
-    if let Ok(page) = fault_page(fault) {
-        print_prefix(writer, page.as_bytes());
-    }
+    let _ = write_fault(writer, fault);
     Exit::Failed
 }
 
-/// A fault's line, if it fits on a page. Each fault's line fits: that is tested, not proved.
-fn fault_page<D: Display + Drop>(fault: D) -> Result<Page, fmt::Error>
-    ensures { IfOk result (λ page. IfSome (D.output fault) (λ text. page ≡ fault_line text)) }
+/// Writes a fault's line, however long it is, and flushes the writer. `Write` if the writer failed; then a
+/// prefix of the line was written.
+pub fn write_fault<W: Write>(writer: &mut W, fault: &str) -> Result<(), WriteFault>
+    ensures ok { OnOk result (Appends (W.contents writer.old) (W.contents writer.new)
+        (fault_line fault.now)) }
+    ensures err { OnErr result (WrotePrefix (W.contents writer.old) (W.contents writer.new)
+        (fault_line fault.now)) }
 {
-    let mut page = Page::new();
-    writeln!(page, "fault {fault}")?;
-    Ok(page)
+    write_bytes(writer, b"fault ")?;
+    write_bytes(writer, fault.as_bytes())?;
+    write_text(writer, b"\n")
 }

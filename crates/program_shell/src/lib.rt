@@ -11,8 +11,8 @@ pub mod words;
 
 pub use asked::{Asked, asked_of};
 pub use exit::Exit;
-pub use faults::fail;
-pub use printing::{print, print_prefix};
+pub use faults::{fail, write_fault};
+pub use printing::print;
 pub use version::{VERSION, asks_for_version, print_version};
 pub use words::{
     NOT_TEXT, refuse_bytes, refuse_words, texts_of, texts_or_exit, words_of, words_or_exit,

@@ -1,7 +1,6 @@
 //! Prints texts.
 
 ghost use Rattle.std.specs.Prelude.{◌≢◌};
-ghost use Rattle.text_io.specs.Output.{WrotePrefix};
 ghost use Rattle.program_shell.specs.Exits.{exit_status};
 ghost use Rattle.program_shell.specs.Printed.{Prints};
 
@@ -19,11 +18,4 @@ pub fn print<W: Write>(writer: &mut W, text: &[u8]) -> Exit
         Ok(()) => Exit::Well,
         Err(_) => Exit::Failed,
     }
-}
-
-/// Prints a text as far as the writer takes it.
-pub fn print_prefix<W: Write>(writer: &mut W, text: &[u8])
-    ensures { WrotePrefix (W.contents writer.old) (W.contents writer.new) text.now }
-{
-    let _ = write_text(writer, text);
 }

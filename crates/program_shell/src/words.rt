@@ -7,11 +7,11 @@ ghost use Rattle.program_shell.specs.Words as spec;
 
 use crate::exit::Exit;
 use crate::faults::fail;
-use crate::printing::print_prefix;
 use std::alloc::{AllocError, Global};
 use std::env::{Env, FillError};
 use std::io::{ErrorKind, Write};
 use std::{env, io};
+use text_io::write_text;
 
 /// What is printed of a word that isn't text.
 pub const NOT_TEXT: &str = "error: a word isn't UTF-8\n";
@@ -91,7 +91,7 @@ pub fn refuse_words<W: Write>(writer: &mut W, why: &str) -> Exit
     ensures status { result ≡ Exit.Refused }
     ensures line { WrotePrefix (W.contents writer.old) (W.contents writer.new) why.now }
 {
-    print_prefix(writer, why.as_bytes());
+    let _ = write_text(writer, why.as_bytes());
     Exit::Refused
 }
 

@@ -19,6 +19,22 @@ const WORDS: &[(&[&[u8]], &[&str])] = &[
     (&[b"\xff"], &["cell"]),
     (&[], &["cell"]),
     (&[b"cell", b"", b"\xc3\xa9"], &["cell", "", "\u{e9}"]),
+    (
+        &[
+            b"cell", b"run", b"--turns", b"3", b"--tries", b"64", b"a", b"b", b"c",
+        ],
+        &[
+            "cell", "run", "--turns", "3", "--tries", "64", "a", "b", "c",
+        ],
+    ),
+    (
+        &[
+            b"cell", b"run", b"--turns", b"3", b"--tries", b"64", b"a", b"b", b"c", b"d",
+        ],
+        &[
+            "cell", "run", "--turns", "3", "--tries", "64", "a", "b", "c", "d",
+        ],
+    ),
 ];
 
 /// Whether words are these.
