@@ -11,7 +11,7 @@ use Rattle.cell_control.proofs.lemmas.SharedZones.{AreSure, AreFirm, are_sure_sa
 use Rattle.cell_belts_crane.specs.CraneProgram.{zones_at}
 use Rattle.cell_belts_crane.specs.Names.{row_at, row_of, step_after_inquiry, first_step, crane_start, after_done, is_done, gripper_zone, crane_steps}
 use Rattle.cell_belts_crane.specs.declared.crane.CraneStep.{CraneStep}
-use Rattle.cell_belts_crane.specs.declared.crane.CraneStep.TheVariants.{RaiseToFetch, AwaitPlate, LowerToPlate, GripPlate, RaiseWithPlate, ReleaseDeposit, ClaimFeed, LowerToFeed, DropPlate, RaiseFromFeed}
+use Rattle.cell_belts_crane.specs.declared.crane.CraneStep.TheVariants.{RaiseToFetch, AwaitPlate, LowerToPlate, RaiseWithPlate, ReleaseDeposit, ClaimFeed, LowerToFeed, RaiseFromFeed}
 use Rattle.cell_belts_crane.specs.declared.crane.CraneProgress.{CraneProgress}
 use Rattle.cell_belts_crane.specs.declared.crane.CraneStep.TheVariants.{TakePlate, GivePlate}
 

@@ -1,7 +1,7 @@
 -- What the robot knows of the state at each step of its program.
 use Rattle.std.proofs.Common.{◌≡◌, Bool, true, false, if◌then◌else◌, List, Option, Some, None, refl, ap, subst}
 use Rattle.std.specs.Prelude.{⊤}
-use Rattle.cell_rules.specs.Types.{Machine, Robot, Zone, Z2, Z3, Z4, Posture, Closed, Moving, OpenIn, OpenOut, Call, Give, Release, Inquire, Done, Shown, Event, transfer_of}
+use Rattle.cell_rules.specs.Types.{Machine, Robot, Zone, Z2, Z3, Z4, Posture, OpenIn, OpenOut, Call, Give, Release, Inquire, Done, Shown, Event, transfer_of}
 use Rattle.cell_rules.specs.Names.{ModelState, IsSound, is_owned_by, is_open, is_received_by, is_of_some_pose, owns, posture_at, next, reply, changed, after, IsLegal}
 use Rattle.cell_control.specs.Names.{IsReached, HoldsIn}
 use Rattle.cell_control.proofs.lemmas.StepLemmas.{Knowing, reached_knows}
@@ -12,7 +12,7 @@ use Rattle.cell_devices.specs.declared.act.RobotAct.{RobotAct}
 use Rattle.cell_robot.specs.RobotKeeps.{zones_at}
 use Rattle.cell_robot.specs.Names.{RobotScales, RobotGauges, choice, row_at, row_of, step_after_inquiry, notes_at, after_done, is_done, arm1_zone, arm2_zone, robot_steps}
 use Rattle.cell_robot.specs.declared.robot.RobotStep.{RobotStep}
-use Rattle.cell_robot.specs.declared.robot.RobotStep.TheVariants.{TurnToTable, AwaitPlate, ReachTable, GripPlate, LeaveTable, TakePlate, ReleaseTable, TurnToLoad, ClaimPress, InspectPress, ReleasePress, ReachToLoad, DropInPress, LeaveLoaded, GiveToPress, TurnToUnload, AwaitForged, ReachToUnload, GripForged, LeaveUnloaded, TakeForged, ReleaseUnloaded, TurnToDeposit, ClaimDeposit, ReachDeposit, DropOnDeposit, LeaveDeposit, GiveToDeposit}
+use Rattle.cell_robot.specs.declared.robot.RobotStep.TheVariants.{TurnToTable, AwaitPlate, ReachTable, LeaveTable, TakePlate, ReleaseTable, TurnToLoad, ClaimPress, InspectPress, ReleasePress, ReachToLoad, LeaveLoaded, GiveToPress, TurnToUnload, AwaitForged, ReachToUnload, LeaveUnloaded, TakeForged, ReleaseUnloaded, TurnToDeposit, ClaimDeposit, ReachDeposit, LeaveDeposit, GiveToDeposit}
 use Rattle.cell_robot.specs.declared.robot.RobotNotes.{RobotNotes}
 use Rattle.cell_robot.specs.declared.robot.RobotProgress.{RobotProgress}
 use Rattle.cell_robot.specs.RobotProgram.{RobotDemands}

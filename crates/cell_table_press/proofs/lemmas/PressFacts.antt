@@ -13,7 +13,7 @@ use Rattle.cell_devices.specs.declared.motor.Motor.{Motor}
 use Rattle.cell_devices.specs.declared.motor.Motor.TheVariants.{Off, Plus, Minus}
 use Rattle.cell_table_press.specs.Names.{with_plates, by_plates, row_at, after_motor, press_start, press_steps}
 use Rattle.cell_table_press.specs.declared.press.PressStep.{PressStep}
-use Rattle.cell_table_press.specs.declared.press.PressStep.TheVariants.{ClaimFirst, LeaveForMiddle, MoveToMiddle, PoseMiddle, ReleaseInterior, TakePlate, LeaveForTop, MoveToTop, PoseTop, Forge, LeaveForBottom, MoveToBottom, PoseLow, GivePlate, ClaimBack}
+use Rattle.cell_table_press.specs.declared.press.PressStep.TheVariants.{ClaimFirst, MoveToMiddle, ReleaseInterior, TakePlate, MoveToTop, Forge, MoveToBottom, GivePlate, ClaimBack}
 use Rattle.cell_table_press.specs.declared.press.PressProgress.{PressProgress}
 use Rattle.cell_table_press.specs.PressProgram.{row_of, zones_at}
 

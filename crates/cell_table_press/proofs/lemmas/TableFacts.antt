@@ -13,7 +13,7 @@ use Rattle.cell_control.specs.declared.share.ZoneShare.{ZoneShare}
 use Rattle.cell_control.proofs.lemmas.SharedZones.{AreSure, AreFirm, are_sure_same, foreign_same}
 use Rattle.cell_table_press.specs.Names.{with_plate, by_plate, row_of, after_done, is_off, table_start, table_steps}
 use Rattle.cell_table_press.specs.declared.table.TableStep.{TableStep}
-use Rattle.cell_table_press.specs.declared.table.TableStep.TheVariants.{ClaimEntry, ClaimExit, LeaveForLoading, MoveToLoading, PoseLoading, ReleaseEntry, LeaveForUnloading, MoveToUnloading, PoseUnloading}
+use Rattle.cell_table_press.specs.declared.table.TableStep.TheVariants.{ClaimEntry, ClaimExit, MoveToLoading, ReleaseEntry, MoveToUnloading}
 use Rattle.cell_table_press.specs.declared.table.TableProgress.{TableProgress}
 use Rattle.cell_table_press.specs.declared.table.TableStep.TheVariants.{TakePlate, GivePlate, ClaimBack}
 use Rattle.cell_table_press.specs.TableProgram.{row_at, zones_at}
