@@ -78,9 +78,10 @@ class Browser:
                 return answer["result"]
             self.note(answer)
 
-    def open(self, path, mark="", width=1280, height=900, scheme="light"):
-        """Opens a file in a window of this size and of this scheme of colours."""
-        self.ask("Emulation.setDeviceMetricsOverride", width=width, height=height, deviceScaleFactor=1, mobile=False)
+    def open(self, path, mark="", width=1280, height=900, scheme="light", touch=False):
+        """Opens a file in a window of this size and of this scheme of colours; with `touch` on a screen that is touched."""
+        self.ask("Emulation.setDeviceMetricsOverride", width=width, height=height, deviceScaleFactor=1, mobile=touch)
+        self.ask("Emulation.setTouchEmulationEnabled", enabled=touch)
         self.ask("Emulation.setEmulatedMedia", features=[{"name": "prefers-color-scheme", "value": scheme}])
         # (a file that is open already would only be scrolled to its mark)
         for url in ("about:blank", f"file://{path}{mark}"):
@@ -105,11 +106,25 @@ class Browser:
         for kind in ("mousePressed", "mouseReleased"):
             self.ask("Input.dispatchMouseEvent", type=kind, x=x, y=y, button="left", buttons=1, clickCount=1)
 
-    def shoot(self, path):
-        """Writes a picture of the whole page."""
+    def tap(self, x, y):
+        self.ask("Input.dispatchTouchEvent", type="touchStart", touchPoints=[{"x": x, "y": y}])
+        self.ask("Input.dispatchTouchEvent", type="touchEnd", touchPoints=[])
+
+    def swipe(self, x, y, by_x, by_y, steps=10):
+        """Moves a finger on the screen, from x and y on, in a fifth of a second."""
+        self.ask("Input.dispatchTouchEvent", type="touchStart", touchPoints=[{"x": x, "y": y}])
+        for step in range(1, steps + 1):
+            point = {"x": x + by_x * step / steps, "y": y + by_y * step / steps}
+            self.ask("Input.dispatchTouchEvent", type="touchMove", touchPoints=[point])
+            time.sleep(0.2 / steps)
+        self.ask("Input.dispatchTouchEvent", type="touchEnd", touchPoints=[])
+
+    def shoot(self, path, whole=True):
+        """Writes a picture of the whole page, or of what the window shows."""
         size = self.ask("Page.getLayoutMetrics")["cssContentSize"]
         clip = {"x": 0, "y": 0, "width": size["width"], "height": size["height"], "scale": 1}
-        shot = self.ask("Page.captureScreenshot", format="png", clip=clip, captureBeyondViewport=True)
+        wanted = {"clip": clip, "captureBeyondViewport": True} if whole else {}
+        shot = self.ask("Page.captureScreenshot", format="png", **wanted)
         with open(path, "wb") as to:
             to.write(base64.b64decode(shot["data"]))
 
