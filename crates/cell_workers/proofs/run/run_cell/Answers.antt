@@ -65,6 +65,4 @@ returns-in-Ok-clause-work g c =
     (told.axes ∙ ap (λ (x : CellOutputs). positions_in (parts_in x)) k.outputs)))
 
 pub returns-in-Ok-clause-none_refused : goal.returns-in-Ok-clause-none_refused
-returns-in-Ok-clause-none_refused g c =
-    let cell = c.args.cell in
-    work-unrefused (cell_scales cell) (cell_gauges cell) c.args.opening c.args.tries c.args.turns (g.G.Gate.may_answer c.args.gate.now) c.run_record_of.result c.requires.start (returns-in-Ok-clause-work g c)
+returns-in-Ok-clause-none_refused g c = work-unrefused (cell_scales c.args.cell) (cell_gauges c.args.cell) c.args.opening c.args.tries c.args.turns (g.G.Gate.may_answer c.args.gate.now) c.run_record_of.result c.requires.start (returns-in-Ok-clause-work g c)
