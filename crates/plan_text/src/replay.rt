@@ -18,8 +18,8 @@ use std::alloc::{AllocError, Global};
 use std::io::Read;
 use text_io::InputFault;
 
-/// Answers a script: a line for each record, and if the script is refused, the line of the fault; before it, of a record
-/// that is no call, a line that says why.
+/// Answers a script: a line for each record, and if the script is refused, the line of the fault. Before the fault of a
+/// record that is no call stands a line that says why.
 ///
 /// `Read` or `Memory`: there is no answer.
 pub fn answer_script(
