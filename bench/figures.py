@@ -29,11 +29,18 @@ AUDITED = 1_000_000
 os.makedirs(OUT, exist_ok=True)
 
 
+def usage():
+    """Ends the command and says how it is called: on standard output and with status 0 for those who ask, else with 2."""
+    asked = bool({*sys.argv[1:]} & {"-h", "--help"})
+    print(sys.modules["__main__"].__doc__.strip("\n"), file=sys.stdout if asked else sys.stderr)
+    sys.exit(0 if asked else 2)
+
+
 def runs_asked(usual):
     """How many runs the command's one word asks for, or else as many as usual."""
     words = sys.argv[1:] or [str(usual)]
     if len(words) > 1 or not words[0].isdecimal() or not int(words[0]):
-        sys.exit(sys.modules["__main__"].__doc__)
+        usage()
     return int(words[0])
 
 

@@ -28,6 +28,9 @@
 # - keeps_the_lost_word: a call begins with the word that the call before it found instead of its own, where that one
 #   lost its last exchange: it was Busy, abandoned, or refused then.
 set -euo pipefail
+usage() { sed -n '2,/^set/{/^#/s/^# \{0,1\}//p}' "$0"; }
+case ${1:-} in -h | --help) usage; exit 0 ;; esac
+command -v rt >/dev/null || { echo "bench/stress.sh: the Rattle kit isn't on the path: add its folder bin/ to PATH" >&2; exit 2; }
 top=$(cd "$(dirname "$0")/.." && pwd)
 planted=()
 is_late=false
@@ -38,7 +41,7 @@ if [ "${1:-}" = planted ]; then
         plain_store) planted=("$2") ;;
         receipt_tells_nothing | accept_forgets) planted=(lazy "$2") ;;
         lazy | loads_ahead | keeps_the_lost_word) planted=("$2") is_late=true ;;
-        *) sed -n '2,/^set/{/^#/s/^# \{0,1\}//p}' "$0"; exit 2 ;;
+        *) usage >&2; exit 2 ;;
     esac
     shift 2
 fi

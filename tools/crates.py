@@ -26,6 +26,13 @@ MEMORY = 7_000_000_000
 PROCESSORS = 2
 
 
+def usage(text):
+    """Prints how a script is called, and gives its exit status: on standard output and 0 for those who ask, else 2."""
+    asked = bool({*sys.argv[1:]} & {"-h", "--help"})
+    print(text.strip("\n"), file=sys.stdout if asked else sys.stderr)
+    return 0 if asked else 2
+
+
 def rows(root):
     """The crates of crates.txt by name, each with all libraries that it uses."""
     found = {}
