@@ -153,7 +153,9 @@ def example_in_rust(trials):
 
 def example_by_cargo(trials):
     words = ["cargo", "run", "--quiet", "--offline", "--manifest-path", f"{trials.here}/rust/Cargo.toml", "--example", "interior"]
-    return wants(trials.run(words, BAGUNJOKI_PREFIX=trials.prefix, CARGO_TARGET_DIR=f"{trials.room}/cargo"), INTERIOR)
+    where = {"BAGUNJOKI_PREFIX": trials.prefix, "CARGO_TARGET_DIR": f"{trials.room}/cargo", "LD_LIBRARY_PATH": f"{trials.prefix}/lib"}
+    wants(trials.run(words, **where), INTERIOR)
+    return wants(trials.run(words, **where, BAGUNJOKI_STATIC="1"), INTERIOR)
 
 
 def example_by_wheel(trials):

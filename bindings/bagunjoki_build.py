@@ -1,9 +1,13 @@
-"""Makes the wheel of the Python module with the shared library in it. pip calls build_wheel, by pyproject.toml."""
+"""Makes the wheel of the Python module with the shared library in it, for this machine only. pip calls build_wheel, by pyproject.toml.
+
+There is no source distribution: what the wheel carries is built by the Rattle kit.
+"""
 
 import base64
 import hashlib
 import os
 import re
+import shutil
 import subprocess
 import sys
 import sysconfig
@@ -18,6 +22,8 @@ DAY = (1980, 1, 1, 0, 0, 0)
 def library():
     """The shared library, which is built first if it isn't there."""
     path = os.environ.get("BAGUNJOKI") or f"{HERE}/out/lib/libbagunjoki.so"
+    if not os.path.exists(path) and not shutil.which("rattle"):
+        sys.exit("bagunjoki: there is no library: run tools/bindings with the Rattle kit, or set BAGUNJOKI=/path/libbagunjoki.so")
     if not os.path.exists(path):
         subprocess.run([sys.executable, f"{os.path.dirname(HERE)}/tools/bindings"], check=True)
     with open(path, "rb") as it:
