@@ -144,6 +144,7 @@ fn main() {
     }
     for counts in [false, true] {
         let (twice, left) = by_threads(counts);
-        println!("{}, by threads: {twice} times a cell in two hands, {left} of 3 left", name(counts));
+        let note = if counts || twice > 0 || left < CELLS { "" } else { ": run again on an idle machine" };
+        println!("{}, by threads: {twice} times a cell in two hands, {left} of 3 left{note}", name(counts));
     }
 }

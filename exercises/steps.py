@@ -55,6 +55,33 @@ def call_of(fields):
     return CALLS.index(text) if text in CALLS and len(fields) == len(text.split()) else None
 
 
+def why_no_machine(name):
+    """Why no machine has this name."""
+    return f'no machine "{name}": {", ".join(MACHINES)}'
+
+
+def why_no_call(fields):
+    """Why these words are no call: the first wrong one, and what may stand there."""
+    verb, *names = fields or [""]
+    known = {}
+    for it in CALLS:
+        known.setdefault(it.split()[0], []).extend(it.split()[1:])
+    if verb not in known:
+        return f'"{verb}" is no call: {", ".join(known)}'
+    if not known[verb]:
+        return f"{verb} is a call without a name"
+    if not names:
+        return f"{verb} needs a name: {', '.join(known[verb])}"
+    return f'{verb} takes no "{names[0]}": {", ".join(known[verb])}' if names[0] not in known[verb] else f"{verb} takes one name"
+
+
+def why_no_start(digits):
+    """Why no cell starts with these places."""
+    if len(digits) != 10 or set(digits) - set("01"):
+        return f'"{digits}" isn\'t ten digits, 0 or 1, for the places {" ".join(PLACES)}'
+    return f"{digits} is no start: at most six plates, and not both PressIn and PressOut"
+
+
 def reply_at(word, machine, call, kind=RIGHT):
     """The answer in a word's state, and the word after the call; by the rule of that name, if the kind is one."""
     state, stamp = word
@@ -193,13 +220,20 @@ def text_of(word):
     return f"{bits_of(word):016x}  {', '.join(parts)}"
 
 
+def named(option, value, known):
+    """The name that an option's value says, also with underlines as a folder has them. It lists the names if it is none of them."""
+    name = "".join(value).replace("_", "-")
+    if name not in known:
+        unknown = [f'no {option} "{it}"' for it in value if it]
+        sys.exit("\n".join([*unknown, f"--{option} NAME, where NAME is", *(f"  {it:<24} {known[it]}" for it in known)]))
+    return name
+
+
 def kind_of(arguments):
     """The kind of interlock that arguments name, and the other arguments. It lists the rules where --rule has no name."""
     if "--rule" in arguments:
         at = arguments.index("--rule")
-        name = arguments[at + 1] if at + 1 < len(arguments) else None
-        if name not in EXERCISES:
-            sys.exit("\n".join(["--rule NAME, where NAME is", *(f"  {it:<24} {EXERCISES[it][1]}" for it in EXERCISES)]))
+        name = named("rule", arguments[at + 1 : at + 2], {it: words_ for it, (_, words_) in EXERCISES.items()})
         kinds, rest = [EXERCISES[name][0]], arguments[:at] + arguments[at + 2 :]
     else:
         kinds, rest = [], arguments
@@ -209,9 +243,13 @@ def kind_of(arguments):
 
 
 def records(path):
-    """The records of a file, or of standard input for '-'."""
+    """The records of a file, or of standard input for '-'. A byte order mark before the first one is left out."""
     try:
-        with sys.stdin if path == "-" else open(path, newline="", encoding="utf-8") as file:
+        with open(0 if path == "-" else path, newline="", encoding="utf-8-sig") as file:
+            if file.isatty():
+                print("it reads what you type; Ctrl-D ends", file=sys.stderr)
             return [it for it in csv.reader(file) if it]
-    except (OSError, UnicodeDecodeError, csv.Error) as why:
-        sys.exit(f"{path}: {why}")
+    except OSError as why:
+        sys.exit(f"{path}: {why.strerror}")
+    except (UnicodeDecodeError, csv.Error) as why:
+        sys.exit(f"{path}: this isn't a text of records: {why}")

@@ -4,6 +4,7 @@
 mod csv;
 #[allow(dead_code, reason = "each program uses a part of it")]
 mod interlock;
+mod usage;
 mod words;
 
 use csv::{Record, Records};
@@ -145,6 +146,9 @@ fn tell(input: impl Read, output: &mut impl Write) -> Result<(), Fault> {
 }
 
 fn main() -> std::process::ExitCode {
+    if let Some(status) = usage::answer_to_words("usage: ./replay < FILE.csv") {
+        return status;
+    }
     let mut output = BufWriter::new(io::stdout().lock());
     let end = tell(io::stdin().lock(), &mut output);
     let written = match &end {

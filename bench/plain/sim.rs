@@ -10,6 +10,7 @@ mod config;
 mod interlock;
 mod machines;
 mod toml;
+mod usage;
 
 use cell::{Cell, serve};
 use config::Config;
@@ -50,5 +51,5 @@ fn run(config: &Config, cell: &mut Cell) -> State {
 }
 
 fn main() -> std::process::ExitCode {
-    serve(run)
+    usage::answer_to_words("usage: ./sim < FILE.toml").unwrap_or_else(|| serve(run))
 }
