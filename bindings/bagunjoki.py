@@ -194,7 +194,7 @@ def library_path():
             return f"{folder}/libbagunjoki.so"
     found = ctypes.util.find_library("bagunjoki")
     if not found:
-        raise NoLibrary("there is no libbagunjoki.so: tools/bindings makes it, with the Rattle kit; exercises/play.py needs none")
+        raise NoLibrary("there is no libbagunjoki.so: tools/bindings makes it, with the Rattle kit; `exercises/play.py FILE --words` needs none")
     return found
 
 
@@ -391,6 +391,9 @@ def answers_of(script, library=None):
 def main(words):
     """Plays a script, and gives the exit status."""
     flags, files = [it for it in words if it.startswith("--")], [it for it in words if not it.startswith("--")]
+    if {*flags} & {"--help"} or "-h" in files:
+        print(__doc__)
+        return 0
     if set(flags) - {"--show", "--answers"} or len(files) > 1:
         print(__doc__, file=sys.stderr)
         return 2
