@@ -28,7 +28,7 @@ const ROWS: &[(&[&[u8]], u8, &str)] = &[
     (
         &[b"./plan", b"check"],
         1,
-        "fault plan the document: machine: it is missing\n",
+        "fault plan the document: there is no [[machine]]\n",
     ),
 ];
 
