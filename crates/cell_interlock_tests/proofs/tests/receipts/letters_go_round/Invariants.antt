@@ -1,4 +1,0 @@
-use Rattle.cell_interlock_tests.proofs.tests.receipts.letters_go_round.Given as goal
-
-abbrev pub ghosts-go_round : goal.ghosts-go_round
-ghosts-go_round g a = record { table = a.interlock.now.table }

@@ -1,0 +1,8 @@
+//! Tests of searches, by public calls only: small graphs, the bounds of whole starts, and what `explore` prints.
+#![tactic(auto)]
+
+#[cfg(test)]
+mod explore;
+pub mod graphs;
+#[cfg(test)]
+mod liveness;

@@ -1,0 +1,6 @@
+//! Going on from 14 bytes.
+
+mod machines;
+mod plant;
+mod power_cuts;
+mod refused_bytes;

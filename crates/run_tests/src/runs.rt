@@ -1,0 +1,8 @@
+//! Runs by a schedule, and by six workers.
+
+mod ends;
+mod rounds;
+mod simulated_cells;
+mod wired_workers;
+mod worker_cells;
+mod workers;

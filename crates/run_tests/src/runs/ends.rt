@@ -1,0 +1,111 @@
+//! The run in which the feed belt hands a plate to the table: with busy turns, and without memory.
+
+use crate::runs::simulated_cells::{places_of, run};
+use cell_plant::{RunRecord, Status, Turn};
+use cell_types::{Machine, Place};
+use std::process::Abort;
+use std::test::Fail;
+
+const FINE: [Status; 7] = [Status::Fine; 7];
+
+// A plate is at the feed belt's end.
+const START: &[u8; 10] = b"0100000000";
+
+fn turn_of(machine: Machine) -> Turn {
+    Turn {
+        machine,
+        busy: false,
+    }
+}
+
+// Six turns of the table, eleven of the feed belt, and one more of the table.
+fn first_turns() -> [Turn; 18] {
+    let mut turns = [turn_of(Machine::Feed); 18];
+    turns[..6].fill(turn_of(Machine::Table));
+    turns[17] = turn_of(Machine::Table);
+    turns
+}
+
+// One turn of the feed belt after another is busy: no machine stops.
+#[test]
+fn busy_turns_stop_nobody(rt: HostRuntime) -> Result<(), Fail> {
+    for busy in 6..17usize {
+        let mut turns = first_turns();
+        turns[busy].busy = true;
+        let record = run(rt.alloc(), places_of(START), 0, &turns)??;
+        assert!(rt; record.status == FINE, "{busy}");
+    }
+    Ok(())
+}
+
+// Two turns of each machine. The watch stops the cell, and soon resumes.
+const TWICE: [Machine; 14] = [
+    Machine::Feed,
+    Machine::Table,
+    Machine::Robot,
+    Machine::Press,
+    Machine::Deposit,
+    Machine::Crane,
+    Machine::Watch,
+    Machine::Watch,
+    Machine::Feed,
+    Machine::Table,
+    Machine::Robot,
+    Machine::Press,
+    Machine::Deposit,
+    Machine::Crane,
+];
+
+// The done calls and the inquiries of each machine in two turns.
+const ASKED: [(u64, u64); 7] = [(2, 0), (2, 0), (0, 1), (2, 0), (2, 0), (0, 0), (2, 0)];
+
+// Whether each machine that is fine has asked all that it should, and each other machine stopped
+// for memory. If the watch had no memory to resume, the others may be refused.
+fn lacks_but_memory(record: &RunRecord) -> bool {
+    let stays_stopped = match record.end {
+        Some(end) => end.stopped(),
+        None => false,
+    };
+    for machine in 0..7usize {
+        let counts = record.counts[machine];
+        let refused = if stays_stopped { counts.refused } else { 0 };
+        let answered = counts.done.saturating_add(refused);
+        let wanted = if (answered, counts.read) == ASKED[machine] {
+            Status::Fine
+        } else {
+            Status::Memory
+        };
+        if record.status[machine] != wanted {
+            return false;
+        }
+    }
+    true
+}
+
+// Whether no machine stopped but for memory; without one, the plate is on the table.
+fn ends_or_lacks(record: &RunRecord) -> bool {
+    if record.status == FINE {
+        return record
+            .end
+            .is_some_and(|end| end.is_full(Place::Table) && end.stamp() == 11);
+    }
+    for status in record.status {
+        if !matches!(status, Status::Fine | Status::Memory) {
+            return false;
+        }
+    }
+    true
+}
+
+// Whichever allocation fails, each run has a record, or the fault says why not.
+#[test]
+fn a_run_without_memory(rt: HostRuntime) -> Result<(), Fail> {
+    if let Ok(record) = run(rt.alloc(), places_of(START), 0, &first_turns())? {
+        assert!(rt; ends_or_lacks(&record));
+    }
+    let turns = TWICE.map(turn_of);
+    if let Ok(record) = run(rt.alloc(), [false; 10], 0, &turns)? {
+        assert!(rt; lacks_but_memory(&record));
+    }
+    Ok(())
+}

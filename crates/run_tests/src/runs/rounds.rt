@@ -1,0 +1,214 @@
+//! Long runs: plates that go round through all six machines, and a cell that comes to a standstill.
+//! The numbers come from another program, which was written from the tables of the cell alone.
+
+use crate::runs::simulated_cells::{full_places, places_of, run};
+use cell_plant::{RunRecord, Status, Turn};
+use cell_types::Machine;
+use std::alloc::Global;
+use std::process::Abort;
+use std::test::Fail;
+
+const WORKING: [Machine; 6] = [
+    Machine::Feed,
+    Machine::Table,
+    Machine::Robot,
+    Machine::Press,
+    Machine::Deposit,
+    Machine::Crane,
+];
+
+// The turn with this number, if the machines take theirs one after another.
+fn turn_at(number: usize) -> Turn {
+    Turn {
+        machine: WORKING[number % 6],
+        busy: false,
+    }
+}
+
+// This number of turns, one machine after another.
+fn in_turn(alloc: Global, count: usize) -> Result<Vec<Turn>, Fail> {
+    let mut turns = Vec::new(alloc);
+    for number in 0..count {
+        turns.push(turn_at(number))?;
+    }
+    Ok(turns)
+}
+
+// This number of turns of machines in a random order; one in eight finds the interlock busy.
+fn by_chance(alloc: Global, seed: u32, count: usize) -> Result<Vec<Turn>, Fail> {
+    let mut turns = Vec::new(alloc);
+    let mut number = seed;
+    for _ in 0..count {
+        number = number.wrapping_mul(1_664_525).wrapping_add(1_013_904_223);
+        let drawn = number >> 16;
+        turns.push(Turn {
+            machine: WORKING[(drawn % 6) as usize],
+            busy: drawn / 6 % 8 == 0,
+        })?;
+    }
+    Ok(turns)
+}
+
+const WATCH: Turn = Turn {
+    machine: Machine::Watch,
+    busy: false,
+};
+
+// These turns, with those of the watch between them: it stops the cell after every 97th turn, and
+// resumes after a number of further ones.
+fn with_stops(alloc: Global, turns: &[Turn], pause: usize) -> Result<Vec<Turn>, Fail> {
+    let mut all = Vec::new(alloc);
+    let mut is_stopped = false;
+    for (number, turn) in turns.iter().enumerate() {
+        all.push(*turn)?;
+        let since = (number % 97 + 1) % 97;
+        if since == 0 {
+            all.push(WATCH)?;
+            is_stopped = true;
+        }
+        if is_stopped && since == pause {
+            all.push(WATCH)?;
+            is_stopped = false;
+        }
+    }
+    if is_stopped {
+        all.push(WATCH)?;
+    }
+    Ok(all)
+}
+
+// The order of the turns: one machine after another; or a random one, by a seed.
+#[derive(Clone, Copy)]
+enum Order {
+    InTurn,
+    OfSix(u32),
+}
+
+// A run and its end.
+#[derive(Clone, Copy)]
+struct Round {
+    start: &'static [u8; 10],
+    order: Order,
+    count: usize,
+    // how many turns each stop of the watch lasts, if it stops the cell after every 97th turn
+    pause: Option<usize>,
+    places: &'static [u8; 10],
+    stamp: u32,
+    // the number of each machine's done calls
+    done: Option<[u64; 7]>,
+    axes: Option<[i32; 8]>,
+}
+
+const ROUNDS: &[Round] = &[
+    // a plate goes once round and is back where it began
+    Round {
+        start: b"1000000000",
+        order: Order::InTurn,
+        count: 5257,
+        pause: None,
+        places: b"1000000000",
+        stamp: 62,
+        done: Some([10, 13, 8, 15, 12, 4, 0]),
+        axes: Some([500, 20, 20, 320, 0, 0, 2000, 860]),
+    },
+    // four plates go round and round
+    Round {
+        start: b"1010100001",
+        order: Order::InTurn,
+        count: 20_000,
+        pause: None,
+        places: b"1011000000",
+        stamp: 292,
+        done: Some([56, 52, 47, 66, 49, 22, 0]),
+        axes: None,
+    },
+    Round {
+        start: b"1010100001",
+        order: Order::OfSix(5),
+        count: 20_000,
+        pause: None,
+        places: b"0011000011",
+        stamp: 283,
+        done: Some([52, 51, 46, 66, 48, 20, 0]),
+        axes: None,
+    },
+    // with six plates the cell comes to a standstill: later turns change nothing, and no machine
+    // stops
+    Round {
+        start: b"1011010101",
+        order: Order::InTurn,
+        count: 6000,
+        pause: None,
+        places: b"0111001011",
+        stamp: 22,
+        done: Some([3, 4, 2, 8, 5, 0, 0]),
+        axes: None,
+    },
+];
+
+// Four plates go round while the watch stops the cell again and again; it resumes at once or later.
+const STOPPED_ROUNDS: &[Round] = &[
+    Round {
+        start: b"1010100001",
+        order: Order::InTurn,
+        count: 20_000,
+        pause: Some(0),
+        places: b"1011000000",
+        stamp: 704,
+        done: Some([56, 52, 47, 66, 49, 22, 412]),
+        axes: None,
+    },
+    Round {
+        start: b"1010100001",
+        order: Order::OfSix(5),
+        count: 20_000,
+        pause: Some(48),
+        places: b"0101000011",
+        stamp: 685,
+        done: Some([48, 45, 46, 66, 48, 20, 412]),
+        axes: None,
+    },
+];
+
+// A round's turns.
+fn turns_of(alloc: Global, round: &Round) -> Result<Vec<Turn>, Fail> {
+    let turns = match round.order {
+        Order::InTurn => in_turn(alloc, round.count),
+        Order::OfSix(seed) => by_chance(alloc, seed, round.count),
+    }?;
+    match round.pause {
+        Some(pause) => with_stops(alloc, turns.as_slice(), pause),
+        None => Ok(turns),
+    }
+}
+
+// Runs a round.
+fn run_of(alloc: Global, round: &Round) -> Result<RunRecord, Fail> {
+    let turns = turns_of(alloc, round)?;
+    Ok(run(alloc, places_of(round.start), 0, turns.as_slice())??)
+}
+
+// Whether no machine was stopped in a run, and it ended as its round says.
+fn ends_so(round: &Round, record: &RunRecord) -> bool {
+    let Some(end) = record.end else {
+        return false;
+    };
+    let done = record.counts.map(|counts| counts.done);
+    record.status == [Status::Fine; 7]
+        && end.stamp() == round.stamp
+        && full_places(&end) == places_of(round.places)
+        && round.done.unwrap_or(done) == done
+        && round.axes.unwrap_or(record.axes) == record.axes
+}
+
+// No machine is stopped for good.
+#[test]
+fn rounds_end_so(rt: HostRuntime) -> Result<(), Fail> {
+    for rounds in [ROUNDS, STOPPED_ROUNDS] {
+        for round in rounds {
+            let record = run_of(rt.alloc(), round)?;
+            assert!(rt; ends_so(round, &record), "{}", round.stamp);
+        }
+    }
+    Ok(())
+}
