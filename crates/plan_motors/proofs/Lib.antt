@@ -1,0 +1,7 @@
+mod Wanted
+pub mod lemmas
+mod Lasting
+mod Running
+mod Masking
+mod Posing
+mod RunRows

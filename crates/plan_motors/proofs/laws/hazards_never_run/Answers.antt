@@ -1,0 +1,5 @@
+use Rattle.plan_motors.proofs.Running.{never_run}
+use Rattle.plan_motors.proofs.laws.hazards_never_run.Goals as goal
+
+pub returns : goal.returns
+returns c = never_run c.lawful_histories.ensures c.args.plan.now c.args.first.now c.args.second.now c.args.opening.now c.args.history.now c.machines.ensures.plan c.requires.first c.requires.second c.requires.excluded c.requires.sound c.requires.runs

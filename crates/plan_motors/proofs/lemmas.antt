@@ -1,0 +1,2 @@
+pub mod Excluding
+pub mod Checked

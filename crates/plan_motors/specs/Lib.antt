@@ -1,0 +1,12 @@
+pub mod Motor
+pub mod Exclusion
+pub mod Decided
+pub mod Poses
+pub mod Verdict
+pub mod OfPlan
+pub mod MotorPlan
+pub mod Faults
+pub mod Laws
+pub mod Mask
+pub mod Examples
+pub mod RunExamples

@@ -1,0 +1,81 @@
+//! Motors of the press and of the lift of `plan_types`.
+ghost use Rattle.std.specs.Prelude.{◌≡◌, None};
+ghost use Rattle.plan_motors.specs.Examples as examples;
+ghost use Rattle.plan_motors.specs.Examples.{CausesAreRight, MasksAreRight, FirstFaults};
+ghost use Rattle.plan_motors.specs.RunExamples.{RunsAreRight};
+
+use crate::motor::{Motor, NO_NEED, ZoneNeed};
+use plan_rules::laws::lawful_histories;
+use plan_types::{MAX_PLACES, MAX_ZONES, Posture};
+
+fn motor(machine: u8, first: ZoneNeed, second: ZoneNeed) -> Motor
+    ensures { result ≡ examples.motor machine first second None None }
+{
+    let mut zones = [NO_NEED; MAX_ZONES];
+    zones[0] = first;
+    zones[1] = second;
+    Motor {
+        machine,
+        zones,
+        places: [None; MAX_PLACES],
+    }
+}
+
+/// The press's ram: it is driven only while the press holds its zone, which moves.
+pub fn ram() -> Motor
+    ensures { result ≡ examples.ram }
+{
+    let moving = ZoneNeed {
+        holds: true,
+        posture: Some(Posture::Moving),
+    };
+    motor(1, moving, NO_NEED)
+}
+
+const HELD: ZoneNeed = ZoneNeed {
+    holds: true,
+    posture: None,
+};
+
+/// The loader's arm in the press, driven or not.
+pub fn arm() -> Motor
+    ensures { result ≡ examples.arm }
+{
+    motor(0, HELD, NO_NEED)
+}
+
+/// The gate of the lift's lower floor.
+pub fn lower_gate() -> Motor
+    ensures { result ≡ examples.lower_gate }
+{
+    motor(1, HELD, NO_NEED)
+}
+
+/// The gate of its upper floor.
+pub fn upper_gate() -> Motor
+    ensures { result ≡ examples.upper_gate }
+{
+    motor(2, NO_NEED, HELD)
+}
+
+/// Which zone or place keeps literal motors apart.
+pub fn causes_are_right()
+    ensures { CausesAreRight }
+{}
+
+/// The bits that literal motors look at.
+pub fn masks_are_right()
+    ensures { MasksAreRight }
+{}
+
+/// Motors and hazards that don't fit the press, and the first fault of each.
+pub fn first_faults()
+    ensures { FirstFaults }
+{}
+
+/// What the machines of the press may run after literal histories, and which calls end it.
+pub fn runs_are_right()
+    ensures { RunsAreRight }
+{
+    lawful_histories();
+}
