@@ -1,0 +1,2 @@
+pub mod CellMotors
+pub mod Demands
