@@ -1,5 +1,5 @@
 -- Two plants, written out: two machines at a press, and a lift between two floors.
-use Rattle.std.specs.Prelude.{◌≡◌, ℕ, Bool, true, false, List, [], ◌∷◌, ◌++◌, replicate, Option, Some, None}
+use Rattle.std.specs.Prelude.{◌≡◌, ℕ, ◌-◌, Bool, true, false, List, [], ◌∷◌, ◌++◌, replicate, Option, Some, None}
 use Rattle.plan_types.specs.declared.posture.Posture.{Posture}
 use Rattle.plan_types.specs.declared.posture.Posture.TheVariants.{Closed, Moving, OpenIn, OpenOut}
 use Rattle.plan_types.specs.declared.table.Way.{Way}
@@ -66,6 +66,12 @@ two_at row poses = plan_table 2 (row ∷ []) poses (0 ∷ 1 ∷ [])
 abbrev pub three_at : PlanZone → PlanTable
 three_at row = plan_table 3 (row ∷ []) [] (0 ∷ 1 ∷ 2 ∷ [])
 
+-- one pose, which gives one zone a posture and leaves the others
+abbrev pub gives_at : ℕ → Posture → PlanTable
+gives_at z q =
+    let gives = replicate z None ++ Some q ∷ replicate (9 - z) None in
+    plan_table 1 [] (record { machine = 0; after_moving = false; gives = gives } ∷ []) []
+
 -- as many zones and places as these numbers say, without a fault in them
 abbrev pub counted : ℕ → ℕ → PlanTable
 counted zones places = plan_table 2 (replicate zones (zone 1 0 None None)) [] (replicate places 0)
@@ -117,6 +123,9 @@ pub record FirstFaults : Type 0 where
   pub foreign : plan_fault (two_at press_zone (press_poses ++ pose 0 false (Some Moving) None ∷ []))
       ≡ Some (ForeignZone 4 0)
   pub beyond : plan_fault (two_at press_zone (pose 1 false (Some Moving) (Some Moving) ∷ [])) ≡ Some (ForeignZone 0 1)
+  -- whatever the posture is, and be the zone the tenth, the last that a pose may give one
+  pub closed : plan_fault (gives_at 0 Closed) ≡ Some (ForeignZone 0 0)
+  pub tenth_zone : plan_fault (gives_at 9 Moving) ≡ Some (ForeignZone 0 9)
 
 -- a pose of a machine that no table has
 abbrev pub strange_pose : PlanPose

@@ -1,18 +1,11 @@
 -- What literal tables tell of a pose, a zone, a machine and a plate's way.
-use Rattle.std.specs.Prelude.{◌≡◌, ℕ, ◌-◌, true, false, [], ◌∷◌, ◌++◌, replicate, Option, Some, None}
+use Rattle.std.specs.Prelude.{◌≡◌, ℕ, true, false, [], ◌∷◌, Option, Some, None}
 use Rattle.plan_types.specs.declared.posture.Posture.{Posture}
 use Rattle.plan_types.specs.declared.posture.Posture.TheVariants.{Closed, Moving, OpenIn, OpenOut}
-use Rattle.plan_types.specs.declared.table.PlanPose.{PlanPose}
 use Rattle.plan_types.specs.declared.table.Transfer.{Transfer}
 use Rattle.plan_types.specs.Table.{PlanTable, plan_table, watch, is_party, has_pose, is_moving_pose, transfer_of}
 use Rattle.plan_types.specs.Table.{posture_of}
-use Rattle.plan_types.specs.Examples.{way, zone, pose, press_table, lift_table, two_at}
-
--- one pose, which gives one zone a posture and leaves the others
-abbrev pub gives_at : ℕ → Posture → PlanTable
-gives_at z q =
-    let gives = replicate z None ++ Some q ∷ replicate (9 - z) None in
-    plan_table 1 [] (record { machine = 0; after_moving = false; gives = gives } ∷ []) []
+use Rattle.plan_types.specs.Examples.{way, zone, pose, press_table, lift_table, two_at, gives_at}
 
 -- one pose, which gives two zones a posture
 abbrev pub gives_both : Posture → Posture → PlanTable

@@ -32,4 +32,6 @@ returns c = record {
   machine = refl;
   foreign = refl;
   beyond = refl;
+  closed = refl;
+  tenth_zone = refl;
 }
