@@ -1,4 +1,4 @@
--- Literal histories of four plants: each answer is written out.
+-- Literal histories of five plants: each answer is written out.
 use Rattle.std.specs.Prelude.{◌≡◌, ℕ, true, false, List, [], ◌∷◌, replicate, Some, None}
 use Rattle.plan_types.specs.declared.posture.Posture.TheVariants.{Closed, Moving, OpenIn, OpenOut}
 use Rattle.plan_types.specs.declared.call.Call.{Call}
@@ -157,6 +157,27 @@ opening_two_presses =
     ∷ did 2 (SetPose 3) ∷ event 0 (Inquire 0) (Shown (Some 0) false OpenIn)
     ∷ event 0 (Inquire 1) (Shown (Some 2) false OpenIn) ∷ []
 
+-- machine 0 hosts two gates, with a place behind each; machine 1 is the guest at the first, 2 at the second; places:
+-- 0 and 1 machine 0's, 2 machine 1's, 3 machine 2's
+-- poses: 0 moves both gates, 1 opens both inward, after moving
+abbrev pub gates_table : PlanTable
+gates_table =
+    plan_table 3 (zone 0 1 (way 2 0) None ∷ zone 0 2 (way 3 1) None ∷ [])
+    (pose 0 false (Some Moving) (Some Moving) ∷ pose 0 true (Some OpenIn) (Some OpenIn) ∷ [])
+    (0 ∷ 0 ∷ 1 ∷ 2 ∷ [])
+
+-- both guests have a plate
+abbrev pub gates_start : State
+gates_start = start_state (false ∷ false ∷ true ∷ true ∷ replicate 12 false) 0
+
+-- where both gates are another's, or both have a plate, the refusal names the first
+abbrev pub passing_both_gates : List Event
+passing_both_gates =
+    did 0 (Claim 0) ∷ did 0 (Claim 1) ∷ did 0 (SetPose 0) ∷ did 0 (SetPose 1) ∷ did 0 (Yield 1) ∷ did 0 (Yield 0)
+    ∷ refused 0 (SetPose 0) (NotOwner (Some 1)) ∷ did 1 (Give 0) ∷ did 2 (Give 1)
+    ∷ refused 0 (SetPose 0) (PlateInZone 0) ∷ did 0 (Take 0) ∷ refused 0 (SetPose 0) (PlateInZone 1) ∷ did 0 (Take 1)
+    ∷ did 0 (SetPose 0) ∷ []
+
 -- these histories are legal: each answer in them is the reply
 pub record ExamplesAreLegal : Type 0 where
   pub press_loads : IsLegal press_table press_start loading
@@ -172,3 +193,5 @@ pub record ExamplesAreLegal : Type 0 where
   pub door_opens_beside_a_guest : IsLegal doors_table doors_start opening_beside_a_guest
   pub presses_are_a_plan : plan_fault presses_table ≡ None
   pub presses_open : IsLegal presses_table press_start opening_two_presses
+  pub gates_are_a_plan : plan_fault gates_table ≡ None
+  pub both_gates_pass : IsLegal gates_table gates_start passing_both_gates

@@ -23,6 +23,12 @@ use Rattle.plan_rules.specs.History.{after, IsLegal, own_events, done_count, Hol
 abbrev pub Throughout : (List Event → Type 0) → List Event → Type 0
 Throughout Law h = (before more : List Event) → h ≡ before ++ more → Law before
 
+-- so what a test finds throughout a history it finds of each prefix
+abbrev pub ThroughoutIsOfPrefixes : Type 0
+ThroughoutIsOfPrefixes =
+    (test : List Event → Bool) (before more : List Event) → Throughout (λ h. IsTrue (test h)) (before ++ more)
+    → IsTrue (test before)
+
 -- a call that was Done
 abbrev pub done : ℕ → Call → Event
 done m c = record { machine = m; call = c; answer = Done }

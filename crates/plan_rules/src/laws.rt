@@ -124,6 +124,11 @@ pub fn lawful_histories()
     ensures { law.EveryLegalHistoryIsLawful }
 {}
 
+/// What a test finds throughout a history it finds of each prefix of it.
+pub fn throughout_is_of_prefixes()
+    ensures { law.ThroughoutIsOfPrefixes }
+{}
+
 /// Every start is sound, for every plan.
 pub fn starts_are_sound(plan: &Plan, opening: &State)
     requires { IsStart opening.now }
