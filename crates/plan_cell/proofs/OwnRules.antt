@@ -1,5 +1,5 @@
 -- The cell's own rules refuse; each call but Advance is a call by the plan.
-use Rattle.std.proofs.Common.{◌≡◌, ◌≢◌, Bool, true, false, ◌&&◌, ◌||◌, not, Option, Some, None, refl, ap}
+use Rattle.std.proofs.Common.{◌≡◌, ◌≢◌, Bool, true, false, ◌&&◌, ◌||◌, not, None, refl, ap}
 use Rattle.std.specs.Bool.{then_some}
 use Rattle.cell_types.specs.declared.machine.Machine.{Machine}
 use Rattle.cell_types.specs.declared.machine.Machine.TheVariants.{Feed, Press, Deposit}

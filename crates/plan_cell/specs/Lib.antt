@@ -2,3 +2,4 @@ pub mod Numbers
 pub mod CellPlan
 pub mod Mapping
 pub mod Laws
+pub mod OwnRuleExamples

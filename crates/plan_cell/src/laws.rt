@@ -3,6 +3,7 @@ ghost use Rattle.plan_types.specs.Plan.{IsPlan};
 ghost use Rattle.plan_cell.specs.CellPlan.{cell_table};
 ghost use Rattle.plan_cell.specs.Laws.{CellRefusesMore, RefusesByItsOwnRules, OwnRulesRefuse};
 ghost use Rattle.plan_cell.specs.Laws.{AdvanceAloneIsMissing, InquiriesAreAlike, SoundByPlan};
+ghost use Rattle.plan_cell.specs.OwnRuleExamples.{OwnRuleExamples};
 
 /// The tables of the cell are a plan.
 pub fn cell_is_plan()
@@ -25,6 +26,11 @@ pub fn cell_refuses_by_its_own_rules()
 /// Where one of these rules holds, the cell doesn't do the call.
 pub fn own_rules_refuse()
     ensures { OwnRulesRefuse }
+{}
+
+/// In an empty cell none of these rules holds, and a refusal by the plan's rules is none by the cell's own.
+pub fn own_rule_examples_are_right()
+    ensures { OwnRuleExamples }
 {}
 
 /// Each call of the cell but `Advance` is a call by its plan.
