@@ -14,3 +14,4 @@ mod Unbarred
 mod Fitting
 mod TablesHold
 mod Handing
+mod ExamplesMet

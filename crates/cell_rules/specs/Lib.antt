@@ -24,5 +24,6 @@ pub mod Stored
 pub mod Benches
 pub mod BenchView
 pub mod Programs
+pub mod Examples
 pub mod Names
 pub mod Types

@@ -3,6 +3,7 @@
 //! first. `let _ = &opening.stamp;` reads the opening, so the prover knows that it is sound.
 ghost use Rattle.std.specs.Prelude.{◌++◌};
 ghost use Rattle.cell_rules.specs.Sound.{IsSound};
+ghost use Rattle.cell_rules.specs.Examples.{Examples};
 ghost use Rattle.cell_rules.specs.ModelState.{ModelState};
 ghost use Rattle.cell_rules.specs.History.{IsLegal};
 ghost use Rattle.cell_rules.specs.Laws as law;
@@ -206,4 +207,10 @@ pub fn stamps_only_wear()
 #[tactic(auto, using(crate::proofs::lemmas::Restamps::same_after))]
 pub fn ends_are_same()
     ensures { EndsAreSame }
+{}
+
+/// Examples of what a machine keeps, of refusals that it never gets, and of an order of refusals.
+#[tactic(auto, using(crate::proofs::ExamplesMet::examples_are_met))]
+pub fn examples_are_met()
+    ensures { Examples }
 {}
