@@ -4,6 +4,7 @@
 
 mod calls;
 mod exports;
+pub mod laws;
 mod numbers;
 mod reply;
 #[cfg(test)]
