@@ -3,7 +3,7 @@ use Rattle.std.proofs.Common.{rules, ◌+◌, ◌+ℤ◌, pos, ℕ, ℤ, arith}
 use Rattle.std.specs.Int.Signed.{le_z, lt_z, le_z_yes, lt_z_yes}
 use Rattle.std.specs.Prelude.{T}
 use Rattle.cell_sensors.specs.Names.{Scale, IsScale, height_of, line_height, IsLineRoundedDown, IsRawAt}
-use Rattle.cell_sensors.specs.Examples.{GivesRaw, LiesAt, three_for_two, below_zero, RoundingExamples}
+use Rattle.cell_sensors.specs.Examples.{GivesRaw, LiesAt, three_for_two, below_zero, RoundingExamples, AnswerExamples}
 use Rattle.cell_sensors.proofs.lemmas.LineLemmas.{one_raw_at, one_line_at}
 
 plain : IsScale three_for_two
@@ -22,3 +22,13 @@ lies s raw position k low high = let is : IsLineRoundedDown s raw position = rec
 
 pub roundings : RoundingExamples
 roundings = search (rules, gives, lies, plain, deep)
+
+pub answers : AnswerExamples
+answers = record {
+  highest = record { near = record { not_below = le_z_yes tt; not_above = le_z_yes tt }; first = le_z_yes tt; last = le_z_yes tt };
+  lowest = record { near = record { not_below = le_z_yes tt; not_above = le_z_yes tt }; first = le_z_yes tt; last = le_z_yes tt };
+  too_high = λ r. r.near.not_below.le;
+  too_low = λ r. r.near.not_above.le;
+  after_last = λ r. r.last.le;
+  before_first = λ r. r.first.le;
+}

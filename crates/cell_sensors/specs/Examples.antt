@@ -1,7 +1,8 @@
--- Raw values and positions rounded down, in figures, on scales with no whole number of raw values for a position.
+-- Raw values and positions rounded down, in figures, on scales with no whole number of raw values for a position; and
+-- what a calibrated sensor may answer there.
 use Rattle.std.specs.Prelude.{◌≡◌, ℕ, ℤ, pos, neg_ℤ}
 use Rattle.cell_sensors.specs.Scale.{Scale}
-use Rattle.cell_sensors.specs.Line.{IsLineRoundedDown, IsRawAt}
+use Rattle.cell_sensors.specs.Line.{IsReading, IsLineRoundedDown, IsRawAt}
 
 -- a scale by its two raw values and the positions there
 abbrev pub scale_of : ℕ → ℕ → ℤ → ℤ → Scale
@@ -42,3 +43,12 @@ pub record RoundingExamples : Type 0 where
   pub line_at_8 : LiesAt below_zero 8 (neg_ℤ (pos 300))
   pub line_at_307 : LiesAt below_zero 307 (neg_ℤ (pos 2))
   pub line_at_509 : LiesAt below_zero 509 (pos 199)
+
+-- within the tolerance of the line, which is at 500 and at both ends, and from the first position to the last
+pub record AnswerExamples : Type 0 where
+  pub highest : IsReading three_for_two 750 (pos 505)
+  pub lowest : IsReading three_for_two 750 (pos 495)
+  pub too_high : ¬ IsReading three_for_two 750 (pos 506)
+  pub too_low : ¬ IsReading three_for_two 750 (pos 494)
+  pub after_last : ¬ IsReading three_for_two 1500 (pos 1001)
+  pub before_first : ¬ IsReading three_for_two 0 (neg_ℤ (pos 1))

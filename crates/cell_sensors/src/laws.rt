@@ -4,7 +4,7 @@ ghost use Rattle.std.specs.Prelude.{◌≡◌, ℕ, ℤ, ◌-ℤ◌, ◌≤ℤ�
 ghost use Rattle.cell_sensors.specs.Curve.{Pair, IsCurve, IsOnCurve};
 ghost use Rattle.cell_sensors.specs.CurveExamples.{CurveExamples};
 ghost use Rattle.cell_sensors.specs.CurveFaults.{IsFirstFault};
-ghost use Rattle.cell_sensors.specs.Examples.{RoundingExamples};
+ghost use Rattle.cell_sensors.specs.Examples.{AnswerExamples, RoundingExamples};
 ghost use Rattle.cell_sensors.specs.Scale.{Scale, IsScale};
 ghost use Rattle.cell_sensors.specs.Line.{raw_width, IsLineNear, IsWithinTolerance, IsNear, IsRawAt};
 ghost use Rattle.cell_sensors.specs.declared.curve.CurveFault.{CurveFault};
@@ -28,6 +28,12 @@ pub fn near_position()
 /// value of an ideal sensor, and the position of the line.
 pub fn roundings_are_met()
     ensures { RoundingExamples }
+{}
+
+/// What a calibrated sensor may answer, in figures.
+#[tactic(auto, using(crate::proofs::Rounding::answers))]
+pub fn answers_are_met()
+    ensures { AnswerExamples }
 {}
 
 /// A curve is at one position at a raw value: neighbours that share it agree there.
