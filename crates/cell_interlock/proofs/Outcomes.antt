@@ -319,6 +319,8 @@ lines : (t : TableId) → LineExamples t
 lines t = record {
   loads_without_memory = λ f. let e : 4 ≡ 3 = ap (λ (v : PassView). v.loads) f in omega arith;
   other_tries = λ l d apart f. apart f.tries;
+  survey_with_other_tries = λ l d apart f. apart f.tries;
+  survey_forgets = λ l d was is f. let e = subst (λ (v : PassView). BeginsWith v.seen (by_feed ∷ [])) is (subst (λ (v : PassView). BeginsWith d.pass.seen v.seen) was f.more.seen.begins) in let none = e.1 in cc;
 }
 
 pub outcomes_are_known : OutcomeExamples

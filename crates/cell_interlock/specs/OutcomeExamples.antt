@@ -27,7 +27,7 @@ use Rattle.cell_interlock.specs.Seen.{AnswersAtItsPoint, LastingRight, HasSeenMo
 use Rattle.cell_interlock.specs.Calls.{IsStampedAfter}
 use Rattle.cell_interlock.specs.Order.{StandsBefore}
 use Rattle.cell_interlock.specs.Tries.{Looked, Attempted, after_look, after_attempt}
-use Rattle.cell_interlock.specs.Lines.{Replied, PassAsks, LineView, LineAsks}
+use Rattle.cell_interlock.specs.Lines.{Replied, PassAsks, LineView, LineAsks, LineSurveys}
 use Rattle.cell_interlock.specs.declared.pass.Passes.{Passes}
 use Rattle.cell_interlock.specs.declared.tries.Look.TheVariants.{Settled as LookSettled, Pending}
 use Rattle.cell_interlock.specs.declared.tries.Tried.TheVariants.{Settled as TriedSettled, Lost, Busy as TriedBusy}
@@ -329,6 +329,8 @@ pub record FreshExamples (i : InterlockView) (p : Passes) : Type 0 where
 pub record LineExamples (t : TableId) : Type 0 where
   pub loads_without_memory : ¬ PassAsks 2 (before t) claim (Err Memory) (looked t)
   pub other_tries : (l d : LineView) → d.tries ≢ l.tries → ¬ LineAsks l claim (Err Memory) d
+  pub survey_with_other_tries : (l d : LineView) → d.tries ≢ l.tries → ¬ LineSurveys l d
+  pub survey_forgets : (l d : LineView) → l.pass ≡ lost_one t → d.pass ≡ before t → ¬ LineSurveys l d
 
 pub record OutcomeExamples : Type 0 where
   pub ask : (t : TableId) → AskExamples t
