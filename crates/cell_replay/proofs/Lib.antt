@@ -4,6 +4,7 @@ mod Lines
 mod Starts
 mod Scripts
 mod FirstScripts
+mod FaultRows
 mod ScriptRows
 mod RowsLeft
 mod Writings

@@ -3,6 +3,7 @@ pub mod Requests
 pub mod Script
 pub mod FirstVersion
 pub mod Faults
+pub mod FaultExamples
 pub mod ScriptExamples
 pub mod Limited
 pub mod Held

@@ -5,6 +5,7 @@ ghost use Rattle.cell_rules.specs.History.{IsLegal};
 ghost use Rattle.cell_rules.specs.Start.{IsStartState};
 ghost use Rattle.cell_replay.specs.Script.{script_events, script_lines, script_outcome, script_rows, script_start};
 ghost use Rattle.cell_replay.specs.Script.{script_text};
+ghost use Rattle.cell_replay.specs.FaultExamples.{FaultsAreMet};
 ghost use Rattle.cell_replay.specs.FirstVersion as first;
 ghost use Rattle.cell_replay.specs.FirstVersion.{IsOfFirstVersion};
 ghost use Rattle.cell_replay.specs.ScriptExamples.{ScriptsAreMet};
@@ -49,4 +50,10 @@ pub fn first_version_stays(script: &[u8])
 #[tactic(auto, using(crate::proofs::ScriptRows::scripts_are_met))]
 pub fn scripts_are_met()
     ensures { ScriptsAreMet }
+{}
+
+/// What replays that failed may have written, and what they may not.
+#[tactic(auto, using(crate::proofs::FaultRows::faults_are_met))]
+pub fn faults_are_met()
+    ensures { FaultsAreMet }
 {}
