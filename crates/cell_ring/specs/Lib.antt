@@ -4,3 +4,4 @@ pub mod Following
 pub mod Arriving
 pub mod OneLap
 pub mod Figures
+pub mod WrongHistories

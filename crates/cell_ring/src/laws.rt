@@ -8,6 +8,7 @@ ghost use Rattle.cell_ring.specs.Following.{InEachStretch, NoneOvertakes, Plates
 ghost use Rattle.cell_ring.specs.Lap.{LapGoesRound};
 ghost use Rattle.cell_ring.specs.OneLap.{OneLapOfOnePlate};
 ghost use Rattle.cell_ring.specs.Plates.{PlatesAreOnRing, RulesFollowLap};
+ghost use Rattle.cell_ring.specs.WrongHistories.{WrongHistories};
 
 use cell_rules::State;
 use cell_rules::laws::states_are_sound;
@@ -87,4 +88,10 @@ pub fn bounds_in_figures()
 /// One lap of one plate, call by call.
 pub fn one_lap_of_one_plate()
     ensures { OneLapOfOnePlate }
+{}
+
+/// Made-up histories, of each of which one of the laws above doesn't hold: a plate stays, isn't
+/// forged, isn't delivered, or isn't where its moves took it.
+pub fn wrong_histories_are_refused()
+    ensures { WrongHistories }
 {}
