@@ -5,9 +5,10 @@ use Rattle.cell_rules.specs.Types.{Take, SetPose, Advance, Turning, Loading, Unl
 use Rattle.cell_rules.specs.Types.{Running, Landing, Offering}
 use Rattle.cell_types.specs.declared.machine.Machine.TheVariants.{Table as TableMachine, Crane as CraneMachine}
 use Rattle.cell_rules.specs.Names.{ModelState, start_state, place_set, IsLegal, IsStartState, after, done}
-use Rattle.cell_ring.specs.Lap.{FeedEntry, Arm2, all_positions}
+use Rattle.cell_ring.specs.Lap.{FeedEntry, PressIn, Arm2, ArmToBelt, all_positions}
 use Rattle.cell_ring.specs.Plates.{plates_in}
 use Rattle.cell_ring.specs.Following.{position_after, plate_moves, moves_of, arrivals}
+use Rattle.cell_ring.specs.Arriving.{forgings, deliveries}
 
 -- a plate where the crane puts plates on the feed belt, and no other
 abbrev pub one_plate : ModelState
@@ -58,3 +59,8 @@ pub record OneLapOfOnePlate : Type 0 where
   pub all_its : moves_of FeedEntry one_lap ≡ 17
   pub round : position_after FeedEntry one_lap ≡ FeedEntry
   pub everywhere : map (arrivals FeedEntry one_lap) all_positions ≡ replicate 17 1
+  -- the press forges it by its advance, and the deposit belt's take delivers it
+  pub unforged : forgings FeedEntry (onto_table ++ into_press) ≡ 0
+  pub forged : forgings PressIn (done Press Advance ∷ []) ≡ 1
+  pub undelivered : deliveries FeedEntry (onto_table ++ into_press ++ out_of_press) ≡ 0
+  pub delivered : deliveries ArmToBelt (done Deposit (Take Z4) ∷ []) ≡ 1
