@@ -31,4 +31,7 @@ mod RecordFigures
 mod RecordRows
 mod WatchRows
 mod WatchRight
+mod NoteRows
+mod RestRows
+mod GaugeRows
 mod Starting

@@ -18,4 +18,7 @@ pub mod Notebooks
 pub mod Simulations
 pub mod WatchExamples
 pub mod WatchLaws
+pub mod NoteExamples
+pub mod RestExamples
+pub mod GaugeExamples
 pub mod Names

@@ -5,8 +5,11 @@ ghost use Rattle.cell_parts.specs.Axes.{CellScales};
 ghost use Rattle.cell_plant.specs.Cells.{cell_gauges, cell_scales};
 ghost use Rattle.cell_plant.specs.FrameExamples.{FrameExamples};
 ghost use Rattle.cell_plant.specs.Frames.{FilmsAreSafe};
+ghost use Rattle.cell_plant.specs.GaugeExamples.{OneRunIsTold};
 ghost use Rattle.cell_plant.specs.GaugeLaws.{RunsAreByGauges, RunsAreOne};
+ghost use Rattle.cell_plant.specs.NoteExamples.{NotesAreTold};
 ghost use Rattle.cell_plant.specs.RecordExamples.{RecordExamples};
+ghost use Rattle.cell_plant.specs.RestExamples.{RestIsTold};
 ghost use Rattle.cell_plant.specs.Resting.{StoppedMachinesRest};
 ghost use Rattle.cell_plant.specs.RunExamples.{RunExamples};
 ghost use Rattle.cell_plant.specs.Safety.{EveryRunIsSafe};
@@ -104,4 +107,24 @@ pub fn watch_rows_are_met()
 #[tactic(auto, using(crate::proofs::WatchRight::watch_notes))]
 pub fn watch_notes_the_mark()
     ensures { WatchNotesTheMark }
+{}
+
+/// Examples of what that law says: it speaks of both states of each step, and of each call. A note
+/// that isn't the mark is refused, and so is a call of the watch that is refused as stopped.
+#[tactic(auto, using(crate::proofs::NoteRows::notes_are_told))]
+pub fn notes_are_told()
+    ensures { NotesAreTold }
+{}
+
+/// Examples of what isn't at rest: each belt, motor and magnet.
+#[tactic(auto, using(crate::proofs::RestRows::rest_is_told))]
+pub fn rest_is_told()
+    ensures { RestIsTold }
+{}
+
+/// Examples of gauges that give one position, and of one that doesn't; of calls that had memory; of
+/// records that don't say the same, each by one thing; and of one in which a machine was refused.
+#[tactic(auto, using(crate::proofs::GaugeRows::one_run_is_told))]
+pub fn one_run_is_told()
+    ensures { OneRunIsTold }
 {}
