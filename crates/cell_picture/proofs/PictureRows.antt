@@ -109,6 +109,12 @@ spot-rows = record {
   crane = refl;
   crane_put = refl;
   z6 = refl;
+  not_on_feed = refl;
+  before_barrier = refl;
+  in_barrier = refl;
+  past_feed = refl;
+  not_on_deposit = refl;
+  past_deposit = refl;
 }
 
 plate-rows : PlateExamples

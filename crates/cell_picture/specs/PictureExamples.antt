@@ -21,7 +21,7 @@ use Rattle.cell_picture.specs.Columns.{attribute_text, column_end, frame_at, tra
 use Rattle.cell_picture.specs.Parts.{shown_part, takes_plate}
 use Rattle.cell_picture.specs.Pictures.{plates_in}
 use Rattle.cell_picture.specs.Ramps.{ramp, ramp_at}
-use Rattle.cell_picture.specs.Spots.{plate_spot}
+use Rattle.cell_picture.specs.Spots.{on_deposit, on_feed, plate_spot}
 use Rattle.cell_picture.specs.Values.{colour, value_text}
 
 -- ---- which frames are shown
@@ -208,6 +208,13 @@ pub record SpotExamples : Type 0 where
   pub crane : IsAt (full place.Crane all_free) (deposit_spot (pos 350) (neg_ℤ (pos 21)) true)
   pub crane_put : IsLetGoAt (full place.Crane all_free) (deposit_spot (pos 350) (neg_ℤ (pos 236)) false)
   pub z6 : IsAt (flagged Z6 OpenIn) (deposit_spot (pos 350) (neg_ℤ (pos 236)) false)
+  -- a plate that isn't on its belt is shown at the entry; the light barrier begins at 900; one past the end, at the end
+  pub not_on_feed : on_feed None ≡ table_spot (pos 350)
+  pub before_barrier : on_feed (Some (pos 899)) ≡ table_spot (pos 63)
+  pub in_barrier : on_feed (Some (pos 900)) ≡ table_spot (pos 62)
+  pub past_feed : on_feed (Some (pos 1100)) ≡ table_spot (pos 0)
+  pub not_on_deposit : on_deposit None ≡ deposit_spot (pos 0) (pos 0) true
+  pub past_deposit : on_deposit (Some (pos 1100)) ≡ deposit_spot (pos 350) (pos 0) true
 
 -- two plates are numbered along their way: on the feed belt, and on the deposit belt
 abbrev pub both : Frame
