@@ -191,47 +191,30 @@ impl RobotStep {
         let clear = Share::Clear.in_posture(Posture::OpenOut);
         let held = Share::Held.in_posture(Posture::OpenIn);
         let claimed = Share::Held.in_any_posture();
+        let with_plate = RobotShare::away(RobotPlates::Unforged);
+        let while_fed = RobotShare::away(RobotPlates::InPress);
+        let with_forged = RobotShare::away(RobotPlates::Forged);
+        let at_table = RobotShare::at_table(loaded);
+        let inspecting = RobotShare::in_press(claimed, RobotPlates::Unforged);
+        let loading = RobotShare::in_press(held, RobotPlates::Unforged);
+        let unloading = RobotShare::in_press(loaded, RobotPlates::InPress);
+        let at_deposit = RobotShare::at_deposit(held);
         match self {
             RobotStep::TurnToTable | RobotStep::AwaitPlate => RobotShare::away(RobotPlates::Any),
-            RobotStep::ReachTable | RobotStep::GripPlate => RobotShare::at_table(loaded),
-            RobotStep::LeaveTable | RobotStep::TakePlate => RobotShare::at_table(loaded).with_arm1(
-                Grip::On,
-            ),
+            RobotStep::ReachTable | RobotStep::GripPlate => at_table,
+            RobotStep::LeaveTable | RobotStep::TakePlate => at_table.with_arm1(Grip::On),
             RobotStep::ReleaseTable => RobotShare::at_table(clear),
-            RobotStep::TurnToLoad | RobotStep::ClaimPress => RobotShare::away(
-                RobotPlates::Unforged,
-            ),
-            RobotStep::InspectPress | RobotStep::ReleasePress => RobotShare::in_press(
-                claimed,
-                RobotPlates::Unforged,
-            ),
-            RobotStep::ReachToLoad | RobotStep::DropInPress => RobotShare::in_press(
-                held,
-                RobotPlates::Unforged,
-            ),
-            RobotStep::LeaveLoaded | RobotStep::GiveToPress => RobotShare::in_press(
-                held,
-                RobotPlates::Unforged,
-            ).with_arm1(Grip::Off),
-            RobotStep::TurnToUnload | RobotStep::AwaitForged => RobotShare::away(
-                RobotPlates::InPress,
-            ),
-            RobotStep::ReachToUnload | RobotStep::GripForged => RobotShare::in_press(
-                loaded,
-                RobotPlates::InPress,
-            ),
-            RobotStep::LeaveUnloaded | RobotStep::TakeForged => RobotShare::in_press(
-                loaded,
-                RobotPlates::InPress,
-            ).with_arm2(Grip::On),
+            RobotStep::TurnToLoad | RobotStep::ClaimPress => with_plate,
+            RobotStep::InspectPress | RobotStep::ReleasePress => inspecting,
+            RobotStep::ReachToLoad | RobotStep::DropInPress => loading,
+            RobotStep::LeaveLoaded | RobotStep::GiveToPress => loading.with_arm1(Grip::Off),
+            RobotStep::TurnToUnload | RobotStep::AwaitForged => while_fed,
+            RobotStep::ReachToUnload | RobotStep::GripForged => unloading,
+            RobotStep::LeaveUnloaded | RobotStep::TakeForged => unloading.with_arm2(Grip::On),
             RobotStep::ReleaseUnloaded => RobotShare::in_press(clear, RobotPlates::Any),
-            RobotStep::TurnToDeposit | RobotStep::ClaimDeposit => RobotShare::away(
-                RobotPlates::Forged,
-            ),
-            RobotStep::ReachDeposit | RobotStep::DropOnDeposit => RobotShare::at_deposit(held),
-            RobotStep::LeaveDeposit | RobotStep::GiveToDeposit => RobotShare::at_deposit(
-                held,
-            ).with_arm2(Grip::Off),
+            RobotStep::TurnToDeposit | RobotStep::ClaimDeposit => with_forged,
+            RobotStep::ReachDeposit | RobotStep::DropOnDeposit => at_deposit,
+            RobotStep::LeaveDeposit | RobotStep::GiveToDeposit => at_deposit.with_arm2(Grip::Off),
         }
     }
 
