@@ -9,3 +9,4 @@ mod CurveChoices
 mod AxisScales
 mod SectionOrder
 mod ConfigRows
+mod SectionRows

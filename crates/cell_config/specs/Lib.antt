@@ -6,4 +6,5 @@ pub mod RefusedSections
 pub mod Configured
 pub mod ConfigWords
 pub mod ConfigExamples
+pub mod SectionExamples
 pub mod ConfigLaws

@@ -1,6 +1,6 @@
 -- Which section is refused, and why.
 use Rattle.std.specs.Prelude.{◌≡◌, ◌≤◌, ◌<◌, ℕ, ℤ, List, [], ◌∷◌, length, codes, find, is_err, true, false}
-use Rattle.std.specs.Prelude.{Option, Some, None, IfSome, IsOk}
+use Rattle.std.specs.Prelude.{Option, Some, None, MatchOption, IsOk}
 use Rattle.std.specs.Prelude.{Result, Ok, Err}
 use Rattle.std.specs.List.{filter_map, list_all}
 use Rattle.std.specs.Option.{option_and_then}
@@ -76,7 +76,7 @@ IsFirstKey end section (Tol fault) = IsOk (raw_at end section) × (tol_at sectio
 IsFirstKey end section (Points fault line curve) =
     (raw : ℕ × ℕ) × (tol : ℕ) × (raw_at end section ≡ Ok raw) × (tol_at section ≡ Ok tol)
     × (line ≡ axis_scale end raw tol) × (pairs_at line section ≡ Err fault)
-    × IfSome (pairs_given section) (λ values. IsCurveFault line values curve)
+    × MatchOption (pairs_given section) (curve ≡ None) (λ values. IsCurveFault line values curve)
 
 -- a value that is refused as a section is no table, or one of its keys has this fault
 abbrev pub IsFirstFault : ℤ → Option Members → SectionFault → Type 0

@@ -3,6 +3,7 @@
 ghost use Rattle.std.specs.Prelude.{◌≡◌, ℕ, List, Ok};
 ghost use Rattle.cell_config.specs.ConfigExamples.{ConfigsAreMet};
 ghost use Rattle.cell_config.specs.ConfigLaws.{AreCalibrated, LetterLimits, TextLimits};
+ghost use Rattle.cell_config.specs.SectionExamples.{SectionsAreMet};
 ghost use Rattle.cell_config.specs.Settings.{Settings, settings_of};
 
 /// A text of more than 2,097,152 bytes is too long, and a schedule of more than 1,000,000 letters
@@ -23,4 +24,10 @@ pub fn settings_are_calibrated()
 /// ends of each range, and the first of two faults.
 pub fn configs_are_met()
     ensures { ConfigsAreMet }
+{}
+
+/// Examples: sections that are refused, and the only thing that `check_sections` may say of each:
+/// the pairs of a curve, the first of two keys, the first of two sections.
+pub fn sections_are_met()
+    ensures { SectionsAreMet }
 {}

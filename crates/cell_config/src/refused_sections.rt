@@ -1,6 +1,6 @@
 //! Which section is refused, and why: more than the fault of its configuration says.
 
-ghost use Rattle.std.specs.Prelude.{◌≡◌, Err, IsOk, IfSome, MatchResult, map};
+ghost use Rattle.std.specs.Prelude.{◌≡◌, Err, None, IsOk, MatchOption, MatchResult, map};
 ghost use Rattle.toml.specs.View.{table_view, view};
 ghost use Rattle.cell_config.specs.RefusedSections.{IsCurveFault, IsFirstKey, IsFirstRefusal};
 ghost use Rattle.cell_config.specs.RefusedSections.{IsRefusal, config_fault_of, end_of, key_of};
@@ -88,7 +88,8 @@ fn curve_fault(line: Points, values: &[Value]) -> Option<CurveFault>
 
 /// Why the pairs in a section's key `points` make no curve near a line, if that is what is wrong.
 fn curve_fault_at(section: &Table, line: Points) -> Option<CurveFault>
-    ensures { IfSome (pairs_given (table_view section.now))
+    ensures { MatchOption (pairs_given (table_view section.now))
+        (result ≡ None)
         (λ values. IsCurveFault line values result) }
 {
     let values = pairs_in(value_at(section, "points")?)?;
