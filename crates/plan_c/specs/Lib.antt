@@ -3,3 +3,4 @@ pub mod Numbers
 pub mod Replies
 pub mod Starts
 pub mod Laws
+pub mod Examples

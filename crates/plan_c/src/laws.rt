@@ -1,4 +1,5 @@
-//! A law, the contract of a function that does nothing.
+//! Laws, each the contract of a function that does nothing.
+ghost use Rattle.plan_c.specs.Examples.{StartsAreJudged};
 ghost use Rattle.plan_c.specs.Laws.{NoStateHasNoWord};
 
 use plan_word::laws::words_are_laid_out;
@@ -9,3 +10,8 @@ pub fn no_state_has_no_word()
 {
     words_are_laid_out();
 }
+
+/// Examples: which texts and stamps are those of a start of two places.
+pub fn starts_are_judged()
+    ensures { StartsAreJudged }
+{}

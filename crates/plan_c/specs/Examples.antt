@@ -1,0 +1,17 @@
+-- Which texts and stamps are those of a start, by two machines at a press: two places.
+use Rattle.std.specs.Prelude.{◌≡◌, true, false, ◌∷◌, codes, replicate}
+use Rattle.plan_types.specs.Examples.{press_table}
+use Rattle.plan_c.specs.Starts.{IsStartText, places_in}
+
+pub record StartsAreJudged : Type 0 where
+  -- the first place is full; the last stamp, and the one past it
+  pub last : IsStartText press_table (codes "10") 1048575
+  pub past_last : ¬ IsStartText press_table (codes "10") 1048576
+  -- a digit that is no flag; a place too few, and one too many
+  pub two_plates : ¬ IsStartText press_table (codes "12") 0
+  pub no_digit : ¬ IsStartText press_table (codes "1/") 0
+  pub too_few : ¬ IsStartText press_table (codes "1") 0
+  pub too_many : ¬ IsStartText press_table (codes "100") 0
+  -- the places that are full: the first, or the second
+  pub first : places_in (codes "10") ≡ true ∷ replicate 15 false
+  pub second : places_in (codes "01") ≡ false ∷ true ∷ replicate 14 false
