@@ -5,8 +5,8 @@ use Rattle.std.specs.declared.alloc.Global.{Global}
 use Rattle.std.proofs.lemmas.List.{flat_map_more, length-take-le, map_more, map_push, take_more}
 use Rattle.std.proofs.lemmas.List.Folds.{list_all-append}
 use Rattle.std.specs.List.{AllZip, enumerate_from, flat_map, list_all}
-use Rattle.plan_text.specs.Names.{Text}
-use Rattle.plan_document.specs.Names.{all_poses, identifier, identifiers, identifiers_in, machine_names, names_in, numbered, numbered_poses, place_names, places_in, pose_names, zone_names}
+use Rattle.plan_text.specs.Names.{Text, is_name}
+use Rattle.plan_document.specs.Names.{AreNames, all_poses, identifier, identifiers, identifiers_in, machine_names, names_in, numbered, numbered_poses, place_names, places_in, pose_names, zone_names}
 use Rattle.plan_document.specs.Saying.{keepers}
 use Rattle.plan_document.specs.declared.document.MachineRow.{MachineRow}
 use Rattle.plan_document.specs.declared.document.PoseRow.{PoseRow}
@@ -66,6 +66,10 @@ identifiers_more rows i row h is = flat_row_more (λ (r : MachineRow). identifie
 -- a name is free if the names before it are
 pub free_more : (free : Text → Bool) (names : List Text) (name : Text) → list_all free names ≡ true → free name ≡ true → list_all free (names ++ name ∷ []) ≡ true
 free_more free names name all one = list_all-append free names (name ∷ []) ∙ rw (all, one) refl
+
+-- and so are names
+pub names_more : (names : List Text) (name : Text) (more : List Text) → AreNames names → is_name name ≡ true → more ≡ names ++ name ∷ [] → AreNames more
+names_more names name more all one pushed = ap (list_all is_name) pushed ∙ free_more is_name names name all one
 
 -- ---- numbered rows
 

@@ -1,7 +1,7 @@
 -- The names in a document, by kinds, in the order of its rows.
-use Rattle.std.specs.Prelude.{◌≡◌, ℕ, ◌<◌, List, ◌++◌, codes, length, map, string_bytes, Some}
-use Rattle.std.specs.List.{enumerate_from, flat_map}
-use Rattle.plan_text.specs.Names.{Text, name_in, number_in}
+use Rattle.std.specs.Prelude.{◌≡◌, ℕ, ◌<◌, List, ◌++◌, codes, length, map, string_bytes, Some, IsTrue}
+use Rattle.std.specs.List.{enumerate_from, flat_map, list_all}
+use Rattle.plan_text.specs.Names.{Text, is_name, name_in, number_in}
 use Rattle.plan_document.specs.declared.document.MachineRow.{MachineRow}
 use Rattle.plan_document.specs.declared.document.PoseRow.{PoseRow}
 use Rattle.plan_document.specs.declared.document.ZoneRow.{ZoneRow}
@@ -36,6 +36,11 @@ numbered_poses machine poses = map (λ pose. (machine, pose)) poses
 
 abbrev pub all_poses : List MachineRow → List (ℕ × PoseRow)
 all_poses machines = flat_map (λ (machine, row). numbered_poses machine row.poses.items) (numbered machines)
+
+-- ---- texts that are names
+
+abbrev pub AreNames : List Text → Type 0
+AreNames texts = IsTrue (list_all is_name texts)
 
 -- ---- names that are told apart
 

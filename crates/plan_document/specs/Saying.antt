@@ -30,8 +30,8 @@ use Rattle.plan_document.specs.declared.document.WayRow.{WayRow}
 use Rattle.plan_document.specs.declared.document.ZoneRow.{ZoneRow}
 use Rattle.plan_document.specs.declared.resolving.ProgrammedPlan.{ProgrammedPlan}
 use Rattle.plan_document.specs.declared.tables.Rows.{Rows}
-use Rattle.plan_document.specs.Names.{AreDistinct, all_poses, identifiers, machine_names, numbered, place_names}
-use Rattle.plan_document.specs.Names.{pose_names, zone_names}
+use Rattle.plan_document.specs.Names.{AreDistinct, AreNames, all_poses, identifiers, machine_names, numbered}
+use Rattle.plan_document.specs.Names.{place_names, pose_names, zone_names}
 
 -- ---- zones
 
@@ -140,10 +140,14 @@ IsProgramOf n (machine, row) program = AreCallsOf n machine row.program.items pr
 abbrev pub is_free : Text → Bool
 is_free name = not (is_reserved name)
 
--- each table has a row for each row of the document, and each name in it is looked up; names of one kind are distinct,
--- of poses those for C
+-- each table has a row for each row of the document, and each name in it is looked up; all are names, and those of one
+-- kind are distinct, of poses those for C
 pub record IsNamedPlanOf (d : Document) (n : Named) : Type 0 where
   pub free : IsTrue (list_all is_free n.machines)
+  pub spelled_machines : AreNames n.machines
+  pub spelled_zones : AreNames n.zones
+  pub spelled_places : AreNames n.places
+  pub spelled_poses : AreNames n.poses
   pub distinct_machines : AreDistinct n.machines
   pub distinct_zones : AreDistinct n.zones
   pub distinct_places : AreDistinct n.places

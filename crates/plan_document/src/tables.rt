@@ -2,11 +2,12 @@
 ghost use Rattle.std.specs.Prelude.{◌≡◌, ◌++◌, ◌∷◌, ℕ, List, [], Some, None, length, replicate};
 ghost use Rattle.std.specs.Prelude.{◌<◌, IsTrue, OnOk, IfOk, string_bytes};
 ghost use Rattle.std.specs.List.{AllZip, list_all};
+ghost use Rattle.plan_text.specs.Names as spec;
 ghost use Rattle.plan_text.specs.Names.{number_in};
 ghost use Rattle.plan_text.specs.Answers.{posture_of};
-ghost use Rattle.plan_document.specs.Names.{AreDistinct, all_poses, identifier, identifiers, identifiers_in};
-ghost use Rattle.plan_document.specs.Names.{machine_names, names_in, numbered_poses, place_names, places_in};
-ghost use Rattle.plan_document.specs.Names.{pose_names, zone_names};
+ghost use Rattle.plan_document.specs.Names.{AreDistinct, AreNames, all_poses, identifier, identifiers};
+ghost use Rattle.plan_document.specs.Names.{identifiers_in, machine_names, names_in, numbered_poses};
+ghost use Rattle.plan_document.specs.Names.{place_names, places_in, pose_names, zone_names};
 ghost use Rattle.plan_document.specs.Saying as saying;
 ghost use Rattle.plan_document.specs.declared.document.PoseRow.{PoseRow as Pose};
 
@@ -100,6 +101,7 @@ fn add_name(
     at: Location,
 ) -> Result<(), DocumentFault>
     ensures name { OnOk result (names.new ≡ names.old ++ name.now ∷ []) }
+    ensures spelled { OnOk result (IsTrue (spec.is_name name.now)) }
     ensures distinct { OnOk result (AreDistinct names.old → AreDistinct names.new) }
 {
     match check_name(alloc, names, name, most) {
@@ -114,6 +116,7 @@ fn add_name(
 /// Refuses a name that is none, that is there already, or for which there is no room.
 fn check_name(alloc: Global, names: &Names, name: &str, most: usize) -> Result<(), Wrong>
     ensures room { OnOk result (length names.now < 64) }
+    ensures spelled { OnOk result (IsTrue (spec.is_name name.now)) }
     ensures other { OnOk result (number_in names.now name.now ≡ None) }
 {
     if names.len() >= most || names.len() >= MAX_NAMES {
@@ -146,6 +149,7 @@ fn add_machine_names(
     requires { names.old ≡ [] }
     ensures names { OnOk result (names.new ≡ machine_names machines.now) }
     ensures free { OnOk result (IsTrue (list_all saying.is_free names.new)) }
+    ensures spelled { OnOk result (AreNames names.new) }
     ensures distinct { OnOk result (AreDistinct names.new) }
 {
     for i in 0..machines.len() {
@@ -171,6 +175,7 @@ fn check_free(alloc: Global, name: &str, at: Location) -> Result<(), DocumentFau
 fn add_zone_names(alloc: Global, zones: &[ZoneRow], names: &mut Names) -> Result<(), DocumentFault>
     requires { names.old ≡ [] }
     ensures names { OnOk result (names.new ≡ zone_names zones.now) }
+    ensures spelled { OnOk result (AreNames names.new) }
     ensures distinct { OnOk result (AreDistinct names.new) }
 {
     for i in 0..zones.len() {
@@ -190,6 +195,7 @@ fn add_all_places(
     requires names { names.old ≡ [] }
     requires keepers { keepers.old.items ≡ [] }
     ensures names { OnOk result (names.new ≡ place_names machines.now) }
+    ensures spelled { OnOk result (AreNames names.new) }
     ensures distinct { OnOk result (AreDistinct names.new) }
     ensures keepers { OnOk result (keepers.new.items ≡ saying.keepers machines.now) }
 {
@@ -208,6 +214,7 @@ fn add_places(
     keepers: &mut Vec<u8>,
 ) -> Result<(), DocumentFault>
     ensures names { OnOk result (names.new ≡ names.old ++ places_in row.now) }
+    ensures spelled { OnOk result (AreNames names.old → AreNames names.new) }
     ensures distinct { OnOk result (AreDistinct names.old → AreDistinct names.new) }
     ensures keepers { OnOk result (keepers.new.items
         ≡ keepers.old.items ++ replicate (length row.now.places.items) machine) }
@@ -331,6 +338,7 @@ fn add_all_poses(
     requires names { names.old ≡ [] }
     requires rows { rows.old.items ≡ [] }
     ensures names { OnOk result (names.new ≡ pose_names machines.now) }
+    ensures spelled { OnOk result (AreNames names.new) }
     ensures rows { OnOk result
         (AllZip (saying.IsPoseOf zones.now) (all_poses machines.now) rows.new.items) }
 {
@@ -350,6 +358,7 @@ fn add_poses(
     rows: &mut Vec<PlanPose>,
 ) -> Result<(), DocumentFault>
     ensures names { OnOk result (names.new ≡ names.old ++ names_in poses.now) }
+    ensures spelled { OnOk result (AreNames names.old → AreNames names.new) }
     ensures rows { OnOk result ((before : List (ℕ × Pose))
         → AllZip (saying.IsPoseOf zones.now) before rows.old.items
         → AllZip (saying.IsPoseOf zones.now) (before ++ numbered_poses machine poses.now)

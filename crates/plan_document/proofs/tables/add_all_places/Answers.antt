@@ -11,6 +11,7 @@ loop-i-preserved c =
           c.in_ok-add_places.ensures.names
           ∙ ap (λ ns. ns ++ places_in row) c.loop-i.invariant.names
           ∙ sym (place_names_more c.args.machines.now c.loop-i.i row (omega arith) c.index-machines-i.is);
+      spelled = c.in_ok-add_places.ensures.spelled c.loop-i.invariant.spelled;
       distinct = c.in_ok-add_places.ensures.distinct c.loop-i.invariant.distinct;
       keepers =
           c.in_ok-add_places.ensures.keepers

@@ -18,6 +18,7 @@ loop-i-preserved c =
           ∙ ap (λ ps. c.loop-i.names ++ names_in ps) same
           ∙ ap (λ ns. ns ++ names_in row.poses.items) c.loop-i.invariant.names
           ∙ sym (pose_names_more c.args.machines.now c.loop-i.i row (omega arith) c.index-machines-i.is);
+      spelled = c.in_ok-add_poses.ensures.spelled c.loop-i.invariant.spelled;
       rows =
           subst (λ ps. AllZip (IsPoseOf c.args.zones.now) ps c.add_poses.new.rows.items)
           (sym (all_poses_more c.args.machines.now c.loop-i.i row (omega arith) c.index-machines-i.is))

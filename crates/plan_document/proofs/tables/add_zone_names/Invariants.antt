@@ -1,6 +1,10 @@
 use Rattle.std.proofs.Common.{◌≡◌, take}
-use Rattle.plan_document.specs.Names.{AreDistinct, zone_names}
+use Rattle.plan_document.specs.Names.{AreDistinct, AreNames, zone_names}
 use Rattle.plan_document.proofs.tables.add_zone_names.Given as goal
 
 abbrev pub invariant-loop-i : goal.invariant-loop-i
-invariant-loop-i l = record { names : l.names ≡ zone_names (take l.i l.zones); distinct : AreDistinct l.names }
+invariant-loop-i l = record {
+  names : l.names ≡ zone_names (take l.i l.zones);
+  spelled : AreNames l.names;
+  distinct : AreDistinct l.names;
+}
