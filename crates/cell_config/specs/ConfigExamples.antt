@@ -4,9 +4,11 @@ use Rattle.cell_rules.specs.Types.{Machine, Feed, Table, Robot, Press, Deposit, 
 use Rattle.cell_rules.specs.Names.{empty, place_set, start_state}
 use Rattle.cell_sensors.specs.Names.{Scale, Pair, ends_of}
 use Rattle.cell_notes.specs.declared.schedule.Turn.{Turn}
-use Rattle.cell_config.specs.Settings.{Settings, settings_of}
+use Rattle.cell_config.specs.ConfigWords.{config_fault_text}
+use Rattle.cell_config.specs.Settings.{Settings, max_bytes_read, settings_of}
 use Rattle.cell_config.specs.declared.fault.ConfigFault.{ConfigFault}
-use Rattle.cell_config.specs.declared.fault.ConfigFault.TheVariants.{Text, Unknown, Missing, Kind, Start, Range, Letter}
+use Rattle.cell_config.specs.declared.fault.ConfigFault.TheVariants.{Read, Long, Text, Unknown, Missing, Kind, Start}
+use Rattle.cell_config.specs.declared.fault.ConfigFault.TheVariants.{Range, Letter, Memory}
 
 abbrev pub IsRefused : List ℕ → ConfigFault → Type 0
 IsRefused text fault = settings_of text ≡ Err fault
@@ -149,8 +151,20 @@ pub record FirstExamples : Type 0 where
   pub points_kind_then_number : IsNo (codes "arm1.points = [[-1, 0], 5]") Kind
   pub no_text : IsRefused (codes "start = '000'\ncolour =") Text
 
+-- ---- words
+
+abbrev pub faults : List ConfigFault
+faults = Read ∷ Long ∷ Text ∷ Unknown ∷ Missing ∷ Kind ∷ Start ∷ Range ∷ Letter ∷ Memory ∷ []
+
+pub record WordExamples : Type 0 where
+  pub words : map config_fault_text faults
+      ≡ codes "read" ∷ codes "config long" ∷ codes "config text" ∷ codes "config unknown" ∷ codes "config missing"
+      ∷ codes "config kind" ∷ codes "config start" ∷ codes "config range" ∷ codes "config letter" ∷ codes "memory" ∷ []
+  pub bytes_read : max_bytes_read ≡ 2097153
+
 pub record ConfigsAreMet : Type 0 where
   pub given : GivenExamples
   pub keys : KeyExamples
   pub values : ValueExamples
   pub first : FirstExamples
+  pub words : WordExamples

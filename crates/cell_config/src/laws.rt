@@ -21,7 +21,7 @@ pub fn settings_are_calibrated()
 {}
 
 /// Examples: configurations and what they say, or why they are refused: each key, each kind, both
-/// ends of each range, and the first of two faults.
+/// ends of each range, and the first of two faults; the words of each fault, and the bytes read.
 pub fn configs_are_met()
     ensures { ConfigsAreMet }
 {}
