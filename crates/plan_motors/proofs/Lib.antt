@@ -4,4 +4,5 @@ mod Lasting
 mod Running
 mod Masking
 mod Posing
+mod Leading
 mod RunRows

@@ -22,15 +22,15 @@ use Rattle.plan_rules.proofs.lemmas.Soundness.{next_keeps, some_or_none}
 use Rattle.plan_motors.specs.declared.motor.Motor.{Motor}
 use Rattle.plan_motors.specs.declared.poses.Leads.{Leads}
 use Rattle.plan_motors.specs.Decided.{NeverBoth}
-use Rattle.plan_motors.specs.Poses.{fits_in, leads_on, matters, LeadOn, posture_after, given_leads_on, GivesWell, LeavesAlone, AreKept, LeadNowhere, HasPosturesOf, IsApartByPoses, NeverFromPostures}
+use Rattle.plan_motors.specs.Poses.{fits_in, leads_on, matters, LeadOn, posture_after, given_leads_on, GivesWell, LeavesAlone, AllMove, LeadsFurther, LeadsByMoving, AreLeads, LeadSomewhere, HasPosturesOf, IsApartByPoses, NeverFromPostures}
 use Rattle.plan_motors.proofs.Wanted.{fits_if}
 use Rattle.plan_motors.proofs.Lasting.{sound_after, never_after}
 
-implied : (a b : Bool) → (a ≡ true → b ≡ true) → implies a b ≡ true
+pub implied : (a b : Bool) → (a ≡ true → b ≡ true) → implies a b ≡ true
 implied true b k = k refl
 implied false b k = refl
 
-holds : (a b : Bool) → implies a b ≡ true → a ≡ true → b ≡ true
+pub holds : (a b : Bool) → implies a b ≡ true → a ≡ true → b ≡ true
 holds true b e h = e
 holds false b e h = cc
 
@@ -46,7 +46,7 @@ left_alone test b None q e f = f
 left_alone test true (Some r) q e f = cc
 left_alone test false (Some r) q e f = refl
 
-abbrev After : PlanTable → ℕ → (ℕ → Posture) → ℕ → Posture
+abbrev pub After : PlanTable → ℕ → (ℕ → Posture) → ℕ → Posture
 After t p q z = posture_after t p z (q z)
 
 -- a pose that may be taken at any time
@@ -58,7 +58,7 @@ back_any t a b m any moving p q kept lead =
     let alone = kept well in
     λ z l. left_alone (leads_on t a b moving z) (matters t m any z) (posture_of t p z) (q z) (alone z l) (lead z l)
 
-mattering : (t : PlanTable) (m : ℕ) (any : List Bool) (z : ℕ) → matters t m any z ≡ true → is_hosted t z m ≡ true
+pub mattering : (t : PlanTable) (m : ℕ) (any : List Bool) (z : ℕ) → matters t m any z ≡ true → is_hosted t z m ≡ true
 mattering t m any z e = (and_parts (is_hosted t z m) (not (get_or any z false)) e).0
 
 -- a pose of another machine gives none of these zones a posture
@@ -79,11 +79,8 @@ back_foreign t a b m any moving p q plan l other lead = λ z there.
     ap (leads_on t a b moving z) (sym (foreign t m p z plan l there other (mattering t m any z e) (q z)))
     ∙ holds (matters t m any z) (leads_on t a b moving z (After t p q z)) (lead z there) e)
 
-abbrev AllMove : PlanTable → ℕ → (ℕ → Posture) → Type 0
-AllMove t m q = (z : ℕ) → z < zone_count t → is_hosted t z m ≡ true → q z ≡ Moving
-
 -- zones that all move lead on where they are to move
-moving_lead : (t : PlanTable) (a b : Motor) (m : ℕ) (any : List Bool) (q : ℕ → Posture) → AllMove t m q → LeadOn t a b m any true q
+pub moving_lead : (t : PlanTable) (a b : Motor) (m : ℕ) (any : List Bool) (q : ℕ → Posture) → AllMove t m q → LeadOn t a b m any true q
 moving_lead t a b m any q all = λ z there.
     implied (matters t m any z) (same_posture (q z) Moving) (λ e. ap (λ r. same_posture r Moving) (all z there (mattering t m any z e)))
 
@@ -96,53 +93,56 @@ from_moving t a b m any p q all lead = λ z there.
     ∙ holds (matters t m any z) (leads_on t a b false z (After t p q z)) (lead z there) e)
 
 -- ---- one pose, of all zones of a host
-own_pose : (after : Bool) (t : PlanTable) (a b : Motor) (m : ℕ) (l : Leads) (p : ℕ) (q : ℕ → Posture) → (pose_row t p).after_moving ≡ after → machine_of t p ≡ m
-    → AreKept t a b m l p → (IsTrue (pose_row t p).after_moving → AllMove t m q) → LeadNowhere t a b m l q → LeadNowhere t a b m l (After t p q)
-own_pose false t a b m l p q e own kept moves none = record {
-  danger = λ lead. none.danger (back_any t a b m l.any false p q (kept.danger e) lead);
-  moving = λ by lead. none.moving by (back_any t a b m l.any_moving true p q (kept.moving e) lead);
-}
-own_pose true t a b m l p q e own kept moves none =
-    let still = moving_lead t a b m l.any_moving q (moves e) in record {
-      danger = λ lead. none.moving (kept.by_moving e own (from_moving t a b m l.any p q (moves e) lead)) still;
-      moving = λ by lead. none.moving by still;
-    }
+no : false ≡ true → ⊥
+no e = cc
+
+stable : (b : Bool) → ((b ≡ true → ⊥) → ⊥) → b ≡ true
+stable true k = refl
+stable false k = absurd (k no)
+
+left_if : (t : PlanTable) (a b : Motor) (m : ℕ) (any : List Bool) (moving : Bool) (p : ℕ) → machine_of t p ≡ m → (pose_row t p).after_moving ≡ false
+    → ¬ LeadsFurther t a b m any moving p → GivesWell t a b m any moving p → LeavesAlone t m any p
+left_if t a b m any moving p own free none well = λ z there. stable _ (λ not. none (record { own = own; at_any_time = free; well = well; further = λ alone. not (alone z there) }))
+
+own_pose : (after : Bool) (t : PlanTable) (a b : Motor) (m : ℕ) (l : Leads) (p : ℕ) (q : ℕ → Posture) → (pose_row t p).after_moving ≡ after → p < pose_count t → machine_of t p ≡ m
+    → AreLeads t a b m l → (IsTrue (pose_row t p).after_moving → AllMove t m q) → ¬ LeadSomewhere t a b m l q → ¬ LeadSomewhere t a b m l (After t p q)
+own_pose false t a b m l p q e there own found moves none (inl lead) =
+    none (inl (back_any t a b m l.any false p q (left_if t a b m l.any false p own e (found.danger.all p there)) lead))
+own_pose false t a b m l p q e there own found moves none (inr by) =
+    none (inr (by.0, back_any t a b m l.any_moving true p q (left_if t a b m l.any_moving true p own e (found.moving.all p there)) by.1))
+own_pose true t a b m l p q e there own found moves none (inl lead) =
+    let by : LeadsByMoving t a b m l.any p = record { there = there; own = own; waits = e; leads = from_moving t a b m l.any p q (moves e) lead } in
+    none (inr (found.by_moving p by, moving_lead t a b m l.any_moving q (moves e)))
+own_pose true t a b m l p q e there own found moves none (inr by) = none (inr (by.0, moving_lead t a b m l.any_moving q (moves e)))
 
 foreign_pose : (t : PlanTable) (a b : Motor) (m : ℕ) (l : Leads) (p : ℕ) (q : ℕ → Posture) → IsPlan t → p < pose_count t → machine_of t p ≢ m
-    → LeadNowhere t a b m l q → LeadNowhere t a b m l (After t p q)
-foreign_pose t a b m l p q plan there other none = record {
-  danger = λ lead. none.danger (back_foreign t a b m l.any false p q plan there other lead);
-  moving = λ by lead. none.moving by (back_foreign t a b m l.any_moving true p q plan there other lead);
-}
+    → ¬ LeadSomewhere t a b m l q → ¬ LeadSomewhere t a b m l (After t p q)
+foreign_pose t a b m l p q plan there other none (inl lead) = none (inl (back_foreign t a b m l.any false p q plan there other lead))
+foreign_pose t a b m l p q plan there other none (inr by) = none (inr (by.0, back_foreign t a b m l.any_moving true p q plan there other by.1))
 
-abbrev Kept : PlanTable → Motor → Motor → ℕ → Leads → Type 0
-Kept t a b m l = (p : ℕ) → p < pose_count t → AreKept t a b m l p
-
-pose_by : (own : Bool) (t : PlanTable) (a b : Motor) (m : ℕ) (l : Leads) (p : ℕ) (q : ℕ → Posture) → nat_eq (machine_of t p) m ≡ own → IsPlan t → p < pose_count t → Kept t a b m l
-    → (IsTrue (pose_row t p).after_moving → machine_of t p ≡ m → AllMove t m q) → LeadNowhere t a b m l q → LeadNowhere t a b m l (After t p q)
-pose_by true t a b m l p q e plan there kept moves none =
+pose_by : (own : Bool) (t : PlanTable) (a b : Motor) (m : ℕ) (l : Leads) (p : ℕ) (q : ℕ → Posture) → nat_eq (machine_of t p) m ≡ own → IsPlan t → p < pose_count t → AreLeads t a b m l
+    → (IsTrue (pose_row t p).after_moving → machine_of t p ≡ m → AllMove t m q) → ¬ LeadSomewhere t a b m l q → ¬ LeadSomewhere t a b m l (After t p q)
+pose_by true t a b m l p q e plan there found moves none =
     let own : machine_of t p ≡ m = eqb-true (machine_of t p) m e in
-    own_pose (pose_row t p).after_moving t a b m l p q refl own (kept p there) (λ w. moves w own) none
-pose_by false t a b m l p q e plan there kept moves none = foreign_pose t a b m l p q plan there (λ same. apart-nat_eq (machine_of t p) m e same) none
+    own_pose (pose_row t p).after_moving t a b m l p q refl there own found (λ w. moves w own) none
+pose_by false t a b m l p q e plan there found moves none = foreign_pose t a b m l p q plan there (λ same. apart-nat_eq (machine_of t p) m e same) none
 
 -- ---- along a history
 -- postures that are the same lead to the same
-same_lead : (t : PlanTable) (a b : Motor) (m : ℕ) (any : List Bool) (moving : Bool) (q r : ℕ → Posture) → ((z : ℕ) → z < zone_count t → r z ≡ q z)
+pub same_lead : (t : PlanTable) (a b : Motor) (m : ℕ) (any : List Bool) (moving : Bool) (q r : ℕ → Posture) → ((z : ℕ) → z < zone_count t → r z ≡ q z)
     → LeadOn t a b m any moving r → LeadOn t a b m any moving q
 same_lead t a b m any moving q r same lead = λ z there. subst (λ x. IsTrue (implies (matters t m any z) (leads_on t a b moving z x))) (same z there) (lead z there)
 
-same_nowhere : (t : PlanTable) (a b : Motor) (m : ℕ) (l : Leads) (q r : ℕ → Posture) → ((z : ℕ) → z < zone_count t → r z ≡ q z) → LeadNowhere t a b m l q → LeadNowhere t a b m l r
-same_nowhere t a b m l q r same none = record {
-  danger = λ lead. none.danger (same_lead t a b m l.any false q r same lead);
-  moving = λ by lead. none.moving by (same_lead t a b m l.any_moving true q r same lead);
-}
+same_nowhere : (t : PlanTable) (a b : Motor) (m : ℕ) (l : Leads) (q r : ℕ → Posture) → ((z : ℕ) → z < zone_count t → r z ≡ q z) → ¬ LeadSomewhere t a b m l q → ¬ LeadSomewhere t a b m l r
+same_nowhere t a b m l q r same none (inl lead) = none (inl (same_lead t a b m l.any false q r same lead))
+same_nowhere t a b m l q r same none (inr by) = none (inr (by.0, same_lead t a b m l.any_moving true q r same by.1))
 
 abbrev Given : PlanTable → Call → Answer → State → ℕ → Posture
 Given t c a s z = if is_done_answer a then posture_given t c z (posture_at s z) else posture_at s z
 
-nowhere_given : EveryLegalHistoryIsLawful → (t : PlanTable) (a b : Motor) (m : ℕ) (l : Leads) → IsPlan t → Kept t a b m l
-    → (s : State) (n : ℕ) (c : Call) (answer : Answer) → IsSound t s → reply t s n c ≡ answer → LeadNowhere t a b m l (λ z. posture_at s z)
-    → LeadNowhere t a b m l (λ z. Given t c answer s z)
+nowhere_given : EveryLegalHistoryIsLawful → (t : PlanTable) (a b : Motor) (m : ℕ) (l : Leads) → IsPlan t → AreLeads t a b m l
+    → (s : State) (n : ℕ) (c : Call) (answer : Answer) → IsSound t s → reply t s n c ≡ answer → ¬ LeadSomewhere t a b m l (λ z. posture_at s z)
+    → ¬ LeadSomewhere t a b m l (λ z. Given t c answer s z)
 nowhere_given laws t a b m l plan kept s n (SetPose p) Done sound e now =
     let d : Event = record { machine = n; call = SetPose p; answer = Done } in
     let fit = (laws t s (d ∷ []) plan sound (sym e, tt) (d ∷ []) [] refl).poses_fit in
@@ -155,31 +155,31 @@ nowhere_given laws t a b m l plan kept s n _ Done sound e now = now
 nowhere_given laws t a b m l plan kept s n c (Refused r) sound e now = now
 nowhere_given laws t a b m l plan kept s n c (Shown o f q) sound e now = now
 
-nowhere_next : EveryLegalHistoryIsLawful → (t : PlanTable) (a b : Motor) (m : ℕ) (l : Leads) → IsPlan t → Kept t a b m l
-    → (s : State) (n : ℕ) (c : Call) → IsSound t s → LeadNowhere t a b m l (λ z. posture_at s z) → LeadNowhere t a b m l (λ z. posture_at (next t s n c) z)
+nowhere_next : EveryLegalHistoryIsLawful → (t : PlanTable) (a b : Motor) (m : ℕ) (l : Leads) → IsPlan t → AreLeads t a b m l
+    → (s : State) (n : ℕ) (c : Call) → IsSound t s → ¬ LeadSomewhere t a b m l (λ z. posture_at s z) → ¬ LeadSomewhere t a b m l (λ z. posture_at (next t s n c) z)
 nowhere_next laws t a b m l plan kept s n c sound now =
     let e : Event = record { machine = n; call = c; answer = reply t s n c } in
     let law = laws t s (e ∷ []) plan sound (refl, tt) (e ∷ []) [] refl in
     same_nowhere t a b m l (λ z. Given t c (reply t s n c) s z) (λ z. posture_at (next t s n c) z) (λ z there. sym (law.posture_by_events z there))
     (nowhere_given laws t a b m l plan kept s n c (reply t s n c) sound refl now)
 
-nowhere_after : EveryLegalHistoryIsLawful → (t : PlanTable) (a b : Motor) (m : ℕ) (l : Leads) → IsPlan t → Kept t a b m l
-    → (s : State) (h : List Event) → IsSound t s → LeadNowhere t a b m l (λ z. posture_at s z) → LeadNowhere t a b m l (λ z. posture_at (after t s h) z)
+nowhere_after : EveryLegalHistoryIsLawful → (t : PlanTable) (a b : Motor) (m : ℕ) (l : Leads) → IsPlan t → AreLeads t a b m l
+    → (s : State) (h : List Event) → IsSound t s → ¬ LeadSomewhere t a b m l (λ z. posture_at s z) → ¬ LeadSomewhere t a b m l (λ z. posture_at (after t s h) z)
 nowhere_after laws t a b m l plan kept s [] sound now = now
 nowhere_after laws t a b m l plan kept s (e ∷ h) sound now =
     nowhere_after laws t a b m l plan kept (next t s e.machine e.call) h (next_keeps t s e.machine e.call plan sound)
     (nowhere_next laws t a b m l plan kept s e.machine e.call sound now)
 
-pub apart : EveryLegalHistoryIsLawful → (t : PlanTable) (a b : Motor) (m : ℕ) (l : Leads) (s : State) → IsPlan t → Kept t a b m l
-    → LeadNowhere t a b m l (λ z. posture_at s z) → IsApartByPoses t a b s m
+pub apart : EveryLegalHistoryIsLawful → (t : PlanTable) (a b : Motor) (m : ℕ) (l : Leads) (s : State) → IsPlan t → AreLeads t a b m l
+    → ¬ LeadSomewhere t a b m l (λ z. posture_at s z) → IsApartByPoses t a b s m
 apart laws t a b m l s plan kept none = λ o h sound same legal both.
     let there = sound_after t o h plan sound in
     let at = after t o h in
     let begin = same_nowhere t a b m l (λ z. posture_at s z) (λ z. posture_at o z) same none in
     let now = nowhere_after laws t a b m l plan kept o h sound begin in
-    now.danger (λ z l2. implied (matters t m l.any z) (fits_in t a b z (posture_at at z)) (λ e.
+    now (inl (λ z l2. implied (matters t m l.any z) (fits_in t a b z (posture_at at z)) (λ e.
     let needs = both z l2 (mattering t m l.any z e) in
-    fits_if t a b z (zone_at at z) (there.zone_is_lawful z l2) needs.0 needs.1))
+    fits_if t a b z (zone_at at z) (there.zone_is_lawful z l2) needs.0 needs.1)))
 
 pub never_from : (t : PlanTable) (a b : Motor) (s : State) (m : ℕ) → IsApartByPoses t a b s m → NeverFromPostures t s a b
 never_from t a b s m apart = λ o sound same h legal x y. apart o h sound same legal (λ z there own. (x.zones z there, y.zones z there))

@@ -2,12 +2,13 @@
 -- some postures poses lead to dangerous ones, those in which both of two motors could be permitted. Backward from
 -- these, a zone whose posture a pose gives may have had any posture before it.
 use Rattle.std.specs.Prelude.{◌≡◌, ℕ, ◌<◌, Bool, true, false, ◌&&◌, not, List, get_or, Option, Some, None}
-use Rattle.std.specs.Prelude.{is_none, unwrap_or, IsTrue, if◌then◌else◌}
+use Rattle.std.specs.Prelude.{[], ◌∷◌, ◌⊎◌, ◌||◌, ⊤, is_none, is_some, unwrap_or, IsTrue, if◌then◌else◌}
 use Rattle.plan_types.specs.declared.posture.Posture.{Posture}
 use Rattle.plan_types.specs.declared.posture.Posture.TheVariants.{Moving}
 use Rattle.plan_types.specs.declared.answer.Event.{Event}
 use Rattle.plan_types.specs.Same.{same_posture}
-use Rattle.plan_types.specs.Table.{PlanTable, zone_count, is_hosted, machine_of, pose_row, posture_of}
+use Rattle.plan_types.specs.Table.{PlanTable, zone_count, pose_count, is_hosted, machine_of, pose_row}
+use Rattle.plan_types.specs.Table.{posture_of}
 use Rattle.plan_rules.specs.declared.state.State.{State}
 use Rattle.plan_rules.specs.State.{zone_at, posture_at}
 use Rattle.plan_rules.specs.Sound.{IsSound, implies}
@@ -59,20 +60,71 @@ LeavesAlone t m any p =
 abbrev pub MovingLeads : PlanTable → Motor → Motor → ℕ → List Bool → ℕ → Type 0
 MovingLeads t a b m any p = LeadOn t a b m any false (λ z. posture_after t p z Moving)
 
--- the zones of a host whose posture doesn't matter are all that a pose, taken at any time, can bring to danger. If
--- zones that move lead to danger, by a pose that comes only after moving, that is noted; and then the same holds of the
--- zones that can be brought to move
-pub record AreKept (t : PlanTable) (a b : Motor) (m : ℕ) (l : Leads) (p : ℕ) : Type 0 where
-  pub danger : (pose_row t p).after_moving ≡ false → GivesWell t a b m l.any false p → LeavesAlone t m l.any p
-  pub by_moving : IsTrue (pose_row t p).after_moving → machine_of t p ≡ m → MovingLeads t a b m l.any p
-      → IsTrue l.by_moving
-  pub moving : (pose_row t p).after_moving ≡ false → GivesWell t a b m l.any_moving true p
-      → LeavesAlone t m l.any_moving p
+-- all zones that a machine hosts move
+abbrev pub AllMove : PlanTable → ℕ → (ℕ → Posture) → Type 0
+AllMove t m q = (z : ℕ) → z < zone_count t → IsTrue (is_hosted t z m) → q z ≡ Moving
 
--- postures that lead to no danger
-pub record LeadNowhere (t : PlanTable) (a b : Motor) (m : ℕ) (l : Leads) (q : ℕ → Posture) : Type 0 where
-  pub danger : ¬ LeadOn t a b m l.any false q
-  pub moving : IsTrue l.by_moving → ¬ LeadOn t a b m l.any_moving true q
+-- a machine can take a pose of its own; one that comes only after moving, while all its zones move
+pub record CanTake (t : PlanTable) (m p : ℕ) (q : ℕ → Posture) : Type 0 where
+  pub there : p < pose_count t
+  pub own : machine_of t p ≡ m
+  pub moves : IsTrue (pose_row t p).after_moving → AllMove t m q
+
+-- the postures after some poses, the first one first, and that a machine can take them
+abbrev pub after_poses : PlanTable → List ℕ → (ℕ → Posture) → ℕ → Posture
+after_poses t [] q z = q z
+after_poses t (p ∷ poses) q z = after_poses t poses (λ y. posture_after t p y (q y)) z
+
+abbrev pub CanTakeAll : PlanTable → ℕ → List ℕ → (ℕ → Posture) → Type 0
+CanTakeAll t m [] q = ⊤
+CanTakeAll t m (p ∷ poses) q = CanTake t m p q × CanTakeAll t m poses (λ y. posture_after t p y (q y))
+
+-- poses of machine m lead from some postures to ones that lead on, in all its zones
+pub record PosesLead (t : PlanTable) (a b : Motor) (m : ℕ) (moving : Bool) (q : ℕ → Posture) : Type 0 where
+  pub poses : List ℕ
+  pub taken : CanTakeAll t m poses q
+  pub arrived : LeadOn t a b m [] moving (after_poses t poses q)
+
+-- poses of machine m lead from some postures to ones in which each of its zones can be as both motors need it
+abbrev pub LeadToDanger : PlanTable → Motor → Motor → ℕ → (ℕ → Posture) → Type 0
+LeadToDanger t a b m q = PosesLead t a b m false q
+
+-- a pose of machine m that may be taken at any time gives only postures that lead on, and one of them to a zone that
+-- matters
+pub record LeadsFurther (t : PlanTable) (a b : Motor) (m : ℕ) (any : List Bool) (moving : Bool) (p : ℕ) : Type 0 where
+  pub own : machine_of t p ≡ m
+  pub at_any_time : (pose_row t p).after_moving ≡ false
+  pub well : GivesWell t a b m any moving p
+  pub further : ¬ LeavesAlone t m any p
+
+-- any posture of a zone will do before a pose
+abbrev pub is_any_before : PlanTable → List Bool → ℕ → ℕ → Bool
+is_any_before t any p z = get_or any z false || is_some (posture_of t p z)
+
+-- the zones of a host of which any posture will do: from all postures that lead on in the other zones poses lead on,
+-- and no pose leads further
+pub record AreFound (t : PlanTable) (a b : Motor) (m : ℕ) (moving : Bool) (any : List Bool) : Type 0 where
+  pub all : (p : ℕ) → p < pose_count t → ¬ LeadsFurther t a b m any moving p
+  pub lead : (q : ℕ → Posture) → LeadOn t a b m any moving q → PosesLead t a b m moving q
+
+-- a pose that leads from zones that all move to danger
+pub record LeadsByMoving (t : PlanTable) (a b : Motor) (m : ℕ) (any : List Bool) (p : ℕ) : Type 0 where
+  pub there : p < pose_count t
+  pub own : machine_of t p ≡ m
+  pub waits : IsTrue (pose_row t p).after_moving
+  pub leads : MovingLeads t a b m any p
+
+-- such zones, before danger and before moving, and whether any pose leads from moving to danger
+pub record AreLeads (t : PlanTable) (a b : Motor) (m : ℕ) (l : Leads) : Type 0 where
+  pub danger : AreFound t a b m false l.any
+  pub by_moving : (p : ℕ) → LeadsByMoving t a b m l.any p → IsTrue l.by_moving
+  pub from_moving : IsTrue l.by_moving → (p : ℕ) × LeadsByMoving t a b m l.any p
+  pub moving : AreFound t a b m true l.any_moving
+
+-- postures that lead to danger, at once or by moving
+abbrev pub LeadSomewhere : PlanTable → Motor → Motor → ℕ → Leads → (ℕ → Posture) → Type 0
+LeadSomewhere t a b m l q =
+    LeadOn t a b m l.any false q ⊎ (IsTrue l.by_moving × LeadOn t a b m l.any_moving true q)
 
 -- two states with one posture in each zone
 abbrev pub HasPosturesOf : PlanTable → State → State → Type 0

@@ -1,11 +1,12 @@
 //! Motors that the poses of a plan keep apart: from some postures of a host's zones its poses lead to none in which
 //! both motors could be permitted.
-ghost use Rattle.std.specs.Prelude.{◌≡◌, ◌↔◌, ◌<◌, ℕ, false, true, IsTrue, IsSome, IfSome};
-ghost use Rattle.plan_types.specs.Table.{pose_count, pose_row, machine_of};
+ghost use Rattle.std.specs.Prelude.{◌≡◌, ◌↔◌, ◌<◌, ℕ, false, get_or, IsTrue, IsSome, IsNone, IfSome};
+ghost use Rattle.plan_types.specs.Table.{pose_count};
 ghost use Rattle.plan_rules.specs.State.{posture_at};
 ghost use Rattle.plan_rules.specs.Sound.{implies};
 ghost use Rattle.plan_motors.specs.Poses as together;
-ghost use Rattle.plan_motors.specs.Poses.{AreKept, LeadOn, GivesWell, LeavesAlone, MovingLeads, LeadNowhere};
+ghost use Rattle.plan_motors.specs.Poses.{LeadOn, GivesWell, LeavesAlone, MovingLeads, LeadToDanger, LeadsFurther};
+ghost use Rattle.plan_motors.specs.Poses.{AreFound, LeadsByMoving, AreLeads, LeadSomewhere};
 ghost use Rattle.plan_motors.specs.Poses.{IsApartByPoses, NeverFromPostures};
 
 use crate::check::is_hosted;
@@ -168,9 +169,9 @@ fn pose_count(plan: &Plan) -> u8
     plan.tables().poses.len() as u8
 }
 
-/// Whether a pose that may be taken at any time, if it gives only postures that lead on, gives none to a zone that
-/// matters.
-fn is_any_kept(
+/// Whether a machine's pose that may be taken at any time gives only postures that lead on, and one of them to a zone
+/// that matters.
+fn leads_further(
     plan: &Plan,
     first: &Motor,
     second: &Motor,
@@ -179,84 +180,105 @@ fn is_any_kept(
     moving: bool,
     pose: u8,
 ) -> bool
-    ensures { IsTrue result → (pose_row plan.now pose).after_moving ≡ false
-        → GivesWell plan.now first.now second.now host any.now moving pose → LeavesAlone plan.now host any.now pose }
+    ensures { IsTrue result ↔ LeadsFurther plan.now first.now second.now host any.now moving pose }
 {
-    plan.pose(pose).after_moving
-        || !gives_well(plan, first, second, host, any, moving, pose)
-        || leaves_alone(plan, host, any, pose)
+    let row = plan.pose(pose);
+    row.machine == host
+        && !row.after_moving
+        && gives_well(plan, first, second, host, any, moving, pose)
+        && !leaves_alone(plan, host, any, pose)
 }
 
-/// Whether it is noted that zones which move lead on by this pose, if they do.
-fn is_moving_kept(
+/// The first such pose.
+fn next_pose(
     plan: &Plan,
     first: &Motor,
     second: &Motor,
     host: u8,
-    leads: &Leads,
-    pose: u8,
-) -> bool
-    ensures { IsTrue result → IsTrue (pose_row plan.now pose).after_moving → machine_of plan.now pose ≡ host
-        → MovingLeads plan.now first.now second.now host leads.now.any pose → IsTrue leads.now.by_moving }
-{
-    let row = plan.pose(pose);
-    leads.by_moving
-        || !row.after_moving
-        || row.machine != host
-        || !moving_leads(plan, first, second, host, &leads.any, pose)
-}
-
-fn is_kept_at(plan: &Plan, first: &Motor, second: &Motor, host: u8, leads: &Leads, pose: u8) -> bool
-    ensures { IsTrue result → AreKept plan.now first.now second.now host leads.now pose }
-{
-    is_any_kept(plan, first, second, host, &leads.any, false, pose)
-        && is_moving_kept(plan, first, second, host, leads, pose)
-        && is_any_kept(plan, first, second, host, &leads.any_moving, true, pose)
-}
-
-fn are_kept(plan: &Plan, first: &Motor, second: &Motor, host: u8, leads: &Leads) -> bool
-    ensures { IsTrue result
-        → (p : ℕ) → p < pose_count plan.now → AreKept plan.now first.now second.now host leads.now p }
+    any: &[bool; MAX_ZONES],
+    moving: bool,
+) -> Option<u8>
+    ensures there { IfSome result (λ p. p < pose_count plan.now) }
+    ensures further { IfSome result
+        (λ p. LeadsFurther plan.now first.now second.now host any.now moving p) }
+    ensures none { IsNone result → (p : ℕ) → p < pose_count plan.now
+        → ¬ LeadsFurther plan.now first.now second.now host any.now moving p }
 {
     for pose in 0..pose_count(plan) {
-        if !is_kept_at(plan, first, second, host, leads, pose) {
-            return false;
+        if leads_further(plan, first, second, host, any, moving, pose) {
+            return Some(pose);
         }
     }
-    true
+    None
 }
 
-/// Notes the zones to which a pose gives postures.
-fn add_given(plan: &Plan, any: &mut [bool; MAX_ZONES], pose: u8) {
-    for zone in 0..10 {
-        if plan.posture_of(pose, zone).is_some() {
-            any[usize::from(zone)] = true;
-        }
+/// These zones, and those to which a pose gives postures.
+fn with_given(plan: &Plan, any: &[bool; MAX_ZONES], pose: u8) -> [bool; MAX_ZONES]
+    ensures { (z : ℕ) → z < 10 → get_or result z false ≡ together.is_any_before plan.now any.now pose z }
+{
+    let mut more = [false; MAX_ZONES];
+    for zone in 0..MAX_ZONES {
+        more[zone] = any[zone] || plan.posture_of(pose, zone as u8).is_some();
     }
+    more
 }
 
-/// The zones whose posture doesn't matter. Each round finds those that one pose more brings in.
-fn any_of(plan: &Plan, first: &Motor, second: &Motor, host: u8, moving: bool) -> [bool; MAX_ZONES] {
+/// The zones of which any posture will do. Each round finds one more at least, so ten find all.
+fn any_of(plan: &Plan, first: &Motor, second: &Motor, host: u8, moving: bool) -> [bool; MAX_ZONES]
+    ensures { AreFound plan.now first.now second.now host moving result }
+{
+    let _ = plan.machines();
     let mut any = [false; MAX_ZONES];
-    for _ in 0..MAX_ZONES {
-        for pose in 0..pose_count(plan) {
-            let waits = plan.pose(pose).after_moving;
-            if !waits && gives_well(plan, first, second, host, &any, moving, pose) {
-                add_given(plan, &mut any, pose);
-            }
+    for found in 0..MAX_ZONES {
+        match next_pose(plan, first, second, host, &any, moving) {
+            Some(pose) => any = with_given(plan, &any, pose),
+            None => return any,
         }
     }
     any
 }
 
-fn leads_of(plan: &Plan, first: &Motor, second: &Motor, host: u8) -> Leads {
-    let any = any_of(plan, first, second, host, false);
-    let mut by_moving = false;
+/// Whether a pose leads from zones that all move to danger.
+fn leads_by_moving(
+    plan: &Plan,
+    first: &Motor,
+    second: &Motor,
+    host: u8,
+    any: &[bool; MAX_ZONES],
+    pose: u8,
+) -> bool
+    requires { pose < pose_count plan.now }
+    ensures { IsTrue result ↔ LeadsByMoving plan.now first.now second.now host any.now pose }
+{
+    let row = plan.pose(pose);
+    row.machine == host && row.after_moving && moving_leads(plan, first, second, host, any, pose)
+}
+
+/// The first such pose.
+fn pose_by_moving(
+    plan: &Plan,
+    first: &Motor,
+    second: &Motor,
+    host: u8,
+    any: &[bool; MAX_ZONES],
+) -> Option<u8>
+    ensures some { IfSome result (λ p. LeadsByMoving plan.now first.now second.now host any.now p) }
+    ensures none { IsNone result → (p : ℕ) → p < pose_count plan.now
+        → ¬ LeadsByMoving plan.now first.now second.now host any.now p }
+{
     for pose in 0..pose_count(plan) {
-        let row = plan.pose(pose);
-        let waits = row.after_moving && row.machine == host;
-        by_moving |= waits && moving_leads(plan, first, second, host, &any, pose);
+        if leads_by_moving(plan, first, second, host, any, pose) {
+            return Some(pose);
+        }
     }
+    None
+}
+
+fn leads_of(plan: &Plan, first: &Motor, second: &Motor, host: u8) -> Leads
+    ensures { AreLeads plan.now first.now second.now host result }
+{
+    let any = any_of(plan, first, second, host, false);
+    let by_moving = pose_by_moving(plan, first, second, host, &any).is_some();
     let any_moving = any_of(plan, first, second, host, true);
     Leads {
         any,
@@ -265,7 +287,7 @@ fn leads_of(plan: &Plan, first: &Motor, second: &Motor, host: u8) -> Leads {
     }
 }
 
-fn lead_nowhere(
+fn lead_somewhere(
     plan: &Plan,
     first: &Motor,
     second: &Motor,
@@ -274,43 +296,29 @@ fn lead_nowhere(
     opening: &State,
 ) -> bool
     ensures { IsTrue result
-        → LeadNowhere plan.now first.now second.now host leads.now (λ z. posture_at opening.now z) }
+        ↔ LeadSomewhere plan.now first.now second.now host leads.now (λ z. posture_at opening.now z) }
 {
-    !lead_on(plan, first, second, host, &leads.any, false, opening)
-        && !(leads.by_moving
-            && lead_on(plan, first, second, host, &leads.any_moving, true, opening))
-}
-
-/// Whether the zones found show that the poses of a host keep two motors apart, from an opening on.
-fn show_apart(
-    plan: &Plan,
-    first: &Motor,
-    second: &Motor,
-    host: u8,
-    leads: &Leads,
-    opening: &State,
-) -> bool
-    ensures kept { IsTrue result
-        → (p : ℕ) → p < pose_count plan.now → AreKept plan.now first.now second.now host leads.now p }
-    ensures nowhere { IsTrue result
-        → LeadNowhere plan.now first.now second.now host leads.now (λ z. posture_at opening.now z) }
-{
-    are_kept(plan, first, second, host, leads)
-        && lead_nowhere(plan, first, second, host, leads, opening)
+    lead_on(plan, first, second, host, &leads.any, false, opening)
+        || leads.by_moving && lead_on(plan, first, second, host, &leads.any_moving, true, opening)
 }
 
 /// Whether the poses of a host keep two motors apart, from an opening on.
 fn is_apart(plan: &Plan, first: &Motor, second: &Motor, host: u8, opening: &State) -> bool
-    ensures { IsTrue result → IsApartByPoses plan.now first.now second.now opening.now host }
+    ensures apart { IsTrue result → IsApartByPoses plan.now first.now second.now opening.now host }
+    ensures danger { result ≡ false
+        → LeadToDanger plan.now first.now second.now host (λ z. posture_at opening.now z) }
 {
     let _ = plan.machines();
     lawful_histories();
     let leads = leads_of(plan, first, second, host);
-    show_apart(plan, first, second, host, &leads, opening)
+    let led = lead_somewhere(plan, first, second, host, &leads, opening);
+    !led
 }
 
 fn first_apart(plan: &Plan, first: &Motor, second: &Motor, opening: &State) -> Option<u8>
-    ensures { IfSome result (λ host. IsApartByPoses plan.now first.now second.now opening.now host) }
+    ensures shown { IfSome result (λ host. IsApartByPoses plan.now first.now second.now opening.now host) }
+    ensures none { IsNone result → (m : ℕ) → m < plan.now.machines
+        → LeadToDanger plan.now first.now second.now m (λ z. posture_at opening.now z) }
 {
     for host in 0..plan.machines() {
         if is_apart(plan, first, second, host, opening) {
@@ -320,12 +328,15 @@ fn first_apart(plan: &Plan, first: &Motor, second: &Motor, opening: &State) -> O
     None
 }
 
-/// A machine whose poses keep two motors apart, from an opening on, if one is found: from the postures of the opening
-/// they never lead to postures in which both could be permitted, though a sound state may permit both. All zones that
-/// the machine hosts count.
+/// The first machine whose poses keep two motors apart, from an opening on: from the postures of the opening they never
+/// lead to postures in which both could be permitted, though a sound state may permit both. All zones that the machine
+/// hosts count. If there is none, the poses of each machine lead from the opening's postures to such as both could
+/// have.
 pub fn apart_by_poses(plan: &Plan, first: &Motor, second: &Motor, opening: &State) -> Option<u8>
     ensures shown { IfSome result (λ host. IsApartByPoses plan.now first.now second.now opening.now host) }
     ensures never { IsSome result → NeverFromPostures plan.now opening.now first.now second.now }
+    ensures none { IsNone result → (m : ℕ) → m < plan.now.machines
+        → LeadToDanger plan.now first.now second.now m (λ z. posture_at opening.now z) }
 {
     first_apart(plan, first, second, opening)
 }

@@ -1,6 +1,7 @@
 //! What is said of a hazard.
-ghost use Rattle.std.specs.Prelude.{IsTrue};
-ghost use Rattle.plan_motors.specs.Poses.{NeverFromPostures};
+ghost use Rattle.std.specs.Prelude.{◌≡◌, ◌<◌, ℕ, false, IsTrue};
+ghost use Rattle.plan_rules.specs.State.{posture_at};
+ghost use Rattle.plan_motors.specs.Poses.{NeverFromPostures, LeadToDanger};
 ghost use Rattle.plan_motors.specs.Verdict.{IsShownBy, is_never};
 
 use crate::exclusion::{Cause, Exclusion, exclude};
@@ -16,7 +17,8 @@ pub enum Verdict {
     Excluded(Cause),
     /// By the poses of this machine, no state after a legal history from an opening with these postures permits both.
     ByPoses(u8),
-    /// This sound state permits both, and nothing was found that keeps the plant from it.
+    /// This sound state permits both, and the poses of each machine lead from the opening's postures to such as both
+    /// need.
     Possible(State),
 }
 
@@ -30,6 +32,8 @@ fn verdict_by_poses(
     requires { IsShownBy plan.now first.now second.now opening.now (Verdict.Possible state) }
     ensures shown { IsShownBy plan.now first.now second.now opening.now result }
     ensures never { IsTrue (is_never result) → NeverFromPostures plan.now opening.now first.now second.now }
+    ensures led { is_never result ≡ false → (m : ℕ) → m < plan.now.machines
+        → LeadToDanger plan.now first.now second.now m (λ z. posture_at opening.now z) }
 {
     match apart_by_poses(plan, first, second, opening) {
         Some(host) => Verdict::ByPoses(host),
@@ -42,6 +46,8 @@ fn verdict_by_poses(
 pub fn judge(plan: &Plan, first: &Motor, second: &Motor, opening: &State) -> Verdict
     ensures shown { IsShownBy plan.now first.now second.now opening.now result }
     ensures never { IsTrue (is_never result) → NeverFromPostures plan.now opening.now first.now second.now }
+    ensures led { is_never result ≡ false → (m : ℕ) → m < plan.now.machines
+        → LeadToDanger plan.now first.now second.now m (λ z. posture_at opening.now z) }
 {
     let _ = plan.machines();
     match exclude(plan, first, second) {

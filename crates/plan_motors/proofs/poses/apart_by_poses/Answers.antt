@@ -11,4 +11,4 @@ never t a b s None k some = cc
 never t a b s (Some m) k some = never_from t a b s m k
 
 pub returns-clause-never : goal.returns-clause-never
-returns-clause-never c = never c.args.plan.now c.args.first.now c.args.second.now c.args.opening.now _ c.first_apart.ensures
+returns-clause-never c = never c.args.plan.now c.args.first.now c.args.second.now c.args.opening.now _ c.first_apart.ensures.shown
