@@ -10,7 +10,7 @@ use Rattle.plan_motors.specs.declared.exclusion.Cause.TheVariants.{Zone, Place}
 use Rattle.plan_motors.specs.declared.fault.MotorFault.TheVariants.{NoSuchMachine, ForeignZone, NotHeld, ForeignPlace}
 use Rattle.plan_motors.specs.declared.fault.MotorFault.TheVariants.{NeverPermitted, NoSuchFirst, NoSuchSecond}
 use Rattle.plan_motors.specs.Motor.{no_need}
-use Rattle.plan_motors.specs.Exclusion.{cause}
+use Rattle.plan_motors.specs.Exclusion.{cause, zone_for}
 use Rattle.plan_motors.specs.Faults.{first_fault}
 use Rattle.plan_motors.specs.Mask.{mask_of, pattern_of}
 
@@ -48,6 +48,10 @@ valve = motor 1 no_need no_need None (Some false)
 abbrev pub heater : Motor
 heater = motor 1 (hosted Closed) no_need None (Some true)
 
+-- a fan that the press runs while it moves, held or not
+abbrev pub fan : Motor
+fan = motor 1 (hosted Moving) no_need None None
+
 -- the lift's cabin; the gates of its two floors
 abbrev pub cabin : Motor
 cabin = motor 0 (held (Some Moving)) (held (Some Moving)) None None
@@ -66,6 +70,10 @@ pub record CausesAreRight : Type 0 where
   pub valve_and_heater : cause press_table valve heater ≡ Some (Place 1)
   pub ram_and_valve : cause press_table ram valve ≡ None
   pub arm_alone : cause press_table arm arm ≡ None
+  pub fan_and_arm : cause press_table fan arm ≡ Some (Zone 0)
+  -- the state that permits the fan is sound: who hosts a zone that moves owns it
+  pub fan_alone : cause press_table fan fan ≡ None
+  pub fan_owner : (zone_for press_table fan fan 0).owner ≡ Some 1
   pub cabin_and_lower_gate : cause lift_table cabin lower_gate ≡ Some (Zone 0)
   pub cabin_and_upper_gate : cause lift_table cabin upper_gate ≡ Some (Zone 1)
   -- only the lift's poses keep its gates apart
