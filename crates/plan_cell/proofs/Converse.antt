@@ -12,7 +12,7 @@ use Rattle.cell_types.specs.declared.posture.Posture.TheVariants.{Moving, OpenIn
 use Rattle.cell_types.specs.declared.pose.Pose.{Pose}
 use Rattle.cell_types.specs.declared.pose.Pose.TheVariants.{Travelling, Middle, Low, Top, Running}
 use Rattle.cell_types.specs.declared.call.Call.{Call}
-use Rattle.cell_types.specs.declared.call.Call.TheVariants.{Claim, Give, Yield, Take, Release, SetPose, Advance, Inquire, Stop, Resume}
+use Rattle.cell_types.specs.declared.call.Call.TheVariants.{Yield, Release, SetPose}
 use Rattle.cell_types.specs.declared.answer.Refusal.{Refusal}
 use Rattle.cell_types.specs.declared.answer.Refusal.TheVariants.{PlaceFull, InUse, Jump}
 use Rattle.cell_types.specs.declared.answer.Answer.TheVariants.{Done}
@@ -29,7 +29,6 @@ use Rattle.plan_types.specs.declared.posture.Posture.{Posture as PlanPosture}
 use Rattle.plan_types.specs.declared.posture.Posture.TheVariants.{Moving as IsMoving, OpenIn as IsOpenIn}
 use Rattle.plan_types.specs.declared.table.PlanPose.{PlanPose}
 use Rattle.plan_types.specs.declared.call.Call.{Call as PlanCall}
-use Rattle.plan_types.specs.declared.call.Call.TheVariants.{Claim as DoClaim, Give as DoGive, Yield as DoYield, Take as DoTake, Release as DoRelease, SetPose as DoSetPose, Inquire as DoInquire, Stop as DoStop, Resume as DoResume}
 use Rattle.plan_types.specs.Same.{same_posture as plan_same_posture}
 use Rattle.plan_types.specs.Table as table
 use Rattle.plan_types.specs.Below.{any_below}
@@ -46,11 +45,12 @@ use Rattle.plan_rules.proofs.lemmas.Soundness.{done_none}
 use Rattle.plan_cell.specs.Numbers.{machine_number, zone_number, place_number, pose_number}
 use Rattle.plan_cell.specs.CellPlan.{cell_table}
 use Rattle.plan_cell.specs.Mapping.{plan_state}
-use Rattle.plan_cell.specs.Laws.{is_own_rule, RefusedByOwnRule, RefusesByItsOwnRules}
+use Rattle.plan_cell.specs.Laws.{is_own_rule, RefusedByOwnRule}
 use Rattle.plan_cell.proofs.Names.{same_numbers, same_postures, zone_is, full_is, there, hosted_alike, guests_alike, party_alike, way_is, plan_transfer, PoseRow, pose_known}
 use Rattle.plan_cell.proofs.Alike.{owns_alike, flag_alike, posture_alike, opens_at}
 use Rattle.plan_cell.proofs.Plates.{given_alike}
 use Rattle.plan_cell.proofs.Posing.{concern_alike, opens_alike_at}
+use Rattle.plan_cell.proofs.Refusing.{the_call}
 
 -- ---- one condition
 
@@ -85,7 +85,7 @@ unheld s m z e = unheld_by (zone_at s z).owner m (sym (ap (λ (v : PlanZoneState
 
 -- ---- claim, take, stop, resume
 
-claims : (s : ModelState) (m : Machine) (z : Zone) → plan.claim_refusal cell_table (plan_state s) (machine_number m) (zone_number z) ≡ None → cell.claim_refusal s m z ≡ None
+pub claims : (s : ModelState) (m : Machine) (z : Zone) → plan.claim_refusal cell_table (plan_state s) (machine_number m) (zone_number z) ≡ None → cell.claim_refusal s m z ≡ None
 claims s m z e =
     let S = plan_state s in
     let n = machine_number m in
@@ -106,7 +106,7 @@ claims s m z e =
     (party s m z h1.0) (goes_on s h1.1)) (back _ _ _ _ (owns_alike s m z) h2.1)) (unheld s m z h3.1))
     (back _ _ _ _ shut h4.1)) (fresh s h5.1)
 
-takes : (s : ModelState) (m : Machine) (z : Zone) → plan.take_refusal cell_table (plan_state s) (machine_number m) (zone_number z) ≡ None → cell.take_refusal s m z ≡ None
+pub takes : (s : ModelState) (m : Machine) (z : Zone) → plan.take_refusal cell_table (plan_state s) (machine_number m) (zone_number z) ≡ None → cell.take_refusal s m z ≡ None
 takes s m z e =
     let S = plan_state s in
     let n = machine_number m in
@@ -119,7 +119,7 @@ takes s m z e =
     let h1 = none_or r1 (plan.not_owner S n y) h2.0 in
     no_refusal _ _ (no_refusal _ _ (no_refusal _ _ (party s m z h1.0) (owner s m z h1.1)) (back _ _ _ _ (ap not (flag_alike s z)) h2.1)) (fresh s h3.1)
 
-stops : (s : ModelState) (m : Machine) → plan.stop_refusal (plan_state s) (machine_number m) ≡ None → cell.stop_refusal s m ≡ None
+pub stops : (s : ModelState) (m : Machine) → plan.stop_refusal (plan_state s) (machine_number m) ≡ None → cell.stop_refusal s m ≡ None
 stops s m e =
     let S = plan_state s in
     let r1 = plan.not_watch (machine_number m) in
@@ -127,7 +127,7 @@ stops s m e =
     let h1 = none_or r1 (plan.while_stopped S) h2.0 in
     no_refusal _ _ (no_refusal _ _ (back _ _ _ _ (ap not (same_numbers m Watch)) h1.0) (goes_on s h1.1)) (fresh s h2.1)
 
-resumes : (s : ModelState) (m : Machine) → plan.resume_refusal (plan_state s) (machine_number m) ≡ None → cell.resume_refusal s m ≡ None
+pub resumes : (s : ModelState) (m : Machine) → plan.resume_refusal (plan_state s) (machine_number m) ≡ None → cell.resume_refusal s m ≡ None
 resumes s m e =
     let S = plan_state s in
     let r1 = plan.not_watch (machine_number m) in
@@ -157,7 +157,7 @@ has_room : (s : ModelState) (o : Option Transfer) → plan.no_room cell_table (p
 has_room s None e = refl
 has_room s (Some row) e = ap (λ b. then_some b PlaceFull) (untaken s row (none_then _ _ e))
 
-gives : (s : ModelState) (m : Machine) (z : Zone) → plan.give_refusal cell_table (plan_state s) (machine_number m) (zone_number z) ≡ None → cell.give_refusal s m z ≡ None
+pub gives : (s : ModelState) (m : Machine) (z : Zone) → plan.give_refusal cell_table (plan_state s) (machine_number m) (zone_number z) ≡ None → cell.give_refusal s m z ≡ None
 gives s m z e =
     let S = plan_state s in
     let n = machine_number m in
@@ -208,7 +208,7 @@ release_in_use : (s : ModelState) (m : Machine) (z : Zone) → OwnOrNone s m (Re
 release_in_use s Feed Z1 = either_way (same_posture (zone_at s Z6).posture Moving && is_full s FeedEnd) InUse
 release_in_use s m z = inl refl
 
-yields : (s : ModelState) (m : Machine) (z : Zone) → plan.yield_refusal cell_table (plan_state s) (machine_number m) (zone_number z) ≡ None → OwnOrNone s m (Yield z) InUse (cell.yield_refusal s m z)
+pub yields : (s : ModelState) (m : Machine) (z : Zone) → plan.yield_refusal cell_table (plan_state s) (machine_number m) (zone_number z) ≡ None → OwnOrNone s m (Yield z) InUse (cell.yield_refusal s m z)
 yields s m z e =
     let S = plan_state s in
     let n = machine_number m in
@@ -227,7 +227,7 @@ yields s m z e =
       | inr own ↦ inr (stops_at _ _ (cell.worn s) InUse before own.0, own.1)
     ]
 
-releases : (s : ModelState) (m : Machine) (z : Zone) → plan.release_refusal cell_table (plan_state s) (machine_number m) (zone_number z) ≡ None → OwnOrNone s m (Release z) InUse (cell.release_refusal s m z)
+pub releases : (s : ModelState) (m : Machine) (z : Zone) → plan.release_refusal cell_table (plan_state s) (machine_number m) (zone_number z) ≡ None → OwnOrNone s m (Release z) InUse (cell.release_refusal s m z)
 releases s m z e =
     let S = plan_state s in
     let n = machine_number m in
@@ -372,7 +372,7 @@ runs_own s CraneMachine Running = inl refl
 runs_own s Watch Running = inl refl
 runs_own s m p = inl refl
 
-poses : (s : ModelState) (m : Machine) (p : Pose) → plan.pose_refusal cell_table (plan_state s) (machine_number m) (pose_number m p) ≡ None → OwnOrNone s m (SetPose p) PlaceFull (cell.pose_refusal s m p)
+pub poses : (s : ModelState) (m : Machine) (p : Pose) → plan.pose_refusal cell_table (plan_state s) (machine_number m) (pose_number m p) ≡ None → OwnOrNone s m (SetPose p) PlaceFull (cell.pose_refusal s m p)
 poses s m p e =
     let S = plan_state s in
     let n = machine_number m in
@@ -412,38 +412,22 @@ poses s m p e =
 
 -- ---- each call
 
-the_call : (a d : PlanCall) → Some a ≡ Some d → a ≡ d
-the_call a d e = cc
-
-unshown : (r : Option PlanRefusal) (o : Option ℕ) (f : Bool) (q : PlanPosture) → plan_reply.answer_by r (PlanShown o f q) ≡ PlanDone → ⊥
+pub unshown : (r : Option PlanRefusal) (o : Option ℕ) (f : Bool) (q : PlanPosture) → plan_reply.answer_by r (PlanShown o f q) ≡ PlanDone → ⊥
 unshown None o f q e = cc
 unshown (Some r) o f q e = cc
 
 abbrev Settled : ModelState → Machine → Call → Type 0
 Settled s m c = (reply s m c ≡ Done) ⊎ RefusedByOwnRule s m c
 
-settled : (s : ModelState) (m : Machine) (c : Call) (r : Refusal) (o : Option Refusal) → reply s m c ≡ done_unless o → OwnOrNone s m c r o → Settled s m c
+pub settled : (s : ModelState) (m : Machine) (c : Call) (r : Refusal) (o : Option Refusal) → reply s m c ≡ done_unless o → OwnOrNone s m c r o → Settled s m c
 settled s m c r o is own =
     elim own [
       | inl none ↦ inl (is ∙ ap done_unless none)
       | inr rule ↦ inr (record { refusal = r; answer = is ∙ ap done_unless rule.0; rule = rule.1 })
     ]
 
-abbrev plan_does : ModelState → Machine → PlanCall → Type 0
+abbrev pub plan_does : ModelState → Machine → PlanCall → Type 0
 plan_does s m d = plan_reply.reply cell_table (plan_state s) (machine_number m) d ≡ PlanDone
 
-same_call : (s : ModelState) (m : Machine) (a d : PlanCall) → Some a ≡ Some d → plan_does s m d → plan_reply.refusal cell_table (plan_state s) (machine_number m) a ≡ None
+pub same_call : (s : ModelState) (m : Machine) (a d : PlanCall) → Some a ≡ Some d → plan_does s m d → plan_reply.refusal cell_table (plan_state s) (machine_number m) a ≡ None
 same_call s m a d is e = done_none _ _ (subst (plan_does s m) (sym (the_call a d is)) e)
-
-pub own_rules : RefusesByItsOwnRules
-own_rules s m (Claim z) d is e = inl (ap done_unless (claims s m z (same_call s m (DoClaim (zone_number z)) d is e)))
-own_rules s m (Give z) d is e = inl (ap done_unless (gives s m z (same_call s m (DoGive (zone_number z)) d is e)))
-own_rules s m (Yield z) d is e = settled s m (Yield z) InUse _ refl (yields s m z (same_call s m (DoYield (zone_number z)) d is e))
-own_rules s m (Take z) d is e = inl (ap done_unless (takes s m z (same_call s m (DoTake (zone_number z)) d is e)))
-own_rules s m (Release z) d is e = settled s m (Release z) InUse _ refl (releases s m z (same_call s m (DoRelease (zone_number z)) d is e))
-own_rules s m (SetPose p) d is e = settled s m (SetPose p) PlaceFull _ refl (poses s m p (same_call s m (DoSetPose (pose_number m p)) d is e))
-own_rules s m Advance d is e = cc
-own_rules s m (Inquire z) d is e =
-    absurd (unshown _ _ _ _ (subst (plan_does s m) (sym (the_call (DoInquire (zone_number z)) d is)) e))
-own_rules s m Stop d is e = inl (ap done_unless (stops s m (same_call s m DoStop d is e)))
-own_rules s m Resume d is e = inl (ap done_unless (resumes s m (same_call s m DoResume d is e)))
