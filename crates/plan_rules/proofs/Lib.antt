@@ -13,3 +13,4 @@ mod Tellings
 mod Causing
 mod Refusing
 mod Given
+mod Breaking

@@ -8,3 +8,4 @@ pub mod Examples
 pub mod Causes
 pub mod RefusalLaws
 pub mod OrderExamples
+pub mod BrokenLaws

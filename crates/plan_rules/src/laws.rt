@@ -3,6 +3,7 @@
 //! knows that it is one.
 ghost use Rattle.std.specs.Prelude.{◌++◌};
 ghost use Rattle.plan_rules.specs.Sound.{IsSound, IsStart};
+ghost use Rattle.plan_rules.specs.BrokenLaws.{LawsCanBeBroken};
 ghost use Rattle.plan_rules.specs.History.{IsLegal};
 ghost use Rattle.plan_rules.specs.Laws as law;
 ghost use Rattle.plan_rules.specs.Laws.{Throughout};
@@ -127,6 +128,11 @@ pub fn lawful_histories()
 /// What a test finds throughout a history it finds of each prefix of it.
 pub fn throughout_is_of_prefixes()
     ensures { law.ThroughoutIsOfPrefixes }
+{}
+
+/// Each part of these laws says something: a literal history that isn't legal, or a state that isn't sound, breaks it.
+pub fn laws_can_be_broken()
+    ensures { LawsCanBeBroken }
 {}
 
 /// Every start is sound, for every plan.
