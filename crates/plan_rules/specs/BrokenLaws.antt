@@ -1,5 +1,5 @@
--- Each part of a law can be broken, by a literal history of the press that isn't legal, or from a state that isn't sound.
--- And what the laws speak of, in literal figures.
+-- Each part of a law can be broken, by a literal history of the press that isn't legal, or from a state that isn't
+-- sound. And what the laws speak of, in literal figures.
 use Rattle.std.specs.Prelude.{◌≡◌, ℕ, Bool, true, false, [], ◌∷◌, replicate, Option, Some, None}
 use Rattle.plan_types.specs.declared.posture.Posture.{Posture}
 use Rattle.plan_types.specs.declared.posture.Posture.TheVariants.{Closed, Moving, OpenIn}
