@@ -1,8 +1,9 @@
--- The examples of rights and of an order of refusals.
+-- The examples of rights, of an order of refusals, and of laws.
 use Rattle.cell_rules.proofs.Names.{◌≡◌, true, false, Option, Some, None, List, [], ◌∷◌, refl, ap, arith, inl, inr, Machine, Press, Robot, Zone, Z3, PressIn, Middle, Call, Give, Yield, Take, Release, SetPose, Advance, Holds, posture_by_events, needs}
 use Rattle.cell_rules.specs.declared.zones.ZoneState.{ZoneState}
 use Rattle.cell_rules.specs.Examples.{opened, closed, claimed, by_robot, Disowns, Examples}
 use Rattle.cell_rules.proofs.lemmas.Puts.{each_zone}
+use Rattle.cell_rules.proofs.LawExamplesMet.{law_examples}
 
 -- the press holds z3 by its claim, and the robot by its own
 has_claimed : Holds opened (claimed ∷ []) Press Z3
@@ -33,4 +34,5 @@ examples_are_met = record {
     named_owner = disowns (Release Z3) (Some Robot) (each_zone _ (λ e. cc) (λ e. cc) (λ e. has_claimed) (λ e. cc) (λ e. cc) (λ e. cc));
   };
   order = refl;
+  laws = law_examples;
 }

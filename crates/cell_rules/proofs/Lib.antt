@@ -14,4 +14,5 @@ mod Unbarred
 mod Fitting
 mod TablesHold
 mod Handing
+mod LawExamplesMet
 mod ExamplesMet
