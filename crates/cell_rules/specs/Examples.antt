@@ -1,5 +1,6 @@
 -- Examples of what a machine keeps, of refusals that it never gets, of an order of refusals, and of histories that
--- break a law; each of them is wrong in one thing. The press has claimed z3, which is open inward and free in the opening.
+-- break a law; each of them is wrong in one thing. The press has claimed z3, which is open inward and free in the
+-- opening.
 use Rattle.std.specs.Prelude.{◌≡◌, Bool, false, Option, Some, None, List, [], ◌∷◌}
 use Rattle.cell_rules.specs.Types.{Machine, Press, Robot, Z3, PressIn, Closed, OpenIn, Middle, Travelling, Call, Claim}
 use Rattle.cell_rules.specs.Types.{Give, Yield, Take, Release, SetPose, Advance, Done, Refused, NotOwner, Event}

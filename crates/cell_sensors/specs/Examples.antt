@@ -1,8 +1,8 @@
 -- Raw values and positions rounded down, in figures, on scales with no whole number of raw values for a position; and
--- what a calibrated sensor may answer there.
-use Rattle.std.specs.Prelude.{◌≡◌, ℕ, ℤ, pos, neg_ℤ}
-use Rattle.cell_sensors.specs.Scale.{Scale}
-use Rattle.cell_sensors.specs.Line.{IsReading, IsLineRoundedDown, IsRawAt}
+-- what a calibrated sensor may answer there. The limits of scales.
+use Rattle.std.specs.Prelude.{◌≡◌, ℕ, ℤ, pos, neg_ℤ, ⊤}
+use Rattle.cell_sensors.specs.Scale.{Scale, IsScale, scale_by}
+use Rattle.cell_sensors.specs.Line.{IsReading, KeepsCalibration, IsLineRoundedDown, IsRawAt}
 
 -- a scale by its two raw values and the positions there
 abbrev pub scale_of : ℕ → ℕ → ℤ → ℤ → Scale
@@ -52,3 +52,17 @@ pub record AnswerExamples : Type 0 where
   pub too_low : ¬ IsReading three_for_two 750 (pos 494)
   pub after_last : ¬ IsReading three_for_two 1500 (pos 1001)
   pub before_first : ¬ IsReading three_for_two 0 (neg_ℤ (pos 1))
+  pub uncallable : ¬ KeepsCalibration (λ raw. ⊥) (λ raw v. v ≡ pos 0) (scale_of 0 1 (pos 0) (pos 1))
+  pub off_line : ¬ KeepsCalibration (λ raw. ⊤) (λ raw v. v ≡ pos 0) three_for_two
+
+-- the limits of scales: the widest, the narrowest, and scales with one figure outside
+pub record LimitExamples : Type 0 where
+  pub widest : IsScale (scale_by 0 65535 (neg_ℤ (pos 100000)) (pos 100000) (pos 10))
+  pub narrowest : IsScale (scale_by 0 1 (pos 0) (pos 1) (pos 1))
+  pub one_raw_value : ¬ IsScale (scale_by 1 1 (pos 0) (pos 1) (pos 1))
+  pub raw_value_too_great : ¬ IsScale (scale_by 0 65536 (pos 0) (pos 1) (pos 1))
+  pub one_position : ¬ IsScale (scale_by 0 1 (pos 1) (pos 1) (pos 1))
+  pub too_low : ¬ IsScale (scale_by 0 1 (neg_ℤ (pos 100001)) (pos 1) (pos 1))
+  pub too_high : ¬ IsScale (scale_by 0 1 (pos 0) (pos 100001) (pos 1))
+  pub no_tolerance : ¬ IsScale (scale_by 0 1 (pos 0) (pos 1) (pos 0))
+  pub too_coarse : ¬ IsScale (scale_by 0 1 (pos 0) (pos 1) (pos 11))

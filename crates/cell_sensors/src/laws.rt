@@ -4,7 +4,7 @@ ghost use Rattle.std.specs.Prelude.{◌≡◌, ℕ, ℤ, ◌-ℤ◌, ◌≤ℤ�
 ghost use Rattle.cell_sensors.specs.Curve.{Pair, IsCurve, IsOnCurve};
 ghost use Rattle.cell_sensors.specs.CurveExamples.{CurveExamples};
 ghost use Rattle.cell_sensors.specs.CurveFaults.{IsFirstFault};
-ghost use Rattle.cell_sensors.specs.Examples.{AnswerExamples, RoundingExamples};
+ghost use Rattle.cell_sensors.specs.Examples.{AnswerExamples, LimitExamples, RoundingExamples};
 ghost use Rattle.cell_sensors.specs.Scale.{Scale, IsScale};
 ghost use Rattle.cell_sensors.specs.Line.{raw_width, IsLineNear, IsWithinTolerance, IsNear, IsRawAt};
 ghost use Rattle.cell_sensors.specs.declared.curve.CurveFault.{CurveFault};
@@ -34,6 +34,12 @@ pub fn roundings_are_met()
 #[tactic(auto, using(crate::proofs::Rounding::answers))]
 pub fn answers_are_met()
     ensures { AnswerExamples }
+{}
+
+/// The limits of scales, in figures.
+#[tactic(auto, using(crate::proofs::Rounding::limits))]
+pub fn limits_are_met()
+    ensures { LimitExamples }
 {}
 
 /// A curve is at one position at a raw value: neighbours that share it agree there.
