@@ -1,8 +1,9 @@
--- The examples of rights, of an order of refusals, and of laws.
+-- The examples of rights, of an order of refusals, of states, and of laws.
 use Rattle.cell_rules.proofs.Names.{◌≡◌, true, false, Option, Some, None, List, [], ◌∷◌, refl, ap, arith, inl, inr, Machine, Press, Robot, Zone, Z3, PressIn, Middle, Call, Give, Yield, Take, Release, SetPose, Advance, Holds, posture_by_events, needs}
 use Rattle.cell_rules.specs.declared.zones.ZoneState.{ZoneState}
 use Rattle.cell_rules.specs.Examples.{opened, closed, claimed, by_robot, Disowns, Examples}
 use Rattle.cell_rules.proofs.lemmas.Puts.{each_zone}
+use Rattle.cell_rules.proofs.StateExamplesMet.{sound_examples, start_examples}
 use Rattle.cell_rules.proofs.LawExamplesMet.{law_examples}
 
 -- the press holds z3 by its claim, and the robot by its own
@@ -34,5 +35,7 @@ examples_are_met = record {
     named_owner = disowns (Release Z3) (Some Robot) (each_zone _ (λ e. cc) (λ e. cc) (λ e. has_claimed) (λ e. cc) (λ e. cc) (λ e. cc));
   };
   order = refl;
+  sound = sound_examples;
+  starts = start_examples;
   laws = law_examples;
 }

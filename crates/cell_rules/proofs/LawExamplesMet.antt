@@ -1,8 +1,8 @@
 -- The examples of histories that break a law.
 use Rattle.cell_rules.proofs.Names.{◌≡◌, true, false, List, [], ◌∷◌, ◌++◌, inl, inr, refl, ap, arith, Machine, Feed, Robot, Press, Zone, Z1, Z3, Z6, Moving, OpenIn, Loading, Travelling, Middle, Top, Landing, Event, Claim, ModelState, empty, Holds, owns, IsStopped, NeverResumes}
-use Rattle.cell_rules.specs.ZoneMap.{free_zone}
 use Rattle.cell_types.specs.declared.machine.Machine.TheVariants.{Table as TableMachine}
-use Rattle.cell_rules.specs.LawExamples.{held_in, cell_with, unused, only, HolderExamples, CountExamples, BeltExamples, FittingExamples, StopExamples, LawExamples}
+use Rattle.cell_rules.specs.LawExamples.{unused, only, HolderExamples, CountExamples, BeltExamples, FittingExamples, StopExamples, LawExamples}
+use Rattle.cell_rules.specs.StateExamples.{cell_with, free_in, held_in}
 use Rattle.cell_rules.specs.Laws.{done}
 use Rattle.cell_rules.proofs.lemmas.HoldsLemmas.{holds_by_test}
 
@@ -25,7 +25,7 @@ running s none f = elim f [ inl k ↦ let e = k.0 in cc | inr g ↦ no_split g.b
 
 holders : HolderExamples
 holders = record {
-  moves_unheld = λ f. unheld (cell_with Z3 (record free_zone { posture = Moving }) empty) Press Z3 refl (f.host Z3 refl);
+  moves_unheld = λ f. unheld (cell_with Z3 (free_in Moving) empty) Press Z3 refl (f.host Z3 refl);
   robot_in_moving_press = λ f. f.press refl (claimed (cell_with Z3 (held_in Press Moving) empty));
   guest_in_closed_zone = λ f. let e = f Z3 (inl (refl, λ k d h. absurd (omega (arith, h)))) in cc;
   gives_unheld = λ f. unheld unused Press Z3 refl (f.give [] [] Press Z3 refl).0;

@@ -14,5 +14,6 @@ mod Unbarred
 mod Fitting
 mod TablesHold
 mod Handing
+mod StateExamplesMet
 mod LawExamplesMet
 mod ExamplesMet

@@ -1,6 +1,6 @@
--- Examples of what a machine keeps, of refusals that it never gets, of an order of refusals, and of histories that
--- break a law; each of them is wrong in one thing. The press has claimed z3, which is open inward and free in the
--- opening.
+-- Examples of what a machine keeps, of refusals that it never gets, of an order of refusals, of unsound states,
+-- and of histories that break a law; each of them is wrong in one thing. The press has claimed z3, which is open inward
+-- and free in the opening.
 use Rattle.std.specs.Prelude.{◌≡◌, Bool, false, Option, Some, None, List, [], ◌∷◌}
 use Rattle.cell_rules.specs.Types.{Machine, Press, Robot, Z3, PressIn, Closed, OpenIn, Middle, Travelling, Call, Claim}
 use Rattle.cell_rules.specs.Types.{Give, Yield, Take, Release, SetPose, Advance, Done, Refused, NotOwner, Event}
@@ -8,6 +8,7 @@ use Rattle.cell_rules.specs.ZoneMap.{free_zone, everywhere, put_zone}
 use Rattle.cell_rules.specs.PlaceSet.{empty, insert_place}
 use Rattle.cell_rules.specs.ModelState.{ModelState, model_state}
 use Rattle.cell_rules.specs.RefusalLaws.{is_no_later}
+use Rattle.cell_rules.specs.StateExamples.{SoundExamples, StartExamples}
 use Rattle.cell_rules.specs.LawExamples.{LawExamples}
 use Rattle.cell_rules.specs.Rights.{KeepsItsOwn, IsNeverDisowned}
 use Rattle.cell_rules.specs.Seen.{event}
@@ -66,4 +67,6 @@ pub record Examples : Type 0 where
   pub keeping : KeepingExamples
   pub disowning : DisowningExamples
   pub order : IsOrderKept
+  pub sound : SoundExamples
+  pub starts : StartExamples
   pub laws : LawExamples

@@ -1,26 +1,18 @@
 -- Examples of histories that break a law: in the state before it their event would be refused. Each breaks one thing of
 -- the law.
-use Rattle.std.specs.Prelude.{true, false, List, [], ◌∷◌, Some}
-use Rattle.cell_rules.specs.Types.{Machine, Feed, Robot, Press, Deposit, Watch, Zone, Z1, Z2, Z3, Z4, Z5, Z6, FeedEnd}
+use Rattle.std.specs.Prelude.{true, false, List, [], ◌∷◌}
+use Rattle.cell_rules.specs.Types.{Machine, Feed, Robot, Press, Deposit, Watch, Z1, Z2, Z3, Z4, Z5, Z6, FeedEnd}
 use Rattle.cell_rules.specs.Types.{PressOut, DepEnd, Posture, Closed, Moving, OpenIn, Loading, Travelling, Middle, Top}
 use Rattle.cell_rules.specs.Types.{Landing, Call, Claim, Give, Yield, Take, Release, SetPose, Advance, Stop, Resume}
 use Rattle.cell_rules.specs.Types.{Event}
 use Rattle.cell_types.specs.declared.machine.Machine.TheVariants.{Table as TableMachine, Crane as CraneMachine}
 use Rattle.cell_types.specs.declared.place.Place.TheVariants.{Table}
-use Rattle.cell_rules.specs.declared.zones.ZoneState.{ZoneState}
 use Rattle.cell_rules.specs.ZoneMap.{free_zone, everywhere, put_zone}
 use Rattle.cell_rules.specs.PlaceSet.{PlaceSet, empty, insert_place}
 use Rattle.cell_rules.specs.ModelState.{ModelState, model_state}
+use Rattle.cell_rules.specs.StateExamples.{cell_with, free_in, held_in}
 use Rattle.cell_rules.specs.Laws.{MoverIsHost, GuestOnlyWhileOpen, PlatesAreKept, StampCountsChanges, RunsClear}
 use Rattle.cell_rules.specs.Laws.{PostureByEvents, EventsFit, NoJump, HandoverByHolder, StoppedUntilResumed, done}
-
--- a zone in a posture, held by a machine
-abbrev pub held_in : Machine → Posture → ZoneState
-held_in m q = record free_zone { owner = Some m; posture = q }
-
--- every zone but one is free and Closed, with these places full
-abbrev pub cell_with : Zone → ZoneState → PlaceSet → ModelState
-cell_with z v full = model_state (put_zone (everywhere free_zone) z v) full 0 false
 
 -- the table holds both its zones
 abbrev pub table_with : Posture → Posture → PlaceSet → ModelState
@@ -37,7 +29,7 @@ only m c = done m c ∷ []
 
 -- who holds what, and while which posture
 pub record HolderExamples : Type 0 where
-  pub moves_unheld : ¬ MoverIsHost (cell_with Z3 (record free_zone { posture = Moving }) empty) []
+  pub moves_unheld : ¬ MoverIsHost (cell_with Z3 (free_in Moving) empty) []
   pub robot_in_moving_press : ¬ MoverIsHost (cell_with Z3 (held_in Press Moving) empty) (only Robot (Claim Z3))
   pub guest_in_closed_zone : ¬ GuestOnlyWhileOpen (cell_with Z3 (held_in Robot Closed) empty) []
   pub gives_unheld : ¬ HandoverByHolder unused (only Press (Give Z3))

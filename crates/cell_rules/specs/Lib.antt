@@ -24,6 +24,7 @@ pub mod Stored
 pub mod Benches
 pub mod BenchView
 pub mod Programs
+pub mod StateExamples
 pub mod LawExamples
 pub mod Examples
 pub mod Names

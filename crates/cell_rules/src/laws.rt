@@ -209,8 +209,8 @@ pub fn ends_are_same()
     ensures { EndsAreSame }
 {}
 
-/// Examples of what a machine keeps, of refusals that it never gets, of an order of refusals, and of
-/// histories that break a law.
+/// Examples of what a machine keeps, of refusals that it never gets, of an order of refusals, of
+/// unsound states, and of histories that break a law.
 #[tactic(auto, using(crate::proofs::ExamplesMet::examples_are_met))]
 pub fn examples_are_met()
     ensures { Examples }
