@@ -1,9 +1,11 @@
 -- Made-up histories and moves, which no rule allows: of each one law doesn't hold.
-use Rattle.std.specs.Prelude.{ℕ, true, false, List, [], ◌∷◌, ◌++◌, replicate}
-use Rattle.cell_rules.specs.Types.{Feed, Z1, Event, Give, Advance}
-use Rattle.cell_rules.specs.Names.{ModelState, start_state, place_set, done}
+use Rattle.std.specs.Prelude.{ℕ, true, false, List, [], ◌∷◌, ◌++◌, replicate, Some}
+use Rattle.cell_types.specs.declared.machine.Machine.TheVariants.{Table as TableMachine}
+use Rattle.cell_types.specs.declared.place.Place.TheVariants as place
+use Rattle.cell_rules.specs.Types.{Feed, Z1, Event, Give, Advance, Posture, Moving, OpenIn}
+use Rattle.cell_rules.specs.Names.{ModelState, PlaceSet, empty, insert_place, put_zone, start_state, place_set, done}
 use Rattle.cell_ring.specs.Lap.{FeedEntry}
-use Rattle.cell_ring.specs.Plates.{GoesOn}
+use Rattle.cell_ring.specs.Plates.{GoesOn, PlatesAreOnRing}
 use Rattle.cell_ring.specs.Following.{PlatesAreFollowed, NoneOvertakes}
 use Rattle.cell_ring.specs.Arriving.{ArriveAgain, EachPlateArrives, EachPlateMoves}
 use Rattle.cell_ring.specs.OneLap.{one_plate, onto_table, into_press, out_of_press, onto_deposit, one_lap}
@@ -22,11 +24,21 @@ at_end_and_table = start_state (place_set false true true false false false fals
 abbrev pub on_arm2 : ModelState
 on_arm2 = start_state (place_set false false false false false false true false false false) 0
 
+-- a plate in the zone to the table, which has this posture and these places beside it
+abbrev pub in_zone : Posture → PlaceSet → ModelState
+in_zone posture full =
+    let free = start_state full 0 in
+    record free { zones = put_zone free.zones Z1 (record { owner = Some TableMachine; flag = true; posture = posture }) }
+
 -- the feed belt moves its plate to its end, again and again
 abbrev pub advances : ℕ → List Event
 advances n = replicate n (done Feed Advance)
 
 pub record WrongHistories : Type 0 where
+  -- a plate is on its way to the table; it is on no way while its zone moves; another one is on the table
+  pub on_way : PlatesAreOnRing (in_zone OpenIn empty)
+  pub on_no_way : ¬ PlatesAreOnRing (in_zone Moving empty)
+  pub table_is_full : ¬ PlatesAreOnRing (in_zone OpenIn (insert_place empty place.Table))
   -- in 172 more moves the plate isn't forged and delivered again, after a lap; it isn't delivered; it isn't forged
   pub not_again : ¬ ArriveAgain one_plate (one_lap ++ advances 172)
   pub undelivered : ¬ ArriveAgain one_plate (onto_table ++ into_press ++ out_of_press ++ advances 172)

@@ -1,12 +1,12 @@
-use Rattle.cell_ring.proofs.Names.{◌≡◌, ◌≢◌, true, false, arith, refl, [], ◌∷◌, ◌++◌, ◌+◌, Give, Z1}
+use Rattle.cell_ring.proofs.Names.{◌≡◌, ◌≢◌, IsTrue, true, false, arith, refl, [], ◌∷◌, ◌++◌, ◌+◌, Give, Z1, OpenIn}
 use Rattle.cell_rules.specs.Types.{Feed}
-use Rattle.cell_rules.specs.Names.{done}
-use Rattle.cell_ring.specs.Lap.{Position, FeedEntry, FeedEnd, BeltToTable, Table, TableToArm, Arm1, ArmToPress, PressIn, PressOut, PressToArm, Arm2, ArmToBelt, DepEntry, DepEnd, BeltToCrane, Crane, CraneToBelt, next_position}
+use Rattle.cell_rules.specs.Names.{done, empty}
+use Rattle.cell_ring.specs.Lap.{Position, FeedEntry, FeedEnd, BeltToTable, Table, TableToArm, Arm1, ArmToPress, PressIn, PressOut, PressToArm, Arm2, ArmToBelt, DepEntry, DepEnd, BeltToCrane, Crane, CraneToBelt, next_position, lap, is_take}
 use Rattle.cell_ring.specs.Plates.{has_plate}
 use Rattle.cell_ring.specs.Following.{plate_moves, moves_of, arrivals, position_after}
 use Rattle.cell_ring.specs.Arriving.{forgings, deliveries}
 use Rattle.cell_ring.specs.OneLap.{one_plate, one_lap, onto_table, into_press, out_of_press, onto_deposit}
-use Rattle.cell_ring.specs.WrongHistories.{advances, at_end}
+use Rattle.cell_ring.specs.WrongHistories.{advances, at_end, in_zone}
 use Rattle.cell_ring.proofs.laws.wrong_histories_are_refused.Goals as goal
 
 differ : ¬ (true ≡ false)
@@ -46,8 +46,30 @@ table_and_end e = cc
 many : plate_moves (advances 172) ≡ 172
 many = refl
 
+on_way_room : (p : Position) → IsTrue (is_take (lap p).call) → IsTrue (has_plate (in_zone OpenIn empty) p) → has_plate (in_zone OpenIn empty) (next_position p) ≡ false
+on_way_room BeltToTable t h = refl
+on_way_room FeedEntry t h = refl
+on_way_room FeedEnd t h = absurd (differ_too t)
+on_way_room Table t h = refl
+on_way_room TableToArm t h = refl
+on_way_room Arm1 t h = refl
+on_way_room ArmToPress t h = refl
+on_way_room PressIn t h = refl
+on_way_room PressOut t h = refl
+on_way_room PressToArm t h = refl
+on_way_room Arm2 t h = refl
+on_way_room ArmToBelt t h = refl
+on_way_room DepEntry t h = refl
+on_way_room DepEnd t h = refl
+on_way_room BeltToCrane t h = refl
+on_way_room Crane t h = refl
+on_way_room CraneToBelt t h = refl
+
 pub returns : goal.returns
 returns c = record {
+  on_way = record { counted = refl; room = on_way_room };
+  on_no_way = λ k. let lie : 0 ≡ 1 = k.counted in omega (arith, lie);
+  table_is_full = λ k. differ (k.room BeltToTable refl refl);
   not_again = λ k.
       let none : forgings (position_after FeedEntry one_lap) (advances 172) ≡ 0 = refl in
       let n = (k one_lap (advances 172) refl (omega (arith, many)) FeedEntry refl).0 in omega (arith, none);
