@@ -64,6 +64,9 @@ shown = record {
   can_keep = λ frames. can_keep_on [] frames;
   never_fails = λ frames now k. never_errs (Err tt) refl (keeps_on [] frames now (Err tt) k).0;
   fails_at_once = fails_first;
+  turn_is_left = λ e. cc;
+  no_turn_is_left = λ k. k refl;
+  fails_last = tt;
 }
 
 pub frame_examples : FrameExamples

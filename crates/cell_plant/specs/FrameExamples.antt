@@ -18,7 +18,8 @@ use Rattle.cell_parts.specs.Names.{cell_with_plate_at, driven_at, belt_with, wit
 use Rattle.cell_parts.specs.declared.plant.PlantState.{PlantState}
 use Rattle.cell_plant.specs.declared.frame.Frame.{Frame}
 use Rattle.cell_plant.specs.declared.frame.MachineSteps.{MachineSteps}
-use Rattle.cell_plant.specs.Frames.{IsShown, frame_of, frames_of}
+use Rattle.cell_plant.specs.declared.observer.SeenFault.TheVariants as ends
+use Rattle.cell_plant.specs.Frames.{IsCut, IsShown, frame_of, frames_of}
 use Rattle.cell_plant.specs.Runs.{Step}
 use Rattle.cell_plant.specs.RecordExamples.{axes_apart, last_apart}
 use Rattle.cell_plant.specs.RunExamples.{opening, entered, stopped, schedule, steps, turn_of, busy_turn_of}
@@ -137,6 +138,10 @@ pub record ShownExamples : Type 0 where
   pub never_fails : (frames now : List Frame) → ¬ IsShown Keeps [] frames (Err tt) now
   pub fails_at_once : (frames now : List Frame) → IsShown Fails [] frames (Err tt) now
       → (f : Frame) × (frames ≡ f ∷ []) × (now ≡ [])
+  -- memory runs out in a turn, so one is left; an observer may fail at the last frame
+  pub turn_is_left : IsCut {E = Unit {0}} ends.Memory (turn_of Feed ∷ [])
+  pub no_turn_is_left : ¬ IsCut {E = Unit {0}} ends.Memory []
+  pub fails_last : IsCut {E = Unit {0}} (ends.Observer tt) []
 
 -- ---- all of these
 
