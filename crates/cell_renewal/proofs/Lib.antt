@@ -10,3 +10,6 @@ mod RenewedTeams
 mod Wearing
 mod RenewedRounds
 mod RenewedRecording
+mod RenewalRows
+mod WiredRows
+mod RoundRows

@@ -5,4 +5,7 @@ pub mod WiredRecords
 pub mod Going
 pub mod Renewing
 pub mod RenewedRecords
+pub mod RenewalExamples
+pub mod WiredExamples
+pub mod RoundExamples
 pub mod Wearing

@@ -74,6 +74,11 @@ MakesAtMost {H = H} watches calls =
     (watch later : H) (got kept : PassView) (tries : ℕ) → got.seen ≡ []
     → watches watch got tries kept later → length (own_events kept.seen Watch) ≤ calls
 
+-- An interlock that opens with a stamp up to the mark has room: for one change in each of the six machines' turns, and
+-- for the watch's calls.
+abbrev pub LeavesRoom : ℕ → ℕ → ℕ → Type 0
+LeavesRoom mark limit calls = mark + 6 * limit + calls < last_stamp
+
 -- a machine that no fault has stopped
 abbrev pub Runs : {P S D : Type 0} → GoingOn P S D → Type 0
 Runs w = w.machine.stopped ≡ None
@@ -161,8 +166,7 @@ module _ {F1 F2 F3 F4 F5 : Type 0} {g1 : Ghosts F1} {g2 : Ghosts F2} {g3 : Ghost
           → IsStartState opening → AreAtStart opening w
           → RunsGoing w tries limit mark watch opening before left sink → NoneEnded Refused left
 
-      -- if each interlock opens with a stamp that leaves room for one change in each of the six machines' turns, and
-      -- for the watch's calls: in no round has a machine ended as worn
+      -- if each interlock opens with a stamp that leaves room: in no round has a machine ended as worn
       abbrev pub NoneIsWornThrough : GoingSix (TableProgram F4 g4) (RobotProgram F1 F2 F3 g1 g2 g3)
           (CraneProgram F5 g5) D1 D2 D3 D4 D5 D6 → Type 0
       NoneIsWornThrough w =
@@ -170,5 +174,5 @@ module _ {F1 F2 F3 F4 F5 : Type 0} {g1 : Ghosts F1} {g2 : Ghosts F2} {g3 : Ghost
           (left : SixLeft (TableProgram F4 g4) (RobotProgram F1 F2 F3 g1 g2 g3)
           (CraneProgram F5 g5) D1 D2 D3 D4 D5 D6 H)
           → IsSound opening → AllRun w → opening.stamp ≤ mark → MakesAtMost watches calls
-          → mark + 6 * limit + calls < last_stamp
+          → LeavesRoom mark limit calls
           → RunsGoing w tries limit mark watch opening before left sink → NoneEnded Worn left

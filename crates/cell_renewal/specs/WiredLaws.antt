@@ -33,7 +33,8 @@ pub record AreToldToRest {S Sense Reading Act D : Type 0} (t : Steps S Sense Rea
 -- no cycle that its gate refused; if it is fine, through all. If neither its cycles nor its gate ended it, a fault did;
 -- then the last that its devices were told is to rest.
 pub record WiredWorkerEnds {S Sense Reading Act D : Type 0} (t : Steps S Sense Reading Act)
-    (sets : D → Commands Act → D → Type 0) (gate : GateOf) (limit cycles : ℕ) (status : Status) (devices : D) : Type 0 where
+    (sets : D → Commands Act → D → Type 0) (gate : GateOf) (limit cycles : ℕ) (status : Status) (devices : D)
+    : Type 0 where
   pub within : cycles ≤ limit
   pub let_in : (cycle : ℕ) → cycle < cycles → gate cycle true
   pub fine : status ≡ Fine → cycles ≡ limit

@@ -63,7 +63,8 @@ pub record RestsUnread {S Sense Reading Act D : Type 0} (t : Steps S Sense Readi
 
 -- a cycle: a turn, or a rest
 abbrev pub TakesCycle : {S Sense Reading Act D : Type 0} → ℕ → Steps S Sense Reading Act →
-    (D → Option Sense → D → Type 0) → (D → Commands Act → D → Type 0) → GateOf → WiredMoment S D → WiredMoment S D → Type 0
+    (D → Option Sense → D → Type 0) → (D → Commands Act → D → Type 0) → GateOf → WiredMoment S D → WiredMoment S D
+    → Type 0
 TakesCycle tries t shows sets gate before now =
     TakesWiredTurn tries t shows sets gate before now ⊎ RestsUnread t shows sets gate before now
 

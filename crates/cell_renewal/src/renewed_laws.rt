@@ -1,6 +1,8 @@
 //! Laws of six workers that go on over one interlock after another, each by its machine's program. Each
 //! is a clause of a function that does nothing.
+ghost use Rattle.cell_renewal.specs.RenewalExamples.{RenewalIsTold};
 ghost use Rattle.cell_renewal.specs.RenewedRecords.{NoneIsRefusedThrough, NoneIsWornThrough};
+ghost use Rattle.cell_renewal.specs.RoundExamples.{RoundsAreTold};
 
 use crate::going_worker::GoingWorker;
 use crate::rounds::RoundSink;
@@ -49,4 +51,18 @@ where
         D4.shows D4.sets D5.shows D5.sets D6.shows D6.sets H.watches S.takes (G.may_answer _gate.now) _workers.now }
     ensures none_worn { NoneIsWornThrough D1.shows D1.sets D2.shows D2.sets D3.shows D3.sets
         D4.shows D4.sets D5.shows D5.sets D6.shows D6.sets H.watches S.takes (G.may_answer _gate.now) _workers.now }
+{}
+
+/// Examples: a stamp that goes on or begins again, by the mark; a mark that leaves room, and one that
+/// doesn't; six workers of which one isn't fine, or doesn't go on; a machine that goes on elsewhere.
+#[tactic(auto, using(crate::proofs::RenewalRows::renewal_is_told))]
+pub fn renewal_is_told()
+    ensures { RenewalIsTold }
+{}
+
+/// Examples of what isn't a round: the sink hasn't taken what was noted, the watch hasn't watched, or
+/// the next round begins with another; and all six ended fine in the last one.
+#[tactic(auto, using(crate::proofs::RoundRows::rounds_are_told))]
+pub fn rounds_are_told()
+    ensures { RoundsAreTold }
 {}
