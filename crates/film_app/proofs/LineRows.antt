@@ -20,6 +20,8 @@ line-examples = record {
   deposit = refl;
   crane = refl;
   watch = refl;
+  stopped = refl;
+  escaped = refl;
   uncut = refl;
   cut = refl;
 }

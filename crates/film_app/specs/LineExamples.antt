@@ -1,8 +1,9 @@
 -- Frames with their lines, in literal text.
 use Rattle.std.specs.Prelude.{◌≡◌, ℕ, pos, true, false, List, [], ◌∷◌, ◌++◌, codes, map, Some, None, Ok}
-use Rattle.std.specs.List.{concat}
+use Rattle.std.specs.List.{concat, list_any}
 use Rattle.cell_rules.specs.Types.{Refused, Held, Claim, Machine, Feed, Table, Robot, Press, Deposit, Crane, Watch}
 use Rattle.cell_rules.specs.Types.{Settled, Z3}
+use Rattle.cell_notes.specs.declared.status.Status.TheVariants as status
 use Rattle.cell_devices.specs.declared.motor.Motor.TheVariants.{Off, Plus, Minus}
 use Rattle.cell_parts.specs.declared.axis.Axis.{Axis}
 use Rattle.cell_parts.specs.declared.plant.PlantState.{PlantState}
@@ -13,6 +14,8 @@ use Rattle.cell_plant.specs.RunExamples.{busy_turn_of}
 use Rattle.film_app.specs.Fields.{part_text}
 use Rattle.film_app.specs.Lines.{film_lines}
 use Rattle.film_app.specs.Pages.{cut_line}
+use Rattle.film_app.specs.Plain.{is_plain}
+use Rattle.film_app.specs.StepWords.{stopped_text}
 
 abbrev pub text_of : List (List ℕ) → List ℕ
 text_of lines = concat (map (λ line. line ++ codes "\n") lines)
@@ -119,5 +122,10 @@ pub record LineExamples : Type 0 where
   pub deposit : part_text Deposit apart ≡ codes "160,1100,0"
   pub crane : part_text Crane apart ≡ codes "180+,200,1"
   pub watch : part_text Watch apart ≡ []
+  pub stopped :
+      map stopped_text
+      (status.Fine ∷ status.Worn ∷ status.Sensor ∷ status.Refused ∷ status.Memory ∷ status.GateLimit ∷ [])
+      ≡ [] ∷ codes "!worn" ∷ codes "!sensor" ∷ codes "!refused" ∷ codes "!memory" ∷ codes "!gatelimit" ∷ []
+  pub escaped : list_any is_plain (codes "<>&\"'/\\=`") ≡ false
   pub uncut : cut_line 100000 ≡ []
   pub cut : cut_line 100001 ≡ codes "cut 100001\n"

@@ -1,7 +1,7 @@
 -- The lines of a film: one for its start, and one for each turn.
 use Rattle.std.specs.Prelude.{ℕ, Bool, ◌&&◌, List, [], ◌∷◌, ◌++◌, codes, Option, Some, None, if◌then◌else◌}
 use Rattle.std.specs.Str.{bytes_eq}
-use Rattle.cell_rules.specs.Types.{Machine, Feed, Table, Robot, Press, Deposit, Crane, Watch}
+use Rattle.cell_rules.specs.Types.{Machine, Feed, Table, Robot, Press, Deposit, Crane}
 use Rattle.cell_notes.specs.Names.{TurnCall, at_machine, each_machine, with_machine}
 use Rattle.cell_notes.specs.declared.by_machine.ByMachine.{ByMachine}
 use Rattle.cell_notes.specs.declared.schedule.Turn.{Turn}
