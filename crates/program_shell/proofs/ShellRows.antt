@@ -1,6 +1,40 @@
--- The examples of `shell_is_met`.
-use Rattle.std.proofs.Common.{refl}
-use Rattle.program_shell.specs.ShellExamples.{ShellIsMet}
+-- The examples of `shell_is_met` and of `runs_are_met`.
+use Rattle.std.proofs.Common.{◌≡◌, ◌≤◌, ℕ, zero, suc, List, [], ◌∷◌, ◌++◌, length, take, refl, ap, arith}
+use Rattle.std.proofs.lemmas.List.{length-append}
+use Rattle.program_shell.specs.ShellExamples.{RunsAreMet, ShellIsMet}
+
+abbrev last : List ℕ
+last = 9 ∷ []
+
+abbrev both : List ℕ
+both = 1 ∷ 2 ∷ []
+
+abbrev second : List ℕ
+second = 2 ∷ []
+
+-- no single byte was taken of two
+few : (bytes : List ℕ) → length bytes ≤ 1 → 7 ∷ 8 ∷ 9 ∷ [] ≡ bytes ++ last → ⊥
+few bytes h e = let all = ap length e in omega (arith, h, all, length-append bytes last)
+
+-- no prefix has the second byte first
+not_second : (n : ℕ) → second ≡ take n both → ⊥
+not_second zero e = cc
+not_second (suc n) e = cc
+
+pub runs-met : RunsAreMet
+runs-met = record {
+  well = record { status = omega arith; well = λ is. refl; failed = λ is. cc; taken = (7 ∷ 8 ∷ [], omega arith, refl) };
+  failed = record { status = omega arith; well = λ is. cc; failed = λ is. refl; taken = (7 ∷ 8 ∷ [], omega arith, refl) };
+  no_status = λ k. let at = k.status in omega (arith, at);
+  not_well = λ k. let is = k.well refl in cc;
+  not_failed = λ k. let is = k.failed refl in cc;
+  taken_too_much = λ k. few k.taken.0 k.taken.1 k.taken.2;
+  printed = record { status = omega arith; well = λ is. refl; failed = λ is. cc };
+  printed_in_part = record { status = omega arith; well = λ is. cc; failed = λ is. (1, refl) };
+  no_status_of_print = λ k. let at = k.status in omega (arith, at);
+  not_printed = λ k. let is = k.well refl in cc;
+  printed_other = λ k. not_second (k.failed refl).0 (let is = (k.failed refl).1 in cc);
+}
 
 pub shell-met : ShellIsMet
 shell-met = record {

@@ -1,8 +1,10 @@
--- Exit statuses, a fault's line, and which words ask for the version, and for help.
-use Rattle.std.specs.Prelude.{◌≡◌, ℕ, List, [], ◌∷◌, codes}
+-- Exit statuses, a fault's line, what was printed, and which words ask for the version, and for help.
+use Rattle.std.specs.Prelude.{◌≡◌, ℕ, List, [], ◌∷◌, codes, Some}
 use Rattle.program_shell.specs.Asked.{asked_of}
 use Rattle.program_shell.specs.Exits.{exit_status}
 use Rattle.program_shell.specs.Faults.{fault_line}
+use Rattle.program_shell.specs.Printed.{Prints}
+use Rattle.program_shell.specs.Served.{Served}
 use Rattle.program_shell.specs.Versions.{AskForVersion}
 use Rattle.program_shell.specs.declared.asked.Asked.{Asked}
 use Rattle.program_shell.specs.declared.asked.Asked.TheVariants.{Help, Other, Version}
@@ -11,6 +13,29 @@ use Rattle.program_shell.specs.declared.exit.Exit.TheVariants.{Well, Failed, Ref
 -- what words ask for after the name of a program that has the words `sim` and `run`
 abbrev pub asked_after_name : List (List ℕ) → Asked
 asked_after_name words = asked_of (codes "sim" ∷ codes "run" ∷ []) (codes "cell" ∷ words)
+
+-- Two bytes of three were taken from the input. A run that goes well writes 1 and 2, one that fails writes 3.
+abbrev pub Ends : ℕ → ℕ → List ℕ → Type 0
+Ends most exit written =
+    Served (λ input old new. new ≡ Some (1 ∷ 2 ∷ [])) (λ bytes old new. new ≡ Some (3 ∷ [])) most exit
+    (Some (7 ∷ 8 ∷ 9 ∷ [])) (Some (9 ∷ [])) (Some []) (Some written)
+
+-- what was printed of 1 and 2 after 7
+abbrev pub PrintsBoth : ℕ → List ℕ → Type 0
+PrintsBoth exit written = Prints exit (Some (7 ∷ [])) (Some written) (1 ∷ 2 ∷ [])
+
+pub record RunsAreMet : Type 0 where
+  pub well : Ends 2 0 (1 ∷ 2 ∷ [])
+  pub failed : Ends 2 1 (3 ∷ [])
+  pub no_status : ¬ Ends 2 2 (3 ∷ [])
+  pub not_well : ¬ Ends 2 0 (3 ∷ [])
+  pub not_failed : ¬ Ends 2 1 (1 ∷ 2 ∷ [])
+  pub taken_too_much : ¬ Ends 1 0 (1 ∷ 2 ∷ [])
+  pub printed : PrintsBoth 0 (7 ∷ 1 ∷ 2 ∷ [])
+  pub printed_in_part : PrintsBoth 1 (7 ∷ 1 ∷ [])
+  pub no_status_of_print : ¬ PrintsBoth 2 (7 ∷ 1 ∷ 2 ∷ [])
+  pub not_printed : ¬ PrintsBoth 0 (7 ∷ 1 ∷ [])
+  pub printed_other : ¬ PrintsBoth 1 (7 ∷ 2 ∷ [])
 
 pub record ShellIsMet : Type 0 where
   pub well : exit_status Well ≡ 0

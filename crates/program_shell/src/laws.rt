@@ -1,8 +1,14 @@
 //! Laws of programs' shells, each the contract of a function that does nothing.
 
-ghost use Rattle.program_shell.specs.ShellExamples.{ShellIsMet};
+ghost use Rattle.program_shell.specs.ShellExamples.{RunsAreMet, ShellIsMet};
 
 /// Examples: the exit statuses, a fault's line, and which words ask for the version, and for help.
 pub fn shell_is_met()
     ensures { ShellIsMet }
+{}
+
+/// Examples: what `serve` of a program may say of a run, by its exit status, and of a text that was
+/// printed.
+pub fn runs_are_met()
+    ensures { RunsAreMet }
 {}
