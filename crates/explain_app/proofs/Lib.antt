@@ -1,2 +1,3 @@
 mod Prefixes
 mod Unsaid
+mod ExplainRows

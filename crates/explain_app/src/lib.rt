@@ -3,6 +3,7 @@
 #![tactic(auto)]
 
 pub mod explain;
+pub mod laws;
 mod report;
 pub mod serve;
 mod sink;
