@@ -1,6 +1,7 @@
 mod Answered
 mod Counted
 mod Items
+mod LineRows
 mod Numbers
 mod Screens
 mod Starved

@@ -1,4 +1,5 @@
 pub mod Bounds
+pub mod LineExamples
 pub mod Requests
 pub mod Rings
 pub mod Screens

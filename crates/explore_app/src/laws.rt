@@ -1,5 +1,7 @@
-//! Laws of the starts that are explored, each the contract of a function that does nothing.
+//! Laws of the starts that are explored, and of what is printed of them, each the contract of a function that does
+//! nothing.
 
+ghost use Rattle.explore_app.specs.LineExamples.{ChoicesAreMet, LinesAreMet, TalliesAreMet};
 ghost use Rattle.explore_app.specs.Starts.{StartsAreAll, StartsAreCounted};
 
 /// Each start is among those that are explored with its number of plates.
@@ -10,4 +12,12 @@ pub fn starts_are_all()
 /// How many starts there are with each number of plates: 1, 10, 44, 112, 182, 196 and 140.
 pub fn starts_are_counted()
     ensures { StartsAreCounted }
+{}
+
+/// Examples: the lines of screens and of tallies, in literal text; which bounds are told of two,
+/// which machines an ending is about, and which turns are of a round.
+pub fn lines_are_met()
+    ensures lines { LinesAreMet }
+    ensures choices { ChoicesAreMet }
+    ensures tallies { TalliesAreMet }
 {}
