@@ -4,7 +4,7 @@ use Rattle.std.specs.Prelude.{length, All, codes}
 use Rattle.std.specs.Prelude.{Option, Some, None, if◌then◌else◌}
 use Rattle.std.specs.Fmt.{decimal}
 use Rattle.std.specs.List.{flat_map}
-use Rattle.cell_rules.specs.Types.{Machine}
+use Rattle.cell_rules.specs.Types.{Call, Machine}
 use Rattle.cell_rules.specs.Names.{ModelState, reply}
 use Rattle.cell_notes.specs.declared.schedule.Turn.{Turn}
 use Rattle.cell_notes.specs.Names.{at_machine}
@@ -13,6 +13,8 @@ use Rattle.cell_explorer.specs.declared.turning.Prospect.TheVariants.{Acts, Wait
 use Rattle.cell_explorer.specs.Columns.{cell_columns}
 use Rattle.cell_explorer.specs.Situations.{prospect_of, waits}
 use Rattle.cell_explorer.specs.Calls.{call_of}
+use Rattle.cell_explorer.specs.Walks.{end_of}
+use Rattle.cell_explorer.specs.declared.situation.Situation.{Situation}
 use Rattle.cell_explorer.specs.declared.walk.Walk.{Walk}
 use Rattle.cell_liveness.specs.Answers.{IfWithin}
 use Rattle.cell_liveness.specs.GoingOn.{PlatesGoOn}
@@ -69,12 +71,50 @@ pub record IsRoundTurn (s : ModelState) (step : Step) : Type 0 where
   pub asks : call_of cell_columns step.machine step.walk.end ≡ Some step.call
   pub is_of : is_of_round step.goes_on (prospect_of cell_columns step.machine step.walk.end) ≡ true
 
--- a text shows a round after this many turns
-pub record ShowsRound (s : ModelState) (turns : ℕ) (text : Text) : Type 0 where
+-- what a turn asks, and in which situation
+abbrev pub Asking : Type 0
+Asking = Machine × Call × Situation
+
+abbrev pub asking_if : Machine → Situation → Option Call → List Asking
+asking_if m at (Some call) = (m, call, at) ∷ []
+asking_if m at None = []
+
+-- what a machine's turn asks after turns from the start, if it asks
+abbrev pub asking_after : ModelState → List Machine → Machine → List Asking
+asking_after s way m = asking_if m (end_of s way) (call_of cell_columns m (end_of s way))
+
+-- what turns ask, one after another, after others from the start
+abbrev pub asking : ModelState → List Machine → List Machine → List Asking
+asking s way [] = []
+asking s way (m ∷ ms) = asking_after s way m ++ asking s (way ++ m ∷ []) ms
+
+-- what the turns of a round ask that go on
+abbrev pub going_turn : Step → List Asking
+going_turn step = if step.goes_on then (step.machine, step.call, step.walk.end) ∷ [] else []
+
+abbrev pub going_turns : List Step → List Asking
+going_turns round = flat_map going_turn round
+
+-- of one turn, if there is one; it is to ask this if it goes on
+abbrev pub going_step : Option Step → List Asking
+going_step None = []
+going_step (Some step) = going_turn step
+
+abbrev pub going_after : Bool → ModelState → List Machine → Machine → List Asking
+going_after goes_on s way m = if goes_on then asking_after s way m else []
+
+-- A round of a circle to which the stem leads. Those that go on are all turns of the circle that ask something, in
+-- order.
+pub record IsRound (s : ModelState) (stem cycle : List Machine) (round : List Step) : Type 0 where
+  pub turns : All (IsRoundTurn s) round
+  pub whole : going_turns round ≡ asking s stem cycle
+
+-- a text shows a round of a circle
+pub record ShowsRound (s : ModelState) (stem cycle : List Machine) (text : Text) : Type 0 where
   pub round : List Step
-  pub are : All (IsRoundTurn s) round
+  pub is_round : IsRound s stem cycle round
   pub schedule : List Turn
-  pub shown : text ≡ round_screen s turns round schedule
+  pub shown : text ≡ round_screen s (length stem) round schedule
 
 -- a machine's next turn changes something
 abbrev pub acts : Prospect → Bool
@@ -107,7 +147,7 @@ pub record TellsStill (s : ModelState) (text : Text) : Type 0 where
 pub record TellsRound (s : ModelState) (text : Text) : Type 0 where
   pub turns : ℕ
   pub starves : Starves s turns false
-  pub shown : ShowsRound s turns text
+  pub shown : ShowsRound s starves.stem starves.cycle text
 
 -- a text shows within how many steps a plate moves, or that this isn't known
 pub record TellsBound (s : ModelState) (text : Text) : Type 0 where

@@ -1,7 +1,7 @@
 //! How plates starve where no machine needs a strong turn: a round of turns that can go on for ever, and a schedule
 //! that shows it.
 
-ghost use Rattle.std.specs.Prelude.{◌≡◌, ◌++◌, All, length, IfOk, IfSome, OnOk, string_bytes};
+ghost use Rattle.std.specs.Prelude.{◌≡◌, ◌++◌, All, IfOk, IfSome, OnOk, string_bytes};
 ghost use Rattle.cell_rules.specs.Start.{IsStartState};
 ghost use Rattle.cell_config.specs.Configured.{AreAxisScales, AreCurvesOf};
 ghost use Rattle.explore_app.specs.Starving as starving;
@@ -99,7 +99,7 @@ fn round_screen(
     requires points { AreAxisScales config.now.points }
     requires curves { AreCurvesOf config.now.points config.now.curves }
     ensures { IfOk result (λ screen.
-        starving.ShowsRound config.now.start (length stem.now) (string_bytes screen)) }
+        starving.ShowsRound config.now.start stem.now cycle.now (string_bytes screen)) }
 {
     let round = round_of(alloc, &config.start, stem, cycle)?;
     let schedule = rounds_into(alloc, config, stem, walk, round.as_slice())?;
@@ -161,12 +161,11 @@ fn round_of(
     stem: &[Machine],
     cycle: &[Machine],
 ) -> Result<Vec<Step>, AllocError>
-    ensures { IfOk result (λ round. All (starving.IsRoundTurn start.now) round.items) }
+    ensures { IfOk result (λ round.
+        starving.IsRound start.now stem.now cycle.now round.items) }
 {
     let mut way = Vec::new(alloc);
-    for machine in stem {
-        way.push(*machine)?;
-    }
+    way.extend_from_slice(stem)?;
     let mut had = ByMachine::each(false);
     for machine in cycle {
         had.put(*machine, true);
@@ -189,7 +188,9 @@ fn push_waiting(
     round: &mut Vec<Step>,
 ) -> Result<(), AllocError>
     requires { All (starving.IsRoundTurn start.now) round.old.items }
-    ensures { All (starving.IsRoundTurn start.now) round.new.items }
+    ensures turns { All (starving.IsRoundTurn start.now) round.new.items }
+    ensures going { OnOk result
+        (starving.going_turns round.new.items ≡ starving.going_turns round.old.items) }
 {
     'machines: for machine in &Machine::ALL {
         if *had.at(*machine) {
@@ -212,7 +213,10 @@ fn push_turn(
     round: &mut Vec<Step>,
 ) -> Result<bool, AllocError>
     requires { All (starving.IsRoundTurn start.now) round.old.items }
-    ensures { All (starving.IsRoundTurn start.now) round.new.items }
+    ensures turns { All (starving.IsRoundTurn start.now) round.new.items }
+    ensures going { OnOk result
+        (starving.going_turns round.new.items ≡ starving.going_turns round.old.items
+        ++ starving.going_after goes_on start.now way.now machine) }
 {
     match step_after(alloc, start, way, machine, goes_on)? {
         Some(step) => {
@@ -231,7 +235,9 @@ fn step_after(
     machine: Machine,
     goes_on: bool,
 ) -> Result<Option<Step>, AllocError>
-    ensures { IfOk result (λ step. IfSome step (starving.IsRoundTurn start.now)) }
+    ensures turn { IfOk result (λ step. IfSome step (starving.IsRoundTurn start.now)) }
+    ensures going { IfOk result (λ step.
+        starving.going_step step ≡ starving.going_after goes_on start.now way.now machine) }
 {
     let walk = take_turns(alloc, start, way)?;
     let next = *walk.next.at(machine);

@@ -23,4 +23,5 @@ returns-else-stands_still c =
     (subst (λ (way : List Machine). ComesTo c.args.config.now.start way c.in_ok-walk-in-Starves.walk) c.as_slice.ensures.value
     (record { asks = c.in_ok-walk-in-Starves.ensures.asks; end = c.in_ok-walk-in-Starves.ensures.end; next = c.in_ok-walk-in-Starves.ensures.next }))
     (ap (is_idle c.in_ok-walk-in-Starves.walk) (sym c.as_slice-in-Starves.ensures.value) ∙ sym c.if-stands_still.ensures)
-    (subst (λ (way : List Machine). IfOk c.round_screen.result (λ screen. ShowsRound c.args.config.now.start (length way) (string_bytes screen))) c.as_slice-in-Starves-2.ensures.value c.round_screen.ensures)
+    (subst (λ (way : List Machine). IfOk c.round_screen.result (λ screen. ShowsRound c.args.config.now.start way c.in-Starves.cycle.items (string_bytes screen))) c.as_slice-in-Starves-2.ensures.value
+    (subst (λ (turns : List Machine). IfOk c.round_screen.result (λ screen. ShowsRound c.args.config.now.start c.as_slice-in-Starves-2.result.now turns (string_bytes screen))) c.as_slice-in-Starves-3.ensures.value c.round_screen.ensures))
