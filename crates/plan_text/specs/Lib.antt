@@ -7,3 +7,4 @@ pub mod Requests
 pub mod Reasons
 pub mod Starts
 pub mod Script
+pub mod Examples
