@@ -2,3 +2,4 @@ pub mod lemmas
 mod PressRows
 mod TableRows
 mod TableSenses
+mod KeepRows

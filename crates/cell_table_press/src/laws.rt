@@ -1,4 +1,5 @@
 //! Laws of the programs, row by row. Each is the contract of a function with an empty body.
+ghost use Rattle.cell_table_press.specs.KeepExamples.{KeepsAreMet};
 ghost use Rattle.cell_table_press.specs.PressExamples.{PressRowsAreMet};
 ghost use Rattle.cell_table_press.specs.TableExamples.{TableRowsAreMet};
 
@@ -13,4 +14,10 @@ pub fn press_rows_are_met()
 /// enough and at the first that isn't.
 pub fn table_rows_are_met()
     ensures { TableRowsAreMet }
+{}
+
+/// What press and table keep at each step, which a checkpoint is tested by: of each zone whether it is
+/// theirs, whether a plate is on its way there, and its posture; and their plates.
+pub fn keeps_are_met()
+    ensures { KeepsAreMet }
 {}
