@@ -1,3 +1,4 @@
 pub mod lemmas
 mod BeltRows
 mod CraneSenses
+mod KeepRows
