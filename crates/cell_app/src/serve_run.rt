@@ -10,14 +10,13 @@ ghost use Rattle.cell_config.specs.Configured.{AreAxisScales, AreCurvesOf, in_or
 ghost use Rattle.cell_config.specs.Settings.{max_bytes_read};
 ghost use Rattle.cell_app.specs.Served.{RunFails, WasRun};
 ghost use Rattle.cell_workers.specs.Records.{TellsWork};
-ghost use Rattle.cell_configured.specs.Gauges.{scales_by_points};
 
 use crate::reporting::report;
 use cell_config::{Config, read_config};
-use cell_configured::{CellPoints, cell_with_gauges, gauges_on};
+use cell_configured::{cell_with_gauges, gauges_on};
 use cell_notes::RunRecord;
 use cell_rules::State;
-use cell_sensors::Gauge;
+use cell_sensors::{ByPotentiometer, Gauge, Points};
 use cell_workers::{Gate, OpenGate, RunFault, run_cell};
 use program_shell::{Exit, fail};
 use std::alloc::Global;
@@ -90,7 +89,7 @@ fn run_with_gauges<T, F1, F2, F3, F4, F5, G>(
     rt: &T,
     alloc: Global,
     gauges: (F1, F2, F3, F4, F5),
-    points: CellPoints,
+    points: ByPotentiometer<Points>,
     start: State,
     turns: u32,
     tries: u8,
@@ -110,11 +109,11 @@ where
     requires rotation { F3.keeps gauges.2 points.rotation }
     requires turn { F4.keeps gauges.3 points.turn }
     requires gripper { F5.keeps gauges.4 points.gripper }
-    requires scales { AreCellScales (scales_by_points points) }
+    requires scales { AreCellScales points }
     requires few { tries ≤ 64 }
     requires some { 1 ≤ tries }
     ensures work { IfOk result
-        (TellsWork (scales_by_points points)
+        (TellsWork points
         (record {
           arm1 = F1.gives gauges.0;
           arm2 = F2.gives gauges.1;

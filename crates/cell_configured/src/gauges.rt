@@ -2,26 +2,10 @@
 
 ghost use Rattle.std.specs.Prelude.{◌≡◌};
 ghost use Rattle.cell_plant.specs.Cells.{IsMadeFor, cell_scales, five_gauges};
-ghost use Rattle.cell_configured.specs.Gauges.{scales_by_points};
 
 use cell_plant::Cell;
 use cell_rules::State;
-use cell_sensors::{Calibration, Gauge, Points};
-
-/// The points of the five potentiometers' curves.
-#[derive(Clone, Copy)]
-pub struct CellPoints {
-    /// The first arm's.
-    pub arm1: Points,
-    /// The second arm's.
-    pub arm2: Points,
-    /// The robot's rotation's.
-    pub rotation: Points,
-    /// The table's rotation's.
-    pub turn: Points,
-    /// The gripper's height's.
-    pub gripper: Points,
-}
+use cell_sensors::{ByPotentiometer, Calibration, Gauge, Points};
 
 /// The points and the closures of five curves, in the order of a configuration. A closure gives the
 /// position on its curve.
@@ -29,7 +13,7 @@ pub struct CellPoints {
 macro_rules! gauges_on {
     ($curves:expr) => {{
         let [arm1, arm2, rotation, turn, gripper] = $curves;
-        let points = $crate::CellPoints {
+        let points = cell_sensors::ByPotentiometer {
             arm1: arm1.points(),
             arm2: arm2.points(),
             rotation: rotation.points(),
@@ -51,7 +35,7 @@ macro_rules! gauges_on {
 /// type is a parameter.
 pub fn cell_with_gauges<F1: Gauge, F2: Gauge, F3: Gauge, F4: Gauge, F5: Gauge>(
     gauges: (F1, F2, F3, F4, F5),
-    points: CellPoints,
+    points: ByPotentiometer<Points>,
     start: &State,
 ) -> Cell<F1, F2, F3, F4, F5>
     requires arm1 { F1.keeps gauges.0 points.arm1 }
@@ -60,7 +44,7 @@ pub fn cell_with_gauges<F1: Gauge, F2: Gauge, F3: Gauge, F4: Gauge, F5: Gauge>(
     requires turn { F4.keeps gauges.3 points.turn }
     requires gripper { F5.keeps gauges.4 points.gripper }
     ensures made { IsMadeFor start.now result }
-    ensures scales { cell_scales result ≡ scales_by_points points }
+    ensures scales { cell_scales result ≡ points }
     ensures gauges { five_gauges result ≡ record {
       arm1 = gauges.0;
       arm2 = gauges.1;

@@ -4,5 +4,5 @@
 pub mod gauges;
 pub mod simulation;
 
-pub use gauges::{CellPoints, cell_with_gauges};
+pub use gauges::cell_with_gauges;
 pub use simulation::{simulate_configured, simulate_configured_observed};

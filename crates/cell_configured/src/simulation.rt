@@ -8,15 +8,15 @@ ghost use Rattle.cell_plant.specs.Cells.{TellsRun};
 ghost use Rattle.cell_plant.specs.Frames.{SeesBeginning, SeesRun};
 ghost use Rattle.cell_plant.specs.Machines.{on_curves};
 ghost use Rattle.cell_config.specs.Configured.{AreAxisScales, AreCurvesOf, in_order};
-ghost use Rattle.cell_configured.specs.Gauges.{gauges_by, scales_by_points};
+ghost use Rattle.cell_configured.specs.Gauges.{gauges_by};
 ghost use Rattle.cell_configured.specs.Seen.{SeesConfigured, SeesItsBeginning};
 
-use crate::gauges::{CellPoints, cell_with_gauges};
+use crate::gauges::cell_with_gauges;
 use crate::gauges_on;
 use cell_config::Config;
 use cell_plant::{NoObserver, Observer, RunRecord, SeenFault, SimFault, Turn, simulate_observed};
 use cell_rules::State;
-use cell_sensors::Gauge;
+use cell_sensors::{ByPotentiometer, Gauge, Points};
 use std::alloc::Global;
 
 /// Simulates a configuration's schedule, with a closure over each of its curves. So each reading is
@@ -59,7 +59,7 @@ pub fn simulate_configured_observed<W: Observer>(
 fn show_with_gauges<F1: Gauge, F2: Gauge, F3: Gauge, F4: Gauge, F5: Gauge, W: Observer>(
     alloc: Global,
     gauges: (F1, F2, F3, F4, F5),
-    points: CellPoints,
+    points: ByPotentiometer<Points>,
     start: State,
     schedule: &[Turn],
     observer: &mut W,
@@ -70,12 +70,12 @@ fn show_with_gauges<F1: Gauge, F2: Gauge, F3: Gauge, F4: Gauge, F5: Gauge, W: Ob
     requires rotation { F3.keeps gauges.2 points.rotation }
     requires turn { F4.keeps gauges.3 points.turn }
     requires gripper { F5.keeps gauges.4 points.gripper }
-    requires scales { AreCellScales (scales_by_points points) }
-    ensures run { IfOk result (SeesRun W.sees (scales_by_points points)
+    requires scales { AreCellScales points }
+    ensures run { IfOk result (SeesRun W.sees points
         (gauges_by (F1.gives gauges.0) (F2.gives gauges.1) (F3.gives gauges.2)
         (F4.gives gauges.3) (F5.gives gauges.4))
         start schedule.now observer.old observer.new) }
-    ensures ended { IfErr result (SeesBeginning W.sees (scales_by_points points)
+    ensures ended { IfErr result (SeesBeginning W.sees points
         (gauges_by (F1.gives gauges.0) (F2.gives gauges.1) (F3.gives gauges.2)
         (F4.gives gauges.3) (F5.gives gauges.4))
         start schedule.now observer.old observer.new) }

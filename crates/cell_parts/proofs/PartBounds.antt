@@ -5,7 +5,7 @@ use Rattle.std.specs.Int.Signed.{le_z_yes}
 use Rattle.cell_sensors.specs.Scale.{Scale}
 use Rattle.cell_rules.specs.Types.{Feed, Deposit, Zone, Z1, Z4, Z5, Z6, Give, Take}
 use Rattle.cell_parts.specs.declared.belt.Belt.{Belt}
-use Rattle.cell_parts.specs.Axes.{RobotScales}
+use Rattle.cell_sensors.specs.Names.{RobotScales}
 use Rattle.cell_parts.specs.PartExamples.{SettingExamples, MovingBounds, SensorBounds, press_sense, table_sense, robot_sense, crane_sense, feed_sense, deposit_sense, ShowingExamples, feed_hears, deposit_hears, NoteBounds, StartValues}
 use Rattle.cell_parts.proofs.Contrasts.{neither, false_true}
 use Rattle.cell_parts.proofs.Figures.{always, never, order, inside}

@@ -1,6 +1,7 @@
 -- The axes of the plant, its belts, and the scales of its potentiometers. Each axis goes from 0 to its end.
 use Rattle.std.specs.Prelude.{◌≡◌, ℤ, pos, ◌≤ℤ◌}
-use Rattle.cell_sensors.specs.Names.{Scale, IsScale, raw_width}
+use Rattle.cell_sensors.specs.Names.{Scale, IsScale, RobotScales, raw_width}
+use Rattle.cell_sensors.specs.declared.potentiometers.ByPotentiometer.{ByPotentiometer}
 
 abbrev pub press_end : ℤ
 press_end = pos 1000
@@ -51,18 +52,12 @@ pub record IsAxisScale (end : ℤ) (s : Scale) : Type 0 where
   pub to : s.at_hi ≡ end
   pub wide : end ≤ℤ raw_width s
 
--- the scales of the robot's potentiometers, and of all five
-pub record RobotScales : Type 0 where
-  pub arm1 : Scale
-  pub arm2 : Scale
-  pub rotation : Scale
+-- the scales of the five potentiometers, and of the robot's three
+abbrev pub CellScales : Type 0
+CellScales = ByPotentiometer Scale
 
-pub record CellScales : Type 0 where
-  pub arm1 : Scale
-  pub arm2 : Scale
-  pub rotation : Scale
-  pub turn : Scale
-  pub gripper : Scale
+abbrev pub robot_points : CellScales → RobotScales
+robot_points c = record { arm1 = c.arm1; arm2 = c.arm2; rotation = c.rotation }
 
 pub record AreCellScales (c : CellScales) : Type 0 where
   pub arm1 : IsAxisScale arm_end c.arm1

@@ -1,6 +1,6 @@
 -- All examples of the plant.
 use Rattle.cell_sensors.specs.Scale.{Scale}
-use Rattle.cell_parts.specs.Axes.{RobotScales}
+use Rattle.cell_sensors.specs.Names.{RobotScales}
 use Rattle.cell_parts.specs.CollisionExamples.{CollisionBounds, MagnetBounds, EndBounds, EachCollision}
 use Rattle.cell_parts.specs.DemandExamples.{PositionDemandBounds, MotorDemandBounds, DrivingBounds, RestingBounds}
 use Rattle.cell_parts.specs.DemandExamples.{EachDemand}

@@ -1,6 +1,6 @@
 -- The names of this crate that other crates' definitions and proofs use, in one place.
 pub use Rattle.cell_parts.specs.Axes.{AreCellScales, CellScales, IsAxisScale, IsIn, IsWithin, Span, arm_end}
-pub use Rattle.cell_parts.specs.Axes.{crane_end, gripper_end, lift_end, press_end, rotation_end, turn_end}
+pub use Rattle.cell_parts.specs.Axes.{crane_end, gripper_end, lift_end, press_end, robot_points, rotation_end, turn_end}
 pub use Rattle.cell_parts.specs.Collisions.{Arm1MayLetGo, Arm2MayLetGo, CraneMayLetGo, DrivesPast, DrivesPastEnd}
 pub use Rattle.cell_parts.specs.Collisions.{IsArm1AtTable, IsArm1InPress, IsArm2AtDeposit, IsArm2InPress}
 pub use Rattle.cell_parts.specs.Collisions.{IsGripperDown, IsOn, IsOut, IsOverDeposit, IsOverFeed, LetsGo}

@@ -5,7 +5,7 @@ use Rattle.cell_rules.specs.Types.{Machine, Feed, Table, Robot, Press, Deposit, 
 use Rattle.cell_rules.specs.Types.{Call, Claim, Give, Yield, Take, Release, SetPose, Advance, Inquire, Done, Refused}
 use Rattle.cell_rules.specs.Types.{Event, NoPlate}
 use Rattle.cell_types.specs.declared.place.Place.TheVariants as place
-use Rattle.cell_sensors.specs.Names.{Scale}
+use Rattle.cell_sensors.specs.Names.{Scale, RobotScales}
 use Rattle.cell_sensors.specs.declared.sense.FeedSense.{FeedSense}
 use Rattle.cell_sensors.specs.declared.sense.TableSense.{TableSense}
 use Rattle.cell_sensors.specs.declared.sense.RobotSense.{RobotSense}
@@ -24,7 +24,6 @@ use Rattle.cell_devices.specs.declared.act.CraneAct.{CraneAct}
 use Rattle.cell_rules.specs.Seen.{event}
 use Rattle.cell_parts.specs.declared.axis.Axis.{Axis}
 use Rattle.cell_parts.specs.declared.belt.Belt.{Belt}
-use Rattle.cell_parts.specs.Axes.{RobotScales}
 use Rattle.cell_parts.specs.declared.plant.TablePlant.{TablePlant}
 use Rattle.cell_parts.specs.declared.plant.RobotPlant.{RobotPlant}
 use Rattle.cell_parts.specs.declared.plant.CranePlant.{CranePlant}

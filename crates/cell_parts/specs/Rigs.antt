@@ -1,5 +1,5 @@
 -- How the parts of the machines behave. Only the belts note events.
-use Rattle.cell_sensors.specs.Names.{Scale}
+use Rattle.cell_sensors.specs.Names.{Scale, RobotScales}
 use Rattle.cell_sensors.specs.declared.sense.FeedSense.{FeedSense}
 use Rattle.cell_sensors.specs.declared.sense.TableSense.{TableSense}
 use Rattle.cell_sensors.specs.declared.sense.RobotSense.{RobotSense}
@@ -15,7 +15,6 @@ use Rattle.cell_devices.specs.declared.act.CraneAct.{CraneAct}
 use Rattle.cell_control.specs.Rigs.{Rig}
 use Rattle.cell_parts.specs.declared.axis.Axis.{Axis}
 use Rattle.cell_parts.specs.declared.belt.Belt.{Belt}
-use Rattle.cell_parts.specs.Axes.{RobotScales}
 use Rattle.cell_parts.specs.declared.plant.TablePlant.{TablePlant}
 use Rattle.cell_parts.specs.declared.plant.RobotPlant.{RobotPlant}
 use Rattle.cell_parts.specs.declared.plant.CranePlant.{CranePlant}

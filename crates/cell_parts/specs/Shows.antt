@@ -1,6 +1,6 @@
 -- What the sensors of the plant show.
 use Rattle.std.specs.Prelude.{◌≡◌, ℕ, ℤ, pos, ◌≤ℤ◌, ◌<ℤ◌, ◌↔◌, ◌⊎◌, IsTrue, Option, IsSomeAnd}
-use Rattle.cell_sensors.specs.Names.{Scale, IsRawAt}
+use Rattle.cell_sensors.specs.Names.{Scale, IsRawAt, RobotScales}
 use Rattle.cell_sensors.specs.declared.sense.FeedSense.{FeedSense}
 use Rattle.cell_sensors.specs.declared.sense.TableSense.{TableSense}
 use Rattle.cell_sensors.specs.declared.sense.RobotSense.{RobotSense}
@@ -9,7 +9,7 @@ use Rattle.cell_sensors.specs.declared.sense.DepositSense.{DepositSense}
 use Rattle.cell_sensors.specs.declared.sense.CraneSense.{CraneSense}
 use Rattle.cell_parts.specs.declared.axis.Axis.{Axis}
 use Rattle.cell_parts.specs.declared.belt.Belt.{Belt}
-use Rattle.cell_parts.specs.Axes.{RobotScales, Span, IsIn}
+use Rattle.cell_parts.specs.Axes.{Span, IsIn}
 use Rattle.cell_parts.specs.declared.plant.TablePlant.{TablePlant}
 use Rattle.cell_parts.specs.declared.plant.RobotPlant.{RobotPlant}
 use Rattle.cell_parts.specs.declared.plant.CranePlant.{CranePlant}

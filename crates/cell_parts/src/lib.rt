@@ -11,5 +11,5 @@ mod potentiometer;
 
 pub use axis::Axis;
 pub use belt::Belt;
-pub use parts::{CranePart, DepositPart, FeedPart, PressPart, RobotPart, RobotPoints, TablePart};
+pub use parts::{CranePart, DepositPart, FeedPart, PressPart, RobotPart, TablePart};
 pub use plant::{CranePlant, PlantState, RobotPlant, TablePlant};

@@ -12,5 +12,5 @@ pub use crane::CranePart;
 pub use deposit::DepositPart;
 pub use feed::FeedPart;
 pub use press::PressPart;
-pub use robot::{RobotPart, RobotPoints};
+pub use robot::RobotPart;
 pub use table::TablePart;

@@ -1,6 +1,6 @@
 -- The names of other crates, and of this one's definitions, that the proofs here use.
 pub use Rattle.cell_sensors.proofs.lemmas.LineLemmas.{near_position_lem, one_raw_at}
-pub use Rattle.cell_sensors.specs.Names.{IsNear, IsReading, IsScale, Scale, raw_width}
+pub use Rattle.cell_sensors.specs.Names.{IsNear, IsReading, IsScale, Scale, raw_width, RobotScales}
 pub use Rattle.cell_sensors.specs.declared.sense.CraneSense.{CraneSense}
 pub use Rattle.cell_sensors.specs.declared.sense.FeedSense.{FeedSense}
 pub use Rattle.cell_sensors.specs.declared.sense.PressSense.{PressSense}
@@ -51,7 +51,7 @@ pub use Rattle.cell_notes.specs.declared.schedule.Turn.{Turn}
 pub use Rattle.cell_notes.specs.declared.status.Status.{Status}
 pub use Rattle.cell_notes.specs.declared.status.Status.TheVariants.{Fine, Sensor}
 pub use Rattle.cell_parts.proofs.lemmas.NoCollision.{nothing_collides}
-pub use Rattle.cell_parts.specs.Axes.{CellScales, gripper_start}
+pub use Rattle.cell_parts.specs.Axes.{CellScales, gripper_start, robot_points}
 pub use Rattle.cell_parts.specs.Collisions.{IsAt}
 pub use Rattle.cell_parts.specs.MotorDemands.{TravelsHigh}
 pub use Rattle.cell_parts.specs.Names.{AllDemandsMet, AreCellScales, Arm1MayLetGo, Arm2MayLetGo, AtDeposit, AtFeed, CraneMayLetGo, DrivesPast, DrivesPastEnd, ErrandDemands, ForTravel, GripperErrand, HoldsIn, IsArm1AtTable, IsArm1InPress, IsArm2AtDeposit, IsArm2InPress, IsAxisScale, IsGripperDown, IsIn, IsOn, IsOut, IsOverDeposit, IsOverFeed, IsWithin, LetsGo, MotorDemands, NothingCollides, NothingCollidesWhenSet, PlateFalls}
@@ -72,7 +72,7 @@ pub use Rattle.cell_plant.specs.Frames.{FilmsAreSafe, IsCut, IsSafeFrame, result
 pub use Rattle.cell_plant.specs.GaugeLaws.{HasOneRun, RunsAreByGauges, SaysOneThing}
 pub use Rattle.cell_plant.specs.Moments.{AllNotes, first_notes}
 pub use Rattle.cell_plant.specs.Names.{AreRefusedAsWorn, CellGauges, CellState, GiveOne, GivesOne, HadMemory, IsAtRest, IsOfLiteralRun, IsOfOneStop, IsRecordOf, IsRecordSoFar, IsRefusedAsWorn, IsRun, IsRunBy, IsSafeRun, IsSafeState, IsSafelySet, IsShown, LeadsBy, LeadsIfBy, NoneRefused, PartOf, ProgressOf, RunMoment, SayTheSame, SeesBeginning, SeesRun, SideOf, Sides, Step, StepsOn, TakesTurn, TakesTurnBy, TellsRun, any_near, asks}
-pub use Rattle.cell_plant.specs.Names.{at_entered, at_first, at_last, at_press_stopped, cell_at_start, cell_scales, counts_in, counts_of, end_of, errand_of, events_in, first_moment, five_gauges, frame_of, frames_after, frames_of, goes_on, is_told, is_turn_of, opening, plant_of, points_of, positions_in, rig_of, robot_axes, robot_gauges, robot_points, schedule, side_in, sides_at_start, sides_of, starts, state_at, statuses_in, steps, steps_by, steps_of, turn_of, watch_noting, watch_rig, watch_steps}
+pub use Rattle.cell_plant.specs.Names.{at_entered, at_first, at_last, at_press_stopped, cell_at_start, cell_scales, counts_in, counts_of, end_of, errand_of, events_in, first_moment, five_gauges, frame_of, frames_after, frames_of, goes_on, is_told, is_turn_of, opening, plant_of, points_of, positions_in, rig_of, robot_gauges, schedule, side_in, sides_at_start, sides_of, starts, state_at, statuses_in, steps, steps_by, steps_of, turn_of, watch_noting, watch_rig, watch_steps}
 pub use Rattle.cell_plant.specs.RecordExamples.{AreJournals, IsOfApart, IsOfLegalHistory, IsOfNoTurn, IsRecord, IsUnread, RecordExamples, Tells, WrongRecords, counts_by, done_entry, first_stop, journal_by, journals_apart, last_apart, open_too_early, refused_entry, steps_apart, stop_entry, with_feed_counts}
 pub use Rattle.cell_plant.specs.Resting.{StoppedMachinesRest}
 pub use Rattle.cell_plant.specs.RunExamples.{PassExamples, ScheduleExamples, TurnExamples, belt_waits, cell_of, claims_entry, falls, falls_to, finds_busy, finds_no_room, is_refused, passes, press_falls, resumed, resumes_at_first, resumes_cell, resumes_unnoted, stopped, stops_again, stops_cell, waits, watch_finds_busy}
@@ -86,7 +86,7 @@ pub use Rattle.cell_plant.specs.declared.watch.WatchProgress.{WatchProgress}
 pub use Rattle.cell_plant.specs.declared.observer.SeenFault.{SeenFault}
 pub use Rattle.cell_plant.specs.declared.observer.SeenFault.TheVariants.{Observer}
 pub use Rattle.cell_robot.proofs.lemmas.RobotFacts.{RobotKnows, at_choice, robot-knowing}
-pub use Rattle.cell_robot.specs.Names.{RobotGauges, RobotScales, arm1_stop, arm2_stop, choice, near_lines, notes_at, robot_rest, robot_start, robot_steps, turns_to}
+pub use Rattle.cell_robot.specs.Names.{RobotGauges, arm1_stop, arm2_stop, choice, near_lines, notes_at, robot_rest, robot_start, robot_steps, turns_to}
 pub use Rattle.cell_robot.specs.RobotProgram.{FirstFails, IsRaw, gauges_of, turns}
 pub use Rattle.cell_robot.specs.declared.robot.RobotNotes.{RobotNotes}
 pub use Rattle.cell_robot.specs.declared.robot.RobotProgress.{RobotProgress}

@@ -1,7 +1,7 @@
 -- The sensors of each machine show one thing, their check says one thing by gauges that give one position, and a drive has
 -- one command.
 use Rattle.cell_plant.proofs.Names.{◌≡◌, ℕ, ◌≤◌, ℤ, ◌+ℤ◌, ◌≤ℤ◌, ◌↔◌, IsTrue, Bool, Result, Ok, Err, refl, sym, ap, ◌∙◌, subst, arith, by_lt_z, Scale, IsScale, SensorFault, CraneSense, RobotSense, TableSense, one_raw_at, travel_from, drives_one, acts_one, crane_steps, CraneReading, RobotGauges, RobotScales, arm1_stop, arm2_stop, robot_steps, turns_to, RobotReading, FirstFails, IsRaw, rotation_stop, table_steps, TableReading}
-use Rattle.cell_plant.proofs.Names.{AreCellScales, table_rig, robot_rig, crane_rig, ShowsRaw, CellGauges, robot_axes, robot_gauges, robot_points, steps_by, rig_of, GiveOne, GivesOne}
+use Rattle.cell_plant.proofs.Names.{AreCellScales, table_rig, robot_rig, crane_rig, ShowsRaw, CellGauges, robot_gauges, robot_points, steps_by, rig_of, GiveOne, GivesOne}
 use Rattle.cell_belts_crane.specs.CraneProgram.{Senses as CraneSenses}
 use Rattle.cell_robot.specs.RobotProgram.{Fails, Senses as RobotSenses}
 use Rattle.cell_table_press.specs.TableProgram.{Senses as TableSenses}
@@ -97,7 +97,7 @@ module _ (points : RobotScales) (gives : RobotGauges) (k : AreScales points) (s 
   robot_one one two three (Err f) (Ok r) a b = absurd (none_fails r f b a)
   robot_one one two three (Err f) (Err g) a b = ap (λ x. Err x) (first_one f g a b)
 
-robot_way : (c : CellScales) (gives : CellGauges) → AreScales (robot_points c) → GiveOne gives → HasOneWay (robot_steps (robot_points c) (robot_gauges gives)) (robot_rig (robot_axes c))
+robot_way : (c : CellScales) (gives : CellGauges) → AreScales (robot_points c) → GiveOne gives → HasOneWay (robot_steps (robot_points c) (robot_gauges gives)) (robot_rig (robot_points c))
 robot_way c gives k one =
     record {
       shows = λ b s s' m n.

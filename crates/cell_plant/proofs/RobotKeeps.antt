@@ -9,7 +9,6 @@ use Rattle.cell_robot.specs.declared.robot.RobotStep.TheVariants.{AwaitPlate, Gr
 use Rattle.cell_robot.specs.RobotProgram.{rotation_stop, is_off}
 use Rattle.cell_control.proofs.lemmas.SharedZones.{AreSure}
 use Rattle.cell_robot.specs.RobotKeeps.{zones_at}
-use Rattle.cell_parts.specs.Axes.{RobotScales as PartScales}
 use Rattle.cell_plant.proofs.Magnets.{still_on}
 use Rattle.cell_plant.proofs.Stops.{reading_near, span_of, at_stop, StopsWithin, not_on, off_within, driven_within}
 use Rattle.cell_plant.proofs.WithinLemmas.{moved_within}
@@ -216,10 +215,6 @@ turns_there : (s : RobotStep) (b : Bool) → (turns s ≡ true → b ≡ true) �
 turns_there TurnToTable b f = retracted_then b _ (f refl)
 turns_there s b f = first_of (search retracted_then, search no_stop)
 
--- the scales of the potentiometers are those of their calibrations
-abbrev pub part_scales : RobotScales → PartScales
-part_scales points = record { arm1 = points.arm1; arm2 = points.arm2; rotation = points.rotation }
-
 pub record AreRobotScales (points : RobotScales) : Type 0 where
   pub arm1 : IsAxisScale arm_end points.arm1
   pub arm2 : IsAxisScale arm_end points.arm2
@@ -231,7 +226,7 @@ record ReadsNear (points : RobotScales) (r : RobotPlant) (rd : RobotReading) : T
   rotation : IsNear rd.rotation r.rotation.position points.rotation.tol
 
 module _ (points : RobotScales) (axes : AreRobotScales points) where
-  reads_near : (z : ModelState) (p : RobotProgress) (r : RobotPlant) (s : RobotSense) (rd : RobotReading) → RobotShows (part_scales points) r s → Senses points (near_lines points) s (Ok rd) → RobotInv z p r → ReadsNear points r rd
+  reads_near : (z : ModelState) (p : RobotProgress) (r : RobotPlant) (s : RobotSense) (rd : RobotReading) → RobotShows points r s → Senses points (near_lines points) s (Ok rd) → RobotInv z p r → ReadsNear points r rd
   reads_near z p r s rd shows senses i = record {
     arm1 = reading_near arm_end points.arm1 r.arm1.position s.arm1 rd.arm1 axes.arm1 i.within.0 shows.arm1 senses.arm1.1.0;
     arm2 = reading_near arm_end points.arm2 r.arm2.position s.arm2 rd.arm2 axes.arm2 i.within.1 shows.arm2 senses.arm2.1.0;
@@ -268,7 +263,7 @@ module _ (points : RobotScales) (axes : AreRobotScales points) where
         turning = told_turns points p rd act acts p.step acts.rotation;
       }
 
-  pub robot-keeping : Keeping (robot_steps points (near_lines points)) (robot_rig (part_scales points)) RobotInv RobotInv
+  pub robot-keeping : Keeping (robot_steps points (near_lines points)) (robot_rig points) RobotInv RobotInv
   robot-keeping = record {
     foreign = λ z p b n c apart sound i. assumption ((robot-knowing points (near_lines points)).foreign p z n c apart sound i.knows);
     rests = λ z p b i. at_rest z p p b i i.knows refl (there, there, there);
@@ -367,7 +362,7 @@ second_goes GripForged p r act was is arm at go = let off = go.1 in cc
 second_goes DropOnDeposit p r act was is arm at go = (at.0, arm.0)
 second_goes s p r act was is arm at go = absurd (still_on act.magnet2 r.magnet2 (is ∙ sym was) go)
 
-module _ (points : RobotScales) (axes : AreRobotScales points) (z : ModelState) (p : RobotProgress) (r : RobotPlant) (i : RobotInv z p r) (s : RobotSense) (shows : RobotShows (part_scales points) r s) where
+module _ (points : RobotScales) (axes : AreRobotScales points) (z : ModelState) (p : RobotProgress) (r : RobotPlant) (i : RobotInv z p r) (s : RobotSense) (shows : RobotShows points r s) where
   acts_within : (rd : RobotReading) (act : RobotAct) → Senses points (near_lines points) s (Ok rd) → Acts points p rd act → ¬ DrivesOut (set_robot r act)
   acts_within rd act senses acts (inl past) = driven_within arm_end points.arm1 r.arm1 (arm1_stop p.step) rd.arm1 act.arm1 axes.arm1 (reads_near points axes z p r s rd shows senses i).arm1 (arm1_stops p.step) acts.arm1 past
   acts_within rd act senses acts (inr (inl past)) = driven_within arm_end points.arm2 r.arm2 (arm2_stop p.step) rd.arm2 act.arm2 axes.arm2 (reads_near points axes z p r s rd shows senses i).arm2 (arm2_stops p.step) acts.arm2 past

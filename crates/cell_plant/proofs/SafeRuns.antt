@@ -1,6 +1,6 @@
 -- Every state of a run is safe: together the machines' invariants meet all demands, so nothing collides.
 use Rattle.cell_plant.proofs.Names.{◌≡◌, Bool, true, false, inl, inr, Option, Some, None, List, [], ◌∷◌, refl, sym, ap, ◌∙◌, subst, Machine, Feed, Table, Robot, Press, Deposit, Crane, Watch, Event, PlaceSet, ModelState, RunsClear, IsStartState, start_state, IsReading, CraneSense, RobotSense, Rig, Steps, Turned, CraneAct, RobotAct, crane_steps, CraneProgress, CraneReading, RobotScales, near_lines, robot_rest, robot_steps}
-use Rattle.cell_plant.proofs.Names.{RobotProgress, RobotReading, press_steps, table_steps, TurnCall, Turn, noting, act_or_rest, table_rig, robot_rig, press_rig, crane_rig, AreCellScales, LetsGo, Arm1MayLetGo, Arm2MayLetGo, CraneMayLetGo, PlateFalls, DrivesPastEnd, StaysWithin, set_robot, set_crane, PositionDemands, GripperErrand, MotorDemands, AllDemandsMet, nothing_collides, sound_start, robot_points, robot_axes, CellState, plant_of}
+use Rattle.cell_plant.proofs.Names.{RobotProgress, RobotReading, press_steps, table_steps, TurnCall, Turn, noting, act_or_rest, table_rig, robot_rig, press_rig, crane_rig, AreCellScales, LetsGo, Arm1MayLetGo, Arm2MayLetGo, CraneMayLetGo, PlateFalls, DrivesPastEnd, StaysWithin, set_robot, set_crane, PositionDemands, GripperErrand, MotorDemands, AllDemandsMet, nothing_collides, sound_start, robot_points, CellState, plant_of}
 use Rattle.cell_plant.proofs.Names.{cell_at_start, Step, TakesTurn, goes_on, IsRun, errand_of, IsSafeState, IsSafelySet, IsSafeRun, EveryRunIsSafe}
 use Rattle.cell_notes.specs.Names.{done_in}
 use Rattle.cell_unit.specs.Sides.{Side, side_set}
@@ -99,7 +99,7 @@ module _ (c : CellScales) (scales : AreCellScales c) where
   robot_program = robot_steps points (near_lines points)
 
   robot_set : (busy : Bool) (w : CellState) (s : Step) → (k : TakesTurn c Robot busy w s) → (s.set.side Robot).part ≡ set_robot (w.side Robot).part (act_or_rest (robot_rest (w.side Robot).progress) k.takes.turned.result)
-  robot_set busy w s k = set_unnoted robot_program (robot_rig (robot_axes c)) (λ b x. refl) (w.side Robot) s.asked k.takes.turned (s.set.side Robot) k.takes.is
+  robot_set busy w s k = set_unnoted robot_program (robot_rig (robot_points c)) (λ b x. refl) (w.side Robot) s.asked k.takes.turned (s.set.side Robot) k.takes.is
 
   robot_lets_go : (m : Machine) (busy : Bool) (w : CellState) (s : Step) → Kept w → TakesTurn c m busy w s
       → (LetsGo (w.side Robot).part.magnet1 (s.set.side Robot).part.magnet1 → Arm1MayLetGo (s.set.side Robot).part) × (LetsGo (w.side Robot).part.magnet2 (s.set.side Robot).part.magnet2 → Arm2MayLetGo (s.set.side Robot).part)

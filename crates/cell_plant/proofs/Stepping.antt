@@ -6,7 +6,7 @@ use Rattle.cell_plant.specs.declared.simulation.Simulation.TheInside.{Inside}
 use Rattle.cell_sensors.specs.declared.gauge.Gauge.{Ghosts}
 use Rattle.cell_sensors.specs.Scale.{Scale}
 use Rattle.cell_parts.specs.Names.{CellScales}
-use Rattle.cell_parts.specs.Axes.{RobotScales as PartScales}
+use Rattle.cell_sensors.specs.Names.{RobotScales}
 use Rattle.cell_unit.specs.Names.{IsReady}
 use Rattle.cell_unit.specs.UnitTurns.{Leads as LeadsAlone}
 use Rattle.cell_plant.proofs.lemmas.KeptRuns.{own_program_by}
@@ -194,7 +194,7 @@ with_turn c s = record c { turn = s }
 abbrev pub with_gripper : CellScales → Scale → CellScales
 with_gripper c s = record c { gripper = s }
 
-abbrev pub with_robot : CellScales → PartScales → CellScales
+abbrev pub with_robot : CellScales → RobotScales → CellScales
 with_robot c s = record c { arm1 = s.arm1; arm2 = s.arm2; rotation = s.rotation }
 
 -- a simulation before its first turn

@@ -1,12 +1,13 @@
 -- The cell and its machines.
 use Rattle.std.specs.Prelude.{◌≡◌, List}
 use Rattle.cell_sensors.specs.declared.gauge.Gauge.{Ghosts}
+use Rattle.cell_sensors.specs.Names.{RobotScales}
 use Rattle.cell_rules.specs.Names.{ModelState, IsLegal, after}
 use Rattle.cell_notes.specs.declared.run_record.RunRecord.{RunRecord}
 use Rattle.cell_notes.specs.declared.schedule.Turn.{Turn}
 use Rattle.cell_unit.specs.Sides.{Side, side_of}
 use Rattle.cell_parts.specs.Axes.{CellScales}
-use Rattle.cell_robot.specs.Names.{RobotScales, robot_scales}
+use Rattle.cell_robot.specs.Names.{robot_scales}
 use Rattle.cell_robot.specs.declared.robot.RobotProgram.{RobotProgram}
 use Rattle.cell_plant.specs.declared.cell.Cell.{Cell}
 use Rattle.cell_plant.specs.declared.watch.WatchProgress.{WatchProgress}

@@ -20,20 +20,20 @@ use Rattle.cell_belts_crane.specs.declared.crane.CraneProgress.{CraneProgress}
 use Rattle.cell_belts_crane.specs.declared.crane.CraneReading.{CraneReading}
 use Rattle.cell_belts_crane.specs.declared.deposit.DepositProgress.{DepositProgress}
 use Rattle.cell_belts_crane.specs.declared.feed.FeedProgress.{FeedProgress}
-use Rattle.cell_robot.specs.Names.{RobotGauges, RobotScales, gauges_of, robot_scales, robot_steps}
+use Rattle.cell_robot.specs.Names.{RobotGauges, gauges_of, robot_steps}
 use Rattle.cell_robot.specs.declared.robot.RobotProgress.{RobotProgress}
 use Rattle.cell_robot.specs.declared.robot.RobotReading.{RobotReading}
 use Rattle.cell_table_press.specs.Names.{press_steps, table_steps}
 use Rattle.cell_table_press.specs.declared.press.PressProgress.{PressProgress}
 use Rattle.cell_table_press.specs.declared.table.TableProgress.{TableProgress}
 use Rattle.cell_table_press.specs.declared.table.TableReading.{TableReading}
-use Rattle.cell_parts.specs.Names.{CellScales, feed_rig, table_rig, robot_rig, press_rig, deposit_rig, crane_rig}
+use Rattle.cell_parts.specs.Names.{CellScales, robot_points, feed_rig, table_rig, robot_rig, press_rig, deposit_rig}
+use Rattle.cell_parts.specs.Names.{crane_rig}
 use Rattle.cell_parts.specs.declared.axis.Axis.{Axis}
 use Rattle.cell_parts.specs.declared.belt.Belt.{Belt}
 use Rattle.cell_parts.specs.declared.plant.TablePlant.{TablePlant}
 use Rattle.cell_parts.specs.declared.plant.RobotPlant.{RobotPlant}
 use Rattle.cell_parts.specs.declared.plant.CranePlant.{CranePlant}
-use Rattle.cell_parts.specs.Axes.{RobotScales as PartScales}
 use Rattle.cell_plant.specs.declared.watch.WatchProgress.{WatchProgress}
 use Rattle.cell_plant.specs.Watch.{watch_steps, watch_rig}
 
@@ -85,13 +85,6 @@ PartOf Press = Axis
 PartOf Deposit = Belt
 PartOf Crane = CranePlant
 PartOf Watch = Unit {0}
-
--- the robot's scales, as its program and as its part names them
-abbrev pub robot_points : CellScales → RobotScales
-robot_points c = robot_scales c.arm1 c.arm2 c.rotation
-
-abbrev pub robot_axes : CellScales → PartScales
-robot_axes c = record { arm1 = c.arm1; arm2 = c.arm2; rotation = c.rotation }
 
 -- what the gauges of the five potentiometers may give at a raw value
 pub record CellGauges : Type 1 where
@@ -147,7 +140,7 @@ steps_of c m = steps_by c (any_near c) m
 abbrev pub rig_of : CellScales → (m : Machine) → Rig (PartOf m) (SenseOf m) (ActOf m)
 rig_of c Feed = feed_rig
 rig_of c Table = table_rig c.turn
-rig_of c Robot = robot_rig (robot_axes c)
+rig_of c Robot = robot_rig (robot_points c)
 rig_of c Press = press_rig
 rig_of c Deposit = deposit_rig
 rig_of c Crane = crane_rig c.gripper

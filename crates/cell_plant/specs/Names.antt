@@ -7,7 +7,7 @@ pub use Rattle.cell_plant.specs.FrameExamples.{has_claimed, starts}
 pub use Rattle.cell_plant.specs.Frames.{IsShown, SeesBeginning, SeesRun, frame_of, frames_after, frames_of}
 pub use Rattle.cell_plant.specs.GaugeLaws.{GiveOne, GivesOne, HadMemory, SayTheSame}
 pub use Rattle.cell_plant.specs.Machines.{ActOf, CellGauges, PartOf, ProgressOf, SenseOf, any_near, on_curves, rig_of}
-pub use Rattle.cell_plant.specs.Machines.{robot_axes, robot_gauges, robot_points, steps_by, steps_of}
+pub use Rattle.cell_plant.specs.Machines.{robot_gauges, steps_by, steps_of}
 pub use Rattle.cell_plant.specs.Moments.{IsRecordSoFar, RunMoment, StepsOn, first_moment, state_at}
 pub use Rattle.cell_plant.specs.RecordExamples.{IsOfLiteralRun, IsOfOneStop, counts_of}
 pub use Rattle.cell_plant.specs.Records.{IsRecordOf, NoneRefused, counts_in, events_in, is_told, is_turn_of}

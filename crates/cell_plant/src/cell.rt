@@ -7,10 +7,10 @@ ghost use Rattle.cell_plant.specs.CellStates.{sides_at_start};
 
 use cell_belts_crane::{CraneProgram, DepositProgram, FeedProgram};
 use cell_control::Controller;
-use cell_parts::{CranePart, DepositPart, FeedPart, PressPart, RobotPart, RobotPoints, TablePart};
+use cell_parts::{CranePart, DepositPart, FeedPart, PressPart, RobotPart, TablePart};
 use cell_robot::RobotProgram;
 use cell_rules::State;
-use cell_sensors::{Calibration, Gauge};
+use cell_sensors::{Calibration, Gauge, RobotPoints};
 use cell_table_press::{PressProgram, TableProgram};
 use cell_unit::MachineUnit;
 

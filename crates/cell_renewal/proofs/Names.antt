@@ -13,8 +13,8 @@ pub use Rattle.cell_interlock.specs.Seen.{HasSeenMore, IsSamePass}
 pub use Rattle.cell_interlock.specs.Views.{InterlockView, PassView}
 pub use Rattle.cell_notes.specs.declared.status.Status.{Status}
 pub use Rattle.cell_notes.specs.declared.status.Status.TheVariants.{Fine, GateLimit, Memory, Refused, Sensor, Worn}
-pub use Rattle.cell_parts.specs.Axes.{CellScales}
-pub use Rattle.cell_plant.specs.Machines.{CellGauges, ProgressOf, robot_gauges, robot_points, steps_by, steps_of}
+pub use Rattle.cell_parts.specs.Axes.{CellScales, robot_points}
+pub use Rattle.cell_plant.specs.Machines.{CellGauges, ProgressOf, robot_gauges, steps_by, steps_of}
 pub use Rattle.cell_renewal.specs.Going.{GoingLeft, GoingOn}
 pub use Rattle.cell_renewal.specs.RenewedRecords.{AllRun, GoingSix, MakesAtMost, NoneIsRefusedThrough, NoneIsWornThrough, Runs, SixLeft, by_crane, by_robot, by_table, going_gives, going_on}
 pub use Rattle.cell_renewal.specs.Renewing.{AreAllFine, EndsRound, IsTurnedOver, Leaves, MayAllGoOn, MayGoOn, OpensAfter, RoundMoment, TakesRound}

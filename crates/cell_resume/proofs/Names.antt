@@ -1,5 +1,5 @@
 -- The names of other crates, and of this one's definitions, that the proofs here use.
-pub use Rattle.cell_sensors.specs.Names.{IsReading, Scale}
+pub use Rattle.cell_sensors.specs.Names.{IsReading, Scale, RobotScales}
 pub use Rattle.cell_control.proofs.lemmas.Facts.{seen_held, seen_in}
 pub use Rattle.cell_control.specs.Names.{IsReached, Steps}
 pub use Rattle.cell_belts_crane.specs.Names.{crane_start, crane_steps, deposit_steps, feed_steps, first_step}
@@ -18,7 +18,7 @@ pub use Rattle.cell_resume.specs.declared.checkpoint.Checkpoint.{Checkpoint}
 pub use Rattle.cell_resume.specs.declared.fault.ResumeFault.{ResumeFault}
 pub use Rattle.cell_resume.specs.declared.fault.ResumeFault.TheVariants.{NoState, NoStep, NotInStep}
 pub use Rattle.cell_resume.specs.declared.team.Team.{Team}
-pub use Rattle.cell_robot.specs.Names.{RobotGauges, RobotScales, after_done, choice, is_done, near_lines, notes_at, robot_start, robot_steps, row_at, step_after_inquiry}
+pub use Rattle.cell_robot.specs.Names.{RobotGauges, after_done, choice, is_done, near_lines, notes_at, robot_start, robot_steps, row_at, step_after_inquiry}
 pub use Rattle.cell_robot.specs.declared.robot.RobotNotes.{RobotNotes}
 pub use Rattle.cell_robot.specs.declared.robot.RobotProgress.{RobotProgress}
 pub use Rattle.cell_robot.specs.declared.robot.RobotStep.{RobotStep}

@@ -1,11 +1,11 @@
 -- Machines that are in step stay so, and none of them is refused.
 use Rattle.cell_resume.proofs.Names.{List, Feed, Table, Robot, Press, Deposit, Crane, Watch, Event, IsReading, ModelState, IsSound, after, IsLegal, own_events, crane_steps, deposit_steps, feed_steps, near_lines, robot_steps, press_steps, table_steps, OwnYieldless, AreYieldless, own_yieldless, yieldless, reached_both, Team, AreInStep}
 use Rattle.cell_rules.proofs.lemmas.Histories.{sound-after}
-use Rattle.cell_parts.specs.Axes.{CellScales}
+use Rattle.cell_parts.specs.Axes.{CellScales, robot_points}
 use Rattle.cell_belts_crane.proofs.lemmas.CraneFacts.{CraneKnows, crane-knowing}
 use Rattle.cell_robot.proofs.lemmas.RobotFacts.{RobotKnows, robot-knowing}
 use Rattle.cell_team.specs.Team as programs
-use Rattle.cell_team.specs.Names.{robot_points, programs_of, program_with_stops, HaveComeFrom, first_team}
+use Rattle.cell_team.specs.Names.{programs_of, program_with_stops, HaveComeFrom, first_team}
 use Rattle.cell_team.proofs.lemmas.CraneTeam as crane
 use Rattle.cell_team.proofs.lemmas.DepositTeam as deposit
 use Rattle.cell_team.proofs.lemmas.FeedTeam as feed

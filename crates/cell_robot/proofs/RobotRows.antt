@@ -15,7 +15,8 @@ use Rattle.cell_rules.specs.ModelState.{ModelState}
 use Rattle.cell_control.specs.declared.row.Row.{Row}
 use Rattle.cell_control.specs.Names.{waits_on, DriveRow, is_inquiry, row_that_drives}
 use Rattle.cell_control.proofs.lemmas.WaitLemmas.{stays_never, stays_until_free_and_open}
-use Rattle.cell_robot.specs.Names.{RobotScales, row_at, row_of, step_after_inquiry, arm1_stop, arm2_stop, turns_to, Acts, after_done}
+use Rattle.cell_sensors.specs.Names.{RobotScales}
+use Rattle.cell_robot.specs.Names.{row_at, row_of, step_after_inquiry, arm1_stop, arm2_stop, turns_to, Acts, after_done}
 use Rattle.cell_robot.specs.declared.robot.RobotStep.{RobotStep}
 use Rattle.cell_robot.specs.declared.robot.RobotStep.TheVariants.{AwaitPlate, ReachTable, ReleaseTable, InspectPress, ReleasePress, ReachToLoad, AwaitForged, ReachToUnload, ReleaseUnloaded}
 use Rattle.cell_robot.specs.declared.robot.RobotNotes.{RobotNotes}

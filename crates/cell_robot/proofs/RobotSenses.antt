@@ -1,9 +1,9 @@
 -- A gauge's value is near its line, so a turn is also one of the program that knows only that.
 use Rattle.std.proofs.Common.{ℕ, ℤ, Result, Ok, Err}
-use Rattle.cell_sensors.specs.Names.{Scale, IsReading}
+use Rattle.cell_sensors.specs.Names.{Scale, IsReading, RobotScales}
 use Rattle.cell_sensors.specs.declared.sense.RobotSense.{RobotSense}
 use Rattle.cell_sensors.specs.declared.sense.SensorFault.{SensorFault}
-use Rattle.cell_robot.specs.Names.{RobotScales, RobotGauges, near_lines, Senses}
+use Rattle.cell_robot.specs.Names.{RobotGauges, near_lines, Senses}
 use Rattle.cell_robot.specs.declared.robot.RobotReading.{RobotReading}
 use Rattle.cell_robot.specs.RobotProgram.{ReadsAs}
 

@@ -2,7 +2,7 @@
 use Rattle.std.specs.Prelude.{◌≡◌, ◌≢◌, ℕ, pos, Bool, true, false, List, [], ◌∷◌, Option, Some, Ok, Err}
 use Rattle.cell_rules.specs.Types.{Machine, Robot, Zone, Z2, Z3, Z4, Posture, OpenIn, OpenOut, Call, Claim, Give}
 use Rattle.cell_rules.specs.Types.{Take, Release, Event}
-use Rattle.cell_sensors.specs.Names.{Scale}
+use Rattle.cell_sensors.specs.Names.{Scale, RobotScales}
 use Rattle.cell_sensors.specs.declared.sense.RobotSense.{RobotSense}
 use Rattle.cell_sensors.specs.declared.sense.SensorFault.TheVariants.{Low, High, Clash}
 use Rattle.cell_devices.specs.declared.motor.Motor.{Motor}
@@ -23,7 +23,7 @@ use Rattle.cell_robot.specs.declared.robot.RobotNotes.{RobotNotes}
 use Rattle.cell_robot.specs.declared.robot.RobotMagnets.{RobotMagnets}
 use Rattle.cell_robot.specs.declared.robot.RobotProgress.{RobotProgress}
 use Rattle.cell_robot.specs.declared.robot.RobotReading.{RobotReading}
-use Rattle.cell_robot.specs.RobotProgram.{RobotScales, robot_steps, robot_scales, gauges_of, near_lines}
+use Rattle.cell_robot.specs.RobotProgram.{robot_steps, robot_scales, gauges_of, near_lines}
 
 -- a step with its notes (a plate on the first arm, on the second arm, in the press) and the magnets of both arms
 abbrev pub noted : Bool → Bool → Bool → RobotNotes

@@ -3,7 +3,7 @@ use Rattle.std.specs.Prelude.{◌≡◌, ◌≢◌, ℕ, ◌<◌, ◌≤◌, ◌
 use Rattle.std.specs.Prelude.{IsTrue, if◌then◌else◌, List, Option, Some, None, Result, Ok, Err}
 use Rattle.cell_rules.specs.Types.{Machine, Robot, Zone, Z2, Z3, Z4, Arm1, PressIn, PressOut, Arm2, Posture, OpenIn}
 use Rattle.cell_rules.specs.Types.{OpenOut, Call, Claim, Give, Take, Release, Inquire, Event}
-use Rattle.cell_sensors.specs.Names.{Scale, IsReading}
+use Rattle.cell_sensors.specs.Names.{Scale, IsReading, RobotScales}
 use Rattle.cell_sensors.specs.declared.sense.RobotSense.{RobotSense}
 use Rattle.cell_sensors.specs.declared.sense.SensorFault.{SensorFault}
 use Rattle.cell_sensors.specs.declared.sense.SensorFault.TheVariants.{Low, High, Clash}
@@ -146,17 +146,13 @@ abbrev pub ReadsAs : Scale → (ℕ → ℤ → Type 0) → ℕ → Result ℤ S
 ReadsAs points gives raw (Ok read) = IsRaw points raw × (IsReading points raw read × gives raw read)
 ReadsAs points gives raw (Err fault) = Fails points raw fault
 
--- the points of the calibrations of both arms and the rotation, and what their gauges may give at a raw value
-pub record RobotScales : Type 0 where
-  pub arm1 : Scale
-  pub arm2 : Scale
-  pub rotation : Scale
-
+-- what the gauges of both arms and of the rotation may give at a raw value
 pub record RobotGauges : Type 1 where
   pub arm1 : ℕ → ℤ → Type 0
   pub arm2 : ℕ → ℤ → Type 0
   pub rotation : ℕ → ℤ → Type 0
 
+-- the points of their calibrations
 abbrev pub robot_scales : Scale → Scale → Scale → RobotScales
 robot_scales first second turn = record { arm1 = first; arm2 = second; rotation = turn }
 

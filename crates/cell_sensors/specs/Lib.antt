@@ -6,5 +6,6 @@ pub mod Examples
 pub mod Faults
 pub mod Line
 pub mod Scale
+pub mod Potentiometers
 pub mod Sensors
 pub mod Names

@@ -5,4 +5,5 @@ pub use Rattle.cell_sensors.specs.CurveTests.{is_curve, is_rising}
 pub use Rattle.cell_sensors.specs.Line.{IsLineAbove, IsLineAtLeast, IsLineAtMost, IsLineBelow, IsLineNear}
 pub use Rattle.cell_sensors.specs.Line.{IsLineRoundedDown, IsNear, IsRawAt, IsReading, IsWithinTolerance, height_of}
 pub use Rattle.cell_sensors.specs.Line.{line_height, raw_width}
+pub use Rattle.cell_sensors.specs.Potentiometers.{RobotScales}
 pub use Rattle.cell_sensors.specs.Scale.{IsScale, Scale}

@@ -8,6 +8,7 @@ pub mod gauge;
 pub mod laws;
 pub mod line;
 pub mod points;
+pub mod potentiometers;
 pub mod sense;
 
 pub use calibration::{Calibration, curve_reading, line_reading};
@@ -15,6 +16,7 @@ pub use curve::{Curve, CurveFault, MAX_PAIRS};
 pub use gauge::Gauge;
 pub use line::position_on_line;
 pub use points::{Points, PointsFault};
+pub use potentiometers::{ByPotentiometer, RobotPoints};
 pub use sense::{
     CraneSense, DepositSense, FeedSense, PressSense, RobotSense, SensorFault, SensorVector,
     TableSense, switches_agree,

@@ -12,7 +12,7 @@ pub use Rattle.cell_belts_crane.specs.declared.deposit.DepositProgress.{DepositP
 pub use Rattle.cell_belts_crane.specs.declared.deposit.DepositStep.{DepositStep}
 pub use Rattle.cell_belts_crane.specs.declared.feed.FeedProgress.{FeedProgress}
 pub use Rattle.cell_belts_crane.specs.declared.feed.FeedStep.{FeedStep}
-pub use Rattle.cell_parts.specs.Axes.{CellScales}
+pub use Rattle.cell_parts.specs.Axes.{CellScales, robot_points}
 pub use Rattle.cell_robot.specs.RobotProgram.{near_lines, notes_at, robot_steps}
 pub use Rattle.cell_robot.specs.declared.robot.RobotProgress.{RobotProgress}
 pub use Rattle.cell_robot.specs.declared.robot.RobotStep.{RobotStep}
@@ -33,7 +33,7 @@ pub use Rattle.cell_table_press.specs.declared.press.PressStep.{PressStep}
 pub use Rattle.cell_table_press.specs.declared.table.TableProgress.{TableProgress}
 pub use Rattle.cell_table_press.specs.declared.table.TableStep.{TableStep}
 pub use Rattle.cell_team.specs.Heeded.{NoMachineIsRefused, NoMachineIsStopped, NoneIsRefused}
-pub use Rattle.cell_team.specs.Names.{AreHeeded, AreUnstopped, DrivesOn, HasCome, HaveCome, HaveComeFrom, IsHeeded, IsStoppedBy, LeadsOrStays, Programs, StandAfter, Team, first_team, is_worn, program_with_stops, programs_of, robot_points, scales}
+pub use Rattle.cell_team.specs.Names.{AreHeeded, AreUnstopped, DrivesOn, HasCome, HaveCome, HaveComeFrom, IsHeeded, IsStoppedBy, LeadsOrStays, Programs, StandAfter, Team, first_team, is_worn, program_with_stops, programs_of, scales}
 pub use Rattle.std.proofs.Common.{Bool, Err, List, None, Ok, Option, Result, Some, [], ap, append_assoc, arith, cond, false, if◌then◌else◌, inl, inr, is_none, not, pos, refl, subst, suc, sym, true, unwrap_or, zero, ℕ, ℤ, ◌&&◌, ◌++◌, ◌+◌, ◌-ℤ◌, ◌||◌, ◌∙◌, ◌∷◌, ◌≡◌, ◌≢◌, ◌≤ℤ◌, ◌≤◌}
 pub use Rattle.std.specs.Bool.{then_some}
 pub use Rattle.std.specs.Prelude.{⊤}

@@ -21,14 +21,14 @@ use Rattle.cell_belts_crane.specs.declared.crane.CraneProgress.{CraneProgress}
 use Rattle.cell_belts_crane.specs.declared.crane.CraneReading.{CraneReading}
 use Rattle.cell_belts_crane.specs.declared.deposit.DepositProgress.{DepositProgress}
 use Rattle.cell_belts_crane.specs.declared.feed.FeedProgress.{FeedProgress}
-use Rattle.cell_robot.specs.Names.{RobotScales, robot_scales, near_lines, robot_steps}
+use Rattle.cell_robot.specs.Names.{near_lines, robot_steps}
 use Rattle.cell_robot.specs.declared.robot.RobotProgress.{RobotProgress}
 use Rattle.cell_robot.specs.declared.robot.RobotReading.{RobotReading}
 use Rattle.cell_table_press.specs.Names.{press_steps, table_steps}
 use Rattle.cell_table_press.specs.declared.press.PressProgress.{PressProgress}
 use Rattle.cell_table_press.specs.declared.table.TableProgress.{TableProgress}
 use Rattle.cell_table_press.specs.declared.table.TableReading.{TableReading}
-use Rattle.cell_parts.specs.Axes.{CellScales}
+use Rattle.cell_parts.specs.Axes.{CellScales, robot_points}
 
 -- the step of each machine, with its notes
 pub record Team : Type 0 where
@@ -47,9 +47,6 @@ pub record Programs : Type 1 where
   pub press : Steps PressProgress PressSense PressSense PressAct
   pub deposit : Steps DepositProgress DepositSense DepositSense DepositAct
   pub crane : Steps CraneProgress CraneSense CraneReading CraneAct
-
-abbrev pub robot_points : CellScales → RobotScales
-robot_points c = robot_scales c.arm1 c.arm2 c.rotation
 
 abbrev pub programs_of : CellScales → Programs
 programs_of c =

@@ -11,8 +11,8 @@ pub use Rattle.cell_notes.specs.declared.counts.Counts.{Counts}
 pub use Rattle.cell_notes.specs.declared.run_record.RunRecord.{RunRecord}
 pub use Rattle.cell_notes.specs.declared.status.Status.{Status}
 pub use Rattle.cell_notes.specs.declared.status.Status.TheVariants.{Fine, GateLimit}
-pub use Rattle.cell_parts.specs.Names.{CellScales, PressShows, crane_end, crane_rig, moved_to, press_rig, robot_rig, table_rig}
-pub use Rattle.cell_plant.specs.Names.{CellGauges, NoneRefused, PartOf, SideOf, Sides, any_near, cell_gauges, cell_scales, points_of, positions_in, rig_of, robot_axes, robot_gauges, robot_points, side_in, sides_at_start, sides_of, steps_by, steps_of}
+pub use Rattle.cell_parts.specs.Names.{CellScales, PressShows, crane_end, crane_rig, moved_to, press_rig, robot_rig, table_rig, robot_points}
+pub use Rattle.cell_plant.specs.Names.{CellGauges, NoneRefused, PartOf, SideOf, Sides, any_near, cell_gauges, cell_scales, points_of, positions_in, rig_of, robot_gauges, side_in, sides_at_start, sides_of, steps_by, steps_of}
 pub use Rattle.cell_robot.specs.RobotProgram.{gauges_of, robot_start, robot_steps}
 pub use Rattle.cell_rules.specs.Names.{BeginsWith, EndsIn, IsAudited, IsLegal, IsStartState, Lawful, LawfulThroughout, ModelState, Waits, after, empty, event_by, noted, own_events, reply, start_state}
 pub use Rattle.cell_rules.specs.Types.{Busy, Call, Claim, Crane, Deposit, Done, Entry, Event, Feed, Journals, Machine, NotOwner, Press, Refused, Release, Reply, Robot, Settled, Table, Watch, Z3, all_machines, journal_of, same_machine}

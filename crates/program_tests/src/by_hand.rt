@@ -2,7 +2,6 @@
 //! closures from here.
 
 ghost use Rattle.cell_config.specs.Configured.{AreAxisScales};
-ghost use Rattle.cell_configured.specs.Gauges.{scales_by_points};
 ghost use Rattle.cell_parts.specs.Axes.{AreCellScales};
 ghost use Rattle.cell_rules.specs.Start.{IsStartState};
 
@@ -10,11 +9,10 @@ use super::reports::{EMPTY, SIX_WORKERS};
 use super::simulations::REPORTS;
 use super::six_machines::{RUNS, config_of};
 use cell_config::{Config, read_config};
-use cell_configured::CellPoints;
 use cell_notes::{RunRecord, Status};
 use cell_plant::{Cell, simulate};
 use cell_report::{audit, write_report};
-use cell_sensors::{Calibration, Gauge, position_on_line};
+use cell_sensors::{ByPotentiometer, Calibration, Gauge, Points, position_on_line};
 use cell_workers::{OpenGate, run_cell};
 use std::alloc::Global;
 use std::sync::Wait;
@@ -35,7 +33,7 @@ fn record_by<T, F1, F2, F3, F4, F5>(
     rt: &T,
     alloc: Global,
     gauges: (F1, F2, F3, F4, F5),
-    points: CellPoints,
+    points: ByPotentiometer<Points>,
     config: &Config,
     way: Way,
 ) -> Option<RunRecord>
@@ -52,7 +50,7 @@ where
     requires rotation { F3.keeps gauges.2 points.rotation }
     requires turn { F4.keeps gauges.3 points.turn }
     requires gripper { F5.keeps gauges.4 points.gripper }
-    requires scales { AreCellScales (scales_by_points points) }
+    requires scales { AreCellScales points }
 {
     let cell = Cell::new(
         &config.start,
@@ -86,7 +84,7 @@ fn record_of<T: Threads + Wait + Sync>(
         move |raw: u16| position_on_line(&turn, raw),
         move |raw: u16| position_on_line(&gripper, raw),
     );
-    let points = CellPoints {
+    let points = ByPotentiometer {
         arm1,
         arm2,
         rotation,

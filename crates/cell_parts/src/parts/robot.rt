@@ -8,7 +8,7 @@ use crate::potentiometer::MeasuredAxis;
 use cell_control::Part;
 use cell_devices::RobotAct;
 use cell_rules::State;
-use cell_sensors::{Points, RobotSense};
+use cell_sensors::{RobotPoints, RobotSense};
 use cell_types::{Event, Place};
 use std::marker::Model;
 
@@ -20,17 +20,6 @@ pub const ROTATION_END: i32 = 2000;
 
 /// The robot's rotation at the start.
 pub const ROTATION_START: i32 = 300;
-
-/// The points of the robot's potentiometers.
-#[derive(Clone, Copy)]
-pub struct RobotPoints {
-    /// Of the first arm's extension.
-    pub arm1: Points,
-    /// Of the second arm's extension.
-    pub arm2: Points,
-    /// Of the rotation.
-    pub rotation: Points,
-}
 
 /// The robot. Its arms go from 0 to 1000, its rotation from 0 to 2000, each with a potentiometer.
 /// Each arm has a magnet.
@@ -44,7 +33,8 @@ pub struct RobotPart {
 }
 
 impl Model for RobotPart {
-    ghost use Rattle.cell_parts.specs.Axes.{IsWithin, RobotScales, arm_end, rotation_end};
+    ghost use Rattle.cell_sensors.specs.Potentiometers.{RobotScales};
+    ghost use Rattle.cell_parts.specs.Axes.{IsWithin, arm_end, rotation_end};
     ghost use Rattle.cell_parts.specs.declared.plant.RobotPlant.{RobotPlant};
     ghost use Rattle.cell_parts.specs.Plant.{Scaled};
 
@@ -120,7 +110,7 @@ impl RobotPart {
 }
 
 impl Part for RobotPart {
-    ghost use Rattle.cell_parts.specs.Axes.{RobotScales};
+    ghost use Rattle.cell_sensors.specs.Potentiometers.{RobotScales};
     ghost use Rattle.cell_parts.specs.declared.plant.RobotPlant.{RobotPlant};
     ghost use Rattle.cell_parts.specs.Rigs.{robot_rig};
 

@@ -1,6 +1,6 @@
 -- A run by what gauges may give is one by what others may give that give as much. So it is a run by readings near the
 -- lines.
-use Rattle.cell_plant.proofs.Names.{ℕ, ℤ, Bool, true, false, List, [], ◌∷◌, Result, Ok, Err, Machine, Table, Robot, Crane, Scale, IsReading, CraneSense, RobotSense, SensorFault, Clash, TableSense, crane_steps, CraneReading, RobotGauges, RobotScales, robot_steps, RobotReading, table_steps, TableReading, TurnCall, RunRecord, Turn, acts_still, table_rig, robot_rig, crane_rig, TellsRun, CellGauges, any_near, robot_axes, robot_gauges}
+use Rattle.cell_plant.proofs.Names.{ℕ, ℤ, Bool, true, false, List, [], ◌∷◌, Result, Ok, Err, Machine, Table, Robot, Crane, Scale, IsReading, CraneSense, RobotSense, SensorFault, Clash, TableSense, crane_steps, CraneReading, RobotGauges, RobotScales, robot_steps, RobotReading, table_steps, TableReading, TurnCall, RunRecord, Turn, acts_still, table_rig, robot_rig, crane_rig, TellsRun, CellGauges, any_near, robot_gauges}
 use Rattle.cell_plant.proofs.Names.{robot_points, steps_by, rig_of, SideOf, CellState, cell_at_start, SeesRun, SeesBeginning, Step, TakesTurnBy, LeadsIfBy, goes_on, IsRun, IsRunBy, Frame, SeenFault, RunsAreByGauges}
 use Rattle.cell_belts_crane.specs.CraneProgram.{Senses as CraneSenses}
 use Rattle.cell_robot.specs.RobotProgram.{Senses as RobotSenses}
@@ -47,7 +47,7 @@ module _ (c : CellScales) (gives other : CellGauges) (f : GiveAsMuch c gives oth
   takes_as Table busy z y before set asked k =
       acts_still (table_steps c.turn gives.turn) (table_rig c.turn) (TableSenses c.turn other.turn) (table_as c.turn gives.turn other.turn f.turn) _ _ before set asked k
   takes_as Robot busy z y before set asked k =
-      acts_still (robot_steps (robot_points c) (robot_gauges gives)) (robot_rig (robot_axes c)) (RobotSenses (robot_points c) (robot_gauges other))
+      acts_still (robot_steps (robot_points c) (robot_gauges gives)) (robot_rig (robot_points c)) (RobotSenses (robot_points c) (robot_gauges other))
       (robot_as (robot_points c) (robot_gauges gives) (robot_gauges other) f.arm1 f.arm2 f.rotation) _ _ before set asked k
   takes_as Crane busy z y before set asked k =
       acts_still (crane_steps c.gripper gives.gripper) (crane_rig c.gripper) (CraneSenses c.gripper other.gripper) (crane_as c.gripper gives.gripper other.gripper f.gripper) _ _ before set asked k

@@ -1,11 +1,11 @@
 -- Machines that stand at steps of their programs, over one history: no refusal has stopped one.
-use Rattle.cell_plant.proofs.Names.{◌≡◌, false, List, Option, Some, refl, Machine, Feed, Table, Robot, Press, Deposit, Crane, Watch, Refusal, Event, same_machine, ModelState, IsStartState, IsLegal, CtlFault, CellScales, Team, programs_of, HaveCome, AreUnstopped, IsUnstopped, none-stopped, stands_still, Stands}
+use Rattle.cell_plant.proofs.Names.{◌≡◌, false, List, Option, Some, refl, Machine, Feed, Table, Robot, Press, Deposit, Crane, Watch, Refusal, Event, same_machine, ModelState, IsStartState, IsLegal, CtlFault, CellScales, Team, programs_of, HaveCome, AreUnstopped, IsUnstopped, none-stopped, stands_still, Stands, robot_points}
 use Rattle.cell_sensors.specs.Line.{IsReading}
 use Rattle.cell_control.specs.declared.fault.CtlFault.TheVariants as fault
 use Rattle.cell_belts_crane.specs.CraneProgram.{Senses as CraneSenses, crane_steps}
 use Rattle.cell_robot.specs.RobotProgram.{near_lines, Senses as RobotSenses, robot_steps}
 use Rattle.cell_table_press.specs.TableProgram.{Senses as TableSenses, table_steps}
-use Rattle.cell_plant.specs.Machines.{CellGauges, ProgressOf, robot_gauges, robot_points, steps_by, steps_of}
+use Rattle.cell_plant.specs.Machines.{CellGauges, ProgressOf, robot_gauges, steps_by, steps_of}
 
 module _ (c : CellScales) (o : ModelState) (h : List Event) (stopped : Machine → Option CtlFault) (progress : (m : Machine) → ProgressOf m) (start : IsStartState o) (legal : IsLegal o h)
     (stands : (m : Machine) → same_machine m Watch ≡ false → Stands (steps_of c m) o h (stopped m) (progress m)) where

@@ -10,7 +10,8 @@ use Rattle.cell_control.specs.declared.share.ZoneShare.{ZoneShare}
 use Rattle.cell_control.proofs.lemmas.SharedZones.{AreSure, AreFirm, are_sure_same, foreign_same}
 use Rattle.cell_devices.specs.declared.act.RobotAct.{RobotAct}
 use Rattle.cell_robot.specs.RobotKeeps.{zones_at}
-use Rattle.cell_robot.specs.Names.{RobotScales, RobotGauges, choice, row_at, row_of, step_after_inquiry, notes_at, after_done, is_done, arm1_zone, arm2_zone, robot_steps}
+use Rattle.cell_sensors.specs.Names.{RobotScales}
+use Rattle.cell_robot.specs.Names.{RobotGauges, choice, row_at, row_of, step_after_inquiry, notes_at, after_done, is_done, arm1_zone, arm2_zone, robot_steps}
 use Rattle.cell_robot.specs.declared.robot.RobotStep.{RobotStep}
 use Rattle.cell_robot.specs.declared.robot.RobotStep.TheVariants.{TurnToTable, AwaitPlate, ReachTable, LeaveTable, TakePlate, ReleaseTable, TurnToLoad, ClaimPress, InspectPress, ReleasePress, ReachToLoad, LeaveLoaded, GiveToPress, TurnToUnload, AwaitForged, ReachToUnload, LeaveUnloaded, TakeForged, ReleaseUnloaded, TurnToDeposit, ClaimDeposit, ReachDeposit, LeaveDeposit, GiveToDeposit}
 use Rattle.cell_robot.specs.declared.robot.RobotNotes.{RobotNotes}

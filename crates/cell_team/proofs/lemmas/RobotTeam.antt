@@ -1,7 +1,8 @@
 -- The robot is never refused.
 use Rattle.cell_team.proofs.Names.{◌≡◌, ◌+◌, ◌&&◌, Bool, true, false, not, if◌then◌else◌, [], ◌∷◌, Option, Some, None, refl, sym, ap, ◌∙◌, subst, arith, ⊤, ◌||◌, Machine, Robot, Deposit, Z2, Z3, Z4, Arm1, Arm2, PressIn, PressOut, DepEntry, Posture, Closed, Moving, OpenIn, OpenOut, Call, Give, Take, Release, Inquire, PlaceFull, Done, Shown, transfer_of, same_posture, has, ModelState, zone_at, is_full, one_if, IsSound, is_owned_by, is_open, is_received_by, owns, owner_of, posture_at}
 use Rattle.cell_team.proofs.Names.{given_by, reply, changed, emptied, filled, IsStartState, owned_as, take_owned, and_left, implied, full-foreign, Never, robot_steps, RobotStep, RobotProgress}
-use Rattle.cell_robot.specs.Names.{RobotScales, RobotGauges, row_at, row_of, step_after_inquiry, after_done, is_done, robot_start}
+use Rattle.cell_sensors.specs.Names.{RobotScales}
+use Rattle.cell_robot.specs.Names.{RobotGauges, row_at, row_of, step_after_inquiry, after_done, is_done, robot_start}
 use Rattle.cell_robot.specs.declared.robot.RobotStep.TheVariants.{TurnToTable, AwaitPlate, TakePlate, ReleaseTable, TurnToLoad, ClaimPress, InspectPress, ReleasePress, GiveToPress, TurnToUnload, AwaitForged, TakeForged, ReleaseUnloaded, TurnToDeposit, ClaimDeposit, GiveToDeposit}
 use Rattle.cell_control.specs.Keeping.{unposed}
 use Rattle.cell_control.specs.declared.share.Share.TheVariants.{Lent, Any}

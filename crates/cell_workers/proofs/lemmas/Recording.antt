@@ -1,6 +1,6 @@
 -- What the six workers of a cell gave back, stated for their machines by name; and the record of it.
 use Rattle.cell_workers.proofs.Names.{◌≡◌, ℕ, true, List, [], ◌∷◌, Option, Some, None, IfSome, Result, refl, sym, ap, subst, ◌∙◌, Machine, Feed, Table, Robot, Press, Deposit, Crane, Watch, Event, Entry, journal_of, SensorFault, noted, Waits, ModelState, after, IsAudited, LawfulThroughout, PassView, InterlockView, fresh_pass, Rig, Steps, IsReached, with_senses, crane_steps, robot_steps, table_steps, no_counts, Counts, RunRecord, Status, Fine, IsReady, CellScales, table_rig, robot_rig, crane_rig}
-use Rattle.cell_workers.proofs.Names.{CellGauges, PartOf, any_near, robot_axes, robot_gauges, robot_points, steps_by, rig_of, SideOf, side_in, sides_at_start, positions_in, Lines, passes, WorkerMoment, worker_moment, GateOf, TakesTurn, AreTaken, HasEnded, IsWorkerResult, AreCountsOf, SixResults, journal_in, outputs_in, seen_in, parts_in, MomentOf, first_moment, TellsAnyWork, TellsWork, has_worker}
+use Rattle.cell_workers.proofs.Names.{CellGauges, PartOf, any_near, robot_gauges, robot_points, steps_by, rig_of, SideOf, side_in, sides_at_start, positions_in, Lines, passes, WorkerMoment, worker_moment, GateOf, TakesTurn, AreTaken, HasEnded, IsWorkerResult, AreCountsOf, SixResults, journal_in, outputs_in, seen_in, parts_in, MomentOf, first_moment, TellsAnyWork, TellsWork, has_worker}
 use Rattle.cell_control.specs.declared.fault.CtlFault.{CtlFault}
 use Rattle.cell_control.proofs.lemmas.StepLemmas.{reached_first}
 use Rattle.cell_belts_crane.specs.CraneProgram.{Senses as CraneSenses}
@@ -41,7 +41,7 @@ module _ (c : CellScales) (gives other : CellGauges) (f : GiveAsMuch c gives oth
   taken_as tries gate Table before turns k =
       turns_still (passes tries) (table_steps c.turn gives.turn) (table_rig c.turn) gate (TableSenses c.turn other.turn) (table_as c.turn gives.turn other.turn f.turn) before turns k
   taken_as tries gate Robot before turns k =
-      turns_still (passes tries) (robot_steps (robot_points c) (robot_gauges gives)) (robot_rig (robot_axes c)) gate (RobotSenses (robot_points c) (robot_gauges other))
+      turns_still (passes tries) (robot_steps (robot_points c) (robot_gauges gives)) (robot_rig (robot_points c)) gate (RobotSenses (robot_points c) (robot_gauges other))
       (robot_as (robot_points c) (robot_gauges gives) (robot_gauges other) f.arm1 f.arm2 f.rotation) before turns k
   taken_as tries gate Press before turns k = k
   taken_as tries gate Deposit before turns k = k

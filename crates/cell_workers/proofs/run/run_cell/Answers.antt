@@ -1,4 +1,4 @@
-use Rattle.cell_workers.proofs.Names.{◌≡◌, ℕ, [], ◌∷◌, Some, ◌∙◌, refl, sym, ap, subst, Feed, Table, Robot, Press, Deposit, Crane, Journals, journal_of, ModelState, after, noted, LawfulThroughout, IsAudited, fresh_pass, feed_steps, deposit_steps, crane_steps, no_counts, Fine, gauges_of, robot_steps, press_steps, table_steps, table_rig, robot_rig, crane_rig, robot_gauges, robot_points, robot_axes, positions_in, cell_gauges, cell_scales, points_of, sides_of, Sides, sides_at_start, TellsWork}
+use Rattle.cell_workers.proofs.Names.{◌≡◌, ℕ, [], ◌∷◌, Some, ◌∙◌, refl, sym, ap, subst, Feed, Table, Robot, Press, Deposit, Crane, Journals, journal_of, ModelState, after, noted, LawfulThroughout, IsAudited, fresh_pass, feed_steps, deposit_steps, crane_steps, no_counts, Fine, gauges_of, robot_steps, press_steps, table_steps, table_rig, robot_rig, crane_rig, robot_gauges, robot_points, positions_in, cell_gauges, cell_scales, points_of, sides_of, Sides, sides_at_start, TellsWork}
 use Rattle.cell_workers.proofs.Names.{seen_in, CellOutputs, parts_in, worker_moment}
 use Rattle.cell_plant.specs.Watch.{watch_at_start}
 use Rattle.cell_workers.proofs.lemmas.Recording.{AreWorkerResults, fitted_result, is_result_of, ready_at_start, tells}
@@ -40,7 +40,7 @@ returns-in-Ok-clause-work g c =
     record {
       feed = is_result_of scales gives i turns gate Feed (fresh_pass i Feed) sides.feed results.feed.pass results.feed.journal.items results.feed.output.counts results.feed.output.status results.feed.output.part.belt refl (ap (λ (s : Sides). s.feed) begins) given.feed.1;
       table = is_result_of scales gives i turns gate Table (fresh_pass i Table) sides.table results.table.pass results.table.journal.items results.table.output.counts results.table.output.status results.table.output.part.plant refl (ap (λ (s : Sides). s.table) begins) (fitted_result i.tries (λ s. table_steps s gives.turn) (table_rig scales.turn) (gate Table) turns (worker_moment (fresh_pass i Table) sides.table no_counts) results.table.pass results.table.journal.items results.table.output.counts results.table.output.status results.table.output.part.plant turn.points scales.turn fits.turn given.table.1);
-      robot = is_result_of scales gives i turns gate Robot (fresh_pass i Robot) sides.robot results.robot.pass results.robot.journal.items results.robot.output.counts results.robot.output.status results.robot.output.part.plant refl (ap (λ (s : Sides). s.robot) begins) (fitted_result i.tries (λ s. robot_steps s (robot_gauges gives)) (robot_rig (robot_axes scales)) (gate Robot) turns (worker_moment (fresh_pass i Robot) sides.robot no_counts) results.robot.pass results.robot.journal.items results.robot.output.counts results.robot.output.status results.robot.output.part.plant (points_of robot) (robot_points scales) robot_fits given.robot.1);
+      robot = is_result_of scales gives i turns gate Robot (fresh_pass i Robot) sides.robot results.robot.pass results.robot.journal.items results.robot.output.counts results.robot.output.status results.robot.output.part.plant refl (ap (λ (s : Sides). s.robot) begins) (fitted_result i.tries (λ s. robot_steps s (robot_gauges gives)) (robot_rig (robot_points scales)) (gate Robot) turns (worker_moment (fresh_pass i Robot) sides.robot no_counts) results.robot.pass results.robot.journal.items results.robot.output.counts results.robot.output.status results.robot.output.part.plant (points_of robot) (robot_points scales) robot_fits given.robot.1);
       press = is_result_of scales gives i turns gate Press (fresh_pass i Press) sides.press results.press.pass results.press.journal.items results.press.output.counts results.press.output.status results.press.output.part refl (ap (λ (s : Sides). s.press) begins) given.press.1;
       deposit = is_result_of scales gives i turns gate Deposit (fresh_pass i Deposit) sides.deposit results.deposit.pass results.deposit.journal.items results.deposit.output.counts results.deposit.output.status results.deposit.output.part.belt refl (ap (λ (s : Sides). s.deposit) begins) given.deposit.1;
       crane = is_result_of scales gives i turns gate Crane (fresh_pass i Crane) sides.crane results.crane.pass results.crane.journal.items results.crane.output.counts results.crane.output.status results.crane.output.part.plant refl (ap (λ (s : Sides). s.crane) begins) (fitted_result i.tries (λ s. crane_steps s gives.gripper) (crane_rig scales.gripper) (gate Crane) turns (worker_moment (fresh_pass i Crane) sides.crane no_counts) results.crane.pass results.crane.journal.items results.crane.output.counts results.crane.output.status results.crane.output.part.plant gripper.points scales.gripper fits.gripper given.crane.1);
