@@ -17,7 +17,7 @@ pub use Rattle.cell_resume.specs.Teams.{AreInStep, Stood, stood}
 pub use Rattle.cell_resume.specs.declared.checkpoint.Checkpoint.{Checkpoint}
 pub use Rattle.cell_resume.specs.declared.fault.ResumeFault.{ResumeFault}
 pub use Rattle.cell_resume.specs.declared.fault.ResumeFault.TheVariants.{NoState, NoStep, NotInStep}
-pub use Rattle.cell_resume.specs.declared.team.Team.{Team}
+pub use Rattle.cell_team.specs.Names.{Team}
 pub use Rattle.cell_robot.specs.Names.{RobotGauges, after_done, choice, is_done, near_lines, notes_at, robot_start, robot_steps, row_at, step_after_inquiry}
 pub use Rattle.cell_robot.specs.declared.robot.RobotNotes.{RobotNotes}
 pub use Rattle.cell_robot.specs.declared.robot.RobotProgress.{RobotProgress}

@@ -4,7 +4,6 @@ use Rattle.cell_rules.proofs.lemmas.Histories.{sound-after}
 use Rattle.cell_parts.specs.Axes.{CellScales, robot_points}
 use Rattle.cell_belts_crane.proofs.lemmas.CraneFacts.{CraneKnows, crane-knowing}
 use Rattle.cell_robot.proofs.lemmas.RobotFacts.{RobotKnows, robot-knowing}
-use Rattle.cell_team.specs.Team as programs
 use Rattle.cell_team.specs.Names.{programs_of, program_with_stops, HaveComeFrom, first_team}
 use Rattle.cell_team.proofs.lemmas.CraneTeam as crane
 use Rattle.cell_team.proofs.lemmas.DepositTeam as deposit
@@ -13,7 +12,7 @@ use Rattle.cell_team.proofs.lemmas.PressTeam as press
 use Rattle.cell_team.proofs.lemmas.RobotTeam as robot
 use Rattle.cell_team.proofs.lemmas.TableTeam as table
 use Rattle.cell_team.proofs.lemmas.Together.{AllKnow, all_begin, all_know, all_heeded, sound_start}
-use Rattle.cell_resume.specs.Laws.{steps_of, NoResumedMachineIsRefused, ResumedMachinesStayInStep, MachinesAreInStep}
+use Rattle.cell_resume.specs.Laws.{NoResumedMachineIsRefused, ResumedMachinesStayInStep, MachinesAreInStep}
 use Rattle.cell_resume.proofs.CraneTeam.{MagnetSo, magnet_kept, magnet_begins, crane_knows, crane_magnets, crane_stands}
 use Rattle.cell_resume.proofs.DepositTeam.{deposit_knows, deposit_stands}
 use Rattle.cell_resume.proofs.FeedTeam.{feed_knows, feed_stands}
@@ -22,7 +21,7 @@ use Rattle.cell_resume.proofs.RobotTeam.{MagnetsSo, magnets_kept, magnets_begin,
 use Rattle.cell_resume.proofs.TableTeam.{table_knows, table_stands}
 
 -- what machines in step know
-all_in_step : (c : CellScales) (team : Team) (z : ModelState) → AreInStep team z → AllKnow (steps_of team) z
+all_in_step : (c : CellScales) (team : Team) (z : ModelState) → AreInStep team z → AllKnow team z
 all_in_step c team z i = record {
   feed = feed_knows team.feed z i.feed;
   table = table_knows c.turn (IsReading c.turn) team.table z i.table;
@@ -32,7 +31,7 @@ all_in_step c team z i = record {
   crane = crane_knows c.gripper (IsReading c.gripper) team.crane z i.crane;
 }
 
-module _ (c : CellScales) (opening : ModelState) (h : List Event) (first : programs.Team) (team : Team) (sound : IsSound opening) (legal : IsLegal opening h) (by : HaveComeFrom (programs_of c) first h (steps_of team)) where
+module _ (c : CellScales) (opening : ModelState) (h : List Event) (first : Team) (team : Team) (sound : IsSound opening) (legal : IsLegal opening h) (by : HaveComeFrom (programs_of c) first h team) where
   -- nobody hands over an empty zone
   own : OwnYieldless h
   own Feed e = own_yieldless (program_with_stops feed_steps) first.feed team.feed (own_events h Feed) (λ p. feed.never_yields p.step p) by.feed
@@ -49,7 +48,7 @@ module _ (c : CellScales) (opening : ModelState) (h : List Event) (first : progr
   stays : AllKnow first opening → MagnetsSo first.robot opening → MagnetSo first.crane opening → AreInStep team (after opening h)
   stays k arms gripper =
       let z = after opening h in
-      let known : AllKnow (steps_of team) z = all_know c opening h first (steps_of team) sound legal by k in
+      let known : AllKnow team z = all_know c opening h first team sound legal by k in
       let robot_now = reached_both (robot_steps (robot_points c) (near_lines (robot_points c))) RobotKnows MagnetsSo (robot-knowing (robot_points c) (near_lines (robot_points c))) (magnets_kept (robot_points c) (near_lines (robot_points c))) first.robot team.robot opening h sound legal polite (k.robot.0, arms) by.robot in
       let crane_now = reached_both (crane_steps c.gripper (IsReading c.gripper)) CraneKnows MagnetSo (crane-knowing c.gripper (IsReading c.gripper)) (magnet_kept c.gripper (IsReading c.gripper)) first.crane team.crane opening h sound legal polite (k.crane.0, gripper) by.crane in
       record {
@@ -63,13 +62,13 @@ module _ (c : CellScales) (opening : ModelState) (h : List Event) (first : progr
 
 pub none_refused : NoResumedMachineIsRefused
 none_refused c opening h first team sound i legal by =
-    all_heeded c (after opening h) (steps_of team) (sound-after opening h sound) (all_know c opening h (steps_of first) (steps_of team) sound legal by (all_in_step c first opening i))
+    all_heeded c (after opening h) team (sound-after opening h sound) (all_know c opening h first team sound legal by (all_in_step c first opening i))
 
 pub stay_in_step : ResumedMachinesStayInStep
 stay_in_step c opening h first team sound i legal by =
-    stays c opening h (steps_of first) team sound legal by (all_in_step c first opening i) (robot_magnets first.robot opening i.robot) (crane_magnets first.crane opening i.crane)
+    stays c opening h first team sound legal by (all_in_step c first opening i) (robot_magnets first.robot opening i.robot) (crane_magnets first.crane opening i.crane)
 
 pub are_in_step : MachinesAreInStep
 are_in_step c opening h team start legal come =
-    let by : HaveComeFrom (programs_of c) (first_team (programs_of c) opening) h (steps_of team) = record { feed = come.feed; table = come.table; robot = come.robot; press = come.press; deposit = come.deposit; crane = come.crane } in
+    let by : HaveComeFrom (programs_of c) (first_team (programs_of c) opening) h team = record { feed = come.feed; table = come.table; robot = come.robot; press = come.press; deposit = come.deposit; crane = come.crane } in
     stays c opening h (first_team (programs_of c) opening) team (sound_start opening start) legal by (all_begin c opening start) (magnets_begin opening) (magnet_begins opening)

@@ -11,7 +11,7 @@ use Rattle.cell_belts_crane.specs.declared.feed.FeedProgress.{FeedProgress}
 use Rattle.cell_robot.specs.declared.robot.RobotProgress.{RobotProgress}
 use Rattle.cell_table_press.specs.declared.press.PressProgress.{PressProgress}
 use Rattle.cell_table_press.specs.declared.table.TableProgress.{TableProgress}
-use Rattle.cell_resume.specs.declared.team.Team.{Team}
+use Rattle.cell_team.specs.Names.{Team}
 use Rattle.cell_resume.specs.declared.checkpoint.Checkpoint.{Checkpoint}
 use Rattle.cell_resume.specs.declared.fault.ResumeFault.{ResumeFault}
 use Rattle.cell_resume.specs.declared.fault.ResumeFault.TheVariants.{NoState, NoStep, NotInStep}

@@ -23,7 +23,7 @@ use Rattle.cell_table_press.specs.declared.press.PressStep.{PressStep}
 use Rattle.cell_table_press.specs.declared.press.PressStep.TheVariants as at_press
 use Rattle.cell_table_press.specs.declared.table.TableStep.{TableStep}
 use Rattle.cell_table_press.specs.declared.table.TableStep.TheVariants as at_table
-use Rattle.cell_resume.specs.declared.team.Team.{Team}
+use Rattle.cell_team.specs.Names.{Team}
 use Rattle.cell_resume.specs.Checkpoints.{IsCheckpointOf, checkpoint_in}
 use Rattle.cell_resume.specs.FeedKeeps as feed
 use Rattle.cell_resume.specs.TableKeeps as table

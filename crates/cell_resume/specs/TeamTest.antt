@@ -2,7 +2,7 @@
 use Rattle.std.specs.Prelude.{Result, Ok, Err}
 use Rattle.cell_types.specs.declared.machine.Machine.TheVariants as machine
 use Rattle.cell_rules.specs.ModelState.{ModelState}
-use Rattle.cell_resume.specs.declared.team.Team.{Team}
+use Rattle.cell_team.specs.Names.{Team}
 use Rattle.cell_resume.specs.declared.checkpoint.Checkpoint.{Checkpoint}
 use Rattle.cell_resume.specs.declared.fault.ResumeFault.{ResumeFault}
 use Rattle.cell_resume.specs.Testing.{tested}

@@ -1,7 +1,7 @@
 -- Six machines at steps that are in step with a state.
 use Rattle.std.specs.Prelude.{◌≡◌, true}
 use Rattle.cell_rules.specs.ModelState.{ModelState}
-use Rattle.cell_resume.specs.declared.team.Team.{Team}
+use Rattle.cell_team.specs.Names.{Team}
 use Rattle.cell_resume.specs.FeedKeeps as feed
 use Rattle.cell_resume.specs.TableKeeps as table
 use Rattle.cell_resume.specs.RobotKeeps as robot

@@ -4,10 +4,10 @@ ghost use Rattle.std.specs.Prelude.{◌≡◌};
 ghost use Rattle.cell_resume.specs.Teams.{AreInStep};
 ghost use Rattle.cell_resume.specs.Checkpoints.{IsCheckpointOf, checkpoint_in};
 
-use crate::team::Team;
 use crate::{crane, deposit, feed, press, robot, table};
 use cell_rules::State;
 use cell_rules::laws::states_are_sound;
+use cell_team::Team;
 use cell_word::pack;
 
 /// A checkpoint as it is stored: the bytes of the word, the lowest first, and the six numbers.

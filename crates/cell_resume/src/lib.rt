@@ -14,11 +14,10 @@ pub mod resume;
 pub mod resuming;
 pub mod robot;
 pub mod table;
-pub mod team;
 
+pub use cell_team::Team;
 pub use checkpoint::{Checkpoint, CheckpointBytes};
 pub use fault::ResumeFault;
 pub use resumable::{Resumable, Resumed};
 pub use resume::resume_at;
 pub use resuming::ResumedCell;
-pub use team::Team;

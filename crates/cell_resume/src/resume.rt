@@ -4,7 +4,7 @@ ghost use Rattle.std.specs.Prelude.{◌≡◌, ◌≢◌, ◌↔◌, Ok, Err};
 ghost use Rattle.cell_rules.specs.ModelState.{ModelState};
 ghost use Rattle.cell_rules.specs.Sound.{IsSound};
 ghost use Rattle.cell_word.specs.Layout.{packed};
-ghost use Rattle.cell_resume.specs.declared.team.Team.{Team};
+ghost use Rattle.cell_team.specs.Team.{Team};
 ghost use Rattle.cell_resume.specs.declared.fault.ResumeFault.{ResumeFault};
 ghost use Rattle.cell_resume.specs.declared.fault.ResumeFault.TheVariants.{NoState};
 ghost use Rattle.cell_resume.specs.Teams.{stood};

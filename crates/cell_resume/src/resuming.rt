@@ -10,13 +10,13 @@ ghost use Rattle.cell_resume.specs.declared.fault.ResumeFault.TheVariants.{NoSta
 use crate::checkpoint::Checkpoint;
 use crate::fault::ResumeFault;
 use crate::resumable::Resumed;
-use crate::team::Team;
 use crate::{crane, deposit, feed, press, robot, table};
 use cell_belts_crane::{CraneProgram, DepositProgram, FeedProgram};
 use cell_robot::RobotProgram;
 use cell_rules::State;
 use cell_sensors::Gauge;
 use cell_table_press::{PressProgram, TableProgram};
+use cell_team::Team;
 use cell_word::unpack;
 use std::marker::Model;
 
@@ -144,7 +144,7 @@ impl ResumedCell {
 }
 
 impl Checkpoint {
-    ghost use Rattle.cell_resume.specs.declared.team.Team.{Team};
+    ghost use Rattle.cell_team.specs.Team.{Team};
     ghost use Rattle.cell_resume.specs.Teams.{stood};
     ghost use Rattle.cell_resume.specs.Checkpoints.{IsCheckpointOf, IsWrong};
     ghost use Rattle.cell_resume.specs.TeamTest.{team_in};

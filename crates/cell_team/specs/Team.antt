@@ -29,15 +29,11 @@ use Rattle.cell_table_press.specs.declared.press.PressProgress.{PressProgress}
 use Rattle.cell_table_press.specs.declared.table.TableProgress.{TableProgress}
 use Rattle.cell_table_press.specs.declared.table.TableReading.{TableReading}
 use Rattle.cell_parts.specs.Axes.{CellScales, robot_points}
+use Rattle.cell_team.specs.declared.team.Team.{Team as TeamOfSix}
 
 -- the step of each machine, with its notes
-pub record Team : Type 0 where
-  pub feed : FeedProgress
-  pub table : TableProgress
-  pub robot : RobotProgress
-  pub press : PressProgress
-  pub deposit : DepositProgress
-  pub crane : CraneProgress
+abbrev pub Team : Type 0
+Team = TeamOfSix
 
 -- the program of each machine; and those of the cell, by the scales of its potentiometers
 pub record Programs : Type 1 where

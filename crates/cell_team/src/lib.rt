@@ -3,3 +3,6 @@
 #![tactic(auto)]
 
 pub mod laws;
+pub mod team;
+
+pub use team::Team;
