@@ -1,4 +1,5 @@
-//! A law of the program, row by row. It is the contract of a function with an empty body.
+//! Laws of the program, row by row. Each is the contract of a function with an empty body.
+ghost use Rattle.cell_robot.specs.KeepExamples.{KeepsAreMet};
 ghost use Rattle.cell_robot.specs.RobotExamples.{RobotRowsAreMet};
 
 /// The rows of the robot's program, by examples: its start, by the places that are full; for each
@@ -7,4 +8,10 @@ ghost use Rattle.cell_robot.specs.RobotExamples.{RobotRowsAreMet};
 /// an arm may be out; its magnets; which sensors can't be used; and what a motor demands.
 pub fn robot_rows_are_met()
     ensures { RobotRowsAreMet }
+{}
+
+/// What the robot keeps at each step, which a checkpoint is tested by: of each zone whether it is the
+/// robot's, whether a plate is on its way there, and its posture; its plates and its magnets.
+pub fn keeps_are_met()
+    ensures { KeepsAreMet }
 {}
