@@ -1,10 +1,13 @@
 -- All demands are met in the two states in which much is driven.
-use Rattle.std.proofs.Common.{rules, ◌≡◌, true, refl, arith}
+use Rattle.std.proofs.Common.{rules, ◌≡◌, ◌≢◌, true, false, pos, ◌≤ℤ◌, refl, arith}
+use Rattle.std.proofs.lemmas.Int.{ints}
+use Rattle.cell_rules.specs.Types.{Robot, Z2, Z3}
+use Rattle.cell_devices.specs.declared.motor.Motor.TheVariants.{Off, Plus, Minus}
 use Rattle.cell_rules.specs.Names.{zone_at, IsSound}
 use Rattle.cell_rules.proofs.lemmas.Puts.{each_zone}
 use Rattle.cell_rules.proofs.lemmas.Lawful.{lawful_in, sound_from}
 use Rattle.cell_parts.specs.Names.{ForTravel, AtDeposit, AllDemandsMet}
-use Rattle.cell_parts.specs.AtWork.{all_moving, all_driven, guests_inside, guests_driven, DemandsCanBeMet}
+use Rattle.cell_parts.specs.AtWork.{all_moving, all_driven, guests_inside, guests_driven, ApartExamples, DemandsCanBeMet}
 
 moving_is_sound : IsSound all_moving
 moving_is_sound = sound_from all_moving (omega arith) (each_zone (λ z. lawful_in all_moving.full z (zone_at all_moving z) ≡ true) refl refl refl refl refl refl)
@@ -18,5 +21,15 @@ all_move = record { sound = moving_is_sound; clear = search rules; positions = s
 guests_move : AllDemandsMet AtDeposit guests_inside guests_driven
 guests_move = record { sound = inside_is_sound; clear = search rules; positions = search rules; motors = search rules; travel = search rules; rotation = search rules }
 
+apart : ApartExamples
+apart = record {
+  host_works = λ k. (let lie : Minus ≡ Off = k.host_rests Z3 refl in cc);
+  guest_works =
+      λ k. (let on : Plus ≢ Off = λ e. cc in
+      let first : pos 200 ≤ℤ pos 300 = omega (arith, ints) in
+      let last : pos 300 ≤ℤ pos 400 = omega (arith, ints) in
+      let lie : false ≡ true = k.driver_holds Robot Z2 (on, (first, last)) in cc);
+}
+
 pub demands_can_be_met : DemandsCanBeMet
-demands_can_be_met = record { all_move = all_move; guests_move = guests_move }
+demands_can_be_met = record { all_move = all_move; guests_move = guests_move; apart = apart }

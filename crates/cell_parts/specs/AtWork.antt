@@ -1,13 +1,15 @@
--- Two states in which all demands are met while much is driven at once.
+-- Two states in which all demands are met while much is driven at once, and two in which machines don't keep apart.
 use Rattle.std.specs.Prelude.{true, false, Some, None}
-use Rattle.cell_rules.specs.Types.{Feed, Table, Robot, Deposit, Crane, Press, Closed, Moving, OpenIn, OpenOut}
+use Rattle.cell_rules.specs.Types.{Feed, Table, Robot, Deposit, Crane, Press, Z3, Closed, Moving, OpenIn}
+use Rattle.cell_rules.specs.Types.{OpenOut}
 use Rattle.cell_types.specs.declared.place.Place.TheVariants as place
 use Rattle.cell_devices.specs.declared.motor.Motor.TheVariants.{Plus, Minus}
 use Rattle.cell_rules.specs.Names.{empty, insert_place, zone_map, ModelState, model_state}
 use Rattle.cell_parts.specs.declared.plant.PlantState.{PlantState}
 use Rattle.cell_parts.specs.MotorDemands.{ForTravel, AtDeposit}
-use Rattle.cell_parts.specs.Laws.{AllDemandsMet}
-use Rattle.cell_parts.specs.Examples.{zone_of, at, driven_at, robot_at, table_at, crane_at, belt_with}
+use Rattle.cell_parts.specs.Laws.{AllDemandsMet, KeepApart}
+use Rattle.cell_parts.specs.Examples.{all_free, held_by, zone_of, at, driven_at, robot_at, table_at, crane_at, belt_with}
+use Rattle.cell_parts.specs.Examples.{with_press, with_robot}
 
 -- each zone moves, held by its host
 abbrev pub all_moving : ModelState
@@ -55,6 +57,13 @@ guests_driven = record {
   crane = crane_at (at 0) (driven_at 300 Minus);
 }
 
+-- machines that don't keep apart: the press works while its zone is open, and the first arm over the table without the
+-- zone
+pub record ApartExamples : Type 0 where
+  pub host_works : ¬ KeepApart ForTravel (held_by Press Z3 OpenIn) (with_press (driven_at 300 Minus))
+  pub guest_works : ¬ KeepApart ForTravel all_free (with_robot (driven_at 300 Plus) (at 0) (at 300))
+
 pub record DemandsCanBeMet : Type 0 where
   pub all_move : AllDemandsMet ForTravel all_moving all_driven
   pub guests_move : AllDemandsMet AtDeposit guests_inside guests_driven
+  pub apart : ApartExamples

@@ -18,7 +18,8 @@ pub fn machines_keep_apart()
 {}
 
 /// All demands can be met at once while every machine moves, and while feed, the second arm and the
-/// crane work as guests.
+/// crane work as guests. Machines don't keep apart where the press works in an open zone, or an arm
+/// in one that isn't the robot's.
 pub fn demands_can_be_met()
     ensures { DemandsCanBeMet }
 {}
