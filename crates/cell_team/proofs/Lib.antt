@@ -3,3 +3,4 @@ mod Names
 mod Waiting
 mod InsidePress
 mod WrongRows
+mod RenewalRows

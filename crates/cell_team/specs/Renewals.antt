@@ -1,7 +1,7 @@
 -- Six machines that go on over one interlock after another, each of which opens where the one before it ended.
 use Rattle.std.specs.Prelude.{◌≡◌, ◌≤◌, ℕ, zero, suc, List}
 use Rattle.cell_types.specs.declared.answer.Event.{Event}
-use Rattle.cell_rules.specs.Names.{ModelState, last_stamp, restamped, after, IsLegal, IsStartState}
+use Rattle.cell_rules.specs.Names.{ModelState, last_stamp, restamped, after, empty, IsLegal, IsStartState, start_state}
 use Rattle.cell_parts.specs.Axes.{CellScales}
 use Rattle.cell_team.specs.Team.{Programs, Team, programs_of, HasComeFrom}
 use Rattle.cell_team.specs.Heeded.{AreHeeded}
@@ -54,3 +54,13 @@ NoRenewedMachineIsRefused =
     → StandAfter (programs_of c) renewals opening first → IsLegal opening history
     → HaveComeFrom (programs_of c) first history team
     → AreHeeded (programs_of c) (after opening history) team
+
+-- six machines at their starts over an empty cell; they stand so after a renewal too, which may give any stamp
+abbrev pub six_at_start : CellScales → Team
+six_at_start c = first_team (programs_of c) (start_state empty 0)
+
+pub record RenewalExamples (c : CellScales) : Type 0 where
+  pub never : StandAfter (programs_of c) 0 (start_state empty 0) (six_at_start c)
+  pub once : (stamp : ℕ) → stamp ≤ last_stamp
+      → StandAfter (programs_of c) 1 (start_state empty stamp) (six_at_start c)
+  pub twice : StandAfter (programs_of c) 2 (start_state empty last_stamp) (six_at_start c)

@@ -1,6 +1,7 @@
 //! Laws of the six programs together. Each is the contract of a function with an empty body.
 ghost use Rattle.cell_team.specs.Heeded.{NoMachineIsRefused, NoMachineIsStopped};
-ghost use Rattle.cell_team.specs.Renewals.{NoRenewedMachineIsRefused};
+ghost use Rattle.cell_parts.specs.Axes.{CellScales};
+ghost use Rattle.cell_team.specs.Renewals.{NoRenewedMachineIsRefused, RenewalExamples};
 ghost use Rattle.cell_team.specs.WrongPrograms.{WrongProgramsAreRefused};
 
 /// From every start, in each legal history in which each of the six machines has come by its own
@@ -15,6 +16,12 @@ pub fn no_machine_is_refused()
 /// the one before it left, but for the stamp, and with each machine at the step to which it had come.
 pub fn no_renewed_machine_is_refused()
     ensures { NoRenewedMachineIsRefused }
+{}
+
+/// Examples of renewals: over an empty cell six machines stand at their starts, also after one renewal
+/// with any stamp, and after two.
+pub fn renewals_are_met()
+    ensures { (c : CellScales) → RenewalExamples c }
 {}
 
 /// So in such a history no refusal has ever stopped a machine, but a worn one.
