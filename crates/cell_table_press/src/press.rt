@@ -77,17 +77,15 @@ pub enum PressPlates {
     Forged,
 }
 
-impl PressPlates {
-    // These plates, and a share of the interior.
-    fn with(self, interior: ZoneShare) -> PressShare
-        ensures { result ≡ program.keeps interior self }
+impl PressShare {
+    fn new(interior: ZoneShare, plates: PressPlates) -> PressShare
+        ensures { result ≡ program.keeps interior plates }
     {
-        PressShare {
-            interior,
-            plates: self,
-        }
+        PressShare { interior, plates }
     }
+}
 
+impl PressPlates {
     /// Whether the press has these plates, by whether it has an unforged and a forged one.
     pub fn are_there(self, unforged: bool, forged: bool) -> bool
         ensures { result ≡ program.are_there self unforged forged }
@@ -149,18 +147,24 @@ impl PressStep {
         let offered = Share::Clear.in_posture(Posture::OpenOut);
         let emptied = Share::Lent.in_posture(Posture::OpenOut);
         match self {
-            PressStep::ClaimFirst => PressPlates::OneAtMost.with(unclaimed),
-            PressStep::LeaveForMiddle => PressPlates::Empty.with(clear),
-            PressStep::MoveToMiddle | PressStep::PoseMiddle => PressPlates::Empty.with(moving),
-            PressStep::ReleaseInterior => PressPlates::Empty.with(opened),
-            PressStep::TakePlate => PressPlates::Empty.with(lent),
-            PressStep::LeaveForTop => PressPlates::Unforged.with(clear),
-            PressStep::MoveToTop | PressStep::PoseTop => PressPlates::Unforged.with(moving),
-            PressStep::Forge => PressPlates::Unforged.with(shut),
-            PressStep::LeaveForBottom => PressPlates::Forged.with(clear),
-            PressStep::MoveToBottom | PressStep::PoseLow => PressPlates::Forged.with(moving),
-            PressStep::GivePlate => PressPlates::Forged.with(offered),
-            PressStep::ClaimBack => PressPlates::Empty.with(emptied),
+            PressStep::ClaimFirst => PressShare::new(unclaimed, PressPlates::OneAtMost),
+            PressStep::LeaveForMiddle => PressShare::new(clear, PressPlates::Empty),
+            PressStep::MoveToMiddle | PressStep::PoseMiddle => {
+                PressShare::new(moving, PressPlates::Empty)
+            }
+            PressStep::ReleaseInterior => PressShare::new(opened, PressPlates::Empty),
+            PressStep::TakePlate => PressShare::new(lent, PressPlates::Empty),
+            PressStep::LeaveForTop => PressShare::new(clear, PressPlates::Unforged),
+            PressStep::MoveToTop | PressStep::PoseTop => {
+                PressShare::new(moving, PressPlates::Unforged)
+            }
+            PressStep::Forge => PressShare::new(shut, PressPlates::Unforged),
+            PressStep::LeaveForBottom => PressShare::new(clear, PressPlates::Forged),
+            PressStep::MoveToBottom | PressStep::PoseLow => {
+                PressShare::new(moving, PressPlates::Forged)
+            }
+            PressStep::GivePlate => PressShare::new(offered, PressPlates::Forged),
+            PressStep::ClaimBack => PressShare::new(emptied, PressPlates::Empty),
         }
     }
 }

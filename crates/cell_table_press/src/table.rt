@@ -226,6 +226,10 @@ impl TableStep {
         let clear = Share::Clear.in_any_posture();
         let shut = Share::Clear.in_posture(Posture::Closed);
         let moving = Share::Clear.in_posture(Posture::Moving);
+        let opened = Share::Clear.in_posture(Posture::OpenIn);
+        let lent = Share::Lent.in_posture(Posture::OpenIn);
+        let offered = Share::Clear.in_posture(Posture::OpenOut);
+        let emptied = Share::Lent.in_posture(Posture::OpenOut);
         match self {
             TableStep::ClaimEntry => TableShare::new(unclaimed, unclaimed, TablePlate::Any),
             TableStep::ClaimExit => TableShare::new(clear, unclaimed, TablePlate::Any),
@@ -233,38 +237,14 @@ impl TableStep {
             TableStep::MoveToLoading | TableStep::PoseLoading => {
                 TableShare::new(moving, moving, TablePlate::Empty)
             }
-            TableStep::ReleaseEntry => {
-                TableShare::new(
-                    Share::Clear.in_posture(Posture::OpenIn),
-                    shut,
-                    TablePlate::Empty,
-                )
-            }
-            TableStep::TakePlate => {
-                TableShare::new(
-                    Share::Lent.in_posture(Posture::OpenIn),
-                    shut,
-                    TablePlate::Empty,
-                )
-            }
+            TableStep::ReleaseEntry => TableShare::new(opened, shut, TablePlate::Empty),
+            TableStep::TakePlate => TableShare::new(lent, shut, TablePlate::Empty),
             TableStep::LeaveForUnloading => TableShare::new(clear, clear, TablePlate::Full),
             TableStep::MoveToUnloading | TableStep::PoseUnloading => {
                 TableShare::new(moving, moving, TablePlate::Full)
             }
-            TableStep::GivePlate => {
-                TableShare::new(
-                    shut,
-                    Share::Clear.in_posture(Posture::OpenOut),
-                    TablePlate::Full,
-                )
-            }
-            TableStep::ClaimBack => {
-                TableShare::new(
-                    shut,
-                    Share::Lent.in_posture(Posture::OpenOut),
-                    TablePlate::Empty,
-                )
-            }
+            TableStep::GivePlate => TableShare::new(shut, offered, TablePlate::Full),
+            TableStep::ClaimBack => TableShare::new(shut, emptied, TablePlate::Empty),
         }
     }
 
