@@ -16,6 +16,8 @@ use Rattle.cell_belts_crane.specs.declared.feed.FeedStep.TheVariants as feed_ste
 use Rattle.cell_robot.specs.declared.robot.RobotStep.TheVariants as robot_step
 use Rattle.cell_table_press.specs.declared.press.PressStep.TheVariants as press_step
 use Rattle.cell_table_press.specs.declared.table.TableStep.TheVariants as table_step
+use Rattle.cell_rules.specs.Types.{Refusal, Worn}
+use Rattle.cell_team.specs.Heeded.{is_worn}
 use Rattle.cell_team.specs.WrongPrograms as wrong
 use Rattle.cell_team.specs.WrongPrograms.{by_feed, by_table, by_robot, by_press, by_deposit, by_crane, RightRows, WrongProgramsAreRefused}
 use Rattle.cell_team.proofs.lemmas.Together.{none-refused}
@@ -308,6 +310,10 @@ lands_in_a_shut_zone law =
 right-rows : RightRows
 right-rows = record { feed = none-refused scales; table = none-refused scales; robot = none-refused scales; press = none-refused scales; deposit = none-refused scales; crane = none-refused scales }
 
+only_worn : (r : Refusal) → is_worn r ≡ true → r ≡ Worn
+only_worn Worn e = refl
+only_worn _ e = cc
+
 pub wrong-refused : WrongProgramsAreRefused
 wrong-refused = record {
   right = right-rows;
@@ -325,4 +331,5 @@ wrong-refused = record {
     releases_its_plate = releases_its_plate;
     lands_in_a_shut_zone = lands_in_a_shut_zone;
   };
+  only_worn = only_worn;
 }

@@ -1,5 +1,6 @@
 -- Programs that are wrong in one row: by each of them a machine is refused what its step doesn't wait for.
-use Rattle.std.specs.Prelude.{pos}
+use Rattle.std.specs.Prelude.{◌≡◌, pos, true}
+use Rattle.cell_rules.specs.Types.{Refusal, Worn}
 use Rattle.cell_sensors.specs.Scale.{Scale, scale_by}
 use Rattle.cell_control.specs.Names.{with_waits, Steps}
 use Rattle.cell_control.specs.declared.row.Row.{Row}
@@ -31,7 +32,7 @@ use Rattle.cell_table_press.specs.PressProgram as press_program
 use Rattle.cell_table_press.specs.TableProgram as table_program
 use Rattle.cell_parts.specs.Axes.{CellScales}
 use Rattle.cell_team.specs.Team.{Programs, programs_of}
-use Rattle.cell_team.specs.Heeded.{NoneIsRefused}
+use Rattle.cell_team.specs.Heeded.{NoneIsRefused, is_worn}
 
 -- five potentiometers with one scale
 abbrev pub scale : Scale
@@ -145,6 +146,8 @@ pub record WrongRows : Type 0 where
   pub releases_its_plate : ¬ NoneIsRefused (by_crane releases_its_plate)
   pub lands_in_a_shut_zone : ¬ NoneIsRefused (by_crane lands_in_a_shut_zone)
 
+-- of refusals that no step waits for, only a worn one is heeded
 pub record WrongProgramsAreRefused : Type 0 where
   pub right : RightRows
   pub wrong : WrongRows
+  pub only_worn : (r : Refusal) → is_worn r ≡ true → r ≡ Worn
