@@ -3,3 +3,4 @@ pub mod BookKept
 pub mod Laws
 pub mod Order
 pub mod Callers
+pub mod SeenExamples

@@ -7,6 +7,7 @@ ghost use Rattle.plan_interlock.specs.Book.{plan_book, plan_of};
 ghost use Rattle.plan_interlock.specs.Callers.{EveryMachineCalls, PassesInOrder};
 ghost use Rattle.plan_interlock.specs.Laws.{EveryPassSeesLaws, RightsLast};
 ghost use Rattle.plan_interlock.specs.Order.{BusyCallsAreFew, CallsKeepOrder, HistoryIsOne};
+ghost use Rattle.plan_interlock.specs.SeenExamples.{SeenExamples};
 
 use crate::rules::PlanRules;
 use plan_rules::State;
@@ -46,6 +47,11 @@ pub fn rights_last(rules: &PlanRules)
 {
     let _ = rules;
 }
+
+/// A literal history that no pass sees, and literal rights that don't last.
+pub fn seen_examples_are_right()
+    ensures { SeenExamples }
+{}
 
 /// In a run (`close`) calls that don't overlap keep their order, and a call that is asked after a receipt (`ask_after`)
 /// begins after each call that was answered before the receipt was taken.
