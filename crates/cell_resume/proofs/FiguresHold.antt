@@ -1,5 +1,5 @@
 -- What the fourteen bytes mean, computed.
-use Rattle.std.proofs.Common.{◌≡◌, ◌≤◌, ℕ, ◌/◌, refl, arith}
+use Rattle.std.proofs.Common.{◌≡◌, ◌≤◌, ℕ, ◌/◌, refl, sym, ◌∙◌, arith}
 use Rattle.std.proofs.lemmas.Option.{slice_get_past}
 use Rattle.cell_rules.proofs.lemmas.SoundnessTest.{sound_by_test}
 use Rattle.cell_rules.specs.Names.{ModelState}
@@ -11,7 +11,7 @@ use Rattle.cell_resume.specs.RobotKeeps as robot
 use Rattle.cell_resume.specs.PressKeeps as press
 use Rattle.cell_resume.specs.DepositKeeps as deposit
 use Rattle.cell_resume.specs.CraneKeeps as crane
-use Rattle.cell_resume.specs.Figures.{NumberRows, FigureRows, start_bytes, start_state, start_team, full_bytes, full_state, full_team, forged_bytes, forged_state, forged_team}
+use Rattle.cell_resume.specs.Figures.{NumberRows, WrongRows, FigureRows, start_bytes, start_state, start_team, full_bytes, full_state, full_team, forged_bytes, forged_state, forged_team}
 
 -- two numbers name one step of the press
 halved : (n : ℕ) → 30 ≤ n → 15 ≤ n / 2
@@ -70,5 +70,13 @@ forged = record {
   in_step = record { feed = refl; table = refl; robot = refl; press = refl; deposit = refl; crane = refl };
 }
 
+wrong : WrongRows
+wrong = record {
+  other_word = λ k. let e : 1073741824 ≡ 0 = sym start_word ∙ k.word in absurd (omega (arith, e));
+  other_number = λ k. let e = k.numbers.feed in cc;
+  astray = λ k. let e = k.in_step.feed in cc;
+  unsound = λ k. absurd (omega (arith, k.sound.stamp_in_range));
+}
+
 pub figures-hold : FigureRows
-figures-hold = record { numbers = numbers; start = start; full = full; forged = forged }
+figures-hold = record { numbers = numbers; start = start; full = full; forged = forged; wrong = wrong }

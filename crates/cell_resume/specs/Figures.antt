@@ -24,6 +24,7 @@ use Rattle.cell_table_press.specs.declared.press.PressStep.TheVariants as at_pre
 use Rattle.cell_table_press.specs.declared.table.TableStep.{TableStep}
 use Rattle.cell_table_press.specs.declared.table.TableStep.TheVariants as at_table
 use Rattle.cell_team.specs.Names.{Team}
+use Rattle.cell_word.specs.Layout.{packed}
 use Rattle.cell_resume.specs.Checkpoints.{IsCheckpointOf, checkpoint_in}
 use Rattle.cell_resume.specs.FeedKeeps as feed
 use Rattle.cell_resume.specs.TableKeeps as table
@@ -207,9 +208,24 @@ forged_team = record {
   crane = record { step = at_crane.TravelToDeposit; magnet = false };
 }
 
+-- the start with another word, with another step's number, at a step that isn't in step with it, and with a stamp past
+-- the last
+abbrev pub worn_state : ModelState
+worn_state = record start_state { stamp = 1048576 }
+
+pub record WrongRows : Type 0 where
+  pub other_word : ¬ IsCheckpointOf (record (checkpoint_in start_bytes) { word = 0 }) start_state start_team
+  pub other_number : ¬ IsCheckpointOf (record (checkpoint_in start_bytes) { feed = 1 }) start_state start_team
+  pub astray :
+      ¬ IsCheckpointOf (record (checkpoint_in start_bytes) { feed = 3 }) start_state
+      (record start_team { feed = record { step = at_feed.TakePlate; entry = true; last = false } })
+  pub unsound :
+      ¬ IsCheckpointOf (record (checkpoint_in start_bytes) { word = packed worn_state }) worn_state start_team
+
 -- these bytes are those of this state and these steps
 pub record FigureRows : Type 0 where
   pub numbers : (s : ModelState) → NumberRows s
   pub start : IsCheckpointOf (checkpoint_in start_bytes) start_state start_team
   pub full : IsCheckpointOf (checkpoint_in full_bytes) full_state full_team
   pub forged : IsCheckpointOf (checkpoint_in forged_bytes) forged_state forged_team
+  pub wrong : WrongRows
