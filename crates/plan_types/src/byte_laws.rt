@@ -1,7 +1,8 @@
 //! Laws, each the contract of a function that does nothing.
 ghost use Rattle.plan_types.specs.ByteExamples.{BytesAreRight};
 
-/// The press and the lift have these literal bytes.
+/// The press, the lift and zones with one way have these literal bytes, and each pose of the press and of the lift a row
+/// for ten zones.
 pub fn bytes_are_right()
     ensures { BytesAreRight }
 {}

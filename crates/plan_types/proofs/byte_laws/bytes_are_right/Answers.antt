@@ -1,0 +1,28 @@
+use Rattle.std.proofs.Common.{◌≡◌, Bool, true, ◌&&◌, nat_eq, List, [], ◌∷◌, All, length, refl}
+use Rattle.std.proofs.lemmas.Bool.{eqb-true}
+use Rattle.std.specs.Cmp.{first_so, second_so}
+use Rattle.std.proofs.lemmas.List.Elements.{All-nil, All-cons}
+use Rattle.plan_types.specs.declared.table.PlanPose.{PlanPose}
+use Rattle.plan_types.specs.Bytes.{IsForTenZones}
+use Rattle.plan_types.specs.Examples.{press_poses, lift_poses}
+use Rattle.plan_types.proofs.byte_laws.bytes_are_right.Goals as goal
+
+abbrev are_whole : List PlanPose → Bool
+are_whole [] = true
+are_whole (p ∷ ps) = nat_eq (length p.gives) 10 && are_whole ps
+
+whole_rows : (ps : List PlanPose) → are_whole ps ≡ true → All IsForTenZones ps
+whole_rows [] e = All-nil IsForTenZones
+whole_rows (p ∷ ps) e =
+    All-cons IsForTenZones p ps (eqb-true (length p.gives) 10 (first_so (nat_eq (length p.gives) 10) (are_whole ps) e))
+    (whole_rows ps (second_so (nat_eq (length p.gives) 10) (are_whole ps) e))
+
+pub returns : goal.returns
+returns c = record {
+  press = refl;
+  lift = refl;
+  outward_alone = refl;
+  inward_alone = refl;
+  press_rows = whole_rows press_poses refl;
+  lift_rows = whole_rows lift_poses refl;
+}
