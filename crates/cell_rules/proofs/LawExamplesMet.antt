@@ -1,7 +1,7 @@
 -- The examples of histories that break a law.
-use Rattle.cell_rules.proofs.Names.{◌≡◌, true, false, List, [], ◌∷◌, ◌++◌, inl, inr, refl, ap, arith, Machine, Feed, Robot, Press, Zone, Z1, Z3, Z6, Moving, OpenIn, Loading, Travelling, Middle, Top, Landing, Event, Claim, ModelState, empty, Holds, owns, IsStopped, NeverResumes}
-use Rattle.cell_types.specs.declared.machine.Machine.TheVariants.{Table as TableMachine}
-use Rattle.cell_rules.specs.LawExamples.{unused, only, HolderExamples, CountExamples, BeltExamples, FittingExamples, StopExamples, LawExamples}
+use Rattle.cell_rules.proofs.Names.{◌≡◌, ℕ, true, false, List, [], ◌∷◌, ◌++◌, length, inl, inr, refl, ap, arith, Machine, Feed, Robot, Press, Deposit, Watch, Zone, Z1, Z3, Z6, Moving, OpenIn, Loading, Travelling, Middle, Top, Landing, Entry, Event, Claim, ModelState, empty, Holds, owns, IsStopped, NeverResumes}
+use Rattle.cell_types.specs.declared.machine.Machine.TheVariants.{Table as TableMachine, Crane as CraneMachine}
+use Rattle.cell_rules.specs.LawExamples.{unused, only, HolderExamples, CountExamples, BeltExamples, FittingExamples, StopExamples, AuditExamples, LawExamples}
 use Rattle.cell_rules.specs.StateExamples.{cell_with, free_in, held_in}
 use Rattle.cell_rules.specs.Laws.{done}
 use Rattle.cell_rules.proofs.lemmas.HoldsLemmas.{holds_by_test}
@@ -71,5 +71,33 @@ stops = record {
   resumes_unstopped = λ f. running unused refl (f.resume [] [] _ refl).1;
 }
 
+-- a fact of each machine, from one proof for each
+each_machine : (P : Machine → Type 0) → P Feed → P TableMachine → P Robot → P Press → P Deposit → P CraneMachine → P Watch → (m : Machine) → P m
+each_machine P a _ _ _ _ _ _ Feed = a
+each_machine P _ a _ _ _ _ _ TableMachine = a
+each_machine P _ _ a _ _ _ _ Robot = a
+each_machine P _ _ _ a _ _ _ Press = a
+each_machine P _ _ _ _ a _ _ Deposit = a
+each_machine P _ _ _ _ _ a _ CraneMachine = a
+each_machine P _ _ _ _ _ _ a Watch = a
+
+audits : AuditExamples
+audits = record {
+  accepted = record {
+    legal = (refl, tt);
+    own = each_machine _ refl refl refl refl refl refl refl;
+    noted = each_machine _ refl refl refl refl refl refl refl;
+    ends = refl;
+  };
+  illegal = λ a. let e = a.legal.0 in cc;
+  not_noted = λ a. let e : 1 ≡ 0 = ap length (a.noted Press) in omega (arith, e);
+  other_stamp = λ a. let e : 1 ≡ 2 = ap stamps_in (a.noted Press) in omega (arith, e);
+  other_end = λ a. let e : 1 ≡ 0 = ap (λ (s : ModelState). s.stamp) a.ends in omega (arith, e);
+}
+  where
+    stamps_in : List Entry → ℕ
+    stamps_in [] = 0
+    stamps_in (e ∷ es) = e.stamp
+
 pub law_examples : LawExamples
-law_examples = record { holders = holders; counts = counts; belts = belts; fitting = fitting; stops = stops }
+law_examples = record { holders = holders; counts = counts; belts = belts; fitting = fitting; stops = stops; audits = audits }

@@ -1,15 +1,16 @@
 -- Examples of histories that break a law: in the state before it their event would be refused. Each breaks one thing of
--- the law.
-use Rattle.std.specs.Prelude.{true, false, List, [], ◌∷◌}
+-- the law. And what an audit says of journals.
+use Rattle.std.specs.Prelude.{ℕ, true, false, List, [], ◌∷◌, Some, None}
 use Rattle.cell_rules.specs.Types.{Machine, Feed, Robot, Press, Deposit, Watch, Z1, Z2, Z3, Z4, Z5, Z6, FeedEnd}
 use Rattle.cell_rules.specs.Types.{PressOut, DepEnd, Posture, Closed, Moving, OpenIn, Loading, Travelling, Middle, Top}
 use Rattle.cell_rules.specs.Types.{Landing, Call, Claim, Give, Yield, Take, Release, SetPose, Advance, Stop, Resume}
-use Rattle.cell_rules.specs.Types.{Event}
+use Rattle.cell_rules.specs.Types.{Done, Event, Entry}
 use Rattle.cell_types.specs.declared.machine.Machine.TheVariants.{Table as TableMachine, Crane as CraneMachine}
 use Rattle.cell_types.specs.declared.place.Place.TheVariants.{Table}
 use Rattle.cell_rules.specs.ZoneMap.{free_zone, everywhere, put_zone}
 use Rattle.cell_rules.specs.PlaceSet.{PlaceSet, empty, insert_place}
 use Rattle.cell_rules.specs.ModelState.{ModelState, model_state}
+use Rattle.cell_rules.specs.Audited.{IsAudited}
 use Rattle.cell_rules.specs.StateExamples.{cell_with, free_in, held_in}
 use Rattle.cell_rules.specs.Laws.{MoverIsHost, GuestOnlyWhileOpen, PlatesAreKept, StampCountsChanges, RunsClear}
 use Rattle.cell_rules.specs.Laws.{PostureByEvents, EventsFit, NoJump, HandoverByHolder, StoppedUntilResumed, done}
@@ -72,9 +73,26 @@ pub record StopExamples : Type 0 where
   pub stops_twice : ¬ StoppedUntilResumed (record unused { stopped = true }) (only Watch Stop)
   pub resumes_unstopped : ¬ StoppedUntilResumed unused (only Watch Resume)
 
+-- the press has noted a claim of z3 with a stamp, and nobody anything else
+abbrev pub claim_of_press : ℕ → Machine → List Entry
+claim_of_press stamp Press = record { call = Claim Z3; answer = Done; stamp = stamp } ∷ []
+claim_of_press stamp _ = []
+
+abbrev pub after_claim : ModelState
+after_claim = model_state (put_zone (everywhere free_zone) Z3 (held_in Press Closed)) empty 1 false
+
+-- what an audit says of journals: one accepted, and each other wrong in one thing
+pub record AuditExamples : Type 0 where
+  pub accepted : IsAudited unused (claim_of_press 1) (Some after_claim) (only Press (Claim Z3))
+  pub illegal : ¬ IsAudited after_claim (claim_of_press 1) None (only Press (Claim Z3))
+  pub not_noted : ¬ IsAudited unused (λ m. []) None (only Press (Claim Z3))
+  pub other_stamp : ¬ IsAudited unused (claim_of_press 2) None (only Press (Claim Z3))
+  pub other_end : ¬ IsAudited unused (claim_of_press 1) (Some unused) (only Press (Claim Z3))
+
 pub record LawExamples : Type 0 where
   pub holders : HolderExamples
   pub counts : CountExamples
   pub belts : BeltExamples
   pub fitting : FittingExamples
   pub stops : StopExamples
+  pub audits : AuditExamples
