@@ -27,7 +27,7 @@ use Rattle.cell_replay.specs.declared.fault.ReplayFault.TheVariants.{Read, Write
 use Rattle.cell_replay.specs.Faults.{Leaves, WrotePrefix, WroteLines, replay_fault_of}
 use Rattle.text_io.specs.declared.input.InputFault.{InputFault}
 use Rattle.text_io.specs.declared.input.InputFault.TheVariants as input
-use Rattle.cell_replay.specs.Writing.{Writes, WritesEnd, WritesLine, WritesNext, WritesScript, lines_after, lines_left, outcome_left}
+use Rattle.cell_replay.specs.Writing.{Writes, WritesEnd, WritesLine, WritesScript, lines_after, lines_left, outcome_left}
 use Rattle.cell_replay.proofs.Lines.{event_lines-after, length-history_of, lines_after-more, lines_after-none, requests_in-bad, requests_in-more, requests_in-none}
 
 -- The records that are left.
@@ -138,51 +138,41 @@ prefix-more line more all old new whole h =
 
 -- One record.
 
-pub one-none : (v : Version) (is_cut : Bool) (n : ℕ) (s s2 : ModelState) (left : List Row) (old : Option (List ℕ)) (After : List Row → Type 0) (noted : Bool) (o : Outcome) → noted ≡ is_cut → left ≡ [] → o ≡ end_of noted 0 0
-    → WritesNext v is_cut n s s2 left old old After (Ok (Some o))
-one-none v is_cut n s s2 left old After noted o note none is =
-    (ap (lines_left v n s) none ∙ lines-ended v n s [] (requests-none v (max_records - n)), ap (outcome_left v is_cut n) none ∙ outcome-none v is_cut n ∙ sym (is ∙ ap (λ b. end_of b 0 0) note), Keeps-refl old)
+-- it is no request
+pub writes-bad : (v : Version) (is_cut : Bool) (n : ℕ) (s : ModelState) (left rest : List Row) (row : Row) (old : Option (List ℕ)) → n < max_records → left ≡ row ∷ rest → request_of v row ≡ None
+    → Writes (lines_left v n s left) (outcome_left v is_cut n left) old old (Ok (Refused (BadRow (n + 1))))
+writes-bad v is_cut n s left rest row old few is bad =
+    (sym (ap (outcome_left v is_cut n) is ∙ outcome-bad v is_cut n row rest few bad), rw (ap (lines_left v n s) is ∙ lines-ended v n s (row ∷ rest) (requests-bad v n row rest few bad)) (Appends-nil old))
 
-pub one-bad : (v : Version) (is_cut : Bool) (n : ℕ) (s s2 : ModelState) (left rest : List Row) (row : Row) (old : Option (List ℕ)) (After : List Row → Type 0) → n < max_records → left ≡ row ∷ rest → request_of v row ≡ None
-    → WritesNext v is_cut n s s2 left old old After (Ok (Some (Refused (BadRow (n + 1)))))
-one-bad v is_cut n s s2 left rest row old After few is bad =
-    (ap (lines_left v n s) is ∙ lines-ended v n s (row ∷ rest) (requests-bad v n row rest few bad), ap (outcome_left v is_cut n) is ∙ outcome-bad v is_cut n row rest few bad, Keeps-refl old)
+-- its line, after which the lines of the others come
+pub line-first : (v : Version) (n : ℕ) (s s2 : ModelState) (left rest : List Row) (row : Row) (r : Request) (stamp : ℕ) (answer : Answer) → n < max_records → left ≡ row ∷ rest → request_of v row ≡ Some r
+    → s2 ≡ next s r.machine r.call → stamp ≡ s2.stamp → answer ≡ reply s r.machine r.call → lines_left v n s left ≡ line_of (n + 1) stamp (answer_text answer) ∷ lines_left v (n + 1) s2 rest
+line-first v n s s2 left rest row r stamp answer few is good now_s now_stamp replied =
+    ap (lines_left v n s) is ∙ lines-more v n s row rest r few good
+    ∙ ap₂ (λ l t. l ∷ lines_left v (n + 1) t rest) (ap₂ (λ t a. line_of (n + 1) t (answer_text a)) (sym (now_stamp ∙ ap (λ (t : ModelState). t.stamp) now_s)) (sym replied)) (sym now_s)
 
--- the line of a request
-abbrev pub line_on : ℕ → ModelState → Request → List ℕ
-line_on n s r = line_of (n + 1) (next s r.machine r.call).stamp (answer_text (reply s r.machine r.call))
+pub outcome-first : (v : Version) (is_cut : Bool) (n : ℕ) (left rest : List Row) (row : Row) (r : Request) → n < max_records → left ≡ row ∷ rest → request_of v row ≡ Some r → outcome_left v is_cut (n + 1) rest ≡ outcome_left v is_cut n left
+outcome-first v is_cut n left rest row r few is good = sym (ap (outcome_left v is_cut n) is ∙ outcome-more v is_cut n row rest r few good)
 
-pub one-written : (v : Version) (is_cut : Bool) (n : ℕ) (s s2 : ModelState) (left rest : List Row) (row : Row) (r : Request) (line : List ℕ) (old new : Option (List ℕ)) (After : List Row → Type 0)
-    → n < max_records → left ≡ row ∷ rest → request_of v row ≡ Some r → s2 ≡ next s r.machine r.call → line ≡ line_on n s r → Appends old new line → After rest
-    → WritesNext v is_cut n s s2 left old new After (Ok None)
-one-written v is_cut n s s2 left rest row r line old new After few is good now_s line_made wrote after =
-    (rest, line, wrote, ap (lines_left v n s) is ∙ lines-more v n s row rest r few good ∙ ap₂ (λ l t. l ∷ lines_left v (n + 1) t rest) (sym line_made) (sym now_s), ap (outcome_left v is_cut n) is ∙ outcome-more v is_cut n row rest r few good, after)
+-- its line couldn't be written
+pub writes-line : (line : List ℕ) (more lines : List (List ℕ)) (end : Outcome) (old new : Option (List ℕ)) (fault : ReplayFault) → lines ≡ line ∷ more → WritesLine line old new (Err fault) → Writes lines end old new (Err fault)
+writes-line line more lines end old new Read is h = absurd h
+writes-line line more lines end old new Memory is h = (0, kept-none old new h)
+writes-line line more lines end old new Write is h = prefix-more line (concat more) (concat lines) old new (ap concat is) h
 
-pub one-cut : (v : Version) (is_cut : Bool) (n : ℕ) (s s2 : ModelState) (left rest : List Row) (row : Row) (r : Request) (line : List ℕ) (old new : Option (List ℕ)) (After : List Row → Type 0)
-    → n < max_records → left ≡ row ∷ rest → request_of v row ≡ Some r → line ≡ line_on n s r → WrotePrefix old new line
-    → WritesNext v is_cut n s s2 left old new After (Err Write)
-one-cut v is_cut n s s2 left rest row r line old new After few is good line_made h =
-    let lines = ap (lines_left v n s) is ∙ lines-more v n s row rest r few good in
-    let more = concat (lines_left v (n + 1) (next s r.machine r.call) rest) in
-    prefix-more line more (concat (lines_left v n s left)) old new (ap concat lines ∙ ap (λ l. l ++ more) (sym line_made)) h
+pub fails-at-line : (r : Result Outcome ReplayFault) (fault : ReplayFault) (line : List ℕ) (more lines : List (List ℕ)) (end : Outcome) (old new : Option (List ℕ)) → IsErrAnd r (λ given. given ≡ fault) → lines ≡ line ∷ more → WritesLine line old new (Err fault) → Writes lines end old new r
+fails-at-line (Ok o) fault line more lines end old new same is h = absurd same
+fails-at-line (Err given) fault line more lines end old new same is h = rw same (writes-line line more lines end old new fault is h)
 
--- the line that was made
-pub line_made : (n : ℕ) (s : ModelState) (r : Request) (stamp : ℕ) (s2 : ModelState) (answer : Answer) (bytes text empty : List ℕ) → bytes ≡ text → text ≡ empty ++ line_of (n + 1) stamp (answer_text answer) → empty ≡ []
-    → stamp ≡ s2.stamp → s2 ≡ next s r.machine r.call → answer ≡ reply s r.machine r.call → bytes ≡ line_on n s r
-line_made n s r stamp s2 answer bytes text empty is made none now_stamp now_s replied =
-    is ∙ made ∙ ap (λ b. b ++ line_of (n + 1) stamp (answer_text answer)) none ∙ ap₂ (λ t a. line_of (n + 1) t (answer_text a)) (now_stamp ∙ ap (λ (t : ModelState). t.stamp) now_s) replied
+-- nothing was written before a fault
+writes-nothing : (lines : List (List ℕ)) (end : Outcome) (old new : Option (List ℕ)) (fault : ReplayFault) → Keeps old new → Writes lines end old new (Err fault)
+writes-nothing lines end old new Read keeps = (0, kept-none old new keeps)
+writes-nothing lines end old new Memory keeps = (0, kept-none old new keeps)
+writes-nothing lines end old new Write keeps = (0, kept-none old new keeps)
 
-pub one-stops : (v : Version) (is_cut : Bool) (n : ℕ) (s s2 : ModelState) (left : List Row) (old new : Option (List ℕ)) (After : List Row → Type 0) (r : Result (Option Outcome) ReplayFault) (o : Outcome) → r ≡ Ok (Some o) → WritesNext v is_cut n s s2 left old new After r
-    → Writes (lines_left v n s left) (outcome_left v is_cut n left) old new (Ok o)
-one-stops v is_cut n s s2 left old new After r o e h =
-    let k : WritesNext v is_cut n s s2 left old new After (Ok (Some o)) = rw e at h in
-    (sym k.1, rw k.0 (kept-none old new k.2))
-
-pub one-fails : (v : Version) (is_cut : Bool) (n : ℕ) (s s2 : ModelState) (left : List Row) (old new : Option (List ℕ)) (After : List Row → Type 0) (r : Result (Option Outcome) ReplayFault) (fault : ReplayFault) → r ≡ Err fault → WritesNext v is_cut n s s2 left old new After r
-    → Writes (lines_left v n s left) (outcome_left v is_cut n left) old new (Err fault)
-one-fails v is_cut n s s2 left old new After r Read e h = (0, kept-none old new (rw e at h))
-one-fails v is_cut n s s2 left old new After r Memory e h = (0, kept-none old new (rw e at h))
-one-fails v is_cut n s s2 left old new After r Write e h = rw e at h
+pub fails-before : (r : Result Outcome ReplayFault) (P : ReplayFault → Type 0) (lines : List (List ℕ)) (end : Outcome) (old new : Option (List ℕ)) → IsErrAnd r P → Keeps old new → Writes lines end old new r
+fails-before (Ok o) P lines end old new fault keeps = absurd fault
+fails-before (Err given) P lines end old new fault keeps = writes-nothing lines end old new given keeps
 
 -- another line was written
 pub line-more : (lines : List (List ℕ)) (line : List ℕ) (old mid new : Option (List ℕ)) → Appends old mid (concat lines) → Appends mid new line → Appends old new (concat (lines ++ line ∷ []))
@@ -226,18 +216,11 @@ rows-started is_cut row left rest s line old mid new r is good line_made wrote h
     let same : outcome_left s.version is_cut 0 rest ≡ rows_outcome is_cut left = outcome-started is_cut (start_in row) s rest good ∙ sym (ap (rows_outcome is_cut) is) in
     writes-through (start_line s ∷ []) (lines_left s.version 0 s.state rest) (rows_lines is_cut left) (outcome_left s.version is_cut 0 rest) (rows_outcome is_cut left) old mid new r (subst (Appends old mid) one wrote) whole same h
 
-rows-unwritten : (is_cut : Bool) (row : Row) (left rest : List Row) (s : Start) (line : List ℕ) (old new : Option (List ℕ)) → left ≡ row ∷ rest → start_in row ≡ Ok s → line ≡ start_line s → WrotePrefix old new line
-    → WrotePrefix old new (concat (rows_lines is_cut left))
-rows-unwritten is_cut row left rest s line old new is good line_made h =
-    let whole : rows_lines is_cut left ≡ start_line s ∷ lines_left s.version 0 s.state rest = ap (rows_lines is_cut) is ∙ lines-started (start_in row) s rest good in
-    prefix-more line (concat (lines_left s.version 0 s.state rest)) (concat (rows_lines is_cut left)) old new (ap concat whole ∙ ap (λ l. l ++ concat (lines_left s.version 0 s.state rest)) (sym line_made)) h
-
 -- or the line of record 0 couldn't be written
 pub rows-unstarted : (is_cut : Bool) (row : Row) (left rest : List Row) (s : Start) (old new : Option (List ℕ)) (fault : ReplayFault) → left ≡ row ∷ rest → start_in row ≡ Ok s → WritesLine (start_line s) old new (Err fault)
     → Writes (rows_lines is_cut left) (rows_outcome is_cut left) old new (Err fault)
-rows-unstarted is_cut row left rest s old new Read is good h = absurd h
-rows-unstarted is_cut row left rest s old new Memory is good h = (0, kept-none old new h)
-rows-unstarted is_cut row left rest s old new Write is good h = rows-unwritten is_cut row left rest s (start_line s) old new is good refl h
+rows-unstarted is_cut row left rest s old new fault is good h =
+    writes-line (start_line s) (lines_left s.version 0 s.state rest) (rows_lines is_cut left) (rows_outcome is_cut left) old new fault (ap (rows_lines is_cut) is ∙ lines-started (start_in row) s rest good) h
 
 pub writes-residual : (r : Result Outcome ReplayFault) (fault : InputFault) (lines : List (List ℕ)) (end : Outcome) (old : Option (List ℕ)) → IsErrAnd r (λ given. given ≡ replay_fault_of fault) → Writes lines end old old r
 writes-residual (Ok o) fault lines end old h = absurd h

@@ -9,7 +9,7 @@ use Rattle.csv_rows.specs.declared.script_end.Outcome.{Outcome}
 use Rattle.cell_replay.specs.Held.{left_to}
 use Rattle.cell_replay.specs.Records.{GivesRow, RowsLeft}
 use Rattle.cell_replay.specs.Script.{byte_limit, is_cut_of, rows_lines, rows_outcome}
-use Rattle.cell_replay.specs.Writing.{Writes, WritesNext, lines_left, outcome_left}
+use Rattle.cell_replay.specs.Writing.{Writes, lines_left, outcome_left}
 use Rattle.cell_replay.specs.declared.lent.LentReader.{Ghosts as Lent}
 use Rattle.cell_replay.specs.declared.lent.Origin.{Ghosts as Known}
 use Rattle.cell_replay.specs.declared.records.Records.{Records}
@@ -68,20 +68,8 @@ abbrev pub WritesRows : List ℕ → List Row → Option (List ℕ) → Option (
 WritesRows bytes rows old new result =
     Writes (rows_lines (is_cut_of bytes) rows) (rows_outcome (is_cut_of bytes) rows) old new result
 
--- the lines of these records, after a number of answered ones, are written; or a step failed
-abbrev pub WritesFrom : Version → ℕ → ModelState → List ℕ → List Row → Option (List ℕ) → Option (List ℕ)
-    → Result Outcome ReplayFault → Type 0
-WritesFrom version done s bytes rows old new result =
-    Writes (lines_left version done s rows) (outcome_left version (is_cut_of bytes) done rows) old new result
-
 -- the lines of these records after record 0 are written; or a step failed
 abbrev pub WritesLater : Version → ModelState → List ℕ → List Row → Option (List ℕ) → Option (List ℕ)
     → Result Outcome ReplayFault → Type 0
-WritesLater version s bytes rows old new result = WritesFrom version 0 s bytes rows old new result
-
--- the line of the first of these records, after a number of answered ones, is written; or the script ends; or the step
--- failed
-abbrev pub WritesFirst : Version → ℕ → ModelState → ModelState → List ℕ → List Row → Option (List ℕ) → Option (List ℕ)
-    → (List Row → Type 0) → Result (Option Outcome) ReplayFault → Type 0
-WritesFirst version done s new_s bytes rows old new After result =
-    WritesNext version (is_cut_of bytes) done s new_s rows old new After result
+WritesLater version s bytes rows old new result =
+    Writes (lines_left version 0 s rows) (outcome_left version (is_cut_of bytes) 0 rows) old new result

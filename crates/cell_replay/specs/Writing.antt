@@ -35,21 +35,6 @@ abbrev pub outcome_left : Version → Bool → ℕ → List Row → Outcome
 outcome_left version is_cut done left =
     end_of is_cut (done + length (requests_left version done left)) (done + length left)
 
--- a step: the line of the first record that is left is written, and the others are left; or the script ends; or the
--- step failed
-abbrev pub WritesNext : Version → Bool → ℕ → ModelState → ModelState → List Row → Option (List ℕ) → Option (List ℕ)
-    → (List Row → Type 0) → Result (Option Outcome) ReplayFault → Type 0
-WritesNext version is_cut done s new_s left old new After (Ok None) =
-    (rest : List Row) × (line : List ℕ) × Appends old new line
-    × (lines_left version done s left ≡ line ∷ lines_left version (done + 1) new_s rest)
-    × (outcome_left version is_cut done left ≡ outcome_left version is_cut (done + 1) rest) × After rest
-WritesNext version is_cut done s new_s left old new After (Ok (Some outcome)) =
-    (lines_left version done s left ≡ []) × (outcome_left version is_cut done left ≡ outcome) × Keeps old new
-WritesNext version is_cut done s new_s left old new After (Err Read) = Keeps old new
-WritesNext version is_cut done s new_s left old new After (Err Memory) = Keeps old new
-WritesNext version is_cut done s new_s left old new After (Err Write) =
-    WrotePrefix old new (concat (lines_left version done s left))
-
 -- these lines are written, and the script ends so; or a step failed: then some first lines, or a prefix, are written
 abbrev pub Writes : List (List ℕ) → Outcome → Option (List ℕ) → Option (List ℕ) → Result Outcome ReplayFault → Type 0
 Writes lines outcome old new (Ok o) = (o ≡ outcome) × Appends old new (concat lines)

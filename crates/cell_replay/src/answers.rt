@@ -1,29 +1,25 @@
 //! Writes the line of each record of a script as soon as it is known.
 
-ghost use Rattle.std.specs.Prelude.{◌≡◌, ◌<◌, ◌++◌, ℕ, List, Some, OnOk, if◌then◌else◌, string_bytes};
+ghost use Rattle.std.specs.Prelude.{◌≡◌, ◌++◌, ℕ, List, Some, IfOk, OnOk, if◌then◌else◌, string_bytes};
 ghost use Rattle.std.specs.Io.KnownBytes.{Keeps};
 ghost use Rattle.cell_types.specs.Answers.{answer_text};
-ghost use Rattle.cell_rules.specs.ModelState.{ModelState};
-ghost use Rattle.csv_rows.specs.ScriptEnd.{max_records};
 ghost use Rattle.cell_replay.specs.Script as script;
 ghost use Rattle.cell_replay.specs.Script.{line_of, start_line};
-ghost use Rattle.cell_replay.specs.ScriptRecords.{ArePlain, ForLeft, HasLeft, WritesFirst, WritesFrom};
+ghost use Rattle.cell_replay.specs.ScriptRecords.{ArePlain, ForLeft, GivesNext, HasLeft};
 ghost use Rattle.cell_replay.specs.ScriptRecords.{WritesLater, WritesRows};
 ghost use Rattle.cell_replay.specs.Writing.{WritesLine};
-ghost use Rattle.cell_replay.specs.declared.version.Version.{Version};
 
 use crate::fault::ReplayFault;
 use crate::lent::{LentReader, Origin};
 use crate::records::Records;
 use crate::request::read_request;
 use crate::script_start::{Start, read_start};
-use crate::version::Version;
-use cell_rules::{State, apply};
+use cell_rules::apply;
 use cell_types::Answer;
 use csv_rows::{MAX_RECORDS, Outcome, ScriptFault};
 use std::alloc::{AllocError, Global};
 use std::io::Write;
-use text_io::{WriteFault, flush, write_bytes};
+use text_io::{flush, write_bytes};
 
 /// Writes the lines of the records that are left, the first of which is record 0. Returns how the
 /// script ends.
@@ -76,97 +72,58 @@ fn answer_later<L: LentReader, K: Origin, W: Write>(
         WritesLater start.version start.state bytes left
         (W.contents writer.old) (W.contents writer.new) result) }
 {
-    let Start { version, mut state } = start;
+    let mut state = start.state;
     let mut line = String::new(alloc);
-    answer_each(records, version, &mut state, &mut line, writer)
-}
-
-/// Writes the lines of the records after record 0. `line` is room for a line.
-fn answer_each<L: LentReader, K: Origin, W: Write>(
-    records: &mut Records<'_, L, K>,
-    version: Version,
-    state: &mut State,
-    line: &mut String,
-    writer: &mut W,
-) -> Result<Outcome, ReplayFault>
-    requires { ArePlain records.old }
-    ensures written { ForLeft K.bytes L.left records.old (λ bytes left.
-        WritesLater version state.old bytes left
-        (W.contents writer.old) (W.contents writer.new) result) }
-{
     'rows: for done in 0..MAX_RECORDS {
-        if flush_at_pause(records, writer).is_err() {
-            return Err(ReplayFault::Write);
+        if !next_record(records, writer)? {
+            return Ok(end(records.is_cut()));
         }
-        match answer_next(records, version, state, done, line, writer) {
-            Ok(None) => {}
-            Ok(Some(outcome)) => return Ok(outcome),
-            Err(fault) => return Err(fault),
-        }
+        let Some(request) = read_request(start.version, records.row()) else {
+            return Ok(Outcome::Refused(ScriptFault::BadRow(done + 1)));
+        };
+        let answer = apply(&mut state, request.machine, request.call);
+        write_answer(&mut line, done + 1, state.stamp(), answer, writer)?;
     }
-    end_at_limit(records, writer)
-}
-
-/// Returns how a script ends of which as many records are answered as may be.
-fn end_at_limit<L: LentReader, K: Origin, W: Write>(
-    records: &mut Records<'_, L, K>,
-    writer: &mut W,
-) -> Result<Outcome, ReplayFault>
-    requires { ArePlain records.old }
-    ensures written { (version : Version) (s : ModelState) →
-        ForLeft K.bytes L.left records.old (λ bytes left. WritesFrom version max_records s bytes left
-        (W.contents writer.old) (W.contents writer.new) result) }
-{
-    if flush_at_pause(records, writer).is_err() {
-        return Err(ReplayFault::Write);
-    }
-    if records.next()? {
+    if next_record(records, writer)? {
         return Ok(Outcome::Refused(ScriptFault::Long));
     }
     Ok(end(records.is_cut()))
 }
 
-/// Writes the lines that wait, unless a further line was read already.
-fn flush_at_pause<L: LentReader, K: Origin, W: Write>(
-    records: &Records<'_, L, K>,
+/// Reads on to the next record. Returns whether there is one. Writes the lines that wait before,
+/// unless a further line was read already.
+fn next_record<L: LentReader, K: Origin, W: Write>(
+    records: &mut Records<'_, L, K>,
     writer: &mut W,
-) -> Result<(), WriteFault>
-    ensures { Keeps (W.contents writer.old) (W.contents writer.new) }
+) -> Result<bool, ReplayFault>
+    requires { ArePlain records.old }
+    ensures kept { Keeps (W.contents writer.old) (W.contents writer.new) }
+    ensures plain { OnOk result (ArePlain records.new) }
+    ensures gives { IfOk result (λ found. ForLeft K.bytes L.left records.old (λ bytes left.
+        GivesNext found records.new bytes left (HasLeft L.left bytes records.new))) }
 {
-    if records.has_line() {
-        return Ok(());
+    if !records.has_line() && flush(writer).is_err() {
+        return Err(ReplayFault::Write);
     }
-    flush(writer)
+    let found = records.next()?;
+    Ok(found)
 }
 
-/// Writes the line of the next record, or returns how the script ends. `done` is how many records
-/// after record 0 are answered. `line` is room for the line.
-fn answer_next<L: LentReader, K: Origin, W: Write>(
-    records: &mut Records<'_, L, K>,
-    version: Version,
-    state: &mut State,
-    done: u32,
+/// Writes the line of a record after record 0. `line` is room for it.
+fn write_answer<W: Write>(
     line: &mut String,
+    number: u32,
+    stamp: u32,
+    answer: Answer,
     writer: &mut W,
-) -> Result<Option<Outcome>, ReplayFault>
-    requires plain { ArePlain records.old }
-    requires few { done < max_records }
-    ensures plain { OnOk result (ArePlain records.new) }
-    ensures written { ForLeft K.bytes L.left records.old (λ bytes left.
-        WritesFirst version done state.old state.new bytes left
-        (W.contents writer.old) (W.contents writer.new) (HasLeft L.left bytes records.new) result) }
+) -> Result<(), ReplayFault>
+    ensures written { WritesLine (line_of number stamp (answer_text answer))
+        (W.contents writer.old) (W.contents writer.new) result }
 {
-    if !records.next()? {
-        return Ok(Some(end(records.is_cut())));
-    }
-    let Some(request) = read_request(version, records.row()) else {
-        return Ok(Some(Outcome::Refused(ScriptFault::BadRow(done + 1))));
-    };
-    let answer = apply(state, request.machine, request.call);
     line.clear();
-    push_line(line, done + 1, state.stamp(), answer)?;
+    push_line(line, number, stamp, answer)?;
     match write_bytes(writer, line.as_str().as_bytes()) {
-        Ok(()) => Ok(None),
+        Ok(()) => Ok(()),
         Err(_) => Err(ReplayFault::Write),
     }
 }

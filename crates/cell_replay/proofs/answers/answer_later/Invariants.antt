@@ -5,7 +5,7 @@ use Rattle.csv_rows.specs.Rows.{Row}
 use Rattle.cell_replay.specs.Script.{is_cut_of}
 use Rattle.cell_replay.specs.ScriptRecords.{ArePlain, HasLeft}
 use Rattle.cell_replay.specs.Writing.{lines_left, outcome_left}
-use Rattle.cell_replay.proofs.answers.answer_each.Given as goal
+use Rattle.cell_replay.proofs.answers.answer_later.Given as goal
 
 abbrev pub invariant-rows : goal.invariant-rows
 invariant-rows g l = record {
@@ -14,6 +14,6 @@ invariant-rows g l = record {
       → (lines : List (List ℕ)) × (left : List Row)
       × HasLeft g.L.LentReader.left bytes l.records left
       × Appends (g.W.Write.contents l.fn.writer) (g.W.Write.contents l.writer) (concat lines)
-      × (lines ++ lines_left l.version l.done l.state left ≡ lines_left l.version 0 l.fn.state all)
-      × (outcome_left l.version (is_cut_of bytes) l.done left ≡ outcome_left l.version (is_cut_of bytes) 0 all);
+      × (lines ++ lines_left l.fn.start.version l.done l.state left ≡ lines_left l.fn.start.version 0 l.fn.start.state all)
+      × (outcome_left l.fn.start.version (is_cut_of bytes) l.done left ≡ outcome_left l.fn.start.version (is_cut_of bytes) 0 all);
 }
