@@ -4,7 +4,7 @@ use Rattle.std.proofs.lemmas.List.Elements.{All-nil}
 use Rattle.plan_types.specs.declared.posture.Posture.TheVariants.{Closed, Moving, OpenIn}
 use Rattle.plan_types.specs.declared.call.Call.TheVariants.{Claim, Stop, Resume}
 use Rattle.plan_types.specs.declared.answer.Refusal.{Refusal}
-use Rattle.plan_types.specs.declared.answer.Refusal.TheVariants.{Held, AlreadyMine}
+use Rattle.plan_types.specs.declared.answer.Refusal.TheVariants.{NotParty, Stopped}
 use Rattle.plan_types.specs.declared.answer.Answer.TheVariants.{Refused}
 use Rattle.plan_types.specs.declared.answer.Event.{Event}
 use Rattle.plan_types.specs.Table.{watch}
@@ -103,9 +103,9 @@ stops = record {
 pub refusals : RefusalsBroken
 refusals = record {
   order = λ law.
-      let said : Refused (Held 1) ≡ Refused law.answered = law.answer in
-      let is : Held 1 ≡ law.answered = cc in
-      let e : false ≡ true = subst (λ (r : Refusal). is_no_later (order_of (Claim 0)) (number_of r) (number_of AlreadyMine) ≡ true) (sym is) law.order in
+      let said : Refused Stopped ≡ Refused law.answered = law.answer in
+      let is : Stopped ≡ law.answered = cc in
+      let e : false ≡ true = subst (λ (r : Refusal). is_no_later (order_of (Claim 0)) (number_of r) (number_of NotParty) ≡ true) (sym is) law.order in
       cc;
   answer = λ law. let e = law.answer in cc;
 }

@@ -4,7 +4,7 @@ use Rattle.std.specs.Prelude.{◌≡◌, ℕ, Bool, true, false, [], ◌∷◌, 
 use Rattle.plan_types.specs.declared.posture.Posture.{Posture}
 use Rattle.plan_types.specs.declared.posture.Posture.TheVariants.{Closed, Moving, OpenIn}
 use Rattle.plan_types.specs.declared.call.Call.TheVariants.{Claim, Give, Yield, Take, Release, SetPose, Stop, Resume}
-use Rattle.plan_types.specs.declared.answer.Refusal.TheVariants.{Held, AlreadyMine}
+use Rattle.plan_types.specs.declared.answer.Refusal.TheVariants.{NotParty, Held}
 use Rattle.plan_types.specs.Table.{watch}
 use Rattle.plan_types.specs.Examples.{press_table}
 use Rattle.plan_rules.specs.declared.state.State.{State}
@@ -72,9 +72,9 @@ pub record StopsBroken : Type 0 where
   pub stop_again : ¬ StoppedUntilResumed press_table (with_stop free) (done watch Stop ∷ [])
   pub resume_again : ¬ StoppedUntilResumed press_table free (done watch Resume ∷ [])
 
--- the loader is refused a claim, since the press has the zone; for what comes before that in the order it isn't
+-- the loader is refused a claim, since the plant is stopped; for what comes before that in the order it isn't
 pub record RefusalsBroken : Type 0 where
-  pub order : ¬ IsRefusedBy press_table moving 0 (Claim 0) AlreadyMine
+  pub order : ¬ IsRefusedBy press_table (with_stop free) 0 (Claim 0) NotParty
   pub answer : ¬ IsRefusedBy press_table free 1 (Claim 0) (Held 0)
 
 pub record LiteralFigures : Type 0 where
