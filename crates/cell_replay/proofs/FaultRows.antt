@@ -44,4 +44,5 @@ faults_are_met =
       memory_leaves_no_part = λ wrote. shorter _ (omega arith) (only_whole answer (codes " 0 st") 48 (subst (λ lines. WroteLines (Some []) (Some (codes "0 0 st")) lines) answered.0 wrote));
       write_leaves_part = subst (λ text. WrotePrefix (Some []) (Some (codes "0 0 st")) text) (sym answered.1) (6, refl);
       write_leaves_no_other = λ wrote. no_other (subst (λ text. WrotePrefix (Some []) (Some (codes "1")) text) answered.1 wrote);
+      most_taken = refl;
     }

@@ -1,7 +1,8 @@
 -- What replays that failed may have written: after a failed read, or out of memory, whole lines; after a failed write,
--- any prefix of the text.
-use Rattle.std.specs.Prelude.{ℕ, List, [], ◌∷◌, codes, Some}
+-- any prefix of the text. And the most bytes that a replay takes, however it ends.
+use Rattle.std.specs.Prelude.{◌≡◌, ℕ, List, [], ◌∷◌, codes, Some}
 use Rattle.cell_replay.specs.Faults.{Leaves, WroteLines}
+use Rattle.cell_replay.specs.Script.{max_bytes_read}
 use Rattle.cell_replay.specs.declared.fault.ReplayFault.{ReplayFault}
 use Rattle.cell_replay.specs.declared.fault.ReplayFault.TheVariants.{Read, Write, Memory}
 
@@ -27,3 +28,4 @@ pub record FaultsAreMet : Type 0 where
   pub memory_leaves_no_part : ¬ HasWritten Memory (codes "0 0 st")
   pub write_leaves_part : HasWritten Write (codes "0 0 st")
   pub write_leaves_no_other : ¬ HasWritten Write (codes "1")
+  pub most_taken : max_bytes_read ≡ 4194305
