@@ -130,6 +130,37 @@ impl Never {
     }
 }
 
+/// An end of a plate's way through a zone, and the party that keeps it.
+#[derive(Clone, Copy)]
+pub enum WayEnd {
+    /// The plate leaves a place of the guest.
+    FromGuest,
+    /// The plate leaves a place of the host.
+    FromHost,
+    /// The plate comes to a place of the guest.
+    ToGuest,
+    /// The plate comes to a place of the host.
+    ToHost,
+}
+
+impl WayEnd {
+    /// What is said before the place.
+    pub(crate) fn before(self) -> &'static str {
+        match self {
+            WayEnd::FromGuest | WayEnd::FromHost => "it leads from ",
+            WayEnd::ToGuest | WayEnd::ToHost => "it leads to ",
+        }
+    }
+
+    /// What is said between the place and the machine.
+    pub(crate) fn between(self) -> &'static str {
+        match self {
+            WayEnd::FromGuest | WayEnd::ToGuest => ", which isn't a place of the guest, ",
+            WayEnd::FromHost | WayEnd::ToHost => ", which isn't a place of the host, ",
+        }
+    }
+}
+
 /// What is wrong with the value of a key.
 #[derive(Drop)]
 pub enum Wrong {
@@ -186,8 +217,15 @@ pub enum Wrong {
     Never(Never, String),
     /// A zone's host is its guest.
     HostIsGuest,
-    /// The way doesn't lead from a place of the giver to a place of the receiver.
-    Astray,
+    /// A way leads from a place that the giver doesn't keep, or to one that the receiver doesn't.
+    Astray {
+        /// The place.
+        place: String,
+        /// Who keeps such a place, and which end of the way it is.
+        end: WayEnd,
+        /// The machine that should keep it.
+        machine: String,
+    },
     /// The machine doesn't host this zone.
     Foreign(String),
     /// Memory ran out.
@@ -306,6 +344,8 @@ pub enum PlanTextFault {
     Row {
         /// The line of what the fault is about, from 1; `None` if that isn't in the document.
         line: Option<usize>,
+        /// The line of the first of two names that are the same.
+        first: Option<usize>,
         /// The names of the rows that the fault is about.
         names: RowNames,
         /// The fault.
@@ -358,6 +398,7 @@ impl From<DocumentFault> for PlanTextFault {
             Wrong::Memory => PlanTextFault::Memory,
             wrong => PlanTextFault::Row {
                 line: None,
+                first: None,
                 names: RowNames::none(),
                 fault: fault.location.fault(wrong),
             },

@@ -1,6 +1,8 @@
 //! The words of faults.
 
-use crate::fault::{DocumentFault, Location, PlanTextFault, RowNames, RowOf, TooWide, Wrong};
+use crate::fault::{
+    DocumentFault, Key, Location, PlanTextFault, RowNames, RowOf, TooWide, WayEnd, Wrong,
+};
 use crate::reading::MAX_BYTES;
 use std::fmt;
 
@@ -90,6 +92,7 @@ fn write_fault<W: fmt::Write>(
     }
     match &fault.wrong {
         Wrong::Unknown(key) => write_unknown(f, row, key.as_str()),
+        Wrong::NoTables => f.write_str(no_tables(key)),
         wrong => write_wrong(wrong, f),
     }
 }
@@ -107,6 +110,28 @@ fn write_unknown<W: fmt::Write>(f: &mut fmt::Formatter<W>, row: RowOf, text: &st
     Ok(())
 }
 
+/// What is said of a value that isn't a list of tables.
+fn no_tables(key: Option<Key>) -> &'static str {
+    match key {
+        Some(Key::Machine) => "it takes a list of tables; begin each with [[machine]]",
+        Some(Key::Zone) => "it takes a list of tables; begin each with [[zone]]",
+        _ => "it takes a list of tables",
+    }
+}
+
+/// Writes that a way leads astray.
+fn write_astray<W: fmt::Write>(
+    f: &mut fmt::Formatter<W>,
+    place: &str,
+    end: WayEnd,
+    machine: &str,
+) -> fmt::Result {
+    let place = Quoted { text: place };
+    let machine = Quoted { text: machine };
+    let (before, between) = (end.before(), end.between());
+    write!(f, "{before}{place}{between}{machine}")
+}
+
 fn write_wrong<W: fmt::Write>(wrong: &Wrong, f: &mut fmt::Formatter<W>) -> fmt::Result {
     let (before, text, after) = match wrong {
         Wrong::NoName(text) => ("", text, NO_NAME),
@@ -121,6 +146,11 @@ fn write_wrong<W: fmt::Write>(wrong: &Wrong, f: &mut fmt::Formatter<W>) -> fmt::
         Wrong::NoCall(text) => ("", text, NO_CALL),
         Wrong::Never(why, text) => ("", text, why.text()),
         Wrong::Foreign(text) => ("the machine doesn't host ", text, ""),
+        Wrong::Astray {
+            place,
+            end,
+            machine,
+        } => return write_astray(f, place.as_str(), *end, machine.as_str()),
         other => return write_plain(other, f),
     };
     f.write_str(before)?;
@@ -139,13 +169,11 @@ fn write_plain<W: fmt::Write>(wrong: &Wrong, f: &mut fmt::Formatter<W>) -> fmt::
         Wrong::NoTexts => "it takes a list of texts, such as [\"hand\", \"die\"]",
         Wrong::NoLines => "it takes a list of texts, such as [\"claim door\", \"release door\"]",
         Wrong::NoTable => "it takes a table, such as { interior = \"closed\" }",
-        Wrong::NoTables => "it takes a list of tables",
         Wrong::NoTruth => "it takes true or false",
         Wrong::NoWay => "it takes two places: from which one, and to which",
         Wrong::TooMany(most) => return write!(f, "there are more than {most}"),
         Wrong::TooManyLines(most) => return write!(f, "it has more than {most} lines"),
         Wrong::HostIsGuest => "the host is its own guest",
-        Wrong::Astray => "it doesn't lead from a place of the giver to one of the receiver",
         _ => "memory ran out",
     };
     f.write_str(text)
@@ -161,15 +189,29 @@ impl fmt::Display for PlanTextFault {
                 let message = message.as_str();
                 write!(f, "plan line {line}: this isn't TOML: {message}")
             }
-            PlanTextFault::Row { line, names, fault } => {
+            PlanTextFault::Row {
+                line,
+                first,
+                names,
+                fault,
+            } => {
                 f.write_str("plan ")?;
                 if let Some(line) = line {
                     write!(f, "line {line}: ")?;
                 }
-                write_fault(f, names, fault)
+                write_fault(f, names, fault)?;
+                write_first(f, *first)
             }
             PlanTextFault::TooWide(plan) => write!(f, "plan wide: {plan}"),
         }
+    }
+}
+
+/// Writes the line of the first of two names that are the same.
+fn write_first<W: fmt::Write>(f: &mut fmt::Formatter<W>, first: Option<usize>) -> fmt::Result {
+    match first {
+        Some(line) => write!(f, ", first on line {line}"),
+        None => Ok(()),
     }
 }
 

@@ -4,6 +4,7 @@
 pub mod document;
 pub mod fault;
 mod fault_words;
+mod first;
 pub mod laws;
 mod locating;
 mod programs;
@@ -14,6 +15,8 @@ mod tables;
 mod values;
 
 pub use document::{Document, MachineRow, PoseRow, PostureRow, WayRow, ZoneRow};
-pub use fault::{DocumentFault, Key, Location, PlanTextFault, RowNames, RowOf, TooWide, Wrong};
+pub use fault::{
+    DocumentFault, Key, Location, PlanTextFault, RowNames, RowOf, TooWide, WayEnd, Wrong,
+};
 pub use reading::{MAX_BYTES, plan_of, read_plan};
 pub use resolving::ProgrammedPlan;

@@ -19,6 +19,17 @@ pub fn line_of(
     line_of_steps(alloc, bytes, steps.as_slice())
 }
 
+/// The line of a place of a document, from 1, or of the row in which it is.
+pub fn line_at(
+    alloc: Global,
+    bytes: &[u8],
+    location: Location,
+) -> Result<Option<usize>, AllocError> {
+    let mut steps = Vec::new(alloc);
+    push_location(&mut steps, location)?;
+    line_of_steps(alloc, bytes, steps.as_slice())
+}
+
 /// The line, from 1, of the place to which the most first ones of these steps lead.
 fn line_of_steps(
     alloc: Global,

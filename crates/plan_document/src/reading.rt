@@ -11,7 +11,8 @@ ghost use Rattle.plan_document.specs.declared.fault.Key.TheVariants.{Machine, Po
 
 use crate::document::{Document, MachineRow, PoseRow, ZoneRow};
 use crate::fault::{DocumentFault, Key, PlanTextFault, RowNames, RowOf, Wrong};
-use crate::locating::line_of;
+use crate::first::first_of;
+use crate::locating::{line_at, line_of};
 use crate::resolving::{ProgrammedPlan, programmed_plan_of};
 use crate::row_names::names_of;
 use crate::values::{
@@ -77,22 +78,42 @@ fn plan_in(alloc: Global, table: &Table) -> Result<ProgrammedPlan, PlanTextFault
 fn placed(alloc: Global, bytes: &[u8], table: &Table, fault: PlanTextFault) -> PlanTextFault {
     match fault {
         PlanTextFault::Row { fault, .. } => match places_of(alloc, bytes, table, &fault) {
-            Ok((line, names)) => PlanTextFault::Row { line, names, fault },
+            Ok((line, first, names)) => PlanTextFault::Row {
+                line,
+                first,
+                names,
+                fault,
+            },
             Err(AllocError) => PlanTextFault::Memory,
         },
         other => other,
     }
 }
 
-/// The line of a fault, if it has one, and the names of its rows.
+/// The line of a fault, if it has one, that of the first of two names, and the names of its rows.
 fn places_of(
     alloc: Global,
     bytes: &[u8],
     table: &Table,
     fault: &DocumentFault,
-) -> Result<(Option<usize>, RowNames), AllocError> {
+) -> Result<(Option<usize>, Option<usize>, RowNames), AllocError> {
+    let line = line_of(alloc, bytes, fault)?;
+    let first = line_of_first(alloc, bytes, table, fault)?;
     let names = names_of(alloc, table, fault.location)?;
-    Ok((line_of(alloc, bytes, fault)?, names))
+    Ok((line, first, names))
+}
+
+/// The line of the first of two names that are the same, if a fault says that they are.
+fn line_of_first(
+    alloc: Global,
+    bytes: &[u8],
+    table: &Table,
+    fault: &DocumentFault,
+) -> Result<Option<usize>, AllocError> {
+    match first_of(table, fault) {
+        Some(location) => line_at(alloc, bytes, location),
+        None => Ok(None),
+    }
 }
 
 /// The rows in a table.

@@ -3,7 +3,9 @@ ghost use Rattle.std.specs.Prelude.{IfOk};
 ghost use Rattle.plan_document.specs.Saying.{IsNamedPlanOf, IsPlanOf};
 
 use crate::document::Document;
-use crate::fault::{DocumentFault, Key, PlanTextFault, RowOf, TooWide, Wrong, too_many};
+use crate::fault::{
+    DocumentFault, Key, Location, PlanTextFault, RowOf, TooWide, WayEnd, Wrong, too_many,
+};
 use crate::programs::programs_of;
 use crate::tables::rows_of;
 use crate::values::copy;
@@ -75,10 +77,8 @@ fn table_fault(alloc: Global, document: &Document, fault: PlanFault) -> PlanText
         PlanFault::HostIsGuest { zone } => RowOf::Zone(zone)
             .key(Key::Guest)
             .fault(Wrong::HostIsGuest),
-        PlanFault::InwardAstray { zone } => RowOf::Zone(zone).key(Key::Inward).fault(Wrong::Astray),
-        PlanFault::OutwardAstray { zone } => RowOf::Zone(zone)
-            .key(Key::Outward)
-            .fault(Wrong::Astray),
+        PlanFault::InwardAstray { zone } => inward_astray(alloc, document, zone),
+        PlanFault::OutwardAstray { zone } => outward_astray(alloc, document, zone),
         PlanFault::NoSuchMachine { pose } => {
             pose_at(document, pose).whole().fault(Wrong::Missing)
         }
@@ -108,6 +108,71 @@ fn foreign_zone(alloc: Global, document: &Document, pose: usize, zone: usize) ->
         Ok(name) => at.key(Key::Gives).fault(Wrong::Foreign(name)),
         Err(AllocError) => at.whole().fault(Wrong::Memory),
     }
+}
+
+/// The fault of a way inward, which has to lead from a place of the guest to one of the host.
+fn inward_astray(alloc: Global, document: &Document, zone: usize) -> DocumentFault {
+    let at = RowOf::Zone(zone);
+    let Some((row, way)) = document
+        .zones
+        .get(zone)
+        .and_then(|row| row.inward.as_ref().map(|way| (row, way)))
+    else {
+        return at.key(Key::Inward).fault(Wrong::NoWay);
+    };
+    if keeps(document, row.guest.as_str(), way.from.as_str()) {
+        let to = (way.to.as_str(), WayEnd::ToHost, row.host.as_str());
+        astray(alloc, at.item(Key::Inward, 1), to)
+    } else {
+        let from = (way.from.as_str(), WayEnd::FromGuest, row.guest.as_str());
+        astray(alloc, at.item(Key::Inward, 0), from)
+    }
+}
+
+/// The fault of a way outward, which has to lead from a place of the host to one of the guest.
+fn outward_astray(alloc: Global, document: &Document, zone: usize) -> DocumentFault {
+    let at = RowOf::Zone(zone);
+    let Some((row, way)) = document
+        .zones
+        .get(zone)
+        .and_then(|row| row.outward.as_ref().map(|way| (row, way)))
+    else {
+        return at.key(Key::Outward).fault(Wrong::NoWay);
+    };
+    if keeps(document, row.host.as_str(), way.from.as_str()) {
+        let to = (way.to.as_str(), WayEnd::ToGuest, row.guest.as_str());
+        astray(alloc, at.item(Key::Outward, 1), to)
+    } else {
+        let from = (way.from.as_str(), WayEnd::FromHost, row.host.as_str());
+        astray(alloc, at.item(Key::Outward, 0), from)
+    }
+}
+
+/// Whether a machine keeps a place, by their names.
+fn keeps(document: &Document, machine: &str, place: &str) -> bool {
+    document.machines.iter().any(|row| {
+        row.name.as_str() == machine && row.places.iter().any(|kept| kept.as_str() == place)
+    })
+}
+
+/// The fault of an end of a way: the place there, which end it is, and the machine that doesn't keep it.
+fn astray(
+    alloc: Global,
+    at: Location,
+    (place, end, machine): (&str, WayEnd, &str),
+) -> DocumentFault {
+    match astray_end(alloc, place, end, machine) {
+        Ok(wrong) => at.fault(wrong),
+        Err(AllocError) => at.fault(Wrong::Memory),
+    }
+}
+
+fn astray_end(alloc: Global, place: &str, end: WayEnd, machine: &str) -> Result<Wrong, AllocError> {
+    Ok(Wrong::Astray {
+        place: copy(alloc, place)?,
+        end,
+        machine: copy(alloc, machine)?,
+    })
 }
 
 /// The row of a pose by its number among those of all machines.

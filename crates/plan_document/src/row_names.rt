@@ -30,7 +30,7 @@ pub fn names_of(alloc: Global, table: &Table, location: Location) -> Result<RowN
 }
 
 /// A row in the list of a key.
-fn row_at(table: &Table, key: Key, index: usize) -> Option<&Table> {
+pub fn row_at(table: &Table, key: Key, index: usize) -> Option<&Table> {
     value_at(table, key)?.as_array()?.get(index)?.as_table()
 }
 
@@ -47,7 +47,7 @@ fn name_at(
 }
 
 /// The name in a row, if it is one.
-fn name_in(row: &Table) -> Option<&str> {
+pub fn name_in(row: &Table) -> Option<&str> {
     let name = value_at(row, Key::Name)?.as_str()?;
     if is_name(name) { Some(name) } else { None }
 }

@@ -154,12 +154,14 @@ const SCRIPTS: &[(&str, u8, &str)] = &[
     (
         "start,00\nwatch,stop\npress,clam\n",
         1,
-        "0 0 start 0\n1 1 done\nrecord 2, field 2: this isn't a verb\nfault badrow 2\n",
+        "0 0 start 0\n1 1 done\nrecord 2, field 2: this isn't a verb; known: stop, resume, \
+         and with a name claim, give, yield, take, release, inquire, pose\nfault badrow 2\n",
     ),
     (
         "start,00\nwatch,stop,interior\n",
         1,
-        "0 0 start 0\nrecord 1, field 2: this isn't a verb that takes a name\nfault badrow 1\n",
+        "0 0 start 0\nrecord 1, field 2: this isn't a verb that takes a name; known: \
+         claim, give, yield, take, release, inquire, pose\nfault badrow 1\n",
     ),
     (
         "start,00\n\nwatch,claim,interior\nloader,stop\n",

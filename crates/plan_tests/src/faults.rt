@@ -23,11 +23,15 @@ const ROWS: &[(&str, &str)] = &[
     ),
     (
         "machine = 1\n",
-        "line 1: the document: machine: it takes a list of tables",
+        "line 1: the document: machine: it takes a list of tables; begin each with [[machine]]",
     ),
     (
         "machine = [1]\n",
-        "line 1: the document: machine: it takes a list of tables",
+        "line 1: the document: machine: it takes a list of tables; begin each with [[machine]]",
+    ),
+    (
+        "[machine]\nname = \"a\"\n",
+        "line 1: the document: machine: it takes a list of tables; begin each with [[machine]]",
     ),
     ("[[machine]]\n", "line 1: machine 1: name: it is missing"),
     (
@@ -53,7 +57,7 @@ const ROWS: &[(&str, &str)] = &[
     ),
     (
         "[[machine]]\nname = \"a\"\n[[machine]]\nname = \"a\"\n",
-        "line 4: machine 2: name: \"a\" is defined twice",
+        "line 4: machine 2: name: \"a\" is defined twice, first on line 2",
     ),
     (
         "[[machine]]\nname = \"a\"\nplaces = \"p\"\n",
@@ -61,7 +65,7 @@ const ROWS: &[(&str, &str)] = &[
     ),
     (
         "[[machine]]\nname = \"a\"\nplaces = [\"p\", \"p\"]\n",
-        "line 3: machine a: places: \"p\" is defined twice",
+        "line 3: machine a: places: \"p\" is defined twice, first on line 3",
     ),
     (
         "[[machine]]\nname = \"a\"\nposes = 1\n",
@@ -112,7 +116,7 @@ name = \"a\"
 
 name = \"a\"
 ",
-        "line 9: machine 2: name: \"a\" is defined twice",
+        "line 9: machine 2: name: \"a\" is defined twice, first on line 4",
     ),
     // Lines end by CRLF, and a byte order mark comes first.
     (
@@ -131,7 +135,7 @@ program = ['''
 [[machine]]
 \"name\" = \"a\"
 ",
-        "line 8: machine 2: name: \"a\" is defined twice",
+        "line 8: machine 2: name: \"a\" is defined twice, first on line 2",
     ),
     // A key is missing, and the next row has it: the line is the head's.
     (
@@ -150,7 +154,7 @@ program = ['''
     // A list has several lines: the line is the text's.
     (
         "[[machine]]\nname = \"a\"\nplaces = [\n  \"p\", # \"p\"\n  \"q\",\n  \"p\",\n]\n",
-        "line 6: machine a: places: \"p\" is defined twice",
+        "line 6: machine a: places: \"p\" is defined twice, first on line 4",
     ),
     (
         "[[machine]]\nname = \"a\"\nplaces = [\n  \"p\",\n  1,\n]\n",
@@ -169,7 +173,7 @@ poses = [
   { name = \"x\", gives = {} },
 ]
 ",
-        "line 8: machine a: pose 3: name: \"x\" is defined twice",
+        "line 8: machine a: pose 3: name: \"x\" is defined twice, first on line 4",
     ),
     (
         "\
@@ -292,11 +296,19 @@ const LAST: &[(&str, &str)] = &[
     ),
     (
         "inward = [\"p\", \"q\"]\n",
-        "line 11: zone z: inward: it doesn't lead from a place of the giver to one of the receiver",
+        "line 11: zone z: inward: it leads from \"p\", which isn't a place of the guest, \"b\"",
+    ),
+    (
+        "inward = [\"q\", \"q\"]\n",
+        "line 11: zone z: inward: it leads to \"q\", which isn't a place of the host, \"a\"",
     ),
     (
         "outward = [\"q\", \"p\"]\n",
-        "line 11: zone z: outward: it doesn't lead from a place of the giver to one of the receiver",
+        "line 11: zone z: outward: it leads from \"q\", which isn't a place of the host, \"a\"",
+    ),
+    (
+        "outward = [\"p\", \"p\"]\n",
+        "line 11: zone z: outward: it leads to \"p\", which isn't a place of the guest, \"b\"",
     ),
     (
         "inwards = [\"p\", \"q\"]\n",
@@ -304,7 +316,7 @@ const LAST: &[(&str, &str)] = &[
     ),
     (
         "[[zone]]\nname = \"z\"\nhost = \"a\"\nguest = \"b\"\n",
-        "line 12: zone 2: name: \"z\" is defined twice",
+        "line 12: zone 2: name: \"z\" is defined twice, first on line 8",
     ),
     (
         "[[machine]]\nname = \"c\"\nposes = [{ name = \"x\", gives = { z = \"closed\" } }]\n",
@@ -363,11 +375,11 @@ const LAST: &[(&str, &str)] = &[
     ),
     (
         "outward = [\n  \"q\",\n  \"p\",\n]\n",
-        "line 11: zone z: outward: it doesn't lead from a place of the giver to one of the receiver",
+        "line 12: zone z: outward: it leads from \"q\", which isn't a place of the host, \"a\"",
     ),
     (
         "\n[[zone]]\nname = \"y\"\nhost = \"b\"\nguest = \"a\"\ninward = [\"q\", \"p\"]\n",
-        "line 16: zone y: inward: it doesn't lead from a place of the giver to one of the receiver",
+        "line 16: zone y: inward: it leads from \"q\", which isn't a place of the guest, \"a\"",
     ),
     (
         "[[machine]]\nname = \"c\"\n[[machine.poses]]\nname = \"x\"\ngives.z = \"shut\"\n",

@@ -1,5 +1,5 @@
 -- Why a record of a script has no call: the first field that is wrong, and how.
-use Rattle.std.specs.Prelude.{ℕ, length, nat_lt, codes, Option, Some, None, if◌then◌else◌}
+use Rattle.std.specs.Prelude.{ℕ, ◌++◌, length, nat_lt, codes, Option, Some, None, if◌then◌else◌}
 use Rattle.std.specs.Option.{option_and_then}
 use Rattle.csv.specs.Records.{field_at}
 use Rattle.csv_rows.specs.Rows.{Row}
@@ -11,13 +11,16 @@ use Rattle.plan_text.specs.declared.calls.Verb.TheVariants.{Pose}
 
 -- a verb about a name that no zone has, or no pose
 abbrev pub no_object : Option Verb → Text
-no_object None = codes "field 2: this isn't a verb that takes a name"
+no_object None =
+    codes "field 2: this isn't a verb that takes a name; known: claim, give, yield, take, release, inquire, pose"
 no_object (Some Pose) = codes "field 3: no pose has this name"
 no_object (Some _) = codes "field 3: no zone has this name"
 
 -- a verb alone
 abbrev pub no_name : Option Verb → Text
-no_name None = codes "field 2: this isn't a verb"
+no_name None =
+    codes "field 2: this isn't a verb; known: stop, resume, "
+    ++ codes "and with a name claim, give, yield, take, release, inquire, pose"
 no_name (Some _) = codes "field 3: a name is missing"
 
 abbrev pub wrong_words : Option Text → Option Text → Text

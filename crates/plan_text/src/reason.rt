@@ -10,12 +10,20 @@ use csv::ByteRecord;
 /// What is said of a record whose first field names no machine.
 const NO_MACHINE: &str = "field 1: no machine has this name";
 
+/// What is said of a word before a name that isn't a verb, or not of a name.
+const NO_VERB_OF_A_NAME: &str =
+    "field 2: this isn't a verb that takes a name; known: claim, give, yield, take, release, inquire, pose";
+
+/// What is said of a word with nothing after it that isn't a verb.
+const NO_VERB: &str = "field 2: this isn't a verb; known: stop, resume, \
+     and with a name claim, give, yield, take, release, inquire, pose";
+
 /// What is wrong with a verb and a name after it.
 fn no_object(verb: Option<Verb>) -> &'static str
     ensures { result.now ≡ spec.no_object verb }
 {
     match verb {
-        None => "field 2: this isn't a verb that takes a name",
+        None => NO_VERB_OF_A_NAME,
         Some(Verb::Pose) => "field 3: no pose has this name",
         Some(_) => "field 3: no zone has this name",
     }
@@ -26,7 +34,7 @@ fn no_name(verb: Option<Verb>) -> &'static str
     ensures { result.now ≡ spec.no_name verb }
 {
     match verb {
-        None => "field 2: this isn't a verb",
+        None => NO_VERB,
         Some(_) => "field 3: a name is missing",
     }
 }

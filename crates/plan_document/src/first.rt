@@ -1,0 +1,62 @@
+//! Finds the first of two names that are the same.
+
+use crate::fault::{DocumentFault, Key, Location, RowOf, Wrong};
+use crate::row_names::{name_in, row_at};
+use crate::values::value_at;
+use toml::Table;
+
+/// Where the first of two names stands, if a fault says that a name is defined twice.
+pub fn first_of(table: &Table, fault: &DocumentFault) -> Option<Location> {
+    match &fault.wrong {
+        Wrong::Twice(name) => first_named(table, fault.location, name.as_str()),
+        _ => None,
+    }
+}
+
+/// Where the first name stands that is this one, of the kind that stands at a place of the document.
+fn first_named(table: &Table, second: Location, name: &str) -> Option<Location> {
+    match (second.row, second.item) {
+        (RowOf::Document, _) => None,
+        (RowOf::Machine(machine), None) => {
+            let first = first_row(table, Key::Machine, machine, name)?;
+            Some(RowOf::Machine(first).key(Key::Name))
+        }
+        (RowOf::Machine(machine), Some(_)) => first_place(table, machine, name),
+        (RowOf::Zone(zone), _) => {
+            let first = first_row(table, Key::Zone, zone, name)?;
+            Some(RowOf::Zone(first).key(Key::Name))
+        }
+        (RowOf::Pose { machine, pose }, _) => {
+            let row = row_at(table, Key::Machine, machine)?;
+            let pose = first_row(row, Key::Poses, pose, name)?;
+            Some(RowOf::Pose { machine, pose }.key(Key::Name))
+        }
+    }
+}
+
+/// The first of the rows before a number that has this name.
+fn first_row(table: &Table, key: Key, end: usize, name: &str) -> Option<usize> {
+    for index in 0..end {
+        if row_at(table, key, index).and_then(name_in) == Some(name) {
+            return Some(index);
+        }
+    }
+    None
+}
+
+/// Where the first place with this name stands, of the machines up to one of them.
+fn first_place(table: &Table, last: usize, name: &str) -> Option<Location> {
+    for machine in 0..=last {
+        let row = row_at(table, Key::Machine, machine)?;
+        if let Some(item) = place_named(row, name) {
+            return Some(RowOf::Machine(machine).item(Key::Places, item));
+        }
+    }
+    None
+}
+
+/// The number of a place among those of a machine.
+fn place_named(machine: &Table, name: &str) -> Option<usize> {
+    let places = value_at(machine, Key::Places)?.as_array()?;
+    places.iter().position(|place| place.as_str() == Some(name))
+}
