@@ -125,7 +125,7 @@ south_train goes on for ever if neither it nor points is passed over for ever: w
 ";
 
 /// The example of a lift.
-const LIFT: &str = "\
+pub const LIFT: &str = "\
 [[machine]]
 name = \"lift\"
 places = [\"cabin\"]

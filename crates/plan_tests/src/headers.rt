@@ -1,7 +1,8 @@
-//! The header of the press, whole.
+//! The headers of the press and of the lift, and the lift's report, whole.
 
 use super::answered_examples::PRESS;
 use super::doubles::is_answered;
+use super::going::LIFT;
 
 /// The header of the press.
 pub const HEADER: &str = "\
@@ -77,7 +78,118 @@ static const uint8_t PLAN_BYTES[] = {
 #endif
 ";
 
+/// The header of the lift.
+const LIFT_HEADER: &str = "\
+/* A plan's names and the layout of its word, as `plan header` prints them. The word of a state has the fields below,
+   from the lowest bit: the zones, the places, the stamp and the stop. A zone's bits are, from the lowest, two for its
+   owner, one for its flag (a plate is in it) and two for its posture. */
+#ifndef PLAN_H
+#define PLAN_H
+
+#include <stdint.h>
+
+/* Machines. The watch is none of them. */
+#define PLAN_MACHINE_LIFT 0
+#define PLAN_MACHINE_BELOW 1
+#define PLAN_MACHINE_ABOVE 2
+#define PLAN_MACHINES 3
+#define PLAN_WATCH 15
+
+/* Zones. */
+#define PLAN_ZONE_LOWER 0
+#define PLAN_ZONE_UPPER 1
+#define PLAN_ZONES 2
+
+/* Places. */
+#define PLAN_PLACE_CABIN 0
+#define PLAN_PLACE_GROUND 1
+#define PLAN_PLACE_GALLERY 2
+#define PLAN_PLACES 3
+
+/* Poses, by machine and name. */
+#define PLAN_POSE_LIFT_TRAVELLING 0
+#define PLAN_POSE_LIFT_LOAD_BELOW 1
+#define PLAN_POSE_LIFT_UNLOAD_ABOVE 2
+#define PLAN_POSE_LIFT_UNLOAD_BELOW 3
+#define PLAN_POSE_LIFT_LOAD_ABOVE 4
+#define PLAN_POSES 5
+
+/* Who hosts a zone, who is its guest, and who keeps a place. */
+#define PLAN_HOST_OF_LOWER PLAN_MACHINE_LIFT
+#define PLAN_GUEST_OF_LOWER PLAN_MACHINE_BELOW
+#define PLAN_HOST_OF_UPPER PLAN_MACHINE_LIFT
+#define PLAN_GUEST_OF_UPPER PLAN_MACHINE_ABOVE
+#define PLAN_KEEPER_OF_CABIN PLAN_MACHINE_LIFT
+#define PLAN_KEEPER_OF_GROUND PLAN_MACHINE_BELOW
+#define PLAN_KEEPER_OF_GALLERY PLAN_MACHINE_ABOVE
+
+/* Of a zone's field: who owns it, and its posture. */
+enum plan_owner { PLAN_OWNER_FREE = 0, PLAN_OWNER_HOST = 1, PLAN_OWNER_GUEST = 2 };
+enum plan_posture {
+    PLAN_POSTURE_CLOSED = 0,
+    PLAN_POSTURE_MOVING = 1,
+    PLAN_POSTURE_OPENIN = 2,
+    PLAN_POSTURE_OPENOUT = 3
+};
+
+/* The lowest bit of each field, and how many bits a field has. */
+#define PLAN_BIT_ZONE_LOWER 0
+#define PLAN_BIT_ZONE_UPPER 5
+#define PLAN_BIT_PLACE_CABIN 10
+#define PLAN_BIT_PLACE_GROUND 11
+#define PLAN_BIT_PLACE_GALLERY 12
+#define PLAN_BIT_STAMP 13
+#define PLAN_BIT_STOP 33
+#define PLAN_BITS_ZONE 5
+#define PLAN_BITS_PLACE 1
+#define PLAN_BITS_STAMP 20
+#define PLAN_BITS_STOP 1
+#define PLAN_BITS 34
+
+/* The plan, for bagunjoki_plan.h. */
+static const uint8_t PLAN_BYTES[] = {
+    3, 2, 5, 3, 0, 1, 1, 1,
+    0, 1, 0, 1, 0, 2, 1, 2,
+    0, 1, 0, 2, 0, 0, 2, 2,
+    0, 0, 0, 0, 0, 0, 0, 0,
+    0, 1, 3, 1, 0, 0, 0, 0,
+    0, 0, 0, 0, 0, 1, 1, 4,
+    0, 0, 0, 0, 0, 0, 0, 0,
+    0, 1, 4, 1, 0, 0, 0, 0,
+    0, 0, 0, 0, 0, 1, 1, 3,
+    0, 0, 0, 0, 0, 0, 0, 0,
+    0, 1, 2,
+};
+
+#endif
+";
+
+/// The report of the lift.
+const LIFT_REPORT: &str = "\
+3 machines: lift below above
+2 zones: lower upper
+3 places: cabin ground gallery
+5 poses: travelling load_below unload_above unload_below load_above
+a word of 34 bits
+bit 0, 5 bits: zone lower
+bit 5, 5 bits: zone upper
+bit 10, 1 bit: place cabin
+bit 11, 1 bit: place ground
+bit 12, 1 bit: place gallery
+bit 13, 20 bits: stamp
+bit 33, 1 bit: stop
+";
+
+/// A word, a plan, and what is printed of it.
+const ROWS: &[(&[u8], &str, &str)] = &[
+    (b"header", PRESS, HEADER),
+    (b"header", LIFT, LIFT_HEADER),
+    (b"check", LIFT, LIFT_REPORT),
+];
+
 #[test]
-fn prints_the_header_of_the_press(rt: HostRuntime) {
-    assert!(rt; is_answered(rt.alloc(), b"header", PRESS, 0, HEADER));
+fn prints_headers_and_a_report(rt: HostRuntime) {
+    for (word, plan, text) in ROWS {
+        assert!(rt; is_answered(rt.alloc(), word, plan, 0, text), "{text}");
+    }
 }
