@@ -2,3 +2,4 @@ mod Inputs
 mod Lines
 mod Screens
 mod WordRows
+mod LineRows

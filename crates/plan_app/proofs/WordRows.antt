@@ -1,7 +1,7 @@
--- The examples of `words_are_told`.
+-- The examples of `words_are_told` and `plates_are_told`.
 use Rattle.std.proofs.Common.{refl}
 use Rattle.std.specs.Fmt.{digits}
-use Rattle.plan_app.specs.WordExamples.{WordsAreTold}
+use Rattle.plan_app.specs.WordExamples.{PlatesAreTold, WordsAreTold}
 
 pub words-told : WordsAreTold
 unfolding digits
@@ -15,5 +15,13 @@ words-told = record {
   if_two = λ t order. refl;
   starves = λ t order. refl;
   unknown = λ t reason. refl;
-  plates = refl;
+}
+
+pub plates-told : PlatesAreTold
+unfolding digits
+plates-told = record {
+  move = λ t ps s. refl;
+  rest = λ t ps s order empty. rw (empty.stem, empty.cycle) refl;
+  unknown = λ t ps s reason. refl;
+  machine = λ t ps s order empty. rw (empty.stem, empty.cycle) refl;
 }

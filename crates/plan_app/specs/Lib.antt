@@ -7,3 +7,4 @@ pub mod Going
 pub mod Screens
 pub mod Served
 pub mod WordExamples
+pub mod LineExamples

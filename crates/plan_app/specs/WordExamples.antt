@@ -2,14 +2,17 @@
 use Rattle.std.specs.Prelude.{◌≡◌, ℕ, [], ◌∷◌, ◌++◌, codes}
 use Rattle.graph_progress.specs.declared.answer.Reason.{Reason}
 use Rattle.plan_types.specs.Table.{PlanTable}
+use Rattle.plan_rules.specs.declared.state.State.{State}
+use Rattle.plan_explorer.specs.Programs.{PlanPrograms}
 use Rattle.plan_liveness.specs.declared.answer.Bound.{Bound}
 use Rattle.plan_liveness.specs.declared.answer.FairOrder.{FairOrder}
 use Rattle.plan_liveness.specs.declared.answer.Liveness.{Liveness}
 use Rattle.plan_liveness.specs.declared.answer.Liveness.TheVariants.{Silent, Always, IfOne, IfAll, IfTwo, Starves, Unknown}
+use Rattle.plan_liveness.specs.declared.answer.Progress.TheVariants as progress
 use Rattle.plan_liveness.specs.declared.answer.Relay.{Relay}
 use Rattle.plan_text.specs.Names.{Text}
 use Rattle.plan_text.specs.Named.{Named, named}
-use Rattle.plan_app.specs.Going.{answer_words, moving_text}
+use Rattle.plan_app.specs.Going.{answer_words, plates_text, starves_text}
 use Rattle.plan_app.specs.Words.{machine_name}
 
 abbrev pub within : ℕ → ℕ → Bound
@@ -46,4 +49,23 @@ pub record WordsAreTold : Type 0 where
       ≡ codes "cart may starve though no machine is passed over for ever\n"
   pub unknown : (t : PlanTable) (reason : Reason) → cart_line t (Unknown reason)
       ≡ codes "cart: it isn't known whether it goes on for ever\n"
-  pub plates : moving_text (within 6 0) ≡ codes "plates move for ever in each fair order: within k * 6 turns\n"
+
+-- an order of no turns
+pub record IsEmpty (order : FairOrder) : Type 0 where
+  pub stem : order.stem.items ≡ []
+  pub cycle : order.cycle.items ≡ []
+
+-- what is said of plates, and before an order in which a machine starves
+pub record PlatesAreTold : Type 0 where
+  pub move : (t : PlanTable) (ps : PlanPrograms) (s : State)
+      → plates_text (three t) ps s (progress.Within (within 6 0))
+      ≡ codes "plates move for ever in each fair order: within k * 6 turns\n"
+  pub rest : (t : PlanTable) (ps : PlanPrograms) (s : State) (order : FairOrder) → IsEmpty order
+      → plates_text (three t) ps s (progress.Starves order)
+      ≡ codes "plates may rest for ever\n" ++ codes "  a fair order in which none moves: first\n"
+      ++ codes "  and then again and again\n"
+  pub unknown : (t : PlanTable) (ps : PlanPrograms) (s : State) (reason : Reason)
+      → plates_text (three t) ps s (progress.Unknown reason) ≡ codes "it isn't known whether plates move for ever\n"
+  pub machine : (t : PlanTable) (ps : PlanPrograms) (s : State) (order : FairOrder) → IsEmpty order
+      → starves_text (three t) ps s 1 order
+      ≡ codes "  a fair order in which it starves: first\n" ++ codes "  and then again and again\n"

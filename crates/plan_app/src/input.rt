@@ -9,6 +9,9 @@ const MAX_SCRIPT_BYTES: usize = 4_194_304;
 /// The most bytes of a plan and a script together.
 pub const MAX_BYTES: usize = plan_document::MAX_BYTES + MAX_SCRIPT_BYTES;
 
+// Its README names this number.
+const _: () = prove!(MAX_BYTES == 4_259_840);
+
 /// What a script begins with.
 const BEGIN: &[u8] = b"start,";
 

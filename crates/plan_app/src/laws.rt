@@ -1,8 +1,24 @@
 //! Laws of what is printed, each the contract of a function that does nothing.
 
-ghost use Rattle.plan_app.specs.WordExamples.{WordsAreTold};
+ghost use Rattle.plan_app.specs.LineExamples.{HeaderLines, ReportLines};
+ghost use Rattle.plan_app.specs.WordExamples.{PlatesAreTold, WordsAreTold};
 
-/// Examples: the whole line of each answer to whether a machine goes on for ever, and of plates.
+/// Examples: the whole line of each answer to whether a machine goes on for ever.
 pub fn words_are_told()
     ensures { WordsAreTold }
+{}
+
+/// Examples: the whole text of each answer to whether plates move for ever, and what comes before a starving order.
+pub fn plates_are_told()
+    ensures { PlatesAreTold }
+{}
+
+/// Examples: lines of the report of a lift, whole.
+pub fn report_lines_are_met()
+    ensures { ReportLines }
+{}
+
+/// Examples: lines of the header of a lift, whole.
+pub fn header_lines_are_met()
+    ensures { HeaderLines }
 {}
