@@ -2,7 +2,6 @@
 //! say.
 
 use crate::quoted::{push_quoted, push_quoted_char};
-use crate::records;
 use crate::section_words::push_refused_section;
 use crate::source::{MAX_DEPTH, Source};
 use crate::start_words::push_plate_count;
@@ -86,22 +85,12 @@ fn push_no_toml(
     before: usize,
     message: &str,
 ) -> Result<(), AllocError> {
-    let line = line_of_fault(bytes, before);
+    let line = line_number(bytes, before);
     write!(words, "line {line}: it is no TOML: {message}")?;
     let places = places_of(alloc, bytes)?;
     match key_around(places.as_slice(), before) {
         Some(place) => push_value_around(words, place, line_number(bytes, place.start), line),
         None => Ok(()),
-    }
-}
-
-/// The line of the byte at which a text is found to be no TOML. Of bytes that aren't UTF-8 lines are counted as in
-/// scripts.
-fn line_of_fault(bytes: &[u8], before: usize) -> usize {
-    if str::from_utf8(bytes).is_ok() {
-        line_number(bytes, before)
-    } else {
-        records::line_number(bytes, before)
     }
 }
 

@@ -76,12 +76,8 @@ fn line_after(script: &[u8], before: usize) -> usize {
     };
     let rest = script.get(before..).unwrap_or(&[]);
     let blank = rest.iter().take_while(|byte| is_line_end(**byte)).count();
-    line_number(script, before.saturating_add(blank))
-}
-
-/// The line of the byte at offset `before`.
-pub fn line_number(bytes: &[u8], before: usize) -> usize {
-    line_ends(&bytes[..before.min(bytes.len())]).saturating_add(1)
+    let end = before.saturating_add(blank).min(script.len());
+    line_ends(&script[..end]).saturating_add(1)
 }
 
 /// Whether a byte ends a line.

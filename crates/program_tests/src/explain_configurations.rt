@@ -128,6 +128,11 @@ const NO_TOML: &[(&[u8], &str)] = &[
         b"start = \"0100000000\"\nschedule = \"t\xff\"\n",
         "config text: line 2: it is no TOML: invalid UTF-8\n",
     ),
+    // a carriage return alone ends no line
+    (
+        b"# \r\nstart = \"0100000000\" # \r\n# \rschedule = \"t\xff\"\n",
+        "config text: line 3: it is no TOML: invalid UTF-8\n",
+    ),
     (
         b"start = 0100000000\n",
         "config text: line 1: it is no TOML: invalid value, expected a string, number, boolean, date-time, \

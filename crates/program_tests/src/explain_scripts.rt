@@ -249,6 +249,22 @@ const LOOKS: &[(&[u8], &str)] = &[
         b"start,0000000000\npress,claim,z3 \n",
         "record 1, line 2, field 3: \"z3 \" is no zone: it ends with a blank; did you mean \"z3\"?\n",
     ),
+    // A word is looked for in 40 bytes at most.
+    (
+        b"start,0000000000\nrobot,pose,Travelling\n",
+        "record 1, line 2, field 3: \"Travelling\" is no pose: words are lower case; did you mean \"travelling\"?\n",
+    ),
+    (
+        b"start,0000000000\nrobot,pose,travelling                              \n",
+        "record 1, line 2, field 3: \"travelling                              \" is no pose: it ends with a \
+        blank; did you mean \"travelling\"?\n",
+    ),
+    (
+        b"start,0000000000\nrobot,pose,travelling                               \n",
+        "record 1, line 2, field 3: \"travelling                              ..\" is no pose: it ends with a \
+        blank; known are: turning loading unloading travelling middle low top running landing halted \
+        offering standing\n",
+    ),
     (
         b"start,0000000000\npress,\"cla\rim\",z3\n",
         "record 1, line 2, field 2: \"cla\\rim\" is no verb: it goes past the end of a line; is a quote left \
