@@ -82,10 +82,14 @@ answer_words n machine (liveness.Unknown reason) = codes ": it isn't known wheth
 
 -- ---- an order in which a machine starves, or no plate moves
 
+-- what a machine asks, and the answer
+abbrev pub line_of : Named → Text → Event → Text
+line_of n words e =
+    machine_name n e.machine ++ (words ++ (call_text n e.call
+    ++ (codes ": " ++ (answer_text n e.answer ++ codes "\n"))))
+
 abbrev pub event_line : Named → Text → Event → Text
-event_line n words e =
-    codes "  " ++ (machine_name n e.machine ++ (words ++ (call_text n e.call
-    ++ (codes ": " ++ (answer_text n e.answer ++ codes "\n")))))
+event_line n words e = codes "  " ++ line_of n words e
 
 -- what a turn asks: nothing if the machine has no program
 abbrev pub asked_line : Named → Option Event → Text

@@ -12,12 +12,10 @@ use Rattle.plan_liveness.specs.declared.answer.Liveness.{Liveness}
 use Rattle.plan_liveness.specs.declared.answer.Progress.{Progress}
 use Rattle.plan_liveness.specs.Answers.{IfStarves, IfWithin, IsLiveness}
 use Rattle.plan_liveness.specs.Plates.{PlatesMove, PlatesRest}
-use Rattle.plan_text.specs.Answers.{answer_text}
-use Rattle.plan_text.specs.Calls.{call_text}
 use Rattle.plan_text.specs.Names.{Text}
 use Rattle.plan_text.specs.Named.{Named}
-use Rattle.plan_app.specs.Going.{going_text, way_text}
-use Rattle.plan_app.specs.Words.{counted, machine_name}
+use Rattle.plan_app.specs.Going.{going_text, line_of, way_text}
+use Rattle.plan_app.specs.Words.{counted}
 use Rattle.plan_app.specs.declared.explore.TheConstants.{FREE, SHORTEST, STANDSTILL}
 use Rattle.plan_app.specs.declared.explore.Screen.{Screen}
 use Rattle.plan_app.specs.declared.explore.Screen.TheVariants.{Free, Standstill}
@@ -29,9 +27,7 @@ count_line turns = STANDSTILL.now ++ (counted turns (codes "turn") ++ SHORTEST.n
 
 -- what a machine asks, and why it waits
 abbrev pub wait_line : Named → Event → Text
-wait_line n e =
-    machine_name n e.machine ++ (codes " waits: " ++ (call_text n e.call
-    ++ (codes ": " ++ (answer_text n e.answer ++ codes "\n"))))
+wait_line n e = line_of n (codes " waits: ") e
 
 -- what the turns that lead to it ask
 abbrev pub turns_text : Named → PlanPrograms → State → List ℕ → Text

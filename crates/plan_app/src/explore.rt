@@ -8,7 +8,7 @@ ghost use Rattle.plan_liveness.specs.Answers.{IsLiveness};
 ghost use Rattle.plan_app.specs.Going.{going_text};
 ghost use Rattle.plan_app.specs.Screens as spec;
 
-use crate::going::{push_all, push_way};
+use crate::going::{push_all, push_line, push_way};
 use crate::words::push_counted;
 use plan_document::ProgrammedPlan;
 use plan_explorer::{Explored, Programs, explore, take_turns};
@@ -223,12 +223,7 @@ fn push_waiting(text: &mut String, named: &NamedPlan, waiting: &[Event]) -> Resu
 fn push_wait(text: &mut String, named: &NamedPlan, event: &Event) -> Result<(), AllocError>
     ensures { OnOk result (string_bytes text.new ≡ string_bytes text.old ++ spec.wait_line named.now event.now) }
 {
-    text.push_str(named.machines().name(event.machine))?;
-    text.push_str(" waits: ")?;
-    named.push_call(text, event.call)?;
-    text.push_str(": ")?;
-    named.push_answer(text, event.answer)?;
-    text.push_str("\n")
+    push_line(text, named, " waits: ", *event)
 }
 
 /// Adds what the turns that lead to a standstill ask.

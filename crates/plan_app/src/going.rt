@@ -493,7 +493,7 @@ fn push_asked(text: &mut String, named: &NamedPlan, asked: Option<Event>) -> Res
     }
 }
 
-/// Adds a line with what a machine asks, and the answer.
+/// Adds a line of an order of turns, with what a machine asks, and the answer.
 fn push_event(
     text: &mut String,
     named: &NamedPlan,
@@ -504,6 +504,19 @@ fn push_event(
         ≡ string_bytes text.old ++ spec.event_line named.now words.now event) }
 {
     text.push_str("  ")?;
+    push_line(text, named, words, event)
+}
+
+/// Adds a line with what a machine asks, and the answer.
+pub fn push_line(
+    text: &mut String,
+    named: &NamedPlan,
+    words: &str,
+    event: Event,
+) -> Result<(), AllocError>
+    ensures { OnOk result (string_bytes text.new
+        ≡ string_bytes text.old ++ spec.line_of named.now words.now event) }
+{
     text.push_str(named.machines().name(event.machine))?;
     text.push_str(words)?;
     named.push_call(text, event.call)?;
