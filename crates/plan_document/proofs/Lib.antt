@@ -4,3 +4,4 @@ mod Written
 mod Distinct
 mod Doable
 mod Theirs
+mod NameWords

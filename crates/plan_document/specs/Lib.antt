@@ -4,3 +4,4 @@ pub mod Keys
 pub mod Saying
 pub mod Reading
 pub mod Laws
+pub mod NameLaws

@@ -1,5 +1,6 @@
 //! Laws of documents. Each function's contract is one.
 ghost use Rattle.plan_document.specs.Laws as laws;
+ghost use Rattle.plan_document.specs.NameLaws.{NamedPlansHaveWords};
 
 use plan_rules::laws::refusals_tell_causes;
 
@@ -18,4 +19,9 @@ pub fn accepted_lines_are_theirs()
 /// Which lines of three machines at a zone with one way are accepted.
 pub fn lines_are_judged()
     ensures { laws.LinesAreJudged }
+{}
+
+/// Each name of a document's plan is one word of a program's line, and one field of a script's record.
+pub fn names_are_words()
+    ensures { NamedPlansHaveWords }
 {}
