@@ -42,10 +42,10 @@ section { background: var(--card); border: 1px solid var(--line); border-radius:
 #banner:empty, #note:empty, #banner:not(:empty) + #note { display: none; }
 svg { display: block; width: 100%; }
 #cell { height: var(--tall); cursor: pointer; } #cell * { pointer-events: none; }
-svg text { font: 12px system-ui, "DejaVu Sans", sans-serif; fill: var(--ink); }
-svg .name { font-size: 13px; font-weight: 700; }
+svg text { font: 13px system-ui, "DejaVu Sans", sans-serif; fill: var(--ink); }
+svg .name { font-size: 14px; font-weight: 700; }
 svg .number { font-size: 16px; font-weight: 700; }
-svg .small { font-size: 11px; fill: var(--soft); }
+svg .small { font-size: 13px; fill: var(--soft); }
 svg .short { display: none; }
 .wait { fill: none; stroke: var(--alarm); stroke-width: 3; stroke-dasharray: 6 4; }
 .ring { stroke-width: 5; stroke-dasharray: none; }
