@@ -1,4 +1,5 @@
 pub mod lemmas
 mod Digits
 mod RecordLemmas
+mod RowRows
 mod ScriptEndRows

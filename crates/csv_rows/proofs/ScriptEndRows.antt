@@ -6,4 +6,13 @@ use Rattle.csv_rows.specs.ScriptEndExamples.{ScriptEndsAreMet}
 pub script_ends_are_met : ScriptEndsAreMet
 unfolding digits
 script_ends_are_met =
-    record { most = refl; clean = refl; no_start = refl; bad_start = refl; first_row = refl; last_row = refl; long = refl }
+    record {
+      most = refl;
+      clean = refl;
+      no_start = refl;
+      bad_start = refl;
+      first_row = refl;
+      later_row = refl;
+      last_row = refl;
+      long = refl;
+    }

@@ -10,5 +10,6 @@ pub record ScriptEndsAreMet : Type 0 where
   pub no_start : end_text (Refused NoStart) ≡ codes "fault nostart\n"
   pub bad_start : end_text (Refused BadStart) ≡ codes "fault badstart\n"
   pub first_row : end_text (Refused (BadRow 1)) ≡ codes "fault badrow 1\n"
+  pub later_row : end_text (Refused (BadRow 4093)) ≡ codes "fault badrow 4093\n"
   pub last_row : end_text (Refused (BadRow 65536)) ≡ codes "fault badrow 65536\n"
   pub long : end_text (Refused Long) ≡ codes "fault long\n"
