@@ -1,13 +1,17 @@
 -- Words of the press and of the lift, put together by hand.
-use Rattle.std.specs.Prelude.{◌≡◌, ℕ, Bool, true, false, ◌∷◌, replicate, Option, Some}
+use Rattle.std.specs.Prelude.{◌≡◌, ℕ, ◌-◌, Bool, true, false, ◌∷◌, ◌++◌, replicate, Option, Some}
 use Rattle.plan_types.specs.declared.posture.Posture.{Posture}
-use Rattle.plan_types.specs.declared.posture.Posture.TheVariants.{Closed, OpenIn, OpenOut}
+use Rattle.plan_types.specs.declared.posture.Posture.TheVariants.{Closed, Moving, OpenIn, OpenOut}
 use Rattle.plan_types.specs.Examples.{press_table, lift_table}
 use Rattle.plan_rules.specs.declared.state.ZoneState.{ZoneState}
 use Rattle.plan_rules.specs.declared.state.State.{State}
-use Rattle.plan_rules.specs.State.{free_zone}
-use Rattle.plan_rules.specs.Examples.{press_start, full_press, lift_start}
+use Rattle.plan_rules.specs.State.{free_zone, zone_at, start_state}
+use Rattle.plan_rules.specs.Examples.{press_start, full_press, lift_start, presses_table}
+use Rattle.plan_word.specs.declared.layout.Field.TheVariants.{Zone, Place, Stamp, Stop}
+use Rattle.plan_word.specs.Layout.{most_zones}
+use Rattle.plan_word.specs.OfPlan.{IsOfPlan}
 use Rattle.plan_word.specs.Packed.{packed}
+use Rattle.plan_word.specs.Reading.{told, state_told}
 
 abbrev pub zone : Option ℕ → Bool → Posture → ZoneState
 zone owner flag posture = record { owner = owner; flag = flag; posture = posture }
@@ -30,6 +34,27 @@ lifted = record {
   stopped = false;
 }
 
+-- one press moves, the other one is open to the loader, and has its plate
+abbrev pub two_presses : State
+two_presses = record {
+  zones = zone (Some 1) false Moving ∷ zone (Some 2) true OpenIn ∷ replicate 8 free_zone;
+  full = false ∷ true ∷ replicate 14 false;
+  stamp = 3;
+  stopped = true;
+}
+
+-- one zone is owned, or one place is full
+abbrev pub with_zone : ℕ → State
+with_zone z = record {
+  zones = replicate z free_zone ++ zone (Some 0) false Closed ∷ replicate (9 - z) free_zone;
+  full = replicate 16 false;
+  stamp = 0;
+  stopped = false;
+}
+
+abbrev pub with_place : ℕ → State
+with_place p = start_state (replicate p false ++ true ∷ replicate (15 - p) false) 0
+
 -- the press: its zone in bits 0 to 4, its places in 5 and 6, the stamp from 7, the stop in 27
 -- the lift: its zones from bits 0 and 5, its places in 10 to 12, the stamp from 13
 pub record WordsAreRight : Type 0 where
@@ -39,3 +64,30 @@ pub record WordsAreRight : Type 0 where
   pub press_full : packed press_table full_press ≡ 0x7FFFFF2
   pub lift_starts : packed lift_table lift_start ≡ 0x800
   pub lift_lifted : packed lift_table lifted ≡ 0x143C1
+  -- the zones from bits 0 and 5, the places in 10 to 12, the stamp from 13, the stop in 33; each host has its own zone
+  pub two_presses_word : packed presses_table two_presses ≡ 0x200006AA9
+
+-- the states that words tell, and the numbers of the fields of a word of ones
+pub record WordsTell : Type 0 where
+  pub press_given : state_told press_table 0x295 ≡ given 5 false
+  pub press_stopped : state_told press_table 0x8000315 ≡ given 6 true
+  pub press_full : state_told press_table 0x7FFFFF2 ≡ full_press
+  pub lift_lifted : state_told lift_table 0x143C1 ≡ lifted
+  pub two_presses_told : state_told presses_table 0x200006AA9 ≡ two_presses
+  -- the spare code 3, of zone 1 of the lift, tells its guest
+  pub spare : (zone_at (state_told lift_table 0x60) 1).owner ≡ Some 2
+  pub last_zone : told most_zones 0xFFFFFFFFFFFFFFFF (Zone 7) ≡ 31
+  pub last_place : told most_zones 0xFFFFFFFFFFFFFFFF (Place 2) ≡ 1
+  pub stamp : told most_zones 0x2AAAAFFFFFFFFFFF Stamp ≡ 0x55555
+  pub stop : told most_zones 0xFFFFFFFFFFFFFFFF Stop ≡ 1
+
+-- states that aren't the press's: they use a zone or a place past its tables, the next one or the last that a state
+-- has; a stamp is too great; two plates are for one place, or a zone keeps no rule
+pub record NotOfPress : Type 0 where
+  pub second_zone : ¬ IsOfPlan press_table (with_zone 1)
+  pub tenth_zone : ¬ IsOfPlan press_table (with_zone 9)
+  pub third_place : ¬ IsOfPlan press_table (with_place 2)
+  pub sixteenth_place : ¬ IsOfPlan press_table (with_place 15)
+  pub stamp : ¬ IsOfPlan press_table (start_state (replicate 16 false) 1048576)
+  pub two_plates : ¬ IsOfPlan press_table (record (given 5 false) { full = false ∷ true ∷ replicate 14 false })
+  pub shut_guest : ¬ IsOfPlan press_table (with_zone 0)

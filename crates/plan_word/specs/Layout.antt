@@ -1,5 +1,5 @@
 -- The layout of a plan's word: the zones, the places, the stamp and the stop, from the lowest bit up.
-use Rattle.std.specs.Prelude.{◌≡◌, ◌≢◌, ℕ, ◌+◌, ◌*◌, ◌≤◌, Bool, true, nat_lt, ◌⊎◌, IsTrue}
+use Rattle.std.specs.Prelude.{◌≡◌, ◌≢◌, ℕ, ◌+◌, ◌*◌, ◌≤◌, Bool, true, false, nat_lt, ◌⊎◌, IsTrue}
 use Rattle.plan_types.specs.Table.{PlanTable, zone_count, place_count, word_width}
 use Rattle.plan_types.specs.Examples.{press_table, lift_table}
 use Rattle.plan_word.specs.declared.layout.Field.{Field}
@@ -46,6 +46,14 @@ pub record FieldsAreApart : Type 0 where
       → (end_of c f ≤ start_of c g) ⊎ (end_of c g ≤ start_of c f)
   pub within : (c : Counts) (f : Field) → IsTrue (has c f) → end_of c f ≤ width_of c
 
+-- the most zones that a plan with three places can have
+abbrev pub most_zones : Counts
+most_zones = record { zones = 8; places = 3 }
+
+-- whether its word has a field, where the field begins, and where it ends
+abbrev pub span : Field → Bool × ℕ × ℕ
+span f = (has most_zones f, start_of most_zones f, end_of most_zones f)
+
 -- words whose fields were laid out by hand
 pub record ExamplesFit : Type 0 where
   pub press : width_of (counts_of press_table) ≡ 28
@@ -54,4 +62,13 @@ pub record ExamplesFit : Type 0 where
   pub press_stop : start_of (counts_of press_table) Stop ≡ 27
   pub lift : width_of (counts_of lift_table) ≡ 34
   pub lift_zone : start_of (counts_of lift_table) (Zone 1) ≡ 5
-  pub widest : width_of (record { zones = 8; places = 3 }) ≡ 64
+  pub widest : width_of most_zones ≡ 64
+  -- the first and the last field of each kind, where it begins and where it ends; and the first that the word lacks
+  pub zones : span (Zone 0) ≡ (true, 0, 5)
+  pub last_zone : span (Zone 7) ≡ (true, 35, 40)
+  pub no_ninth_zone : has most_zones (Zone 8) ≡ false
+  pub places : span (Place 0) ≡ (true, 40, 41)
+  pub last_place : span (Place 2) ≡ (true, 42, 43)
+  pub no_fourth_place : has most_zones (Place 3) ≡ false
+  pub stamp : span Stamp ≡ (true, 43, 63)
+  pub stop : span Stop ≡ (true, 63, 64)

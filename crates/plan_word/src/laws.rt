@@ -7,8 +7,8 @@ ghost use Rattle.plan_rules.specs.Sound.{IsStart};
 ghost use Rattle.plan_rules.specs.Reply.{next};
 ghost use Rattle.plan_word.specs.Layout.{FieldsAreApart, ExamplesFit};
 ghost use Rattle.plan_word.specs.OfPlan.{IsOfPlan};
-ghost use Rattle.plan_word.specs.Laws.{EveryWordIsLaidOut, WordsAreDistinct};
-ghost use Rattle.plan_word.specs.Examples.{WordsAreRight};
+ghost use Rattle.plan_word.specs.Laws.{EveryWordIsLaidOut, LayoutsTell, WordsAreDistinct};
+ghost use Rattle.plan_word.specs.Examples.{WordsAreRight, WordsTell, NotOfPress};
 
 use plan_rules::State;
 use plan_types::{Call, Plan};
@@ -28,14 +28,22 @@ pub fn words_are_laid_out()
     ensures { EveryWordIsLaidOut }
 {}
 
+/// Such a word tells each zone, each place, the stamp and the stop in bits of its own, and no more.
+pub fn layouts_tell()
+    ensures { LayoutsTell }
+{}
+
 /// No two states of a plan have the same word: a state that is packed and unpacked is the same state.
 pub fn words_are_distinct()
     ensures { WordsAreDistinct }
 {}
 
-/// States of the press and of the lift have these literal words.
+/// States of the press, of the lift and of two presses have these literal words, which tell them; and some states
+/// aren't the press's.
 pub fn words_are_right()
-    ensures { WordsAreRight }
+    ensures words { WordsAreRight }
+    ensures states { WordsTell }
+    ensures strangers { NotOfPress }
 {}
 
 /// A start is a state of the plan if only places of the plan are full.

@@ -1,7 +1,21 @@
-use Rattle.std.proofs.Common.{refl}
+use Rattle.std.proofs.Common.{◌≡◌, true, false, Some, None, refl, ap, arith}
 use Rattle.plan_word.specs.Packed.{packed}
 use Rattle.plan_word.proofs.laws.words_are_right.Goals as goal
 
-pub returns : goal.returns
+pub returns-clause-words : goal.returns-clause-words
 unfolding packed
-returns c = record { press_starts = refl; press_given = refl; press_stopped = refl; press_full = refl; lift_starts = refl; lift_lifted = refl }
+returns-clause-words c = record { press_starts = refl; press_given = refl; press_stopped = refl; press_full = refl; lift_starts = refl; lift_lifted = refl; two_presses_word = refl }
+
+pub returns-clause-states : goal.returns-clause-states
+returns-clause-states c = record { press_given = refl; press_stopped = refl; press_full = refl; lift_lifted = refl; two_presses_told = refl; spare = refl; last_zone = refl; last_place = refl; stamp = refl; stop = refl }
+
+pub returns-clause-strangers : goal.returns-clause-strangers
+returns-clause-strangers c = record {
+  second_zone = λ k. let e : Some 0 ≡ None = ap (λ v. v.owner) (k.no_more_zones 1 (omega arith)) in cc;
+  tenth_zone = λ k. let e : Some 0 ≡ None = ap (λ v. v.owner) (k.no_more_zones 9 (omega arith)) in cc;
+  third_place = λ k. let e : true ≡ false = k.no_more_plates 2 (omega arith) in cc;
+  sixteenth_place = λ k. let e : true ≡ false = k.no_more_plates 15 (omega arith) in cc;
+  stamp = λ k. absurd (omega (arith, k.sound.stamp_in_range));
+  two_plates = λ k. absurd (omega (arith, k.sound.one_plate_a_place 1));
+  shut_guest = λ k. let e = (k.sound.zone_is_lawful 0 (omega arith)).guest_only_while_open in cc;
+}
