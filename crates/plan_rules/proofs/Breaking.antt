@@ -1,8 +1,8 @@
 -- Literal histories that break the laws.
 use Rattle.std.proofs.Common.{◌≡◌, ℕ, ◌<◌, true, false, List, [], ◌∷◌, ◌++◌, Option, Some, None, inl, inr, IsTrue, refl, sym, ap, ◌∙◌, subst, arith}
-use Rattle.std.proofs.lemmas.List.Elements.{All-nil}
+use Rattle.std.proofs.lemmas.List.Elements.{All-nil, All-cons, All-head}
 use Rattle.plan_types.specs.declared.posture.Posture.TheVariants.{Closed, Moving, OpenIn}
-use Rattle.plan_types.specs.declared.call.Call.TheVariants.{Claim, Stop, Resume}
+use Rattle.plan_types.specs.declared.call.Call.TheVariants.{Claim, Release, Stop, Resume}
 use Rattle.plan_types.specs.declared.answer.Refusal.{Refusal}
 use Rattle.plan_types.specs.declared.answer.Refusal.TheVariants.{NotParty, Stopped}
 use Rattle.plan_types.specs.declared.answer.Answer.TheVariants.{Refused}
@@ -12,11 +12,11 @@ use Rattle.plan_types.specs.Examples.{press_table}
 use Rattle.plan_rules.specs.declared.state.State.{State}
 use Rattle.plan_rules.specs.declared.state.ZoneState.{ZoneState}
 use Rattle.plan_rules.specs.Refusals.{owns}
-use Rattle.plan_rules.specs.History.{IsLoss, is_resume, Holds, StopsAndStays, IsStopped}
+use Rattle.plan_rules.specs.History.{IsLoss, is_gain, is_stop, is_resume, Holds, StopsAndStays, IsStopped}
 use Rattle.plan_rules.specs.Laws.{done, HasZone}
 use Rattle.plan_rules.specs.Causes.{number_of, order_of}
 use Rattle.plan_rules.specs.RefusalLaws.{is_no_later}
-use Rattle.plan_rules.specs.OrderExamples.{free, with_stop}
+use Rattle.plan_rules.specs.OrderExamples.{free, moving, with_stop}
 use Rattle.plan_rules.specs.BrokenLaws.{clear, HoldersBroken, CountsBroken, RightsBroken, PosesBroken, HandoversBroken, StopsBroken, RefusalsBroken, LiteralFigures}
 
 -- who owns a zone at first holds it
@@ -27,6 +27,26 @@ no_event : (before : List Event) (e : Event) (since : List Event) → [] ≡ bef
 no_event [] e since is = cc
 no_event (x ∷ before) e since is = cc
 
+-- a history of one event has that one alone
+only_event : (x e : Event) (before since : List Event) → x ∷ [] ≡ before ++ e ∷ since → x ≡ e
+only_event x e [] since is = cc
+only_event x e (y ∷ before) since is = let rest : [] ≡ before ++ e ∷ since = cc in absurd (no_event before e since rest)
+
+-- who has released a zone doesn't hold it, and the plant goes on once it is resumed: by the events
+pub lost_by_release : Holds press_table moving (done 1 (Release 0) ∷ []) 1 0 → ⊥
+lost_by_release (inl held) = All-head (λ x. ¬ IsLoss x 1 0) (done 1 (Release 0)) [] held.1 refl
+lost_by_release (inr held) =
+    let is = only_event (done 1 (Release 0)) held.gain held.before held.since held.split in
+    let e : false ≡ true = subst (λ (x : Event). is_gain press_table x 1 0 ≡ true) (sym is) held.gained in
+    cc
+
+pub going_by_resume : IsStopped (with_stop free) (done 1 Resume ∷ []) → ⊥
+going_by_resume (inl stopped) = All-head (λ x. ¬ IsTrue (is_resume x)) (done 1 Resume) [] stopped.1 refl
+going_by_resume (inr stopped) =
+    let is = only_event (done 1 Resume) stopped.stop stopped.before stopped.since stopped.split in
+    let e : false ≡ true = subst (λ (x : Event). is_stop x ≡ true) (sym is) stopped.stopped in
+    cc
+
 -- nobody else does
 unheld : (s : State) (m : ℕ) → owns s m 0 ≡ false → Holds press_table s [] m 0 → ⊥
 unheld s m e (inl held) = let t : true ≡ false = sym held.0 ∙ e in cc
@@ -36,8 +56,19 @@ unheld s m e (inr held) = no_event held.before held.gain held.since held.split
 loader_claimed : Holds press_table free (done 0 (Claim 0) ∷ []) 0 0
 loader_claimed = inr (record { before = []; gain = done 0 (Claim 0); since = []; split = refl; gained = refl; kept = All-nil (λ x. ¬ IsLoss x 0 0) })
 
+-- the loader claims the zone, and then the press: by the events both hold it
+abbrev both_claimed : List Event
+both_claimed = done 0 (Claim 0) ∷ done 1 (Claim 0) ∷ []
+
+loader_keeps : Holds press_table free both_claimed 0 0
+loader_keeps = inr (record { before = []; gain = done 0 (Claim 0); since = done 1 (Claim 0) ∷ []; split = refl; gained = refl; kept = All-cons (λ x. ¬ IsLoss x 0 0) (done 1 (Claim 0)) [] (λ e. cc) (All-nil (λ x. ¬ IsLoss x 0 0)) })
+
+press_claimed : Holds press_table free both_claimed 1 0
+press_claimed = inr (record { before = done 0 (Claim 0) ∷ []; gain = done 1 (Claim 0); since = []; split = refl; gained = refl; kept = All-nil (λ x. ¬ IsLoss x 1 0) })
+
 pub holders : HoldersBroken
 holders = record {
+  alone = λ law. let e : 0 ≡ 1 = law.alone 0 1 0 loader_keeps press_claimed in absurd (omega arith);
   party = λ law. let e : false ≡ true = law.party 2 0 (omega arith) (holds_at_first (clear (Some 2) Closed) 2 refl) in cc;
   owner = λ law. let e : false ≡ true = (law.owner 0 0).0 loader_claimed in cc;
   moves = λ law. unheld (clear None Moving) 1 refl (law.moves 0 (omega arith) refl);
@@ -48,6 +79,7 @@ holders = record {
 
 pub counts : CountsBroken
 counts = record {
+  sound = λ law. let e : false ≡ true = (law.zone_is_lawful 0 (omega arith)).owner_is_party in cc;
   plates = λ law. let e : 1 ≡ 2 = law in absurd (omega arith);
   stamp = λ law. let e : 7 ≡ 8 = law in absurd (omega arith);
 }
@@ -61,6 +93,7 @@ rights = record {
 
 pub poses : PosesBroken
 poses = record {
+  by_events = λ law. let e : Moving ≡ Closed = law 0 (omega arith) in cc;
   own = λ law. let e : 1 ≡ 0 = (law.own [] [] 0 3 refl).1 in absurd (omega arith);
   past_the_end = λ law. let e : 4 < 4 = (law.own [] [] 0 4 refl).0 in absurd (omega arith);
   no_jump = λ law. let e : Closed ≡ Moving = law.no_jump [] [] 1 0 refl refl 0 (omega arith) refl in cc;
@@ -78,6 +111,9 @@ handovers = record {
   yield = λ law. unowned (law.yield [] [] 0 0 refl);
   take = λ law. unowned (law.take [] [] 0 0 refl);
   release = λ law. unowned (law.release [] [] 0 0 refl);
+  zone = λ has. let e : 1 < 1 = has.0 in absurd (omega arith);
+  held = λ has. lost_by_release has.1;
+  owner = λ has. let e : ◌≡◌ {A = Option ℕ} None (Some 0) = has.2 in cc;
 }
 
 stopped_at_first : IsStopped (with_stop free) []

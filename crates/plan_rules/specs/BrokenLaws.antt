@@ -8,11 +8,12 @@ use Rattle.plan_types.specs.declared.answer.Refusal.TheVariants.{NotParty, Held}
 use Rattle.plan_types.specs.Table.{watch}
 use Rattle.plan_types.specs.Examples.{press_table}
 use Rattle.plan_rules.specs.declared.state.State.{State}
-use Rattle.plan_rules.specs.State.{start_state, plates_of}
+use Rattle.plan_rules.specs.State.{free_zone, start_state, plates_of}
 use Rattle.plan_rules.specs.Sound.{IsStart}
 use Rattle.plan_rules.specs.History.{own_events, Moves}
 use Rattle.plan_rules.specs.Laws.{done, OneHolder, MoverIsHost, GuestOnlyWhileOpen, PlatesAreKept, StampCountsChanges}
-use Rattle.plan_rules.specs.Laws.{RightLasts, PosesFit, HandoverByHolder, StoppedUntilResumed}
+use Rattle.plan_rules.specs.Laws.{RightLasts, PostureByEvents, StaysSound, PosesFit, HasZone}
+use Rattle.plan_rules.specs.Laws.{HandoverByHolder, StoppedUntilResumed}
 use Rattle.plan_rules.specs.RefusalLaws.{IsRefusedBy}
 use Rattle.plan_rules.specs.Examples.{press_start}
 use Rattle.plan_rules.specs.OrderExamples.{interior, press_state, free, moving, with_stop, with_last_stamp}
@@ -25,7 +26,13 @@ clear owner posture = press_state (interior owner posture false) true false
 abbrev pub coming : ℕ → Bool → State
 coming owner press = press_state (interior (Some owner) OpenIn true) false press
 
+-- the loader owns a zone past the end of the table
+abbrev pub past_the_end : State
+past_the_end = record free { zones = free_zone ∷ interior (Some 0) Closed false ∷ replicate 8 free_zone }
+
 pub record HoldersBroken : Type 0 where
+  -- by the events two machines hold the zone
+  pub alone : ¬ OneHolder press_table free (done 0 (Claim 0) ∷ done 1 (Claim 0) ∷ [])
   -- a stranger owns the zone
   pub party : ¬ OneHolder press_table (clear (Some 2) Closed) []
   -- by the events the loader holds the zone, which was shut to it
@@ -37,6 +44,7 @@ pub record HoldersBroken : Type 0 where
   pub guest : ¬ GuestOnlyWhileOpen press_table (clear (Some 0) Closed) []
 
 pub record CountsBroken : Type 0 where
+  pub sound : ¬ StaysSound press_table (clear (Some 2) Closed) []
   -- a plate comes to a full place
   pub plates : ¬ PlatesAreKept press_table (coming 1 true) (done 1 (Take 0) ∷ [])
   pub stamp : ¬ StampCountsChanges press_table free (done 0 (Claim 0) ∷ [])
@@ -48,6 +56,8 @@ pub record RightsBroken : Type 0 where
   pub posture : ¬ RightLasts press_table free [] (done 0 (SetPose 3) ∷ [])
 
 pub record PosesBroken : Type 0 where
+  -- by the events the zone moves
+  pub by_events : ¬ PostureByEvents press_table free (done 0 (SetPose 3) ∷ [])
   pub own : ¬ PosesFit press_table free (done 0 (SetPose 3) ∷ [])
   pub past_the_end : ¬ PosesFit press_table free (done 0 (SetPose 4) ∷ [])
   pub no_jump : ¬ PosesFit press_table (clear (Some 1) Closed) (done 1 (SetPose 0) ∷ [])
@@ -60,6 +70,10 @@ pub record HandoversBroken : Type 0 where
   pub yield : ¬ HandoverByHolder press_table free (done 0 (Yield 0) ∷ [])
   pub take : ¬ HandoverByHolder press_table free (done 0 (Take 0) ∷ [])
   pub release : ¬ HandoverByHolder press_table free (done 0 (Release 0) ∷ [])
+  -- to have a zone takes a zone of the plan, that the machine holds by its events, and owns in the state
+  pub zone : ¬ HasZone press_table past_the_end [] 0 1
+  pub held : ¬ HasZone press_table moving (done 1 (Release 0) ∷ []) 1 0
+  pub owner : ¬ HasZone press_table free (done 0 (Claim 0) ∷ []) 0 0
 
 pub record StopsBroken : Type 0 where
   -- at the last stamp nothing is stopped

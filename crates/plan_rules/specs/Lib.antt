@@ -8,4 +8,7 @@ pub mod Examples
 pub mod Causes
 pub mod RefusalLaws
 pub mod OrderExamples
+pub mod CauseExamples
+pub mod StateExamples
+pub mod EventExamples
 pub mod BrokenLaws

@@ -1,6 +1,9 @@
 //! Literal histories of five plants, and literal refusals.
 ghost use Rattle.plan_rules.specs.Examples.{ExamplesAreLegal};
 ghost use Rattle.plan_rules.specs.OrderExamples.{OrdersAreMet};
+ghost use Rattle.plan_rules.specs.CauseExamples.{CausesAreMet};
+ghost use Rattle.plan_rules.specs.StateExamples.{StatesAreMet};
+ghost use Rattle.plan_rules.specs.EventExamples.{EventsAreMet};
 
 /// Histories of a press, of a lift, of two doors, of two presses and of two gates, written out, are legal: each refusal
 /// stands in one of them, and each call is done in one. The pose that moves one door leaves the other alone, and wants
@@ -13,4 +16,22 @@ pub fn examples_are_legal()
 /// Where two causes of a refusal are there, the answer is the one that comes first in the call's order.
 pub fn orders_are_met()
     ensures { OrdersAreMet }
+{}
+
+/// In literal states each call has these causes to be refused and no others, with whatever they name: an owner, a
+/// posture, a zone. And the orders of the causes, by name.
+pub fn causes_are_met()
+    ensures { CausesAreMet }
+{}
+
+/// What literal states say of a zone, of a place, and of plates; the whole state that each call leaves; states that
+/// aren't sound, by each rule; and states that are no start.
+pub fn states_are_met()
+    ensures { StatesAreMet }
+{}
+
+/// Who gains and loses a zone by literal events, what stops and resumes, and the postures that events give. A history
+/// with a wrong answer isn't legal, be it the first or the second, a wrong kind or a wrong posture.
+pub fn events_are_met()
+    ensures { EventsAreMet }
 {}

@@ -1,0 +1,35 @@
+use Rattle.std.proofs.Common.{◌≡◌, ℕ, ◌≤◌, Bool, true, false, Option, Some, None, refl, ap, length, arith}
+use Rattle.plan_types.specs.declared.posture.Posture.{Posture}
+use Rattle.plan_types.specs.declared.posture.Posture.TheVariants.{Closed, Moving}
+use Rattle.plan_rules.specs.declared.state.State.{State}
+use Rattle.plan_rules.specs.State.{posture_at}
+use Rattle.plan_rules.proofs.examples.states_are_met.Goals as goal
+
+pub returns : goal.returns
+returns c = record {
+  say = record { zone = refl; no_zone = refl; owner = refl; posture = refl; full = refl; empty = refl; no_place = refl; last_stamp = refl; start = refl; comes_up = refl; none_comes = refl; both_come = refl; for_above = refl; for_below = refl; for_lift = refl; shut = refl; plates = refl; guest = refl; host = refl; lower_guest = refl };
+  calls_leave = record { claim = refl; claim_by_guest = refl; give = refl; give_outward = refl; yield = refl; yield_back = refl; take = refl; take_outward = refl; release = refl; pose = refl; pose_of_one = refl; stop = refl; resume = refl; refused = refl; shown = refl; shows = refl; shows_lower = refl };
+  unsound = record {
+    stamp = λ sound. let e : 1048576 ≤ 1048575 = sound.stamp_in_range in absurd (omega arith);
+    nine_zones = λ sound. let e : 9 ≡ 10 = sound.has_ten_zones in absurd (omega arith);
+    eleven_zones = λ sound. let e : 11 ≡ 10 = sound.has_ten_zones in absurd (omega arith);
+    fifteen_places = λ sound. let e : 15 ≡ 16 = sound.has_sixteen_places in absurd (omega arith);
+    seventeen_places = λ sound. let e : 17 ≡ 16 = sound.has_sixteen_places in absurd (omega arith);
+    stranger = λ sound. let e : false ≡ true = (sound.zone_is_lawful 0 (omega arith)).owner_is_party in cc;
+    plate_in_shut_zone = λ sound. let e : false ≡ true = (sound.zone_is_lawful 0 (omega arith)).flag_has_transfer in cc;
+    giver_owns = λ sound. let e : false ≡ true = (sound.zone_is_lawful 0 (omega arith)).flag_has_transfer in cc;
+    press_gives_and_owns = λ sound. let e : false ≡ true = (sound.zone_is_lawful 0 (omega arith)).flag_has_transfer in cc;
+    nobody_owns = λ sound. let e : false ≡ true = (sound.zone_is_lawful 0 (omega arith)).flag_has_transfer in cc;
+    guest_in_shut_zone = λ sound. let e : false ≡ true = (sound.zone_is_lawful 0 (omega arith)).guest_only_while_open in cc;
+    moves_unowned = λ sound. let e : false ≡ true = (sound.zone_is_lawful 0 (omega arith)).moving_belongs_to_host in cc;
+    plate_onto_plate = λ sound. let e : 2 ≤ 1 = sound.one_plate_a_place 1 in absurd (omega arith);
+    second_zone = λ sound. let e : false ≡ true = (sound.zone_is_lawful 1 (omega arith)).owner_is_party in cc;
+    two_plates_come = λ sound. let e : 2 ≤ 1 = sound.one_plate_a_place 0 in absurd (omega arith);
+  };
+  no_starts = record {
+    stamp = λ start. let e : 1048576 ≤ 1048575 = start.stamp_in_range in absurd (omega arith);
+    stopped = λ start. let e : true ≡ false = ap (λ (s : State). s.stopped) start.same in cc;
+    moves = λ start. let e : Moving ≡ Closed = ap (λ (s : State). posture_at s 0) start.same in cc;
+    fifteen_places = λ start. let e : 15 ≡ 16 = start.has_sixteen_places in absurd (omega arith);
+  };
+}
