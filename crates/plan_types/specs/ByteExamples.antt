@@ -1,7 +1,15 @@
--- The bytes of the press and of the lift, written out, and of a zone that plates go through one way only.
-use Rattle.std.specs.Prelude.{◌≡◌, [], ◌∷◌, None}
-use Rattle.plan_types.specs.Examples.{way, zone, two_at, press_table, lift_table}
+-- The bytes of the press and of the lift, written out, of a zone that plates go through one way only, and of tables in
+-- which all numbers are different.
+use Rattle.std.specs.Prelude.{◌≡◌, ℕ, false, [], ◌∷◌, replicate, None}
+use Rattle.plan_types.specs.declared.table.PlanPose.{PlanPose}
+use Rattle.plan_types.specs.Table.{plan_table}
+use Rattle.plan_types.specs.Examples.{way, zone, pose, two_at, press_table, lift_table}
+use Rattle.plan_types.specs.Readings.{unlike_table}
 use Rattle.plan_types.specs.Bytes.{bytes_of, HasWholeRows}
+
+-- a pose with a row for so many zones
+abbrev pub pose_of_width : ℕ → PlanPose
+pose_of_width n = record { machine = 0; after_moving = false; gives = replicate n None }
 
 -- 2 machines, 1 zone, 4 poses, 2 places
 -- the interior: host 1, guest 0, inward from 0 to 1, outward from 1 to 0
@@ -38,3 +46,15 @@ pub record BytesAreRight : Type 0 where
   -- each pose has a row for ten zones
   pub press_rows : HasWholeRows press_table
   pub lift_rows : HasWholeRows lift_table
+  -- each number has its own byte
+  pub unlike : bytes_of unlike_table ≡
+      9 ∷ 2 ∷ 3 ∷ 4
+      ∷ 1 ∷ 2 ∷ 1 ∷ 3 ∷ 4 ∷ 1 ∷ 5 ∷ 6
+      ∷ 7 ∷ 8 ∷ 1 ∷ 10 ∷ 11 ∷ 1 ∷ 12 ∷ 13
+      ∷ 14 ∷ 0 ∷ 1 ∷ 2 ∷ 0 ∷ 0 ∷ 0 ∷ 0 ∷ 0 ∷ 0 ∷ 0 ∷ 0
+      ∷ 16 ∷ 1 ∷ 4 ∷ 3 ∷ 0 ∷ 0 ∷ 0 ∷ 0 ∷ 0 ∷ 0 ∷ 0 ∷ 0
+      ∷ 17 ∷ 0 ∷ 1 ∷ 2 ∷ 3 ∷ 4 ∷ 0 ∷ 0 ∷ 0 ∷ 0 ∷ 0 ∷ 3
+      ∷ 18 ∷ 19 ∷ 20 ∷ 21 ∷ []
+  -- a second pose with a row for nine zones, or for eleven
+  pub short_row : ¬ HasWholeRows (plan_table 1 [] (pose 0 false None None ∷ pose_of_width 9 ∷ []) [])
+  pub long_row : ¬ HasWholeRows (plan_table 1 [] (pose 0 false None None ∷ pose_of_width 11 ∷ []) [])

@@ -66,11 +66,16 @@ two_at row poses = plan_table 2 (row ∷ []) poses (0 ∷ 1 ∷ [])
 abbrev pub three_at : PlanZone → PlanTable
 three_at row = plan_table 3 (row ∷ []) [] (0 ∷ 1 ∷ 2 ∷ [])
 
--- one pose, which gives one zone a posture and leaves the others
+-- a pose that gives one zone a posture and leaves the others, and a plan with that pose alone
+abbrev pub pose_at : ℕ → ℕ → Posture → PlanPose
+pose_at m z q = record {
+  machine = m;
+  after_moving = false;
+  gives = replicate z None ++ Some q ∷ replicate (9 - z) None;
+}
+
 abbrev pub gives_at : ℕ → Posture → PlanTable
-gives_at z q =
-    let gives = replicate z None ++ Some q ∷ replicate (9 - z) None in
-    plan_table 1 [] (record { machine = 0; after_moving = false; gives = gives } ∷ []) []
+gives_at z q = plan_table 1 [] (pose_at 0 z q ∷ []) []
 
 -- as many zones and places as these numbers say, without a fault in them
 abbrev pub counted : ℕ → ℕ → PlanTable
@@ -130,6 +135,42 @@ pub record FirstFaults : Type 0 where
 -- a pose of a machine that no table has
 abbrev pub strange_pose : PlanPose
 strange_pose = pose 15 false (Some Moving) None
+
+-- a third zone of five machines, each of which keeps the place with its number
+abbrev pub third : PlanZone → PlanTable
+third row = plan_table 5 (press_zone ∷ press_zone ∷ row ∷ []) [] (0 ∷ 1 ∷ 2 ∷ 3 ∷ 4 ∷ [])
+
+-- these poses, where machine 1 hosts the first two zones, and machine 3 the third
+abbrev pub posed : List PlanPose → PlanTable
+posed poses = plan_table 5 (press_zone ∷ press_zone ∷ zone 3 2 None None ∷ []) poses (0 ∷ 1 ∷ [])
+
+-- a fault names its row, be it a later one or the last, and the first of the rows that have a fault
+pub record FaultsTellRows : Type 0 where
+  pub keeper : plan_fault (plan_table 2 [] [] (0 ∷ 1 ∷ 1 ∷ 9 ∷ 7 ∷ [])) ≡ Some (NoSuchKeeper 3)
+  pub last_keeper : plan_fault (plan_table 2 [] [] (replicate 15 1 ++ 2 ∷ [])) ≡ Some (NoSuchKeeper 15)
+  pub host : plan_fault (third (zone 5 4 None None)) ≡ Some (NoSuchHost 2)
+  pub guest : plan_fault (third (zone 4 5 None None)) ≡ Some (NoSuchGuest 2)
+  pub same : plan_fault (third (zone 4 4 None None)) ≡ Some (HostIsGuest 2)
+  pub inward : plan_fault (third (zone 4 3 (way 3 1) None)) ≡ Some (InwardAstray 2)
+  pub outward : plan_fault (third (zone 4 3 (way 3 4) (way 4 1))) ≡ Some (OutwardAstray 2)
+  pub last_zone : plan_fault (plan_table 2 (replicate 7 press_zone ++ zone 1 1 None None ∷ []) [] (0 ∷ 1 ∷ []))
+      ≡ Some (HostIsGuest 7)
+  pub earlier_zone : plan_fault (plan_table 2 (zone 1 0 None (way 0 1) ∷ zone 2 2 None None ∷ []) [] (0 ∷ 1 ∷ []))
+      ≡ Some (OutwardAstray 0)
+  pub machine : plan_fault (two_at press_zone (press_poses ++ pose 2 false None None ∷ []))
+      ≡ Some (NoSuchMachine 4)
+  pub last_machine : plan_fault (two_at press_zone (replicate 63 (pose 1 false None None) ++ strange_pose ∷ []))
+      ≡ Some (NoSuchMachine 63)
+  pub foreign : plan_fault (posed (pose_at 1 0 Closed ∷ pose_at 1 1 Closed ∷ pose_at 3 2 Closed ∷ pose_at 1 2 OpenIn ∷ []))
+      ≡ Some (ForeignZone 3 2)
+  pub anothers : plan_fault (posed (pose_at 3 2 OpenOut ∷ pose_at 3 1 OpenOut ∷ [])) ≡ Some (ForeignZone 1 1)
+  pub not_there : plan_fault (posed (pose_at 3 2 Moving ∷ pose_at 1 1 Moving ∷ pose_at 3 9 Moving ∷ []))
+      ≡ Some (ForeignZone 2 9)
+  pub last_pose : plan_fault (plan_table 2 (replicate 8 (zone 1 0 None None))
+      (replicate 63 (pose_at 1 7 OpenOut) ++ pose_at 0 7 OpenOut ∷ []) []) ≡ Some (ForeignZone 63 7)
+  pub first_of_two : plan_fault (posed (pose 3 false None (Some Closed) ∷ pose 3 false (Some Closed) (Some Closed) ∷ []))
+      ≡ Some (ForeignZone 0 1)
+  pub earlier_pose : plan_fault (posed (pose_at 2 2 Closed ∷ strange_pose ∷ [])) ≡ Some (ForeignZone 0 2)
 
 -- as many rows as these numbers say, each of them wrong: no table has a machine 15 or a place 99
 abbrev pub wrong : ℕ → ℕ → ℕ → ℕ → PlanTable

@@ -1,5 +1,5 @@
 -- The faults of tables that are no plan, in their order.
-use Rattle.std.specs.Prelude.{ℕ, ◌-◌, Bool, ◌&&◌, not, nat_eq, nat_lt, nat_le, Option, is_some}
+use Rattle.std.specs.Prelude.{◌≡◌, ◌↔◌, ℕ, ◌-◌, Bool, ◌&&◌, not, nat_eq, nat_lt, nat_le, Option, None, is_some}
 use Rattle.std.specs.Option.{option_or}
 use Rattle.std.specs.Bool.{then_some}
 use Rattle.plan_types.specs.declared.fault.PlanFault.{PlanFault}
@@ -10,7 +10,7 @@ use Rattle.plan_types.specs.declared.fault.PlanFault.TheVariants.{OutwardAstray,
 use Rattle.plan_types.specs.Below.{first_below}
 use Rattle.plan_types.specs.Table.{PlanTable, zone_count, pose_count, place_count, word_width, zone_row, keeper_of}
 use Rattle.plan_types.specs.Table.{host_of, guest_of, machine_of, posture_of, is_hosted}
-use Rattle.plan_types.specs.Plan.{leads}
+use Rattle.plan_types.specs.Plan.{leads, IsPlan}
 
 infixl 5 ◌or◌
 abbrev pub ◌or◌ : Option PlanFault → Option PlanFault → Option PlanFault
@@ -60,3 +60,7 @@ plan_fault t =
     or first_below (keeper_fault t) (place_count t)
     or first_below (zone_fault t) (zone_count t)
     or first_below (pose_fault t) (pose_count t)
+
+-- tables are a plan exactly if they have no fault
+abbrev pub PlansHaveNoFault : Type 0
+PlansHaveNoFault = (t : PlanTable) → IsPlan t ↔ (plan_fault t ≡ None)

@@ -1,10 +1,17 @@
 -- What literal tables tell of a pose, a zone, a machine and a plate's way.
-use Rattle.std.specs.Prelude.{◌≡◌, ℕ, true, false, [], ◌∷◌, Option, Some, None}
+use Rattle.std.specs.Prelude.{◌≡◌, ℕ, ◌+◌, ◌*◌, true, false, nat_eq, nat_lt, List, [], ◌∷◌, ◌++◌, map, replicate}
+use Rattle.std.specs.Prelude.{Option, Some, None}
+use Rattle.std.specs.Bool.{then_some}
 use Rattle.plan_types.specs.declared.posture.Posture.{Posture}
 use Rattle.plan_types.specs.declared.posture.Posture.TheVariants.{Closed, Moving, OpenIn, OpenOut}
 use Rattle.plan_types.specs.declared.table.Transfer.{Transfer}
+use Rattle.plan_types.specs.declared.table.PlanPose.{PlanPose}
+use Rattle.plan_types.specs.Same.{same_posture}
+use Rattle.plan_types.specs.Below.{first_below, any_below, sum_below}
 use Rattle.plan_types.specs.Table.{PlanTable, plan_table, watch, is_party, has_pose, is_moving_pose, transfer_of}
-use Rattle.plan_types.specs.Table.{posture_of}
+use Rattle.plan_types.specs.Table.{zone_count, pose_count, place_count, word_width, zone_row, pose_row, keeper_of}
+use Rattle.plan_types.specs.Table.{host_of, guest_of, machine_of, posture_of, is_hosted, is_place_of}
+use Rattle.plan_types.specs.Plan.{leads}
 use Rattle.plan_types.specs.Examples.{way, zone, pose, press_table, lift_table, two_at, gives_at}
 
 -- one pose, which gives two zones a posture
@@ -60,7 +67,99 @@ pub record OwnPoses : Type 0 where
   pub past_the_end : has_pose press_table 1 4 ≡ false
   pub past_the_end_of_first : has_pose lift_table 0 5 ≡ false
 
+-- the last pose: a posture for the first four zones and for the tenth
+abbrev pub wide_pose : PlanPose
+wide_pose = record {
+  machine = 17;
+  after_moving = false;
+  gives = Some Closed ∷ Some Moving ∷ Some OpenIn ∷ Some OpenOut ∷ replicate 5 None ++ Some OpenIn ∷ [];
+}
+
+-- tables, no plan, in which all numbers are different
+abbrev pub unlike_table : PlanTable
+unlike_table =
+    plan_table 9 (zone 1 2 (way 3 4) (way 5 6) ∷ zone 7 8 (way 10 11) (way 12 13) ∷ [])
+    (pose 14 false (Some Closed) (Some Moving) ∷ pose 16 true (Some OpenOut) (Some OpenIn) ∷ wide_pose ∷ [])
+    (18 ∷ 19 ∷ 20 ∷ 21 ∷ [])
+
+-- each number is read from its own row and column
+pub record RowsTell : Type 0 where
+  pub machines : unlike_table.machines ≡ 9
+  pub zones : zone_count unlike_table ≡ 2
+  pub poses : pose_count unlike_table ≡ 3
+  pub places : place_count unlike_table ≡ 4
+  -- 5 * 2 + 4 + 21
+  pub width : word_width unlike_table ≡ 35
+  pub host : host_of unlike_table 1 ≡ 7
+  pub guest : guest_of unlike_table 1 ≡ 8
+  pub keeper : keeper_of unlike_table 2 ≡ 20
+  pub last_keeper : keeper_of unlike_table 3 ≡ 21
+  pub machine : machine_of unlike_table 1 ≡ 16
+  pub first_posture : posture_of unlike_table 1 0 ≡ Some OpenOut
+  pub second_posture : posture_of unlike_table 1 1 ≡ Some OpenIn
+  pub fourth_posture : posture_of unlike_table 2 3 ≡ Some OpenOut
+  pub tenth_posture : posture_of unlike_table 2 9 ≡ Some OpenIn
+  pub inward : transfer_of unlike_table 1 OpenIn ≡ transfer 8 7 10 11
+  pub outward : transfer_of unlike_table 1 OpenOut ≡ transfer 7 8 12 13
+  pub first_inward : transfer_of unlike_table 0 OpenIn ≡ transfer 2 1 3 4
+  pub first_outward : transfer_of unlike_table 0 OpenOut ≡ transfer 1 2 5 6
+  pub watch : watch ≡ 15
+  -- past the end of a table
+  pub no_zone : zone_row unlike_table 2 ≡ zone 0 0 None None
+  pub no_pose : pose_row unlike_table 3 ≡ pose 0 false None None
+  pub no_keeper : keeper_of unlike_table 4 ≡ 0
+  pub no_posture : posture_of unlike_table 2 10 ≡ None
+
+-- who hosts a zone, keeps a place, has a pose: nobody past the end of the table
+pub record RightsTell : Type 0 where
+  pub hosted : is_hosted unlike_table 1 7 ≡ true
+  pub by_guest : is_hosted unlike_table 1 8 ≡ false
+  pub by_first_host : is_hosted unlike_table 1 1 ≡ false
+  pub hosted_past_the_end : is_hosted unlike_table 2 0 ≡ false
+  pub kept : is_place_of unlike_table 3 21 ≡ true
+  pub kept_by_another : is_place_of unlike_table 3 20 ≡ false
+  pub kept_past_the_end : is_place_of unlike_table 4 0 ≡ false
+  pub own_pose : has_pose unlike_table 16 1 ≡ true
+  pub anothers_pose : has_pose unlike_table 14 1 ≡ false
+  pub pose_past_the_end : has_pose unlike_table 0 3 ≡ false
+  pub second_host : is_party unlike_table 7 1 ≡ true
+  pub second_guest : is_party unlike_table 8 1 ≡ true
+  pub first_host : is_party unlike_table 1 1 ≡ false
+  pub party_past_the_end : is_party unlike_table 0 2 ≡ false
+  pub leads_on : leads unlike_table 19 21 (way 1 3) ≡ true
+  pub leads_back : leads unlike_table 21 19 (way 1 3) ≡ false
+  pub leads_past_the_end : leads unlike_table 19 0 (way 1 4) ≡ false
+  pub leads_nowhere : leads unlike_table 19 21 None ≡ true
+
+abbrev pub postures : List Posture
+postures = Closed ∷ Moving ∷ OpenIn ∷ OpenOut ∷ []
+
+-- each posture is the same as itself alone
+pub record SamePostures : Type 0 where
+  pub closed : map (same_posture Closed) postures ≡ true ∷ false ∷ false ∷ false ∷ []
+  pub moving : map (same_posture Moving) postures ≡ false ∷ true ∷ false ∷ false ∷ []
+  pub open_in : map (same_posture OpenIn) postures ≡ false ∷ false ∷ true ∷ false ∷ []
+  pub open_out : map (same_posture OpenOut) postures ≡ false ∷ false ∷ false ∷ true ∷ []
+
+-- twice the number, of the numbers from 3 on
+abbrev pub doubled : ℕ → Option ℕ
+doubled n = then_some (nat_lt 2 n) (n + n)
+
+-- the numbers below a number: from 0 on, and without itself
+pub record NumbersBelow : Type 0 where
+  pub first : first_below doubled 5 ≡ Some 6
+  pub none : first_below doubled 3 ≡ None
+  pub any : any_below (nat_eq 3) 4 ≡ true
+  pub zero : any_below (nat_eq 0) 4 ≡ true
+  pub not_itself : any_below (nat_eq 3) 3 ≡ false
+  pub sum : sum_below (λ n. n * n + 1) 4 ≡ 18
+  pub no_sum : sum_below (λ n. n * n + 1) 0 ≡ 0
+
 pub record TablesTell : Type 0 where
+  pub rows : RowsTell
+  pub rights : RightsTell
+  pub same_postures : SamePostures
+  pub numbers_below : NumbersBelow
   pub moving_poses : MovingPoses
   pub transfers : Transfers
   pub parties : Parties

@@ -1,6 +1,7 @@
 //! Two plants as examples, what `Plan::new` says of faulty tables, and what tables tell.
 ghost use Rattle.std.specs.Prelude.{◌≡◌, IfOk};
-ghost use Rattle.plan_types.specs.Examples.{ExamplesArePlans, FaultsInOrder, FirstFaults, LargestPlans};
+ghost use Rattle.plan_types.specs.Examples.{ExamplesArePlans, FaultsInOrder, FaultsTellRows, FirstFaults, LargestPlans};
+ghost use Rattle.plan_types.specs.Faults.{PlansHaveNoFault};
 ghost use Rattle.plan_types.specs.Readings.{TablesTell};
 ghost use Rattle.plan_types.specs.Examples as examples;
 
@@ -97,6 +98,16 @@ pub fn first_faults()
     ensures { FirstFaults }
 {}
 
+/// A fault names its row, be it a later one or the last: the first row that has a fault.
+pub fn faults_tell_rows()
+    ensures { FaultsTellRows }
+{}
+
+/// Tables are a plan exactly if they have no fault.
+pub fn plans_have_no_fault()
+    ensures { PlansHaveNoFault }
+{}
+
 /// Faults come in their order: tables with several have the first.
 pub fn faults_in_order()
     ensures { FaultsInOrder }
@@ -108,7 +119,7 @@ pub fn largest_plans()
 {}
 
 /// Tables, written out, and what they tell: which poses move, also by the tenth zone alone; the way of a plate; a
-/// zone's parties; a machine's poses.
+/// zone's parties; a machine's poses; and each number of tables in which all numbers are different.
 pub fn tables_tell()
     ensures { TablesTell }
 {}
