@@ -23,7 +23,7 @@ use Rattle.plan_rules.specs.BrokenLaws.{clear, HoldersBroken, CountsBroken, Righ
 holds_at_first : (s : State) (m : ℕ) → owns s m 0 ≡ true → Holds press_table s [] m 0
 holds_at_first s m e = inl (e, All-nil (λ x. ¬ IsLoss x m 0))
 
-no_event : (before : List Event) (e : Event) (since : List Event) → [] ≡ before ++ e ∷ since → ⊥
+pub no_event : (before : List Event) (e : Event) (since : List Event) → [] ≡ before ++ e ∷ since → ⊥
 no_event [] e since is = cc
 no_event (x ∷ before) e since is = cc
 

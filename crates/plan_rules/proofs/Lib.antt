@@ -14,3 +14,4 @@ mod Causing
 mod Refusing
 mod Given
 mod Breaking
+mod BreakingLift

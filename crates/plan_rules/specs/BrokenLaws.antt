@@ -16,6 +16,7 @@ use Rattle.plan_rules.specs.Laws.{RightLasts, PostureByEvents, StaysSound, Poses
 use Rattle.plan_rules.specs.Laws.{HandoverByHolder, StoppedUntilResumed}
 use Rattle.plan_rules.specs.RefusalLaws.{IsRefusedBy}
 use Rattle.plan_rules.specs.Examples.{press_start}
+use Rattle.plan_rules.specs.BrokenLift.{LiftBroken}
 use Rattle.plan_rules.specs.OrderExamples.{interior, press_state, free, moving, with_stop, with_last_stamp}
 
 -- the interior's owner and posture, without a plate in it; the loader has one
@@ -109,3 +110,4 @@ pub record LawsCanBeBroken : Type 0 where
   pub stops : StopsBroken
   pub refusals : RefusalsBroken
   pub figures : LiteralFigures
+  pub lift : LiftBroken

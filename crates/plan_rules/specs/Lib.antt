@@ -11,4 +11,5 @@ pub mod OrderExamples
 pub mod CauseExamples
 pub mod StateExamples
 pub mod EventExamples
+pub mod BrokenLift
 pub mod BrokenLaws
