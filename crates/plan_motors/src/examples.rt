@@ -1,7 +1,7 @@
 //! Motors of the press and of the lift of `plan_types`.
 ghost use Rattle.std.specs.Prelude.{◌≡◌, None};
 ghost use Rattle.plan_motors.specs.Examples as examples;
-ghost use Rattle.plan_motors.specs.Examples.{CausesAreRight, MasksAreRight, FirstFaults};
+ghost use Rattle.plan_motors.specs.Examples.{CausesAreRight, StatesForBoth, MasksAreRight, FirstFaults, FaultsInOrder};
 ghost use Rattle.plan_motors.specs.RunExamples.{RunsAreRight};
 
 use crate::motor::{Motor, NO_NEED, ZoneNeed};
@@ -58,9 +58,10 @@ pub fn upper_gate() -> Motor
     motor(2, NO_NEED, HELD)
 }
 
-/// Which zone or place keeps literal motors apart.
+/// Which zone or place keeps literal motors apart, and the states that permit others both.
 pub fn causes_are_right()
-    ensures { CausesAreRight }
+    ensures causes { CausesAreRight }
+    ensures states { StatesForBoth }
 {}
 
 /// The bits that literal motors look at.
@@ -68,9 +69,10 @@ pub fn masks_are_right()
     ensures { MasksAreRight }
 {}
 
-/// Motors and hazards that don't fit the press, and the first fault of each.
+/// Motors and hazards that don't fit a plan, and the first fault of each.
 pub fn first_faults()
-    ensures { FirstFaults }
+    ensures faults { FirstFaults }
+    ensures order { FaultsInOrder }
 {}
 
 /// What the machines of the press may run after literal histories, and which calls end it.
