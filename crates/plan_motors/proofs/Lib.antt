@@ -6,3 +6,5 @@ mod Masking
 mod Posing
 mod Leading
 mod RunRows
+mod NeedRows
+mod PoseRows

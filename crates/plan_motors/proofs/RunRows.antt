@@ -19,17 +19,17 @@ use Rattle.plan_motors.specs.RunExamples.{moves, opens, gives, may_run, state_af
 use Rattle.plan_motors.proofs.lemmas.Checked.{all_fit}
 use Rattle.plan_motors.proofs.Running.{may_run_permits}
 
-plan : IsPlan press_table
+pub plan : IsPlan press_table
 plan = is_plan press_table refl
 
 fit : (k : ℕ) → k < 2 → IsMotorOf press_table (motor_at (ram ∷ arm ∷ []) k)
 fit = (all_fit press_table (ram ∷ arm ∷ []) [] plan refl).each_motor
 
-start : IsSound press_table press_start
+pub start : IsSound press_table press_start
 start = start_is_sound press_table press_start plan (record { stamp_in_range = omega arith; has_sixteen_places = refl; same = refl })
 
 -- the press has one zone; its motors here need nothing of places
-press_permits : (s : State) (m : Motor) → meets m.machine (need_of m 0) (zone_at s 0) ≡ true
+pub press_permits : (s : State) (m : Motor) → meets m.machine (need_of m 0) (zone_at s 0) ≡ true
     → meets_place (place_need m 0) (is_full s 0) ≡ true → meets_place (place_need m 1) (is_full s 1) ≡ true → Permits press_table s m
 press_permits s m e f g = record { zones = zones; places = places }
   where

@@ -10,3 +10,5 @@ pub mod Laws
 pub mod Mask
 pub mod Examples
 pub mod RunExamples
+pub mod NeedExamples
+pub mod PoseExamples

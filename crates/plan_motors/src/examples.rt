@@ -3,6 +3,8 @@ ghost use Rattle.std.specs.Prelude.{◌≡◌, None};
 ghost use Rattle.plan_motors.specs.Examples as examples;
 ghost use Rattle.plan_motors.specs.Examples.{CausesAreRight, StatesForBoth, MasksAreRight, FirstFaults, FaultsInOrder};
 ghost use Rattle.plan_motors.specs.RunExamples.{RunsAreRight};
+ghost use Rattle.plan_motors.specs.NeedExamples.{NeedsAreRight, PermitsAreRight, BadAnswers, AnswersTell};
+ghost use Rattle.plan_motors.specs.PoseExamples.{GatesAreApart, PosesLeadOn, PosesAreTaken, PosturesAreOf};
 
 use crate::motor::{Motor, NO_NEED, ZoneNeed};
 use plan_rules::laws::lawful_histories;
@@ -78,6 +80,24 @@ pub fn first_faults()
 /// What the machines of the press may run after literal histories, and which calls end it.
 pub fn runs_are_right()
     ensures { RunsAreRight }
+{
+    lawful_histories();
+}
+
+/// What literal motors need, which states permit them, and answers that aren't shown.
+pub fn needs_are_right()
+    ensures needs { NeedsAreRight }
+    ensures states { PermitsAreRight }
+    ensures shown { BadAnswers }
+    ensures answers { AnswersTell }
+{}
+
+/// The lift's gates are kept apart by its poses alone; and which literal poses are taken.
+pub fn poses_are_right()
+    ensures gates { GatesAreApart }
+    ensures lead { PosesLeadOn }
+    ensures poses { PosesAreTaken }
+    ensures postures { PosturesAreOf }
 {
     lawful_histories();
 }
