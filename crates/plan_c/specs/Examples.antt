@@ -1,6 +1,6 @@
--- Which texts and stamps are those of a start, by two machines at a press: two places.
-use Rattle.std.specs.Prelude.{◌≡◌, true, false, ◌∷◌, codes, replicate}
-use Rattle.plan_types.specs.Examples.{press_table}
+-- Which texts and stamps are those of a start, by two machines at a press: two places; and by sixteen places.
+use Rattle.std.specs.Prelude.{◌≡◌, true, false, [], ◌∷◌, codes, replicate}
+use Rattle.plan_types.specs.Examples.{press_table, counted}
 use Rattle.plan_c.specs.Starts.{IsStartText, places_in}
 
 pub record StartsAreJudged : Type 0 where
@@ -12,6 +12,15 @@ pub record StartsAreJudged : Type 0 where
   pub no_digit : ¬ IsStartText press_table (codes "1/") 0
   pub too_few : ¬ IsStartText press_table (codes "1") 0
   pub too_many : ¬ IsStartText press_table (codes "100") 0
+  -- sixteen places: one digit that is no flag, in the middle or at the end, and one place too few
+  pub sixteen : IsStartText (counted 0 16) (codes "0110100110010111") 0
+  pub two_within : ¬ IsStartText (counted 0 16) (codes "0110100120010111") 0
+  pub two_at_end : ¬ IsStartText (counted 0 16) (codes "0110100110010112") 0
+  pub fifteen : ¬ IsStartText (counted 0 16) (codes "011010011001011") 0
+  pub none : IsStartText (counted 0 0) [] 1048575
+  pub each : places_in (codes "0110100110010111")
+      ≡ false ∷ true ∷ true ∷ false ∷ true ∷ false ∷ false ∷ true ∷ true ∷ false ∷ false ∷ true ∷ false ∷ true
+      ∷ true ∷ true ∷ []
   -- the places that are full: the first, or the second
   pub first : places_in (codes "10") ≡ true ∷ replicate 15 false
   pub second : places_in (codes "01") ≡ false ∷ true ∷ replicate 14 false

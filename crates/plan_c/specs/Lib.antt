@@ -4,3 +4,4 @@ pub mod Replies
 pub mod Starts
 pub mod Laws
 pub mod Examples
+pub mod NumberExamples

@@ -1,6 +1,7 @@
 //! Laws, each the contract of a function that does nothing.
 ghost use Rattle.plan_c.specs.Examples.{StartsAreJudged};
 ghost use Rattle.plan_c.specs.Laws.{NoStateHasNoWord};
+ghost use Rattle.plan_c.specs.NumberExamples.{CallsAreMet, GivenIsMet, NumbersAreMet, RepliesAreMet};
 
 use plan_word::laws::words_are_laid_out;
 
@@ -11,7 +12,27 @@ pub fn no_state_has_no_word()
     words_are_laid_out();
 }
 
-/// Examples: which texts and stamps are those of a start of two places.
+/// Examples: which texts and stamps are those of a start of two places, and of sixteen.
 pub fn starts_are_judged()
     ensures { StartsAreJudged }
+{}
+
+/// The number of each posture, verb, object, refusal and answer.
+pub fn numbers_are_met()
+    ensures { NumbersAreMet }
+{}
+
+/// Examples: the numbers of a call, and numbers of none.
+pub fn calls_are_met()
+    ensures { CallsAreMet }
+{}
+
+/// Examples: what C gets of each kind of answer.
+pub fn replies_are_met()
+    ensures { RepliesAreMet }
+{}
+
+/// What the bytes of a plan and the word of a state have to be, in other words.
+pub fn given_is_met()
+    ensures { GivenIsMet }
 {}
