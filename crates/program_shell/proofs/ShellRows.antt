@@ -1,7 +1,7 @@
--- The examples of `shell_is_met` and of `runs_are_met`.
+-- The examples of `shell_is_met` and of `runs_are_met`, and what `runs_mean` says.
 use Rattle.std.proofs.Common.{◌≡◌, ◌≤◌, ℕ, zero, suc, List, [], ◌∷◌, ◌++◌, length, take, refl, ap, arith}
 use Rattle.std.proofs.lemmas.List.{length-append}
-use Rattle.program_shell.specs.ShellExamples.{RunsAreMet, ShellIsMet}
+use Rattle.program_shell.specs.ShellExamples.{RunsAreMet, RunsMean, ShellIsMet}
 
 abbrev last : List ℕ
 last = 9 ∷ []
@@ -36,12 +36,22 @@ runs-met = record {
   printed_other = λ k. not_second (k.failed refl).0 (let is = (k.failed refl).1 in cc);
 }
 
+pub runs-mean : RunsMean
+runs-mean = record {
+  well = λ test fails most input rest old new ran. (ran.well refl, ran.taken);
+  failed = λ test fails most bytes rest old new ran. (ran.failed refl, ran.taken);
+  printed = λ old new text prints. prints.well refl;
+  printed_in_part = λ old new text prints. prints.failed refl;
+}
+
 pub shell-met : ShellIsMet
 shell-met = record {
   well = refl;
   failed = refl;
   refused = refl;
   memory = refl;
+  version_line = refl;
+  texts = λ first second. refl;
   version = refl;
   name_alone = λ k. cc;
   other_word = λ k. cc;
@@ -49,6 +59,8 @@ shell-met = record {
   help = refl;
   help_by_letter = refl;
   help_of_word = refl;
+  help_of_later_word = refl;
+  help_before_more = refl;
   help_of_other_word = refl;
   help_of_two_words = refl;
   help_before_words = refl;

@@ -1,14 +1,20 @@
 -- Exit statuses, a fault's line, what was printed, and which words ask for the version, and for help.
-use Rattle.std.specs.Prelude.{◌≡◌, ℕ, List, [], ◌∷◌, codes, Some}
+use Rattle.std.specs.Prelude.{◌≡◌, ℕ, Bool, List, [], ◌∷◌, ◌++◌, codes, Option, Some, IsTrue}
+use Rattle.std.specs.Borrow.{Bor}
+use Rattle.std.specs.Io.KnownBytes.{Appends}
+use Rattle.text_io.specs.Input.{TakesAtMost}
+use Rattle.text_io.specs.Output.{WrotePrefix}
 use Rattle.program_shell.specs.Asked.{asked_of}
 use Rattle.program_shell.specs.Exits.{exit_status}
 use Rattle.program_shell.specs.Faults.{fault_line}
 use Rattle.program_shell.specs.Printed.{Prints}
 use Rattle.program_shell.specs.Served.{Served}
-use Rattle.program_shell.specs.Versions.{AskForVersion}
+use Rattle.program_shell.specs.Versions.{AskForVersion, version_line}
+use Rattle.program_shell.specs.Words.{texts_of}
 use Rattle.program_shell.specs.declared.asked.Asked.{Asked}
 use Rattle.program_shell.specs.declared.asked.Asked.TheVariants.{Help, Other, Version}
 use Rattle.program_shell.specs.declared.exit.Exit.TheVariants.{Well, Failed, Refused}
+use Rattle.program_shell.specs.declared.version.TheConstants.{VERSION}
 
 -- what words ask for after the name of a program that has the words `sim` and `run`
 abbrev pub asked_after_name : List (List ℕ) → Asked
@@ -37,11 +43,29 @@ pub record RunsAreMet : Type 0 where
   pub not_printed : ¬ PrintsBoth 0 (7 ∷ 1 ∷ [])
   pub printed_other : ¬ PrintsBoth 1 (7 ∷ 2 ∷ [])
 
+-- whatever a text is, and whatever a program says of its runs
+pub record RunsMean : Type 0 where
+  pub well : (test : Option (List ℕ) → Option (List ℕ) → Option (List ℕ) → Bool)
+      (fails : List ℕ → Option (List ℕ) → Option (List ℕ) → Bool) (most : ℕ)
+      (input rest old new : Option (List ℕ))
+      → Served (λ i o n. IsTrue (test i o n)) (λ bytes o n. IsTrue (fails bytes o n)) most 0 input rest old new
+      → IsTrue (test input old new) × TakesAtMost input rest most
+  pub failed : (test : Option (List ℕ) → Option (List ℕ) → Option (List ℕ) → Bool)
+      (fails : List ℕ → Option (List ℕ) → Option (List ℕ) → Bool) (most : ℕ) (bytes : List ℕ)
+      (rest old new : Option (List ℕ))
+      → Served (λ i o n. IsTrue (test i o n)) (λ all o n. IsTrue (fails all o n)) most 1 (Some bytes) rest old new
+      → IsTrue (fails bytes old new) × TakesAtMost (Some bytes) rest most
+  pub printed : (old new : Option (List ℕ)) (text : List ℕ) → Prints 0 old new text → Appends old new text
+  pub printed_in_part : (old new : Option (List ℕ)) (text : List ℕ) → Prints 1 old new text
+      → WrotePrefix old new text
+
 pub record ShellIsMet : Type 0 where
   pub well : exit_status Well ≡ 0
   pub failed : exit_status Failed ≡ 1
   pub refused : exit_status Refused ≡ 2
   pub memory : fault_line (codes "memory") ≡ codes "fault memory\n"
+  pub version_line : version_line (codes "film") ≡ codes "film " ++ (VERSION.now ++ codes "\n")
+  pub texts : (first second : Bor (List ℕ)) → texts_of (first ∷ second ∷ []) ≡ first.now ∷ second.now ∷ []
   pub version : AskForVersion (codes "cell" ∷ codes "--version" ∷ [])
   pub name_alone : ¬ AskForVersion (codes "--version" ∷ [])
   pub other_word : ¬ AskForVersion (codes "cell" ∷ codes "version" ∷ [])
@@ -49,6 +73,8 @@ pub record ShellIsMet : Type 0 where
   pub help : asked_after_name (codes "--help" ∷ []) ≡ Help
   pub help_by_letter : asked_after_name (codes "-h" ∷ []) ≡ Help
   pub help_of_word : asked_after_name (codes "sim" ∷ codes "--help" ∷ []) ≡ Help
+  pub help_of_later_word : asked_after_name (codes "run" ∷ codes "-h" ∷ []) ≡ Help
+  pub help_before_more : asked_after_name (codes "run" ∷ codes "--help" ∷ codes "go" ∷ []) ≡ Help
   pub help_of_other_word : asked_after_name (codes "go" ∷ codes "--help" ∷ []) ≡ Other
   pub help_of_two_words : asked_after_name (codes "sim" ∷ codes "run" ∷ codes "--help" ∷ []) ≡ Other
   pub help_before_words : asked_after_name (codes "--help" ∷ codes "go" ∷ codes "--version" ∷ []) ≡ Help

@@ -1,6 +1,6 @@
 //! Laws of programs' shells, each the contract of a function that does nothing.
 
-ghost use Rattle.program_shell.specs.ShellExamples.{RunsAreMet, ShellIsMet};
+ghost use Rattle.program_shell.specs.ShellExamples.{RunsAreMet, RunsMean, ShellIsMet};
 
 /// Examples: the exit statuses, a fault's line, and which words ask for the version, and for help.
 pub fn shell_is_met()
@@ -11,4 +11,9 @@ pub fn shell_is_met()
 /// printed.
 pub fn runs_are_met()
     ensures { RunsAreMet }
+{}
+
+/// What is said of a run is said of its own input and output, and what is said of a print of its text.
+pub fn runs_mean()
+    ensures { RunsMean }
 {}
