@@ -3,6 +3,7 @@
 #![tactic(auto)]
 
 mod fault;
+mod laws;
 mod texts;
 
 ghost use Rattle.std.specs.Prelude.{◌≡◌, []};
