@@ -109,7 +109,7 @@ def answer_by_twin(verb, text, lines):
         found, accepted = twin.replayed(plan, script)
         return 0 if accepted else 1, None, found, None
     chart, found = twin.explored(plan, script)
-    return 1 if chart is None or found[0].startswith("a standstill") else 0, None, found, chart
+    return 1 if chart is None or twin.is_warning(found) else 0, None, found, chart
 
 
 def differences(verb, text, lines, wanted, status, said):

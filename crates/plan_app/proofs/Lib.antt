@@ -2,4 +2,5 @@ mod Inputs
 mod Lines
 mod Screens
 mod WordRows
+mod StarvingRows
 mod LineRows

@@ -13,7 +13,8 @@ use Rattle.plan_liveness.specs.declared.answer.Progress.{Progress}
 use Rattle.plan_app.specs.Going.{going_text}
 use Rattle.plan_app.specs.Screens.{AreAnswers, IsScreen, ShowsFree, ShowsGoing, ShowsStandstill, outlook_after}
 use Rattle.plan_app.specs.declared.explore.Screen.{Screen}
-use Rattle.plan_app.specs.declared.explore.Screen.TheVariants.{Free, Standstill}
+use Rattle.plan_app.specs.Starving.{any_starves}
+use Rattle.plan_app.specs.declared.explore.Screen.TheVariants.{Free, Starving, Standstill}
 
 free_is_screen : (n : Named) (ps : PlanPrograms) (opening : State) (situations : ℕ) (screen : Screen)
     → NoneStandsStill n.plan ps opening → NoRunStandsStill n.plan ps opening → ComeTo n.plan ps opening situations
@@ -26,7 +27,19 @@ free_is_screen n ps opening situations (Free text) none runs come (answers, plat
   answers = answers;
   plates = plates;
   are = are;
-  told = shown;
+  starving = shown.0;
+  told = shown.1;
+}
+free_is_screen n ps opening situations (Starving text) none runs come (answers, plates, are, shown) = record {
+  free = none;
+  runs = runs;
+  situations = situations;
+  come = come;
+  answers = answers;
+  plates = plates;
+  are = are;
+  starving = shown.0;
+  told = shown.1;
 }
 free_is_screen n ps opening situations (Standstill text) none runs come (answers, plates, are, shown) = absurd shown
 
@@ -39,7 +52,7 @@ free_is_shown n ps opening situations (Err e) none runs come shown = tt
 
 pub going_is_shown : {E : Type 0} (n : Named) (ps : PlanPrograms) (opening : State) (situations : ℕ)
     (answers : List Liveness) (plates : Progress) (r : Result Screen E) → AreAnswers n ps opening answers plates
-    → IfOk r (λ screen. ShowsFree situations (going_text n ps opening answers plates) screen)
+    → IfOk r (λ screen. ShowsFree situations (going_text n ps opening answers plates) (any_starves n answers plates) screen)
     → IfOk r (λ screen. ShowsGoing n ps opening situations screen)
 going_is_shown n ps opening situations answers plates (Ok screen) are shown = (answers, plates, are, shown)
 going_is_shown n ps opening situations answers plates (Err e) are shown = tt
@@ -48,6 +61,7 @@ standstill_is_screen : (n : Named) (ps : PlanPrograms) (opening : State) (turns 
     → LeadToStandstill n.plan ps opening turns → AreShortest n.plan ps opening turns
     → ShowsStandstill n ps opening (outlook_after n ps opening turns) turns screen → IsScreen n ps opening screen
 standstill_is_screen n ps opening turns (Free text) lead shortest shown = absurd shown
+standstill_is_screen n ps opening turns (Starving text) lead shortest shown = absurd shown
 standstill_is_screen n ps opening turns (Standstill text) lead shortest shown = record {
   turns = turns;
   lead = lead;

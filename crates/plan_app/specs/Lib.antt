@@ -4,7 +4,9 @@ pub mod Words
 pub mod Reports
 pub mod Headers
 pub mod Going
+pub mod Starving
 pub mod Screens
 pub mod Served
 pub mod WordExamples
+pub mod StarvingExamples
 pub mod LineExamples

@@ -1,5 +1,5 @@
 -- What `plan explore` prints of a plan and its programs.
-use Rattle.std.specs.Prelude.{◌≡◌, ℕ, ◌++◌, codes, flat_map, length, List, [], string_bytes}
+use Rattle.std.specs.Prelude.{◌≡◌, ℕ, Bool, true, false, ◌++◌, codes, flat_map, length, List, [], string_bytes}
 use Rattle.std.specs.Prelude.{slice_get, Some, None}
 use Rattle.plan_types.specs.declared.answer.Event.{Event}
 use Rattle.plan_rules.specs.declared.state.State.{State}
@@ -15,10 +15,11 @@ use Rattle.plan_liveness.specs.Plates.{PlatesMove, PlatesRest}
 use Rattle.plan_text.specs.Names.{Text}
 use Rattle.plan_text.specs.Named.{Named}
 use Rattle.plan_app.specs.Going.{going_text, line_of, way_text}
+use Rattle.plan_app.specs.Starving.{any_starves}
 use Rattle.plan_app.specs.Words.{counted}
 use Rattle.plan_app.specs.declared.explore.TheConstants.{FREE, SHORTEST, STANDSTILL}
 use Rattle.plan_app.specs.declared.explore.Screen.{Screen}
-use Rattle.plan_app.specs.declared.explore.Screen.TheVariants.{Free, Standstill}
+use Rattle.plan_app.specs.declared.explore.Screen.TheVariants.{Free, Starving, Standstill}
 
 -- ---- a standstill
 
@@ -70,8 +71,9 @@ pub record AreAnswers (n : Named) (ps : PlanPrograms) (opening : State) (answers
   pub resting : MayRest n ps opening plates
 
 -- In no order of turns is there a standstill, and `situations` is the number of situations that the machines come to.
--- What is said of machines that go on is what explorations answer.
-pub record TellsFree (n : Named) (ps : PlanPrograms) (opening : State) (text : Text) : Type 0 where
+-- What is said of machines that go on is what explorations answer, and `starve` is whether some machine may starve by
+-- that, or plates may rest.
+pub record TellsGoing (n : Named) (ps : PlanPrograms) (opening : State) (starve : Bool) (text : Text) : Type 0 where
   pub free : NoneStandsStill n.plan ps opening
   pub runs : NoRunStandsStill n.plan ps opening
   pub situations : ℕ
@@ -79,25 +81,40 @@ pub record TellsFree (n : Named) (ps : PlanPrograms) (opening : State) (text : T
   pub answers : List Liveness
   pub plates : Progress
   pub are : AreAnswers n ps opening answers plates
+  pub starving : any_starves n answers plates ≡ starve
   pub told : text ≡ free_line situations ++ going_text n ps opening answers plates
+
+-- by that none starves
+abbrev pub TellsFree : Named → PlanPrograms → State → Text → Type 0
+TellsFree n ps opening text = TellsGoing n ps opening false text
+
+-- or some do
+abbrev pub TellsStarving : Named → PlanPrograms → State → Text → Type 0
+TellsStarving n ps opening text = TellsGoing n ps opening true text
 
 -- ---- what is printed is what was found
 
 abbrev pub IsScreen : Named → PlanPrograms → State → Screen → Type 0
 IsScreen n ps opening (Free text) = TellsFree n ps opening (string_bytes text)
+IsScreen n ps opening (Starving text) = TellsStarving n ps opening (string_bytes text)
 IsScreen n ps opening (Standstill text) = TellsStandstill n ps opening (string_bytes text)
 
--- a screen says that nothing stands still; or that turns lead to a standstill, where the machines wait so
-abbrev pub ShowsFree : ℕ → Text → Screen → Type 0
-ShowsFree situations going (Free text) = string_bytes text ≡ free_line situations ++ going
-ShowsFree situations going (Standstill text) = ⊥
+-- a screen says that nothing stands still, and whether some starve; or that turns lead to a standstill, where the
+-- machines wait so
+abbrev pub ShowsFree : ℕ → Text → Bool → Screen → Type 0
+ShowsFree situations going starve (Free text) =
+    (starve ≡ false) × (string_bytes text ≡ free_line situations ++ going)
+ShowsFree situations going starve (Starving text) =
+    (starve ≡ true) × (string_bytes text ≡ free_line situations ++ going)
+ShowsFree situations going starve (Standstill text) = ⊥
 
 abbrev pub ShowsGoing : Named → PlanPrograms → State → ℕ → Screen → Type 0
 ShowsGoing n ps opening situations screen =
     (answers : List Liveness) × (plates : Progress) × AreAnswers n ps opening answers plates
-    × ShowsFree situations (going_text n ps opening answers plates) screen
+    × ShowsFree situations (going_text n ps opening answers plates) (any_starves n answers plates) screen
 
 abbrev pub ShowsStandstill : Named → PlanPrograms → State → List Event → List ℕ → Screen → Type 0
 ShowsStandstill n ps opening waiting turns (Free text) = ⊥
+ShowsStandstill n ps opening waiting turns (Starving text) = ⊥
 ShowsStandstill n ps opening waiting turns (Standstill text) =
     string_bytes text ≡ standstill_text n ps opening turns waiting

@@ -20,7 +20,7 @@ abbrev pub AnswersScript : Named → List ℕ → Option (List ℕ) → Option (
 AnswersScript n script old new =
     ((script_answers n script).outcome ≡ Clean) × Appends old new (script_answers n script).text
 
--- that no programs stand still, from a start, was written, and nothing else
+-- that no programs stand still, from a start, and none starves, was written, and nothing else
 abbrev pub WritesFree : Named → PlanPrograms → State → Option (List ℕ) → Option (List ℕ) → Type 0
 WritesFree n ps opening old new = (text : List ℕ) × TellsFree n ps opening text × Appends old new text
 
@@ -37,7 +37,7 @@ abbrev pub AnswersIn : List ℕ → Option (List ℕ) → Option (List ℕ) → 
 AnswersIn bytes old new =
     (plan : ProgrammedPlan) × IsPlanIn (document_in bytes) plan × AnswersScript plan.named (script_in bytes) old new
 
--- its programs were found free from the start of the script after it
+-- its programs were found free, of standstills and of machines that starve, from the start of the script after it
 abbrev pub FindsFreeIn : List ℕ → Option (List ℕ) → Option (List ℕ) → Type 0
 FindsFreeIn bytes old new =
     (plan : ProgrammedPlan) × IsPlanIn (document_in bytes) plan × FindsFree plan (script_in bytes) old new

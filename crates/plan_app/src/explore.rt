@@ -7,8 +7,10 @@ ghost use Rattle.plan_liveness.specs.declared.answer.Liveness.{Liveness};
 ghost use Rattle.plan_liveness.specs.Answers.{IsLiveness};
 ghost use Rattle.plan_app.specs.Going.{going_text};
 ghost use Rattle.plan_app.specs.Screens as spec;
+ghost use Rattle.plan_app.specs.Starving.{any_starves as some_starve};
 
 use crate::going::{push_all, push_line, push_way};
+use crate::starving::any_starves;
 use crate::words::push_counted;
 use plan_document::ProgrammedPlan;
 use plan_explorer::{Explored, Programs, explore, take_turns};
@@ -30,9 +32,11 @@ const SHORTEST: &str = ", and no fewer\n";
 /// What `plan explore` prints.
 #[derive(Drop)]
 pub enum Screen {
-    /// No order of turns leads to a standstill.
+    /// No order of turns leads to a standstill, and no fair one is found in which a machine starves, or plates rest.
     Free(String),
-    /// Some order does.
+    /// No order of turns leads to a standstill, but some machine starves in a fair one, or plates rest.
+    Starving(String),
+    /// Some order leads to a standstill.
     Standstill(String),
 }
 
@@ -106,11 +110,16 @@ fn free_text(
     plates: &Progress,
 ) -> Result<Screen, AllocError>
     ensures { IfOk result (λ screen. spec.ShowsFree situations
-        (going_text plan.now.named plan.now.programs opening.now answers.now plates.now) screen) }
+        (going_text plan.now.named plan.now.programs opening.now answers.now plates.now)
+        (some_starve plan.now.named answers.now plates.now) screen) }
 {
     let mut text = String::new(alloc);
     push_free(&mut text, plan, opening, situations, answers, plates)?;
-    Ok(Screen::Free(text))
+    if any_starves(&plan.named, answers, plates) {
+        Ok(Screen::Starving(text))
+    } else {
+        Ok(Screen::Free(text))
+    }
 }
 
 /// Adds the line of the situations, and what is said of machines that go on.

@@ -10,4 +10,5 @@ pub mod report;
 pub mod request;
 pub mod serve;
 pub mod size;
+mod starving;
 mod words;

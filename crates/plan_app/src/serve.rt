@@ -43,7 +43,8 @@ Reads a plan of a plant, in TOML, from standard input.
   plan --version  prints the version
 A script may follow the plan in each case. At most 1,000,000 situations are explored; more
 are fault large. Exit status: 0 on success, and for help; 2 for bad arguments; otherwise
-1: a fault, a standstill, or a failed write.
+1: a fault, a standstill, an order in which a machine starves or plates rest, or a failed
+write.
 
 Example:
   cat examples/plans/press.toml examples/plans/press.csv | plan replay
@@ -243,13 +244,14 @@ fn print_screen<W: Write>(
 {
     match screen_of(alloc, plan, opening) {
         Ok(Screen::Free(text)) => print(writer, text.as_bytes()),
-        Ok(Screen::Standstill(text)) => print_standstill(writer, text.as_str()),
+        Ok(Screen::Starving(text)) => print_warning(writer, text.as_str()),
+        Ok(Screen::Standstill(text)) => print_warning(writer, text.as_str()),
         Err(AllocError) => fail(writer, "memory"),
     }
 }
 
-/// Prints what was found of a standstill. That isn't well, whatever was written.
-fn print_standstill<W: Write>(writer: &mut W, text: &str) -> Exit
+/// Prints what was found of a standstill, or of who starves. That isn't well, whatever was written.
+fn print_warning<W: Write>(writer: &mut W, text: &str) -> Exit
     ensures { result ≡ Exit.Failed }
 {
     let _ = print(writer, text.as_bytes());
@@ -271,7 +273,8 @@ fn print_answers<W: Write>(writer: &mut W, answered: &ScriptAnswers) -> Exit
 }
 
 /// Does what the words ask for, and returns the exit status: 0 on success, and for help; 1 for a refused plan or
-/// script, a standstill, a failed read or write, and if memory ran out; 2 for other words.
+/// script, a standstill, a machine that may starve, plates that may rest, a failed read or write, and if memory ran out;
+/// 2 for other words.
 pub fn serve<R: Read, W: Write>(alloc: Global, words: &[&str], reader: &mut R, writer: &mut W) -> u8
     ensures status { result ≤ 2 }
 
@@ -289,7 +292,7 @@ pub fn serve<R: Read, W: Write>(alloc: Global, words: &[&str], reader: &mut R, w
         AnswersInput (R.remaining reader.old) (W.contents writer.old) (W.contents writer.new) }
 
     // With `explore`: status 0 says that no order of turns of this plan's programs leads from the script's start to a
-    // standstill, and that this was written.
+    // standstill, that no machine starves and no plates rest by what explorations answer, and that this was written.
     ensures explore { request_of (texts_of words.now) ≡ Some Request.Explore → result ≡ 0 →
         FindsInputFree (R.remaining reader.old) (W.contents writer.old) (W.contents writer.new) }
 

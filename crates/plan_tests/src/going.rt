@@ -595,51 +595,59 @@ right_press goes on for ever in each fair order: within k * 7 turns
 plates move for ever in each fair order: within k * 10 turns
 ";
 
-/// Whether these words and what is meant by fair orders are printed of a plan and a start.
+/// Whether this status comes of a plan and a start, with these words and what is meant by fair orders.
 fn is_explored(
     rt: &HostRuntime,
     plan: &str,
     start: &str,
+    status: u8,
     screen: &str,
 ) -> Result<bool, AllocError> {
     let input = format!(in rt.alloc(); "{plan}{start}\n")?;
     let text = format!(in rt.alloc(); "{screen}{FAIRNESS}")?;
-    Ok(is_answered(rt.alloc(), b"explore", input.as_str(), 0, text.as_str()))
+    Ok(is_answered(
+        rt.alloc(),
+        b"explore",
+        input.as_str(),
+        status,
+        text.as_str(),
+    ))
 }
 
-/// The small example plans, their starts, and what is printed of them.
-const EXAMPLES: &[(&str, &str, &str)] = &[
-    (PRESS, "start,10", PRESS_GOES),
-    (JUNCTION, "start,", JUNCTION_GOES),
-    (LIFT, "start,010,100", LIFT_GOES),
+/// The small example plans, their starts, and the status and what is printed of them. Status 1 says that a machine may
+/// starve.
+const EXAMPLES: &[(&str, &str, u8, &str)] = &[
+    (PRESS, "start,10", 0, PRESS_GOES),
+    (JUNCTION, "start,", 1, JUNCTION_GOES),
+    (LIFT, "start,010,100", 0, LIFT_GOES),
 ];
 
 #[test]
 fn explores_small_examples(rt: HostRuntime) -> Result<(), AllocError> {
-    for (plan, start, screen) in EXAMPLES {
-        assert!(rt; is_explored(&rt, plan, start, screen)?, "{start}");
+    for (plan, start, status, screen) in EXAMPLES {
+        assert!(rt; is_explored(&rt, plan, start, *status, screen)?, "{start}");
     }
     Ok(())
 }
 
 #[test]
 fn explores_the_cell(rt: HostRuntime) -> Result<(), AllocError> {
-    assert!(rt; is_explored(&rt, CELL, "start,1000000", CELL_GOES)?);
+    assert!(rt; is_explored(&rt, CELL, "start,1000000", 0, CELL_GOES)?);
     Ok(())
 }
 
 #[test]
 fn explores_two_presses(rt: HostRuntime) -> Result<(), AllocError> {
     let both = format!(in rt.alloc(); "{PRESSES_BEGIN}{LEFT_PROGRAM}{PRESSES_END}")?;
-    assert!(rt; is_explored(&rt, both.as_str(), "start,1100", TWO_PRESSES_GO)?);
+    assert!(rt; is_explored(&rt, both.as_str(), "start,1100", 1, TWO_PRESSES_GO)?);
     let one = format!(in rt.alloc(); "{PRESSES_BEGIN}program = []\n{PRESSES_END}")?;
-    assert!(rt; is_explored(&rt, one.as_str(), "start,1100", ONE_PRESS_GOES)?);
+    assert!(rt; is_explored(&rt, one.as_str(), "start,1100", 1, ONE_PRESS_GOES)?);
     Ok(())
 }
 
 #[test]
 fn explores_a_dock(rt: HostRuntime) -> Result<(), AllocError> {
-    assert!(rt; is_explored(&rt, DOCK, "start,", DOCK_GOES)?);
+    assert!(rt; is_explored(&rt, DOCK, "start,", 1, DOCK_GOES)?);
     Ok(())
 }
 

@@ -1,6 +1,7 @@
 use Rattle.std.proofs.Common.{IfOk, subst}
 use Rattle.plan_app.specs.Going.{going_text}
 use Rattle.plan_app.specs.Screens.{AreAnswers, ShowsFree}
+use Rattle.plan_app.specs.Starving.{any_starves}
 use Rattle.plan_app.proofs.Screens.{going_is_shown}
 use Rattle.plan_app.proofs.explore.free_screen.Goals as goal
 
@@ -18,5 +19,6 @@ returns c =
       resting = c.in_ok-plates.ensures.resting;
     } in
     going_is_shown n ps opening c.args.situations answers plates c.free_text.result answered
-    (subst (λ a. IfOk c.free_text.result (λ screen. ShowsFree c.args.situations (going_text n ps opening a plates) screen))
+    (subst (λ a. IfOk c.free_text.result
+    (λ screen. ShowsFree c.args.situations (going_text n ps opening a plates) (any_starves n a plates) screen))
     c.as_slice.ensures.value c.free_text.ensures)
