@@ -1,7 +1,7 @@
--- The examples of `report_lines_are_met` and `header_lines_are_met`.
+-- The examples of `report_lines_are_met`, `header_lines_are_met` and `party_lines_are_met`.
 use Rattle.std.proofs.Common.{refl}
 use Rattle.std.specs.Fmt.{digits}
-use Rattle.plan_app.specs.LineExamples.{HeaderLines, ReportLines}
+use Rattle.plan_app.specs.LineExamples.{HeaderLines, PartyLines, ReportLines}
 
 pub report-lines : ReportLines
 unfolding digits
@@ -18,6 +18,8 @@ report-lines = record {
   no_place_more = refl;
   stamp = refl;
   stop = refl;
+  kinds = refl;
+  fields = refl;
 }
 
 pub header-lines : HeaderLines
@@ -35,4 +37,22 @@ header-lines = record {
   width = refl;
   first_byte = refl;
   next_byte = refl;
+  ninth_byte = refl;
+  fifth_byte = refl;
+}
+
+pub party-lines : PartyLines
+unfolding digits
+party-lines = record {
+  hosts = refl;
+  left_pose = refl;
+  right_pose = refl;
+  second_keeper = refl;
+  last_keeper = refl;
+  poses = refl;
+  parties = refl;
+  bits = refl;
+  machines = refl;
+  zones = refl;
+  places = refl;
 }

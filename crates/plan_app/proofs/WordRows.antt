@@ -13,6 +13,11 @@ words-told = record {
   if_all = λ t order. refl;
   if_it_by_relay = λ t order. refl;
   if_two = λ t order. refl;
+  if_it_of_door = λ t order. refl;
+  if_other_of_door = λ t order. refl;
+  if_it_of_door_by_relay = λ t order. refl;
+  if_two_of_door = λ t order. refl;
+  if_two_by_door = λ t order. refl;
   starves = λ t order. refl;
   unknown = λ t reason. refl;
 }

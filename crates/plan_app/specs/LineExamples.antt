@@ -1,11 +1,14 @@
--- Lines of the report and of the header of a lift between two floors, whole.
-use Rattle.std.specs.Prelude.{◌≡◌, List, [], ◌∷◌, ◌++◌, codes}
-use Rattle.plan_types.specs.Examples.{lift_table}
+-- Lines of reports and headers, whole: of a lift between two floors, of two presses, and of two gates.
+use Rattle.std.specs.Prelude.{◌≡◌, List, false, [], ◌∷◌, ◌++◌, codes, None}
+use Rattle.plan_types.specs.Table.{PlanTable, plan_table}
+use Rattle.plan_types.specs.Examples.{lift_table, pose, zone}
+use Rattle.plan_rules.specs.Examples.{presses_table}
 use Rattle.plan_word.specs.Layout.{counts_of}
 use Rattle.plan_word.specs.declared.layout.Field.TheVariants.{Stamp, Stop}
 use Rattle.plan_text.specs.Names.{Text}
 use Rattle.plan_text.specs.Named.{Named, named}
 use Rattle.plan_app.specs.Headers as header
+use Rattle.plan_app.specs.declared.header.TheConstants.{BEGIN, ZONES}
 use Rattle.plan_app.specs.Reports as report
 
 abbrev pub lift_machines : List Text
@@ -23,6 +26,25 @@ lift_poses = codes "travel" ∷ codes "load_low" ∷ codes "unload_high" ∷ cod
 abbrev pub lift : Named
 lift = named lift_table lift_machines lift_zones lift_places lift_poses
 
+-- two presses, each hosted by its own machine, at one loader
+abbrev pub presses : Named
+presses =
+    named presses_table (codes "loader" ∷ codes "left" ∷ codes "right" ∷ []) (codes "near" ∷ codes "far" ∷ [])
+    (codes "hand" ∷ codes "left_bed" ∷ codes "right_bed" ∷ [])
+    (codes "left_moves" ∷ codes "left_open" ∷ codes "right_moves" ∷ codes "right_open" ∷ [])
+
+-- a lock between a lake and the sea: the lock hosts the first gate, the sea the second; of four places the lock keeps
+-- the first and the second, the lake the third, the sea the last
+abbrev pub gates_table : PlanTable
+gates_table =
+    plan_table 3 (zone 1 0 None None ∷ zone 2 1 None None ∷ [])
+    (pose 1 false None None ∷ pose 2 false None None ∷ []) (1 ∷ 1 ∷ 0 ∷ 2 ∷ [])
+
+abbrev pub gates : Named
+gates =
+    named gates_table (codes "lake" ∷ codes "lock" ∷ codes "sea" ∷ []) (codes "east" ∷ codes "west" ∷ [])
+    (codes "first" ∷ codes "second" ∷ codes "quay" ∷ codes "pier" ∷ []) (codes "travel" ∷ codes "tide" ∷ [])
+
 -- a zone has five bits, a place one, the stamp twenty, the stop one
 pub record ReportLines : Type 0 where
   pub machines : report.names_line (codes "machine") lift_machines ≡ codes "3 machines: lift low high\n"
@@ -37,6 +59,15 @@ pub record ReportLines : Type 0 where
   pub no_place_more : report.place_line lift 3 ≡ []
   pub stamp : report.field_line (counts_of lift_table) Stamp (codes "stamp") ≡ codes "bit 13, 20 bits: stamp\n"
   pub stop : report.field_line (counts_of lift_table) Stop (codes "stop") ≡ codes "bit 33, 1 bit: stop\n"
+  -- two zones and four places
+  pub kinds : report.kind_lines gates
+      ≡ codes "3 machines: lake lock sea\n" ++ codes "2 zones: east west\n"
+      ++ codes "4 places: first second quay pier\n" ++ codes "2 poses: travel tide\n"
+  pub fields : report.field_lines gates
+      ≡ codes "bit 0, 5 bits: zone east\n" ++ codes "bit 5, 5 bits: zone west\n"
+      ++ codes "bit 10, 1 bit: place first\n" ++ codes "bit 11, 1 bit: place second\n"
+      ++ codes "bit 12, 1 bit: place quay\n" ++ codes "bit 13, 1 bit: place pier\n"
+      ++ codes "bit 14, 20 bits: stamp\n" ++ codes "bit 34, 1 bit: stop\n"
 
 pub record HeaderLines : Type 0 where
   pub zones : header.number_lines (codes "zone") lift_zones
@@ -56,3 +87,42 @@ pub record HeaderLines : Type 0 where
   -- bytes, eight in a line
   pub first_byte : header.byte_word (7 ∷ []) 0 ≡ codes "\n    7,"
   pub next_byte : header.byte_word (7 ∷ 255 ∷ []) 1 ≡ codes " 255,"
+  -- a byte in the second line
+  pub ninth_byte : header.byte_word (1 ∷ 2 ∷ 3 ∷ 4 ∷ 5 ∷ 6 ∷ 7 ∷ 8 ∷ 19 ∷ []) 8 ≡ codes "\n    19,"
+  pub fifth_byte : header.byte_word (1 ∷ 2 ∷ 3 ∷ 4 ∷ 5 ∷ []) 4 ≡ codes " 5,"
+
+-- lines of plans whose zones are of different hosts, whose poses are of different machines, and where a machine keeps
+-- two places
+pub record PartyLines : Type 0 where
+  pub hosts : header.zone_parties presses 1
+      ≡ codes "#define PLAN_HOST_OF_FAR PLAN_MACHINE_RIGHT\n" ++ codes "#define PLAN_GUEST_OF_FAR PLAN_MACHINE_LOADER\n"
+  pub left_pose : header.pose_line presses 1 ≡ codes "#define PLAN_POSE_LEFT_LEFT_OPEN 1\n"
+  pub right_pose : header.pose_line presses 2 ≡ codes "#define PLAN_POSE_RIGHT_RIGHT_MOVES 2\n"
+  pub second_keeper : header.keeper_line gates 1 ≡ codes "#define PLAN_KEEPER_OF_SECOND PLAN_MACHINE_LOCK\n"
+  pub last_keeper : header.keeper_line gates 3 ≡ codes "#define PLAN_KEEPER_OF_PIER PLAN_MACHINE_SEA\n"
+  pub poses : header.pose_lines gates
+      ≡ codes "#define PLAN_POSE_LOCK_TRAVEL 0\n" ++ codes "#define PLAN_POSE_SEA_TIDE 1\n"
+      ++ codes "#define PLAN_POSES 2\n"
+  pub parties : header.party_lines gates
+      ≡ codes "#define PLAN_HOST_OF_EAST PLAN_MACHINE_LOCK\n" ++ codes "#define PLAN_GUEST_OF_EAST PLAN_MACHINE_LAKE\n"
+      ++ codes "#define PLAN_HOST_OF_WEST PLAN_MACHINE_SEA\n" ++ codes "#define PLAN_GUEST_OF_WEST PLAN_MACHINE_LOCK\n"
+      ++ codes "#define PLAN_KEEPER_OF_FIRST PLAN_MACHINE_LOCK\n"
+      ++ codes "#define PLAN_KEEPER_OF_SECOND PLAN_MACHINE_LOCK\n"
+      ++ codes "#define PLAN_KEEPER_OF_QUAY PLAN_MACHINE_LAKE\n"
+      ++ codes "#define PLAN_KEEPER_OF_PIER PLAN_MACHINE_SEA\n"
+  -- ten bits of two zones, four of places
+  pub bits : header.bit_lines gates
+      ≡ codes "#define PLAN_BIT_ZONE_EAST 0\n" ++ codes "#define PLAN_BIT_ZONE_WEST 5\n"
+      ++ codes "#define PLAN_BIT_PLACE_FIRST 10\n" ++ codes "#define PLAN_BIT_PLACE_SECOND 11\n"
+      ++ codes "#define PLAN_BIT_PLACE_QUAY 12\n" ++ codes "#define PLAN_BIT_PLACE_PIER 13\n"
+      ++ codes "#define PLAN_BIT_STAMP 14\n" ++ codes "#define PLAN_BIT_STOP 34\n"
+  -- what stands before the numbers of each kind
+  pub machines : header.machines_part presses
+      ≡ BEGIN.now ++ codes "#define PLAN_MACHINE_LOADER 0\n" ++ codes "#define PLAN_MACHINE_LEFT 1\n"
+      ++ codes "#define PLAN_MACHINE_RIGHT 2\n" ++ codes "#define PLAN_MACHINES 3\n"
+  pub zones : header.zones_part presses
+      ≡ ZONES.now ++ codes "#define PLAN_ZONE_NEAR 0\n" ++ codes "#define PLAN_ZONE_FAR 1\n"
+      ++ codes "#define PLAN_ZONES 2\n"
+  pub places : header.places_part presses
+      ≡ codes "\n/* Places. */\n" ++ codes "#define PLAN_PLACE_HAND 0\n" ++ codes "#define PLAN_PLACE_LEFT_BED 1\n"
+      ++ codes "#define PLAN_PLACE_RIGHT_BED 2\n" ++ codes "#define PLAN_PLACES 3\n"

@@ -29,6 +29,10 @@ three plan = named plan (codes "lift" ∷ codes "cart" ∷ codes "door" ∷ []) 
 abbrev pub cart_line : PlanTable → Liveness → Text
 cart_line plan found = machine_name (three plan) 1 ++ answer_words (three plan) 1 found
 
+-- and of the door
+abbrev pub door_line : PlanTable → Liveness → Text
+door_line plan found = machine_name (three plan) 2 ++ answer_words (three plan) 2 found
+
 pub record WordsAreTold : Type 0 where
   pub silent : (t : PlanTable) → cart_line t Silent ≡ codes "cart asks nothing\n"
   pub always : (t : PlanTable) → cart_line t (Always (within 7 0))
@@ -45,6 +49,21 @@ pub record WordsAreTold : Type 0 where
   pub if_two : (t : PlanTable) (order : FairOrder) → cart_line t (IfTwo (relay 0 2) order)
       ≡ codes "cart goes on for ever if neither it nor door is passed over for ever: "
       ++ codes "within k * 10 * (k * 1 + k * k * 2) turns; lift brings it chances\n"
+  -- the same of the last machine, and by other figures
+  pub if_it_of_door : (t : PlanTable) (order : FairOrder) → door_line t (IfOne 2 (within 4 0) order)
+      ≡ codes "door goes on for ever if it isn't passed over for ever: within k * 4 turns\n"
+  pub if_other_of_door : (t : PlanTable) (order : FairOrder) → door_line t (IfOne 1 (within 4 5) order)
+      ≡ codes "door goes on for ever if cart isn't passed over for ever: within k * 4 + k * k * 5 turns\n"
+  pub if_it_of_door_by_relay : (t : PlanTable) (order : FairOrder) → door_line t (IfTwo (relay 1 2) order)
+      ≡ codes "door goes on for ever if it isn't passed over for ever: "
+      ++ codes "within k * 10 * (k * 1 + k * k * 2) turns; cart brings it chances\n"
+  pub if_two_of_door : (t : PlanTable) (order : FairOrder) → door_line t (IfTwo (relay 0 1) order)
+      ≡ codes "door goes on for ever if neither it nor cart is passed over for ever: "
+      ++ codes "within k * 10 * (k * 1 + k * k * 2) turns; lift brings it chances\n"
+  pub if_two_by_door : (t : PlanTable) (order : FairOrder)
+      → cart_line t (IfTwo (record { machine = 2; strong = 0; bound = within 5 7; rounds = 11 }) order)
+      ≡ codes "cart goes on for ever if neither it nor lift is passed over for ever: "
+      ++ codes "within k * 11 * (k * 5 + k * k * 7) turns; door brings it chances\n"
   pub starves : (t : PlanTable) (order : FairOrder) → cart_line t (Starves order)
       ≡ codes "cart may starve though no machine is passed over for ever\n"
   pub unknown : (t : PlanTable) (reason : Reason) → cart_line t (Unknown reason)

@@ -1,6 +1,6 @@
 //! Laws of what is printed, each the contract of a function that does nothing.
 
-ghost use Rattle.plan_app.specs.LineExamples.{HeaderLines, ReportLines};
+ghost use Rattle.plan_app.specs.LineExamples.{HeaderLines, PartyLines, ReportLines};
 ghost use Rattle.plan_app.specs.StarvingExamples.{StarvingIsKnown};
 ghost use Rattle.plan_app.specs.WordExamples.{PlatesAreTold, WordsAreTold};
 
@@ -20,6 +20,7 @@ pub fn starving_is_known()
 {}
 
 /// Examples: lines of the report of a lift, whole.
+/// Examples: lines of reports, whole.
 pub fn report_lines_are_met()
     ensures { ReportLines }
 {}
@@ -27,4 +28,9 @@ pub fn report_lines_are_met()
 /// Examples: lines of the header of a lift, whole.
 pub fn header_lines_are_met()
     ensures { HeaderLines }
+{}
+
+/// Examples: lines of headers where hosts, keepers and the machines of poses differ.
+pub fn party_lines_are_met()
+    ensures { PartyLines }
 {}
