@@ -4,3 +4,6 @@ mod Screens
 mod WordRows
 mod StarvingRows
 mod LineRows
+mod GoingRows
+mod InputRows
+mod ScreenRows

@@ -10,3 +10,6 @@ pub mod Served
 pub mod WordExamples
 pub mod StarvingExamples
 pub mod LineExamples
+pub mod GoingExamples
+pub mod InputExamples
+pub mod ScreenExamples

@@ -1,6 +1,9 @@
 //! Laws of what is printed, each the contract of a function that does nothing.
 
+ghost use Rattle.plan_app.specs.GoingExamples.{EventLines, MachinesAreTold, WalksAreTold};
+ghost use Rattle.plan_app.specs.InputExamples.{InputsAreSplit, RequestsAreRead, WordsAreMade};
 ghost use Rattle.plan_app.specs.LineExamples.{HeaderLines, PartyLines, ReportLines};
+ghost use Rattle.plan_app.specs.ScreenExamples.{AnswersAreMeant, ScreensAreMeant, ServedIsMeant, StandstillLines};
 ghost use Rattle.plan_app.specs.StarvingExamples.{StarvingIsKnown};
 ghost use Rattle.plan_app.specs.WordExamples.{PlatesAreTold, WordsAreTold};
 
@@ -33,4 +36,54 @@ pub fn header_lines_are_met()
 /// Examples: lines of headers where hosts, keepers and the machines of poses differ.
 pub fn party_lines_are_met()
     ensures { PartyLines }
+{}
+
+/// Examples: the lines of what machines ask, and of why they wait.
+pub fn events_are_told()
+    ensures { EventLines }
+{}
+
+/// Examples: what the turns of a loader and a press ask, and orders in which one of them starves, whole.
+pub fn walks_are_told()
+    ensures { WalksAreTold }
+{}
+
+/// Examples: all that is said of machines that go on or starve, and of plates.
+pub fn machines_are_told()
+    ensures { MachinesAreTold }
+{}
+
+/// Examples: inputs of a document and a script, and where the script begins.
+pub fn inputs_are_split()
+    ensures { InputsAreSplit }
+{}
+
+/// Examples: what words ask for.
+pub fn requests_are_read()
+    ensures { RequestsAreRead }
+{}
+
+/// Examples: numbers of things, and names in capitals.
+pub fn words_are_made()
+    ensures { WordsAreMade }
+{}
+
+/// Examples: what is said of a standstill, line by line and whole.
+pub fn standstills_are_told()
+    ensures { StandstillLines }
+{}
+
+/// What a screen says is so: that no turns lead to a standstill, or that these do.
+pub fn screens_are_meant()
+    ensures { ScreensAreMeant }
+{}
+
+/// What is answered of machines and plates is so.
+pub fn answers_are_meant()
+    ensures { AnswersAreMeant }
+{}
+
+/// Of an input with a document and a script: what was written of them.
+pub fn served_is_meant()
+    ensures { ServedIsMeant }
 {}

@@ -1,0 +1,58 @@
+-- The examples of `inputs_are_split`, `requests_are_read` and `words_are_made`.
+use Rattle.std.proofs.Common.{refl}
+use Rattle.std.specs.Fmt.{digits}
+use Rattle.plan_app.specs.InputExamples.{InputsAreSplit, RequestsAreRead, WordsAreMade}
+
+pub inputs-split : InputsAreSplit
+inputs-split = record {
+  document = refl;
+  script = refl;
+  at_once = refl;
+  no_script = refl;
+  empty = refl;
+  first = refl;
+  bare = refl;
+  within_line = refl;
+  blank_before = refl;
+  after_return = refl;
+  after_both = refl;
+  no_comma = refl;
+  no_more = refl;
+  capital = refl;
+  limit = refl;
+  read = refl;
+}
+
+pub requests-read : RequestsAreRead
+requests-read = record {
+  check = refl;
+  replay = refl;
+  explore = refl;
+  header = refl;
+  help = refl;
+  help_short = refl;
+  version = refl;
+  named = refl;
+  help_of_check = refl;
+  help_of_replay = refl;
+  help_of_explore = refl;
+  help_of_header = refl;
+  help_of_other = refl;
+  version_of_check = refl;
+  no_name = refl;
+  no_word = refl;
+  empty = refl;
+  shorter = refl;
+  longer = refl;
+  capital = refl;
+  twice = refl;
+}
+
+pub words-made : WordsAreMade
+unfolding digits
+words-made = record {
+  one = refl;
+  none = refl;
+  more = refl;
+  capital = refl;
+}

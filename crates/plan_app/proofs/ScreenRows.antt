@@ -1,0 +1,49 @@
+-- The examples of `standstills_are_told`, `screens_are_meant`, `answers_are_meant` and `served_is_meant`.
+use Rattle.std.proofs.Common.{◌<◌, length, ap, refl, arith}
+use Rattle.std.specs.Fmt.{digits}
+use Rattle.plan_app.specs.ScreenExamples.{AnswersAreMeant, ScreensAreMeant, ServedIsMeant, StandstillLines}
+
+pub standstill-lines : StandstillLines
+unfolding digits
+standstill-lines = record {
+  at_once = refl;
+  one_turn = refl;
+  turns = refl;
+  free = refl;
+  waits = refl;
+  outlook = refl;
+  whole = refl;
+}
+
+pub screens-meant : ScreensAreMeant
+screens-meant = record {
+  none = λ n ps s text is turns. is.free turns;
+  runs = λ n ps s text is. is.runs;
+  told = λ n ps s text is. (is.situations, is.answers, is.plates, is.come, is.are, is.told);
+  stands = λ n ps s text is. (is.turns, is.lead, is.shortest, is.told);
+}
+
+pub answers-meant : AnswersAreMeant
+answers-meant = record {
+  count = λ n ps s answers plates are. are.count;
+  each = λ n ps s answers plates are m answer at. are.each m answer at;
+  move = λ n ps s answers bound are. are.moving;
+  rest = λ n ps s answers order are. are.resting;
+  moves = λ n ps s bound may. may;
+  rests = λ n ps s order may. may;
+  no_turns = λ n ps s order empty may.
+      let some : 0 < length order.cycle.items = may.some in
+      let none : 0 < 0 = rw (← ap (λ l. length l) empty.cycle) some in
+      absurd (omega arith);
+}
+
+pub served-meant : ServedIsMeant
+served-meant = record {
+  report = λ old new said. said;
+  header = λ old new said. said;
+  answers = λ old new (plan, is, (clean, wrote)). (plan, is, clean, wrote);
+  free = λ old new (plan, is, (opening, at, (text, tells, wrote))). (plan, is, opening, at, text, tells, wrote);
+  silent = λ n ps s (text, tells, all). let e = tells.told in absurd (cc);
+  other = λ n ps s (text, tells, all). let e = tells.told in absurd (cc);
+  unknown = λ n ps s (text, tells, all). absurd all;
+}

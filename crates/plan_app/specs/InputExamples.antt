@@ -1,0 +1,73 @@
+-- Where a script begins in an input, and what words ask for: literal ones.
+use Rattle.std.specs.Prelude.{◌≡◌, ℕ, List, [], ◌∷◌, codes, Option, Some, None}
+use Rattle.plan_text.specs.Names.{Text}
+use Rattle.plan_app.specs.Input.{byte_limit, document_in, max_bytes_read, plan_length, script_in}
+use Rattle.plan_app.specs.Requests.{request_of}
+use Rattle.plan_app.specs.Words.{capitals, counted}
+use Rattle.plan_app.specs.declared.request.Request.{Request}
+use Rattle.plan_app.specs.declared.request.Request.TheVariants.{Check, Replay, Explore, Header, Help, Version}
+
+-- a document of one line, and a script of one
+abbrev pub both : List ℕ
+both = codes "plan\nstart,1\n"
+
+pub record InputsAreSplit : Type 0 where
+  pub document : document_in both ≡ codes "plan\n"
+  pub script : script_in both ≡ codes "start,1\n"
+  pub at_once : plan_length (codes "start,1\n") ≡ 0
+  pub no_script : plan_length (codes "plan\n") ≡ 5
+  pub empty : plan_length [] ≡ 0
+  -- the first of two scripts, also where nothing comes after it
+  pub first : plan_length (codes "a\nstart,\nstart,") ≡ 2
+  pub bare : plan_length (codes "a\nstart,") ≡ 2
+  -- only at the beginning of a line, which a line feed ends
+  pub within_line : plan_length (codes "a start,1\n") ≡ 10
+  pub blank_before : plan_length (codes "a\n start,\n") ≡ 10
+  pub after_return : plan_length (codes "a\rstart,1\n") ≡ 10
+  pub after_both : plan_length (codes "a\r\nstart,") ≡ 3
+  -- only this word, and a comma
+  pub no_comma : plan_length (codes "a\nstart 1\n") ≡ 10
+  pub no_more : plan_length (codes "a\nstart") ≡ 7
+  pub capital : plan_length (codes "a\nStart,") ≡ 8
+  pub limit : byte_limit ≡ 4259840
+  pub read : max_bytes_read ≡ 4259841
+
+abbrev pub asked : Text → Option Request
+asked word = request_of (codes "plan" ∷ word ∷ [])
+
+abbrev pub asked_with : Text → Text → Option Request
+asked_with word next = request_of (codes "plan" ∷ word ∷ next ∷ [])
+
+pub record RequestsAreRead : Type 0 where
+  pub check : asked (codes "check") ≡ Some Check
+  pub replay : asked (codes "replay") ≡ Some Replay
+  pub explore : asked (codes "explore") ≡ Some Explore
+  pub header : asked (codes "header") ≡ Some Header
+  pub help : asked (codes "--help") ≡ Some Help
+  pub help_short : asked (codes "-h") ≡ Some Help
+  pub version : asked (codes "--version") ≡ Some Version
+  -- whatever the program's name is
+  pub named : request_of (codes "check" ∷ codes "replay" ∷ []) ≡ Some Replay
+  -- help comes after each of its own words, and only after these
+  pub help_of_check : asked_with (codes "check") (codes "--help") ≡ Some Help
+  pub help_of_replay : asked_with (codes "replay") (codes "-h") ≡ Some Help
+  pub help_of_explore : asked_with (codes "explore") (codes "-h") ≡ Some Help
+  pub help_of_header : asked_with (codes "header") (codes "--help") ≡ Some Help
+  pub help_of_other : asked_with (codes "explain") (codes "--help") ≡ None
+  pub version_of_check : asked_with (codes "check") (codes "--version") ≡ None
+  -- no word, or other ones
+  pub no_name : request_of [] ≡ None
+  pub no_word : request_of (codes "plan" ∷ []) ≡ None
+  pub empty : asked [] ≡ None
+  pub shorter : asked (codes "chec") ≡ None
+  pub longer : asked (codes "checks") ≡ None
+  pub capital : asked (codes "Check") ≡ None
+  pub twice : asked_with (codes "check") (codes "check") ≡ None
+
+-- words that several texts have
+pub record WordsAreMade : Type 0 where
+  pub one : counted 1 (codes "place") ≡ codes "1 place"
+  pub none : counted 0 (codes "zone") ≡ codes "0 zones"
+  pub more : counted 11 (codes "turn") ≡ codes "11 turns"
+  -- the first and the last letter; what is none stays
+  pub capital : capitals (codes "az_09{`@Z") ≡ codes "AZ_09{`@Z"
