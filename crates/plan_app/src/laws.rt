@@ -22,7 +22,6 @@ pub fn starving_is_known()
     ensures { StarvingIsKnown }
 {}
 
-/// Examples: lines of the report of a lift, whole.
 /// Examples: lines of reports, whole.
 pub fn report_lines_are_met()
     ensures { ReportLines }
