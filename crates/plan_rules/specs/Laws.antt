@@ -162,6 +162,23 @@ pub record Lawful (t : PlanTable) (s : State) (h : List Event) : Type 0 where
   pub handover_by_holder : HandoverByHolder t s h
   pub stopped_until_resumed : StoppedUntilResumed t s h
 
+-- so each law holds of a history of which every law holds
+pub record LawfulSaysEach (t : PlanTable) (s : State) (h : List Event) : Type 0 where
+  pub holder : Lawful t s h → OneHolder t s h
+  pub mover : Lawful t s h → MoverIsHost t s h
+  pub guest : Lawful t s h → GuestOnlyWhileOpen t s h
+  pub plates : Lawful t s h → PlatesAreKept t s h
+  pub stamp : Lawful t s h → StampCountsChanges t s h
+  pub rights : Lawful t s h → (before more : List Event) → h ≡ before ++ more → RightLasts t s before more
+  pub postures : Lawful t s h → PostureByEvents t s h
+  pub sound : Lawful t s h → StaysSound t s h
+  pub poses : Lawful t s h → PosesFit t s h
+  pub handovers : Lawful t s h → HandoverByHolder t s h
+  pub stops : Lawful t s h → StoppedUntilResumed t s h
+
+abbrev pub EachLawIsSaid : Type 0
+EachLawIsSaid = (t : PlanTable) (s : State) (h : List Event) → LawfulSaysEach t s h
+
 -- for every plan, and from every sound opening, all laws hold of each prefix of every legal history
 abbrev pub EveryLegalHistoryIsLawful : Type 0
 EveryLegalHistoryIsLawful =

@@ -14,7 +14,7 @@ use Rattle.plan_rules.specs.State.{plates_of, start_state}
 use Rattle.plan_rules.specs.Sound.{IsSound, IsStart}
 use Rattle.plan_rules.specs.Reply.{reply, next, other_party}
 use Rattle.plan_rules.specs.Examples.{doors_table}
-use Rattle.plan_rules.specs.OrderExamples.{interior, press_state, free, moving, with_stop}
+use Rattle.plan_rules.specs.OrderExamples.{interior, press_state, free, moving, given, with_stop, with_last_stamp}
 
 -- a state of the lift: its two zones, whether the lift and the upper floor have a plate, and the stamp; the lower floor
 -- has a plate
@@ -129,6 +129,12 @@ pub record UnsoundStates : Type 0 where
   pub second_zone : ¬ IsSound lift_table (lift_state lower (interior (Some 1) OpenOut false) false false 7)
   pub two_plates_come : ¬ IsSound lift_table (record both_come { full = replicate 16 false })
 
+-- a plate on its way to the press; the full press moves, while the plant is stopped at the last stamp or isn't
+pub record SoundStates : Type 0 where
+  pub given : IsSound press_table given
+  pub late : IsSound press_table (with_stop (with_last_stamp moving))
+  pub moves : IsSound press_table moving
+
 pub record NoStarts : Type 0 where
   pub stamp : ¬ IsStart (record free { stamp = 1048576 })
   pub stopped : ¬ IsStart (with_stop free)
@@ -139,4 +145,5 @@ pub record StatesAreMet : Type 0 where
   pub say : StatesSay
   pub calls_leave : CallsLeave
   pub unsound : UnsoundStates
+  pub sound : SoundStates
   pub no_starts : NoStarts

@@ -25,7 +25,7 @@ pub fn causes_are_met()
 {}
 
 /// What literal states say of a zone, of a place, and of plates; the whole state that each call leaves; states that
-/// aren't sound, by each rule; and states that are no start.
+/// are sound, or aren't, by each rule; and states that are no start.
 pub fn states_are_met()
     ensures { StatesAreMet }
 {}

@@ -125,6 +125,11 @@ pub fn lawful_histories()
     ensures { law.EveryLegalHistoryIsLawful }
 {}
 
+/// A history of which every law holds keeps each of the laws.
+pub fn each_law_is_said()
+    ensures { law.EachLawIsSaid }
+{}
+
 /// What a test finds throughout a history it finds of each prefix of it.
 pub fn throughout_is_of_prefixes()
     ensures { law.ThroughoutIsOfPrefixes }

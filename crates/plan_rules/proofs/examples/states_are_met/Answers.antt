@@ -1,9 +1,26 @@
-use Rattle.std.proofs.Common.{◌≡◌, ℕ, ◌≤◌, Bool, true, false, Option, Some, None, refl, ap, length, arith}
-use Rattle.plan_types.specs.declared.posture.Posture.{Posture}
+use Rattle.std.proofs.Common.{List, [], ◌∷◌, replicate, ◌≡◌, ℕ, ◌≤◌, Bool, true, false, refl, ap, length, arith}
 use Rattle.plan_types.specs.declared.posture.Posture.TheVariants.{Closed, Moving}
 use Rattle.plan_rules.specs.declared.state.State.{State}
 use Rattle.plan_rules.specs.State.{posture_at}
+use Rattle.plan_types.specs.declared.call.Call.TheVariants.{Claim, Give, Yield, SetPose, Stop}
+use Rattle.plan_types.specs.declared.answer.Event.{Event}
+use Rattle.plan_types.specs.Table.{watch}
+use Rattle.plan_types.specs.Examples.{press_table}
+use Rattle.plan_types.proofs.lemmas.Checked.{is_plan}
+use Rattle.plan_rules.specs.Sound.{IsSound}
+use Rattle.plan_rules.specs.State.{start_state}
+use Rattle.plan_rules.specs.History.{after}
+use Rattle.plan_rules.specs.Examples.{did}
+use Rattle.plan_rules.proofs.Histories.{sound-after}
+use Rattle.plan_rules.proofs.lemmas.Starts.{start_is_sound}
 use Rattle.plan_rules.proofs.examples.states_are_met.Goals as goal
+
+-- what a start of the press leads to is sound
+reached : (full : List Bool) (stamp : ℕ) → length full ≡ 16 → stamp ≤ 1048575 → (h : List Event) → IsSound press_table (after press_table (start_state full stamp) h)
+reached full stamp sixteen few h =
+    let plan = is_plan press_table refl in
+    sound-after press_table (start_state full stamp) h plan
+    (start_is_sound press_table (start_state full stamp) plan (record { stamp_in_range = few; has_sixteen_places = sixteen; same = refl }))
 
 pub returns : goal.returns
 returns c = record {
@@ -25,6 +42,11 @@ returns c = record {
     plate_onto_plate = λ sound. let e : 2 ≤ 1 = sound.one_plate_a_place 1 in absurd (omega arith);
     second_zone = λ sound. let e : false ≡ true = (sound.zone_is_lawful 1 (omega arith)).owner_is_party in cc;
     two_plates_come = λ sound. let e : 2 ≤ 1 = sound.one_plate_a_place 0 in absurd (omega arith);
+  };
+  sound = record {
+    given = reached (true ∷ replicate 15 false) 2 refl (omega arith) (did 1 (Claim 0) ∷ did 1 (SetPose 3) ∷ did 1 (SetPose 0) ∷ did 1 (Yield 0) ∷ did 0 (Give 0) ∷ []);
+    late = reached (true ∷ true ∷ replicate 14 false) 1048572 refl (omega arith) (did 1 (Claim 0) ∷ did 1 (SetPose 3) ∷ did watch Stop ∷ []);
+    moves = reached (true ∷ true ∷ replicate 14 false) 5 refl (omega arith) (did 1 (Claim 0) ∷ did 1 (SetPose 3) ∷ []);
   };
   no_starts = record {
     stamp = λ start. let e : 1048576 ≤ 1048575 = start.stamp_in_range in absurd (omega arith);

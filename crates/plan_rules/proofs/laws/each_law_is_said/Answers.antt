@@ -1,0 +1,16 @@
+use Rattle.plan_rules.proofs.laws.each_law_is_said.Goals as goal
+
+pub returns : goal.returns
+returns c = λ t s h. record {
+  holder = λ law. law.one_holder;
+  mover = λ law. law.mover_is_host;
+  guest = λ law. law.guest_only_while_open;
+  plates = λ law. law.plates_are_kept;
+  stamp = λ law. law.stamp_counts_changes;
+  rights = λ law. law.right_lasts;
+  postures = λ law. law.posture_by_events;
+  sound = λ law. law.stays_sound;
+  poses = λ law. law.poses_fit;
+  handovers = λ law. law.handover_by_holder;
+  stops = λ law. law.stopped_until_resumed;
+}
