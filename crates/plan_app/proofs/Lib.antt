@@ -1,8 +1,10 @@
 mod Inputs
 mod Lines
+mod Sizes
 mod Screens
 mod WordRows
 mod StarvingRows
+mod SizeRows
 mod LineRows
 mod GoingRows
 mod InputRows

@@ -5,10 +5,12 @@ pub mod Reports
 pub mod Headers
 pub mod Going
 pub mod Starving
+pub mod Sizes
 pub mod Screens
 pub mod Served
 pub mod WordExamples
 pub mod StarvingExamples
+pub mod SizeExamples
 pub mod LineExamples
 pub mod GoingExamples
 pub mod InputExamples

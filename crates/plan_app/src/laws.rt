@@ -4,6 +4,7 @@ ghost use Rattle.plan_app.specs.GoingExamples.{EventLines, MachinesAreTold, Walk
 ghost use Rattle.plan_app.specs.InputExamples.{InputsAreSplit, RequestsAreRead, WordsAreMade};
 ghost use Rattle.plan_app.specs.LineExamples.{HeaderLines, PartyLines, ReportLines};
 ghost use Rattle.plan_app.specs.ScreenExamples.{AnswersAreMeant, ScreensAreMeant, ServedIsMeant, StandstillLines};
+ghost use Rattle.plan_app.specs.SizeExamples.{SizesAreCounted};
 ghost use Rattle.plan_app.specs.StarvingExamples.{StarvingIsKnown};
 ghost use Rattle.plan_app.specs.WordExamples.{PlatesAreTold, WordsAreTold};
 
@@ -85,4 +86,7 @@ pub fn answers_are_meant()
 /// Of an input with a document and a script: what was written of them.
 pub fn served_is_meant()
     ensures { ServedIsMeant }
+/// Examples: how many situations small programs come to, by what `is_large` ensures.
+pub fn sizes_are_counted()
+    ensures { SizesAreCounted }
 {}

@@ -1,4 +1,6 @@
 //! How many situations an exploration comes to.
+ghost use Rattle.std.specs.Prelude.{◌≡◌, true, false, IfOk};
+ghost use Rattle.plan_app.specs.Sizes as spec;
 
 use plan_explorer::turning::{is_standstill, turn};
 use plan_explorer::{Programs, Situation};
@@ -10,15 +12,21 @@ use std::collections::HashSet;
 /// The most situations that are explored.
 pub const MAX_SITUATIONS: usize = 1_000_000;
 
-/// Whether turns from an opening lead to more than `most` situations before they lead to a standstill, in the order in
-/// which `plan_explorer` explores them. An error says that memory ran out.
+/// Whether turns from an opening lead to more than `most` situations. They are counted in the order in which
+/// `plan_explorer` explores them, up to the first standstill: `false` says that there are no more, or a standstill. An
+/// error says that memory ran out.
 pub fn is_large(
     alloc: Global,
     plan: &Plan,
     programs: &Programs,
     opening: &State,
     most: usize,
-) -> Result<bool, AllocError> {
+) -> Result<bool, AllocError>
+    ensures more { IfOk result (λ large. large ≡ true
+        → spec.ComeToMore plan.now programs.now opening.now most) }
+    ensures few { IfOk result (λ large. large ≡ false
+        → spec.ComeToFewOrStill plan.now programs.now opening.now most) }
+{
     let mut seen = HashSet::new(alloc);
     let mut found = Vec::new(alloc);
     let first = Situation::first(opening);
@@ -32,28 +40,16 @@ pub fn is_large(
         if is_standstill(plan, programs, &at) {
             return Ok(false);
         }
-        add_next(plan, programs, at, &mut seen, &mut found)?;
+        'machines: for machine in 0..programs.count() {
+            let next = turn(plan, programs, at, machine);
+            let added = seen.insert(next)?;
+            if added {
+                found.push(next)?;
+            }
+        }
         if found.len() > most {
             return Ok(true);
         }
     }
     Ok(found.len() > most)
-}
-
-/// Adds the situations after a turn of each machine that aren't there yet.
-fn add_next(
-    plan: &Plan,
-    programs: &Programs,
-    at: Situation,
-    seen: &mut HashSet<Situation>,
-    found: &mut Vec<Situation>,
-) -> Result<(), AllocError> {
-    'machines: for machine in 0..programs.count() {
-        let next = turn(plan, programs, at, machine);
-        let added = seen.insert(next)?;
-        if added {
-            found.push(next)?;
-        }
-    }
-    Ok(())
 }
