@@ -1,3 +1,5 @@
 mod Told
 mod Answering
 mod OwnPoses
+mod ScriptRows
+mod RequestRows

@@ -8,3 +8,5 @@ pub mod Reasons
 pub mod Starts
 pub mod Script
 pub mod Examples
+pub mod WordExamples
+pub mod ScriptExamples

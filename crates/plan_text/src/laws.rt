@@ -1,6 +1,8 @@
 //! The laws of words. Each function's contract is one.
 ghost use Rattle.plan_text.specs.Examples as examples;
 ghost use Rattle.plan_text.specs.Laws as laws;
+ghost use Rattle.plan_text.specs.ScriptExamples as scripts;
+ghost use Rattle.plan_text.specs.WordExamples as words;
 
 /// The verbs are told by these words, and are read of them.
 pub fn verbs_have_words()
@@ -40,4 +42,45 @@ pub fn starts_are_read()
 /// Examples: which texts are names.
 pub fn names_are_judged()
     ensures { examples.NamesAreJudged }
+{}
+
+/// Examples: numbers of names, the bytes that names may have, and that no other words are taken.
+pub fn names_are_met()
+    ensures found { words.NamesAreFound }
+    ensures bytes { words.BytesOfNames }
+    ensures free { words.OtherWordsAreFree }
+{}
+
+/// Examples: the call in a record, and records without one.
+#[tactic(auto, using(crate::proofs::RequestRows::read_rows, crate::proofs::RequestRows::no_request_rows))]
+pub fn requests_are_met()
+    ensures read { words.RequestsAreRead }
+    ensures none { words.NoRequests }
+    ensures own { words.OwnPoses }
+{}
+
+/// Examples: the whole text of each call, and what answers name.
+pub fn texts_are_met()
+    ensures calls { words.CallsAreTold }
+    ensures answers { words.AnswersName }
+{}
+
+/// Examples: the start in record 0, and why a record has no call.
+#[tactic(auto, using(crate::proofs::ScriptRows::start_rows, crate::proofs::ScriptRows::reason_rows))]
+pub fn records_are_met()
+    ensures starts { scripts.StartRecords }
+    ensures reasons { scripts.ReasonsAreTold }
+{}
+
+/// Examples: the whole answers to scripts.
+#[tactic(auto, using(crate::proofs::ScriptRows::script_rows, crate::proofs::ScriptRows::cut_rows))]
+pub fn scripts_are_met()
+    ensures answered { scripts.ScriptsAreAnswered }
+    ensures cut { scripts.ScriptsAreCut }
+{}
+
+/// A mark of byte order before a script is no part of it.
+#[tactic(auto, using(crate::proofs::ScriptRows::mark_rows))]
+pub fn marks_are_left_out()
+    ensures { scripts.MarksAreLeftOut }
 {}
