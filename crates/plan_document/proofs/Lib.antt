@@ -5,3 +5,5 @@ mod Distinct
 mod Doable
 mod Theirs
 mod NameWords
+mod PlanRows
+mod ReadingRows

@@ -5,3 +5,6 @@ pub mod Saying
 pub mod Reading
 pub mod Laws
 pub mod NameLaws
+pub mod WordExamples
+pub mod PlanExamples
+pub mod ReadingExamples

@@ -1,6 +1,9 @@
 //! Laws of documents. Each function's contract is one.
 ghost use Rattle.plan_document.specs.Laws as laws;
 ghost use Rattle.plan_document.specs.NameLaws.{NamedPlansHaveWords};
+ghost use Rattle.plan_document.specs.PlanExamples as plans;
+ghost use Rattle.plan_document.specs.ReadingExamples.{RowsAreRead};
+ghost use Rattle.plan_document.specs.WordExamples as words;
 
 use plan_rules::laws::refusals_tell_causes;
 
@@ -24,4 +27,45 @@ pub fn lines_are_judged()
 /// Each name of a document's plan is one word of a program's line, and one field of a script's record.
 pub fn names_are_words()
     ensures { NamedPlansHaveWords }
+{}
+
+/// Examples: the words of keys, which keys a row may have, and the bytes of a document.
+pub fn keys_are_met()
+    ensures words { words.KeysHaveWords }
+    ensures keys { words.RowsHaveKeys }
+    ensures judged { words.KeysAreJudged }
+    ensures limits { words.LimitsAreMet }
+{}
+
+/// Examples: bytes that part words, names for C, and names that are free.
+pub fn words_are_met()
+    ensures parted { words.WordsAreParted }
+    ensures names { words.NamesAreMade }
+{}
+
+/// Examples: what a machine means by a verb and a name, and which lines a lift and its floors may have.
+pub fn lines_are_met()
+    ensures own { words.OwnCalls }
+    ensures calls { words.LinesAreCalls }
+    ensures lift { words.LiftLines }
+{}
+
+/// Examples of what a document's plan is: its names, zones, poses and lines, of any plan and of a document of two
+/// machines and two zones.
+#[tactic(auto, using(crate::proofs::PlanRows::document_rows, crate::proofs::PlanRows::plan_rows))]
+pub fn plans_are_met()
+    ensures rows { plans.DocumentsAreMet }
+    ensures plans { plans.PlansSayRows }
+{}
+
+/// What the laws say of a lift between two floors.
+#[tactic(auto, using(crate::proofs::PlanRows::lift_rows))]
+pub fn laws_of_lifts_are_met()
+    ensures { plans.LawsOfLift }
+{}
+
+/// Examples of which TOML rows are read: the key of each field, and keys and values that no row has.
+#[tactic(auto, using(crate::proofs::ReadingRows::reading_rows))]
+pub fn rows_are_read()
+    ensures { RowsAreRead }
 {}

@@ -1,0 +1,135 @@
+-- Of which TOML the rows of a document are read, in examples.
+use Rattle.std.proofs.Common.{◌≡◌, ◌∙◌, ℕ, Bool, true, false, List, [], ◌∷◌, codes, Option, Some, None, refl, sym, ap, subst, string_bytes}
+use Rattle.std.specs.List.{AllZip}
+use Rattle.toml.specs.Data.{Data, Members, array, boolean, get_member, item, member, no_items, string, table}
+use Rattle.toml.specs.Parse.{parse_document}
+use Rattle.plan_text.specs.Names.{Text}
+use Rattle.plan_document.specs.declared.document.Document.{Document}
+use Rattle.plan_document.specs.declared.document.MachineRow.{MachineRow}
+use Rattle.plan_document.specs.declared.document.PoseRow.{PoseRow}
+use Rattle.plan_document.specs.declared.document.WayRow.{WayRow}
+use Rattle.plan_document.specs.declared.document.ZoneRow.{ZoneRow}
+use Rattle.plan_document.specs.declared.resolving.ProgrammedPlan.{ProgrammedPlan}
+use Rattle.plan_document.specs.Keys.{has_only, machine_keys, pose_keys, top_keys, zone_keys}
+use Rattle.plan_document.specs.Reading.{HasRows, IsDocumentIn, IsMachineIn, IsPlanIn, IsPlanOfTable, IsPoseIn, IsTruth, IsWay, IsZoneIn, items_at}
+use Rattle.plan_document.specs.ReadingExamples.{DocumentsAreIn, MachinesAreIn, PlansAreIn, PosesAreIn, RowsAreRead, ValuesAreRead, ZonesAreIn, three_items, two_items}
+use Rattle.plan_document.specs.Saying.{IsPlanOf}
+
+impossible : false ≡ true → ⊥
+impossible e = cc
+
+-- ---- values
+
+is_truth : (truth : Bool) → IsTruth (Some (boolean true)) truth → truth ≡ true
+is_truth truth is = cc
+
+is_no_truth : (truth : Bool) → IsTruth (Some (string (codes "true"))) truth → ⊥
+is_no_truth truth is = cc
+
+ways : (row : WayRow) (a b : Text) → IsWay (Some (two_items (string a) (string b))) (Some row) → (string_bytes row.from ≡ a) × (string_bytes row.to ≡ b)
+ways row a b is =
+    let e : array (item (string a) (item (string b) no_items)) ≡ array (item (string (string_bytes row.from)) (item (string (string_bytes row.to)) no_items)) = is in
+    (cc, cc)
+
+no_third : (row : WayRow) (a b c : Data) → IsWay (Some (three_items a b c)) (Some row) → ⊥
+no_third row a b c is =
+    let e : array (item a (item b (item c no_items))) ≡ array (item (string (string_bytes row.from)) (item (string (string_bytes row.to)) no_items)) = is in
+    cc
+
+-- the items of a list are the rows, one by one
+zipped : (members : Members) (items : List Data) (rows : List ZoneRow) → items_at (codes "zone") members ≡ Some items → HasRows IsZoneIn (codes "zone") members rows → AllZip IsZoneIn items rows
+zipped members items rows there has =
+    let e : Some has.0 ≡ Some items = sym has.1 ∙ there in
+    let same : has.0 ≡ items = cc in
+    subst (λ values. AllZip IsZoneIn values rows) same has.2
+
+values_read : ValuesAreRead
+values_read = record {
+  absent = refl;
+  no_list = refl;
+  items = refl;
+  no_truth = λ e. cc;
+  truth = is_truth;
+  text_truth = is_no_truth;
+  way = ways;
+  third = no_third;
+  way_lost = λ value is. is;
+  way_added = λ row is. is;
+  gives = λ a b. refl;
+  row_lost = λ members value there has. zipped members (value ∷ []) [] there has;
+  row_added = λ members row there has. zipped members [] (row ∷ []) there has;
+  row = λ members value row there has. (zipped members (value ∷ []) (row ∷ []) there has).0;
+}
+
+-- ---- rows
+
+same_members : (a b : Members) → table a ≡ table b → a ≡ b
+same_members a b e = cc
+
+no_text : (text : Text) (a : Members) → string text ≡ table a → ⊥
+no_text text a e = cc
+
+poses_in : (members : Members) (row : PoseRow) → PosesAreIn members row
+poses_in members row = record {
+  name = λ is. ap (get_member (codes "name")) (same_members members is.members is.is_table) ∙ is.name;
+  gives = λ is. ap (get_member (codes "gives")) (same_members members is.members is.is_table) ∙ is.gives;
+  after_moving = λ is. subst (λ ms. IsTruth (get_member (codes "after_moving") ms) row.after_moving) (sym (same_members members is.members is.is_table)) is.after_moving;
+  no_table = λ text is. no_text text is.members is.is_table;
+  unknown = λ value is. impossible (ap (has_only pose_keys) (same_members (member (codes "places") value members) is.members is.is_table) ∙ is.keys);
+}
+
+machines_in : (members : Members) (row : MachineRow) → MachinesAreIn members row
+machines_in members row = record {
+  name = λ is. ap (get_member (codes "name")) (same_members members is.members is.is_table) ∙ is.name;
+  places = λ is. ap (items_at (codes "places")) (same_members members is.members is.is_table) ∙ is.places;
+  poses = λ is. subst (λ ms. HasRows IsPoseIn (codes "poses") ms row.poses.items) (sym (same_members members is.members is.is_table)) is.poses;
+  program = λ is. ap (items_at (codes "program")) (same_members members is.members is.is_table) ∙ is.program;
+  no_table = λ text is. no_text text is.members is.is_table;
+  unknown = λ value is. impossible (ap (has_only machine_keys) (same_members (member (codes "host") value members) is.members is.is_table) ∙ is.keys);
+}
+
+zones_in : (members : Members) (row : ZoneRow) → ZonesAreIn members row
+zones_in members row = record {
+  name = λ is. ap (get_member (codes "name")) (same_members members is.members is.is_table) ∙ is.name;
+  host = λ is. ap (get_member (codes "host")) (same_members members is.members is.is_table) ∙ is.host;
+  guest = λ is. ap (get_member (codes "guest")) (same_members members is.members is.is_table) ∙ is.guest;
+  inward = λ is. subst (λ ms. IsWay (get_member (codes "inward") ms) row.inward) (sym (same_members members is.members is.is_table)) is.inward;
+  outward = λ is. subst (λ ms. IsWay (get_member (codes "outward") ms) row.outward) (sym (same_members members is.members is.is_table)) is.outward;
+  no_table = λ text is. no_text text is.members is.is_table;
+  unknown = λ value is. impossible (ap (has_only zone_keys) (same_members (member (codes "gives") value members) is.members is.is_table) ∙ is.keys);
+}
+
+documents_in : (members : Members) (d : Document) → DocumentsAreIn members d
+documents_in members d = record {
+  machines = λ is. is.machines;
+  zones = λ is. is.zones;
+  unknown = λ value is. impossible is.keys;
+}
+
+same_some : (a b : Members) → Some a ≡ Some b → a ≡ b
+same_some a b e = cc
+
+not_none : (a : Members) → Some a ≡ None → ⊥
+not_none a e = cc
+
+plans_in : (bytes : List ℕ) (plan : ProgrammedPlan) → PlansAreIn bytes plan
+plans_in bytes plan = record {
+  no_toml = λ is none. not_none is.members (sym is.is_toml ∙ none);
+  toml = λ members is there. read members is there;
+}
+  where
+    read : (members : Members) → IsPlanIn bytes plan → parse_document bytes ≡ Some members → (d : Document) × IsDocumentIn members d × IsPlanOf d plan
+    read members is there =
+        let same : is.members ≡ members = same_some is.members members (sym is.is_toml ∙ there) in
+        let says : IsPlanOfTable members plan = subst (λ ms. IsPlanOfTable ms plan) same is.says in
+        (says.document, says.rows, says.says)
+
+pub reading_rows : RowsAreRead
+reading_rows = record {
+  values = values_read;
+  poses = poses_in;
+  machines = machines_in;
+  zones = zones_in;
+  documents = documents_in;
+  plans = plans_in;
+}
