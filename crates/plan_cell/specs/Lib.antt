@@ -3,3 +3,4 @@ pub mod CellPlan
 pub mod Mapping
 pub mod Laws
 pub mod OwnRuleExamples
+pub mod LawExamples

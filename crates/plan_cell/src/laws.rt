@@ -4,6 +4,7 @@ ghost use Rattle.plan_cell.specs.CellPlan.{cell_table};
 ghost use Rattle.plan_cell.specs.Laws.{CellRefusesMore, RefusesByItsOwnRules, OwnRulesRefuse};
 ghost use Rattle.plan_cell.specs.Laws.{AdvanceAloneIsMissing, InquiriesAreAlike, SoundByPlan};
 ghost use Rattle.plan_cell.specs.OwnRuleExamples.{OwnRuleExamples};
+ghost use Rattle.plan_cell.specs.LawExamples.{LawExamples, InquiriesTell, NumbersAreRight};
 
 /// The tables of the cell are a plan.
 pub fn cell_is_plan()
@@ -46,4 +47,12 @@ pub fn inquiries_are_alike()
 /// A sound state of the cell is sound by its plan.
 pub fn sound_by_plan()
     ensures { SoundByPlan }
+{}
+
+/// What these laws say of literal calls, whatever answers them; answers to inquiries that they don't allow; and the
+/// numbers of names.
+pub fn law_examples_are_right()
+    ensures laws { LawExamples }
+    ensures inquiries { InquiriesTell }
+    ensures numbers { NumbersAreRight }
 {}
