@@ -4,3 +4,4 @@ pub mod Laws
 pub mod Order
 pub mod Callers
 pub mod SeenExamples
+pub mod BookExamples

@@ -8,6 +8,7 @@ ghost use Rattle.plan_interlock.specs.Callers.{EveryMachineCalls, PassesInOrder}
 ghost use Rattle.plan_interlock.specs.Laws.{EveryPassSeesLaws, RightsLast};
 ghost use Rattle.plan_interlock.specs.Order.{BusyCallsAreFew, CallsKeepOrder, HistoryIsOne};
 ghost use Rattle.plan_interlock.specs.SeenExamples.{SeenExamples};
+ghost use Rattle.plan_interlock.specs.BookExamples.{BookExamples, OrderTells};
 
 use crate::rules::PlanRules;
 use plan_rules::State;
@@ -76,3 +77,9 @@ pub fn busy_is_paid(rules: &PlanRules)
 {
     let _ = rules;
 }
+
+/// The rules of the press on literal states and calls; and what the laws of order say, each by itself.
+pub fn book_examples_are_right()
+    ensures book { BookExamples }
+    ensures order { OrderTells }
+{}
