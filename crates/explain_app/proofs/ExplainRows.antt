@@ -1,14 +1,25 @@
 -- The examples of explanations.
-use Rattle.std.proofs.Common.{◌≡◌, ◌≤◌, ℕ, zero, suc, List, [], ◌∷◌, ◌++◌, length, take, codes, slice_index, Some, refl, ap, arith}
+use Rattle.std.proofs.Common.{◌≡◌, ◌≤◌, ℕ, zero, suc, List, [], ◌∷◌, ◌++◌, length, take, codes, slice_index, Option, Some, Result, Ok, Err, refl, ap, arith}
 use Rattle.std.proofs.lemmas.List.{length-append}
+use Rattle.std.specs.Io.KnownBytes.{Keeps}
 use Rattle.std.specs.Fmt.{digits}
 use Rattle.clap.proofs.OnLiterals.{clap_on_literals}
+use Rattle.text_io.specs.Input.{TakesAtMost}
+use Rattle.csv_rows.specs.declared.script_end.Outcome.{Outcome}
+use Rattle.csv_rows.specs.declared.script_end.Outcome.TheVariants as outcome
+use Rattle.csv_rows.specs.declared.script_end.ScriptFault.{ScriptFault}
+use Rattle.cell_config.specs.ConfigWords.{config_fault_text}
+use Rattle.cell_config.specs.Settings.{Settings, settings_of}
+use Rattle.cell_config.specs.declared.fault.ConfigFault.{ConfigFault}
+use Rattle.cell_replay.specs.Script.{script_outcome}
 use Rattle.cell_replay.specs.declared.fault.ReplayFault.{ReplayFault}
 use Rattle.cell_replay.specs.declared.fault.ReplayFault.TheVariants.{Read, Write, Memory}
 use Rattle.cell_words.specs.Words.{mode_of}
 use Rattle.cell_words.specs.declared.words.Mode.TheVariants.{Sim, Run}
-use Rattle.explain_app.specs.Explained.{LeavesUnsaid}
-use Rattle.explain_app.specs.ExplainExamples.{ExplanationsAreMet, OfConfig, OfScript}
+use Rattle.explain_app.specs.Explained.{IsTextOfOutcome, IsTextOfSettings, LeavesUnsaid, SaysOfConfig, SaysOfScript}
+use Rattle.explain_app.specs.Explained.{config_heading, script_heading}
+use Rattle.explain_app.specs.declared.verdict.Verdict.TheVariants.{Taken, Refused}
+use Rattle.explain_app.specs.ExplainExamples.{ExplanationsAreMet, OfConfig, OfScript, StatusesTell}
 
 -- ---- what is written
 
@@ -81,6 +92,10 @@ no_script k = let is = sim_is in let e = k.1 in cc
 no_config : OfConfig (codes "replay" ∷ []) → ⊥
 no_config k = k.1 replay.1
 
+no_word_of_script : OfScript (codes "go" ∷ []) → ⊥
+unfolding clap_on_literals
+no_word_of_script k = let e = k.0 in cc
+
 no_word : OfConfig (codes "go" ∷ []) → ⊥
 unfolding clap_on_literals
 no_word k = let e = k.0 in cc
@@ -106,7 +121,10 @@ explanations-met = record {
   config_refused = (refl, (codes "x", refl));
   other_config = λ k. other_config k.1.0 k.1.1;
   missing_as_taken = λ k. let e = k.0 in cc;
+  told_of_settings = λ settings k. let e = k.1 in cc;
+  settings_as_refused = λ settings k. let e = k.0 in cc;
   text_of_taken = λ k. k;
+  text_of_settings = λ settings k. k;
   text_of_other = λ k. other_record k.0 k.1;
   text_of_config = λ k. other_config k.0 k.1;
   nothing_read = refl;
@@ -130,4 +148,48 @@ explanations-met = record {
   sim_of_script = no_script;
   replay_of_config = no_config;
   other_word = no_word;
+  other_word_of_script = no_word_of_script;
+}
+
+-- ---- by the exit status
+
+script_text : (o : Outcome) (text : List ℕ) → IsTextOfOutcome o text → (fault : ScriptFault) × (o ≡ outcome.Refused fault) × (words : List ℕ) × (text ≡ script_heading fault ++ words)
+script_text outcome.Clean text k = absurd k
+script_text (outcome.Refused fault) text k = (fault, refl, k.0, k.1)
+
+config_text : (o : Result Settings ConfigFault) (text : List ℕ) → IsTextOfSettings o text → (fault : ConfigFault) × (o ≡ Err fault) × (words : List ℕ) × (text ≡ config_heading fault ++ words)
+config_text (Ok settings) text k = absurd k
+config_text (Err fault) text k = (fault, refl, k.0, k.1)
+
+script_taken : (o : Outcome) (old new : Option (List ℕ)) → SaysOfScript o Taken old new → (o ≡ outcome.Clean) × Keeps old new
+script_taken outcome.Clean old new k = (refl, k.1)
+script_taken (outcome.Refused fault) old new k = let e : Taken ≡ Refused = k.0 in cc
+
+script_refused : (o : Outcome) (text : List ℕ) → SaysOfScript o Refused (Some []) (Some text) → (fault : ScriptFault) × (o ≡ outcome.Refused fault) × (words : List ℕ) × (text ≡ script_heading fault ++ words)
+script_refused outcome.Clean text k = let e : Refused ≡ Taken = k.0 in cc
+script_refused (outcome.Refused fault) text k = (fault, refl, k.1.0, k.1.1)
+
+config_taken : (o : Result Settings ConfigFault) (old new : Option (List ℕ)) → SaysOfConfig o Taken old new → (settings : Settings) × (o ≡ Ok settings) × Keeps old new
+config_taken (Ok settings) old new k = (settings, refl, k.1)
+config_taken (Err fault) old new k = let e : Taken ≡ Refused = k.0 in cc
+
+config_refused : (o : Result Settings ConfigFault) (text : List ℕ) → SaysOfConfig o Refused (Some []) (Some text) → (fault : ConfigFault) × (o ≡ Err fault) × (words : List ℕ) × (text ≡ config_fault_text fault ++ codes ": " ++ words)
+config_refused (Ok settings) text k = let e : Refused ≡ Taken = k.0 in cc
+config_refused (Err fault) text k = (fault, refl, k.1.0, k.1.1)
+
+all_taken : (most : ℕ) (bytes : List ℕ) → TakesAtMost (Some bytes) (Some []) most → length bytes ≤ most
+all_taken most bytes k = let h = k.1 in let all : length bytes ≡ length (k.0 ++ []) = ap length k.2 in omega (arith, h, all, length-append k.0 [])
+
+pub statuses-tell : StatusesTell
+statuses-tell = record {
+  script_taken = λ bytes rest old new k. script_taken (script_outcome bytes) old new (k.silent refl);
+  script_refused = λ bytes text rest k. script_refused (script_outcome bytes) text (k.told refl);
+  script_untold = λ input rest old new k. k.failed refl;
+  script_taken_off = λ exit bytes old new k. all_taken 4194305 bytes k.taken;
+  config_taken = λ bytes rest old new k. config_taken (settings_of bytes) old new (k.silent refl);
+  config_refused = λ bytes text rest k. config_refused (settings_of bytes) text (k.told refl);
+  config_untold = λ input rest old new k. k.failed refl;
+  config_taken_off = λ exit bytes old new k. all_taken 2097153 bytes k.taken;
+  text_of_script = λ bytes text k. script_text (script_outcome bytes) text k;
+  text_of_config = λ bytes text k. config_text (settings_of bytes) text k;
 }

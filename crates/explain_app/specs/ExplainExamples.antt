@@ -1,14 +1,22 @@
 -- What explanations begin with, what may be written of an input, and which words ask for which kind of input.
-use Rattle.std.specs.Prelude.{◌≡◌, ℕ, List, [], ◌∷◌, codes, Some, Err}
+use Rattle.std.specs.Prelude.{◌≡◌, ◌≤◌, ℕ, List, [], ◌∷◌, ◌++◌, codes, length, Option, Some, Ok, Err}
+use Rattle.std.specs.Io.KnownBytes.{Keeps}
 use Rattle.clap.specs.Words.{Text}
 use Rattle.csv_rows.specs.declared.script_end.Outcome.TheVariants as outcome
+use Rattle.csv_rows.specs.declared.script_end.ScriptFault.{ScriptFault}
 use Rattle.csv_rows.specs.declared.script_end.ScriptFault.TheVariants.{NoStart, BadStart, BadRow, Long}
+use Rattle.cell_config.specs.ConfigWords.{config_fault_text}
+use Rattle.cell_config.specs.Settings.{Settings, settings_of}
+use Rattle.cell_config.specs.declared.fault.ConfigFault.{ConfigFault}
 use Rattle.cell_config.specs.declared.fault.ConfigFault.TheVariants.{Missing}
+use Rattle.cell_replay.specs.Script.{script_outcome}
 use Rattle.cell_replay.specs.declared.fault.ReplayFault.{ReplayFault}
 use Rattle.cell_replay.specs.declared.fault.ReplayFault.TheVariants.{Read, Write, Memory}
-use Rattle.explain_app.specs.Explained.{IsTextOfOutcome, IsTextOfSettings, LeavesUnsaid, SaysOfConfig, SaysOfScript}
+use Rattle.explain_app.specs.Explained.{IsTextOfConfig, IsTextOfOutcome, IsTextOfScript, IsTextOfSettings}
+use Rattle.explain_app.specs.Explained.{LeavesUnsaid, SaysOfConfig, SaysOfScript}
 use Rattle.explain_app.specs.Explained.{WroteUnder, config_heading, script_heading}
-use Rattle.explain_app.specs.Served.{AskOfConfig, AskOfScript, Explains, verdict_status}
+use Rattle.explain_app.specs.Served.{AskOfConfig, AskOfScript, Explains, ExplainsConfig, ExplainsScript}
+use Rattle.explain_app.specs.Served.{verdict_status}
 use Rattle.explain_app.specs.declared.verdict.Verdict.TheVariants.{Taken, Refused}
 
 -- these words after the program's name ask for an explanation of a script, or of a configuration
@@ -52,7 +60,10 @@ pub record ExplanationsAreMet : Type 0 where
   pub config_refused : SaysOfConfig (Err Missing) Refused (Some []) (Some (codes "config missing: x"))
   pub other_config : ¬ SaysOfConfig (Err Missing) Refused (Some []) (Some (codes "config kind: x"))
   pub missing_as_taken : ¬ SaysOfConfig (Err Missing) Taken (Some []) (Some (codes "config missing: x"))
+  pub told_of_settings : (settings : Settings) → ¬ SaysOfConfig (Ok settings) Taken (Some []) (Some (1 ∷ []))
+  pub settings_as_refused : (settings : Settings) → ¬ SaysOfConfig (Ok settings) Refused (Some []) (Some [])
   pub text_of_taken : ¬ IsTextOfOutcome outcome.Clean []
+  pub text_of_settings : (settings : Settings) → ¬ IsTextOfSettings (Ok settings) []
   pub text_of_other : ¬ IsTextOfOutcome (outcome.Refused (BadRow 1)) (codes "record 2, x")
   pub text_of_config : ¬ IsTextOfSettings (Err Missing) (codes "config kind: x")
   pub nothing_read : Leaves Read []
@@ -76,3 +87,33 @@ pub record ExplanationsAreMet : Type 0 where
   pub sim_of_script : ¬ OfScript (codes "sim" ∷ [])
   pub replay_of_config : ¬ OfConfig (codes "replay" ∷ [])
   pub other_word : ¬ OfConfig (codes "go" ∷ [])
+  pub other_word_of_script : ¬ OfScript (codes "go" ∷ [])
+
+-- What each exit status says of an input of known bytes: of a script, and of a configuration.
+pub record StatusesTell : Type 0 where
+  pub script_taken : (bytes : List ℕ) (rest old new : Option (List ℕ)) → ExplainsScript 0 (Some bytes) rest old new
+      → (script_outcome bytes ≡ outcome.Clean) × Keeps old new
+  pub script_refused : (bytes text : List ℕ) (rest : Option (List ℕ))
+      → ExplainsScript 1 (Some bytes) rest (Some []) (Some text)
+      → (fault : ScriptFault) × (script_outcome bytes ≡ outcome.Refused fault) × (words : List ℕ)
+      × (text ≡ script_heading fault ++ words)
+  pub script_untold : (input rest old new : Option (List ℕ)) → ExplainsScript 3 input rest old new
+      → (fault : ReplayFault) × LeavesUnsaid (IsTextOfScript input) fault old new
+  pub script_taken_off : (exit : ℕ) (bytes old new : List ℕ)
+      → ExplainsScript exit (Some bytes) (Some []) (Some old) (Some new) → length bytes ≤ 4194305
+  pub config_taken : (bytes : List ℕ) (rest old new : Option (List ℕ)) → ExplainsConfig 0 (Some bytes) rest old new
+      → (settings : Settings) × (settings_of bytes ≡ Ok settings) × Keeps old new
+  pub config_refused : (bytes text : List ℕ) (rest : Option (List ℕ))
+      → ExplainsConfig 1 (Some bytes) rest (Some []) (Some text)
+      → (fault : ConfigFault) × (settings_of bytes ≡ Err fault) × (words : List ℕ)
+      × (text ≡ config_fault_text fault ++ codes ": " ++ words)
+  pub config_untold : (input rest old new : Option (List ℕ)) → ExplainsConfig 3 input rest old new
+      → (fault : ReplayFault) × LeavesUnsaid (IsTextOfConfig input) fault old new
+  pub config_taken_off : (exit : ℕ) (bytes old new : List ℕ)
+      → ExplainsConfig exit (Some bytes) (Some []) (Some old) (Some new) → length bytes ≤ 2097153
+  pub text_of_script : (bytes text : List ℕ) → IsTextOfScript (Some bytes) text
+      → (fault : ScriptFault) × (script_outcome bytes ≡ outcome.Refused fault) × (words : List ℕ)
+      × (text ≡ script_heading fault ++ words)
+  pub text_of_config : (bytes text : List ℕ) → IsTextOfConfig (Some bytes) text
+      → (fault : ConfigFault) × (settings_of bytes ≡ Err fault) × (words : List ℕ)
+      × (text ≡ config_heading fault ++ words)
