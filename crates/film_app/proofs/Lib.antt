@@ -4,3 +4,4 @@ mod PlainLines
 mod LineRows
 mod Serving
 mod Looping
+mod StatusLemmas

@@ -6,3 +6,5 @@ pub mod Loops
 pub mod Served
 pub mod Plain
 pub mod LineExamples
+pub mod WordExamples
+pub mod Statuses

@@ -2,15 +2,17 @@
 use Rattle.std.specs.Prelude.{◌≡◌, ℕ, pos, true, false, List, [], ◌∷◌, ◌++◌, codes, map, Some, None, Ok}
 use Rattle.std.specs.List.{concat, list_any}
 use Rattle.cell_rules.specs.Types.{Refused, Held, Claim, Machine, Feed, Table, Robot, Press, Deposit, Crane, Watch}
-use Rattle.cell_rules.specs.Types.{Settled, Z3}
+use Rattle.cell_rules.specs.Types.{Settled, Z2, Z3}
+use Rattle.cell_notes.specs.Names.{each_machine, with_machine}
 use Rattle.cell_notes.specs.declared.status.Status.TheVariants as status
+use Rattle.cell_robot.specs.declared.robot.RobotStep.TheVariants.{AwaitPlate}
 use Rattle.cell_devices.specs.declared.motor.Motor.TheVariants.{Off, Plus, Minus}
 use Rattle.cell_parts.specs.declared.axis.Axis.{Axis}
 use Rattle.cell_parts.specs.declared.plant.PlantState.{PlantState}
 use Rattle.cell_plant.specs.Names.{starts, has_claimed, turn_of}
 use Rattle.cell_plant.specs.declared.frame.Frame.{Frame}
-use Rattle.cell_plant.specs.FrameExamples.{film}
-use Rattle.cell_plant.specs.RunExamples.{busy_turn_of}
+use Rattle.cell_plant.specs.FrameExamples.{film, steps_entered}
+use Rattle.cell_plant.specs.RunExamples.{busy_turn_of, stopped}
 use Rattle.film_app.specs.Fields.{part_text}
 use Rattle.film_app.specs.Lines.{film_lines}
 use Rattle.film_app.specs.Pages.{cut_line}
@@ -76,19 +78,6 @@ waits_text =
     ∷ codes "r"
     ∷ [])
 
--- Busy turns have capital letters. In them nothing is asked, and nothing changes.
-abbrev pub busy_turn : Machine → Frame
-busy_turn m = record starts { turn = Some (busy_turn_of m) }
-
-abbrev pub busy_turns : List Frame
-busy_turns = starts ∷ map busy_turn (Feed ∷ Table ∷ Robot ∷ Press ∷ Deposit ∷ Crane ∷ Watch ∷ [])
-
-abbrev pub busy_text : List ℕ
-busy_text =
-    text_of
-    (starts_text
-    ∷ codes "F" ∷ codes "T" ∷ codes "R" ∷ codes "P" ∷ codes "D" ∷ codes "C" ∷ codes "W" ∷ [])
-
 -- no two axes, plates or switches of a part are alike
 abbrev pub axis : ℕ → Axis
 axis n = record { position = pos n; motor = Off }
@@ -110,10 +99,53 @@ apart =
       crane = record { travel = record (axis 180) { motor = Plus }; gripper = axis 200; magnet = true };
     }
 
+-- the robot asks another thing; then, while it asks the same, the interlock's word alone has changed, then the part
+-- alone, the step alone, and the status alone
+abbrev pub asks_other : Frame
+asks_other = record (refused_at 1) { asked = Some (Claim Z2, Ok (Settled (Refused (Held Press)) 1)) }
+
+abbrev pub has_moved : Frame
+has_moved = record asks_other { state = stopped; plant = apart }
+
+abbrev pub awaits : Frame
+awaits = record has_moved { steps = record steps_entered { robot = AwaitPlate } }
+
+abbrev pub changes : List Frame
+changes =
+    starts ∷ has_claimed ∷ refused_at 1 ∷ asks_other ∷ record asks_other { state = stopped } ∷ has_moved ∷ awaits
+    ∷ record awaits { status = with_machine (each_machine status.Fine) Robot status.Worn } ∷ []
+
+abbrev pub changes_told : List ℕ
+changes_told =
+    text_of
+    (starts_text
+    ∷ codes "f;claim exit;claim z6;done;10082000000;"
+    ∷ codes "r;;claim z3;held press;;"
+    ∷ codes "r;;claim z2;held press;;"
+    ∷ codes "r;;claim z2;held press;1000020082000000;"
+    ∷ codes "r;;claim z2;held press;;80,100+,120-,1,0"
+    ∷ codes "r;await plate;claim z2;held press;;"
+    ∷ codes "r;await plate!worn;claim z2;held press;;"
+    ∷ [])
+
+-- Busy turns have capital letters. In them nothing is asked, and nothing changes.
+abbrev pub busy_turn : Machine → Frame
+busy_turn m = record starts { turn = Some (busy_turn_of m) }
+
+abbrev pub busy_turns : List Frame
+busy_turns = starts ∷ map busy_turn (Feed ∷ Table ∷ Robot ∷ Press ∷ Deposit ∷ Crane ∷ Watch ∷ [])
+
+abbrev pub busy_text : List ℕ
+busy_text =
+    text_of
+    (starts_text
+    ∷ codes "F" ∷ codes "T" ∷ codes "R" ∷ codes "P" ∷ codes "D" ∷ codes "C" ∷ codes "W" ∷ [])
+
 pub record LineExamples : Type 0 where
   pub none : film_lines [] ≡ []
   pub literal : film_lines film ≡ film_text
   pub waiting : film_lines waits ≡ waits_text
+  pub one_change : film_lines changes ≡ changes_told
   pub busy : film_lines busy_turns ≡ busy_text
   pub feed : part_text Feed apart ≡ codes "20,,1"
   pub table : part_text Table apart ≡ codes "40+,60-"

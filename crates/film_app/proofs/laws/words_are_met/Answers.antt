@@ -1,0 +1,8 @@
+use Rattle.film_app.proofs.LineRows.{requests-met, steps-met}
+use Rattle.film_app.proofs.laws.words_are_met.Goals as goal
+
+pub returns-clause-steps : goal.returns-clause-steps
+returns-clause-steps c = steps-met
+
+pub returns-clause-requests : goal.returns-clause-requests
+returns-clause-requests c = requests-met
