@@ -6,3 +6,4 @@ mod Numbers
 mod Screens
 mod Starved
 mod Tallied
+mod ScreenRows

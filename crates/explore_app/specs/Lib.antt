@@ -7,3 +7,5 @@ pub mod Served
 pub mod Starts
 pub mod Starving
 pub mod Tallies
+pub mod ScreenExamples
+pub mod Tellings

@@ -2,6 +2,8 @@
 //! nothing.
 
 ghost use Rattle.explore_app.specs.LineExamples.{ChoicesAreMet, LinesAreMet, TalliesAreMet};
+ghost use Rattle.explore_app.specs.ScreenExamples.{EachIsMet, RequestsAreMet, ScreensAreMet};
+ghost use Rattle.explore_app.specs.Tellings.{TellingsAreWhole};
 ghost use Rattle.explore_app.specs.Starts.{StartsAreAll, StartsAreCounted};
 
 /// Each start is among those that are explored with its number of plates.
@@ -20,4 +22,19 @@ pub fn lines_are_met()
     ensures lines { LinesAreMet }
     ensures choices { ChoicesAreMet }
     ensures tallies { TalliesAreMet }
+{}
+
+/// Examples: whole screens in literal text; the bound of each machine, the party of each zone, and
+/// each figure of two tallies; and what the program's words ask for.
+pub fn screens_are_met()
+    ensures screens { ScreensAreMet }
+    ensures each { EachIsMet }
+    ensures requests { RequestsAreMet }
+{}
+
+/// What a screen says was found: of a free start how many situations there are and within which
+/// bounds plates go on, else the fewest turns to a standstill or to a refusal; of starving plates a
+/// circle of turns, or a bound. A tally is of starts whose ends were found.
+pub fn tellings_are_whole()
+    ensures { TellingsAreWhole }
 {}
