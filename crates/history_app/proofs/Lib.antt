@@ -5,3 +5,4 @@ pub mod lemmas
 mod Lines
 mod Reading
 mod Openings
+mod StatusLemmas

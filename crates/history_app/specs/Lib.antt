@@ -4,3 +4,4 @@ pub mod Laws
 pub mod Scripts
 pub mod Answered
 pub mod ScriptExamples
+pub mod Statuses

@@ -2,6 +2,7 @@
 
 ghost use Rattle.history_app.specs.Laws.{RecordingsAreAnswered};
 ghost use Rattle.history_app.specs.Answered.{HistoriesAreAnswered};
+ghost use Rattle.history_app.specs.Statuses.{StatusesTell};
 ghost use Rattle.history_app.specs.ScriptExamples.{ScriptExamples};
 
 /// A replay answers what a recording has written as the threads were answered: its calls and
@@ -19,4 +20,10 @@ pub fn histories_are_answered()
 /// Example histories with their scripts.
 pub fn scripts_of_histories_are_met()
     ensures { ScriptExamples }
+{}
+
+/// What each exit status says of a recording, in other words; what may be written of a script; and
+/// which words ask for a recording.
+pub fn statuses_tell()
+    ensures { StatusesTell }
 {}
