@@ -1,8 +1,10 @@
 //! Laws of the program's words, each the contract of a function that does nothing.
 
-ghost use Rattle.cell_words.specs.WordExamples.{WordsAreMet};
+ghost use Rattle.cell_words.specs.WordExamples.{ModesAreMet, WordsAreMet};
 
-/// Examples: words and what they ask for, each flag with both ends of its range, and refused words.
+/// Examples: words and what they ask for, each flag with both ends of its range, and refused words;
+/// and what is said of words and of a mode.
 pub fn words_are_met()
-    ensures { WordsAreMet }
+    ensures words { WordsAreMet }
+    ensures modes { ModesAreMet }
 {}
