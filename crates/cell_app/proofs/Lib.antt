@@ -8,3 +8,4 @@ mod RunLemmas
 mod LawLemmas
 mod AskLemmas
 mod ServeLemmas
+mod StatusLemmas

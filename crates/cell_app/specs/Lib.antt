@@ -3,3 +3,4 @@ pub mod Served
 pub mod Asked
 pub mod Laws
 pub mod OneText
+pub mod Statuses

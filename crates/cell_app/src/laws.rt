@@ -1,6 +1,7 @@
 //! Laws of runs. Each is a function that does nothing: its contract is the law.
 ghost use Rattle.cell_app.specs.Asked.{WordsAreServed};
 ghost use Rattle.cell_app.specs.OneText.{ReportsAreOne};
+ghost use Rattle.cell_app.specs.Statuses.{StatusesTell};
 ghost use Rattle.cell_app.specs.Laws.{FaultLinesAreMet, StatusZeroIsWell, TurnsAreTold};
 
 use cell_sensors::laws::one_position;
@@ -36,4 +37,10 @@ pub fn words_are_served()
 /// Examples of fault lines.
 pub fn fault_lines_are_met()
     ensures { FaultLinesAreMet }
+{}
+
+/// What each exit status says of known bytes, in other words: of a replay, of a simulation and of a
+/// run by six workers, and of their reports.
+pub fn statuses_tell()
+    ensures { StatusesTell }
 {}
