@@ -2,6 +2,7 @@
 //! gives no places, so the text is read again by the readers of `toml_parser`.
 #![tactic(auto)]
 
+pub mod laws;
 pub mod lines;
 pub mod places;
 pub mod scanning;
