@@ -3,6 +3,7 @@
 #![tactic(auto)]
 
 mod fault;
+mod laws;
 mod requests;
 
 ghost use Rattle.std.specs.Prelude.{◌≡◌};
