@@ -1,2 +1,4 @@
 pub mod Devices
 pub mod Rounds
+pub mod DeviceExamples
+pub mod RoundExamples

@@ -7,6 +7,7 @@
 mod axis;
 mod devices;
 mod fault;
+mod laws;
 mod lookout;
 mod rounds;
 mod six;
