@@ -86,6 +86,8 @@ pub fn answers_are_meant()
 /// Of an input with a document and a script: what was written of them.
 pub fn served_is_meant()
     ensures { ServedIsMeant }
+{}
+
 /// Examples: how many situations small programs come to, by what `is_large` ensures.
 pub fn sizes_are_counted()
     ensures { SizesAreCounted }
