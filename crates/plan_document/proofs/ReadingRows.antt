@@ -1,5 +1,5 @@
 -- Of which TOML the rows of a document are read, in examples.
-use Rattle.std.proofs.Common.{◌≡◌, ◌∙◌, ℕ, Bool, true, false, List, [], ◌∷◌, codes, Option, Some, None, refl, sym, ap, subst, string_bytes}
+use Rattle.std.proofs.Common.{◌≡◌, ◌∙◌, ℕ, Bool, true, false, List, [], ◌∷◌, codes, Some, None, refl, sym, ap, subst, string_bytes}
 use Rattle.std.specs.List.{AllZip}
 use Rattle.toml.specs.Data.{Data, Members, array, boolean, get_member, item, member, no_items, string, table}
 use Rattle.toml.specs.Parse.{parse_document}
@@ -10,8 +10,8 @@ use Rattle.plan_document.specs.declared.document.PoseRow.{PoseRow}
 use Rattle.plan_document.specs.declared.document.WayRow.{WayRow}
 use Rattle.plan_document.specs.declared.document.ZoneRow.{ZoneRow}
 use Rattle.plan_document.specs.declared.resolving.ProgrammedPlan.{ProgrammedPlan}
-use Rattle.plan_document.specs.Keys.{has_only, machine_keys, pose_keys, top_keys, zone_keys}
-use Rattle.plan_document.specs.Reading.{HasRows, IsDocumentIn, IsMachineIn, IsPlanIn, IsPlanOfTable, IsPoseIn, IsTruth, IsWay, IsZoneIn, items_at}
+use Rattle.plan_document.specs.Keys.{has_only, machine_keys, pose_keys, zone_keys}
+use Rattle.plan_document.specs.Reading.{HasRows, IsDocumentIn, IsPlanIn, IsPlanOfTable, IsPoseIn, IsTruth, IsWay, IsZoneIn, items_at}
 use Rattle.plan_document.specs.ReadingExamples.{DocumentsAreIn, MachinesAreIn, PlansAreIn, PosesAreIn, RowsAreRead, ValuesAreRead, ZonesAreIn, three_items, two_items}
 use Rattle.plan_document.specs.Saying.{IsPlanOf}
 
@@ -37,8 +37,8 @@ no_third row a b c is =
     cc
 
 -- the items of a list are the rows, one by one
-zipped : (members : Members) (items : List Data) (rows : List ZoneRow) → items_at (codes "zone") members ≡ Some items → HasRows IsZoneIn (codes "zone") members rows → AllZip IsZoneIn items rows
-zipped members items rows there has =
+zipped : (ms : Members) (items : List Data) (rows : List ZoneRow) → items_at (codes "zone") ms ≡ Some items → HasRows IsZoneIn (codes "zone") ms rows → AllZip IsZoneIn items rows
+zipped ms items rows there has =
     let e : Some has.0 ≡ Some items = sym has.1 ∙ there in
     let same : has.0 ≡ items = cc in
     subst (λ values. AllZip IsZoneIn values rows) same has.2
@@ -99,8 +99,8 @@ zones_in members row = record {
   unknown = λ value is. impossible (ap (has_only zone_keys) (same_members (member (codes "gives") value members) is.members is.is_table) ∙ is.keys);
 }
 
-documents_in : (members : Members) (d : Document) → DocumentsAreIn members d
-documents_in members d = record {
+documents_in : (ms : Members) (d : Document) → DocumentsAreIn ms d
+documents_in ms d = record {
   machines = λ is. is.machines;
   zones = λ is. is.zones;
   unknown = λ value is. impossible is.keys;
