@@ -1,2 +1,3 @@
 pub mod CellMotors
 pub mod Demands
+pub mod DemandExamples

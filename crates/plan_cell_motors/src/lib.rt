@@ -3,6 +3,7 @@
 
 ghost use Rattle.plan_cell_motors.specs.CellMotors.{CausesAreRight, CellHazards};
 ghost use Rattle.plan_cell_motors.specs.Demands.{RowsSayDemands};
+ghost use Rattle.plan_cell_motors.specs.DemandExamples.{RowExamples, RowsTell};
 
 /// The rows fit the plan, so some state permits each and no other machine's call takes a permission away; and no sound
 /// state permits both rows of a hazard.
@@ -19,4 +20,10 @@ pub fn causes_are_right()
 /// and a gripper that is down.
 pub fn rows_say_demands()
     ensures { RowsSayDemands }
+{}
+
+/// Literal rows, and what the laws of rows and demands say, each by itself.
+pub fn row_examples_are_right()
+    ensures rows { RowExamples }
+    ensures demands { RowsTell }
 {}
