@@ -3,8 +3,12 @@ use Rattle.std.proofs.Common.{◌≡◌, ◌≤◌, inl, inr, ℕ, zero, suc, Li
 use Rattle.std.proofs.lemmas.List.{length-append}
 use Rattle.clap.proofs.OnLiterals.{clap_on_literals}
 use Rattle.text_io.specs.Input.{TakesAtMost}
+use Rattle.cell_rules.specs.Types.{Event}
+use Rattle.cell_rules.specs.ModelState.{ModelState}
 use Rattle.cell_notes.specs.declared.run_record.RunRecord.{RunRecord}
-use Rattle.history_app.specs.Statuses.{RecordingsTell, StatusesTell, TellingsTell, WordsAreMet, WritingsAreMet}
+use Rattle.history_app.proofs.LawLemmas.{recordings_answered}
+use Rattle.history_app.proofs.lemmas.Answering.{histories_answered}
+use Rattle.history_app.specs.Statuses.{HistoriesTell, RecordingsTell, StatusesTell, TellingsTell, WordsAreMet, WritingsAreMet}
 
 all_taken : (most : ℕ) (bytes : List ℕ) → TakesAtMost (Some bytes) (Some []) most → length bytes ≤ most
 all_taken most bytes k = let h = k.1 in let all : length bytes ≡ length (k.0 ++ []) = ap length k.2 in omega (arith, h, all, length-append k.0 [])
@@ -13,10 +17,18 @@ recordings : (turns tries : ℕ) (bytes : List ℕ) → RecordingsTell turns tri
 recordings turns tries bytes = record {
   run = λ r k. (k.run, k.start);
   well = λ text rest k. let w = k.well refl in (w.0, w.1.0, w.1.1.0, (w.1.1.1.history, w.1.1.1.is, w.1.1.1.fits, w.1.1.1.written));
+  replayed = λ script rest k.
+      let a = recordings_answered turns tries bytes script (k.well refl) in
+      (a.0, a.1.0, a.1.1.clean, a.1.1.history, a.1.1.journals, a.1.1.text);
   failed = λ rest old new k refused memory spawn telling.
       ⊎_elim (λ c. refused c.0 c.1.0 c.1.1)
       (λ d. ⊎_elim (λ c. memory c) (λ e. ⊎_elim (λ c. spawn c) (λ c. telling c.0 c.1.0 c.1.1) e) d) (k.failed refl);
   took = λ exit old new k. all_taken 2097153 bytes k.taken;
+}
+
+histories : (opening : ModelState) (history : List Event) → HistoriesTell opening history
+histories opening history = record {
+  answered = λ start legal fits. let a = histories_answered opening history start legal fits in (a.start, a.events, a.clean, a.text);
 }
 
 tellings : (r : RunRecord) (old new : Option (List ℕ)) → TellingsTell r old new
@@ -62,4 +74,4 @@ words = record {
 }
 
 pub statuses-tell : StatusesTell
-statuses-tell = record { recordings = recordings; tellings = tellings; writings = writings; words = words }
+statuses-tell = record { recordings = recordings; histories = histories; tellings = tellings; writings = writings; words = words }

@@ -1,11 +1,15 @@
 -- What each exit status says of a recording, in other words; and which words ask for one.
 use Rattle.std.specs.Prelude.{◌≡◌, ◌<◌, ◌≤◌, ℕ, Bool, true, false, List, [], ◌∷◌, ◌++◌, codes, length, Option}
-use Rattle.std.specs.Prelude.{Some, Err}
+use Rattle.std.specs.Prelude.{Some, Ok, Err}
 use Rattle.std.specs.Io.KnownBytes.{Appends}
+use Rattle.std.specs.List.{concat}
 use Rattle.clap.specs.Words.{Text}
 use Rattle.text_io.specs.Output.{WrotePrefix}
-use Rattle.cell_rules.specs.Types.{Event, journal_of}
-use Rattle.cell_rules.specs.Names.{IsAudited, IsStartState}
+use Rattle.cell_rules.specs.Types.{Event, Machine, journal_of}
+use Rattle.cell_rules.specs.Journal.{noted}
+use Rattle.cell_rules.specs.Names.{ModelState, IsAudited, IsLegal, IsStartState}
+use Rattle.csv_rows.specs.declared.script_end.Outcome.TheVariants.{Clean}
+use Rattle.cell_replay.specs.Script.{event_lines, script_events, script_outcome, script_start, script_text, start_line}
 use Rattle.cell_notes.specs.declared.run_record.RunRecord.{RunRecord}
 use Rattle.cell_config.specs.Configured.{Says}
 use Rattle.cell_config.specs.ConfigWords.{config_fault_text}
@@ -14,8 +18,9 @@ use Rattle.program_shell.specs.declared.exit.Exit.{Exit}
 use Rattle.program_shell.specs.declared.exit.Exit.TheVariants.{Well, Failed, Refused}
 use Rattle.cell_app.specs.Reported.{AreFine}
 use Rattle.cell_app.specs.Served.{TellsWorkersOf}
+use Rattle.history_app.specs.Answered.{start_of}
 use Rattle.history_app.specs.Recorded.{IsTold, IsWritten, TellingFails, TellsPacedRun, WroteScript}
-use Rattle.history_app.specs.Scripts.{script_of}
+use Rattle.history_app.specs.Scripts.{script_of, version_for}
 use Rattle.history_app.specs.Served.{AskForHistory, Records}
 
 abbrev pub IsOf : RunRecord → List Event → Type 0
@@ -27,6 +32,13 @@ pub record RecordingsTell (turns tries : ℕ) (bytes : List ℕ) : Type 0 where
   pub well : (text : List ℕ) (rest : Option (List ℕ)) → Records turns tries 0 (Some bytes) rest (Some []) (Some text)
       → (r : RunRecord) × TellsPacedRun turns tries bytes r × AreFine r.status
       × ((history : List Event) × IsOf r history × (length history ≤ 65536) × (text ≡ script_of r.start history))
+  pub replayed : (script : List ℕ) (rest : Option (List ℕ))
+      → Records turns tries 0 (Some bytes) rest (Some []) (Some script)
+      → (r : RunRecord) × TellsPacedRun turns tries bytes r × (script_outcome script ≡ Clean)
+      × IsOf r (script_events script)
+      × ((m : Machine) → noted r.start (script_events script) m ≡ journal_of r.journals m)
+      × (script_text script
+      ≡ concat (start_line (start_of r.start (script_events script)) ∷ event_lines r.start (script_events script)))
   pub failed : (rest old new : Option (List ℕ)) → Records turns tries 1 (Some bytes) rest old new
       → ((fault : ConfigFault) → Says bytes (Err fault)
       → ¬ WrotePrefix old new (codes "fault " ++ (config_fault_text fault ++ codes "\n")))
@@ -34,6 +46,16 @@ pub record RecordingsTell (turns tries : ℕ) (bytes : List ℕ) : Type 0 where
       → ((r : RunRecord) → TellsPacedRun turns tries bytes r → ¬ TellingFails r old new) → ⊥
   pub took : (exit : ℕ) (old new : List ℕ) → Records turns tries exit (Some bytes) (Some []) (Some old) (Some new)
       → length bytes ≤ 2097153
+
+-- a replay of the script of a legal history from a start
+pub record HistoriesTell (opening : ModelState) (history : List Event) : Type 0 where
+  pub answered : IsStartState opening → IsLegal opening history → length history ≤ 65536
+      → (script_start (script_of opening history)
+      ≡ Ok (record { version = version_for history; state = opening }))
+      × (script_events (script_of opening history) ≡ history)
+      × (script_outcome (script_of opening history) ≡ Clean)
+      × (script_text (script_of opening history)
+      ≡ concat (start_line (start_of opening history) ∷ event_lines opening history))
 
 pub record TellingsTell (r : RunRecord) (old new : Option (List ℕ)) : Type 0 where
   pub whole : WroteScript r old new
@@ -75,6 +97,7 @@ pub record WordsAreMet : Type 0 where
 
 pub record StatusesTell : Type 0 where
   pub recordings : (turns tries : ℕ) (bytes : List ℕ) → RecordingsTell turns tries bytes
+  pub histories : (opening : ModelState) (history : List Event) → HistoriesTell opening history
   pub tellings : (r : RunRecord) (old new : Option (List ℕ)) → TellingsTell r old new
   pub writings : WritingsAreMet
   pub words : WordsAreMet
