@@ -5,10 +5,10 @@ use Rattle.cell_word.specs.Layout.{packed}
 use Rattle.film_app.specs.LineExamples.{LineExamples}
 use Rattle.film_app.specs.WordExamples.{RequestsAreMet, StepsAreMet}
 use Rattle.film_app.specs.Lines.{machine_text}
-use Rattle.film_app.specs.Pages.{max_turns}
+use Rattle.film_app.specs.Pages.{max_turns, page_text}
 
 pub line-examples : LineExamples
-unfolding digits packed max_turns machine_text
+unfolding digits packed max_turns machine_text page_text
 line-examples = record {
   none = refl;
   literal = refl;
@@ -26,6 +26,7 @@ line-examples = record {
   escaped = refl;
   uncut = refl;
   cut = refl;
+  page = refl;
 }
 
 pub steps-met : StepsAreMet

@@ -15,9 +15,11 @@ use Rattle.cell_plant.specs.FrameExamples.{film, steps_entered}
 use Rattle.cell_plant.specs.RunExamples.{busy_turn_of, stopped}
 use Rattle.film_app.specs.Fields.{part_text}
 use Rattle.film_app.specs.Lines.{film_lines}
-use Rattle.film_app.specs.Pages.{cut_line}
+use Rattle.film_app.specs.Pages.{cut_line, page_text}
 use Rattle.film_app.specs.Plain.{is_plain}
 use Rattle.film_app.specs.StepWords.{stopped_text}
+use Rattle.film_app.specs.declared.page_head.TheConstants.{PAGE_HEAD}
+use Rattle.film_app.specs.declared.page_tail.TheConstants.{PAGE_TAIL}
 
 abbrev pub text_of : List (List ℕ) → List ℕ
 text_of lines = concat (map (λ line. line ++ codes "\n") lines)
@@ -161,3 +163,4 @@ pub record LineExamples : Type 0 where
   pub escaped : list_any is_plain (codes "<>&\"'/\\=`") ≡ false
   pub uncut : cut_line 100000 ≡ []
   pub cut : cut_line 100001 ≡ codes "cut 100001\n"
+  pub page : page_text (codes "x\n") 100001 ≡ PAGE_HEAD.now ++ (codes "x\n" ++ (codes "cut 100001\n" ++ PAGE_TAIL.now))
