@@ -1,7 +1,9 @@
--- The examples of `report_lines_are_met`, `header_lines_are_met` and `party_lines_are_met`.
+-- The examples of `report_lines_are_met`, `header_lines_are_met`, `party_lines_are_met` and `texts_are_whole`.
 use Rattle.std.proofs.Common.{refl}
 use Rattle.std.specs.Fmt.{digits}
-use Rattle.plan_app.specs.LineExamples.{HeaderLines, PartyLines, ReportLines}
+use Rattle.plan_app.specs.Headers.{header_text}
+use Rattle.plan_app.specs.LineExamples.{HeaderLines, PartyLines, ReportLines, WholeTexts}
+use Rattle.plan_app.specs.Reports.{report_text}
 
 pub report-lines : ReportLines
 unfolding digits
@@ -18,8 +20,6 @@ report-lines = record {
   no_place_more = refl;
   stamp = refl;
   stop = refl;
-  kinds = refl;
-  fields = refl;
 }
 
 pub header-lines : HeaderLines
@@ -37,22 +37,25 @@ header-lines = record {
   width = refl;
   first_byte = refl;
   next_byte = refl;
-  ninth_byte = refl;
-  fifth_byte = refl;
 }
 
 pub party-lines : PartyLines
 unfolding digits
 party-lines = record {
   hosts = refl;
-  left_pose = refl;
   right_pose = refl;
-  second_keeper = refl;
-  last_keeper = refl;
   poses = refl;
   parties = refl;
   bits = refl;
-  machines = refl;
-  zones = refl;
-  places = refl;
+}
+
+pub whole-texts : WholeTexts
+unfolding digits report_text header_text
+whole-texts = record {
+  report = refl;
+  names = refl;
+  poses = refl;
+  word = refl;
+  bytes = refl;
+  header = refl;
 }

@@ -8,7 +8,7 @@ use Rattle.plan_word.specs.declared.layout.Field.TheVariants.{Stamp, Stop}
 use Rattle.plan_text.specs.Names.{Text}
 use Rattle.plan_text.specs.Named.{Named, named}
 use Rattle.plan_app.specs.Headers as header
-use Rattle.plan_app.specs.declared.header.TheConstants.{BEGIN, ZONES}
+use Rattle.plan_app.specs.declared.header.TheConstants.{BEGIN, CODES, ZONES}
 use Rattle.plan_app.specs.Reports as report
 
 abbrev pub lift_machines : List Text
@@ -59,15 +59,6 @@ pub record ReportLines : Type 0 where
   pub no_place_more : report.place_line lift 3 ≡ []
   pub stamp : report.field_line (counts_of lift_table) Stamp (codes "stamp") ≡ codes "bit 13, 20 bits: stamp\n"
   pub stop : report.field_line (counts_of lift_table) Stop (codes "stop") ≡ codes "bit 33, 1 bit: stop\n"
-  -- two zones and four places
-  pub kinds : report.kind_lines gates
-      ≡ codes "3 machines: lake lock sea\n" ++ codes "2 zones: east west\n"
-      ++ codes "4 places: first second quay pier\n" ++ codes "2 poses: travel tide\n"
-  pub fields : report.field_lines gates
-      ≡ codes "bit 0, 5 bits: zone east\n" ++ codes "bit 5, 5 bits: zone west\n"
-      ++ codes "bit 10, 1 bit: place first\n" ++ codes "bit 11, 1 bit: place second\n"
-      ++ codes "bit 12, 1 bit: place quay\n" ++ codes "bit 13, 1 bit: place pier\n"
-      ++ codes "bit 14, 20 bits: stamp\n" ++ codes "bit 34, 1 bit: stop\n"
 
 pub record HeaderLines : Type 0 where
   pub zones : header.number_lines (codes "zone") lift_zones
@@ -87,19 +78,13 @@ pub record HeaderLines : Type 0 where
   -- bytes, eight in a line
   pub first_byte : header.byte_word (7 ∷ []) 0 ≡ codes "\n    7,"
   pub next_byte : header.byte_word (7 ∷ 255 ∷ []) 1 ≡ codes " 255,"
-  -- a byte in the second line
-  pub ninth_byte : header.byte_word (1 ∷ 2 ∷ 3 ∷ 4 ∷ 5 ∷ 6 ∷ 7 ∷ 8 ∷ 19 ∷ []) 8 ≡ codes "\n    19,"
-  pub fifth_byte : header.byte_word (1 ∷ 2 ∷ 3 ∷ 4 ∷ 5 ∷ []) 4 ≡ codes " 5,"
 
--- lines of plans whose zones are of different hosts, whose poses are of different machines, and where a machine keeps
--- two places
+-- lines of plans whose zones have different hosts, whose poses are of different machines, and where a machine keeps two
+-- places
 pub record PartyLines : Type 0 where
   pub hosts : header.zone_parties presses 1
       ≡ codes "#define PLAN_HOST_OF_FAR PLAN_MACHINE_RIGHT\n" ++ codes "#define PLAN_GUEST_OF_FAR PLAN_MACHINE_LOADER\n"
-  pub left_pose : header.pose_line presses 1 ≡ codes "#define PLAN_POSE_LEFT_LEFT_OPEN 1\n"
   pub right_pose : header.pose_line presses 2 ≡ codes "#define PLAN_POSE_RIGHT_RIGHT_MOVES 2\n"
-  pub second_keeper : header.keeper_line gates 1 ≡ codes "#define PLAN_KEEPER_OF_SECOND PLAN_MACHINE_LOCK\n"
-  pub last_keeper : header.keeper_line gates 3 ≡ codes "#define PLAN_KEEPER_OF_PIER PLAN_MACHINE_SEA\n"
   pub poses : header.pose_lines gates
       ≡ codes "#define PLAN_POSE_LOCK_TRAVEL 0\n" ++ codes "#define PLAN_POSE_SEA_TIDE 1\n"
       ++ codes "#define PLAN_POSES 2\n"
@@ -116,13 +101,40 @@ pub record PartyLines : Type 0 where
       ++ codes "#define PLAN_BIT_PLACE_FIRST 10\n" ++ codes "#define PLAN_BIT_PLACE_SECOND 11\n"
       ++ codes "#define PLAN_BIT_PLACE_QUAY 12\n" ++ codes "#define PLAN_BIT_PLACE_PIER 13\n"
       ++ codes "#define PLAN_BIT_STAMP 14\n" ++ codes "#define PLAN_BIT_STOP 34\n"
-  -- what stands before the numbers of each kind
-  pub machines : header.machines_part presses
-      ≡ BEGIN.now ++ codes "#define PLAN_MACHINE_LOADER 0\n" ++ codes "#define PLAN_MACHINE_LEFT 1\n"
-      ++ codes "#define PLAN_MACHINE_RIGHT 2\n" ++ codes "#define PLAN_MACHINES 3\n"
-  pub zones : header.zones_part presses
-      ≡ ZONES.now ++ codes "#define PLAN_ZONE_NEAR 0\n" ++ codes "#define PLAN_ZONE_FAR 1\n"
+
+abbrev pub gates_bytes : Text
+gates_bytes =
+    codes "\n/* The plan, for bagunjoki_plan.h. */\n" ++ codes "static const uint8_t PLAN_BYTES[] = {"
+    ++ codes "\n    3, 2, 2, 4, 1, 0, 0, 0," ++ codes "\n    0, 0, 0, 0, 2, 1, 0, 0,"
+    ++ codes "\n    0, 0, 0, 0, 1, 0, 0, 0," ++ codes "\n    0, 0, 0, 0, 0, 0, 0, 0,"
+    ++ codes "\n    2, 0, 0, 0, 0, 0, 0, 0," ++ codes "\n    0, 0, 0, 0, 1, 1, 0, 2,"
+    ++ codes "\n};\n\n#endif\n"
+
+-- the texts of the gates: the report, and the header in its parts
+pub record WholeTexts : Type 0 where
+  pub report : report.report_text gates
+      ≡ codes "3 machines: lake lock sea\n" ++ codes "2 zones: east west\n"
+      ++ codes "4 places: first second quay pier\n" ++ codes "2 poses: travel tide\n"
+      ++ codes "a word of 35 bits\n"
+      ++ codes "bit 0, 5 bits: zone east\n" ++ codes "bit 5, 5 bits: zone west\n"
+      ++ codes "bit 10, 1 bit: place first\n" ++ codes "bit 11, 1 bit: place second\n"
+      ++ codes "bit 12, 1 bit: place quay\n" ++ codes "bit 13, 1 bit: place pier\n"
+      ++ codes "bit 14, 20 bits: stamp\n" ++ codes "bit 34, 1 bit: stop\n"
+  pub names : header.names_part gates
+      ≡ BEGIN.now ++ codes "#define PLAN_MACHINE_LAKE 0\n" ++ codes "#define PLAN_MACHINE_LOCK 1\n"
+      ++ codes "#define PLAN_MACHINE_SEA 2\n" ++ codes "#define PLAN_MACHINES 3\n"
+      ++ ZONES.now ++ codes "#define PLAN_ZONE_EAST 0\n" ++ codes "#define PLAN_ZONE_WEST 1\n"
       ++ codes "#define PLAN_ZONES 2\n"
-  pub places : header.places_part presses
-      ≡ codes "\n/* Places. */\n" ++ codes "#define PLAN_PLACE_HAND 0\n" ++ codes "#define PLAN_PLACE_LEFT_BED 1\n"
-      ++ codes "#define PLAN_PLACE_RIGHT_BED 2\n" ++ codes "#define PLAN_PLACES 3\n"
+      ++ codes "\n/* Places. */\n" ++ codes "#define PLAN_PLACE_FIRST 0\n" ++ codes "#define PLAN_PLACE_SECOND 1\n"
+      ++ codes "#define PLAN_PLACE_QUAY 2\n" ++ codes "#define PLAN_PLACE_PIER 3\n"
+      ++ codes "#define PLAN_PLACES 4\n"
+  pub poses : header.parties_part gates
+      ≡ codes "\n/* Poses, by machine and name. */\n" ++ header.pose_lines gates
+      ++ codes "\n/* Who hosts a zone, who is its guest, and who keeps a place. */\n" ++ header.party_lines gates
+  pub word : header.word_part gates
+      ≡ CODES.now ++ header.bit_lines gates
+      ++ codes "#define PLAN_BITS_ZONE 5\n" ++ codes "#define PLAN_BITS_PLACE 1\n"
+      ++ codes "#define PLAN_BITS_STAMP 20\n" ++ codes "#define PLAN_BITS_STOP 1\n" ++ codes "#define PLAN_BITS 35\n"
+  pub bytes : header.bytes_part gates ≡ gates_bytes
+  pub header : header.header_text gates
+      ≡ header.names_part gates ++ header.parties_part gates ++ header.word_part gates ++ gates_bytes

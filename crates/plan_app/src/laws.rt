@@ -2,7 +2,7 @@
 
 ghost use Rattle.plan_app.specs.GoingExamples.{EventLines, MachinesAreTold, WalksAreTold};
 ghost use Rattle.plan_app.specs.InputExamples.{InputsAreSplit, RequestsAreRead, WordsAreMade};
-ghost use Rattle.plan_app.specs.LineExamples.{HeaderLines, PartyLines, ReportLines};
+ghost use Rattle.plan_app.specs.LineExamples.{HeaderLines, PartyLines, ReportLines, WholeTexts};
 ghost use Rattle.plan_app.specs.ScreenExamples.{AnswersAreMeant, ScreensAreMeant, ServedIsMeant, StandstillLines};
 ghost use Rattle.plan_app.specs.SizeExamples.{SizesAreCounted};
 ghost use Rattle.plan_app.specs.StarvingExamples.{StarvingIsKnown};
@@ -36,6 +36,11 @@ pub fn header_lines_are_met()
 /// Examples: lines of headers where hosts, keepers and the machines of poses differ.
 pub fn party_lines_are_met()
     ensures { PartyLines }
+{}
+
+/// Examples: the report and the header of a plan, whole.
+pub fn texts_are_whole()
+    ensures { WholeTexts }
 {}
 
 /// Examples: the lines of what machines ask, and of why they wait.
