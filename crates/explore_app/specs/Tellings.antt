@@ -25,8 +25,8 @@ use Rattle.explore_app.specs.declared.request.Question.TheVariants.{Standstill, 
 use Rattle.explore_app.specs.declared.step.Step.{Step}
 use Rattle.explore_app.specs.declared.tally.Tally.{Tally}
 use Rattle.explore_app.specs.Bounds.{Text, bound_of, bound_of_each}
-use Rattle.explore_app.specs.Screens.{ComesTo, GoOnWithin, IsScreenOf, ShowsEnding, ShowsFree, TellsFreedom}
-use Rattle.explore_app.specs.Screens.{TellsRefusal, TellsStandstill, ending_screen, free_screen}
+use Rattle.explore_app.specs.Screens.{ComesTo, GoOnWithin, IsScreenOf, Shows, ShowsEnding, ShowsFree}
+use Rattle.explore_app.specs.Screens.{TellsFreedom, TellsRefusal, TellsStandstill, ending_screen, free_screen}
 use Rattle.explore_app.specs.Served.{WasAnswered, WereListed}
 use Rattle.explore_app.specs.Starving.{IsRoundTurn, IsStarvingScreenOf, ShowsRound, Starves, TellsBound}
 use Rattle.explore_app.specs.Starving.{TellsRound, TellsStill, asking, going_turns, is_idle, is_of_round, round_screen}
@@ -45,6 +45,10 @@ pub record ScreensTell (s : ModelState) (text : Text) : Type 0 where
       → (way : List Machine) × LeadsToStandstill s way × IsShortest s way × ShowsEnding s ending.Standstill way text
   pub refusal_is_found : TellsRefusal s text
       → (way : List Machine) × LeadsToRefusal s way × IsShortest s way × ShowsEnding s ending.Refusal way text
+  pub free : (situations : ℕ) → Shows s (explored.Free situations) text → ShowsFree s situations text
+  pub standstill : (way : _) → Shows s (explored.Standstill way) text
+      → ShowsEnding s ending.Standstill way.items text
+  pub refusal : (way : _) → Shows s (explored.Refusal way) text → ShowsEnding s ending.Refusal way.items text
   pub freedom_is_shown : (situations : ℕ) → ShowsFree s situations text
       → (plates : Plates) × GoOnWithin s plates × (text ≡ free_screen s situations plates)
   pub ending_is_shown : (e : Ending) (way : List Machine) → ShowsEnding s e way text
