@@ -30,5 +30,8 @@ served =
       sim = λ words k. subst (AskFor Sim) (sym k.1) (by_sim k.0);
       nothing_more = (refl, refl);
       replay_alone = (refl, refl);
+      sim_as_replay = λ k. let e = k.1 in cc;
+      replay_as_sim = λ k. let e = k.1 in cc;
+      other_word = λ k. let e = k.0 in cc;
       sim_alone = (refl, refl);
     }

@@ -6,6 +6,7 @@ use Rattle.cell_notes.specs.declared.run_record.RunRecord.{RunRecord}
 use Rattle.cell_report.specs.declared.audit_faults.AuditFault.{AuditFault}
 use Rattle.cell_app.specs.Reported.{AreFine, IsAmiss}
 use Rattle.cell_app.specs.Served.{IsAuditOf}
+use Rattle.cell_app.proofs.LawLemmas.{well}
 use Rattle.cell_app.specs.Statuses.{HadMemoryOrNot, ReplaysTell, ReportsTell, RunsTell, SimulationsTell, StatusesTell}
 
 all_taken : (most : ℕ) (bytes : List ℕ) → TakesAtMost (Some bytes) (Some []) most → length bytes ≤ most
@@ -33,6 +34,9 @@ runs : (turns tries : ℕ) (bytes : List ℕ) → RunsTell turns tries bytes
 runs turns tries bytes = record {
   run = λ r k. (k.settings, k.said, k.scales, k.points, k.run);
   well = λ text rest k. let w = k.well refl in (w.0, w.1.0, w.1.1.0, w.1.1.1);
+  each_had_its_turns = λ text rest k.
+      let w = well.ran turns tries bytes text (k.well refl) in
+      (w.0, w.2, w.3.1, w.4);
   failed = λ rest old new k refused memory spawn report.
       ⊎_elim (λ c. refused c.0 c.1.0 c.1.1)
       (λ d. ⊎_elim (λ c. memory c) (λ e. ⊎_elim (λ c. spawn c) (λ c. report c.0 c.1.0 c.1.1) e) d) (k.failed refl);

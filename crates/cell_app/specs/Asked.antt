@@ -16,4 +16,7 @@ pub record WordsAreServed : Type 0 where
   pub sim : (words : List Text) → AskForSim words → AskFor Sim words
   pub nothing_more : AskFor Replay (codes "cell" ∷ codes "--" ∷ [])
   pub replay_alone : AskFor Replay (codes "cell" ∷ codes "replay" ∷ codes "--" ∷ [])
+  pub sim_as_replay : ¬ AskFor Replay (codes "cell" ∷ codes "sim" ∷ [])
+  pub replay_as_sim : ¬ AskFor Sim (codes "cell" ∷ codes "replay" ∷ [])
+  pub other_word : ¬ AskFor Replay (codes "cell" ∷ codes "go" ∷ [])
   pub sim_alone : AskFor Sim (codes "cell" ∷ codes "sim" ∷ codes "--" ∷ [])

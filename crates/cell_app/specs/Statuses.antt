@@ -1,12 +1,12 @@
 -- What each exit status says of a replay, of a simulation and of a run by six workers, in other words.
-use Rattle.std.specs.Prelude.{◌≡◌, ◌≢◌, ◌≤◌, ℕ, true, List, [], ◌++◌, ◌⊎◌, codes, length, Option, Some, None, Ok}
+use Rattle.std.specs.Prelude.{◌≡◌, ◌≢◌, ◌≤◌, ℕ, true, List, [], ◌++◌, ◌⊎◌, codes, length, map, Option, Some, None, Ok}
 use Rattle.std.specs.Prelude.{Err}
 use Rattle.std.specs.Io.KnownBytes.{Appends}
 use Rattle.csv_rows.specs.declared.script_end.Outcome.TheVariants as outcome
 use Rattle.csv_rows.specs.declared.script_end.ScriptFault.{ScriptFault}
 use Rattle.cell_replay.specs.Faults.{WrotePrefix, WroteLines}
 use Rattle.cell_replay.specs.Script.{script_lines, script_outcome, script_text}
-use Rattle.cell_rules.specs.Types.{Event, journal_of}
+use Rattle.cell_rules.specs.Types.{Event, Machine, all_machines, journal_of}
 use Rattle.cell_rules.specs.Audited.{HasNoHistory, IsAudited}
 use Rattle.cell_report.specs.AuditFaults.{IsFault}
 use Rattle.cell_report.specs.Report.{report_text}
@@ -14,12 +14,13 @@ use Rattle.cell_report.specs.declared.audit_faults.AuditFault.{AuditFault}
 use Rattle.cell_report.specs.declared.audit_faults.AuditFault.TheVariants.{Memory as AuditMemory}
 use Rattle.cell_parts.specs.Axes.{CellScales}
 use Rattle.cell_plant.specs.Names.{TellsRun, on_curves}
+use Rattle.cell_notes.specs.declared.counts.Counts.{Counts}
 use Rattle.cell_notes.specs.declared.run_record.RunRecord.{RunRecord}
 use Rattle.cell_config.specs.Configured.{Says, in_order}
 use Rattle.cell_config.specs.ConfigWords.{config_fault_text}
 use Rattle.cell_config.specs.Settings.{Settings, settings_of}
 use Rattle.cell_config.specs.declared.fault.ConfigFault.{ConfigFault}
-use Rattle.cell_workers.specs.Records.{TellsWork}
+use Rattle.cell_workers.specs.Records.{TellsWork, has_worker}
 use Rattle.program_shell.specs.declared.exit.Exit.TheVariants.{Well, Failed, Refused}
 use Rattle.cell_app.specs.Reported.{AreFine, AuditFinds, IsAmiss, ReportTold}
 use Rattle.cell_app.specs.Served.{ReportFails, Replays, Runs, Simulates, TellsRunOf, TellsWorkersOf}
@@ -66,6 +67,12 @@ pub record RunsTell (turns tries : ℕ) (bytes : List ℕ) : Type 0 where
       × TellsWork scales (on_curves settings.curves) settings.start tries turns (λ m turn answer. answer ≡ true) r
   pub well : (text : List ℕ) (rest : Option (List ℕ)) → Runs turns tries 0 (Some bytes) rest (Some []) (Some text)
       → (r : RunRecord) × TellsWorkersOf turns tries bytes r × AreFine r.status × (text ≡ report_text r None)
+  pub each_had_its_turns : (text : List ℕ) (rest : Option (List ℕ))
+      → Runs turns tries 0 (Some bytes) rest (Some []) (Some text)
+      → (r : RunRecord) × (text ≡ report_text r None)
+      × ((history : List Event) × IsAudited r.start (journal_of r.journals) r.end history)
+      × ((did : Machine → Counts) → r.counts ≡ map did all_machines
+      → (m : Machine) → has_worker m ≡ true → (did m).turns ≡ turns)
   pub failed : (rest old new : Option (List ℕ)) → Runs turns tries 1 (Some bytes) rest old new
       → NotRefused bytes old new → (¬ MemoryRanOut old new) → (¬ WrotePrefix old new (codes "fault spawn\n"))
       → ((r : RunRecord) → TellsWorkersOf turns tries bytes r → ¬ ReportFails r old new) → ⊥
