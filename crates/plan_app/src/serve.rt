@@ -273,8 +273,8 @@ fn print_answers<W: Write>(writer: &mut W, answered: &ScriptAnswers) -> Exit
 }
 
 /// Does what the words ask for, and returns the exit status: 0 on success, and for help; 1 for a refused plan or
-/// script, a standstill, a machine that may starve, plates that may rest, a failed read or write, and if memory ran out;
-/// 2 for other words.
+/// script, a standstill, a machine that may starve, plates that may rest, a failed read or write, and if memory ran
+/// out; 2 for other words.
 pub fn serve<R: Read, W: Write>(alloc: Global, words: &[&str], reader: &mut R, writer: &mut W) -> u8
     ensures status { result ≤ 2 }
 
