@@ -71,8 +71,9 @@ def broken_law(before, machine, call, after):
         if before.owner[zone] not in (NOBODY, machine, owner):
             return f"one_holder: {MACHINES[before.owner[zone]]} holds {name}, and {MACHINES[owner]} too"
         if owner == GUEST[zone] and after.posture[zone] not in (OPENIN, OPENOUT):
-            law = "mover_is_host" if after.posture[zone] == MOVING else "guest_only_while_open"
-            return f"{law}: {MACHINES[owner]} holds {name}, which isn't open"
+            if after.posture[zone] == MOVING:
+                return f"mover_is_host: {name} moves, and {MACHINES[owner]} holds it, its guest"
+            return f"guest_only_while_open: {MACHINES[owner]} holds {name}, which isn't open"
         if after.posture[zone] == MOVING and owner != HOST[zone]:
             return f"mover_is_host: {name} moves, and its host doesn't hold it"
     if before.plates() != after.plates():
