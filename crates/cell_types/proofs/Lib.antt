@@ -4,3 +4,4 @@ mod WayLemmas
 mod WordLemmas
 mod RefusalLemmas
 mod NumberLemmas
+mod ExamplesMet

@@ -8,3 +8,5 @@ pub mod Answers
 pub mod Same
 pub mod CallWords
 pub mod Journals
+pub mod WordExamples
+pub mod TableExamples
