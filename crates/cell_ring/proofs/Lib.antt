@@ -7,3 +7,4 @@ mod Calls
 mod Journeys
 mod Followed
 mod Sums
+mod Rows

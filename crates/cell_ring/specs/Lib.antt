@@ -5,3 +5,4 @@ pub mod Arriving
 pub mod OneLap
 pub mod Figures
 pub mod WrongHistories
+pub mod RingRows

@@ -8,6 +8,7 @@ ghost use Rattle.cell_ring.specs.Following.{InEachStretch, NoneOvertakes, Plates
 ghost use Rattle.cell_ring.specs.Lap.{LapGoesRound};
 ghost use Rattle.cell_ring.specs.OneLap.{OneLapOfOnePlate};
 ghost use Rattle.cell_ring.specs.Plates.{PlatesAreOnRing, RulesFollowLap};
+ghost use Rattle.cell_ring.specs.RingRows.{RingRows};
 ghost use Rattle.cell_ring.specs.WrongHistories.{WrongHistories};
 
 use cell_rules::State;
@@ -94,4 +95,11 @@ pub fn one_lap_of_one_plate()
 /// forged, isn't delivered, or isn't where its moves took it.
 pub fn wrong_histories_are_refused()
     ensures { WrongHistories }
+{}
+
+/// The moves of a lap, distances, where the plates of some states are, and which events move them,
+/// row by row.
+#[tactic(auto, using(crate::proofs::Rows::ring_rows))]
+pub fn ring_by_rows()
+    ensures { RingRows }
 {}
