@@ -3,7 +3,7 @@ use Rattle.std.proofs.Common.{◌≡◌, ◌∙◌, refl, ap, subst, ◌⊎◌, 
 use Rattle.std.specs.Prelude.{⊤, ◌||◌}
 use Rattle.std.proofs.Math.Bool.{or-true}
 use Rattle.std.specs.Option.{is_none}
-use Rattle.cell_rules.specs.Types.{Machine, Call, Refusal, Stopped, Reply, Settled, Busy}
+use Rattle.cell_rules.specs.Types.{Machine, Call, Refusal, Stopped, Answer, Reply, Settled, Busy}
 use Rattle.cell_types.specs.declared.answer.Answer.TheVariants as answer
 use Rattle.cell_sensors.specs.declared.sense.SensorFault.{SensorFault}
 use Rattle.cell_rules.specs.Names.{ModelState, reply, next, Desk}
@@ -109,12 +109,37 @@ module _ {S Sense Reading Act State : Type 0} (t : Steps S Sense Reading Act) (r
   seen_with : (busy : Bool) (a : TurnCall) (k : UnitTurn t rig busy old new before now notes notes' asked) → asked ≡ a → new.history ≡ old.history ++ settled_in t.machine a
   seen_with busy a k f = k.history ∙ ap (λ x. old.history ++ settled_in t.machine x) f
 
+  -- the side after a refusal, by whether the step waits
+  abbrev side_after_refusal : Bool → Refusal → Side S State
+  side_after_refusal b f = led t rig before now asked None (turned before.progress (at_rest (t.rest before.progress) (if b then Ok before.progress else Err (fault_of f))))
+
   came_free : (reading : Reading) (call : Call) (i : IsAsking t rig before reading call) (k : UnitTurn t rig false old new before now notes notes' asked) (r : Result Reply LineFault) → asked ≡ Some (call, r) → now ≡ answered_side t rig before now asked call r
       → ((r ≡ Ok (Settled (reply old.state t.machine call) new.state.stamp)) × (new.state ≡ next old.state t.machine call)) ⊎ ((r ≡ Err line.Memory) × (new.state ≡ old.state))
-      → IsAnswered t.machine call old new notes notes' asked ⊎ IsRefusedMemory t rig call old new before now notes notes' asked
+      → IsAnswered t rig call old new before now notes notes' asked ⊎ IsRefusedMemory t rig call old new before now notes notes' asked
   came_free reading call i k r e side (inl came) =
       let told : asked ≡ Some (call, Ok (Settled (reply old.state t.machine call) new.state.stamp)) = e ∙ ap (λ x. Some (call, x)) came.0 in
-      inl (record { told = told; opening = k.opening; state = came.1; history = seen_with false _ k told; noted = taken_noted false _ i.runs k told })
+      let by_answer : (a : Answer) → reply old.state t.machine call ≡ a → now ≡ answered_side t rig before now asked call (Ok (Settled a new.state.stamp)) =
+      λ a is. side ∙ ap (answered_side t rig before now asked call) came.0 ∙ ap (λ x. answered_side t rig before now asked call (Ok (Settled x new.state.stamp))) is in
+      let refused : (b : Bool) (f : Refusal) → reply old.state t.machine call ≡ answer.Refused f → waits_out t before.progress f ≡ b → now ≡ side_after_refusal b f =
+      λ b f is waits. by_answer _ is ∙ ap (λ x. side_after_refusal x f) waits in
+      inl (record {
+        told = told;
+        opening = k.opening;
+        state = came.1;
+        history = seen_with false _ k told;
+        side = record {
+          done = λ is. by_answer _ is;
+          shown = λ owner flag posture is. by_answer _ is;
+          waits = λ f is waits. refused true f is (ap (λ x. x || is_while_stopped f) waits);
+          while_stopped = λ is. refused true Stopped is (or-true (waits_on (t.row before.progress).waits Stopped));
+          refused = λ is waits. refused false _ is (ap (λ x. x || false) waits);
+          worn = λ is waits. refused false _ is (ap (λ x. x || false) waits);
+          demanded = λ is runs.
+              let tells = k.motor_demands runs in
+              (tells.act, tells.told ∙ ap (λ a. rig.moves (part_set t rig before.part a tells.act)) (told ∙ ap (λ x. Some (call, Ok (Settled x new.state.stamp))) is), tells.motor_demands);
+        };
+        noted = taken_noted false _ i.runs k told;
+      })
   came_free reading call i k r e side (inr came) =
       let told : asked ≡ Some (call, Err line.Memory) = e ∙ ap (λ x. Some (call, x)) came.0 in
       inr (record {
@@ -143,6 +168,7 @@ module _ {S Sense Reading Act State : Type 0} (t : Steps S Sense Reading Act) (r
           bench = record { opening = k.opening; state = came.1; history = seen_with true _ k told ∙ append-nil old.history };
           side = own.3 ∙ ap (answered_side t rig before now asked call) came.0;
           noted = taken_noted true _ i.runs k told;
+          demanded = λ runs. let tells = k.motor_demands runs in (tells.act, tells.told ∙ ap (λ a. rig.moves (part_set t rig before.part a tells.act)) told, tells.motor_demands);
         };
     asks = λ reading call i k.
         let own = asked_end t rig before now asked (new.state ≡ old.state) (λ c r. Answers old.state t.machine false c r new.state) reading call i (taken false i.runs k) in

@@ -1,6 +1,7 @@
 -- A machine's status and the effect of its turn: rows with literal answers, for any program and any part.
 use Rattle.std.specs.Prelude.{◌≡◌, ⊤, ◌⊎◌, ℕ, Bool, true, false, [], ◌∷◌, ◌++◌, Option, Some, None, Result, Ok, Err}
-use Rattle.cell_rules.specs.Types.{Machine, Posture, Call, Refusal, Jump, Stopped, Reply, Settled, Busy}
+use Rattle.cell_rules.specs.Types.{Machine, Posture, Call, Refusal, Jump, Stopped, Answer, Reply, Settled}
+use Rattle.cell_rules.specs.Types.{Busy}
 use Rattle.cell_types.specs.declared.answer.Refusal.TheVariants.{Worn as NoStamp}
 use Rattle.cell_types.specs.declared.answer.Answer.TheVariants as answer
 use Rattle.cell_sensors.specs.declared.sense.SensorFault.{SensorFault}
@@ -125,14 +126,40 @@ pub record BenchStays (old new : Desk) : Type 0 where
   pub state : new.state ≡ old.state
   pub history : new.history ≡ old.history
 
+-- the machine's side after an answer: it goes on and its part notes the call if it is done; it goes on as it is shown;
+-- it stays at its step if it waits; and it stops with what else it is refused for
+pub record GoesOnBy {S Sense Reading Act State : Type 0} (t : Steps S Sense Reading Act) (rig : Rig State Sense Act)
+    (call : Call) (a : Answer) (new : Desk) (before now : Side S State) : Type 0 where
+  pub done : a ≡ answer.Done
+      → now ≡ comes_to rig (t.row before.progress).next None (rig.notes before.part (event t.machine call answer.Done))
+      (t.rest before.progress)
+  pub shown : (owner : Option Machine) (flag : Bool) (posture : Posture) → a ≡ answer.Shown owner flag posture
+      → now ≡ comes_to rig (t.after_inquiry before.progress owner flag posture) None before.part
+      (t.rest before.progress)
+  pub waits : (r : Refusal) → a ≡ answer.Refused r → waits_on (t.row before.progress).waits r ≡ true
+      → now ≡ comes_to rig before.progress None before.part (t.rest before.progress)
+  pub while_stopped : a ≡ answer.Refused Stopped
+      → now ≡ comes_to rig before.progress None before.part (t.rest before.progress)
+  pub refused : a ≡ answer.Refused Jump → waits_on (t.row before.progress).waits Jump ≡ false
+      → now ≡ comes_to rig before.progress (Some (fault.Refused Jump)) before.part (t.rest before.progress)
+  pub worn : a ≡ answer.Refused NoStamp → waits_on (t.row before.progress).waits NoStamp ≡ false
+      → now ≡ comes_to rig before.progress (Some fault.Worn) before.part (t.rest before.progress)
+  -- after a call that is done, the motors' demands hold with the call's event in the history
+  pub demanded : a ≡ answer.Done → now.stopped ≡ None
+      → (set : Act)
+      × (now.part ≡ rig.moves (rig.set (rig.notes before.part (event t.machine call answer.Done)) set))
+      × t.motor_demands before.progress set new.opening new.history
+
 -- the call has its answer by the state; or it is out of memory
-pub record IsAnswered (m : Machine) (call : Call) (old new : Desk) (notes notes' : Notes) (asked : TurnCall)
+pub record IsAnswered {S Sense Reading Act State : Type 0} (t : Steps S Sense Reading Act) (rig : Rig State Sense Act)
+    (call : Call) (old new : Desk) (before now : Side S State) (notes notes' : Notes) (asked : TurnCall)
     : Type 0 where
-  pub told : asked ≡ Some (call, Ok (Settled (reply old.state m call) new.state.stamp))
+  pub told : asked ≡ Some (call, Ok (Settled (reply old.state t.machine call) new.state.stamp))
   pub opening : new.opening ≡ old.opening
-  pub state : new.state ≡ next old.state m call
-  pub history : new.history ≡ old.history ++ event m call (reply old.state m call) ∷ []
-  pub noted : notes' ≡ notes_with notes (Some (call, Ok (Settled (reply old.state m call) new.state.stamp)))
+  pub state : new.state ≡ next old.state t.machine call
+  pub history : new.history ≡ old.history ++ event t.machine call (reply old.state t.machine call) ∷ []
+  pub side : GoesOnBy t rig call (reply old.state t.machine call) new before now
+  pub noted : notes' ≡ notes_with notes (Some (call, Ok (Settled (reply old.state t.machine call) new.state.stamp)))
 
 pub record IsRefusedMemory {S Sense Reading Act State : Type 0} (t : Steps S Sense Reading Act)
     (rig : Rig State Sense Act) (call : Call) (old new : Desk) (before now : Side S State) (notes notes' : Notes)
@@ -156,6 +183,9 @@ pub record FindsBusy {S Sense Reading Act State : Type 0} (t : Steps S Sense Rea
   pub bench : BenchStays old new
   pub side : now ≡ comes_to rig before.progress None before.part (t.rest before.progress)
   pub noted : notes' ≡ notes_with notes (Some (call, Ok (Busy 1 old.state.stamp)))
+  pub demanded : now.stopped ≡ None
+      → (set : Act) × (now.part ≡ rig.moves (rig.set before.part set))
+      × t.motor_demands before.progress set new.opening new.history
 
 pub record Drives {S Sense Reading Act State : Type 0} (t : Steps S Sense Reading Act) (rig : Rig State Sense Act)
     (reading : Reading) (act : Act) (old new : Desk) (before now : Side S State) (notes notes' : Notes)
@@ -177,7 +207,7 @@ pub record UnitRows {S Sense Reading Act State : Type 0} (t : Steps S Sense Read
       → FindsBusy t rig call old new before now notes notes' asked
   pub asks : (reading : Reading) (call : Call) → IsAsking t rig before reading call
       → UnitTurn t rig false old new before now notes notes' asked
-      → IsAnswered t.machine call old new notes notes' asked
+      → IsAnswered t rig call old new before now notes notes' asked
       ⊎ IsRefusedMemory t rig call old new before now notes notes' asked
   pub drives : (reading : Reading) (act : Act) (busy : Bool) → IsDriving t rig before reading act
       → UnitTurn t rig busy old new before now notes notes' asked
