@@ -17,3 +17,4 @@ mod GuardsHold
 mod StateWordsHold
 mod ZonesAtOnce
 mod After
+mod ExamplesMet

@@ -6,3 +6,4 @@ pub mod Patterns
 pub mod Guards
 pub mod Changes
 pub mod StateWords
+pub mod WordExamples

@@ -9,6 +9,7 @@ ghost use Rattle.cell_rules.specs.Causes.{order_of};
 ghost use Rattle.cell_word.specs.Layout.{packed};
 ghost use Rattle.cell_word.specs.Guards.{first_refusal, guards_of, numbers_of, is_ordered};
 ghost use Rattle.cell_word.specs.Laws.{IsLaidOut};
+ghost use Rattle.cell_word.specs.WordExamples.{WordExamples};
 
 /// The fields of a sound state fill the bits 0 to 60 of its word, side by side and without overlap.
 /// Each value fits its width and reads back, and the word is below 2 to the 61.
@@ -29,4 +30,11 @@ pub fn guards_are_refusals()
         → first_refusal (packed state) (guards_of machine call) ≡ refusal state machine call }
     ensures order { (machine : Machine) (call : Call)
         → IsTrue (is_ordered (order_of call) (numbers_of (guards_of machine call))) }
+{}
+
+/// Literal words: where each owner, plate, posture and place is, the word of a whole state, which
+/// words are a state's, and what calls test and write.
+#[tactic(auto, using(crate::proofs::ExamplesMet::word_examples))]
+pub fn words_by_examples()
+    ensures { WordExamples }
 {}
