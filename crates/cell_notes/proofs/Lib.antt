@@ -1,3 +1,4 @@
 pub mod lemmas
 mod MachineValues
+mod LiteralValues
 mod LiteralNotes

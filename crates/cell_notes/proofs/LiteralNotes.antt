@@ -1,6 +1,7 @@
 -- What is kept of a turn meets the rows.
 use Rattle.std.proofs.Common.{refl}
 use Rattle.cell_notes.specs.NoteRows.{NotesAreMet}
+use Rattle.cell_notes.proofs.LiteralValues.{value-rows}
 
 pub notes-met : NotesAreMet
 notes-met = record {
@@ -18,4 +19,5 @@ notes-met = record {
     out_of_memory_is_not_settled = refl;
   };
   words = record { fine = refl; worn = refl; sensor = refl; refused = refl; memory = refl; gate_limit = refl };
+  values = value-rows;
 }

@@ -8,6 +8,7 @@ use Rattle.cell_notes.specs.declared.status.Status.TheVariants as status
 use Rattle.cell_notes.specs.Asks.{done_in, settled_in}
 use Rattle.cell_notes.specs.Notes.{Notes, no_notes, notes_with}
 use Rattle.cell_notes.specs.Statuses.{status_word}
+use Rattle.cell_notes.specs.ValueRows.{ValueRows}
 
 abbrev pub entry : Call → Answer → ℕ → Entry
 entry call a stamp = record { call = call; answer = a; stamp = stamp }
@@ -70,3 +71,4 @@ pub record NotesAreMet : Type 0 where
   pub counts : (call : Call) → CountRows call
   pub events : (m : Machine) (call : Call) (stamp : ℕ) → EventRows m call stamp
   pub words : StatusWords
+  pub values : ValueRows
