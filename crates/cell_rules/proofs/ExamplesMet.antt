@@ -5,6 +5,10 @@ use Rattle.cell_rules.specs.Examples.{opened, closed, claimed, by_robot, Disowns
 use Rattle.cell_rules.proofs.lemmas.Puts.{each_zone}
 use Rattle.cell_rules.proofs.StateExamplesMet.{sound_examples, start_examples}
 use Rattle.cell_rules.proofs.LawExamplesMet.{law_examples}
+use Rattle.cell_rules.proofs.BreaksMet.{break_examples}
+use Rattle.cell_rules.proofs.SecondWordsMet.{second_words}
+use Rattle.cell_rules.proofs.StateTablesMet.{state_tables}
+use Rattle.cell_rules.proofs.HistoryTablesMet.{history_tables}
 
 -- the press holds z3 by its claim, and the robot by its own
 has_claimed : Holds opened (claimed ∷ []) Press Z3
@@ -38,4 +42,8 @@ examples_are_met = record {
   sound = sound_examples;
   starts = start_examples;
   laws = law_examples;
+  states = state_tables;
+  histories = history_tables;
+  breaks = break_examples;
+  second = second_words;
 }

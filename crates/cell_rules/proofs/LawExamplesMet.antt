@@ -81,7 +81,7 @@ each_machine P _ _ _ _ a _ _ Deposit = a
 each_machine P _ _ _ _ _ a _ CraneMachine = a
 each_machine P _ _ _ _ _ _ a Watch = a
 
-audits : AuditExamples
+pub audits : AuditExamples
 audits = record {
   accepted = record {
     legal = (refl, tt);

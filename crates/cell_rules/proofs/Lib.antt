@@ -15,5 +15,9 @@ mod Fitting
 mod TablesHold
 mod Handing
 mod StateExamplesMet
+mod StateTablesMet
+mod HistoryTablesMet
 mod LawExamplesMet
+mod BreaksMet
+mod SecondWordsMet
 mod ExamplesMet

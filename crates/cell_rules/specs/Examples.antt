@@ -9,7 +9,11 @@ use Rattle.cell_rules.specs.PlaceSet.{empty, insert_place}
 use Rattle.cell_rules.specs.ModelState.{ModelState, model_state}
 use Rattle.cell_rules.specs.RefusalLaws.{is_no_later}
 use Rattle.cell_rules.specs.StateExamples.{SoundExamples, StartExamples}
+use Rattle.cell_rules.specs.BreakExamples.{BreakExamples}
+use Rattle.cell_rules.specs.HistoryTables.{HistoryTables}
 use Rattle.cell_rules.specs.LawExamples.{LawExamples}
+use Rattle.cell_rules.specs.SecondWords.{SecondWords}
+use Rattle.cell_rules.specs.StateTables.{StateTables}
 use Rattle.cell_rules.specs.Rights.{KeepsItsOwn, IsNeverDisowned}
 use Rattle.cell_rules.specs.Seen.{event}
 
@@ -70,3 +74,7 @@ pub record Examples : Type 0 where
   pub sound : SoundExamples
   pub starts : StartExamples
   pub laws : LawExamples
+  pub states : StateTables
+  pub histories : HistoryTables
+  pub breaks : BreakExamples
+  pub second : SecondWords

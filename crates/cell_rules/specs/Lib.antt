@@ -25,7 +25,11 @@ pub mod Benches
 pub mod BenchView
 pub mod Programs
 pub mod StateExamples
+pub mod StateTables
+pub mod HistoryTables
 pub mod LawExamples
+pub mod BreakExamples
+pub mod SecondWords
 pub mod Examples
 pub mod Names
 pub mod Types

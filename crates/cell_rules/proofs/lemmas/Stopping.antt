@@ -8,7 +8,7 @@ use Rattle.cell_rules.proofs.lemmas.Histories.{legal-left}
 use Rattle.cell_rules.proofs.lemmas.HoldsLemmas.{gained_or_kept}
 
 -- event by event
-abbrev stopped_since : Bool → List Event → Bool
+abbrev pub stopped_since : Bool → List Event → Bool
 stopped_since b [] = b
 stopped_since b (e ∷ h) = stopped_since (is_stop e || (b && not (is_resume e))) h
 
@@ -39,7 +39,7 @@ by_events b (x ∷ h) e =
       | inr g ↦ inr (record { before = x ∷ g.before; stop = g.stop; since = g.since; split = ap (λ t. x ∷ t) g.split; stopped = g.stopped; kept = g.kept })
     ]
 
-by_test : (s : ModelState) (h : List Event) → IsStopped s h ↔ IsTrue (stopped_since s.stopped h)
+pub by_test : (s : ModelState) (h : List Event) → IsStopped s h ↔ IsTrue (stopped_since s.stopped h)
 by_test s h = (
   λ k. elim k [ inl k ↦ ap (λ b. stopped_since b h) k.0 ∙ stopped_since-kept h k.1 | inr g ↦ stopped_since-stopped s.stopped h g ],
   by_events s.stopped h,
