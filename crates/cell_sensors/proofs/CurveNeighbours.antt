@@ -1,5 +1,5 @@
 -- The two neighbours of a raw value: what is asked of them, and what they say of the curve.
-use Rattle.std.proofs.Common.{◌≡◌, ℕ, ◌+◌, ◌<◌, ◌≤◌, ℤ, List, sym, subst, arith}
+use Rattle.std.proofs.Common.{◌≡◌, ℕ, ◌+◌, ◌<◌, ◌≤◌, ℤ, List, subst, arith}
 use Rattle.cell_sensors.specs.Scale.{Scale}
 use Rattle.cell_sensors.specs.Line.{IsLineRoundedDown}
 use Rattle.cell_sensors.specs.Curve.{Pair, pair_at, raw_at, AreNeighbours, IsCurve, IsNearPair, IsOnCurve, line_through}

@@ -5,7 +5,7 @@ use Rattle.cell_sensors.specs.Names.{Pair, IsRising, is_rising}
 use Rattle.cell_sensors.specs.CurveExamples.{FaultExamples}
 use Rattle.cell_sensors.proofs.lemmas.CurveTestLemmas.{count_of_pass, rises_at}
 
-rises : (pairs : List Pair) → is_rising pairs ≡ true → IsRising pairs
+pub rises : (pairs : List Pair) → is_rising pairs ≡ true → IsRising pairs
 rises pairs h = λ i within. rises_at pairs i h within
 
 pub faults : FaultExamples

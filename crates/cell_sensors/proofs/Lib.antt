@@ -10,3 +10,6 @@ mod LineCurve
 mod ReadingFigures
 mod FaultFigures
 mod CurveFigures
+mod LineFigures
+mod SenseFigures
+mod EdgeFigures

@@ -1,10 +1,12 @@
 -- Curves in figures: what they read, and why pairs make none.
-use Rattle.std.specs.Prelude.{◌≡◌, ℕ, ℤ, pos, neg_ℤ, List, [], ◌∷◌, map}
+use Rattle.std.specs.Prelude.{◌≡◌, ℕ, ℤ, pos, neg_ℤ, true, false, List, [], ◌∷◌, ◌++◌, map}
 use Rattle.std.specs.List.{range_with_len}
-use Rattle.cell_sensors.specs.Scale.{Scale}
-use Rattle.cell_sensors.specs.Curve.{Pair, IsCurve, IsOnCurve}
+use Rattle.cell_sensors.specs.Scale.{Scale, scale_by}
+use Rattle.cell_sensors.specs.Curve.{Pair, AreNeighbours, IsCurve, IsKept, IsOnCurve, ends_of, line_through, pair_at}
+use Rattle.cell_sensors.specs.Curve.{pairs_of, raw_at}
+use Rattle.cell_sensors.specs.CurveTests.{is_curve}
 use Rattle.cell_sensors.specs.CurveFaults.{IsFirstFault}
-use Rattle.cell_sensors.specs.Examples.{scale_of}
+use Rattle.cell_sensors.specs.Examples.{scale_of, below_zero}
 use Rattle.cell_sensors.specs.declared.curve.CurveFault.TheVariants.{Count, Ends, Order, OffLine}
 
 -- a curve reads this position at a raw value, and no other
@@ -65,6 +67,65 @@ pub record FaultExamples : Type 0 where
   pub outside : IsFirstFault quarters ((0, pos 0) ∷ (2000, pos 500) ∷ (4000, pos 1001) ∷ []) OffLine
   pub below_first : IsFirstFault quarters ((0, neg_ℤ (pos 1)) ∷ (2000, pos 500) ∷ (4000, pos 1000) ∷ []) OffLine
 
+-- the steps may be wrong at the first pair or the last, and the positions at both ends of the scale too
+pub record EdgeFaultExamples : Type 0 where
+  pub first_step : IsFirstFault quarters ((0, pos 0) ∷ (0, pos 0) ∷ (2000, pos 500) ∷ (4000, pos 1000) ∷ []) Order
+  pub last_step : IsFirstFault quarters ((0, pos 0) ∷ (2000, pos 500) ∷ (4001, pos 1000) ∷ (4000, pos 1000) ∷ []) Order
+  pub first_far : IsFirstFault quarters ((0, pos 5) ∷ (2000, pos 500) ∷ (4000, pos 1000) ∷ []) OffLine
+  pub last_far : IsFirstFault quarters ((0, pos 0) ∷ (2000, pos 500) ∷ (4000, pos 995) ∷ []) OffLine
+  pub ends_as_far_as_allowed : IsCurve quarters ((0, pos 4) ∷ (2000, pos 496) ∷ (4000, pos 996) ∷ [])
+  pub on_the_line : IsCurve (record quarters { tol = pos 1 }) ((0, pos 0) ∷ (2000, pos 500) ∷ (4000, pos 1000) ∷ [])
+  pub near_is_too_far :
+      IsFirstFault (record quarters { tol = pos 1 }) ((0, pos 0) ∷ (2000, pos 501) ∷ (4000, pos 1000) ∷ []) OffLine
+
+-- each fault makes pairs no curve, also where nothing else is wrong
+pub record NoCurveExamples : Type 0 where
+  pub one_pair : ¬ IsCurve (scale_of 3 3 (pos 0) (pos 0)) ((3, pos 0) ∷ [])
+  pub pair_too_many : ¬ IsCurve (scale_of 0 32 (pos 0) (pos 32)) (steps 33)
+  pub ends : ¬ IsCurve quarters ((4, pos 1) ∷ (2000, pos 500) ∷ (4000, pos 1000) ∷ [])
+  pub order : ¬ IsCurve quarters ((0, pos 0) ∷ (2000, pos 500) ∷ (2000, pos 500) ∷ (4000, pos 1000) ∷ [])
+  pub far : ¬ IsCurve quarters ((0, pos 0) ∷ (2000, pos 505) ∷ (4000, pos 1000) ∷ [])
+
+-- the same by the test that computes
+pub record TestExamples : Type 0 where
+  pub bulging : is_curve quarters bulging ≡ true
+  pub falling : is_curve sunk falling ≡ true
+  pub one_pair : is_curve (scale_of 3 3 (pos 0) (pos 0)) ((3, pos 0) ∷ []) ≡ false
+  pub most_pairs : is_curve even (steps 32) ≡ true
+  pub pair_too_many : is_curve (scale_of 0 32 (pos 0) (pos 32)) (steps 33) ≡ false
+  pub first_end : is_curve quarters ((4, pos 1) ∷ (2000, pos 500) ∷ (4000, pos 1000) ∷ []) ≡ false
+  pub last_end : is_curve quarters ((0, pos 0) ∷ (2000, pos 500) ∷ (3996, pos 999) ∷ []) ≡ false
+  pub last_step :
+      is_curve quarters ((0, pos 0) ∷ (2000, pos 500) ∷ (4001, pos 1000) ∷ (4000, pos 1000) ∷ []) ≡ false
+  pub first_far : is_curve quarters ((0, pos 5) ∷ (2000, pos 500) ∷ (4000, pos 1000) ∷ []) ≡ false
+  pub last_far : is_curve quarters ((0, pos 0) ∷ (2000, pos 500) ∷ (4000, pos 995) ∷ []) ≡ false
+  pub before_first : is_curve quarters ((0, neg_ℤ (pos 1)) ∷ (2000, pos 500) ∷ (4000, pos 1000) ∷ []) ≡ false
+  pub after_last : is_curve quarters ((0, pos 0) ∷ (2000, pos 500) ∷ (4000, pos 1001) ∷ []) ≡ false
+
+-- pairs by their places; neighbours of a raw value, which shares its pair with those before; the line through two pairs
+pub record PlaceExamples : Type 0 where
+  pub second_pair : pair_at bulging 1 ≡ (1000, pos 254)
+  pub last_raw : raw_at bulging 3 ≡ 4000
+  pub no_pair : pair_at bulging 4 ≡ (0, pos 0)
+  pub left_of_pair : AreNeighbours bulging 1 2000
+  pub right_of_pair : AreNeighbours bulging 2 2000
+  pub before_both : ¬ AreNeighbours bulging 1 999
+  pub after_both : ¬ AreNeighbours bulging 1 2001
+  pub past_the_pairs : ¬ AreNeighbours bulging 4 0
+  pub falling_line : line_through (12, neg_ℤ (pos 1)) (15, neg_ℤ (pos 5))
+      ≡ scale_by 12 15 (neg_ℤ (pos 1)) (neg_ℤ (pos 5)) (pos 0)
+  pub ends : ends_of below_zero ≡ (7, neg_ℤ (pos 300)) ∷ (510, pos 200) ∷ []
+  pub first_places : pairs_of (record { scale = quarters; places = bulging; filled = 2 })
+      ≡ (0, pos 0) ∷ (1000, pos 254) ∷ []
+  pub kept_with_more_places : IsKept quarters (bulging ++ bulging) 4
+  pub kept_full : IsKept even (steps 32) 32
+  pub last_not_kept : ¬ IsKept quarters bulging 3
+  pub more_than_fit : ¬ IsKept quarters bulging 33
+
 pub record CurveExamples : Type 0 where
   pub readings : ReadingExamples
   pub faults : FaultExamples
+  pub edges : EdgeFaultExamples
+  pub none : NoCurveExamples
+  pub tests : TestExamples
+  pub places : PlaceExamples

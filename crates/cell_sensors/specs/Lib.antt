@@ -5,7 +5,9 @@ pub mod CurveTests
 pub mod Examples
 pub mod Faults
 pub mod Line
+pub mod LineExamples
 pub mod Scale
 pub mod Potentiometers
 pub mod Sensors
+pub mod SenseExamples
 pub mod Names

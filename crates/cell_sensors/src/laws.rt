@@ -5,6 +5,8 @@ ghost use Rattle.cell_sensors.specs.Curve.{Pair, IsCurve, IsOnCurve};
 ghost use Rattle.cell_sensors.specs.CurveExamples.{CurveExamples};
 ghost use Rattle.cell_sensors.specs.CurveFaults.{IsFirstFault};
 ghost use Rattle.cell_sensors.specs.Examples.{AnswerExamples, LimitExamples, RoundingExamples};
+ghost use Rattle.cell_sensors.specs.LineExamples.{LineExamples};
+ghost use Rattle.cell_sensors.specs.SenseExamples.{SenseExamples};
 ghost use Rattle.cell_sensors.specs.Scale.{Scale, IsScale};
 ghost use Rattle.cell_sensors.specs.Line.{raw_width, IsLineNear, IsWithinTolerance, IsNear, IsRawAt};
 ghost use Rattle.cell_sensors.specs.declared.curve.CurveFault.{CurveFault};
@@ -42,6 +44,18 @@ pub fn limits_are_met()
     ensures { LimitExamples }
 {}
 
+/// Heights of a line, windows around a position, tolerances, calibrated sensors and scales, in figures.
+#[tactic(auto, using(crate::proofs::LineFigures::lines))]
+pub fn lines_are_met()
+    ensures { LineExamples }
+{}
+
+/// The sensors of each machine out of the fourteen, and which switches exclude each other, in figures.
+#[tactic(auto, using(crate::proofs::SenseFigures::senses))]
+pub fn senses_are_met()
+    ensures { SenseExamples }
+{}
+
 /// A curve is at one position at a raw value: neighbours that share it agree there.
 pub fn one_position()
     ensures { (s : Scale) (pairs : List Pair) (raw : ℕ) (v w : ℤ) → IsCurve s pairs
@@ -54,8 +68,8 @@ pub fn one_first_fault()
         → IsFirstFault s pairs g → g ≡ f }
 {}
 
-/// Curves, in figures: what one that bulges and one that falls below 0 read, and the first fault
-/// of pairs that make none.
+/// Curves, in figures: what one that bulges and one that falls below 0 read, the first fault of
+/// pairs that make none, and a curve's pairs by their places.
 pub fn curves_are_met()
     ensures { CurveExamples }
 {}
