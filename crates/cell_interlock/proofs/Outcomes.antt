@@ -10,8 +10,10 @@ use Rattle.cell_rules.specs.declared.zones.ZoneState.{ZoneState}
 use Rattle.cell_rules.proofs.lemmas.Lawful.{lawful_in, sound_from}
 use Rattle.cell_rules.proofs.lemmas.Puts.{each_zone}
 use Rattle.cell_rules.proofs.lemmas.UnchangedStates.{changes-append}
+use Rattle.cell_rules.specs.Journal.{noted}
+use Rattle.cell_rules.specs.Seen.{event}
 use Rattle.cell_interlock.specs.Fresh.{IsFresh, AreFresh}
-use Rattle.cell_interlock.specs.OutcomeExamples.{opened, claim, claimed, released, by_feed, again_by_feed, by_table, by_robot, by_watch, barred, press_pass, watch_pass, before, begun, after_claim, lost_both, AskExamples, LookExamples, AttemptExamples, MoreExamples, ChangeExamples, AnswerExamples, OrderExamples, StampExamples, ReceiptExamples, RunExamples, PaidExamples, FreshExamples, LineExamples, OutcomeExamples}
+use Rattle.cell_interlock.specs.OutcomeExamples.{opened, claim, claimed, released, by_feed, again_by_feed, by_table, by_robot, by_watch, barred, press_pass, watch_pass, before, begun, after_claim, lost_both, AskExamples, LookExamples, AttemptExamples, MoreExamples, ChangeExamples, AnswerExamples, OrderExamples, StampExamples, ReceiptExamples, RunExamples, PaidExamples, FreshExamples, LineExamples, ViewExamples, CaseExamples, FieldExamples, OutcomeExamples}
 use Rattle.cell_interlock.proofs.Settled.{lawful_history, settled, replied}
 
 sound : IsSound opened
@@ -216,6 +218,9 @@ changes = record {
   refused = λ f. let e : 1 ≤ 0 = counted _ _ _ _ f in omega arith;
   seen_earlier = λ f. let e : 2 ≤ 1 = counted _ _ _ _ f in omega arith;
   other_beginning = λ f. let e : Table ≡ Feed = ap first_by f.is in cc;
+  three = record { more = by_table ∷ claimed ∷ again_by_feed ∷ by_robot ∷ []; is = refl; many = omega arith };
+  any_own = λ c f. let e : 1 ≤ 0 = counted _ _ _ _ f in omega arith;
+  any_of_the_watch = λ c. record { more = event Watch c Done ∷ []; is = refl; many = omega arith };
 }
 
 has_claimed : Holds opened (claimed ∷ []) Press Z3
@@ -295,6 +300,13 @@ paid t = record {
     record { pass = record { table = refl; opening = refl; machine = refl }; seen = ([], refl) },
   );
   twice = refl;
+  each = λ lost stamp. refl;
+  none = λ a stamp. refl;
+  called_nothing = record { pass = record { table = refl; opening = refl; machine = refl }; seen = (by_feed ∷ again_by_feed ∷ [], refl) };
+  forgets = λ m. let e = m.seen.1 in cc;
+  called_by_another = λ m. let e : Press ≡ Watch = m.pass.machine in cc;
+  lost_one_alone = λ m. let e : 1 ≡ 2 = m.1.busy.all_lost in omega (arith, e);
+  busy_with_another_stamp = λ m. let e : 3 ≡ 2 = m.1.seen.1 in omega (arith, e);
 }
 
 -- ---- a new interlock
@@ -317,11 +329,49 @@ fresh i p f = record {
 
 lines : (t : TableId) → LineExamples t
 lines t = record {
+  no_memory = refl;
+  asks = (ask t).busy;
+  asks_with_other_tries = λ f. let e : 2 ≡ 3 = f.busy.all_lost in omega (arith, e);
   loads_without_memory = λ f. let e : 4 ≡ 3 = ap (λ (v : PassView). v.loads) f in omega arith;
   other_tries = λ l d apart f. apart f.tries;
   survey_with_other_tries = λ l d apart f. apart f.tries;
   survey_forgets = λ l d was is f. let e = subst (λ (v : PassView). BeginsWith v.seen (by_feed ∷ [])) is (subst (λ (v : PassView). BeginsWith d.pass.seen v.seen) was f.more.seen.begins) in let none = e.1 in cc;
 }
 
+-- ---- views, and what replies tell by cases
+
+views : (t : TableId) → ViewExamples t
+views t = record {
+  there_and_back = λ v. refl;
+  interlock = refl;
+  receipt = refl;
+  pending = refl;
+  settled = λ a stamp. refl;
+  busy = λ lost stamp. refl;
+}
+
+cases : CaseExamples
+cases = record {
+  settled = λ a stamp test. (λ is. is, λ is. is);
+  settled_is_not_busy = λ a stamp. tt;
+  busy = λ lost stamp test. (λ is. is, λ is. is);
+  busy_is_not_settled = λ lost stamp. tt;
+  stamp_of_settled = λ a stamp. refl;
+  stamp_of_busy = λ lost stamp. refl;
+}
+
+fields : (p : Passes) → FieldExamples p
+fields p = record {
+  feed = refl;
+  table = refl;
+  robot = refl;
+  press = refl;
+  deposit = refl;
+  crane = refl;
+  watch = refl;
+  journal_of_press = λ saw. ap (λ (h : List Event). noted opened h Press) saw;
+  journal_of_watch = λ saw. ap (λ (h : List Event). noted opened h Watch) saw;
+}
+
 pub outcomes_are_known : OutcomeExamples
-outcomes_are_known = record { ask = ask; look = look; attempt = attempt; more = grows; changes = changes; answers = answers; order = order; stamps = stamps; receipts = receipts; runs = runs; paid = paid; fresh = fresh; lines = lines }
+outcomes_are_known = record { ask = ask; look = look; attempt = attempt; more = grows; changes = changes; answers = answers; order = order; stamps = stamps; receipts = receipts; runs = runs; paid = paid; fresh = fresh; lines = lines; views = views; cases = cases; fields = fields }

@@ -1,12 +1,13 @@
 -- Examples of what a call of the press may leave of its pass, and of what it may not: each of these is wrong in one
 -- thing. The press claims z3, which is open inward and free in the opening. A call may lose two exchanges.
-use Rattle.std.specs.Prelude.{◌≡◌, ◌≢◌, ℕ, false, List, [], ◌∷◌, None, Err}
+use Rattle.std.specs.Prelude.{◌≡◌, ◌≢◌, ℕ, ◌↔◌, Bool, false, IsTrue, List, [], ◌∷◌, None, Ok, Err}
 use Rattle.atomic_table.specs.Seated.{TableId}
 use Rattle.cell_types.specs.declared.machine.Machine.TheVariants.{Feed, Table, Robot, Press, Deposit, Crane, Watch}
 use Rattle.cell_types.specs.declared.zone.Zone.TheVariants.{Z1, Z3, Z6}
 use Rattle.cell_types.specs.declared.posture.Posture.TheVariants.{OpenIn}
 use Rattle.cell_types.specs.declared.call.Call.{Call}
 use Rattle.cell_types.specs.declared.call.Call.TheVariants.{Claim, Release, Inquire, Stop}
+use Rattle.cell_types.specs.declared.answer.Answer.{Answer}
 use Rattle.cell_types.specs.declared.answer.Answer.TheVariants.{Done, Shown, Refused}
 use Rattle.cell_types.specs.declared.answer.Refusal.TheVariants.{NotOwner, NotParty, Worn, Stopped}
 use Rattle.cell_types.specs.declared.answer.Event.{Event}
@@ -16,15 +17,19 @@ use Rattle.cell_rules.specs.ZoneMap.{free_zone, everywhere, put_zone}
 use Rattle.cell_rules.specs.PlaceSet.{empty}
 use Rattle.cell_rules.specs.ModelState.{ModelState, model_state}
 use Rattle.cell_rules.specs.Start.{start_state}
+use Rattle.cell_rules.specs.Journal.{noted}
 use Rattle.cell_rules.specs.Seen.{event}
 use Rattle.cell_rules.specs.declared.heard.LineFault.TheVariants.{Memory}
+use Rattle.word_interlock.specs.declared.reply.Reply.TheVariants.{Settled as EngineSettled, Busy as EngineBusy}
 use Rattle.word_interlock.specs.declared.views.Moment.TheVariants.{Begins, Answered}
 use Rattle.cell_interlock.specs.Timing.{told_by, IsInTime, IsRun, IsLookTimed, IsAttemptTimed}
 use Rattle.cell_interlock.specs.Settling.{MadeCall, MakesCalls, times_busy, IsPaidFor}
 use Rattle.cell_interlock.specs.Views.{PassView, InterlockView, TryView, receipt_of}
 use Rattle.cell_interlock.specs.Fresh.{AreFresh}
 use Rattle.cell_interlock.specs.Seen.{AnswersAtItsPoint, LastingRight, HasSeenMore, HasChanges}
-use Rattle.cell_interlock.specs.Calls.{IsStampedAfter}
+use Rattle.cell_interlock.specs.Calls.{IfSettled, IfBusy, stamp_in, IsStampedAfter}
+use Rattle.cell_interlock.specs.Ends.{pass_in, journals_by}
+use Rattle.cell_interlock.specs.Engine.{pass_from, pass_to, interlock_from, receipt_from, try_from, reply_from}
 use Rattle.cell_interlock.specs.Order.{StandsBefore}
 use Rattle.cell_interlock.specs.Tries.{Looked, Attempted, after_look, after_attempt}
 use Rattle.cell_interlock.specs.Lines.{Replied, PassAsks, LineView, LineAsks, LineSurveys}
@@ -234,6 +239,9 @@ pub record ChangeExamples : Type 0 where
   pub refused : ¬ HasChanges Press [] (feed_refused ∷ []) 1
   pub seen_earlier : ¬ HasChanges Press (by_feed ∷ []) (by_feed ∷ []) 1
   pub other_beginning : ¬ HasChanges Press (by_feed ∷ []) (by_table ∷ by_feed ∷ []) 1
+  pub three : HasChanges Press (by_feed ∷ []) (by_feed ∷ by_table ∷ claimed ∷ again_by_feed ∷ by_robot ∷ []) 3
+  pub any_own : (c : Call) → ¬ HasChanges Press [] (event Press c Done ∷ []) 1
+  pub any_of_the_watch : (c : Call) → HasChanges Press [] (event Watch c Done ∷ []) 1
 
 -- the answer is the sequential interlock's; a machine that holds a zone keeps it
 pub record AnswerExamples (t : TableId) : Type 0 where
@@ -301,6 +309,15 @@ pub record PaidExamples (t : TableId) : Type 0 where
   pub free_exchanges : ¬ IsPaidFor 2 0 (before t) 1 (record (after_claim t) { exchanges = 8 })
   pub one_busy : MakesCalls 2 (before t) (record (made t (Busy 2 2)) { after = lost_both t } ∷ []) (lost_both t)
   pub twice : times_busy (made t (Busy 2 2) ∷ made t (Settled Done 3) ∷ made t (Busy 2 5) ∷ []) ≡ 2
+  pub each : (lost stamp : ℕ) → times_busy (made t (Busy lost stamp) ∷ []) ≡ 1
+  pub none : (a : Answer) (stamp : ℕ) → times_busy (made t (Settled a stamp) ∷ []) ≡ 0
+  pub called_nothing : MakesCalls 2 (before t) [] (lost_both t)
+  pub forgets : ¬ MakesCalls 2 (lost_both t) [] (before t)
+  pub called_by_another : ¬ MakesCalls 2 (watch_pass t [] 3 5) [] (before t)
+  pub lost_one_alone :
+      ¬ MakesCalls 2 (before t) (record (made t (Busy 1 2)) { after = lost_both t } ∷ []) (lost_both t)
+  pub busy_with_another_stamp :
+      ¬ MakesCalls 2 (before t) (record (made t (Busy 2 3)) { after = lost_both t } ∷ []) (lost_both t)
 
 -- ---- a new interlock
 
@@ -327,10 +344,53 @@ pub record FreshExamples (i : InterlockView) (p : Passes) : Type 0 where
 -- ---- a line
 
 pub record LineExamples (t : TableId) : Type 0 where
+  pub no_memory : PassAsks 2 (before t) claim (Err Memory) (before t)
+  pub asks : PassAsks 2 (before t) claim (Ok (Busy 2 2)) (lost_both t)
+  pub asks_with_other_tries : ¬ PassAsks 3 (before t) claim (Ok (Busy 2 2)) (lost_both t)
   pub loads_without_memory : ¬ PassAsks 2 (before t) claim (Err Memory) (looked t)
   pub other_tries : (l d : LineView) → d.tries ≢ l.tries → ¬ LineAsks l claim (Err Memory) d
   pub survey_with_other_tries : (l d : LineView) → d.tries ≢ l.tries → ¬ LineSurveys l d
   pub survey_forgets : (l d : LineView) → l.pass ≡ lost_one t → d.pass ≡ before t → ¬ LineSurveys l d
+
+-- ---- views, and what replies tell by cases
+
+pub record ViewExamples (t : TableId) : Type 0 where
+  pub there_and_back : (v : PassView) → pass_from (pass_to v) ≡ v
+  pub interlock :
+      interlock_from (record { table = t; rules = record {}; opening = opened; tries = 2 })
+      ≡ record { table = t; opening = opened; tries = 2 }
+  pub receipt :
+      receipt_from (record { table = t; opening = opened; seen = claimed ∷ []; moments = Begins Press ∷ [] })
+      ≡ record { table = t; opening = opened; seen = claimed ∷ []; moments = Begins Press ∷ [] }
+  pub pending : try_from (record { pass = pass_to (lost_one t); call = Release Z3; lost = 1; tries = 2 })
+      ≡ record { pass = lost_one t; call = Release Z3; lost = 1; tries = 2 }
+  pub settled : (a : Answer) (stamp : ℕ) → reply_from (EngineSettled a stamp) ≡ Settled a stamp
+  pub busy : (lost stamp : ℕ) → reply_from (EngineBusy lost stamp) ≡ Busy lost stamp
+
+pub record CaseExamples : Type 0 where
+  pub settled : (a : Answer) (stamp : ℕ) (test : Answer → Bool)
+      → IfSettled (Settled a stamp) (λ x. IsTrue (test x)) ↔ IsTrue (test a)
+  pub settled_is_not_busy : (a : Answer) (stamp : ℕ) → IfBusy (Settled a stamp) (λ lost. ⊥)
+  pub busy : (lost stamp : ℕ) (test : ℕ → Bool)
+      → IfBusy (Busy lost stamp) (λ x. IsTrue (test x)) ↔ IsTrue (test lost)
+  pub busy_is_not_settled : (lost stamp : ℕ) → IfSettled (Busy lost stamp) (λ a. ⊥)
+  pub stamp_of_settled : (a : Answer) (stamp : ℕ) → stamp_in (Settled a stamp) ≡ stamp
+  pub stamp_of_busy : (lost stamp : ℕ) → stamp_in (Busy lost stamp) ≡ stamp
+
+-- each machine's field
+pub record FieldExamples (p : Passes) : Type 0 where
+  pub feed : pass_in p Feed ≡ p.feed
+  pub table : pass_in p Table ≡ p.table
+  pub robot : pass_in p Robot ≡ p.robot
+  pub press : pass_in p Press ≡ p.press
+  pub deposit : pass_in p Deposit ≡ p.deposit
+  pub crane : pass_in p Crane ≡ p.crane
+  pub watch : pass_in p Watch ≡ p.watch
+  -- the journals that an audit takes are of what these passes have seen
+  pub journal_of_press : p.press.seen ≡ by_feed ∷ claimed ∷ []
+      → journals_by opened p Press ≡ noted opened (by_feed ∷ claimed ∷ []) Press
+  pub journal_of_watch : p.watch.seen ≡ by_watch ∷ barred ∷ []
+      → journals_by opened p Watch ≡ noted opened (by_watch ∷ barred ∷ []) Watch
 
 pub record OutcomeExamples : Type 0 where
   pub ask : (t : TableId) → AskExamples t
@@ -346,3 +406,6 @@ pub record OutcomeExamples : Type 0 where
   pub paid : (t : TableId) → PaidExamples t
   pub fresh : (i : InterlockView) (p : Passes) → AreFresh i p → FreshExamples i p
   pub lines : (t : TableId) → LineExamples t
+  pub views : (t : TableId) → ViewExamples t
+  pub cases : CaseExamples
+  pub fields : (p : Passes) → FieldExamples p
