@@ -9,3 +9,4 @@ mod Timing
 mod Telling
 mod Examples
 mod OrderCases
+mod SeatCases

@@ -18,4 +18,5 @@ pub mod Run
 pub mod Settling
 pub mod MomentExamples
 pub mod Receipts
+pub mod SeatExamples
 pub mod OrderExamples

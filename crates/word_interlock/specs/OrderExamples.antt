@@ -4,6 +4,7 @@ use Rattle.std.specs.Prelude.{◌≡◌, ℕ, true, false, List, [], ◌∷◌, 
 use Rattle.word_interlock.specs.RuleBook.{RuleBook}
 use Rattle.word_interlock.specs.declared.reply.Reply.TheVariants.{Settled, Busy}
 use Rattle.word_interlock.specs.declared.views.ActorView.{ActorView}
+use Rattle.word_interlock.specs.declared.views.HistoryView.{HistoryView}
 use Rattle.word_interlock.specs.declared.views.Moment.{Moment}
 use Rattle.word_interlock.specs.declared.views.Moment.TheVariants.{Begins, Answered}
 use Rattle.word_interlock.specs.Views.{PassView}
@@ -14,6 +15,7 @@ use Rattle.word_interlock.specs.Run.{AnsweredCall, EndsBefore}
 use Rattle.word_interlock.specs.One.{IsSeenOn, AreShownOn}
 use Rattle.word_interlock.specs.Settling.{IsAnsweredAtLast}
 use Rattle.word_interlock.specs.MomentExamples.{AreTwoActors, pass_with}
+use Rattle.word_interlock.specs.SeatExamples.{SeatCases, ViewCases, FreshCases, ToldCases, ReplyCases, StepCases, FoundCases}
 
 module _ {S M C A E : Type 0} (b : RuleBook S M C A E) (m n : M) (e f : E) where
   pub record OrderCases : Type 0 where
@@ -66,3 +68,14 @@ OrderExamples {S} {M} {C} {A} {E} R b =
     → AreTwoActors b m n (b.event m c a) f
     → OrderCases b m n (b.event m c a) f × SeenCases b m n (b.event m c a) f rules opening
     × SettledCases b m n c a f v × StampCases b a
+
+-- Literal cases of seats, of passes and receipts, of what replies tell and of what steps show.
+pub record SeatExamples {S M C A E : Type 0} (R : Type 0) (b : RuleBook S M C A E) : Type 0 where
+  pub seats : (p q : ActorView R S M E) (told other : HistoryView S M E) (e f : E) → SeatCases p q told other e f
+  pub views : (p q : ActorView R S M E) (told other : HistoryView S M E) (e f : E) (v : PassView R S M E)
+      → ViewCases p q told other e f v
+  pub fresh : (rules : R) (opening : S) (m n : M) → FreshCases E rules opening m n
+  pub told : (opening : S) (m n : M) (e f : E) → ToldCases opening m n e f
+  pub replies : ReplyCases A
+  pub steps : (c : C) (p : ActorView R S M E) (moments : List (Moment M E)) → StepCases b c p moments
+  pub found : (p q : ActorView R S M E) (e : E) → FoundCases p q e

@@ -4,7 +4,7 @@ ghost use Rattle.word_interlock.specs.History.{IsLawful};
 ghost use Rattle.word_interlock.specs.MomentExamples.{MomentExamples};
 ghost use Rattle.word_interlock.specs.One.{HistoryIsSeen, MomentsAreShown};
 ghost use Rattle.word_interlock.specs.Order.{ReceiptsOrderCalls, ReceiptsRaiseStamps};
-ghost use Rattle.word_interlock.specs.OrderExamples.{OrderExamples};
+ghost use Rattle.word_interlock.specs.OrderExamples.{OrderExamples, SeatExamples};
 ghost use Rattle.word_interlock.specs.Receipts.{ReceiptsComeFirst};
 ghost use Rattle.word_interlock.specs.Run.{AnsweredCallsAreOver, CallsFollowReceipts};
 ghost use Rattle.word_interlock.specs.Run.{RunsAreEnds, RunsKeepOrder};
@@ -78,9 +78,11 @@ pub fn moments_are_known<R: Rules>(rules: &R)
 }
 
 /// Cases of calls one after another and of calls that overlap, of who has seen and was shown what,
-/// of a call that was Busy once, and of stamps after one that was told.
+/// of a call that was Busy once, and of stamps after one that was told (`order`). Cases of seats, of
+/// their passes and receipts, of what replies tell and of what steps show (`seats`).
 pub fn order_is_known<R: Rules>(rules: &R)
-    ensures { OrderExamples R (R.book rules.now) }
+    ensures order { OrderExamples R (R.book rules.now) }
+    ensures seats { SeatExamples R (R.book rules.now) }
 {
     let _ = rules;
 }

@@ -1,5 +1,9 @@
 use Rattle.word_interlock.proofs.OrderCases.{order_cases}
+use Rattle.word_interlock.proofs.SeatCases.{seat_cases}
 use Rattle.word_interlock.proofs.laws.order_is_known.Goals as goal
 
-pub returns : goal.returns
-returns g c = order_cases (g.R.Rules.book c.args.rules.now) (g.met.R.Rules.lawful c.args.rules.now) _
+pub returns-clause-order : goal.returns-clause-order
+returns-clause-order g c = order_cases (g.R.Rules.book c.args.rules.now) (g.met.R.Rules.lawful c.args.rules.now) _
+
+pub returns-clause-seats : goal.returns-clause-seats
+returns-clause-seats g c = seat_cases (g.R.Rules.book c.args.rules.now) _
