@@ -10,3 +10,4 @@ mod Telling
 mod Examples
 mod OrderCases
 mod SeatCases
+mod HistoryCases

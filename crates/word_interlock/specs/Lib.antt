@@ -19,4 +19,5 @@ pub mod Settling
 pub mod MomentExamples
 pub mod Receipts
 pub mod SeatExamples
+pub mod HistoryExamples
 pub mod OrderExamples
