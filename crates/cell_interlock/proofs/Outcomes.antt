@@ -1,5 +1,5 @@
 -- The examples of what a call may and may not leave of its pass.
-use Rattle.cell_interlock.proofs.Names.{◌≡◌, ℕ, ◌+◌, ◌<◌, ◌≤◌, true, List, [], ◌∷◌, ◌++◌, length, None, inr, refl, sym, ap, ◌∙◌, arith, same_from_push, Machine, Feed, Table, Press, Watch, Zone, Z3, Release, Stop, Done, Refused, Stopped, Event, ModelState, IsSound, IsLegal, Holds, changes_by_others, LawfulThroughout, needs, Waits, zone_at, PassView, InterlockView, IsSettled, HasSeenMore, HasChanges, StandsBefore, Passes, inl, subst, append-nil, cell_book, Moments, Lasts, IsInTime, HasPart}
+use Rattle.cell_interlock.proofs.Names.{◌≡◌, ℕ, ◌+◌, ◌<◌, ◌≤◌, true, List, [], ◌∷◌, ◌++◌, length, None, inr, refl, sym, ap, ◌∙◌, arith, same_from_push, Machine, Feed, Table, Press, Crane, Watch, Zone, Z3, Release, Stop, Done, Refused, Stopped, Event, ModelState, IsSound, IsLegal, Holds, changes_by_others, LawfulThroughout, needs, Waits, zone_at, PassView, InterlockView, IsSettled, HasSeenMore, HasChanges, StandsBefore, Passes, inl, subst, append-nil, cell_book, Moments, Lasts, IsInTime, HasPart}
 use Rattle.atomic_table.specs.Seated.{TableId}
 use Rattle.word_interlock.specs.History.{BeginsWith}
 use Rattle.word_interlock.specs.Moments.{events_of, own_moments}
@@ -13,7 +13,7 @@ use Rattle.cell_rules.proofs.lemmas.UnchangedStates.{changes-append}
 use Rattle.cell_rules.specs.Journal.{noted}
 use Rattle.cell_rules.specs.Seen.{event}
 use Rattle.cell_interlock.specs.Fresh.{IsFresh, AreFresh}
-use Rattle.cell_interlock.specs.OutcomeExamples.{opened, claim, claimed, released, by_feed, again_by_feed, by_table, by_robot, by_watch, barred, press_pass, watch_pass, before, begun, after_claim, lost_both, AskExamples, LookExamples, AttemptExamples, MoreExamples, ChangeExamples, AnswerExamples, OrderExamples, StampExamples, ReceiptExamples, RunExamples, PaidExamples, FreshExamples, LineExamples, ViewExamples, CaseExamples, FieldExamples, OutcomeExamples}
+use Rattle.cell_interlock.specs.OutcomeExamples.{opened, claim, claimed, released, by_feed, again_by_feed, by_table, by_robot, by_watch, barred, press_pass, watch_pass, before, begun, after_claim, lost_both, AskExamples, LookExamples, AttemptExamples, MoreExamples, ChangeExamples, AnswerExamples, OrderExamples, StampExamples, ReceiptExamples, RunExamples, PaidExamples, FreshExamples, LineExamples, ViewExamples, CaseExamples, FieldExamples, BookExamples, PartExamples, JournalExamples, OutcomeExamples}
 use Rattle.cell_interlock.proofs.Settled.{lawful_history, settled, replied}
 
 sound : IsSound opened
@@ -373,5 +373,43 @@ fields p = record {
   journal_of_watch = λ saw. ap (λ (h : List Event). noted opened h Watch) saw;
 }
 
+-- ---- the rules, what a pass has of a history, and a line's journal
+
+book : BookExamples
+book = record {
+  done = refl;
+  shown = refl;
+  refused = refl;
+  stamp = refl;
+  claimed_here = refl;
+  stamped = refl;
+  actors = refl;
+  one_machine = refl;
+  two_machines = refl;
+  event = refl;
+  actor = refl;
+  call = refl;
+  answer = refl;
+}
+
+parts : (t : TableId) → PartExamples t
+parts t = record {
+  part = record { opened = refl; seen = record { begins = (by_feed ∷ [], refl); own = refl } };
+  other_opening = λ f. let e : 0 ≡ 7 = ap (λ (s : ModelState). s.stamp) f.opened in omega (arith, e);
+  missing = λ f. let e : Feed ≡ Press = ap first_by f.seen.begins.1 in cc;
+  unseen_own_event = λ f. let e : 2 ≡ 1 = ap length f.seen.own in omega (arith, e);
+  of_another_opening = λ p s other end. let e : 7 ≡ 0 = ap (λ (s : ModelState). s.stamp) (sym other ∙ (end.passes Crane).opened) in omega (arith, e);
+  saw_an_unlawful_event = λ p s is end.
+      let part = subst (λ (v : PassView). HasPart opened end.history Press v) is (end.passes Press) in
+      unlawful part.seen.begins.0 (subst (LawfulThroughout opened) part.seen.begins.1 end.lawful);
+}
+
+journals : (t : TableId) → JournalExamples t
+journals t = record {
+  line = record { sound = sound; legal = (refl, tt); noted_all = refl };
+  no_entry = λ f. let e : 0 ≡ 1 = ap length f.noted_all in omega (arith, e);
+  unlawful = λ f. let e = f.legal.0 in cc;
+}
+
 pub outcomes_are_known : OutcomeExamples
-outcomes_are_known = record { ask = ask; look = look; attempt = attempt; more = grows; changes = changes; answers = answers; order = order; stamps = stamps; receipts = receipts; runs = runs; paid = paid; fresh = fresh; lines = lines; views = views; cases = cases; fields = fields }
+outcomes_are_known = record { ask = ask; look = look; attempt = attempt; more = grows; changes = changes; answers = answers; order = order; stamps = stamps; receipts = receipts; runs = runs; paid = paid; fresh = fresh; lines = lines; views = views; cases = cases; fields = fields; book = book; parts = parts; journals = journals }

@@ -1,6 +1,6 @@
 -- Examples of what a call of the press may leave of its pass, and of what it may not: each of these is wrong in one
 -- thing. The press claims z3, which is open inward and free in the opening. A call may lose two exchanges.
-use Rattle.std.specs.Prelude.{◌≡◌, ◌≢◌, ℕ, ◌↔◌, Bool, false, IsTrue, List, [], ◌∷◌, None, Ok, Err}
+use Rattle.std.specs.Prelude.{◌≡◌, ◌≢◌, ℕ, ◌↔◌, Bool, true, false, IsTrue, List, [], ◌∷◌, None, Ok, Err}
 use Rattle.atomic_table.specs.Seated.{TableId}
 use Rattle.cell_types.specs.declared.machine.Machine.TheVariants.{Feed, Table, Robot, Press, Deposit, Crane, Watch}
 use Rattle.cell_types.specs.declared.zone.Zone.TheVariants.{Z1, Z3, Z6}
@@ -28,11 +28,12 @@ use Rattle.cell_interlock.specs.Views.{PassView, InterlockView, TryView, receipt
 use Rattle.cell_interlock.specs.Fresh.{AreFresh}
 use Rattle.cell_interlock.specs.Seen.{AnswersAtItsPoint, LastingRight, HasSeenMore, HasChanges}
 use Rattle.cell_interlock.specs.Calls.{IfSettled, IfBusy, stamp_in, IsStampedAfter}
-use Rattle.cell_interlock.specs.Ends.{pass_in, journals_by}
+use Rattle.cell_interlock.specs.Book.{cell_book}
+use Rattle.cell_interlock.specs.Ends.{pass_in, journals_by, HasPart, IsEnd}
 use Rattle.cell_interlock.specs.Engine.{pass_from, pass_to, interlock_from, receipt_from, try_from, reply_from}
 use Rattle.cell_interlock.specs.Order.{StandsBefore}
 use Rattle.cell_interlock.specs.Tries.{Looked, Attempted, after_look, after_attempt}
-use Rattle.cell_interlock.specs.Lines.{Replied, PassAsks, LineView, LineAsks, LineSurveys}
+use Rattle.cell_interlock.specs.Lines.{IsLine, Replied, PassAsks, LineView, LineAsks, LineSurveys}
 use Rattle.cell_interlock.specs.declared.pass.Passes.{Passes}
 use Rattle.cell_interlock.specs.declared.tries.Look.TheVariants.{Settled as LookSettled, Pending}
 use Rattle.cell_interlock.specs.declared.tries.Tried.TheVariants.{Settled as TriedSettled, Lost, Busy as TriedBusy}
@@ -392,6 +393,37 @@ pub record FieldExamples (p : Passes) : Type 0 where
   pub journal_of_watch : p.watch.seen ≡ by_watch ∷ barred ∷ []
       → journals_by opened p Watch ≡ noted opened (by_watch ∷ barred ∷ []) Watch
 
+-- ---- the rules, what a pass has of a history, and a line's journal
+
+pub record BookExamples : Type 0 where
+  pub done : cell_book.is_done Done ≡ true
+  pub shown : cell_book.is_done (Shown None false OpenIn) ≡ false
+  pub refused : cell_book.is_done (Refused Stopped) ≡ false
+  pub stamp : cell_book.stamp (start_state empty 7) ≡ 7
+  pub claimed_here : cell_book.reply opened Press claim ≡ Done
+  pub stamped : cell_book.stamp (cell_book.next opened Press claim) ≡ 1
+  pub actors : cell_book.actors ≡ Feed ∷ Table ∷ Robot ∷ Press ∷ Deposit ∷ Crane ∷ Watch ∷ []
+  pub one_machine : cell_book.same Robot Robot ≡ true
+  pub two_machines : cell_book.same Robot Crane ≡ false
+  pub event : cell_book.event Press claim Done ≡ claimed
+  pub actor : cell_book.actor_of by_robot ≡ Robot
+  pub call : cell_book.call_of released ≡ Release Z3
+  pub answer : cell_book.answer_of barred ≡ Refused Stopped
+
+pub record PartExamples (t : TableId) : Type 0 where
+  pub part : HasPart opened (claimed ∷ by_feed ∷ []) Press (after_claim t)
+  pub other_opening : ¬ HasPart (start_state empty 7) (claimed ∷ by_feed ∷ []) Press (after_claim t)
+  pub missing : ¬ HasPart opened (by_feed ∷ []) Press (after_claim t)
+  pub unseen_own_event : ¬ HasPart opened (claimed ∷ released ∷ []) Press (after_claim t)
+  pub of_another_opening : (p : Passes) (s : ModelState) → p.crane.opening ≡ start_state empty 7 → ¬ IsEnd opened p s
+  pub saw_an_unlawful_event : (p : Passes) (s : ModelState)
+      → p.press ≡ press_pass t (again_by_feed ∷ []) [] 4 5 → ¬ IsEnd opened p s
+
+pub record JournalExamples (t : TableId) : Type 0 where
+  pub line : IsLine (after_claim t) (noted opened (claimed ∷ []) Press)
+  pub no_entry : ¬ IsLine (after_claim t) []
+  pub unlawful : ¬ IsLine (press_pass t (again_by_feed ∷ []) [] 3 5) []
+
 pub record OutcomeExamples : Type 0 where
   pub ask : (t : TableId) → AskExamples t
   pub look : (t : TableId) → LookExamples t
@@ -409,3 +441,6 @@ pub record OutcomeExamples : Type 0 where
   pub views : (t : TableId) → ViewExamples t
   pub cases : CaseExamples
   pub fields : (p : Passes) → FieldExamples p
+  pub book : BookExamples
+  pub parts : (t : TableId) → PartExamples t
+  pub journals : (t : TableId) → JournalExamples t
