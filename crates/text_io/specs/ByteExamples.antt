@@ -14,6 +14,10 @@ Has written = WrotePrefix (Some (7 ∷ [])) written (1 ∷ 2 ∷ [])
 pub record BytesAreMet : Type 0 where
   pub none_taken : Leaves (Some (1 ∷ 2 ∷ 3 ∷ [])) 2
   pub most_taken : Leaves (Some (3 ∷ [])) 2
+  pub fewer_taken : Leaves (Some (2 ∷ 3 ∷ [])) 5
+  pub all_taken : Leaves (Some []) 3
+  pub none_to_take : TakesAtMost (Some []) (Some []) 0
+  pub one_by_none : ¬ Leaves (Some (2 ∷ 3 ∷ [])) 0
   pub one_more : ¬ Leaves (Some []) 2
   pub not_the_first : ¬ Leaves (Some (1 ∷ [])) 2
   pub none_known : ¬ Leaves None 2
@@ -24,3 +28,6 @@ pub record BytesAreMet : Type 0 where
   pub old_lost : ¬ Has (Some (1 ∷ []))
   pub more_written : ¬ Has (Some (7 ∷ 1 ∷ 2 ∷ 3 ∷ []))
   pub nothing_known : ¬ Has None
+  pub first_of_all : WrotePrefix (Some []) (Some (1 ∷ 2 ∷ [])) (1 ∷ 2 ∷ 3 ∷ [])
+  pub no_text : WrotePrefix (Some (7 ∷ 8 ∷ [])) (Some (7 ∷ 8 ∷ [])) []
+  pub written_before : ¬ WrotePrefix (Some (7 ∷ [])) (Some (1 ∷ 7 ∷ [])) (1 ∷ 2 ∷ [])
