@@ -34,6 +34,8 @@ runs-met = record {
   no_status_of_print = λ k. let at = k.status in omega (arith, at);
   not_printed = λ k. let is = k.well refl in cc;
   printed_other = λ k. not_second (k.failed refl).0 (let is = (k.failed refl).1 in cc);
+  printed_nothing = record { status = omega arith; well = λ is. cc; failed = λ is. (0, refl) };
+  printed_without_old = λ k. let is = k.well refl in cc;
 }
 
 pub runs-mean : RunsMean
@@ -50,9 +52,18 @@ shell-met = record {
   failed = refl;
   refused = refl;
   memory = refl;
+  two_words = refl;
+  no_word = refl;
   version_line = refl;
+  version_line_of_other = refl;
   texts = λ first second. refl;
+  three_texts = λ first second third. refl;
+  no_text = refl;
   version = refl;
+  version_of_other = refl;
+  version_by_letter = λ k. cc;
+  version_and_more = λ k. cc;
+  no_words = λ k. cc;
   name_alone = λ k. cc;
   other_word = λ k. cc;
   one_word_more = λ k. cc;
@@ -69,4 +80,19 @@ shell-met = record {
   version_of_word = refl;
   word = refl;
   nothing = refl;
+  help_by_letter_before_more = refl;
+  help_of_word_by_letter = refl;
+  help_without_dashes = refl;
+  help_by_one_dash = refl;
+  help_by_great_letter = refl;
+  help_by_two_dashes_and_letter = refl;
+  longer_word_than_help = refl;
+  help_as_name = refl;
+  help_as_name_of_word = refl;
+  help_of_third_word = refl;
+  help_without_name = refl;
+  no_word_of_three = refl;
+  version_of_three = refl;
+  help_without_own_words = refl;
+  help_of_no_own_word = refl;
 }

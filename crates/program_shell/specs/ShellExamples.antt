@@ -20,6 +20,10 @@ use Rattle.program_shell.specs.declared.version.TheConstants.{VERSION}
 abbrev pub asked_after_name : List (List ℕ) → Asked
 asked_after_name words = asked_of (codes "sim" ∷ codes "run" ∷ []) (codes "cell" ∷ words)
 
+-- what words ask for of a program that has the words `sim`, `run` and `replay`
+abbrev pub asked_of_three : List (List ℕ) → Asked
+asked_of_three words = asked_of (codes "sim" ∷ codes "run" ∷ codes "replay" ∷ []) words
+
 -- Two bytes of three were taken from the input. A run that goes well writes 1 and 2, one that fails writes 3.
 abbrev pub Ends : ℕ → ℕ → List ℕ → Type 0
 Ends most exit written =
@@ -42,6 +46,8 @@ pub record RunsAreMet : Type 0 where
   pub no_status_of_print : ¬ PrintsBoth 2 (7 ∷ 1 ∷ 2 ∷ [])
   pub not_printed : ¬ PrintsBoth 0 (7 ∷ 1 ∷ [])
   pub printed_other : ¬ PrintsBoth 1 (7 ∷ 2 ∷ [])
+  pub printed_nothing : PrintsBoth 1 (7 ∷ [])
+  pub printed_without_old : ¬ PrintsBoth 0 (1 ∷ 2 ∷ [])
 
 -- whatever a text is, and whatever a program says of its runs
 pub record RunsMean : Type 0 where
@@ -64,9 +70,19 @@ pub record ShellIsMet : Type 0 where
   pub failed : exit_status Failed ≡ 1
   pub refused : exit_status Refused ≡ 2
   pub memory : fault_line (codes "memory") ≡ codes "fault memory\n"
+  pub two_words : fault_line (codes "badrow 17") ≡ codes "fault badrow 17\n"
+  pub no_word : fault_line [] ≡ codes "fault \n"
+  pub version_line_of_other : version_line (codes "history") ≡ codes "history " ++ (VERSION.now ++ codes "\n")
   pub version_line : version_line (codes "film") ≡ codes "film " ++ (VERSION.now ++ codes "\n")
   pub texts : (first second : Bor (List ℕ)) → texts_of (first ∷ second ∷ []) ≡ first.now ∷ second.now ∷ []
+  pub three_texts : (first second third : Bor (List ℕ))
+      → texts_of (first ∷ second ∷ third ∷ []) ≡ first.now ∷ second.now ∷ third.now ∷ []
+  pub no_text : texts_of [] ≡ []
   pub version : AskForVersion (codes "cell" ∷ codes "--version" ∷ [])
+  pub version_of_other : AskForVersion ([] ∷ codes "--version" ∷ [])
+  pub version_by_letter : ¬ AskForVersion (codes "cell" ∷ codes "-V" ∷ [])
+  pub version_and_more : ¬ AskForVersion (codes "cell" ∷ codes "--version" ∷ codes "sim" ∷ [])
+  pub no_words : ¬ AskForVersion []
   pub name_alone : ¬ AskForVersion (codes "--version" ∷ [])
   pub other_word : ¬ AskForVersion (codes "cell" ∷ codes "version" ∷ [])
   pub one_word_more : ¬ AskForVersion (codes "cell" ∷ codes "sim" ∷ codes "--version" ∷ [])
@@ -83,3 +99,18 @@ pub record ShellIsMet : Type 0 where
   pub version_of_word : asked_after_name (codes "sim" ∷ codes "--version" ∷ []) ≡ Other
   pub word : asked_after_name (codes "sim" ∷ []) ≡ Other
   pub nothing : asked_after_name [] ≡ Other
+  pub help_by_letter_before_more : asked_after_name (codes "-h" ∷ codes "go" ∷ []) ≡ Help
+  pub help_of_word_by_letter : asked_after_name (codes "sim" ∷ codes "-h" ∷ codes "go" ∷ codes "on" ∷ []) ≡ Help
+  pub help_without_dashes : asked_after_name (codes "help" ∷ []) ≡ Other
+  pub help_by_one_dash : asked_after_name (codes "-help" ∷ []) ≡ Other
+  pub help_by_great_letter : asked_after_name (codes "-H" ∷ []) ≡ Other
+  pub help_by_two_dashes_and_letter : asked_after_name (codes "--h" ∷ codes "go" ∷ []) ≡ Other
+  pub longer_word_than_help : asked_after_name (codes "--helps" ∷ []) ≡ Other
+  pub help_as_name : asked_of_three (codes "--help" ∷ []) ≡ Other
+  pub help_as_name_of_word : asked_of_three (codes "-h" ∷ codes "sim" ∷ []) ≡ Other
+  pub help_of_third_word : asked_of_three (codes "x" ∷ codes "replay" ∷ codes "--help" ∷ []) ≡ Help
+  pub help_without_name : asked_of_three (codes "sim" ∷ codes "run" ∷ codes "-h" ∷ []) ≡ Help
+  pub no_word_of_three : asked_of_three [] ≡ Other
+  pub version_of_three : asked_of_three (codes "replay" ∷ codes "--version" ∷ []) ≡ Version
+  pub help_without_own_words : asked_of [] (codes "x" ∷ codes "--help" ∷ codes "y" ∷ []) ≡ Help
+  pub help_of_no_own_word : asked_of [] (codes "x" ∷ codes "sim" ∷ codes "-h" ∷ []) ≡ Other
