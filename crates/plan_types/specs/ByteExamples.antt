@@ -1,6 +1,7 @@
 -- The bytes of the press and of the lift, written out, of a zone that plates go through one way only, and of tables in
 -- which all numbers are different.
-use Rattle.std.specs.Prelude.{◌≡◌, ℕ, false, [], ◌∷◌, replicate, None}
+use Rattle.std.specs.Prelude.{◌≡◌, ℕ, true, false, [], ◌∷◌, replicate, Some, None}
+use Rattle.plan_types.specs.declared.posture.Posture.TheVariants.{OpenIn}
 use Rattle.plan_types.specs.declared.table.PlanPose.{PlanPose}
 use Rattle.plan_types.specs.Table.{plan_table}
 use Rattle.plan_types.specs.Examples.{way, zone, pose, two_at, press_table, lift_table}
@@ -58,3 +59,14 @@ pub record BytesAreRight : Type 0 where
   -- a second pose with a row for nine zones, or for eleven
   pub short_row : ¬ HasWholeRows (plan_table 1 [] (pose 0 false None None ∷ pose_of_width 9 ∷ []) [])
   pub long_row : ¬ HasWholeRows (plan_table 1 [] (pose 0 false None None ∷ pose_of_width 11 ∷ []) [])
+  -- a first pose, or the one in the middle, with a row for none
+  pub first_empty : ¬ HasWholeRows (plan_table 1 [] (pose_of_width 0 ∷ pose 0 false None None ∷ []) [])
+  pub middle_empty
+      : ¬ HasWholeRows (plan_table 1 [] (pose 0 false None None ∷ pose_of_width 0 ∷ pose 0 false None None ∷ []) [])
+  pub unlike_rows : HasWholeRows unlike_table
+  pub no_poses : HasWholeRows (plan_table 3 [] [] (2 ∷ 1 ∷ []))
+  -- a table without rows has no bytes
+  pub nothing : bytes_of (plan_table 0 [] [] []) ≡ 0 ∷ 0 ∷ 0 ∷ 0 ∷ []
+  pub places_alone : bytes_of (plan_table 3 [] [] (2 ∷ 1 ∷ [])) ≡ 3 ∷ 0 ∷ 0 ∷ 2 ∷ 2 ∷ 1 ∷ []
+  pub pose_alone : bytes_of (plan_table 5 [] (pose 4 true None (Some OpenIn) ∷ []) [])
+      ≡ 5 ∷ 0 ∷ 1 ∷ 0 ∷ 4 ∷ 1 ∷ 0 ∷ 3 ∷ 0 ∷ 0 ∷ 0 ∷ 0 ∷ 0 ∷ 0 ∷ 0 ∷ 0 ∷ []

@@ -5,6 +5,7 @@ use Rattle.plan_types.specs.declared.posture.Posture.TheVariants.{Closed, Moving
 use Rattle.plan_types.specs.declared.table.Way.{Way}
 use Rattle.plan_types.specs.declared.table.PlanZone.{PlanZone}
 use Rattle.plan_types.specs.declared.table.PlanPose.{PlanPose}
+use Rattle.plan_types.specs.declared.fault.PlanFault.{PlanFault}
 use Rattle.plan_types.specs.declared.fault.PlanFault.TheVariants.{TooManyMachines, TooManyZones, TooManyPoses}
 use Rattle.plan_types.specs.declared.fault.PlanFault.TheVariants.{TooManyPlaces, TooWide, NoSuchKeeper, NoSuchHost}
 use Rattle.plan_types.specs.declared.fault.PlanFault.TheVariants.{NoSuchGuest, HostIsGuest, InwardAstray}
@@ -54,10 +55,31 @@ lift_poses =
 abbrev pub lift_table : PlanTable
 lift_table = plan_table 3 lift_zones lift_poses (0 ∷ 1 ∷ 2 ∷ [])
 
--- both are plans
+-- a pose that gives one zone a posture and leaves the others
+abbrev pub pose_at : ℕ → ℕ → Posture → PlanPose
+pose_at m z q = record {
+  machine = m;
+  after_moving = false;
+  gives = replicate z None ++ Some q ∷ replicate (9 - z) None;
+}
+
+-- 15 machines, 5 zones, 64 poses, 16 places: place 15 is machine 0's, each other one its machine's own, by its number
+abbrev pub large_table : PlanTable
+large_table =
+    plan_table 15
+    (zone 14 13 (way 13 14) (way 14 13) ∷ zone 13 12 (way 12 13) None ∷ zone 2 14 None (way 2 14)
+    ∷ zone 0 1 (way 1 15) (way 15 1) ∷ zone 1 0 (way 15 1) (way 1 0) ∷ [])
+    (pose_at 13 1 OpenIn ∷ pose_at 2 2 Closed ∷ replicate 61 (pose 14 true (Some Moving) None)
+    ++ pose_at 1 4 OpenOut ∷ [])
+    (0 ∷ 1 ∷ 2 ∷ 3 ∷ 4 ∷ 5 ∷ 6 ∷ 7 ∷ 8 ∷ 9 ∷ 10 ∷ 11 ∷ 12 ∷ 13 ∷ 14 ∷ 0 ∷ [])
+
+-- both are plans, and so are a large one, one machine alone, and nothing at all
 pub record ExamplesArePlans : Type 0 where
   pub press : IsPlan press_table
   pub lift : IsPlan lift_table
+  pub large : IsPlan large_table
+  pub one_machine : IsPlan (plan_table 1 [] [] [])
+  pub nothing : IsPlan (plan_table 0 [] [] [])
 
 abbrev pub two_at : PlanZone → List PlanPose → PlanTable
 two_at row poses = plan_table 2 (row ∷ []) poses (0 ∷ 1 ∷ [])
@@ -66,14 +88,7 @@ two_at row poses = plan_table 2 (row ∷ []) poses (0 ∷ 1 ∷ [])
 abbrev pub three_at : PlanZone → PlanTable
 three_at row = plan_table 3 (row ∷ []) [] (0 ∷ 1 ∷ 2 ∷ [])
 
--- a pose that gives one zone a posture and leaves the others, and a plan with that pose alone
-abbrev pub pose_at : ℕ → ℕ → Posture → PlanPose
-pose_at m z q = record {
-  machine = m;
-  after_moving = false;
-  gives = replicate z None ++ Some q ∷ replicate (9 - z) None;
-}
-
+-- tables with that pose alone
 abbrev pub gives_at : ℕ → Posture → PlanTable
 gives_at z q = plan_table 1 [] (pose_at 0 z q ∷ []) []
 
@@ -192,3 +207,39 @@ pub record FaultsInOrder : Type 0 where
   pub ways : plan_fault (two_at (zone 1 0 (way 99 99) (way 99 99)) (strange_pose ∷ [])) ≡ Some (InwardAstray 0)
   pub outward : plan_fault (two_at (zone 1 0 None (way 99 99)) (strange_pose ∷ [])) ≡ Some (OutwardAstray 0)
   pub pose : plan_fault (wrong 15 0 64 0) ≡ Some (NoSuchMachine 0)
+
+-- tables are no plan, and this is their first fault
+abbrev pub IsNoPlan : PlanTable → PlanFault → Type 0
+IsNoPlan t fault = (plan_fault t ≡ Some fault) × ¬ IsPlan t
+
+-- two zones, the first without a fault
+abbrev pub zone_after : PlanZone → PlanTable
+zone_after row = plan_table 3 (zone 0 1 (way 1 0) (way 0 1) ∷ row ∷ []) [] (0 ∷ 1 ∷ 2 ∷ [])
+
+-- one zone, and two poses, the first without a fault
+abbrev pub pose_after : PlanPose → PlanTable
+pose_after row = plan_table 3 (zone 2 1 None None ∷ []) (pose 2 true (Some Closed) None ∷ row ∷ []) []
+
+-- each rule broken alone: by a count where the tables have nothing else, or by the last row of a table
+pub record NoPlans : Type 0 where
+  pub machines : IsNoPlan (plan_table 16 [] [] []) TooManyMachines
+  pub many_machines : IsNoPlan (plan_table 255 [] [] []) TooManyMachines
+  pub zones : IsNoPlan (counted 11 0) TooManyZones
+  pub poses : IsNoPlan (plan_table 1 [] (replicate 65 (pose 0 false None None)) []) TooManyPoses
+  pub places : IsNoPlan (counted 0 17) TooManyPlaces
+  pub zones_wide : IsNoPlan (counted 10 0) (TooWide 7)
+  pub wide : IsNoPlan (counted 8 4) (TooWide 1)
+  pub keeper : IsNoPlan (plan_table 3 [] [] (2 ∷ 3 ∷ [])) (NoSuchKeeper 1)
+  pub keeper_of_none : IsNoPlan (plan_table 0 [] [] (0 ∷ [])) (NoSuchKeeper 0)
+  pub host : IsNoPlan (zone_after (zone 3 2 None None)) (NoSuchHost 1)
+  pub guest : IsNoPlan (zone_after (zone 2 3 None None)) (NoSuchGuest 1)
+  pub same : IsNoPlan (zone_after (zone 2 2 None None)) (HostIsGuest 1)
+  pub inward_from : IsNoPlan (zone_after (zone 2 1 (way 0 2) (way 2 1))) (InwardAstray 1)
+  pub inward_to : IsNoPlan (zone_after (zone 2 1 (way 1 0) (way 2 1))) (InwardAstray 1)
+  pub outward_from : IsNoPlan (zone_after (zone 2 1 (way 1 2) (way 0 1))) (OutwardAstray 1)
+  pub outward_to : IsNoPlan (zone_after (zone 2 1 (way 1 2) (way 2 0))) (OutwardAstray 1)
+  pub machine : IsNoPlan (pose_after (pose 3 true None None)) (NoSuchMachine 1)
+  pub of_guest : IsNoPlan (pose_after (pose 1 true (Some Closed) None)) (ForeignZone 1 0)
+  pub of_stranger : IsNoPlan (pose_after (pose 0 true (Some OpenIn) None)) (ForeignZone 1 0)
+  pub not_there : IsNoPlan (pose_after (pose 2 true None (Some OpenOut))) (ForeignZone 1 1)
+  pub far : IsNoPlan (pose_after (pose_at 2 8 Closed)) (ForeignZone 1 8)

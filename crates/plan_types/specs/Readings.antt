@@ -12,7 +12,7 @@ use Rattle.plan_types.specs.Table.{PlanTable, plan_table, watch, is_party, has_p
 use Rattle.plan_types.specs.Table.{zone_count, pose_count, place_count, word_width, zone_row, pose_row, keeper_of}
 use Rattle.plan_types.specs.Table.{host_of, guest_of, machine_of, posture_of, is_hosted, is_place_of}
 use Rattle.plan_types.specs.Plan.{leads}
-use Rattle.plan_types.specs.Examples.{way, zone, pose, press_table, lift_table, two_at, gives_at}
+use Rattle.plan_types.specs.Examples.{way, zone, pose, press_table, lift_table, large_table, two_at, gives_at, counted}
 
 -- one pose, which gives two zones a posture
 abbrev pub gives_both : Posture → Posture → PlanTable
@@ -104,6 +104,26 @@ pub record RowsTell : Type 0 where
   pub first_inward : transfer_of unlike_table 0 OpenIn ≡ transfer 2 1 3 4
   pub first_outward : transfer_of unlike_table 0 OpenOut ≡ transfer 1 2 5 6
   pub watch : watch ≡ 15
+  -- whole rows
+  pub first_zone : zone_row unlike_table 0 ≡ zone 1 2 (way 3 4) (way 5 6)
+  pub second_zone : zone_row unlike_table 1 ≡ zone 7 8 (way 10 11) (way 12 13)
+  pub first_pose : pose_row unlike_table 0 ≡ pose 14 false (Some Closed) (Some Moving)
+  pub second_pose : pose_row unlike_table 1 ≡ pose 16 true (Some OpenOut) (Some OpenIn)
+  pub last_pose : pose_row unlike_table 2 ≡ wide_pose
+  pub hosts : map (host_of unlike_table) (0 ∷ 1 ∷ 2 ∷ []) ≡ 1 ∷ 7 ∷ 0 ∷ []
+  pub guests : map (guest_of unlike_table) (0 ∷ 1 ∷ 2 ∷ []) ≡ 2 ∷ 8 ∷ 0 ∷ []
+  pub keepers : map (keeper_of unlike_table) (0 ∷ 1 ∷ 2 ∷ 3 ∷ 4 ∷ []) ≡ 18 ∷ 19 ∷ 20 ∷ 21 ∷ 0 ∷ []
+  pub machines_of : map (machine_of unlike_table) (0 ∷ 1 ∷ 2 ∷ 3 ∷ []) ≡ 14 ∷ 16 ∷ 17 ∷ 0 ∷ []
+  pub postures_of : map (posture_of unlike_table 2) (0 ∷ 1 ∷ 2 ∷ 3 ∷ 4 ∷ 8 ∷ 9 ∷ [])
+      ≡ Some Closed ∷ Some Moving ∷ Some OpenIn ∷ Some OpenOut ∷ None ∷ None ∷ Some OpenIn ∷ []
+  -- the width is that of the zones and the places: with none of them, and with most
+  pub narrow : word_width (plan_table 9 [] (wide_pose ∷ []) []) ≡ 21
+  pub of_places : word_width (counted 0 16) ≡ 37
+  pub of_zones : word_width (counted 8 0) ≡ 61
+  pub widest : word_width (counted 10 16) ≡ 87
+  pub most_zones : zone_count (counted 10 16) ≡ 10
+  pub most_places : place_count (counted 10 16) ≡ 16
+  pub most_poses : pose_count large_table ≡ 64
   -- past the end of a table
   pub no_zone : zone_row unlike_table 2 ≡ zone 0 0 None None
   pub no_pose : pose_row unlike_table 3 ≡ pose 0 false None None
@@ -130,6 +150,12 @@ pub record RightsTell : Type 0 where
   pub leads_back : leads unlike_table 21 19 (way 1 3) ≡ false
   pub leads_past_the_end : leads unlike_table 19 0 (way 1 4) ≡ false
   pub leads_nowhere : leads unlike_table 19 21 None ≡ true
+  pub leads_from_another : leads unlike_table 18 21 (way 1 3) ≡ false
+  pub leads_to_another : leads unlike_table 19 20 (way 1 3) ≡ false
+  pub leads_from_first : leads unlike_table 18 19 (way 0 1) ≡ true
+  pub last_pose : has_pose unlike_table 17 2 ≡ true
+  pub hosted_first : is_hosted unlike_table 0 1 ≡ true
+  pub kept_first : is_place_of unlike_table 0 18 ≡ true
 
 abbrev pub postures : List Posture
 postures = Closed ∷ Moving ∷ OpenIn ∷ OpenOut ∷ []
@@ -154,6 +180,12 @@ pub record NumbersBelow : Type 0 where
   pub not_itself : any_below (nat_eq 3) 3 ≡ false
   pub sum : sum_below (λ n. n * n + 1) 4 ≡ 18
   pub no_sum : sum_below (λ n. n * n + 1) 0 ≡ 0
+  pub sum_of_one : sum_below (λ n. n * n + 5) 1 ≡ 5
+  pub zero_first : first_below (λ n. Some n) 3 ≡ Some 0
+  pub none_below_none : first_below (λ n. Some n) 0 ≡ None
+  pub first_of_many : first_below (λ n. then_some (nat_lt 40 n) n) 64 ≡ Some 41
+  pub last_of_many : any_below (nat_eq 63) 64 ≡ true
+  pub any_of_none : any_below (λ n. true) 0 ≡ false
 
 pub record TablesTell : Type 0 where
   pub rows : RowsTell

@@ -1,6 +1,6 @@
 //! Two plants as examples, what `Plan::new` says of faulty tables, and what tables tell.
 ghost use Rattle.std.specs.Prelude.{◌≡◌, IfOk};
-ghost use Rattle.plan_types.specs.Examples.{ExamplesArePlans, FaultsInOrder, FaultsTellRows, FirstFaults, LargestPlans};
+ghost use Rattle.plan_types.specs.Examples.{ExamplesArePlans, FaultsInOrder, FaultsTellRows, FirstFaults, LargestPlans, NoPlans};
 ghost use Rattle.plan_types.specs.Faults.{PlansHaveNoFault};
 ghost use Rattle.plan_types.specs.Readings.{TablesTell};
 ghost use Rattle.plan_types.specs.Examples as examples;
@@ -88,9 +88,10 @@ pub fn lift(alloc: Global) -> Result<Tables, AllocError>
     })
 }
 
-/// Both examples are plans.
+/// Both examples are plans, and so are a large one and one without any row. Tables that break one rule are none.
 pub fn examples_are_plans()
-    ensures { ExamplesArePlans }
+    ensures plans { ExamplesArePlans }
+    ensures no_plans { NoPlans }
 {}
 
 /// Faulty tables, written out, and the first fault of each: also where others follow it.

@@ -6,6 +6,7 @@ use Rattle.plan_types.specs.declared.table.PlanPose.{PlanPose}
 use Rattle.plan_types.specs.Bytes.{IsForTenZones}
 use Rattle.plan_types.specs.Examples.{pose, press_poses, lift_poses}
 use Rattle.plan_types.specs.ByteExamples.{pose_of_width}
+use Rattle.plan_types.specs.Readings.{unlike_table}
 use Rattle.plan_types.proofs.byte_laws.bytes_are_right.Goals as goal
 
 abbrev are_whole : List PlanPose → Bool
@@ -33,4 +34,11 @@ returns c = record {
   unlike = refl;
   short_row = λ law. let e : 9 ≡ 10 = second_whole (pose 0 false None None) (pose_of_width 9) law in absurd (omega arith);
   long_row = λ law. let e : 11 ≡ 10 = second_whole (pose 0 false None None) (pose_of_width 11) law in absurd (omega arith);
+  first_empty = λ law. let e : 0 ≡ 10 = All-head IsForTenZones (pose_of_width 0) (pose 0 false None None ∷ []) law in absurd (omega arith);
+  middle_empty = λ law. let e : 0 ≡ 10 = All-head IsForTenZones (pose_of_width 0) (pose 0 false None None ∷ []) (All-tail IsForTenZones (pose 0 false None None) (pose_of_width 0 ∷ pose 0 false None None ∷ []) law) in absurd (omega arith);
+  unlike_rows = whole_rows unlike_table.poses refl;
+  no_poses = All-nil IsForTenZones;
+  nothing = refl;
+  places_alone = refl;
+  pose_alone = refl;
 }
