@@ -15,3 +15,6 @@ mod Refusing
 mod Given
 mod Breaking
 mod BreakingLift
+mod OfLift
+mod HoldingRows
+mod PartRows

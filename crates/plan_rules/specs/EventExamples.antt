@@ -5,7 +5,7 @@ use Rattle.plan_types.specs.declared.posture.Posture.TheVariants.{Closed, Moving
 use Rattle.plan_types.specs.declared.call.Call.{Call}
 use Rattle.plan_types.specs.declared.call.Call.TheVariants.{Claim, Give, Yield, Take, Release, SetPose, Inquire, Stop}
 use Rattle.plan_types.specs.declared.call.Call.TheVariants.{Resume}
-use Rattle.plan_types.specs.declared.answer.Refusal.TheVariants.{Shut, NotParty, Stopped}
+use Rattle.plan_types.specs.declared.answer.Refusal.TheVariants.{Shut, Held, NotParty, Stopped}
 use Rattle.plan_types.specs.declared.answer.Answer.TheVariants.{Shown}
 use Rattle.plan_types.specs.Table.{watch}
 use Rattle.plan_types.specs.Examples.{press_table, lift_table}
@@ -37,6 +37,8 @@ pub record ZonesGained : Type 0 where
   pub release : gainers 2 (Release 1) 1 ≡ []
   pub pose : gainers 0 (SetPose 1) 1 ≡ []
   pub inquire : gainers 2 (Inquire 1) 1 ≡ []
+  pub stop : gainers 2 Stop 1 ≡ []
+  pub resume : gainers 2 Resume 1 ≡ []
 
 pub record ZonesLost : Type 0 where
   pub claim : losers 2 (Claim 1) 1 ≡ []
@@ -49,6 +51,8 @@ pub record ZonesLost : Type 0 where
   pub take : losers 2 (Take 1) 1 ≡ []
   pub pose : losers 0 (SetPose 1) 1 ≡ []
   pub inquire : losers 2 (Inquire 1) 1 ≡ []
+  pub stop : losers 2 Stop 1 ≡ []
+  pub resume : losers 2 Resume 1 ≡ []
 
 -- only a call that is done gains, loses, stops or resumes
 pub record DoneAlone : Type 0 where
@@ -85,6 +89,8 @@ pub record NotLegal : Type 0 where
   pub second : ¬ IsLegal press_table free (did 1 (Claim 0) ∷ did 0 (Claim 0) ∷ [])
   pub wrong_posture : ¬ IsLegal press_table free (refused 0 (Claim 0) (Shut Moving) ∷ [])
   pub other_refusal : ¬ IsLegal press_table free (refused 0 (Claim 0) NotParty ∷ [])
+  pub third : ¬ IsLegal press_table free (did 1 (Claim 0) ∷ refused 0 (Claim 0) (Held 1) ∷ did 0 (Claim 0) ∷ [])
+  pub not_shown : ¬ IsLegal press_table free (event 0 (Inquire 0) (Shown None true Closed) ∷ [])
   -- by its events a machine has lost the zone, though the release is refused in the state; and the plant goes on
   pub released : ¬ Holds press_table moving (did 1 (Release 0) ∷ []) 1 0
   pub resumed : ¬ IsStopped (with_stop free) (did 1 Resume ∷ [])

@@ -13,3 +13,6 @@ pub mod StateExamples
 pub mod EventExamples
 pub mod BrokenLift
 pub mod BrokenLaws
+pub mod LiftLaws
+pub mod HoldingExamples
+pub mod PartExamples

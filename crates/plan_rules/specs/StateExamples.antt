@@ -1,5 +1,5 @@
 -- Literal states: what they say, what each call leaves of them, which aren't sound, and which are no start.
-use Rattle.std.specs.Prelude.{◌≡◌, ℕ, Bool, true, false, ◌∷◌, replicate, Some, None}
+use Rattle.std.specs.Prelude.{◌≡◌, ℕ, Bool, true, false, [], ◌∷◌, ◌++◌, replicate, Some, None}
 use Rattle.plan_types.specs.declared.posture.Posture.TheVariants.{Closed, Moving, OpenIn, OpenOut}
 use Rattle.plan_types.specs.declared.call.Call.{Call}
 use Rattle.plan_types.specs.declared.call.Call.TheVariants.{Claim, Give, Yield, Take, Release, SetPose, Inquire, Stop}
@@ -128,6 +128,11 @@ pub record UnsoundStates : Type 0 where
   pub plate_onto_plate : Unsound (interior (Some 1) OpenIn true) true
   pub second_zone : ¬ IsSound lift_table (lift_state lower (interior (Some 1) OpenOut false) false false 7)
   pub two_plates_come : ¬ IsSound lift_table (record both_come { full = replicate 16 false })
+  -- the upper floor has a plate, and one is on its way there; the upper zone breaks each other rule
+  pub plate_onto_last : ¬ IsSound lift_table (lift_state lower upper false true 7)
+  pub second_plate : ¬ IsSound lift_table (lift_state lower (interior (Some 0) OpenOut true) false false 7)
+  pub second_guest : ¬ IsSound lift_table (lift_state lower (interior (Some 2) Closed false) false false 7)
+  pub second_moves : ¬ IsSound lift_table (lift_state lower (interior None Moving false) false false 7)
 
 -- a plate on its way to the press; the full press moves, while the plant is stopped at the last stamp or isn't
 pub record SoundStates : Type 0 where
@@ -140,6 +145,14 @@ pub record NoStarts : Type 0 where
   pub stopped : ¬ IsStart (with_stop free)
   pub moves : ¬ IsStart moving
   pub fifteen_places : ¬ IsStart (start_state (replicate 15 true) 7)
+  pub seventeen_places : ¬ IsStart (start_state (replicate 17 false) 7)
+  pub last_zone_open : ¬ IsStart (record free { zones = replicate 9 free_zone ++ interior None OpenIn false ∷ [] })
+  pub owned : ¬ IsStart (press_state (interior (Some 1) Closed false) true false)
+  pub plate : ¬ IsStart (press_state (interior None Closed true) true false)
+  pub eleven_zones : ¬ IsStart (record free { zones = replicate 11 free_zone })
+  -- any places may be full, at any stamp
+  pub some_places : IsStart (start_state (false ∷ true ∷ replicate 13 false ++ true ∷ []) 7)
+  pub free : IsStart free
 
 pub record StatesAreMet : Type 0 where
   pub say : StatesSay

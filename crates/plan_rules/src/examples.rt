@@ -4,6 +4,8 @@ ghost use Rattle.plan_rules.specs.OrderExamples.{OrdersAreMet};
 ghost use Rattle.plan_rules.specs.CauseExamples.{CausesAreMet};
 ghost use Rattle.plan_rules.specs.StateExamples.{StatesAreMet};
 ghost use Rattle.plan_rules.specs.EventExamples.{EventsAreMet};
+ghost use Rattle.plan_rules.specs.HoldingExamples.{HoldingIsMet};
+ghost use Rattle.plan_rules.specs.PartExamples.{PartsAreMet};
 
 /// Histories of a press, of a lift, of two doors, of two presses and of two gates, written out, are legal: each refusal
 /// stands in one of them, and each call is done in one. The pose that moves one door leaves the other alone, and wants
@@ -25,13 +27,17 @@ pub fn causes_are_met()
 {}
 
 /// What literal states say of a zone, of a place, and of plates; the whole state that each call leaves; states that
-/// are sound, or aren't, by each rule; and states that are no start.
+/// are sound, or aren't, by each rule; and states that are no start. And each part of a refusal, of a cause and of a
+/// change by itself, by a lift.
 pub fn states_are_met()
-    ensures { StatesAreMet }
+    ensures states { StatesAreMet }
+    ensures parts { PartsAreMet }
 {}
 
 /// Who gains and loses a zone by literal events, what stops and resumes, and the postures that events give. A history
-/// with a wrong answer isn't legal, be it the first or the second, a wrong kind or a wrong posture.
+/// with a wrong answer isn't legal, be it the first or a later one, a wrong kind or a wrong posture. And who holds a
+/// zone after literal events, and after which the plant is stopped.
 pub fn events_are_met()
-    ensures { EventsAreMet }
+    ensures events { EventsAreMet }
+    ensures holding { HoldingIsMet }
 {}

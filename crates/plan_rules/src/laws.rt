@@ -7,6 +7,7 @@ ghost use Rattle.plan_rules.specs.BrokenLaws.{LawsCanBeBroken};
 ghost use Rattle.plan_rules.specs.History.{IsLegal};
 ghost use Rattle.plan_rules.specs.Laws as law;
 ghost use Rattle.plan_rules.specs.Laws.{Throughout};
+ghost use Rattle.plan_rules.specs.LiftLaws.{LawsOfLift};
 ghost use Rattle.plan_rules.specs.RefusalLaws.{RefusalsTell};
 
 use crate::state::State;
@@ -125,9 +126,11 @@ pub fn lawful_histories()
     ensures { law.EveryLegalHistoryIsLawful }
 {}
 
-/// A history of which every law holds keeps each of the laws.
+/// A history of which every law holds keeps each of the laws. And what each law says of a lift, in literal numbers, of
+/// every state and every history.
 pub fn each_law_is_said()
-    ensures { law.EachLawIsSaid }
+    ensures each { law.EachLawIsSaid }
+    ensures lift { LawsOfLift }
 {}
 
 /// What a test finds throughout a history it finds of each prefix of it.

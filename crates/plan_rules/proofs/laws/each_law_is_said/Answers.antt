@@ -1,7 +1,11 @@
+use Rattle.plan_rules.proofs.OfLift.{laws_of_lift}
 use Rattle.plan_rules.proofs.laws.each_law_is_said.Goals as goal
 
-pub returns : goal.returns
-returns c = λ t s h. record {
+pub returns-clause-lift : goal.returns-clause-lift
+returns-clause-lift c = laws_of_lift
+
+pub returns-clause-each : goal.returns-clause-each
+returns-clause-each c = λ t s h. record {
   holder = λ law. law.one_holder;
   mover = λ law. law.mover_is_host;
   guest = λ law. law.guest_only_while_open;
