@@ -16,6 +16,7 @@ pub mod rules;
 pub mod settle;
 mod steps;
 mod survey;
+mod survey_word;
 mod tell;
 pub mod tries;
 pub mod views;
