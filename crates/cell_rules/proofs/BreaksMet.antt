@@ -6,11 +6,14 @@ use Rattle.cell_rules.specs.declared.zones.ZoneState.{ZoneState}
 use Rattle.cell_rules.specs.BreakExamples.{HolderBreaks, CountBreaks, PrefixBreaks, BeltBreaks, FittingBreaks, StopBreaks, RefusalBreaks, SeenExamples, BenchExamples, KeptExamples, AnswersAlikeWhileRunning, LawfulKeepsEach, BreakExamples, halted_cell, full_at}
 use Rattle.cell_rules.specs.BreakExamples.{feed_claims, halts_uncounted, press_claims}
 use Rattle.cell_rules.specs.Benches.{Desk}
-use Rattle.cell_rules.specs.LawExamples.{unused, only}
+use Rattle.cell_rules.specs.Audited.{IsAudited}
+use Rattle.cell_rules.specs.LawExamples.{after_claim, only, unused}
 use Rattle.cell_rules.specs.StateExamples.{cell_with, free_in, held_in}
 use Rattle.cell_rules.specs.Laws.{done}
 use Rattle.cell_rules.proofs.lemmas.FirstVersion.{first_version}
 use Rattle.cell_rules.proofs.HeldZones.{holds}
+use Rattle.cell_rules.proofs.Names.{Some, entry_of, if◌then◌else◌, noted, state_left}
+use Rattle.cell_rules.proofs.lemmas.Holders.{same_machine-self}
 use Rattle.cell_rules.proofs.lemmas.HoldsLemmas.{holds_by_test}
 use Rattle.cell_rules.proofs.lemmas.Puts.{each_zone, each_place}
 use Rattle.cell_rules.proofs.lemmas.Stopping.{by_test}
@@ -158,6 +161,15 @@ benches = record {
   changed_without_memory = λ b. let e : 0 ≡ 1 = ap (λ (d : Desk). length d.history) b.1 in omega (arith, e);
 }
 
+-- each event is noted by its machine
+no_history : (h : List Event) → ¬ IsAudited unused (λ m. []) (Some after_claim) h
+no_history [] a = let e : 0 ≡ 1 = ap (λ (s : ModelState). s.stamp) a.ends in omega (arith, e)
+no_history (e ∷ h) a =
+    let later = noted (state_left unused e) h e.machine in
+    let here = ap (λ b. if b then entry_of unused e ∷ later else later) (same_machine-self e.machine) in
+    let none = a.noted e.machine in
+    cc
+
 kept : KeptExamples
 kept = record {
   stored = record {
@@ -178,6 +190,7 @@ kept = record {
   elsewhere = λ k. let e : 1 ≡ 0 = ap (λ (s : ModelState). s.stamp) k.reached in omega (arith, e);
   no_end_given = let a = audits.accepted in record { legal = a.legal; own = a.own; noted = a.noted; ends = tt };
   has_a_history = λ none. none (only Press (Claim Z3)) audits.accepted;
+  nothing_noted = no_history;
   same_for_robot = record {
     owned = each_zone _ (λ e. cc) (λ e. cc) (λ e. cc) (λ e. cc) (λ e. cc) (λ e. cc);
     hosted = each_zone _ (λ e. cc) (λ e. cc) (λ e. cc) (λ e. cc) (λ e. cc) (λ e. cc);

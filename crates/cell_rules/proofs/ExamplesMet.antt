@@ -6,6 +6,7 @@ use Rattle.cell_rules.proofs.lemmas.Puts.{each_zone}
 use Rattle.cell_rules.proofs.StateExamplesMet.{sound_examples, start_examples}
 use Rattle.cell_rules.proofs.LawExamplesMet.{law_examples}
 use Rattle.cell_rules.proofs.BreaksMet.{break_examples}
+use Rattle.cell_rules.proofs.ReplyTableMet.{reply_table}
 use Rattle.cell_rules.proofs.SecondWordsMet.{second_words}
 use Rattle.cell_rules.proofs.StateTablesMet.{state_tables}
 use Rattle.cell_rules.proofs.HistoryTablesMet.{history_tables}
@@ -46,4 +47,5 @@ examples_are_met = record {
   histories = history_tables;
   breaks = break_examples;
   second = second_words;
+  replies = reply_table;
 }

@@ -18,6 +18,7 @@ mod StateExamplesMet
 mod StateTablesMet
 mod HistoryTablesMet
 mod LawExamplesMet
+mod ReplyTableMet
 mod BreaksMet
 mod SecondWordsMet
 mod ExamplesMet

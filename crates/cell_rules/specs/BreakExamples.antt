@@ -53,12 +53,14 @@ pub record HolderBreaks : Type 0 where
 pub record CountBreaks : Type 0 where
   pub place_from_nowhere : ¬ PlatesAreKept unused (only Press Advance)
   pub one_of_two_is_lost :
-      ¬ PlatesAreKept (cell_with Z3 (with_plate (held_in Press OpenIn)) (insert_place empty PressIn)) (only Press (Take Z3))
+      ¬ PlatesAreKept (cell_with Z3 (with_plate (held_in Press OpenIn)) (insert_place empty PressIn))
+      (only Press (Take Z3))
   pub second_without_stamp : ¬ StampCountsChanges unused (done Feed (Claim Z6) ∷ done Press (Yield Z3) ∷ [])
   pub halt_without_posture : ¬ PostureByEvents (cell_with Z6 (held_in Feed Moving) empty) (only Feed Advance)
   pub unsound : ¬ StaysSound (cell_with Z4 (held_in Feed OpenIn) empty) []
   pub changed_by_others :
-      ¬ RightLasts (full_at Press Closed (insert_place empty PressIn)) (only Robot (Claim Z3)) (only Press (SetPose Travelling))
+      ¬ RightLasts (full_at Press Closed (insert_place empty PressIn)) (only Robot (Claim Z3))
+      (only Press (SetPose Travelling))
 
 -- after the first event of two, after both, and before any
 pub record PrefixBreaks : Type 0 where
@@ -76,8 +78,10 @@ pub record BeltBreaks : Type 0 where
       (insert_place empty FeedEnd) 0 false)
   pub end_is_empty : RunsClear (cell_with Z5 (held_in Deposit Moving) (insert_place empty DepEntry))
   pub feed : ¬ BeltsRunClear (cell_with Z6 (held_in Feed Moving) (insert_place empty FeedEnd)) (halts_uncounted Feed)
-  pub entry : ¬ BeltsRunClear (cell_with Z4 (held_in Deposit Moving) (insert_place empty DepEnd)) (halts_uncounted Deposit)
-  pub end : ¬ BeltsRunClear (cell_with Z5 (held_in Deposit Moving) (insert_place empty DepEnd)) (halts_uncounted Deposit)
+  pub entry :
+      ¬ BeltsRunClear (cell_with Z4 (held_in Deposit Moving) (insert_place empty DepEnd)) (halts_uncounted Deposit)
+  pub end :
+      ¬ BeltsRunClear (cell_with Z5 (held_in Deposit Moving) (insert_place empty DepEnd)) (halts_uncounted Deposit)
   -- by the events the belt has halted, in the state it runs
   pub state : ¬ BeltsRunClear
       (cell_with Z4 (with_plate (held_in Deposit Moving)) (insert_place empty DepEnd)) (only Deposit (SetPose Halted))
@@ -91,8 +95,10 @@ pub record FittingBreaks : Type 0 where
   pub deposit_opens_onto_full :
       ¬ EventsFit (cell_with Z4 (held_in Deposit Moving) (insert_place empty DepEntry)) (only Deposit (SetPose Landing))
   pub deposit_stands_onto_full :
-      ¬ EventsFit (cell_with Z4 (held_in Deposit Closed) (insert_place empty DepEntry)) (only Deposit (SetPose Standing))
-  pub press_opens_onto_full : ¬ EventsFit (full_at Press Moving (insert_place empty PressIn)) (only Press (SetPose Middle))
+      ¬ EventsFit (cell_with Z4 (held_in Deposit Closed) (insert_place empty DepEntry))
+      (only Deposit (SetPose Standing))
+  pub press_opens_onto_full :
+      ¬ EventsFit (full_at Press Moving (insert_place empty PressIn)) (only Press (SetPose Middle))
   pub table_jumps : ¬ EventsFit (table_with OpenIn Moving empty) (only TableMachine (SetPose Unloading))
   pub press_jumps_open : ¬ EventsFit (full_at Press OpenOut empty) (only Press (SetPose Middle))
   pub stands_after_a_stop : ¬ EventsFit unused (done Watch Stop ∷ done Feed Advance ∷ [])
@@ -180,11 +186,13 @@ pub record BenchExamples : Type 0 where
 
 pub record KeptExamples : Type 0 where
   pub stored : IsHistory unused after_claim (only Press (Claim Z3))
-  pub unsound_opening : ¬ IsHistory (cell_with Z4 (held_in Feed OpenIn) empty) (cell_with Z4 (held_in Feed OpenIn) empty) []
+  pub unsound_opening :
+      ¬ IsHistory (cell_with Z4 (held_in Feed OpenIn) empty) (cell_with Z4 (held_in Feed OpenIn) empty) []
   pub illegal : ¬ IsHistory unused unused (only Press Advance)
   pub elsewhere : ¬ IsHistory unused after_claim []
   pub no_end_given : IsAudited unused (claim_of_press 1) None (only Press (Claim Z3))
   pub has_a_history : ¬ HasNoHistory unused (claim_of_press 1) (Some after_claim)
+  pub nothing_noted : HasNoHistory unused (λ m. []) (Some after_claim)
   pub same_for_robot : IsSameFor Robot unused (cell_with Z6 (held_in Feed Moving) (insert_place empty FeedEnd))
   pub lost_its_zone : ¬ IsSameFor Press after_claim unused
   pub other_posture : ¬ IsSameFor Press unused (cell_with Z3 (free_in OpenIn) empty)

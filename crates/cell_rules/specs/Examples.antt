@@ -12,6 +12,7 @@ use Rattle.cell_rules.specs.StateExamples.{SoundExamples, StartExamples}
 use Rattle.cell_rules.specs.BreakExamples.{BreakExamples}
 use Rattle.cell_rules.specs.HistoryTables.{HistoryTables}
 use Rattle.cell_rules.specs.LawExamples.{LawExamples}
+use Rattle.cell_rules.specs.ReplyTable.{ReplyTable}
 use Rattle.cell_rules.specs.SecondWords.{SecondWords}
 use Rattle.cell_rules.specs.StateTables.{StateTables}
 use Rattle.cell_rules.specs.Rights.{KeepsItsOwn, IsNeverDisowned}
@@ -78,3 +79,4 @@ pub record Examples : Type 0 where
   pub histories : HistoryTables
   pub breaks : BreakExamples
   pub second : SecondWords
+  pub replies : ReplyTable

@@ -28,6 +28,7 @@ pub mod StateExamples
 pub mod StateTables
 pub mod HistoryTables
 pub mod LawExamples
+pub mod ReplyTable
 pub mod BreakExamples
 pub mod SecondWords
 pub mod Examples

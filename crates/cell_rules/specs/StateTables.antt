@@ -1,5 +1,5 @@
--- Which states are sound, which are starts, and what counts of them, as tables. A cell in which one zone is used is sound
--- with some owners of the zone and not with others; with a plate on its way it is sound with some full places.
+-- Which states are sound, which are starts, and what counts of them, as tables. A cell in which one zone is used is
+-- sound with some owners of the zone and not with others; with a plate on its way it is sound with some full places.
 use Rattle.std.specs.Prelude.{◌≡◌, ℕ, Bool, true, false, List, [], ◌∷◌, codes, filter, map, Option, Some, None}
 use Rattle.std.specs.Prelude.{◌↔◌, IsTrue}
 use Rattle.cell_rules.specs.Types.{Machine, Feed, Robot, Press, Deposit, Watch, Zone, Z1, Z2, Z3, Z4, Z5, Z6, Place}
@@ -98,7 +98,8 @@ pub record RoomTable : Type 0 where
       ≡ FeedEntry ∷ FeedEnd ∷ Table ∷ Arm1 ∷ PressIn ∷ Arm2 ∷ DepEntry ∷ DepEnd ∷ Crane ∷ []
   pub press_closed : sound_places Z3 (held_in Press Closed) ≡ all_places
 
--- every zone is used, three have plates on their way, five places are full, the cell is stopped and the stamp is the last
+-- every zone is used, three have plates on their way, five places are full, the cell is stopped and the stamp is the
+-- last one
 abbrev pub in_use : ModelState
 in_use = model_state (record {
   at_z1 = zone_of (Some TableMachine) true OpenIn;

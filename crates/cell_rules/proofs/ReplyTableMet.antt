@@ -1,0 +1,136 @@
+-- The replies, computed.
+use Rattle.cell_rules.proofs.Names.{refl}
+use Rattle.cell_rules.specs.ReplyTable.{ReplyTable}
+
+pub reply_table : ReplyTable
+reply_table = record {
+  claims = record {
+    done = refl;
+    guest = refl;
+    not_party = refl;
+    stopped_cell = refl;
+    already = refl;
+    held = refl;
+    held_first = refl;
+    shut = refl;
+    moving = refl;
+    worn_out = refl;
+    party_first = refl;
+    stop_first = refl;
+    shut_before_worn = refl;
+  };
+  gives = record {
+    done = refl;
+    not_party = refl;
+    stopped_cell = refl;
+    free = refl;
+    anothers = refl;
+    plate = refl;
+    wrong_way = refl;
+    closed_way = refl;
+    no_plate = refl;
+    no_room = refl;
+    plate_before_room = refl;
+    worn_out = refl;
+  };
+  handovers = record {
+    yields = refl;
+    yields_as_stranger = refl;
+    yields_free = refl;
+    yields_plate = refl;
+    yields_closed = refl;
+    yields_moving = refl;
+    yields_in_use = refl;
+    yields_worn = refl;
+    yields_stopped = refl;
+    takes = refl;
+    takes_as_stranger = refl;
+    takes_anothers = refl;
+    takes_nothing = refl;
+    takes_worn = refl;
+    takes_stopped = refl;
+    releases = refl;
+    releases_as_stranger = refl;
+    releases_free = refl;
+    releases_plate = refl;
+    releases_moving = refl;
+    releases_in_use = refl;
+    releases_with_empty_end = refl;
+    releases_while_belt_stands = refl;
+    table_may_leave = refl;
+    releases_worn = refl;
+    releases_stopped = refl;
+  };
+  poses = record {
+    turns = refl;
+    loads = refl;
+    unloads_with_plate = refl;
+    no_pose = refl;
+    turns_stopped = refl;
+    loads_stopped = refl;
+    second_unowned = refl;
+    first_anothers = refl;
+    stays_unowned = refl;
+    plate = refl;
+    jumps = refl;
+    table_jumps = refl;
+    belt_may_jump = refl;
+    opens_onto_table = refl;
+    opens_onto_unforged = refl;
+    opens_onto_forged = refl;
+    lowers_forged = refl;
+    feed_opens_onto_plate = refl;
+    deposit_opens_onto_plate = refl;
+    feed_runs_onto_plate = refl;
+    feed_runs_with_z1 = refl;
+    deposit_runs_onto_plate = refl;
+    deposit_runs_with_entry = refl;
+    worn_out = refl;
+    owner_before_plate = refl;
+    lacking = refl;
+  };
+  works = record {
+    feed = refl;
+    deposit = refl;
+    press = refl;
+    no_work = refl;
+    press_free = refl;
+    press_anothers = refl;
+    feed_stands = refl;
+    entry_stands = refl;
+    end_stands = refl;
+    press_open = refl;
+    no_plate = refl;
+    no_room = refl;
+    worn_out = refl;
+    while_stopped = refl;
+    stop = refl;
+    stop_by_others = refl;
+    stops_twice = refl;
+    stops_worn = refl;
+    resume = refl;
+    resume_by_others = refl;
+    resumes_running = refl;
+    resumes_worn = refl;
+    inquiry_worn = refl;
+  };
+  left = record {
+    given = refl;
+    given_zone = refl;
+    taken = refl;
+    taken_zone = refl;
+    forged = refl;
+    forged_zone = refl;
+    moved = refl;
+    halts = refl;
+    posed = refl;
+    yielded = refl;
+    released = refl;
+    stopped_mark = refl;
+    stays_stopped = refl;
+    refused = refl;
+    asked = refl;
+    stamp = refl;
+    last_but_one = refl;
+  };
+}
