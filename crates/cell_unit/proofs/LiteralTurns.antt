@@ -95,6 +95,12 @@ module _ {S Sense Reading Act State : Type 0} (t : Steps S Sense Reading Act) (r
     drives = λ reading act i k. let own = drive_end ⊤ (λ c r. ⊥) reading act i k in (own.1, own.2);
     sensor = λ f runs says k. let own = sensor_end ⊤ (λ c r. ⊥) f runs says k in (own.1, own.2);
     stopped = λ f e k. let own = stopped_end ⊤ (λ c r. ⊥) f e k in (own.1, own.2);
+    taken = record {
+      moves_then = λ busy z y k. record { set = now; acts = k; moved = refl };
+      was_set = λ busy z y k. (k.set, k.acts, k.moved);
+      stopped_is_ready = λ opening seen f e. cc;
+      running_has_reached = λ opening seen k. k refl;
+    };
   }
 
 -- over a bench

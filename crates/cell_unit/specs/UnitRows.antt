@@ -1,21 +1,21 @@
 -- A machine's status and the effect of its turn: rows with literal answers, for any program and any part.
-use Rattle.std.specs.Prelude.{◌≡◌, ⊤, ◌⊎◌, ℕ, Bool, true, false, [], ◌∷◌, ◌++◌, Option, Some, None, Result, Ok, Err}
-use Rattle.cell_rules.specs.Types.{Machine, Posture, Call, Refusal, Jump, Stopped, Answer, Reply, Settled}
-use Rattle.cell_rules.specs.Types.{Busy}
+use Rattle.std.specs.Prelude.{◌≡◌, ⊤, ◌⊎◌, ℕ, Bool, true, false, List, [], ◌∷◌, ◌++◌, Option, Some, None, Result, Ok, Err}
+use Rattle.cell_rules.specs.Types.{Machine, Posture, Call, Refusal, Jump, Stopped, Answer, Event, Reply}
+use Rattle.cell_rules.specs.Types.{Settled, Busy}
 use Rattle.cell_types.specs.declared.answer.Refusal.TheVariants.{Worn as NoStamp}
 use Rattle.cell_types.specs.declared.answer.Answer.TheVariants as answer
 use Rattle.cell_sensors.specs.declared.sense.SensorFault.{SensorFault}
-use Rattle.cell_rules.specs.Names.{reply, next, event, Desk}
+use Rattle.cell_rules.specs.Names.{ModelState, reply, next, event, Desk}
 use Rattle.cell_rules.specs.declared.heard.LineFault.{LineFault}
 use Rattle.cell_rules.specs.declared.heard.LineFault.TheVariants as line
-use Rattle.cell_control.specs.Names.{Rig, waits_on, Steps, Says}
+use Rattle.cell_control.specs.Names.{IsReached, Rig, waits_on, Steps, Says}
 use Rattle.cell_control.specs.declared.fault.CtlFault.{CtlFault}
 use Rattle.cell_control.specs.declared.fault.CtlFault.TheVariants as fault
 use Rattle.cell_notes.specs.Names.{TurnCall, Notes, notes_with}
 use Rattle.cell_notes.specs.declared.status.Status.TheVariants.{Fine, Worn, Sensor, Refused, Memory}
 use Rattle.cell_unit.specs.Statuses.{status_of}
-use Rattle.cell_unit.specs.Sides.{Side, ActsAndMoves}
-use Rattle.cell_unit.specs.UnitTurns.{UnitTurn}
+use Rattle.cell_unit.specs.Sides.{Side, ActsAndMoves, IsReady, side_moved}
+use Rattle.cell_unit.specs.UnitTurns.{Taken, Takes, UnitTurn}
 
 -- ---- a machine's status, by what has stopped its controller
 
@@ -65,6 +65,19 @@ UnitAnswered t rig before answered asked now = ActsAndMoves t rig ⊥ (λ call r
 abbrev pub Alone : {S Sense Reading Act State : Type 0} → Steps S Sense Reading Act → Rig State Sense Act
     → Side S State → TurnCall → Side S State → Type 0
 Alone t rig before asked now = ActsAndMoves t rig ⊤ (λ call r. ⊥) before asked now
+
+-- a turn is taken until the actuators are set, and then the part moves; a controller that has stopped is always ready,
+-- and one that runs has reached its step
+pub record TakenRows {S Sense Reading Act State : Type 0} (t : Steps S Sense Reading Act) (rig : Rig State Sense Act)
+    (before now : Side S State) (asked : TurnCall) : Type 0 where
+  pub moves_then : (busy : Bool) (z y : ModelState) → Takes t rig busy z before asked y now
+      → Taken t rig busy z before asked y (side_moved rig now)
+  pub was_set : (busy : Bool) (z y : ModelState) → Taken t rig busy z before asked y now
+      → (set : Side S State) × Takes t rig busy z before asked y set × (now ≡ side_moved rig set)
+  pub stopped_is_ready : (opening : ModelState) (seen : List Event) (f : CtlFault)
+      → IsReady t opening seen (Some f) now.progress
+  pub running_has_reached : (opening : ModelState) (seen : List Event) → IsReady t opening seen None now.progress
+      → IsReached t opening seen now.progress
 
 pub record SideRows {S Sense Reading Act State : Type 0} (t : Steps S Sense Reading Act) (rig : Rig State Sense Act)
     (before : Side S State) (asked : TurnCall) (now : Side S State) : Type 0 where
@@ -117,6 +130,7 @@ pub record SideRows {S Sense Reading Act State : Type 0} (t : Steps S Sense Read
       (t.rest before.progress))
   pub stopped : (f : CtlFault) → before.stopped ≡ Some f → Alone t rig before asked now
       → (asked ≡ None) × (now ≡ comes_to rig before.progress (Some f) before.part (t.rest before.progress))
+  pub taken : TakenRows t rig before now asked
 
 -- ---- a turn over a bench
 
