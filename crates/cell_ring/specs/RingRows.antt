@@ -30,7 +30,8 @@ pub record LapRows : Type 0 where
   pub ahead : map (distance FeedEnd) all_positions
       ≡ 16 ∷ 0 ∷ 1 ∷ 2 ∷ 3 ∷ 4 ∷ 5 ∷ 6 ∷ 7 ∷ 8 ∷ 9 ∷ 10 ∷ 11 ∷ 12 ∷ 13 ∷ 14 ∷ 15 ∷ []
   pub last_is_far : distance CraneToBelt Crane ≡ 16
-  pub some_moves : map (λ n. position_on n DepEnd) (0 ∷ 1 ∷ 4 ∷ 5 ∷ []) ≡ DepEnd ∷ BeltToCrane ∷ FeedEntry ∷ FeedEnd ∷ []
+  pub some_moves : map (λ n. position_on n DepEnd) (0 ∷ 1 ∷ 4 ∷ 5 ∷ [])
+      ≡ DepEnd ∷ BeltToCrane ∷ FeedEntry ∷ FeedEnd ∷ []
   pub same : filter (same_position PressToArm) all_positions ≡ PressToArm ∷ []
   pub by_robot : filter (takes_away Robot (Give Z3)) all_positions ≡ Arm1 ∷ []
   pub by_press : filter (takes_away Press (Give Z3)) all_positions ≡ PressOut ∷ []
@@ -43,7 +44,8 @@ pub record LapRows : Type 0 where
   pub by_watch : filter (takes_away Watch Advance) all_positions ≡ []
   pub moving_calls :
       map moves_plate
-      (Claim Z1 ∷ Give Z2 ∷ Yield Z3 ∷ Take Z4 ∷ Release Z5 ∷ SetPose Middle ∷ Advance ∷ Inquire Z6 ∷ Stop ∷ Resume ∷ [])
+      (Claim Z1 ∷ Give Z2 ∷ Yield Z3 ∷ Take Z4 ∷ Release Z5 ∷ SetPose Middle
+      ∷ Advance ∷ Inquire Z6 ∷ Stop ∷ Resume ∷ [])
       ≡ false ∷ true ∷ false ∷ true ∷ false ∷ false ∷ true ∷ false ∷ false ∷ false ∷ []
   pub undelivered : filter is_undelivered all_positions ≡ PressOut ∷ PressToArm ∷ Arm2 ∷ ArmToBelt ∷ []
   pub three_moves_of_four : moves_for_each 3 4 ≡ 54

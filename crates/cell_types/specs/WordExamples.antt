@@ -116,7 +116,8 @@ pub record CallExamples : Type 0 where
   pub inquiries : map (λ z. call_text (Inquire z)) all_zones
       ≡ codes "inquire z1" ∷ codes "inquire z2" ∷ codes "inquire z3" ∷ codes "inquire z4" ∷ codes "inquire z5"
       ∷ codes "inquire z6" ∷ []
-  pub poses : map (λ p. call_text (SetPose p)) (Middle ∷ Standing ∷ []) ≡ codes "pose middle" ∷ codes "pose standing" ∷ []
+  pub poses : map (λ p. call_text (SetPose p)) (Middle ∷ Standing ∷ [])
+      ≡ codes "pose middle" ∷ codes "pose standing" ∷ []
 
 pub record WordExamples : Type 0 where
   pub names : NameExamples

@@ -1,5 +1,5 @@
--- Examples of words: where each owner, plate, posture and place is, the word of one whole state, and what calls test and
--- write.
+-- Examples of words: where each owner, plate, posture and place is, the word of one whole state, and what calls test
+-- and write.
 use Rattle.std.specs.Prelude.{◌≡◌, ℕ, true, false, List, [], ◌∷◌, map, Option, Some, None, Ok, Err}
 use Rattle.cell_rules.specs.Types.{Feed, Robot, Press, Deposit, Watch, Zone, Z1, Z2, Z3, Z4, Z5, Z6}
 use Rattle.cell_rules.specs.Types.{PressIn, PressOut, Closed, Moving, OpenIn, OpenOut, Running}
@@ -30,7 +30,8 @@ use Rattle.cell_word.specs.StateWords.{is_state_word}
 abbrev pub zone_words : (Zone → ModelState) → List ℕ
 zone_words f = map (λ z. packed (f z)) all_zones
 
--- every zone is used, three have plates on their way, five places are full, the cell is stopped and the stamp is the last
+-- every zone is used, three have plates on their way, five places are full, the cell is stopped and the stamp is the
+-- last one
 abbrev pub whole : ModelState
 whole = model_state (record {
   at_z1 = with_plate (held_in TableMachine OpenIn);
@@ -125,7 +126,8 @@ pub record PatternExamples : Type 0 where
   pub place : map (place_is Crane) (true ∷ false ∷ [])
       ≡ pattern 0x8000000000 0x8000000000 ∷ pattern 0x8000000000 0 ∷ []
   pub stamp : stamp_is 7 ≡ pattern 0xFFFFF0000000000 0x70000000000
-  pub mark : map mark_is (true ∷ false ∷ []) ≡ pattern 0x1000000000000000 0x1000000000000000 ∷ pattern 0x1000000000000000 0 ∷ []
+  pub mark : map mark_is (true ∷ false ∷ [])
+      ≡ pattern 0x1000000000000000 0x1000000000000000 ∷ pattern 0x1000000000000000 0 ∷ []
 
 -- what a Done call writes: under a mask, these bits
 pub record WrittenExamples : Type 0 where
@@ -168,7 +170,8 @@ abbrev pub by_postures : List Guard → List (Option Refusal)
 by_postures gs = map (λ w. first_refusal w gs) (0 ∷ 0x2000 ∷ 0x4000 ∷ 0x6000 ∷ [])
 
 pub record GuardExamples : Type 0 where
-  pub first : first_refusal 0x3 (guard (pattern 4 4) Worn ∷ guard (pattern 2 2) Stopped ∷ guard (pattern 1 1) InUse ∷ [])
+  pub first :
+      first_refusal 0x3 (guard (pattern 4 4) Worn ∷ guard (pattern 2 2) Stopped ∷ guard (pattern 1 1) InUse ∷ [])
       ≡ Some Stopped
   pub none : first_refusal 0x8 (guard (pattern 4 4) Worn ∷ guard (pattern 2 2) Stopped ∷ []) ≡ None
   pub goes_on : unless None given ≡ Ok given
@@ -199,7 +202,8 @@ pub record GuardExamples : Type 0 where
       ∷ (DepEntry ∷ []) ∷ []
       ∷ (FeedEntry ∷ []) ∷ []
   pub numbers : numbers_of (guard anything Worn ∷ guard anything (Held Press) ∷ []) ≡ 13 ∷ 2 ∷ []
-  pub in_order : map (is_ordered (1 ∷ 14 ∷ 3 ∷ [])) ((1 ∷ 14 ∷ 14 ∷ 3 ∷ []) ∷ (1 ∷ 3 ∷ []) ∷ [] ∷ []) ≡ true ∷ true ∷ true ∷ []
+  pub in_order : map (is_ordered (1 ∷ 14 ∷ 3 ∷ [])) ((1 ∷ 14 ∷ 14 ∷ 3 ∷ []) ∷ (1 ∷ 3 ∷ []) ∷ [] ∷ [])
+      ≡ true ∷ true ∷ true ∷ []
   pub out_of_order : map (is_ordered (1 ∷ 14 ∷ 3 ∷ [])) ((14 ∷ 1 ∷ []) ∷ (1 ∷ 3 ∷ 14 ∷ []) ∷ (3 ∷ 14 ∷ 3 ∷ []) ∷ [])
       ≡ false ∷ false ∷ false ∷ []
 
