@@ -1,11 +1,11 @@
 -- Laws of stamps, stops and the first version in other words; and a small program.
 use Rattle.cell_rules.proofs.Names.{◌≡◌, ◌+◌, false, List, [], ◌∷◌, ◌++◌, Some, None, refl, sym, ap, arith, ◌∙◌, Machine, Feed, Press, Z3, Pose, Turning, Travelling, Running, Yield, Take, Release, SetPose, Advance, Event}
-use Rattle.cell_rules.proofs.Names.{ModelState, model_state, IsSound, reply, restamped, is_barred, is_moving_pose, running}
+use Rattle.cell_rules.proofs.Names.{ℕ, next, subst, ModelState, model_state, IsSound, reply, restamped, is_barred, is_moving_pose, running}
 use Rattle.cell_types.specs.declared.pose.Pose.TheVariants as pose
 use Rattle.cell_rules.specs.BreakExamples.{feed_waits, press_claims}
 use Rattle.cell_rules.specs.LawExamples.{unused}
 use Rattle.cell_rules.specs.Seen.{BeginsWith}
-use Rattle.cell_rules.specs.SecondWords.{SecondWords, StampsDoNotTell, RestsAlike, LeavesAlikeWhileRunning, ProgramExamples, OwnerExamples, stopped_cell}
+use Rattle.cell_rules.specs.SecondWords.{SecondWords, DifferInStamps, StampsDoNotTell, RestsAlike, LeavesAlikeWhileRunning, ProgramExamples, OwnerExamples, stopped_cell}
 use Rattle.cell_rules.proofs.lemmas.FirstVersion.{first_version}
 use Rattle.cell_rules.proofs.lemmas.HoldsLemmas.{holds_by_test}
 use Rattle.cell_rules.proofs.lemmas.Restamps.{stamps_only_wear}
@@ -17,10 +17,25 @@ same_state s t z f p =
     ap (λ x. model_state x s.full t.stamp s.stopped) z ∙ ap (λ x. model_state t.zones x t.stamp s.stopped) f
     ∙ ap (λ x. model_state t.zones t.full t.stamp x) p
 
-stamps : StampsDoNotTell
-stamps s t m c sound low lower z f p =
-    ap (λ (u : ModelState). reply u m c) (sym (same_state s t z f p))
-    ∙ (stamps_only_wear s).answer t.stamp m c lower ((stamps_only_wear s).unworn m c sound low)
+only_zones : (u v : ModelState) (n : ℕ) → u ≡ restamped v n → DifferInStamps u v
+only_zones u v n e = record {
+  zones = ap (λ (x : ModelState). x.zones) e;
+  places = ap (λ (x : ModelState). x.full) e;
+  mark = ap (λ (x : ModelState). x.stopped) e;
+}
+
+stamps : (s t : ModelState) → DifferInStamps s t → StampsDoNotTell s t
+stamps s t d =
+    let same = same_state s t d.zones d.places d.mark in
+    record {
+      answers = λ m c sound low lower.
+          ap (λ (u : ModelState). reply u m c) (sym same)
+          ∙ (stamps_only_wear s).answer t.stamp m c lower ((stamps_only_wear s).unworn m c sound low);
+      leaves = λ m c sound low lower.
+          let left = (stamps_only_wear s).next t.stamp m c lower ((stamps_only_wear s).unworn m c sound low) in
+          only_zones (next t m c) (next s m c) _ (subst (λ (u : ModelState). next u m c ≡ restamped (next s m c) (next u m c).stamp) same left);
+      sound = λ k low. subst IsSound same ((stamps_only_wear s).sound t.stamp low k);
+    }
 
 stops_sound : (s : ModelState) → IsSound s → IsSound (stopped_cell s)
 stops_sound s k = record {

@@ -1,5 +1,5 @@
 -- Laws of stamps, stops, the first version and refusals in other words; and a small program.
-use Rattle.std.specs.Prelude.{◌≡◌, ℕ, zero, suc, ◌+◌, ◌<◌, true, false, [], ◌∷◌, Option, Some, None, Err, IsTrue}
+use Rattle.std.specs.Prelude.{◌≡◌, ℕ, zero, suc, ◌+◌, ◌<◌, ◌≤◌, true, false, [], ◌∷◌, Option, Some, None, Err, IsTrue}
 use Rattle.cell_rules.specs.Types.{Machine, Feed, Robot, Press, Zone, Z3, Pose, Call, Yield, Take}
 use Rattle.cell_rules.specs.Types.{Release, SetPose, Advance, Stop, Refusal, Answer, Done, Refused}
 use Rattle.cell_rules.specs.Types.{NotOwner, NotAtWork, Held}
@@ -17,11 +17,20 @@ use Rattle.cell_rules.specs.Seen.{event, heard_nothing}
 use Rattle.cell_rules.specs.Sound.{IsSound}
 use Rattle.cell_rules.specs.StopLaws.{running}
 
--- two states that differ in their stamps alone, neither of them the last, answer alike
-abbrev pub StampsDoNotTell : Type 0
-StampsDoNotTell =
-    (s t : ModelState) (m : Machine) (c : Call) → IsSound s → s.stamp < last_stamp → t.stamp < last_stamp
-    → s.zones ≡ t.zones → s.full ≡ t.full → s.stopped ≡ t.stopped → reply t m c ≡ reply s m c
+-- two states that differ in their stamps alone
+pub record DifferInStamps (s t : ModelState) : Type 0 where
+  pub zones : s.zones ≡ t.zones
+  pub places : s.full ≡ t.full
+  pub mark : s.stopped ≡ t.stopped
+
+-- neither of them the last, such states answer alike, and a call leaves two that again differ in their stamps alone; and
+-- both are sound, or neither
+pub record StampsDoNotTell (s t : ModelState) : Type 0 where
+  pub answers : (m : Machine) (c : Call) → IsSound s → s.stamp < last_stamp → t.stamp < last_stamp
+      → reply t m c ≡ reply s m c
+  pub leaves : (m : Machine) (c : Call) → IsSound s → s.stamp < last_stamp → t.stamp < last_stamp
+      → DifferInStamps (next t m c) (next s m c)
+  pub sound : IsSound s → t.stamp ≤ last_stamp → IsSound t
 
 abbrev pub stopped_cell : ModelState → ModelState
 stopped_cell s = record s { stopped = true }
@@ -81,7 +90,7 @@ pub record OwnerExamples : Type 0 where
   pub not_the_last : ¬ tries [] (feed_waits ∷ press_claims ∷ [])
 
 pub record SecondWords : Type 0 where
-  pub stamps : StampsDoNotTell
+  pub stamps : (s t : ModelState) → DifferInStamps s t → StampsDoNotTell s t
   pub rests : (s : ModelState) (m : Machine) → IsSound s → RestsAlike s m
   pub first_version : LeavesAlikeWhileRunning
   pub programs : ProgramExamples
