@@ -1,6 +1,8 @@
 pub mod Controllers
 pub mod Demands
 pub mod Faults
+pub mod FormExamples
+pub mod KeepExamples
 pub mod Keeping
 pub mod Rigs
 pub mod Row

@@ -141,3 +141,6 @@ pub record ZoneDemandRows (m : Machine) (opening : ModelState) (seen : List Even
     : Type 0 where
   pub holds : HoldsIn m opening seen (Some (zone, posture)) → Holds opening seen m zone
   pub stands : HoldsIn m opening seen (Some (zone, posture)) → posture_by_events opening seen zone ≡ posture
+  pub no_more : Holds opening seen m zone → posture_by_events opening seen zone ≡ posture
+      → HoldsIn m opening seen (Some (zone, posture))
+  pub nothing_without_zone : HoldsIn m opening seen None

@@ -1,5 +1,5 @@
 -- A controller at the end of its line, and its turns.
-use Rattle.std.specs.Prelude.{◌≡◌, List, [], Option, Some, None, Result, Ok, Err}
+use Rattle.std.specs.Prelude.{◌≡◌, List, [], Option, None, Result}
 use Rattle.cell_rules.specs.Types.{Machine, Call, Event, Reply}
 use Rattle.cell_rules.specs.Names.{ModelState, IsSound, heard_after}
 use Rattle.cell_rules.specs.declared.heard.LineFault.{LineFault}

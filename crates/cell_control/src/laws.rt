@@ -5,6 +5,8 @@ ghost use Rattle.cell_types.specs.declared.zone.Zone.{Zone};
 ghost use Rattle.cell_types.specs.declared.posture.Posture.{Posture};
 ghost use Rattle.cell_types.specs.declared.answer.Event.{Event};
 ghost use Rattle.cell_rules.specs.ModelState.{ModelState};
+ghost use Rattle.cell_control.specs.FormExamples.{FormsAreMet};
+ghost use Rattle.cell_control.specs.KeepExamples.{SharesAreMet};
 ghost use Rattle.cell_control.specs.TurnRows.{TurnRows, ZoneDemandRows};
 ghost use Rattle.cell_control.specs.WaitRows.{WaitRows};
 
@@ -20,7 +22,7 @@ pub fn turns_by_answers<P: Program>(program: &P, progress: P::Progress, sense: &
 {}
 
 /// A motor that enters a zone demands that its machine holds the zone, and that the zone has the
-/// posture.
+/// posture, and no more. One that enters none demands nothing.
 pub fn demands_of_a_zone()
     ensures { (m : Machine) (opening : ModelState) (seen : List Event) (zone : Zone) (posture : Posture)
         → ZoneDemandRows m opening seen zone posture }
@@ -29,4 +31,17 @@ pub fn demands_of_a_zone()
 /// The refusals on which a step stays, for each thing that it may wait for.
 pub fn waits_by_refusals()
     ensures { WaitRows }
+{}
+
+/// A small program, in figures: the rows of its steps, its checks and drives, the answers to its calls,
+/// its turns, and a controller of it on its line and off it.
+#[tactic(auto, using(crate::proofs::FormFigures::forms))]
+pub fn forms_are_met()
+    ensures { FormsAreMet }
+{}
+
+/// What a share of a zone asks for, and when a machine keeps what it has of its zones.
+#[tactic(auto, using(crate::proofs::ShareFigures::shares))]
+pub fn shares_are_met()
+    ensures { SharesAreMet }
 {}

@@ -1,0 +1,206 @@
+-- A small program, and what the forms of rows, turns, controllers and lines say of it.
+use Rattle.std.specs.Prelude.{◌≡◌, ⊤, ℕ, zero, suc, ◌+◌, ◌<◌, ◌≤◌, ◌⊎◌, Bool, true, false, List, [], ◌∷◌, Option, Some, None}
+use Rattle.std.specs.Prelude.{Ok, Err}
+use Rattle.cell_rules.specs.Types.{Machine, Posture, Press, Robot, Z2, Z3, Claim, Give, Inquire, Release, Held, NoPlate}
+use Rattle.cell_rules.specs.Types.{Done, Refused, Shown, OpenIn, Settled, Event}
+use Rattle.cell_rules.specs.Names.{ModelState, IsSound}
+use Rattle.cell_sensors.specs.declared.sense.SensorFault.TheVariants.{High}
+use Rattle.cell_control.specs.declared.controller.Controller.{Controller}
+use Rattle.cell_control.specs.declared.controller.TakenTurn.{TakenTurn}
+use Rattle.cell_control.specs.declared.fault.CtlFault.TheVariants.{Memory}
+use Rattle.cell_control.specs.declared.row.Row.{Row}
+use Rattle.cell_control.specs.declared.row.Waits.TheVariants as waits
+use Rattle.cell_control.specs.Controllers.{program_in, step_in, stopped_in, rest_in, OwnsLine, HasReached, TakesTurnBy}
+use Rattle.cell_control.specs.Controllers.{MeetsDemands}
+use Rattle.cell_control.specs.Row.{row_that_asks, row_that_drives, with_waits}
+use Rattle.cell_control.specs.Rows.{AskRow, CheckRow, DriveRow, InquiryRow, NoOtherAnswers, UntilFree, UntilOpen}
+use Rattle.cell_control.specs.Rows.{UntilRoom, is_inquiry}
+use Rattle.cell_control.specs.Steps.{Drives, IsReached, Steps, program_of, with_senses}
+use Rattle.cell_control.specs.Turns.{answered, at_rest, turned}
+use Rattle.cell_control.specs.Wiring.{IsUnwired, IsWired, wiring_of}
+
+pub data SmallStep : Type 0 where
+  Claiming : SmallStep
+  Falling : SmallStep
+  Rising : SmallStep
+  Stuck : SmallStep
+  Inquiring : SmallStep
+  Prying : SmallStep
+  Giving : SmallStep
+
+-- one claims a zone and waits until it is free, two inquire one, one of them waits, and one gives a plate and waits for
+-- room; the others drive
+abbrev pub row_at : SmallStep → Row SmallStep
+row_at Claiming = with_waits (row_that_asks (Claim Z3) Falling) waits.UntilFree
+row_at Falling = row_that_drives Falling
+row_at Rising = row_that_drives Rising
+row_at Stuck = row_that_drives Stuck
+row_at Inquiring = row_that_asks (Inquire Z2) Inquiring
+row_at Prying = with_waits (row_that_asks (Inquire Z2) Prying) waits.UntilFree
+row_at Giving = with_waits (row_that_asks (Give Z3) Stuck) waits.UntilRoom
+
+-- one inquiry goes on if a plate is in the zone
+abbrev pub shown_at : SmallStep → Option Machine → Bool → Posture → SmallStep
+shown_at Inquiring owner true posture = Stuck
+shown_at p owner flag posture = p
+
+-- what a step may do by a reading, and where that leads
+abbrev pub drives_at : SmallStep → ℕ → ℕ → Type 0
+drives_at Stuck reading act = ⊥
+drives_at Falling reading act = act ≤ reading
+drives_at p reading act = act ≡ reading + 1
+
+abbrev pub led_by : ℕ → SmallStep
+led_by zero = Inquiring
+led_by (suc act) = Giving
+
+abbrev pub rest_at : ℕ → SmallStep → ℕ
+rest_at rest Giving = rest + 4
+rest_at rest p = rest
+
+-- a sensor says what it shows: nothing at 0, and either that or a fault above 9
+abbrev pub small : Steps SmallStep ℕ ℕ ℕ
+small = record {
+  machine = Press;
+  start = λ s. Claiming;
+  row = row_at;
+  after_inquiry = shown_at;
+  senses = λ sense said. ((said ≡ Ok sense) × (0 < sense)) ⊎ ((said ≡ Err High) × (9 < sense));
+  drives = drives_at;
+  after_drive = λ p reading act. led_by act;
+  rest = rest_at 100;
+  motor_demands = λ p act opening seen. act ≡ rest_at 1 p;
+}
+
+pub record RowExamples : Type 0 where
+  pub asking : row_that_asks (Claim Z3) Rising ≡ record { call = Some (Claim Z3); waits = waits.Never; next = Rising }
+  pub driving : row_that_drives Stuck ≡ record { call = None; waits = waits.Never; next = Stuck }
+  pub waiting : with_waits (row_that_asks (Give Z2) Giving) waits.UntilRoom
+      ≡ record { call = Some (Give Z2); waits = waits.UntilRoom; next = Giving }
+  pub inquires : is_inquiry (Some (Inquire Z3)) ≡ true
+  pub claims : is_inquiry (Some (Claim Z3)) ≡ false
+  pub drives : is_inquiry None ≡ false
+
+pub record AskExamples : Type 0 where
+  pub claims : AskRow small Claiming (Claim Z3) (UntilFree ∷ []) Falling
+  pub gives : AskRow small Giving (Give Z3) (UntilRoom ∷ []) Stuck
+  pub other_call : ¬ AskRow small Claiming (Release Z3) (UntilFree ∷ []) Falling
+  pub other_zone : ¬ AskRow small Claiming (Claim Z2) (UntilFree ∷ []) Falling
+  pub waits_for_nothing : ¬ AskRow small Claiming (Claim Z3) [] Falling
+  pub waits_for_more : ¬ AskRow small Claiming (Claim Z3) (UntilFree ∷ UntilOpen ∷ []) Falling
+  pub other_wait : ¬ AskRow small Giving (Give Z3) (UntilOpen ∷ []) Stuck
+  pub other_next : ¬ AskRow small Claiming (Claim Z3) (UntilFree ∷ []) Rising
+  pub inquires : InquiryRow small Inquiring Z2 (shown_at Inquiring)
+  pub inquires_another : ¬ InquiryRow small Inquiring Z3 (shown_at Inquiring)
+  pub inquires_and_waits : ¬ InquiryRow small Prying Z2 (shown_at Prying)
+  pub leads_elsewhere : ¬ InquiryRow small Inquiring Z2 (λ owner flag posture. Inquiring)
+
+pub record DriveExamples : Type 0 where
+  pub drives : DriveRow small Falling 0 0 Inquiring
+  pub further : DriveRow small Rising 2 3 Giving
+  pub asks : ¬ DriveRow small Claiming 2 3 Giving
+  pub drives_not : ¬ DriveRow small Stuck 0 0 Inquiring
+  pub drives_otherwise_too : ¬ DriveRow small Falling 1 0 Inquiring
+  pub leads_elsewhere : ¬ DriveRow small Falling 0 0 Giving
+  pub moves : Drives small Rising Giving
+  pub moves_not_on : ¬ Drives small Rising Inquiring
+  pub moves_not_where_it_asks : ¬ Drives small Claiming Giving
+  pub moves_not_blindly : ¬ Drives (with_senses small (λ sense said. ⊥)) Rising Giving
+  pub moves_not_by_a_fault : ¬ Drives (with_senses small (λ sense said. said ≡ Err High)) Rising Giving
+  pub moves_not_idly : ¬ Drives (record small { drives = λ p reading act. ⊥ }) Rising Giving
+
+pub record CheckExamples : Type 0 where
+  pub says : CheckRow small 3 (Ok 3)
+  pub says_another : ¬ CheckRow small 3 (Ok 4)
+  pub says_nothing : ¬ CheckRow small 0 (Ok 0)
+  pub says_two : ¬ CheckRow small 10 (Ok 10)
+  pub two_said : small.senses 10 (Err High)
+  pub by_others : (with_senses small (λ sense said. said ≡ Err High)).senses 10 (Err High)
+  pub not_by_others : ¬ ((with_senses small (λ sense said. said ≡ Err High)).senses 10 (Ok 10))
+  pub the_rest_stays : (with_senses small (λ sense said. ⊥)).row Claiming ≡ row_at Claiming
+
+pub record AnswerExamples : Type 0 where
+  pub none : NoOtherAnswers small
+  pub done_inquiry : ¬ NoOtherAnswers (record small { row = λ p. row_that_asks (Inquire Z2) Stuck })
+  pub shown_elsewhere : ¬ NoOtherAnswers (record small { after_inquiry = λ p owner flag posture. Stuck })
+  pub drive_that_waits : ¬ NoOtherAnswers (record small {
+    row = λ p. with_waits (row_that_drives p) waits.UntilFree;
+    after_inquiry = λ p owner flag posture. p;
+  })
+  pub of_machine : (program_of small).machine ≡ Press
+  pub calls : (program_of small).call Giving ≡ Some (Give Z3)
+  pub done : (program_of small).leads Claiming Done Falling
+  pub done_elsewhere : ¬ ((program_of small).leads Claiming Done Claiming)
+  pub waits : (program_of small).leads Claiming (Refused (Held Robot)) Claiming
+  pub stops : ¬ ((program_of small).leads Claiming (Refused NoPlate) Claiming)
+  pub shown : (program_of small).leads Inquiring (Shown None true OpenIn) Stuck
+  pub moves : (program_of small).moves Rising Giving
+
+-- a program by its commands at rest; it runs, or has stopped at its last step
+abbrev pub by : ℕ → Steps SmallStep ℕ ℕ ℕ
+by rest = record small { rest = rest_at rest }
+
+abbrev pub running : SmallStep → Controller ℕ SmallStep ℕ ℕ ℕ
+running p = record { program = 7; progress = p; stopped = None }
+
+abbrev pub stopped : Controller ℕ SmallStep ℕ ℕ ℕ
+stopped = record { program = 7; progress = Giving; stopped = Some Memory }
+
+-- a turn of the small program that asks, by any answer; its sensors show 3
+abbrev pub Takes : Controller ℕ SmallStep ℕ ℕ ℕ → TakenTurn ℕ → Controller ℕ SmallStep ℕ ℕ ℕ → Type 0
+Takes before taken now = TakesTurnBy by (λ sense. sense ≡ 3) ⊤ (λ call reply. ⊤) before taken now
+
+pub record ControllerExamples : Type 0 where
+  pub program : program_in stopped ≡ 7
+  pub step : step_in stopped ≡ Giving
+  pub fault : stopped_in stopped ≡ Some Memory
+  pub rest : rest_in by stopped ≡ 11
+  pub owns_line : OwnsLine by (running Giving) Press
+  pub owns_no_other : ¬ OwnsLine by (running Giving) Robot
+  pub stopped_on_any_line : OwnsLine by stopped Robot
+  pub stopped_anywhere : (opening : ModelState) (seen : List Event) → HasReached by stopped opening seen
+  pub reached : (opening : ModelState) (seen : List Event) → HasReached by (running Giving) opening seen
+      → IsReached (by 7) opening seen Giving
+  pub demands : (opening : ModelState) (seen : List Event) → MeetsDemands by (running Giving) 5 opening seen
+  pub demands_not : (opening : ModelState) (seen : List Event) → ¬ MeetsDemands by (running Giving) 4 opening seen
+  pub asks : Takes (running Claiming) (record {
+    told = record { act = 7; fault = None };
+    asked = Some (Claim Z3, Ok (Settled Done 5));
+  }) (running Falling)
+  pub tells_what_it_asks : ¬ Takes (running Claiming) (record {
+    told = record { act = 7; fault = None };
+    asked = Some (Release Z3, Ok (Settled Done 5));
+  }) (running Falling)
+  pub asks_what_it_tells : ¬ Takes (running Claiming) (record { told = record { act = 7; fault = None }; asked = None }) (running Falling)
+  pub stopped_asks_nothing : ¬ Takes stopped (record {
+    told = record { act = 11; fault = Some Memory };
+    asked = Some (Claim Z3, Ok (Settled Done 5));
+  }) stopped
+  pub well : answered {Act = ℕ} 3 None ≡ Ok 3
+  pub faulty : answered {Act = ℕ} 3 (Some Memory) ≡ Err Memory
+  pub with_commands : at_rest {Act = ℕ} 3 (Ok Rising) ≡ Ok (Rising, 3)
+  pub with_fault : at_rest {S = SmallStep} {Act = ℕ} 3 (Err Memory) ≡ Err Memory
+  pub turned_well : turned {Act = ℕ} Giving (Ok (Rising, 3)) ≡ record { result = Ok 3; progress = Rising; stopped = None }
+  pub turned_faulty : turned {Act = ℕ} Giving (Err Memory) ≡ record { result = Err Memory; progress = Giving; stopped = Some Memory }
+
+-- a machine on its line, and off it; one that has stopped may be at any step
+pub record WiringExamples : Type 0 where
+  pub wiring : wiring_of Rising Falling (Some Memory) Stuck
+      ≡ record { program = Rising; progress = Falling; stopped = Some Memory; line = Stuck }
+  pub stopped : (opening : ModelState) (seen : List Event) → IsWired small Press opening seen (Some Memory) Stuck
+  pub other_line : (opening : ModelState) (seen : List Event) → ¬ IsWired small Robot opening seen (Some Memory) Stuck
+  pub running : (opening : ModelState) (seen : List Event) → IsWired small Press opening seen None Stuck
+      → IsReached small opening seen Stuck
+  pub stopped_off_line : (left : ModelState) → IsSound left → IsUnwired small Press left (Some Memory) Stuck
+  pub other_off_line : (left : ModelState) → ¬ IsUnwired small Robot left (Some Memory) Stuck
+  pub sound_off_line : (left : ModelState) → ¬ (IsSound left) → ¬ IsUnwired small Press left (Some Memory) Stuck
+  pub running_off_line : (left : ModelState) → IsUnwired small Press left None Stuck → IsReached small left [] Stuck
+
+pub record FormsAreMet : Type 0 where
+  pub rows : RowExamples
+  pub asks : AskExamples
+  pub drives : DriveExamples
+  pub checks : CheckExamples
+  pub answers : AnswerExamples
+  pub controllers : ControllerExamples
+  pub wirings : WiringExamples
