@@ -1,5 +1,6 @@
 -- All examples of the plant.
 use Rattle.cell_parts.specs.Bounds.{BoundsAreMet}
+use Rattle.cell_parts.proofs.AxisFigures.{axes}
 use Rattle.cell_parts.proofs.CollisionBounds.{collisions, magnets, all_ends, each_collision}
 use Rattle.cell_parts.proofs.DemandBounds.{position_demands, motor_demands, driving, resting, each_demand}
 use Rattle.cell_parts.proofs.PartBounds.{setting, moving, sensors, showing, notes, start}
@@ -23,4 +24,5 @@ bounds_are_met = record {
   showing = showing;
   notes = notes;
   start = start;
+  axes = axes;
 }

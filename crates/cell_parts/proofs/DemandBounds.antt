@@ -1,7 +1,7 @@
 -- What positions and motors demand, in numbers.
 use Rattle.std.proofs.Common.{rules, ◌≡◌, ◌≢◌, ◌↔◌, ◌∙◌, sym, ap, cond, ℕ, ◌<◌, ◌≤◌, false, Some, ◌⊎◌, inl, inr, refl, arith}
 use Rattle.std.proofs.lemmas.Bool.{false_from_ne_true}
-use Rattle.cell_rules.specs.Types.{Machine, Feed, Table, Robot, Press, Deposit, Crane, Watch, Zone, Z1, Z2, Z3, Z4, Z5, Z6, Posture, Closed, OpenIn, OpenOut, same_zone}
+use Rattle.cell_rules.specs.Types.{Machine, Feed, Table, Robot, Press, Deposit, Crane, Watch, Zone, Z1, Z2, Z3, Z4, Z5, Z6, Posture, OpenIn, OpenOut, same_zone}
 use Rattle.cell_types.proofs.lemmas.SameLemmas.{one_zone}
 use Rattle.cell_types.specs.declared.place.Place.TheVariants as place
 use Rattle.cell_rules.specs.Names.{ModelState, zone_at, is_owned_by, owns, owner_of}

@@ -1,5 +1,6 @@
 pub mod lemmas
 mod AtWork
+mod AxisFigures
 mod Bounds
 mod CollisionBounds
 mod Contrasts

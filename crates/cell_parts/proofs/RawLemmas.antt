@@ -3,7 +3,6 @@ use Rattle.std.proofs.Common.{◌≡◌, ℕ, ◌+◌, ◌-◌, ◌*◌, ◌/◌
 use Rattle.std.proofs.lemmas.Int.{ints}
 use Rattle.std.proofs.Math.Nat.{div-mul-le_self, lt-div-mul-add, mul-div_cancel_left}
 use Rattle.cell_sensors.specs.Names.{Scale, IsScale, IsRawAt}
-use Rattle.cell_parts.specs.Names.{IsAxisScale, IsWithin, ShowsRaw}
 
 floor_naturals : (along width rise q : ℕ) → 0 < rise → q ≡ along * width / rise → (q * rise ≤ along * width) × (along * width < q * rise + rise)
 floor_naturals along width rise q some e = rw e (div-mul-le_self (along * width) rise, lt-div-mul-add some)

@@ -6,6 +6,7 @@ use Rattle.cell_parts.specs.DemandExamples.{PositionDemandBounds, MotorDemandBou
 use Rattle.cell_parts.specs.DemandExamples.{EachDemand}
 use Rattle.cell_parts.specs.PartExamples.{SettingExamples, MovingBounds, SensorBounds, RawBounds, ShowingExamples}
 use Rattle.cell_parts.specs.PartExamples.{NoteBounds, StartValues}
+use Rattle.cell_parts.specs.ScaleExamples.{AxesAreMet}
 
 pub record BoundsAreMet : Type 0 where
   pub collisions : CollisionBounds
@@ -24,3 +25,4 @@ pub record BoundsAreMet : Type 0 where
   pub showing : ShowingExamples
   pub notes : (scale : Scale) (scales : RobotScales) → NoteBounds scale scales
   pub start : StartValues
+  pub axes : AxesAreMet

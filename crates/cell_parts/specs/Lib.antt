@@ -11,5 +11,6 @@ pub mod PartExamples
 pub mod Plant
 pub mod PositionDemands
 pub mod Rigs
+pub mod ScaleExamples
 pub mod Shows
 pub mod Names

@@ -3,6 +3,7 @@
 use Rattle.std.specs.Prelude.{◌≡◌, ◌≢◌, ◌↔◌, ℕ, ◌≤◌, pos, Bool, true, false, Some, None}
 use Rattle.cell_rules.specs.Types.{Machine, Feed, Table, Robot, Press, Deposit, Crane, Zone, Z1, Z4, Z5, Z6, Pose}
 use Rattle.cell_rules.specs.Types.{Call, Claim, Give, Yield, Take, Release, SetPose, Advance, Inquire, Done, Refused}
+use Rattle.cell_rules.specs.Types.{Stop, Resume}
 use Rattle.cell_rules.specs.Types.{Event, NoPlate}
 use Rattle.cell_types.specs.declared.place.Place.TheVariants as place
 use Rattle.cell_sensors.specs.Names.{Scale, RobotScales}
@@ -30,6 +31,8 @@ use Rattle.cell_parts.specs.declared.plant.CranePlant.{CranePlant}
 use Rattle.cell_parts.specs.Shows.{IsPressBottom, IsPressMiddle, IsPressTop, IsTableBottom, IsTableTop}
 use Rattle.cell_parts.specs.Shows.{IsCraneAtDeposit, IsCraneAtFeed, IsInBarrier, ShowsRaw}
 use Rattle.cell_parts.specs.Collisions.{NothingCollides}
+use Rattle.cell_parts.specs.AtWork.{guests_inside}
+use Rattle.cell_parts.specs.Plant.{plant_at_start}
 use Rattle.cell_parts.specs.Rigs.{feed_rig, table_rig, robot_rig, press_rig, deposit_rig, crane_rig}
 use Rattle.cell_parts.specs.Examples.{FromTo, empty_cell, cell_with_plate_at, driven_at, at, robot_with, robot_at}
 use Rattle.cell_parts.specs.Examples.{table_at, crane_with, crane_at, belt_with, belt_entered_at, belt_at}
@@ -273,6 +276,8 @@ pub record StaysByOtherCalls (hears : Call → Belt → Belt) (taken given : Zon
   pub releases : (b : Belt) (z : Zone) → hears (Release z) b ≡ b
   pub poses : (b : Belt) (p : Pose) → hears (SetPose p) b ≡ b
   pub inquires : (b : Belt) (z : Zone) → hears (Inquire z) b ≡ b
+  pub stops : (b : Belt) → hears Stop b ≡ b
+  pub resumes : (b : Belt) → hears Resume b ≡ b
 
 pub record NoteBounds (scale : Scale) (scales : RobotScales) : Type 0 where
   pub feed_takes : feed_hears Feed (Take Z6) (belt_with None false) ≡ belt_entered_at 0 false
@@ -322,3 +327,7 @@ pub record StartValues : Type 0 where
   pub arm2_loaded : (cell_with_plate_at place.Arm2).robot ≡ record empty_cell.robot { magnet2 = true }
   pub crane_loaded : (cell_with_plate_at place.Crane).crane ≡ record empty_cell.crane { magnet = true }
   pub nothing_collides : NothingCollides empty_cell
+  pub by_places_alone : plant_at_start guests_inside ≡ record empty_cell {
+    feed = belt_with (Some 900) false;
+    deposit = belt_with (Some 1000) false;
+  }

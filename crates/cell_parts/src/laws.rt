@@ -27,7 +27,7 @@ pub fn demands_can_be_met()
 /// The plant in numbers: collisions, the demands of positions and motors, switches and light
 /// barriers, each for all positions and motors of its parts. Also the ends of the axes, the zone
 /// and posture of each demand, how each part obeys its commands, moves, shows and notes, and its
-/// start.
+/// start. The scales of its axes, and the ends within which they stay.
 pub fn bounds_are_met()
     ensures { BoundsAreMet }
 {}
