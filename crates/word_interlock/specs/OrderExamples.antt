@@ -15,7 +15,8 @@ use Rattle.word_interlock.specs.Run.{AnsweredCall, EndsBefore}
 use Rattle.word_interlock.specs.One.{IsSeenOn, AreShownOn}
 use Rattle.word_interlock.specs.Settling.{IsAnsweredAtLast}
 use Rattle.word_interlock.specs.MomentExamples.{AreTwoActors, pass_with}
-use Rattle.word_interlock.specs.SeatExamples.{SeatCases, ViewCases, FreshCases, ToldCases, ReplyCases, StepCases, FoundCases}
+use Rattle.word_interlock.specs.SeatExamples.{SeatCases, ViewCases, FreshCases, ToldCases, ReplyCases, StepCases}
+use Rattle.word_interlock.specs.SeatExamples.{FoundCases}
 
 module _ {S M C A E : Type 0} (b : RuleBook S M C A E) (m n : M) (e f : E) where
   pub record OrderCases : Type 0 where

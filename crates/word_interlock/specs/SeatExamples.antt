@@ -96,7 +96,8 @@ module _ (A : Type 0) where
     pub once : (lost stamp : ℕ) → once_busy {A = A} (Busy lost stamp) ≡ 1
     pub not_once : (a : A) (stamp : ℕ) → once_busy (Settled a stamp) ≡ 0
 
-module _ {R S M C A E : Type 0} (b : RuleBook S M C A E) (c : C) (p : ActorView R S M E) (moments : List (Moment M E)) where
+module _ {R S M C A E : Type 0} (b : RuleBook S M C A E) (c : C) (p : ActorView R S M E)
+    (moments : List (Moment M E)) where
   -- the event of a call at the opening
   abbrev pub its_event : E
   its_event = b.event p.actor c (b.reply p.opening p.actor c)
