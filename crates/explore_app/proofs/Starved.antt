@@ -1,5 +1,5 @@
 -- A turn of a round, after turns from a start.
-use Rattle.std.proofs.Common.{◌≡◌, ◌<◌, ◌+◌, ◌∙◌, ◌++◌, ◌∷◌, [], ℕ, List, length, take, get_or, All, Bool, true, false, Some, None, Result, Ok, Err, IfOk, String, Global, string_bytes, inl, inr, append-nil, append_assoc, refl, sym, ap, subst}
+use Rattle.std.proofs.Common.{◌≡◌, ◌<◌, ◌+◌, ◌∙◌, ◌++◌, ◌∷◌, [], List, length, take, get_or, All, Bool, true, false, Some, None, Result, Ok, Err, IfOk, ℕ, inl, inr, append-nil, append_assoc, refl, sym, ap, subst}
 use Rattle.std.proofs.lemmas.Grind.{flat_map-append}
 use Rattle.std.proofs.lemmas.List.{take_more}
 use Rattle.std.proofs.lemmas.List.Elements.{All-append, All-cons, All-nil}
@@ -14,9 +14,13 @@ use Rattle.cell_explorer.specs.declared.walk.NextTurn.{NextTurn}
 use Rattle.cell_explorer.specs.declared.walk.Walk.{Walk}
 use Rattle.cell_liveness.specs.Starving.{IsStarving}
 use Rattle.explore_app.specs.Bounds.{Text}
-use Rattle.explore_app.specs.Screens.{ComesTo, IsScreenOf}
+use Rattle.cell_notes.specs.declared.schedule.Turn.{Turn}
+use Rattle.cell_liveness.specs.GoingOn.{PlatesGoOn}
+use Rattle.explore_app.specs.declared.screen.Screen.{Screen}
+use Rattle.explore_app.specs.declared.screen.Screen.TheVariants.{Free, Warning}
+use Rattle.explore_app.specs.Screens.{ComesTo, IsScreenOf, warning_of}
 use Rattle.explore_app.specs.declared.step.Step.{Step}
-use Rattle.explore_app.specs.Starving.{Asking, IsRoundTurn, IsStarvingScreenOf, ShowsRound, Starves, asking, asking_after, asking_if, going_after, going_step, going_turn, going_turns, is_idle, is_of_round}
+use Rattle.explore_app.specs.Starving.{Asking, IsRound, IsRoundTurn, IsStarvingScreenOf, ShowsCircle, ShowsRound, Starves, TellsBound, asking, asking_after, asking_if, going_after, going_step, going_turn, going_turns, is_idle, is_of_round, round_screen, weak_screen}
 
 pub value_at : {T : Type 0} (f : Machine → T) (m : Machine) → at_machine (values_of f) m ≡ f m
 value_at f Feed = refl
@@ -73,19 +77,30 @@ way_more stem cycle way new i d h here is =
 
 -- ---- what a screen of how plates starve tells
 
-if_ok : {E : Type 0} (r : Result (String Global) E) (P Q : Text → Type 0) → ((text : Text) → P text → Q text) → IfOk r (λ screen. P (string_bytes screen)) → IfOk r (λ screen. Q (string_bytes screen))
-if_ok (Ok screen) P Q so k = so (string_bytes screen) k
-if_ok (Err e) P Q so k = tt
-
-module _ {E : Type 0} (s : ModelState) (stem cycle : List Machine) (walk : Walk) (r : Result (String Global) E) (leads : IsStarving s None None stem cycle) (come : ComesTo s stem walk) where
+module _ (s : ModelState) (stem cycle : List Machine) (walk : Walk) (leads : IsStarving s None None stem cycle) (come : ComesTo s stem walk) where
   starves : (still : Bool) → is_idle walk cycle ≡ still → Starves s (length stem) still
   starves still idle = record { stem = stem; cycle = cycle; leads = leads; long = refl; walk = walk; comes_to = come; idle = idle }
 
-  pub tells_still : is_idle walk cycle ≡ true → IfOk r (λ screen. IsScreenOf s (string_bytes screen)) → IfOk r (λ screen. IsStarvingScreenOf s (string_bytes screen))
-  tells_still idle k =
-      if_ok r (λ (text : Text). IsScreenOf s text) (λ (text : Text). IsStarvingScreenOf s text) (λ text screen. inl (record { turns = length stem; starves = starves true idle; screen = screen })) k
+  pub tells_still : is_idle walk cycle ≡ true → (found : Screen) → IsScreenOf s found → IsStarvingScreenOf s (warning_of found)
+  tells_still idle (Free text) is = inl (record { turns = length stem; starves = starves true idle; screen = Free text; is_screen = is; shown = refl })
+  tells_still idle (Warning text) is = inl (record { turns = length stem; starves = starves true idle; screen = Warning text; is_screen = is; shown = refl })
 
-  pub tells_round : is_idle walk cycle ≡ false → IfOk r (λ screen. ShowsRound s stem cycle (string_bytes screen)) → IfOk r (λ screen. IsStarvingScreenOf s (string_bytes screen))
+  tells_circle : is_idle walk cycle ≡ false → (found : Screen) → ShowsCircle s stem cycle found → IsStarvingScreenOf s found
   unfolding starves
-  tells_round idle k =
-      if_ok r (λ (text : Text). ShowsRound s stem cycle text) (λ (text : Text). IsStarvingScreenOf s text) (λ text shown. inr (inl (record { turns = length stem; starves = starves false idle; shown = shown }))) k
+  tells_circle idle (Free text) shown = absurd shown
+  tells_circle idle (Warning text) shown = inr (record { turns = length stem; starves = starves false idle; shown = shown })
+
+  pub tells_round : {E : Type 0} (r : Result Screen E) → is_idle walk cycle ≡ false → IfOk r (ShowsCircle s stem cycle) → IfOk r (IsStarvingScreenOf s)
+  tells_round (Ok found) idle k = tells_circle idle found k
+  tells_round (Err e) idle k = tt
+
+-- a circle is shown by a text
+pub shows_circle : (s : ModelState) (stem cycle : List Machine) (round : List Step) (schedule : List Turn) (text : Text) → IsRound s stem cycle round → text ≡ round_screen s (length stem) round schedule → ShowsRound s stem cycle text
+shows_circle s stem cycle round schedule text is shown = record { round = round; is_round = is; schedule = schedule; shown = shown }
+
+-- where no circle is known
+pub shows_bound : (s : ModelState) (plain helped : ℕ) (text : Text) → PlatesGoOn s None None plain helped → text ≡ weak_screen s (Some (record { plain = plain; helped = helped })) → TellsBound s text
+shows_bound s plain helped text go_on shown = record { bound = Some (record { plain = plain; helped = helped }); go_on = go_on; shown = shown }
+
+pub shows_unknown : (s : ModelState) (text : Text) → text ≡ weak_screen s None → TellsBound s text
+shows_unknown s text shown = record { bound = None; go_on = tt; shown = shown }

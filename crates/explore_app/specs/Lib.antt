@@ -1,5 +1,6 @@
 pub mod Bounds
 pub mod LineExamples
+pub mod Liveness
 pub mod Requests
 pub mod Rings
 pub mod Screens

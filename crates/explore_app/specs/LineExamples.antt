@@ -6,15 +6,17 @@ use Rattle.cell_rules.specs.Types.{Done, Refused, Held, NotOwner, PlaceFull}
 use Rattle.cell_rules.specs.Names.{ModelState, empty, place_set, start_state}
 use Rattle.cell_explorer.specs.declared.turning.Prospect.TheVariants.{Acts, Waits, Stops}
 use Rattle.cell_explorer.specs.declared.exploring.Explored.TheVariants as explored
-use Rattle.cell_liveness.specs.declared.answers.Progress.TheVariants.{Within}
+use Rattle.cell_liveness.specs.declared.answers.Progress.TheVariants.{Within, Starves, Unknown}
 use Rattle.explore_app.specs.declared.bound.Bound.{Bound}
 use Rattle.explore_app.specs.declared.tally.Tally.{Tally}
 use Rattle.explore_app.specs.declared.ending.Ending.TheVariants as ending
-use Rattle.explore_app.specs.Bounds.{bound_of, going_line, if_both, machines_line}
+use Rattle.explore_app.specs.declared.liveness.Liveness.{Liveness}
+use Rattle.explore_app.specs.declared.liveness.Liveness.TheVariants as liveness
+use Rattle.explore_app.specs.Liveness.{both, going_line, liveness_of, machines_line, may_starve}
 use Rattle.explore_app.specs.Rings.{going_on_line, is_about, refused_line, waiting_line}
 use Rattle.explore_app.specs.Screens.{ending_line, free_line, plates_line, schedule_key, start_key}
 use Rattle.explore_app.specs.Starving.{acts, is_of_round, stem_line, weak_line}
-use Rattle.explore_app.specs.Tallies.{both_tallies, no_tally, tally_found, tally_line, with_bound}
+use Rattle.explore_app.specs.Tallies.{both_tallies, no_tally, tally_line, tally_of}
 
 abbrev pub bound : Bound
 bound = record { plain = 26; helped = 2 }
@@ -26,15 +28,19 @@ other_bound = record { plain = 9; helped = 3 }
 abbrev pub two_plates : ModelState
 two_plates = start_state (place_set false true false false false false false false false true) 0
 
--- no start; one with 700 situations and a bound; one with 800 and none
+-- no start; one with 700 situations and a bound; one with 800 from which a machine may starve; one with 900 of which
+-- that isn't known
 abbrev pub none : Tally
 none = no_tally
 
 abbrev pub bounded : Tally
-bounded = with_bound (tally_found (explored.Free 700)) (Some bound)
+bounded = tally_of (explored.Free 700) (liveness.Within bound)
 
-abbrev pub unbounded : Tally
-unbounded = with_bound (tally_found (explored.Free 800)) None
+abbrev pub starving : Tally
+starving = tally_of (explored.Free 800) liveness.Starves
+
+abbrev pub unknown : Tally
+unknown = tally_of (explored.Free 900) liveness.Unknown
 
 -- of two starts one stands still, after 3 turns; from the other a machine is refused, after 5
 abbrev pub stuck : Tally
@@ -80,20 +86,39 @@ pub record LinesAreMet : Type 0 where
       ≡ codes "# a plate moves within k * 26 + k * k * 2 steps of each weakly fair schedule\n"
   pub weak_unknown : weak_line None ≡ codes "# it isn't known whether plates starve\n"
   pub going :
-      going_line (Some bound)
+      going_line (liveness.Within bound)
       ≡ codes "# plates go on: a plate moves within k * 26 + k * k * 2 steps of a fair schedule\n"
-  pub going_unknown : going_line None ≡ codes "# in some fair schedule plates may stand for ever\n"
+  pub going_starves : going_line liveness.Starves ≡ codes "# in some fair schedule plates may stand for ever\n"
+  pub going_unknown : going_line liveness.Unknown ≡ codes "# it isn't known whether plates move for ever\n"
   pub machines :
-      machines_line (Some bound) ≡ codes "# each machine moves a plate within k * 26 + k * k * 2 steps\n"
+      machines_line (liveness.Within other_bound)
+      ≡ codes "# each machine moves a plate within k * 9 + k * k * 3 steps\n"
+  pub machines_starve :
+      machines_line liveness.Starves ≡ codes "# in some fair schedule a machine may move no plate for ever\n"
   pub machines_unknown :
-      machines_line None ≡ codes "# in some fair schedule a machine may move no plate for ever\n"
+      machines_line liveness.Unknown ≡ codes "# it isn't known whether each machine moves plates for ever\n"
 
--- which bounds are told of two, which machines an ending is about, and which turns are of a round
+-- what is told of two answers, which machines an ending is about, and which turns are of a round
 pub record ChoicesAreMet : Type 0 where
-  pub within : bound_of (Within 26 2) ≡ Some bound
-  pub both : if_both (Some bound) (Some other_bound) ≡ Some (record { plain = 26; helped = 3 })
-  pub first_unknown : if_both None (Some bound) ≡ None
-  pub second_unknown : if_both (Some bound) None ≡ None
+  pub within : liveness_of (Within 26 2) ≡ liveness.Within bound
+  pub starve : (stem cycle : _) → liveness_of (Starves stem cycle) ≡ liveness.Starves
+  pub unknown : (reason : _) → liveness_of (Unknown reason) ≡ liveness.Unknown
+  -- a machine that is known to starve says more than one of which it isn't known
+  pub both_within :
+      both (liveness.Within bound) (liveness.Within other_bound)
+      ≡ liveness.Within (record { plain = 26; helped = 3 })
+  pub first_unknown : both liveness.Unknown (liveness.Within bound) ≡ liveness.Unknown
+  pub second_unknown : both (liveness.Within bound) liveness.Unknown ≡ liveness.Unknown
+  pub both_unknown : both liveness.Unknown liveness.Unknown ≡ liveness.Unknown
+  pub first_starves : both liveness.Starves (liveness.Within bound) ≡ liveness.Starves
+  pub second_starves : both (liveness.Within bound) liveness.Starves ≡ liveness.Starves
+  pub starves_beside_unknown : both liveness.Starves liveness.Unknown ≡ liveness.Starves
+  pub unknown_beside_starves : both liveness.Unknown liveness.Starves ≡ liveness.Starves
+  pub both_starve : both liveness.Starves liveness.Starves ≡ liveness.Starves
+  -- status 1 comes where something starves, and not where that isn't known
+  pub starving_warns : may_starve liveness.Starves ≡ true
+  pub unknown_does_not : may_starve liveness.Unknown ≡ false
+  pub going_does_not : may_starve (liveness.Within other_bound) ≡ false
   pub standstill_waits : is_about ending.Standstill Waits ≡ true
   pub standstill_acts : is_about ending.Standstill Acts ≡ false
   pub standstill_stops : is_about ending.Standstill Stops ≡ false
@@ -114,9 +139,22 @@ pub record TalliesAreMet : Type 0 where
       ≡ codes "plates 1 starts 1: no standstill before the last stamp; at most 700 situations; "
       ++ codes "each machine moves a plate within k * 26 + k * k * 2 steps\n"
   pub one_may_not :
-      tally_line 3 (both_tallies bounded unbounded)
+      tally_line 3 (both_tallies bounded starving)
       ≡ codes "plates 3 starts 2: no standstill before the last stamp; at most 800 situations; "
       ++ codes "from 1 a machine may move no plate for ever\n"
+  pub two_may_not :
+      tally_line 3 (both_tallies starving starving)
+      ≡ codes "plates 3 starts 2: no standstill before the last stamp; at most 800 situations; "
+      ++ codes "from 2 a machine may move no plate for ever\n"
+  pub one_is_unknown :
+      tally_line 2 (both_tallies unknown bounded)
+      ≡ codes "plates 2 starts 2: no standstill before the last stamp; at most 900 situations; "
+      ++ codes "of 1 it isn't known whether each machine moves plates for ever\n"
+  pub one_of_each :
+      tally_line 5 (both_tallies (both_tallies unknown starving) (both_tallies bounded unknown))
+      ≡ codes "plates 5 starts 4: no standstill before the last stamp; at most 900 situations; "
+      ++ codes "from 1 a machine may move no plate for ever; "
+      ++ codes "of 2 it isn't known whether each machine moves plates for ever\n"
   pub one_stands : tally_line 0 stuck ≡ codes "plates 0 starts 1: 1 stand still after 3 to 3 turns\n"
   pub two_end :
       tally_line 4 (both_tallies (both_tallies stuck refused) bounded)

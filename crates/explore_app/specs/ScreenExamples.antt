@@ -13,12 +13,13 @@ use Rattle.cell_explorer.specs.declared.exploring.Explored.TheVariants as explor
 use Rattle.cell_explorer.specs.declared.walk.NextTurn.{NextTurn}
 use Rattle.cell_explorer.specs.declared.walk.Walk.{Walk}
 use Rattle.cell_liveness.specs.declared.answers.Plates.{Plates}
-use Rattle.cell_liveness.specs.declared.answers.Progress.TheVariants.{Within, Unknown}
+use Rattle.cell_liveness.specs.declared.answers.Progress.TheVariants.{Within, Starves, Unknown}
 use Rattle.explore_app.specs.declared.ending.Ending.TheVariants as ending
+use Rattle.explore_app.specs.declared.liveness.Liveness.TheVariants as liveness
 use Rattle.explore_app.specs.declared.request.Request.{Request}
 use Rattle.explore_app.specs.declared.request.Request.TheVariants as request
 use Rattle.explore_app.specs.declared.step.Step.{Step}
-use Rattle.explore_app.specs.Bounds.{bound_of_each}
+use Rattle.explore_app.specs.Liveness.{any_starves, liveness_of_each}
 use Rattle.explore_app.specs.LineExamples.{bound, none, other_bound, two_plates}
 use Rattle.explore_app.specs.Requests.{request_of}
 use Rattle.explore_app.specs.Rings.{party_awaited, zone_of}
@@ -106,19 +107,37 @@ party m c = party_awaited m c (Refused (Shut Closed))
 
 pub record EachIsMet : Type 0 where
   pub slowest :
-      map bound_of_each
+      map liveness_of_each
       (record each_moves { feed = Within 50 2 } ∷ record each_moves { table = Within 51 2 }
       ∷ record each_moves { robot = Within 52 2 } ∷ record each_moves { press = Within 53 2 }
       ∷ record each_moves { deposit = Within 54 2 } ∷ record each_moves { crane = Within 55 26 } ∷ [])
-      ≡ Some (record { plain = 50; helped = 25 }) ∷ Some (record { plain = 51; helped = 25 })
-      ∷ Some (record { plain = 52; helped = 25 }) ∷ Some (record { plain = 53; helped = 25 })
-      ∷ Some (record { plain = 54; helped = 25 }) ∷ Some (record { plain = 55; helped = 26 }) ∷ []
+      ≡ liveness.Within (record { plain = 50; helped = 25 }) ∷ liveness.Within (record { plain = 51; helped = 25 })
+      ∷ liveness.Within (record { plain = 52; helped = 25 }) ∷ liveness.Within (record { plain = 53; helped = 25 })
+      ∷ liveness.Within (record { plain = 54; helped = 25 }) ∷ liveness.Within (record { plain = 55; helped = 26 })
+      ∷ []
   pub unknown : (reason : _)
-      → map bound_of_each
+      → map liveness_of_each
       (record each_moves { feed = Unknown reason } ∷ record each_moves { table = Unknown reason }
       ∷ record each_moves { robot = Unknown reason } ∷ record each_moves { press = Unknown reason }
       ∷ record each_moves { deposit = Unknown reason } ∷ record each_moves { crane = Unknown reason } ∷ [])
-      ≡ None ∷ None ∷ None ∷ None ∷ None ∷ None ∷ []
+      ≡ liveness.Unknown ∷ liveness.Unknown ∷ liveness.Unknown ∷ liveness.Unknown ∷ liveness.Unknown
+      ∷ liveness.Unknown ∷ []
+  pub starve : (reason : _) (stem cycle : Vec Machine)
+      → map liveness_of_each
+      (record each_moves { feed = Starves stem cycle } ∷ record each_moves { table = Starves stem cycle }
+      ∷ record each_moves { robot = Starves stem cycle } ∷ record each_moves { press = Starves stem cycle }
+      ∷ record each_moves { deposit = Starves stem cycle }
+      ∷ record each_moves { crane = Starves stem cycle; feed = Unknown reason } ∷ [])
+      ≡ liveness.Starves ∷ liveness.Starves ∷ liveness.Starves ∷ liveness.Starves ∷ liveness.Starves
+      ∷ liveness.Starves ∷ []
+  -- status 1 comes where plates or one machine starve, and else not
+  pub starving_plates_warn : (stem cycle : Vec Machine)
+      → any_starves (record each_moves { any = Starves stem cycle }) ≡ true
+  pub starving_machine_warns : (reason : _) (stem cycle : Vec Machine)
+      → any_starves (record each_moves { any = Unknown reason; table = Starves stem cycle }) ≡ true
+  pub unknown_warns_not : (reason : _)
+      → any_starves (record each_moves { any = Unknown reason; robot = Unknown reason }) ≡ false
+  pub going_warns_not : any_starves each_moves ≡ false
   pub zones :
       map zone_of (Yield Z4 ∷ Release Z5 ∷ Inquire Z6 ∷ Advance ∷ Stop ∷ Resume ∷ [])
       ≡ Some Z4 ∷ Some Z5 ∷ Some Z6 ∷ None ∷ None ∷ None ∷ []
@@ -128,13 +147,13 @@ pub record EachIsMet : Type 0 where
       ≡ Some Table ∷ Some Feed ∷ Some Robot ∷ Some Table ∷ Some Deposit ∷ Some Crane ∷ Some Feed ∷ None ∷ []
   pub owner_awaited : party_awaited Robot (Claim Z3) (Refused (Held Watch)) ≡ Some Watch
   pub stuck : (way : Vec Machine) → length way.items ≡ 3
-      → tally_line 0 (tally_of (explored.Standstill way) None)
+      → tally_line 0 (tally_of (explored.Standstill way) liveness.Unknown)
       ≡ codes "plates 0 starts 1: 1 stand still after 3 to 3 turns\n"
   pub stopped : (way : Vec Machine) → length way.items ≡ 5
-      → tally_line 4 (tally_of (explored.Refusal way) None)
+      → tally_line 4 (tally_of (explored.Refusal way) liveness.Unknown)
       ≡ codes "plates 4 starts 1: 0 stand still, and in 1 a machine is stopped by a refusal, after 5 to 5 turns\n"
   pub bounded :
-      tally_line 1 (tally_of (explored.Free 700) (Some bound))
+      tally_line 1 (tally_of (explored.Free 700) (liveness.Within bound))
       ≡ codes "plates 1 starts 1: no standstill before the last stamp; at most 700 situations; "
       ++ codes "each machine moves a plate within k * 26 + k * k * 2 steps\n"
   pub fewest : no_tally.fewest_turns ≡ 18446744073709551615
@@ -146,6 +165,7 @@ pub record EachIsMet : Type 0 where
         refused = 3;
         bounded = 4;
         bound = bound;
+        starving = 8;
         most_situations = 5;
         fewest_turns = 6;
         most_turns = 7;
@@ -156,6 +176,7 @@ pub record EachIsMet : Type 0 where
         refused = 30;
         bounded = 40;
         bound = other_bound;
+        starving = 80;
         most_situations = 50;
         fewest_turns = 5;
         most_turns = 70;
@@ -166,14 +187,16 @@ pub record EachIsMet : Type 0 where
         refused = 33;
         bounded = 44;
         bound = record { plain = 26; helped = 3 };
+        starving = 88;
         most_situations = 50;
         fewest_turns = 5;
         most_turns = 70;
       }
   pub counted :
-      both_tallies (record none { free = 4294967295; refused = 4294967294; bounded = 4294967295 })
-      (record none { free = 1; refused = 2; bounded = 3 })
-      ≡ record none { free = 4294967295; refused = 4294967295; bounded = 4294967295 }
+      both_tallies
+      (record none { free = 4294967295; refused = 4294967294; bounded = 4294967295; starving = 4294967293 })
+      (record none { free = 1; refused = 2; bounded = 3; starving = 4 })
+      ≡ record none { free = 4294967295; refused = 4294967295; bounded = 4294967295; starving = 4294967295 }
 
 -- ---- the program's words
 

@@ -1,30 +1,66 @@
 -- What a run of the program has written.
-use Rattle.std.specs.Prelude.{◌≡◌, ℕ, Option, Ok, IfSome}
+use Rattle.std.specs.Prelude.{◌≡◌, ◌⊎◌, ℕ, codes, Option, Ok, Err, IfSome, string_bytes}
 use Rattle.std.specs.Io.KnownBytes.{Appends}
+use Rattle.text_io.specs.Output.{WrotePrefix}
+use Rattle.program_shell.specs.Faults.{fault_line}
+use Rattle.program_shell.specs.Served.{Served}
 use Rattle.cell_rules.specs.ModelState.{ModelState}
-use Rattle.cell_config.specs.Settings.{Settings, settings_of}
+use Rattle.cell_config.specs.Configured.{Says}
+use Rattle.cell_config.specs.ConfigWords.{config_fault_text}
+use Rattle.cell_config.specs.Settings.{Settings, max_bytes_read, settings_of}
+use Rattle.cell_config.specs.declared.fault.ConfigFault.{ConfigFault}
 use Rattle.explore_app.specs.declared.request.Question.{Question}
 use Rattle.explore_app.specs.declared.request.Question.TheVariants.{Standstill, Starving}
+use Rattle.explore_app.specs.declared.screen.Screen.{Screen}
+use Rattle.explore_app.specs.declared.screen.Screen.TheVariants.{Free, Warning}
 use Rattle.explore_app.specs.Bounds.{Text}
-use Rattle.explore_app.specs.Screens.{IsScreenOf}
-use Rattle.explore_app.specs.Starving.{IsStarvingScreenOf}
+use Rattle.explore_app.specs.Screens.{IsScreenOf, TellsFreedom, TellsTrouble}
+use Rattle.explore_app.specs.Starving.{IsStarvingScreenOf, TellsBound, TellsRound, TellsStill}
 use Rattle.explore_app.specs.Tallies.{AreLines}
 
--- a text answers a question of a start
-abbrev pub IsAnswerTo : Question → ModelState → Text → Type 0
-IsAnswerTo Standstill s text = IsScreenOf s text
-IsAnswerTo Starving s text = IsStarvingScreenOf s text
+-- a screen answers a question of a start
+abbrev pub IsAnswerTo : Question → ModelState → Screen → Type 0
+IsAnswerTo Standstill s screen = IsScreenOf s screen
+IsAnswerTo Starving s screen = IsStarvingScreenOf s screen
 
--- a text answers it of the start of the configuration that the bytes give
-pub record IsAnswerFor (question : Question) (bytes text : Text) : Type 0 where
+-- a screen that is no warning was written
+abbrev pub WroteFree : Screen → Option Text → Option Text → Type 0
+WroteFree (Free text) old new = Appends old new (string_bytes text)
+WroteFree (Warning text) old new = ⊥
+
+-- a text says that nothing stands still or starves from a start, by what explorations answer; or that something does
+abbrev pub TellsWell : Question → ModelState → Text → Type 0
+TellsWell Standstill s text = TellsFreedom s text
+TellsWell Starving s text = TellsBound s text
+
+abbrev pub Warns : Question → ModelState → Text → Type 0
+Warns Standstill s text = TellsTrouble s text
+Warns Starving s text = TellsStill s text ⊎ TellsRound s text
+
+-- a text does so of the start of the configuration that the bytes give
+pub record IsAnswerFor (Tells : ModelState → Text → Type 0) (bytes text : Text) : Type 0 where
   pub settings : Settings
   pub said : settings_of bytes ≡ Ok settings
-  pub answers : IsAnswerTo question settings.start text
+  pub tells : Tells settings.start text
 
--- the answer was written
+-- the answer that nothing does was written
 abbrev pub WasAnswered : Question → Option Text → Option Text → Option Text → Type 0
 WasAnswered question input old new =
-    IfSome input (λ bytes. (text : Text) × IsAnswerFor question bytes text × Appends old new text)
+    IfSome input (λ bytes. (text : Text) × IsAnswerFor (TellsWell question) bytes text × Appends old new text)
+
+-- Else the configuration was refused, or memory ran out, or no schedule was found that leads a simulated cell there, and
+-- a prefix of the fault's line was written; or a warning was, or a prefix of it; or the writer failed.
+abbrev pub AnswerFails : Question → Text → Option Text → Option Text → Type 0
+AnswerFails question bytes old new =
+    ((fault : ConfigFault) × (Says bytes (Err fault) × WrotePrefix old new (fault_line (config_fault_text fault))))
+    ⊎ (WrotePrefix old new (fault_line (codes "memory"))
+    ⊎ (WrotePrefix old new (fault_line (codes "the simulated cell doesn't come to it"))
+    ⊎ (((text : Text) × (IsAnswerFor (Warns question) bytes text × WrotePrefix old new text))
+    ⊎ ((text : Text) × (IsAnswerFor (TellsWell question) bytes text × WrotePrefix old new text)))))
+
+-- what `serve` says of a configuration's start
+abbrev pub Answers : Question → ℕ → Option Text → Option Text → Option Text → Option Text → Type 0
+Answers question = Served (WasAnswered question) (AnswerFails question) max_bytes_read
 
 -- the lines of all starts were written, up to this number of lines
 abbrev pub WereListed : ℕ → Option Text → Option Text → Type 0

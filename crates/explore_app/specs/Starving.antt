@@ -1,7 +1,7 @@
 -- The screens of how plates starve from a start.
 use Rattle.std.specs.Prelude.{◌≡◌, ◌++◌, ◌⊎◌, ◌||◌, ℕ, Bool, true, false, not, List, [], ◌∷◌}
-use Rattle.std.specs.Prelude.{length, All, codes}
-use Rattle.std.specs.Prelude.{Option, Some, None, if◌then◌else◌}
+use Rattle.std.specs.Prelude.{length, All, codes, string_bytes}
+use Rattle.std.specs.Prelude.{Option, Some, None, IfSome, if◌then◌else◌}
 use Rattle.std.specs.Fmt.{decimal}
 use Rattle.std.specs.List.{flat_map}
 use Rattle.cell_rules.specs.Types.{Call, Machine}
@@ -16,15 +16,15 @@ use Rattle.cell_explorer.specs.Calls.{call_of}
 use Rattle.cell_explorer.specs.Walks.{end_of}
 use Rattle.cell_explorer.specs.declared.situation.Situation.{Situation}
 use Rattle.cell_explorer.specs.declared.walk.Walk.{Walk}
-use Rattle.cell_liveness.specs.Answers.{IfWithin}
 use Rattle.cell_liveness.specs.GoingOn.{PlatesGoOn}
 use Rattle.cell_liveness.specs.Starving.{IsStarving}
-use Rattle.cell_liveness.specs.declared.answers.Progress.{Progress}
 use Rattle.explore_app.specs.declared.bound.Bound.{Bound}
 use Rattle.explore_app.specs.declared.step.Step.{Step}
-use Rattle.explore_app.specs.Bounds.{Text, bound_of, bound_words}
+use Rattle.explore_app.specs.declared.screen.Screen.{Screen}
+use Rattle.explore_app.specs.declared.screen.Screen.TheVariants.{Free, Warning}
+use Rattle.explore_app.specs.Bounds.{Text, bound_words}
 use Rattle.explore_app.specs.Rings.{going_on_line, waiting_line}
-use Rattle.explore_app.specs.Screens.{ComesTo, IsScreenOf, plates_line, start_key, schedule_key}
+use Rattle.explore_app.specs.Screens.{ComesTo, IsScreenOf, plates_line, schedule_key, screen_text, start_key}
 
 -- ---- lines
 
@@ -137,11 +137,18 @@ pub record Starves (s : ModelState) (turns : ℕ) (still : Bool) : Type 0 where
   pub comes_to : ComesTo s stem walk
   pub idle : is_idle walk cycle ≡ still
 
--- they lead to a standstill, and a text is the screen of the start
+-- a screen shows a round, as a warning
+abbrev pub ShowsCircle : ModelState → List Machine → List Machine → Screen → Type 0
+ShowsCircle s stem cycle (Free text) = ⊥
+ShowsCircle s stem cycle (Warning text) = ShowsRound s stem cycle (string_bytes text)
+
+-- they lead to a standstill, and a text is that of the start's screen
 pub record TellsStill (s : ModelState) (text : Text) : Type 0 where
   pub turns : ℕ
   pub starves : Starves s turns true
-  pub screen : IsScreenOf s text
+  pub screen : Screen
+  pub is_screen : IsScreenOf s screen
+  pub shown : text ≡ screen_text screen
 
 -- they lead to none, and a text shows the round
 pub record TellsRound (s : ModelState) (text : Text) : Type 0 where
@@ -151,10 +158,11 @@ pub record TellsRound (s : ModelState) (text : Text) : Type 0 where
 
 -- a text shows within how many steps a plate moves, or that this isn't known
 pub record TellsBound (s : ModelState) (text : Text) : Type 0 where
-  pub found : Progress
-  pub go_on : IfWithin found (PlatesGoOn s None None)
-  pub shown : text ≡ weak_screen s (bound_of found)
+  pub bound : Option Bound
+  pub go_on : IfSome bound (λ b. PlatesGoOn s None None b.plain b.helped)
+  pub shown : text ≡ weak_screen s bound
 
--- a text is the screen of how plates starve
-abbrev pub IsStarvingScreenOf : ModelState → Text → Type 0
-IsStarvingScreenOf s text = TellsStill s text ⊎ (TellsRound s text ⊎ TellsBound s text)
+-- a screen is that of how plates starve: it is a warning where they do
+abbrev pub IsStarvingScreenOf : ModelState → Screen → Type 0
+IsStarvingScreenOf s (Free text) = TellsBound s (string_bytes text)
+IsStarvingScreenOf s (Warning text) = TellsStill s (string_bytes text) ⊎ TellsRound s (string_bytes text)

@@ -1,56 +1,85 @@
 -- What screens and lines say, in other words.
-use Rattle.std.specs.Prelude.{◌≡◌, ◌⊎◌, ℕ, ◌+◌, true, false, List, [], ◌∷◌, ◌++◌, length, All, Some, None, Ok}
-use Rattle.std.specs.Prelude.{IfSome}
+use Rattle.std.specs.Prelude.{◌≡◌, ◌⊎◌, ℕ, ◌+◌, Bool, true, false, List, [], ◌∷◌, ◌++◌, length, All, Option, Some, None}
+use Rattle.std.specs.Prelude.{Ok, Err, IfSome, String, codes, string_bytes}
+use Rattle.std.specs.declared.alloc.Global.{Global}
+use Rattle.text_io.specs.Input.{TakesAtMost}
+use Rattle.text_io.specs.Output.{WrotePrefix}
 use Rattle.cell_rules.specs.Types.{Machine, Feed, Table, Robot, Press, Deposit, Crane}
 use Rattle.cell_rules.specs.Names.{ModelState, IsStartState, plates_of}
 use Rattle.cell_notes.specs.ByMachine.{values_of}
 use Rattle.cell_notes.specs.declared.schedule.Turn.{Turn}
-use Rattle.cell_config.specs.Settings.{Settings, settings_of}
+use Rattle.cell_config.specs.Configured.{Says}
+use Rattle.cell_config.specs.Settings.{Settings, max_bytes_read, settings_of}
+use Rattle.cell_config.specs.declared.fault.ConfigFault.{ConfigFault}
 use Rattle.cell_explorer.specs.Calls.{call_of}
 use Rattle.cell_explorer.specs.Columns.{cell_columns}
 use Rattle.cell_explorer.specs.Explored.{NoneEnds, ComeTo, LeadsToStandstill, LeadsToRefusal, IsShortest}
+use Rattle.cell_explorer.specs.Explored.{IfEnd, IfFree}
 use Rattle.cell_explorer.specs.Situations.{prospect_of}
 use Rattle.cell_explorer.specs.Walks.{asks_on, end_of, next_turn}
 use Rattle.cell_explorer.specs.declared.exploring.Explored.TheVariants as explored
 use Rattle.cell_explorer.specs.declared.walk.Walk.{Walk}
-use Rattle.cell_liveness.specs.Answers.{IfWithin}
+use Rattle.cell_liveness.specs.Answers.{IfStarves, IfWithin}
 use Rattle.cell_liveness.specs.GoingOn.{PlatesGoOn}
 use Rattle.cell_liveness.specs.Starving.{IsStarving}
 use Rattle.cell_liveness.specs.declared.answers.Plates.{Plates}
-use Rattle.cell_liveness.specs.declared.answers.Progress.{Progress}
 use Rattle.explore_app.specs.declared.bound.Bound.{Bound}
 use Rattle.explore_app.specs.declared.ending.Ending.{Ending}
 use Rattle.explore_app.specs.declared.ending.Ending.TheVariants as ending
+use Rattle.explore_app.specs.declared.liveness.Liveness.{Liveness}
+use Rattle.explore_app.specs.declared.liveness.Liveness.TheVariants.{Unknown}
+use Rattle.explore_app.specs.declared.request.Question.{Question}
 use Rattle.explore_app.specs.declared.request.Question.TheVariants.{Standstill, Starving}
+use Rattle.explore_app.specs.declared.screen.Screen.{Screen}
+use Rattle.explore_app.specs.declared.screen.Screen.TheVariants.{Free, Warning}
 use Rattle.explore_app.specs.declared.step.Step.{Step}
 use Rattle.explore_app.specs.declared.tally.Tally.{Tally}
-use Rattle.explore_app.specs.Bounds.{Text, bound_of, bound_of_each}
-use Rattle.explore_app.specs.Screens.{ComesTo, GoOnWithin, IsScreenOf, Shows, ShowsEnding, ShowsFree}
-use Rattle.explore_app.specs.Screens.{TellsFreedom, TellsRefusal, TellsStandstill, ending_screen, free_screen}
-use Rattle.explore_app.specs.Served.{WasAnswered, WereListed}
-use Rattle.explore_app.specs.Starving.{IsRoundTurn, IsStarvingScreenOf, ShowsRound, Starves, TellsBound}
+use Rattle.explore_app.specs.Bounds.{Text}
+use Rattle.explore_app.specs.Liveness.{any_starves, liveness_of_each}
+use Rattle.explore_app.specs.Screens.{ComesTo, GoOnWithin, IsScreenOf, MayStarve, Shows, ShowsEnding, ShowsFree}
+use Rattle.explore_app.specs.Screens.{TellsGoing, TellsRefusal, TellsStandstill, TellsTrouble}
+use Rattle.explore_app.specs.Screens.{ending_screen, free_screen, screen_text}
+use Rattle.explore_app.specs.Served.{AnswerFails, Answers, WasAnswered, WereListed}
+use Rattle.explore_app.specs.Starving.{IsRoundTurn, IsStarvingScreenOf, ShowsCircle, ShowsRound, Starves, TellsBound}
 use Rattle.explore_app.specs.Starving.{TellsRound, TellsStill, asking, going_turns, is_idle, is_of_round, round_screen}
 use Rattle.explore_app.specs.Starving.{weak_screen}
 use Rattle.explore_app.specs.Starts.{starts_with}
-use Rattle.explore_app.specs.Tallies.{AreLines, EachMovesWithin, Finding, IsTally, WasFound, both_tallies, no_tally}
+use Rattle.explore_app.specs.Tallies.{AreLines, Finding, IsLivenessFrom, IsTally, WasFound, both_tallies, no_tally}
 use Rattle.explore_app.specs.Tallies.{tally_line, tally_of}
 
 -- a start, its turns and what they come to
-pub record ScreensTell (s : ModelState) (text : Text) : Type 0 where
-  pub one_of_three : IsScreenOf s text
-      → (¬ TellsFreedom s text) → (¬ TellsStandstill s text) → (¬ TellsRefusal s text) → ⊥
-  pub freedom_is_found : TellsFreedom s text
-      → (situations : ℕ) × NoneEnds s × ComeTo s situations × ShowsFree s situations text
+pub record ScreensTell (s : ModelState) (text : String Global) : Type 0 where
+  -- a screen that is no warning tells that nothing stands still or starves; a warning, one of three things that do
+  pub free_tells_freedom : IsScreenOf s (Free text) → TellsGoing s false (string_bytes text)
+  pub freedom_is_no_warning : TellsGoing s false (string_bytes text) → IsScreenOf s (Free text)
+  pub warning_tells_one_of_three : IsScreenOf s (Warning text)
+      → (¬ TellsGoing s true (string_bytes text)) → (¬ TellsStandstill s (string_bytes text))
+      → (¬ TellsRefusal s (string_bytes text)) → ⊥
+  pub starving_warns : TellsGoing s true (string_bytes text) → IsScreenOf s (Warning text)
+  pub standstill_warns : TellsStandstill s (string_bytes text) → IsScreenOf s (Warning text)
+  pub refusal_warns : TellsRefusal s (string_bytes text) → IsScreenOf s (Warning text)
+  pub free : (situations : ℕ) → Shows s (explored.Free situations) (Free text)
+      → ShowsFree s situations false (string_bytes text)
+  pub starving : (situations : ℕ) → Shows s (explored.Free situations) (Warning text)
+      → ShowsFree s situations true (string_bytes text)
+  pub standstill : (way : _) → Shows s (explored.Standstill way) (Warning text)
+      → ShowsEnding s ending.Standstill way.items (string_bytes text)
+  pub standstill_is_a_warning : (way : _) → ¬ Shows s (explored.Standstill way) (Free text)
+  pub refusal : (way : _) → Shows s (explored.Refusal way) (Warning text)
+      → ShowsEnding s ending.Refusal way.items (string_bytes text)
+  pub refusal_is_a_warning : (way : _) → ¬ Shows s (explored.Refusal way) (Free text)
+
+-- what is told of a start, and shown of it
+pub record TextsTell (s : ModelState) (text : Text) : Type 0 where
+  pub freedom_is_found : (starve : Bool) → TellsGoing s starve text
+      → (situations : ℕ) × NoneEnds s × ComeTo s situations × ShowsFree s situations starve text
   pub standstill_is_found : TellsStandstill s text
       → (way : List Machine) × LeadsToStandstill s way × IsShortest s way × ShowsEnding s ending.Standstill way text
   pub refusal_is_found : TellsRefusal s text
       → (way : List Machine) × LeadsToRefusal s way × IsShortest s way × ShowsEnding s ending.Refusal way text
-  pub free : (situations : ℕ) → Shows s (explored.Free situations) text → ShowsFree s situations text
-  pub standstill : (way : _) → Shows s (explored.Standstill way) text
-      → ShowsEnding s ending.Standstill way.items text
-  pub refusal : (way : _) → Shows s (explored.Refusal way) text → ShowsEnding s ending.Refusal way.items text
-  pub freedom_is_shown : (situations : ℕ) → ShowsFree s situations text
-      → (plates : Plates) × GoOnWithin s plates × (text ≡ free_screen s situations plates)
+  pub freedom_is_shown : (situations : ℕ) (starve : Bool) → ShowsFree s situations starve text
+      → (plates : Plates) × GoOnWithin s plates × MayStarve s plates × (any_starves plates ≡ starve)
+      × (text ≡ free_screen s situations plates)
   pub ending_is_shown : (e : Ending) (way : List Machine) → ShowsEnding s e way text
       → (walk : Walk) × ComesTo s way walk × (schedule : List Turn)
       × (text ≡ ending_screen s e (length way) walk schedule)
@@ -66,22 +95,41 @@ pub record ScreensTell (s : ModelState) (text : Text) : Type 0 where
       × IfWithin plates.press (PlatesGoOn s (Some Press) (Some Press))
       × IfWithin plates.deposit (PlatesGoOn s (Some Deposit) (Some Press))
       × IfWithin plates.crane (PlatesGoOn s (Some Crane) (Some Press))
+  pub someone_starves : (plates : Plates) → MayStarve s plates
+      → IfStarves plates.any (IsStarving s None (Some Press))
+  pub each_starves : (plates : Plates) → MayStarve s plates
+      → IfStarves plates.feed (IsStarving s (Some Feed) (Some Press))
+      × IfStarves plates.table (IsStarving s (Some Table) (Some Press))
+      × IfStarves plates.robot (IsStarving s (Some Robot) (Some Press))
+      × IfStarves plates.press (IsStarving s (Some Press) (Some Press))
+      × IfStarves plates.deposit (IsStarving s (Some Deposit) (Some Press))
+      × IfStarves plates.crane (IsStarving s (Some Crane) (Some Press))
 
 -- how plates starve
-pub record StarvingTells (s : ModelState) (text : Text) : Type 0 where
-  pub one_of_three : IsStarvingScreenOf s text
-      → (¬ TellsStill s text) → (¬ TellsRound s text) → (¬ TellsBound s text) → ⊥
+pub record StarvingTells (s : ModelState) (text : String Global) : Type 0 where
+  pub free_tells_bound : IsStarvingScreenOf s (Free text)
+      → (bound : Option Bound) × IfSome bound (λ b. PlatesGoOn s None None b.plain b.helped)
+      × (string_bytes text ≡ weak_screen s bound)
+  pub bound_is_no_warning : TellsBound s (string_bytes text) → IsStarvingScreenOf s (Free text)
+  pub warning_tells_one_of_two : IsStarvingScreenOf s (Warning text)
+      → (¬ TellsStill s (string_bytes text)) → (¬ TellsRound s (string_bytes text)) → ⊥
+  pub still_warns : TellsStill s (string_bytes text) → IsStarvingScreenOf s (Warning text)
+  pub round_warns : TellsRound s (string_bytes text) → IsStarvingScreenOf s (Warning text)
   pub circle : (turns : ℕ) (still : _) → Starves s turns still
       → (stem : List Machine) × (cycle : List Machine) × IsStarving s None None stem cycle × (length stem ≡ turns)
       × (walk : Walk) × ComesTo s stem walk × (is_idle walk cycle ≡ still)
-  pub still : TellsStill s text → (turns : ℕ) × Starves s turns true × IsScreenOf s text
-  pub round : TellsRound s text
-      → (turns : ℕ) × (starves : Starves s turns false) × ShowsRound s starves.stem starves.cycle text
-  pub bound : TellsBound s text
-      → (found : Progress) × IfWithin found (PlatesGoOn s None None) × (text ≡ weak_screen s (bound_of found))
-  pub shown : (stem cycle : List Machine) → ShowsRound s stem cycle text
+  pub still : TellsStill s (string_bytes text)
+      → (turns : ℕ) × Starves s turns true × (screen : Screen) × IsScreenOf s screen
+      × (string_bytes text ≡ screen_text screen)
+  pub round : TellsRound s (string_bytes text)
+      → (turns : ℕ) × (starves : Starves s turns false)
+      × ShowsRound s starves.stem starves.cycle (string_bytes text)
+  pub circle_is_a_warning : (stem cycle : List Machine) → ¬ ShowsCircle s stem cycle (Free text)
+  pub circle_is_shown : (stem cycle : List Machine) → ShowsCircle s stem cycle (Warning text)
+      → ShowsRound s stem cycle (string_bytes text)
+  pub shown : (stem cycle : List Machine) → ShowsRound s stem cycle (string_bytes text)
       → (round : List Step) × All (IsRoundTurn s) round × (going_turns round ≡ asking s stem cycle)
-      × (schedule : List Turn) × (text ≡ round_screen s (length stem) round schedule)
+      × (schedule : List Turn) × (string_bytes text ≡ round_screen s (length stem) round schedule)
   pub turn : (step : Step) → IsRoundTurn s step
       → (way : List Machine) × ComesTo s way step.walk
       × (call_of cell_columns step.machine (end_of s way) ≡ Some step.call)
@@ -93,17 +141,17 @@ pub record FindingsTell (s : ModelState) : Type 0 where
   pub standstill : (way : _) → WasFound s (explored.Standstill way)
       → LeadsToStandstill s way.items × IsShortest s way.items
   pub refusal : (way : _) → WasFound s (explored.Refusal way) → LeadsToRefusal s way.items × IsShortest s way.items
-  pub bound : (b : Bound) → EachMovesWithin s b
-      → (plates : Plates) × GoOnWithin s plates × (bound_of_each plates ≡ Some b)
+  pub liveness : (liveness : Liveness) → IsLivenessFrom s liveness
+      → (plates : Plates) × GoOnWithin s plates × MayStarve s plates × (liveness_of_each plates ≡ liveness)
 
 -- tallies and lines
 pub record TalliesTell : Type 0 where
   pub finding : (plates : ℕ) (f : Finding plates)
       → IsStartState f.start × (plates_of f.start ≡ plates) × WasFound f.start f.found
-      × IfSome f.bound (EachMovesWithin f.start)
+      × IfFree f.found (λ _. IsLivenessFrom f.start f.liveness) × IfEnd f.found (λ _. f.liveness ≡ Unknown)
   pub tally : (plates : ℕ) (starts : List ModelState) (t : Tally) → IsTally plates starts t
       → ((starts ≡ []) × (t ≡ no_tally))
-      ⊎ (((f : Finding plates) × (starts ≡ f.start ∷ []) × (t ≡ tally_of f.found f.bound))
+      ⊎ (((f : Finding plates) × (starts ≡ f.start ∷ []) × (t ≡ tally_of f.found f.liveness))
       ⊎ ((some : List ModelState) × (others : List ModelState) × (a : Tally) × (b : Tally) × IsTally plates some a
       × IsTally plates others b × (starts ≡ some ++ others) × (t ≡ both_tallies a b)))
   pub lines : (count : ℕ) (text : Text) → AreLines count text
@@ -114,15 +162,36 @@ pub record TalliesTell : Type 0 where
 -- what was written
 pub record AnswersTell (bytes text : Text) : Type 0 where
   pub standstill : WasAnswered Standstill (Some bytes) (Some []) (Some text)
-      → (settings : Settings) × (settings_of bytes ≡ Ok settings) × IsScreenOf settings.start text
+      → (settings : Settings) × (settings_of bytes ≡ Ok settings) × TellsGoing settings.start false text
   pub starving : WasAnswered Starving (Some bytes) (Some []) (Some text)
-      → (settings : Settings) × (settings_of bytes ≡ Ok settings) × IsStarvingScreenOf settings.start text
+      → (settings : Settings) × (settings_of bytes ≡ Ok settings) × TellsBound settings.start text
   pub listed : (lines : ℕ) → WereListed lines (Some []) (Some text) → AreLines lines text
   pub nothing_lost : (lines : ℕ) → ¬ WereListed lines (Some (7 ∷ [])) (Some [])
+  -- status 0 and status 1
+  pub well : (question : Question) (rest : Option Text) → Answers question 0 (Some bytes) rest (Some []) (Some text)
+      → WasAnswered question (Some bytes) (Some []) (Some text)
+  pub fails : (question : Question) (rest : Option Text) → Answers question 1 (Some bytes) rest (Some []) (Some text)
+      → AnswerFails question bytes (Some []) (Some text)
+  pub reads : (question : Question) (exit : ℕ) (rest new : Option Text)
+      → Answers question exit (Some bytes) rest (Some []) new → TakesAtMost (Some bytes) rest max_bytes_read
+  pub warns : (settings : Settings) → settings_of bytes ≡ Ok settings → TellsTrouble settings.start text
+      → AnswerFails Standstill bytes (Some []) (Some text)
+  pub warns_of_round : (settings : Settings) → settings_of bytes ≡ Ok settings → TellsRound settings.start text
+      → AnswerFails Starving bytes (Some []) (Some text)
+  pub warns_of_still : (settings : Settings) → settings_of bytes ≡ Ok settings → TellsStill settings.start text
+      → AnswerFails Starving bytes (Some []) (Some text)
+  pub other : AnswerFails Standstill bytes (Some []) (Some text)
+      → (¬ ((fault : ConfigFault) × Says bytes (Err fault)))
+      → (¬ WrotePrefix (Some []) (Some text) (codes "fault memory\n"))
+      → (¬ WrotePrefix (Some []) (Some text) (codes "fault the simulated cell doesn't come to it\n"))
+      → (settings : Settings) × (settings_of bytes ≡ Ok settings) × (whole : Text)
+      × (TellsTrouble settings.start whole ⊎ TellsGoing settings.start false whole)
+      × WrotePrefix (Some []) (Some text) whole
 
 pub record TellingsAreWhole : Type 0 where
-  pub screens : (s : ModelState) (text : Text) → ScreensTell s text
-  pub starving : (s : ModelState) (text : Text) → StarvingTells s text
+  pub screens : (s : ModelState) (text : String Global) → ScreensTell s text
+  pub texts : (s : ModelState) (text : Text) → TextsTell s text
+  pub starving : (s : ModelState) (text : String Global) → StarvingTells s text
   pub findings : (s : ModelState) → FindingsTell s
   pub tallies : TalliesTell
   pub answers : (bytes text : Text) → AnswersTell bytes text

@@ -6,6 +6,7 @@ pub mod bound;
 pub mod ending;
 pub mod every_start;
 pub mod laws;
+pub mod liveness;
 pub mod request;
 pub mod ring;
 pub mod schedule;

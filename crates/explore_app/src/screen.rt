@@ -6,8 +6,9 @@ ghost use Rattle.cell_notes.specs.declared.schedule.Turn.{Turn};
 ghost use Rattle.cell_config.specs.Configured.{AreAxisScales, AreCurvesOf};
 ghost use Rattle.explore_app.specs.Screens as screens;
 
-use crate::bound::{push_plates, push_text};
+use crate::bound::push_text;
 use crate::ending::Ending;
+use crate::liveness::{any_starves, push_plates};
 use crate::ring::push_ring;
 use crate::schedule::{ScheduleFault, schedule_into};
 use cell_config::{Config, letter_word};
@@ -18,26 +19,55 @@ use cell_rules::State;
 use cell_types::{Machine, Place};
 use std::alloc::{AllocError, Global};
 
+/// What the program prints of a start.
+#[derive(PartialEq, Eq, Debug, Drop)]
+pub enum Screen {
+    /// No turns lead to a standstill, and no fair schedule was found in which plates starve.
+    Free(String),
+    /// Something can stand still, or starve.
+    Warning(String),
+}
+
+impl Screen {
+    /// Its text.
+    pub fn text(&self) -> &str
+        ensures { result.now ≡ screens.screen_text self.now }
+    {
+        match self {
+            Screen::Free(text) | Screen::Warning(text) => text.as_str(),
+        }
+    }
+
+    // With its text, as a warning.
+    pub(crate) fn warning(self) -> Screen
+        ensures { result ≡ screens.warning_of self }
+    {
+        match self {
+            Screen::Free(text) | Screen::Warning(text) => Screen::Warning(text),
+        }
+    }
+}
+
 /// The screen of a configuration's start.
 ///
 /// `Memory` if memory ran out, `Apart` if no schedule was found that leads a simulated cell to what
 /// was found.
-pub fn screen_of(alloc: Global, config: &Config) -> Result<String, ScheduleFault>
+pub fn screen_of(alloc: Global, config: &Config) -> Result<Screen, ScheduleFault>
     requires start { IsStartState config.now.start }
     requires points { AreAxisScales config.now.points }
     requires curves { AreCurvesOf config.now.points config.now.curves }
-    ensures { IfOk result (λ screen. screens.IsScreenOf config.now.start (string_bytes screen)) }
+    ensures { IfOk result (screens.IsScreenOf config.now.start) }
 {
     let found = explore_start(alloc, &config.start)?;
     screen_by(alloc, config, &found)
 }
 
 /// The screen of what was found from a configuration's start. The errors are those of `screen_of`.
-pub fn screen_by(alloc: Global, config: &Config, found: &Explored) -> Result<String, ScheduleFault>
+pub fn screen_by(alloc: Global, config: &Config, found: &Explored) -> Result<Screen, ScheduleFault>
     requires start { IsStartState config.now.start }
     requires points { AreAxisScales config.now.points }
     requires curves { AreCurvesOf config.now.points config.now.curves }
-    ensures { IfOk result (λ screen. screens.Shows config.now.start found.now (string_bytes screen)) }
+    ensures { IfOk result (screens.Shows config.now.start found.now) }
 {
     match found {
         Explored::Free(situations) => Ok(free_screen(alloc, &config.start, *situations)?),
@@ -52,13 +82,17 @@ pub fn screen_by(alloc: Global, config: &Config, found: &Explored) -> Result<Str
 }
 
 // The screen of a start from which no turns lead to a standstill. Strong fairness is asked for the press.
-fn free_screen(alloc: Global, start: &State, situations: usize) -> Result<String, AllocError>
-    ensures { IfOk result (λ screen. screens.ShowsFree start.now situations (string_bytes screen)) }
+fn free_screen(alloc: Global, start: &State, situations: usize) -> Result<Screen, AllocError>
+    ensures { IfOk result (screens.ShowsGoing start.now situations) }
 {
     let plates = explore_machines(alloc, start, Some(Machine::Press))?;
     let mut text = String::new(alloc);
     push_free_screen(&mut text, start, situations, &plates)?;
-    Ok(text)
+    if any_starves(&plates) {
+        Ok(Screen::Warning(text))
+    } else {
+        Ok(Screen::Free(text))
+    }
 }
 
 // Adds that screen.
@@ -87,15 +121,15 @@ fn ending_screen(
     config: &Config,
     ending: Ending,
     way: &[Machine],
-) -> Result<String, ScheduleFault>
+) -> Result<Screen, ScheduleFault>
     requires start { IsStartState config.now.start }
     requires points { AreAxisScales config.now.points }
     requires curves { AreCurvesOf config.now.points config.now.curves }
-    ensures { IfOk result
-        (λ screen. screens.ShowsEnding config.now.start ending way.now (string_bytes screen)) }
+    ensures { IfOk result (screens.ShowsEnd config.now.start ending way.now) }
 {
     let walk = take_turns(alloc, &config.start, way)?;
-    walk_screen(alloc, config, ending, way, &walk)
+    let text = walk_screen(alloc, config, ending, way, &walk)?;
+    Ok(Screen::Warning(text))
 }
 
 /// The screen of turns that end so: what they lead to, who waits for whom there or is refused, and a

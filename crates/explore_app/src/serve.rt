@@ -1,7 +1,7 @@
 //! What the program `explore` does.
 
 ghost use Rattle.std.specs.Prelude.{◌≡◌, ◌≢◌, ◌≤◌, ◌+◌, min, Some, None};
-ghost use Rattle.std.specs.Prelude.{IfOk, codes, string_bytes};
+ghost use Rattle.std.specs.Prelude.{IfOk, codes};
 ghost use Rattle.cell_rules.specs.Start.{IsStartState};
 ghost use Rattle.text_io.specs.Input.{TakesAtMost};
 ghost use Rattle.text_io.specs.Output.{WrotePrefix};
@@ -11,13 +11,14 @@ ghost use Rattle.program_shell.specs.Words.{texts_of};
 ghost use Rattle.cell_config.specs.Configured.{AreAxisScales, AreCurvesOf};
 ghost use Rattle.cell_config.specs.Settings.{max_bytes_read};
 ghost use Rattle.explore_app.specs.Requests.{request_of};
-ghost use Rattle.explore_app.specs.Served.{IsAnswerTo, WasAnswered, WereListed};
+ghost use Rattle.explore_app.specs.Screens.{screen_text};
+ghost use Rattle.explore_app.specs.Served.{Answers, IsAnswerTo, WereListed, WroteFree};
 
 use crate::every_start::every_start;
 use crate::request;
 use crate::request::{Question, Request};
 use crate::schedule::ScheduleFault;
-use crate::screen::screen_of;
+use crate::screen::{Screen, screen_of};
 use crate::starve::starving_screen;
 use crate::timing::tell_time;
 use cell_config::{Config, read_config};
@@ -43,8 +44,9 @@ and a schedule that goes round: explore --starve < examples/four_plates.toml | c
 --all explores all 685 starts in two threads, by their plates.
 --version prints the version.
 Standard error says how long it took.
-Exit status: 0 on success and for help; 2 for bad arguments; otherwise 1: a refused
-configuration, a failed read or write, or no memory.
+Exit status: 0 on success and for help; 2 for bad arguments; otherwise 1: a standstill, a fair
+schedule in which a machine starves, a refused configuration, a failed read or write, or no memory.
+With --all it is 0 whatever was found of the starts.
 ";
 
 /// What is printed for other words.
@@ -52,7 +54,7 @@ const OTHER_WORDS: &str = "error: the only argument is --all, --starve, --help o
 
 /// Explores the start of the configuration that it reads, and prints the screen, or a fault. Then it
 /// tells `progress` how long it took, by the clock. Returns the exit status: 0 if the screen was
-/// written, 1 otherwise.
+/// written and nothing stands still or starves by it, 1 otherwise.
 pub fn serve_start<C: Clock, R: Read, W: Write, P: Write>(
     clock: &C,
     alloc: Global,
@@ -61,46 +63,57 @@ pub fn serve_start<C: Clock, R: Read, W: Write, P: Write>(
     writer: &mut W,
     progress: &mut P,
 ) -> u8
-    ensures status { result ≤ 1 }
-    ensures answered { result ≡ 0 → WasAnswered question
-        (R.remaining reader.old) (W.contents writer.old) (W.contents writer.new) }
-    ensures read { TakesAtMost (R.remaining reader.old) (R.remaining reader.new) max_bytes_read }
+    ensures { Answers question result (R.remaining reader.old) (R.remaining reader.new)
+        (W.contents writer.old) (W.contents writer.new) }
 {
     let begun = Instant::now(clock);
-    let status = print_screen(alloc, question, reader, writer);
+    let status = print_answer(alloc, question, reader, writer);
     tell_time(clock, begun, progress);
     status
 }
 
 // Prints the screen of the configuration that it reads, or a fault, and returns the exit status.
-fn print_screen<R: Read, W: Write>(
+fn print_answer<R: Read, W: Write>(
     alloc: Global,
     question: Question,
     reader: &mut R,
     writer: &mut W,
 ) -> u8
-    ensures status { result ≤ 1 }
-    ensures answered { result ≡ 0 → WasAnswered question
-        (R.remaining reader.old) (W.contents writer.old) (W.contents writer.new) }
-    ensures read { TakesAtMost (R.remaining reader.old) (R.remaining reader.new) max_bytes_read }
+    ensures { Answers question result (R.remaining reader.old) (R.remaining reader.new)
+        (W.contents writer.old) (W.contents writer.new) }
 {
     let config = match read_config(alloc, reader) {
         Ok(config) => config,
         Err(fault) => return fail(writer, fault.text()).status(),
     };
     match screen_for(alloc, question, &config) {
-        Ok(screen) => print(writer, screen.as_bytes()).status(),
+        Ok(screen) => print_screen(writer, &screen).status(),
         Err(ScheduleFault::Memory) => fail(writer, "memory").status(),
         Err(ScheduleFault::Apart) => fail(writer, "the simulated cell doesn't come to it").status(),
     }
 }
 
+// Prints a screen. A warning isn't well, whatever was written.
+fn print_screen<W: Write>(writer: &mut W, screen: &Screen) -> Exit
+    ensures status { result ≢ Exit.Refused }
+    ensures well { result ≡ Exit.Well →
+        WroteFree screen.now (W.contents writer.old) (W.contents writer.new) }
+    ensures failed { result ≡ Exit.Failed →
+        WrotePrefix (W.contents writer.old) (W.contents writer.new) (screen_text screen.now) }
+{
+    let printed = print(writer, screen.text().as_bytes());
+    match screen {
+        Screen::Free(_) => printed,
+        Screen::Warning(_) => Exit::Failed,
+    }
+}
+
 // The screen that answers a question of a configuration's start.
-fn screen_for(alloc: Global, question: Question, config: &Config) -> Result<String, ScheduleFault>
+fn screen_for(alloc: Global, question: Question, config: &Config) -> Result<Screen, ScheduleFault>
     requires start { IsStartState config.now.start }
     requires points { AreAxisScales config.now.points }
     requires curves { AreCurvesOf config.now.points config.now.curves }
-    ensures { IfOk result (λ screen. IsAnswerTo question config.now.start (string_bytes screen)) }
+    ensures { IfOk result (IsAnswerTo question config.now.start) }
 {
     match question {
         Question::Standstill => screen_of(alloc, config),
@@ -133,8 +146,9 @@ pub fn serve_all<T: Threads + Sync, C: Clock, W: Write, P: Write>(
 }
 
 /// Does what the words ask for, and returns the exit status: 0 on success, and for help; 1 for a
-/// refused configuration, a failed read or write, and if memory ran out; 2 for other words. Of an
-/// exploration it tells `progress` how long it took, by the clock.
+/// standstill, a fair schedule in which a machine starves, a refused configuration, a failed read or
+/// write, and if memory ran out; 2 for other words. Of an exploration it tells `progress` how long it
+/// took, by the clock.
 pub fn serve<T: Threads + Sync, C: Clock, R: Read, W: Write, P: Write>(
     rt: &T,
     clock: &C,
@@ -154,13 +168,17 @@ pub fn serve<T: Threads + Sync, C: Clock, R: Read, W: Write, P: Write>(
         Prints result (W.contents writer.old) (W.contents writer.new)
         (version_line (codes "explore")) }
 
-    // Status 0 says that the screen of the configuration's start was written, or the lines of all starts.
-    ensures explored { request_of (texts_of words.now) ≡ Some Request.Start → result ≡ 0 →
-        WasAnswered Question.Standstill
-        (R.remaining reader.old) (W.contents writer.old) (W.contents writer.new) }
-    ensures starved { request_of (texts_of words.now) ≡ Some Request.Starve → result ≡ 0 →
-        WasAnswered Question.Starving
-        (R.remaining reader.old) (W.contents writer.old) (W.contents writer.new) }
+    // With the program's name alone: status 0 says that no turns lead from the configuration's start to a standstill,
+    // that no machine and no plates starve by what explorations answer, and that this was written; status 1 says what
+    // was written else. With `--starve` it says so of schedules that are weakly fair to each machine.
+    ensures explored { request_of (texts_of words.now) ≡ Some Request.Start →
+        Answers Question.Standstill result (R.remaining reader.old) (R.remaining reader.new)
+        (W.contents writer.old) (W.contents writer.new) }
+    ensures starved { request_of (texts_of words.now) ≡ Some Request.Starve →
+        Answers Question.Starving result (R.remaining reader.old) (R.remaining reader.new)
+        (W.contents writer.old) (W.contents writer.new) }
+
+    // With `--all` status 0 says that the lines of all starts were written.
     ensures listed { request_of (texts_of words.now) ≡ Some Request.All → result ≡ 0 →
         WereListed 7 (W.contents writer.old) (W.contents writer.new) }
 

@@ -10,7 +10,7 @@ use crate::bound::{Bound, push_text};
 use crate::ending::Ending;
 use crate::ring::{push_ending_line, push_going_on_line};
 use crate::schedule::{ScheduleFault, is_answered, is_at, push_until_asked, way_into};
-use crate::screen::{push_plates_line, push_schedule, push_start, screen_of};
+use crate::screen::{Screen, push_plates_line, push_schedule, push_start, screen_of};
 use crate::step::Step;
 use cell_config::Config;
 use cell_explorer::{Prospect, Walk, take_turns};
@@ -29,22 +29,26 @@ const ROUNDS: usize = 4;
 /// each machine has a turn. At a standstill it is the screen of that.
 ///
 /// The errors are those of `screen_of`.
-pub fn starving_screen(alloc: Global, config: &Config) -> Result<String, ScheduleFault>
+pub fn starving_screen(alloc: Global, config: &Config) -> Result<Screen, ScheduleFault>
     requires start { IsStartState config.now.start }
     requires points { AreAxisScales config.now.points }
     requires curves { AreCurvesOf config.now.points config.now.curves }
-    ensures { IfOk result (λ screen.
-        starving.IsStarvingScreenOf config.now.start (string_bytes screen)) }
+    ensures { IfOk result (starving.IsStarvingScreenOf config.now.start) }
 {
     match explore_progress(alloc, &config.start, None, None)? {
         Progress::Starves { stem, cycle } => {
             let walk = take_turns(alloc, &config.start, stem.as_slice())?;
             if stands_still(&walk, cycle.as_slice()) {
-                return screen_of(alloc, config);
+                let screen = screen_of(alloc, config)?;
+                return Ok(screen.warning());
             }
             round_screen(alloc, config, stem.as_slice(), cycle.as_slice(), &walk)
         }
-        found => Ok(weak_screen(alloc, &config.start, Bound::of(&found))?),
+        Progress::Within { plain, helped } => {
+            let bound = Bound { plain, helped };
+            Ok(Screen::Free(weak_screen(alloc, &config.start, Some(bound))?))
+        }
+        Progress::Unknown(_) => Ok(Screen::Free(weak_screen(alloc, &config.start, None)?)),
     }
 }
 
@@ -94,19 +98,18 @@ fn round_screen(
     stem: &[Machine],
     cycle: &[Machine],
     walk: &Walk,
-) -> Result<String, ScheduleFault>
+) -> Result<Screen, ScheduleFault>
     requires start { IsStartState config.now.start }
     requires points { AreAxisScales config.now.points }
     requires curves { AreCurvesOf config.now.points config.now.curves }
-    ensures { IfOk result (λ screen.
-        starving.ShowsRound config.now.start stem.now cycle.now (string_bytes screen)) }
+    ensures { IfOk result (starving.ShowsCircle config.now.start stem.now cycle.now) }
 {
     let round = round_of(alloc, &config.start, stem, cycle)?;
     let schedule = rounds_into(alloc, config, stem, walk, round.as_slice())?;
     let mut text = String::new(alloc);
     push_round(&mut text, &config.start, stem.len(), round.as_slice())?;
     push_schedule(&mut text, schedule.as_slice())?;
-    Ok(text)
+    Ok(Screen::Warning(text))
 }
 
 // Adds the screen of a round, without the schedule.

@@ -4,6 +4,7 @@ ghost use Rattle.std.specs.Prelude.{◌≡◌, ◌++◌, OnOk, IfOk, string_byte
 ghost use Rattle.explore_app.specs.Tallies as tallies;
 
 use crate::bound::Bound;
+use crate::liveness::Liveness;
 use cell_explorer::Explored;
 use std::alloc::{AllocError, Global};
 
@@ -20,6 +21,8 @@ pub struct Tally {
     pub bounded: u32,
     /// The bound that holds for each of them.
     pub bound: Bound,
+    /// From how many starts a machine may move no plate for ever.
+    pub starving: u32,
     /// The most situations of a start that is free.
     pub most_situations: usize,
     /// The fewest turns to a standstill or to a refusal.
@@ -36,31 +39,32 @@ impl Tally {
         refused: 0,
         bounded: 0,
         bound: Bound::NONE,
+        starving: 0,
         most_situations: 0,
         fewest_turns: usize::MAX,
         most_turns: 0,
     };
 
-    /// With what was found from one more start, and the bound by which each machine moves a plate from
-    /// there, if there is one.
-    pub fn with(self, found: &Explored, bound: Option<Bound>) -> Tally
-        ensures { result ≡ tallies.both_tallies self (tallies.tally_of found.now bound) }
+    /// With what was found from one more start, and whether each machine moves plates for ever from there.
+    pub fn with(self, found: &Explored, liveness: Liveness) -> Tally
+        ensures { result ≡ tallies.both_tallies self (tallies.tally_of found.now liveness) }
     {
-        self.and(Tally::of(found, bound))
+        self.and(Tally::of(found, liveness))
     }
 
-    // What was found from one start, and the bound from there.
-    pub(crate) fn of(found: &Explored, bound: Option<Bound>) -> Tally
-        ensures { result ≡ tallies.tally_of found.now bound }
+    // What was found from one start, and whether each machine moves plates for ever from there.
+    pub(crate) fn of(found: &Explored, liveness: Liveness) -> Tally
+        ensures { result ≡ tallies.tally_of found.now liveness }
     {
         let one = Tally::of_found(found);
-        match bound {
-            Some(bound) => Tally {
+        match liveness {
+            Liveness::Within(bound) => Tally {
                 bounded: 1,
                 bound,
                 ..one
             },
-            None => one,
+            Liveness::Starves => Tally { starving: 1, ..one },
+            Liveness::Unknown => one,
         }
     }
 
@@ -101,6 +105,7 @@ impl Tally {
             refused: self.refused.saturating_add(other.refused),
             bounded: self.bounded.saturating_add(other.bounded),
             bound: self.bound.or(other.bound),
+            starving: self.starving.saturating_add(other.starving),
             most_situations: self.most_situations.max(other.most_situations),
             fewest_turns: self.fewest_turns.min(other.fewest_turns),
             most_turns: self.most_turns.max(other.most_turns),
@@ -172,10 +177,61 @@ impl Tally {
         ensures { OnOk result
             (string_bytes text.new ≡ string_bytes text.old ++ tallies.going_words self.now) }
     {
-        let apart = self.free.saturating_sub(self.bounded);
-        if apart > 0 {
-            write!(text, "; from {apart} a machine may move no plate for ever")
-        } else if self.bounded > 0 {
+        self.push_starving(text)?;
+        self.push_unknown(text)?;
+        self.push_bound(text)
+    }
+
+    // Adds from how many starts a machine may move no plate, if from some.
+    #[tactic(auto, unfolding(crate::specs::Tallies::starving_words))]
+    fn push_starving(&self, text: &mut String) -> Result<(), AllocError>
+        ensures { OnOk result
+            (string_bytes text.new ≡ string_bytes text.old ++ tallies.starving_words self.now) }
+    {
+        let starving = self.starving;
+        if starving == 0 {
+            Ok(())
+        } else {
+            write!(
+                text,
+                "; from {starving} a machine may move no plate for ever"
+            )
+        }
+    }
+
+    // Adds of how many starts it isn't known, if of some.
+    #[tactic(auto, unfolding(crate::specs::Tallies::unknown_words))]
+    fn push_unknown(&self, text: &mut String) -> Result<(), AllocError>
+        ensures { OnOk result
+            (string_bytes text.new ≡ string_bytes text.old ++ tallies.unknown_words self.now) }
+    {
+        let unknown = self.unknown();
+        if unknown == 0 {
+            Ok(())
+        } else {
+            write!(
+                text,
+                "; of {unknown} it isn't known whether each machine moves plates for ever"
+            )
+        }
+    }
+
+    // Of how many starts it isn't known whether each machine moves plates for ever.
+    fn unknown(&self) -> u32
+        ensures { result ≡ tallies.unknown self.now }
+    {
+        self.free
+            .saturating_sub(self.bounded)
+            .saturating_sub(self.starving)
+    }
+
+    // Adds the bound, if it holds for each start.
+    #[tactic(auto, unfolding(crate::specs::Tallies::within_words))]
+    fn push_bound(&self, text: &mut String) -> Result<(), AllocError>
+        ensures { OnOk result
+            (string_bytes text.new ≡ string_bytes text.old ++ tallies.within_words self.now) }
+    {
+        if self.bounded > 0 && self.bounded == self.free {
             text.push_str("; each machine moves a plate within ")?;
             self.bound.push_words(text)
         } else {

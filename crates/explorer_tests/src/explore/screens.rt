@@ -4,15 +4,16 @@
 use cell_config::read_config;
 use cell_configured::simulate_configured;
 use cell_types::Journals;
-use explore_app::screen::screen_of;
+use explore_app::screen::{Screen, screen_of};
 use explore_app::starve::starving_screen;
 use std::alloc::Global;
 use std::test::Fail;
 
-/// Starts with their screens.
-const ROWS: &[(&str, &str)] = &[
+/// Starts with their screens, and whether these are warnings.
+const ROWS: &[(&str, bool, &str)] = &[
     (
         "start = \"0000000000\"\nschedule = \"ftrpdcw\"\n",
+        true,
         "\
 # plates 0
 # a standstill after 21 turns, and no fewer
@@ -28,6 +29,7 @@ schedule = \"fffttttttppppppppppppppppppppppppppppppddddftrrpdccc\"
     ),
     (
         "start = \"1000000000\"\n",
+        false,
         "\
 # plates 1
 # no standstill in any schedule before the last stamp: 49902 situations
@@ -38,6 +40,7 @@ start = \"1000000000\"
     ),
     (
         "stamp = 1048575\nstart = \"0000000001\"\n",
+        false,
         "\
 # plates 1
 # no standstill in any schedule before the last stamp: 53918 situations
@@ -100,9 +103,14 @@ schedule = \"f",
 );
 
 /// The screen of a configuration's start.
-fn screen(alloc: Global, text: &str) -> Result<String, Fail> {
+fn screen(alloc: Global, text: &str) -> Result<Screen, Fail> {
     let config = read_config(alloc, &mut text.as_bytes())?;
     Ok(screen_of(alloc, &config)?)
+}
+
+/// Whether it is a warning with this text.
+fn warns(screen: &Screen, text: &str) -> bool {
+    matches!(screen, Screen::Warning(found) if found.as_str() == text)
 }
 
 /// What each of the six machines asked last, and what it was answered.
@@ -126,9 +134,13 @@ fn last_answers(alloc: Global, journals: &Journals) -> Result<Vec<String>, Fail>
 
 #[test]
 fn shows_starts(rt: HostRuntime) -> Result<(), Fail> {
-    for (text, wanted) in ROWS {
+    for (text, warning, wanted) in ROWS {
         let found = screen(rt.alloc(), text)?;
-        assert!(rt; found.as_str() == *wanted, "{found}");
+        let shown = found.text();
+        assert!(rt;
+            shown == *wanted && warns(&found, wanted) == *warning,
+            "{shown}"
+        );
     }
     Ok(())
 }
@@ -137,9 +149,13 @@ fn shows_starts(rt: HostRuntime) -> Result<(), Fail> {
 #[test]
 fn shows_a_ring_and_its_schedule(rt: HostRuntime) -> Result<(), Fail> {
     for (text, wanted) in RINGS {
-        let found = screen(rt.alloc(), text)?;
-        assert!(rt; found.starts_with(wanted), "{found}");
-        let mut again = String::from_str(rt.alloc(), &found)?;
+        let screen = screen(rt.alloc(), text)?;
+        let found = screen.text();
+        assert!(rt;
+            found.starts_with(wanted) && warns(&screen, found),
+            "{found}"
+        );
+        let mut again = String::from_str(rt.alloc(), found)?;
         if text.contains("turn") {
             again.push_str("turn = { raw = [100, 3800] }\n")?;
         }
@@ -158,8 +174,12 @@ fn shows_a_ring_and_its_schedule(rt: HostRuntime) -> Result<(), Fail> {
 fn shows_how_plates_starve(rt: HostRuntime) -> Result<(), Fail> {
     let (text, wanted) = STARVING;
     let config = read_config(rt.alloc(), &mut text.as_bytes())?;
-    let found = starving_screen(rt.alloc(), &config)?;
-    assert!(rt; found.starts_with(wanted), "{found}");
+    let screen = starving_screen(rt.alloc(), &config)?;
+    let found = screen.text();
+    assert!(rt;
+        found.starts_with(wanted) && warns(&screen, found),
+        "{found}"
+    );
     let config = read_config(rt.alloc(), &mut found.as_bytes())?;
     let record = simulate_configured(rt.alloc(), &config)?;
     let answers = last_answers(rt.alloc(), &record.journals)?;
@@ -181,7 +201,8 @@ fn shows_how_plates_starve(rt: HostRuntime) -> Result<(), Fail> {
 #[test]
 fn shows_a_standstill_in_place_of_a_round(rt: HostRuntime) -> Result<(), Fail> {
     let config = read_config(rt.alloc(), &mut ROWS[0].0.as_bytes())?;
-    let found = starving_screen(rt.alloc(), &config)?;
-    assert!(rt; found.as_str() == ROWS[0].1, "{found}");
+    let screen = starving_screen(rt.alloc(), &config)?;
+    let found = screen.text();
+    assert!(rt; found == ROWS[0].2 && warns(&screen, found), "{found}");
     Ok(())
 }

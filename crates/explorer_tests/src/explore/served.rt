@@ -21,8 +21,9 @@ and a schedule that goes round: explore --starve < examples/four_plates.toml | c
 --all explores all 685 starts in two threads, by their plates.
 --version prints the version.
 Standard error says how long it took.
-Exit status: 0 on success and for help; 2 for bad arguments; otherwise 1: a refused
-configuration, a failed read or write, or no memory.
+Exit status: 0 on success and for help; 2 for bad arguments; otherwise 1: a standstill, a fair
+schedule in which a machine starves, a refused configuration, a failed read or write, or no memory.
+With --all it is 0 whatever was found of the starts.
 ";
 
 const OTHER_WORDS: &str = "error: the only argument is --all, --starve, --help or --version\n";
@@ -46,6 +47,16 @@ start = \"0000000000\"
 schedule = \"fffttttttppppppppppppppppppppppppppppppddddftrrpdccc\"
 ";
 
+const ONE_PLATE: &str = "start = \"1000000000\"\n";
+
+const FREE_SCREEN: &str = "\
+# plates 1
+# no standstill in any schedule before the last stamp: 49902 situations
+# plates go on: a plate moves within k * 26 + k * k * 2 steps of a fair schedule
+# each machine moves a plate within k * 96 + k * k * 2 steps
+start = \"1000000000\"
+";
+
 /// The arguments that ask for an exploration.
 const EXPLORE: &[&[u8]] = &[b"./explore"];
 
@@ -59,8 +70,9 @@ type Row = (
 );
 
 const ROWS: &[Row] = &[
-    (EXPLORE, EMPTY, 0, SCREEN, 0),
-    (&[b"./explore", b"--starve"], EMPTY, 0, SCREEN, 0),
+    (EXPLORE, EMPTY, 1, SCREEN, 0),
+    (&[b"./explore", b"--starve"], EMPTY, 1, SCREEN, 0),
+    (EXPLORE, ONE_PLATE, 0, FREE_SCREEN, 0),
     (
         &[b"./explore", b"--starve"],
         BAD_LETTER,

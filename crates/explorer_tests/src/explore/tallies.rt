@@ -3,20 +3,22 @@
 use cell_explorer::Explored;
 use cell_types::Machine;
 use explore_app::bound::Bound;
+use explore_app::liveness::Liveness;
 use explore_app::tally::Tally;
 use std::alloc::{AllocError, Global};
 
 /// What was found from one start: the number of situations, and a bound on how many steps pass until each machine
-/// moves a plate, or none; or how many turns lead to an end.
+/// moves a plate, or that one may move none, or that this isn't known; or how many turns lead to an end.
 #[derive(Clone, Copy, Debug)]
 enum Found {
     Free(usize, usize, usize),
     Starving(usize),
+    Unknown(usize),
     Standstill(usize),
     Refusal(usize),
 }
 
-use Found::{Free, Refusal, Standstill, Starving};
+use Found::{Free, Refusal, Standstill, Starving, Unknown};
 
 /// What was found from some starts, and from others; their number of plates, and the line.
 const ROWS: &[(&[Found], &[Found], u32, &str)] = &[
@@ -39,6 +41,20 @@ const ROWS: &[(&[Found], &[Found], u32, &str)] = &[
         2,
         "plates 2 starts 3: no standstill before the last stamp; at most 12 situations; from 2 a machine may move no \
         plate for ever\n",
+    ),
+    (
+        &[Unknown(5), Free(3, 1, 1)],
+        &[Unknown(4)],
+        3,
+        "plates 3 starts 3: no standstill before the last stamp; at most 5 situations; of 2 it isn't known whether \
+        each machine moves plates for ever\n",
+    ),
+    (
+        &[Unknown(5), Starving(7)],
+        &[Starving(4), Free(6, 2, 2), Starving(1)],
+        4,
+        "plates 4 starts 5: no standstill before the last stamp; at most 7 situations; from 3 a machine may move no \
+        plate for ever; of 1 it isn't known whether each machine moves plates for ever\n",
     ),
     (
         &[Standstill(21)],
@@ -82,24 +98,27 @@ fn exploration_of(alloc: Global, found: Found) -> Result<Explored, AllocError> {
         Ok(way)
     };
     Ok(match found {
-        Free(situations, _, _) | Starving(situations) => Explored::Free(situations),
+        Free(situations, _, _) | Starving(situations) | Unknown(situations) => {
+            Explored::Free(situations)
+        }
         Standstill(turns) => Explored::Standstill(way(turns)?),
         Refusal(turns) => Explored::Refusal(way(turns)?),
     })
 }
 
-// The bound from it.
-fn bound_of(found: Found) -> Option<Bound> {
+// Whether each machine moves plates for ever from it.
+fn liveness_of(found: Found) -> Liveness {
     match found {
-        Free(_, plain, helped) => Some(Bound { plain, helped }),
-        Starving(_) | Standstill(_) | Refusal(_) => None,
+        Free(_, plain, helped) => Liveness::Within(Bound { plain, helped }),
+        Starving(_) => Liveness::Starves,
+        Unknown(_) | Standstill(_) | Refusal(_) => Liveness::Unknown,
     }
 }
 
 fn tally_of(alloc: Global, all: &[Found]) -> Result<Tally, AllocError> {
     let mut tally = Tally::NONE;
     for found in all {
-        tally = tally.with(&exploration_of(alloc, *found)?, bound_of(*found));
+        tally = tally.with(&exploration_of(alloc, *found)?, liveness_of(*found));
     }
     Ok(tally)
 }

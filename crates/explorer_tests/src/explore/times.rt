@@ -38,7 +38,7 @@ fn tells_progress_and_not_the_writer(rt: HostRuntime) -> Result<(), AllocError> 
         (
             &[b"./explore"],
             "start = \"0000000000\"\n",
-            0,
+            1,
             "took 2.500 s\n",
         ),
         (&[b"./explore"], "start = 5\n", 1, "took 2.500 s\n"),

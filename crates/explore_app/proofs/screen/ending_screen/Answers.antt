@@ -3,5 +3,5 @@ use Rattle.explore_app.proofs.screen.ending_screen.Goals as goal
 
 pub returns : goal.returns
 returns c =
-    shows_ending c.args.config.now.start c.args.ending c.args.way.now c.in_ok-walk.walk c.walk_screen.result
-    (record { asks = c.in_ok-walk.ensures.asks; end = c.in_ok-walk.ensures.end; next = c.in_ok-walk.ensures.next }) c.walk_screen.ensures
+    shows_ending c.args.config.now.start c.args.ending c.args.way.now c.in_ok-walk.walk _
+    (record { asks = c.in_ok-walk.ensures.asks; end = c.in_ok-walk.ensures.end; next = c.in_ok-walk.ensures.next }) c.in_ok-text.ensures
