@@ -12,7 +12,7 @@ use Rattle.clap.specs.ValueTests.{accepts}
 use Rattle.clap.specs.Kinds.{Kinds, or_else, range_kinds}
 use Rattle.clap.specs.Faults.{bundle_fault, bundle_step_fault, default_fault, defaults_fault, entered_fault, fault_of, flag_word_fault, flags_fault, level_fault, long_fault, option_fault, other_fault, positional_fault, react_fault, settle_fault, short_fault, step_fault, stray_fault, turn_fault, use_fault, values_fault, walk_fault, word_fault}
 use Rattle.clap.specs.Walk.{Held, Names, Outcome, Row, Rule, Step, Text, Waiting, Walk, after_flag, after_step, answers_to, arg_by_id, arg_by_index, arg_by_long, arg_by_short, at_row, bundle_met, bundle_step, done, flag_met, has_row, long_met, long_or_other, more_values, nothing_held, one_of, option, option_met, option_word, plain, plain_word, reacted, rows_after, settled, settled_rows, stop_after, short_met, short_or_plain, stronger, subcommand_or_other, takes_values, to_positional, trailing, used, used_by_id, value, waits, walk, walk_from, walked, walked_from, with_default, with_values, word_met}
-use Rattle.clap.specs.Simple.{Shape, argument_words, built, built_leaf, entered, filled, help_rule, inherited, label_of, names_of, rows_at, subcommand_of}
+use Rattle.clap.specs.Simple.{Shape, argument_words, built, built_leaf, entered, filled, help_rule, inherited, label_of, matches_of, names_of, rows_at, subcommand_of}
 use Rattle.clap.proofs.ValueTestLemmas.{accepts-Accepts}
 use Rattle.clap.specs.declared.builder.value_parser.Reading.TheVariants.{AsWritten}
 use Rattle.clap.specs.declared.builder.value_parser.ValueParser.TheVariants.{Unsigned}
@@ -20,7 +20,7 @@ use Rattle.clap.specs.declared.error.kind.ErrorKind.{ErrorKind}
 use Rattle.clap.specs.declared.error.kind.ErrorKind.TheVariants.{ArgumentConflict, InvalidValue, TooManyValues, WrongNumberOfValues}
 use Rattle.clap.specs.declared.parser.matches.ValueSource.{ValueSource}
 use Rattle.clap.specs.declared.parser.matches.ValueSource.TheVariants.{CommandLine, DefaultValue}
-use Rattle.cell_words.specs.Words.{HasNumber, HasNumbers, max_tries, max_turns, number_flag, program, run_command}
+use Rattle.cell_words.specs.Words.{HasNumber, HasNumbers, HaveNumbers, max_tries, max_turns, number_flag, program, run_command}
 
 -- neither of two steps fails
 neither : (a b : Kinds) → or_else a b ≡ [] → (a ≡ []) × (b ≡ [])
@@ -398,17 +398,31 @@ for_tries text n = (λ e. cc, λ e. n)
 abbrev run_shape : Shape
 run_shape = built_leaf (inherited (built program).top run_command.top)
 
-run_numbers : (words : List Text) → level_fault run_shape [] nothing_held words false [] ≡ [] → HasNumber (codes "turns") max_turns (rows_after run_shape.rules [] words) × HasNumber (codes "tries") max_tries (rows_after run_shape.rules [] words)
-run_numbers words e =
-    let uses : AllByRecursion (UsesWell false) run_rules = (flag_uses (codes "turns") (codes "1000") max_turns for_turns, (flag_uses (codes "tries") (codes "8") max_tries for_tries, (help_uses, tt))) in
-    let held = (walk run_shape.rules [] nothing_held words).held in
-    let steps = neither (walk_fault run_shape [] (walk_from nothing_held) words) _ e in
-    let ends = neither (settle_fault run_shape.rules run_shape.args_override_self held) _ steps.1 in
-    let defaults = neither (defaults_fault (settled run_shape.rules held).rows run_shape.rules) _ ends.1 in
-    let walked = walks run_shape uses [] (walk_from nothing_held) words steps.0 tt in
-    let settled_well = settles run_shape uses held ends.0 walked in
-    let given : AllByRecursion DefaultsWell run_rules = (flag_defaults (codes "turns") (codes "1000") max_turns for_turns, (flag_defaults (codes "tries") (codes "8") max_tries for_tries, (help_defaults, tt))) in
-    both_rows _ (defaults_kept run_shape.rules (settled run_shape.rules held).rows given defaults.0 settled_well) (turns_there (settled run_shape.rules held).rows) (tries_there (settled run_shape.rules held).rows)
+uses_by_rules : AllByRecursion (UsesWell false) run_rules
+uses_by_rules = (flag_uses (codes "turns") (codes "1000") max_turns for_turns, (flag_uses (codes "tries") (codes "8") max_tries for_tries, (help_uses, tt)))
+
+defaults_by_rules : AllByRecursion DefaultsWell run_rules
+defaults_by_rules = (flag_defaults (codes "turns") (codes "1000") max_turns for_turns, (flag_defaults (codes "tries") (codes "8") max_tries for_tries, (help_defaults, tt)))
+
+-- a command with the flags of `run`, whatever its subcommands
+module _ (s : Shape) (names : Names) (has_rules : s.rules ≡ run_rules) (no_override : s.args_override_self ≡ false) where
+  run_uses : AllByRecursion (UsesWell s.args_override_self) s.rules
+  run_uses = rw (no_override, has_rules) uses_by_rules
+
+  run_numbers : (words : List Text) (is_entered : Bool) (below : Kinds) → level_fault s names nothing_held words is_entered below ≡ [] → HaveNumbers (rows_after s.rules names words)
+  run_numbers words is_entered below e =
+      let held = (walk s.rules names nothing_held words).held in
+      let steps = neither (walk_fault s names (walk_from nothing_held) words) _ e in
+      let inner = neither below _ steps.1 in
+      let ends = neither (settle_fault s.rules s.args_override_self held) _ inner.1 in
+      let defaults = neither (defaults_fault (settled s.rules held).rows s.rules) _ ends.1 in
+      let walked = walks s run_uses names (walk_from nothing_held) words steps.0 tt in
+      let settled_well = settles s run_uses held ends.0 walked in
+      let given : AllByRecursion DefaultsWell s.rules = rw has_rules defaults_by_rules in
+      let rows = (settled s.rules held).rows in
+      both_rows _ (defaults_kept s.rules rows given defaults.0 settled_well)
+      (subst (λ rules. has_row (codes "turns") (fold with_default rows rules) ≡ true) (sym has_rules) (turns_there rows))
+      (subst (λ rules. has_row (codes "tries") (fold with_default rows rules) ≡ true) (sym has_rules) (tries_there rows))
 
 -- ---- of all words
 
@@ -416,7 +430,7 @@ abbrev IsReadWell : Shape → Type 0
 IsReadWell s = (words : List Text) → level_fault s [] nothing_held words false [] ≡ [] → HasNumbers (Some (rows_at s words))
 
 all_read_well : AllByRecursion IsReadWell (built program).subs
-all_read_well = (λ words e is. cc, (λ words e is. cc, (λ words e is. run_numbers words e, (λ words e is. cc, tt))))
+all_read_well = (λ words e is. cc, (λ words e is. cc, (λ words e is. run_numbers run_shape [] refl refl words false [] e, (λ words e is. cc, tt))))
 
 found_well : (test : Shape → Bool) (words : List Text) (o : Option Shape) → find test (built program).subs ≡ o → option_map_or (λ s. level_fault s [] nothing_held words false []) o [] ≡ []
     → HasNumbers (option_map (λ s. rows_at s words) o)
@@ -426,6 +440,12 @@ found_well test words (Some s) is e = (found_one IsReadWell test (built program)
 entered_well : (stop : Option (Text × List Text)) → entered_fault (built program) stop ≡ [] → HasNumbers (entered (built program) stop)
 entered_well None e = tt
 entered_well (Some p) e = found_well (λ s. answers_to p.0 (label_of s)) p.1 _ refl e
+
+-- if `clap` accepts flags of `run` after a program's name, they have their numbers
+pub flags_have_numbers : (words : List Text) → fault_of run_command words ≡ [] → HaveNumbers (matches_of run_command words)
+flags_have_numbers words e =
+    let a = built run_command in
+    run_numbers a.top (names_of a) refl refl (argument_words a words) _ _ e
 
 -- if `clap` accepts the words and finds the word `run`, its flags have their numbers
 pub run_has_numbers : (words : List Text) → fault_of program words ≡ [] → HasNumbers (subcommand_of program words)

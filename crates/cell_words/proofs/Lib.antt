@@ -1,4 +1,5 @@
 pub mod lemmas
+mod Accepted
 mod FlagLemmas
 mod NumberLemmas
 mod CommandLemmas

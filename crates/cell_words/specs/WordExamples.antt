@@ -1,8 +1,9 @@
 -- Words with what they ask for, and words that are refused.
-use Rattle.std.specs.Prelude.{◌≡◌, ℕ, List, [], ◌∷◌, codes, false, Some}
+use Rattle.std.specs.Prelude.{◌≡◌, ℕ, List, [], ◌∷◌, codes, false, Some, None}
 use Rattle.clap.specs.Words.{IsUnsignedIn, Row, Text, one_of, takes}
 use Rattle.cell_words.specs.Words.{mode_of, program, AreBare, AreTaken, AskForHelp, AskForReplay, AskForRun, AskForSim}
-use Rattle.cell_words.specs.Words.{HasNumber, HasNumbers, IsWithin}
+use Rattle.cell_words.specs.Words.{AreTakenAsFlags, AskByFlags, AskForHelpOnFlags, HasNumber, HasNumbers, HaveNumbers}
+use Rattle.cell_words.specs.Words.{IsWithin, mode_named, number_in, number_of}
 use Rattle.cell_words.specs.declared.words.Mode.{Mode}
 use Rattle.cell_words.specs.declared.words.Mode.TheVariants.{Replay, Sim, Run}
 
@@ -31,6 +32,16 @@ pub record WordsAreMet : Type 0 where
   pub max_tries : AskAfterName (run_with (codes "--tries") (codes "64")) (Run 1000 64)
   pub plus : AskAfterName (run_with (codes "--turns") (codes "+7")) (Run 7 8)
   pub both : AskAfterName (codes "run" ∷ codes "--tries=64" ∷ codes "--turns=3" ∷ []) (Run 3 64)
+  pub leading_noughts : AskAfterName (run_with (codes "--turns") (codes "00120")) (Run 120 8)
+  pub ten_tries : AskAfterName (run_with (codes "--tries") (codes "10")) (Run 1000 10)
+  pub turns_and_tries : AskAfterName (codes "run" ∷ codes "--turns" ∷ codes "99" ∷ codes "--tries" ∷ codes "7" ∷ [])
+      (Run 99 7)
+  pub turns_twice : AreRefused (codes "run" ∷ codes "--turns=3" ∷ codes "--turns=4" ∷ [])
+  pub number_alone : AreRefused (codes "run" ∷ codes "3" ∷ [])
+  pub no_digit : AreRefused (run_with (codes "--turns") (codes "x"))
+  pub below_nought : AreRefused (run_with (codes "--tries") (codes "-1"))
+  pub capital_word : AreRefused (codes "Run" ∷ [])
+  pub shorter_word : AreRefused (codes "si" ∷ [])
   pub no_turn : AreRefused (run_with (codes "--turns") (codes "0"))
   pub turn_more : AreRefused (run_with (codes "--turns") (codes "100001"))
   pub no_try : AreRefused (run_with (codes "--tries") (codes "0"))
@@ -62,6 +73,18 @@ pub record ModesAreMet : Type 0 where
   pub sim_as_replay : ¬ AskForReplay (codes "x" ∷ codes "sim" ∷ [])
   pub replay_as_sim : ¬ AskForSim (codes "x" ∷ codes "replay" ∷ [])
   pub name_as_sim : ¬ AskForSim (codes "x" ∷ [])
+  pub sim_and_more : ¬ AskForSim (codes "x" ∷ codes "sim" ∷ codes "sim" ∷ [])
+  pub replay_and_more : ¬ AskForReplay (codes "x" ∷ codes "replay" ∷ codes "replay" ∷ [])
+  pub no_bare_words : ¬ AreBare []
+  pub no_bare_run : ¬ AreBare (codes "x" ∷ codes "run" ∷ codes "--turns=3" ∷ [])
+  pub bare_replay : AreBare (codes "x" ∷ codes "replay" ∷ [])
+  pub named_none : mode_named None ≡ Replay
+  pub named_sim : mode_named (Some (codes "sim", [])) ≡ Sim
+  pub named_replay : mode_named (Some (codes "replay", [])) ≡ Replay
+  pub no_flag : number_in (codes "turns") [] ≡ 0
+  pub spelled : number_of (codes "+0064") ≡ 64
+  pub of_replay : IsWithin Replay
+  pub of_sim : IsWithin Sim
   pub bare_run : AreBare (codes "x" ∷ codes "run" ∷ [])
   pub bare_sim : AreBare (codes "x" ∷ codes "sim" ∷ [])
   pub bare_name : AreBare (codes "x" ∷ [])
@@ -73,5 +96,40 @@ pub record ModesAreMet : Type 0 where
   pub try_more : ¬ IsWithin (Run 1 65)
   pub number : (flag : Text) (most : ℕ) (rows : List Row) → HasNumber flag most rows
       → (text : Text) × (one_of flag rows ≡ Some text) × IsUnsignedIn 1 most text
+  pub is_number : (flag text : Text) (most : ℕ) (rows : List Row) → one_of flag rows ≡ Some text
+      → IsUnsignedIn 1 most text → HasNumber flag most rows
+  pub no_word : HasNumbers None
+  pub other_word : (rows : List Row) → HasNumbers (Some (codes "sim", rows))
+  pub have_numbers : (rows : List Row) → HaveNumbers rows
+      → HasNumber (codes "turns") 100000 rows × HasNumber (codes "tries") 64 rows
   pub numbers : (rows : List Row) → HasNumbers (Some (codes "run", rows))
       → HasNumber (codes "turns") 100000 rows × HasNumber (codes "tries") 64 rows
+
+-- flags of `run` after a program's name, and what stands there and is no flag
+abbrev pub AreRefusedAsFlags : List Text → Type 0
+AreRefusedAsFlags flags = ¬ AreTakenAsFlags (codes "x" ∷ flags)
+
+abbrev pub AskForNumbers : ℕ → ℕ → List Text → Type 0
+AskForNumbers turns tries flags = AskByFlags turns tries (codes "x" ∷ flags)
+
+pub record FlagsAreMet : Type 0 where
+  pub nothing : AskForNumbers 1000 8 []
+  pub no_name : AskByFlags 1000 8 []
+  pub both : AskForNumbers 3 64 (codes "--tries=64" ∷ codes "--turns=3" ∷ [])
+  pub turns : AskForNumbers 100000 8 (codes "--turns" ∷ codes "100000" ∷ [])
+  pub tries : AskForNumbers 1000 1 (codes "--tries" ∷ codes "+1" ∷ [])
+  pub other_turns : ¬ AskForNumbers 1000 8 (codes "--turns" ∷ codes "5" ∷ [])
+  pub other_tries : ¬ AskForNumbers 5 5 (codes "--turns" ∷ codes "5" ∷ [])
+  pub no_turn : AreRefusedAsFlags (codes "--turns" ∷ codes "0" ∷ [])
+  pub turn_more : AreRefusedAsFlags (codes "--turns=100001" ∷ [])
+  pub no_try : AreRefusedAsFlags (codes "--tries=0" ∷ [])
+  pub try_more : AreRefusedAsFlags (codes "--tries" ∷ codes "65" ∷ [])
+  pub no_number : AreRefusedAsFlags (codes "--tries" ∷ [])
+  pub other_flag : AreRefusedAsFlags (codes "--steps=3" ∷ [])
+  pub word : AreRefusedAsFlags (codes "run" ∷ [])
+  pub version : AreRefusedAsFlags (codes "--version" ∷ [])
+  pub help : AskForHelpOnFlags (codes "x" ∷ codes "--help" ∷ [])
+  pub help_by_letter : AskForHelpOnFlags (codes "x" ∷ codes "-h" ∷ codes "go" ∷ [])
+  pub help_of_flag : AskForHelpOnFlags (codes "x" ∷ codes "--turns" ∷ codes "3" ∷ codes "--help" ∷ [])
+  pub help_after_word : ¬ AskForHelpOnFlags (codes "x" ∷ codes "run" ∷ codes "--help" ∷ [])
+  pub no_help : ¬ AskForHelpOnFlags (codes "x" ∷ [])

@@ -4,10 +4,12 @@ use Rattle.std.specs.Option.{option_map_or}
 use Rattle.std.specs.Str.{bytes_eq}
 use Rattle.std.specs.Str.Parse.{digits_value, without_leading_plus}
 use Rattle.clap.specs.Words.{App, IsAmong, IsUnsignedIn, Row, Rule, Text, fault_of, new_app, new_rule, one_of}
+use Rattle.clap.specs.Simple.{matches_of}
 use Rattle.clap.specs.Words.{subcommand_of, with_rule, with_subcommand}
 use Rattle.clap.specs.declared.builder.value_parser.ValueParser.TheVariants.{Unsigned}
 use Rattle.clap.specs.declared.error.kind.ErrorKind.TheVariants.{DisplayHelp}
 pub use Rattle.program_shell.specs.Words.{texts_of}
+use Rattle.cell_words.specs.declared.words.RunFlags.{RunFlags}
 use Rattle.cell_words.specs.declared.words.Mode.{Mode}
 use Rattle.cell_words.specs.declared.words.Mode.TheVariants.{Replay, Sim, Run}
 
@@ -49,6 +51,14 @@ number_of text = digits_value 10 (without_leading_plus text)
 abbrev pub number_in : Text → List Row → ℕ
 number_in flag rows = option_map_or number_of (one_of flag rows) 0
 
+-- the turns and the tries of the flags of `run`
+abbrev pub flags_in : List Row → RunFlags
+flags_in rows = record { turns = number_in (codes "turns") rows; tries = number_in (codes "tries") rows }
+
+-- those of words with flags of `run` after the program's name
+abbrev pub flags_of : List Text → RunFlags
+flags_of words = flags_in (matches_of run_command words)
+
 -- what the word after the program's name asks for: a replay if there is none
 abbrev pub mode_named : Option (Text × List Row) → Mode
 mode_named None = Replay
@@ -85,6 +95,18 @@ AreBare words =
 abbrev pub AskForRun : ℕ → ℕ → List Text → Type 0
 AskForRun turns tries words = AreTaken words × (mode_of words ≡ Run turns tries)
 
+-- `clap` accepts the words as flags of `run` after a program's name
+abbrev pub AreTakenAsFlags : List Text → Type 0
+AreTakenAsFlags words = fault_of run_command words ≡ []
+
+-- they ask for help where flags of `run` may stand
+abbrev pub AskForHelpOnFlags : List Text → Type 0
+AskForHelpOnFlags words = IsAmong DisplayHelp (fault_of run_command words)
+
+-- flags of `run` after a program's name ask for these turns and tries
+abbrev pub AskByFlags : ℕ → ℕ → List Text → Type 0
+AskByFlags turns tries words = AreTakenAsFlags words × (flags_of words ≡ record { turns = turns; tries = tries })
+
 -- a run has from 1 to `max_turns` turns, and from 1 to `max_tries` tries
 abbrev pub IsWithin : Mode → Type 0
 IsWithin Replay = ⊤
@@ -95,9 +117,11 @@ IsWithin (Run turns tries) = (1 ≤ turns) × (turns ≤ max_turns) × (1 ≤ tr
 abbrev pub HasNumber : Text → ℕ → List Row → Type 0
 HasNumber flag most rows = (text : Text) × (one_of flag rows ≡ Some text) × IsUnsignedIn 1 most text
 
+-- the flags of `run` have their numbers
+abbrev pub HaveNumbers : List Row → Type 0
+HaveNumbers rows = HasNumber (codes "turns") max_turns rows × HasNumber (codes "tries") max_tries rows
+
 -- if the word `run` was found, its flags have their numbers
 abbrev pub HasNumbers : Option (Text × List Row) → Type 0
 HasNumbers None = ⊤
-HasNumbers (Some (word, rows)) =
-    bytes_eq word (codes "run") ≡ true
-    → HasNumber (codes "turns") max_turns rows × HasNumber (codes "tries") max_tries rows
+HasNumbers (Some (word, rows)) = bytes_eq word (codes "run") ≡ true → HaveNumbers rows

@@ -8,4 +8,4 @@ pub mod words;
 
 pub use program_shell::words_of;
 pub use refusal::{refuse, refuse_in_own_words};
-pub use words::{Mode, read_words};
+pub use words::{Mode, RunFlags, read_flags, read_words};

@@ -5,8 +5,9 @@ ghost use Rattle.clap.specs.Words.{app_of, fault_of, found_of, kind_of, new_app,
 ghost use Rattle.clap.specs.Words.{subcommand_rows_of, HasKind};
 ghost use Rattle.clap.specs.declared.builder.command.Command.TheViews.{out-Command as fields_of};
 ghost use Rattle.cell_words.specs.Words as words;
-ghost use Rattle.cell_words.specs.Words.{AreBare, AreTaken, HasNumber, HasNumbers, IsWithin, mode_of};
-ghost use Rattle.cell_words.specs.Words.{number_in, program, run_command, texts_of};
+ghost use Rattle.cell_words.specs.Words.{AreBare, AreTaken, AreTakenAsFlags, HasNumber, HasNumbers};
+ghost use Rattle.cell_words.specs.Words.{HaveNumbers, IsWithin, flags_of, mode_of, number_in, program};
+ghost use Rattle.cell_words.specs.Words.{run_command, texts_of};
 ghost use Rattle.cell_words.specs.declared.words.Mode.TheVariants.{Run};
 
 use crate::help;
@@ -25,6 +26,15 @@ pub enum Mode {
     /// Runs the cell. Each machine has a worker of its own and this number of turns; a call is Busy
     /// after this number of failed tries.
     Run { turns: u32, tries: u8 },
+}
+
+/// The numbers of a run, by its flags.
+#[derive(Clone, Copy, PartialEq, Eq)]
+pub struct RunFlags {
+    /// The turns of each worker.
+    pub turns: u32,
+    /// After this number of failed tries a call is Busy.
+    pub tries: u8,
 }
 
 /// The most turns of a run.
@@ -58,6 +68,26 @@ pub fn read_words(alloc: Global, words: &[&str]) -> Result<Mode, Error>
     let command = command(alloc)?;
     match command.try_get_matches_from(words) {
         Ok(matches) => Ok(mode_of(&matches)),
+        Err(error) => Err(error),
+    }
+}
+
+/// The numbers of the flags that follow the name of a program which has no other words. The flags are
+/// those of `run`. Other words are an error of `clap`. So are words that ask for help, and out of
+/// memory.
+pub fn read_flags(alloc: Global, words: &[&str]) -> Result<RunFlags, Error>
+    // The numbers are those of the flags, as `clap` finds them, or their defaults.
+    ensures flags { IfOk result (λ flags. flags ≡ flags_of (texts_of words.now)) }
+    // They are 1 to 100,000 turns and 1 to 64 tries.
+    ensures within { IfOk result (λ flags. IsWithin (Run flags.turns flags.tries)) }
+    // `clap` accepts the words.
+    ensures taken { OnOk result (AreTakenAsFlags (texts_of words.now)) }
+    // `clap` refuses the words for this, or memory ran out.
+    ensures refused { IfErr result (HasKind (fault_of run_command (texts_of words.now))) }
+{
+    let command = run_command(alloc)?;
+    match command.try_get_matches_from(words) {
+        Ok(matches) => Ok(flags_in(&matches)),
         Err(error) => Err(error),
     }
 }
@@ -124,11 +154,23 @@ fn mode_of(matches: &ArgMatches<'_>) -> Mode
 {
     match matches.subcommand() {
         Some(("sim", _)) => Mode::Sim,
-        Some(("run", flags)) => Mode::Run {
-            turns: number_in(flags, "turns"),
-            tries: number_in(flags, "tries") as u8,
-        },
+        Some(("run", matches)) => {
+            let RunFlags { turns, tries } = flags_in(matches);
+            Mode::Run { turns, tries }
+        }
         _ => Mode::Replay,
+    }
+}
+
+/// The numbers of the flags of `run`, or their defaults.
+fn flags_in(matches: &ArgMatches<'_>) -> RunFlags
+    requires { HaveNumbers (rows_of (found_of matches.now)) }
+    ensures flags { result ≡ words.flags_in (rows_of (found_of matches.now)) }
+    ensures within { IsWithin (Run result.turns result.tries) }
+{
+    RunFlags {
+        turns: number_in(matches, "turns"),
+        tries: number_in(matches, "tries") as u8,
     }
 }
 

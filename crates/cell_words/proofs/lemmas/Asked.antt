@@ -1,12 +1,13 @@
 -- Which mode words ask for.
-use Rattle.std.proofs.Common.{◌≡◌, inl, inr, ℕ, List, [], ◌∷◌, codes, refl, sym, ap, subst, ◌∙◌}
+use Rattle.std.proofs.Common.{◌≡◌, inl, inr, ℕ, List, [], ◌∷◌, codes, sym, ap, subst, ◌∙◌}
 use Rattle.clap.specs.Words.{HasKind, IsAmong, Kinds, Text, kind_of}
 use Rattle.clap.specs.declared.error.Error.{Error}
 use Rattle.clap.specs.declared.error.kind.ErrorKind.TheVariants as ErrorKind
 use Rattle.clap.proofs.OnLiterals.{clap_on_literals}
 use Rattle.program_shell.specs.Versions.{AskForVersion}
 use Rattle.program_shell.proofs.lemmas.Versions.{version_words}
-use Rattle.cell_words.specs.Words.{AreTaken, AskForRun, mode_of}
+use Rattle.cell_words.specs.Words.{AreTaken, AreTakenAsFlags, AskByFlags, AskForRun, flags_of, mode_of}
+use Rattle.cell_words.specs.declared.words.RunFlags.{RunFlags}
 use Rattle.cell_words.specs.declared.words.Mode.{Mode}
 use Rattle.cell_words.specs.declared.words.Mode.TheVariants.{Run}
 
@@ -16,19 +17,26 @@ run_asked words m turns tries turns' tries' e f k =
     let same : Run turns tries ≡ Run turns' tries' = sym e ∙ (f ∙ k.1) in
     (cc, cc)
 
+-- the flags have the numbers that were read
+pub flags_asked : (words : List Text) (turns tries turns' tries' : ℕ) → record { turns = turns; tries = tries } ≡ flags_of words → AskByFlags turns' tries' words
+    → (turns ≡ turns') × (tries ≡ tries')
+flags_asked words turns tries turns' tries' e k =
+    let same = e ∙ k.1 in
+    (ap (λ (f : RunFlags). f.turns) same, ap (λ (f : RunFlags). f.tries) same)
+
 -- ---- words that ask for the version
 
 by_version : {P : Type 0} → (name : Text) → AreTaken (name ∷ codes "--version" ∷ []) → P
 unfolding clap_on_literals
 by_version name k = cc
 
--- `clap` doesn't take them, with or without the word `run`
+-- `clap` doesn't take them, as words or as flags of `run`
 pub version_untaken : {P : Type 0} → (words : List Text) → AskForVersion words → AreTaken words → P
 version_untaken words asked k = let is = version_words words asked in by_version is.0 (subst AreTaken is.1 k)
 
-pub run_version_untaken : {P : Type 0} → AreTaken (codes "cell" ∷ codes "run" ∷ codes "--version" ∷ []) → P
+pub flags_version_untaken : {P : Type 0} → (name : Text) → AreTakenAsFlags (name ∷ codes "--version" ∷ []) → P
 unfolding clap_on_literals
-run_version_untaken k = cc
+flags_version_untaken name k = cc
 
 -- ---- words that `clap` takes
 

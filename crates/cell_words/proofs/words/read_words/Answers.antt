@@ -1,12 +1,11 @@
-use Rattle.std.proofs.Common.{ap, ap₂, refl, sym, codes, true, List, [], ◌∷◌, ◌≡◌, ◌∙◌, subst, inl, inr, Result, Ok, Err, IfErr, rules}
-use Rattle.clap.specs.Words.{App, HasKind, HasMatchesOf, Kinds, Text, fault_of, is_simple, is_simple_and_free, kind_of, subcommand_of, subcommand_rows_of, takes}
+use Rattle.std.proofs.Common.{ap, ap₂, refl, sym, codes, true, List, [], ◌∷◌, ◌≡◌, ◌∙◌, subst, inl, inr, IfErr, rules}
+use Rattle.clap.specs.Words.{App, HasKind, HasMatchesOf, Text, fault_of, is_simple, is_simple_and_free, kind_of, subcommand_of, subcommand_rows_of, takes}
 use Rattle.clap.specs.declared.parser.matches.ArgMatches.{ArgMatches}
-use Rattle.clap.specs.declared.error.Error.{Error}
 use Rattle.clap.specs.declared.error.kind.ErrorKind.TheVariants as ErrorKind
 use Rattle.clap.proofs.OnLiterals.{clap_on_literals}
 use Rattle.cell_words.specs.Words.{AreBare, HasNumbers, mode_named, mode_of, program, texts_of}
-use Rattle.cell_words.specs.declared.words.Mode.{Mode}
 use Rattle.cell_words.specs.declared.words.Mode.TheVariants.{Run}
+use Rattle.cell_words.proofs.Accepted.{clean_alike, has_kind}
 use Rattle.cell_words.proofs.FlagLemmas.{run_has_numbers}
 use Rattle.cell_words.proofs.words.read_words.Goals as goal
 
@@ -28,10 +27,6 @@ bare_are_taken words (inr (inr (name, e))) = rw e refl
 run_by_default : (name : Text) → mode_of (name ∷ codes "run" ∷ []) ≡ Run 1000 8
 unfolding clap_on_literals
 run_by_default name = refl
-
--- words that a command accepts are accepted by an equal command
-clean_alike : (a b : App) (words : List Text) → a ≡ b → fault_of a words ≡ [] → fault_of b words ≡ []
-clean_alike a b words same h = subst (λ x. fault_of x words ≡ []) same h
 
 -- the word that was found, with its flags, depends on the words alone
 met_alike : (a : App) (words : List Text) (m : ArgMatches) → a ≡ program → HasMatchesOf a words m → subcommand_rows_of m ≡ subcommand_of program words
@@ -60,10 +55,6 @@ returns-in-Err-clause-refused c = subst (λ a. HasKind (fault_of a (texts_of c.a
 -- without room for the command the error is out of memory
 no_room : (c : goal.After-from_residual) → IfErr c.from_residual.result (λ e. kind_of e ≡ ErrorKind.OutOfMemory)
 no_room c = search rules
-
-has_kind : (r : Result Mode Error) (kinds : Kinds) → IfErr r (λ e. kind_of e ≡ ErrorKind.OutOfMemory) → IfErr r (HasKind kinds)
-has_kind (Ok mode) kinds h = tt
-has_kind (Err e) kinds h = inl h
 
 pub returns-in_err-command-clause-refused : goal.returns-in_err-command-clause-refused
 returns-in_err-command-clause-refused c = has_kind c.from_residual.result (fault_of program (texts_of c.args.words.now)) (no_room c)
