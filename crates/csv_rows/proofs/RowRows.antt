@@ -16,12 +16,17 @@ unfolding records_from next_record
 rows_are_met =
     record {
       records = refl;
+      quoted = refl;
+      blanks = refl;
       within_field = refl;
       none = refl;
       plain = λ reader h. h;
       is_plain = λ reader trims ready config flexible. (trims, ready, config, flexible);
       left = λ reader rows h. h;
+      is_left = λ reader bytes source between. (bytes, source, between, refl);
       found = λ reader row rows h. h;
+      is_found = λ reader row rest h. (rest, refl, h);
+      is_none = λ reader row. refl;
       none_found = none_found;
       nothing_found = nothing_found;
     }
