@@ -34,4 +34,9 @@ served =
       replay_as_sim = λ k. let e = k.1 in cc;
       other_word = λ k. let e = k.0 in cc;
       sim_alone = (refl, refl);
+      name_alone = (refl, refl);
+      replay_word = (refl, refl);
+      sim_word = (refl, refl);
+      run_word = (refl, refl);
+      refused_number = λ k. let e = k.0 in cc;
     }

@@ -1,11 +1,13 @@
 -- Proofs of the laws of runs.
-use Rattle.std.proofs.Common.{◌≡◌, ℕ, true, false, List, [], ◌∷◌, ◌++◌, map, refl, subst}
+use Rattle.std.proofs.Common.{◌≡◌, ◌≢◌, ◌≤◌, ℕ, true, false, List, [], ◌∷◌, ◌++◌, map, refl, subst}
 use Rattle.std.proofs.lemmas.List.Elements.{All-head, All-tail}
 use Rattle.cell_rules.specs.Types.{Machine, Feed, Table, Robot, Press, Deposit, Crane, Watch, all_machines}
 use Rattle.cell_rules.specs.ModelState.{ModelState}
 use Rattle.cell_notes.specs.declared.run_record.RunRecord.{RunRecord}
 use Rattle.cell_notes.specs.declared.status.Status.{Status}
-use Rattle.cell_notes.specs.declared.status.Status.TheVariants.{Fine}
+use Rattle.cell_notes.specs.declared.counts.Counts.{Counts}
+use Rattle.cell_notes.specs.declared.status.Status.TheVariants.{Fine, GateLimit}
+use Rattle.cell_workers.specs.Records.{has_worker}
 use Rattle.cell_parts.specs.Axes.{CellScales}
 use Rattle.cell_plant.specs.Machines.{CellGauges, on_curves}
 use Rattle.cell_workers.proofs.lemmas.Recording.{work_near}
@@ -52,6 +54,14 @@ all_turns c gives opening tries turns r k fine did counts m e =
     let had = told.turns c opening tries turns r did k.statuses any counts k.status m e in
     had.0.fine (each_status k.statuses (subst AreFine k.status fine) m)
 
+-- no gate keeps a machine out, and none has more turns than it may
+pub had_turns : (c : CellScales) (gives : CellGauges) (opening : ModelState) (tries turns : ℕ) (r : RunRecord) (did : Machine → Counts) (statuses : Machine → Status) → TellsWorkers c gives opening tries turns r
+    → r.counts ≡ map did all_machines → r.status ≡ map statuses all_machines → (m : Machine) → has_worker m ≡ true → (statuses m ≢ GateLimit) × ((did m).turns ≤ turns)
+had_turns c gives opening tries turns r did statuses k counts status m e =
+    let any = work_near c gives opening tries turns (λ n turn answer. answer ≡ true) r k in
+    let had = told.turns c opening tries turns r did statuses any counts status m e in
+    (had.1, had.0.within)
+
 pub well : StatusZeroIsWell
 well =
     record {
@@ -66,4 +76,4 @@ well =
 -- ---- lines
 
 pub lines : FaultLinesAreMet
-lines = record { memory = refl; missing = refl; spawn = refl }
+lines = record { memory = refl; missing = refl; range = refl; unread = refl; no_room = refl; spawn = refl }

@@ -9,12 +9,12 @@ use Rattle.cell_notes.specs.declared.status.Status.TheVariants.{Fine, GateLimit}
 use Rattle.cell_parts.specs.Axes.{CellScales}
 use Rattle.cell_plant.specs.Machines.{any_near}
 use Rattle.cell_config.specs.ConfigWords.{config_fault_text}
-use Rattle.cell_config.specs.declared.fault.ConfigFault.TheVariants.{Missing}
+use Rattle.cell_config.specs.declared.fault.ConfigFault.TheVariants.{Missing, Range, Read}
 use Rattle.csv_rows.specs.declared.script_end.Outcome.TheVariants.{Clean}
 use Rattle.cell_replay.specs.Script.{script_outcome, script_text}
 use Rattle.cell_report.specs.Report.{report_text}
 use Rattle.cell_threads.specs.Faults.{run_fault_text}
-use Rattle.cell_threads.specs.declared.fault.RunFault.TheVariants.{Spawn}
+use Rattle.cell_threads.specs.declared.fault.RunFault.TheVariants.{Memory, Spawn}
 use Rattle.cell_threads.specs.Laws.{HadTurns}
 use Rattle.cell_workers.specs.Records.{has_worker}
 use Rattle.program_shell.specs.declared.exit.Exit.TheVariants.{Well}
@@ -61,4 +61,7 @@ pub record StatusZeroIsWell : Type 0 where
 pub record FaultLinesAreMet : Type 0 where
   pub memory : fault_line (codes "memory") ≡ codes "fault memory\n"
   pub missing : fault_line (config_fault_text Missing) ≡ codes "fault config missing\n"
+  pub range : fault_line (config_fault_text Range) ≡ codes "fault config range\n"
+  pub unread : fault_line (config_fault_text Read) ≡ codes "fault read\n"
+  pub no_room : fault_line (run_fault_text Memory) ≡ codes "fault memory\n"
   pub spawn : fault_line (run_fault_text Spawn) ≡ codes "fault spawn\n"
