@@ -95,6 +95,7 @@ replies s m = record {
       let r = law.first lift_table s m (Claim 1) Stopped sound e in
       let f : Done ≡ Refused r.answered = sym d ∙ r.answer in
       cc;
+  refused = λ law sound e. law.first lift_table s m (Give 1) (PlateInZone 1) sound e;
   flagged = λ law sound e d.
       let r = law.first lift_table s m (Release 1) (PlateInZone 1) sound e in
       let f : Done ≡ Refused r.answered = sym d ∙ r.answer in

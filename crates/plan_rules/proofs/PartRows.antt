@@ -1,12 +1,20 @@
 -- The rows of parts.
-use Rattle.std.proofs.Common.{◌≡◌, ℕ, Option, Bool, true, false, ◌||◌, is_none, IsTrue, Some, None, refl}
+use Rattle.std.proofs.Common.{◌≡◌, ℕ, Option, Bool, true, false, ◌||◌, is_none, IsTrue, Some, None, [], ◌∷◌, ◌≤◌, replicate, refl, arith}
 use Rattle.plan_types.specs.declared.posture.Posture.TheVariants.{Closed, Moving, OpenIn, OpenOut}
 use Rattle.plan_types.specs.Same.{same_posture}
 use Rattle.plan_types.specs.Table.{transfer_of}
 use Rattle.plan_types.specs.Examples.{lift_table}
+use Rattle.plan_types.specs.declared.call.Call.TheVariants.{Claim, Yield, SetPose}
+use Rattle.plan_types.proofs.lemmas.Checked.{is_plan}
+use Rattle.plan_rules.specs.State.{start_state}
+use Rattle.plan_rules.specs.Examples.{did}
+use Rattle.plan_rules.specs.CauseExamples.{eight_table, last_zone}
+use Rattle.plan_rules.specs.OrderExamples.{interior}
+use Rattle.plan_rules.proofs.Histories.{sound-after}
+use Rattle.plan_rules.proofs.lemmas.Starts.{start_is_sound}
 use Rattle.plan_types.specs.declared.posture.Posture.{Posture}
-use Rattle.plan_rules.specs.Sound.{implies, is_open, is_owned_by, is_received_by}
-use Rattle.plan_rules.specs.PartExamples.{Lawful, RefusalParts, WayParts, PoseParts, CauseParts, ChangeParts, ZoneRules, PartsAreMet}
+use Rattle.plan_rules.specs.Sound.{implies, is_open, is_owned_by, is_received_by, IsSound}
+use Rattle.plan_rules.specs.PartExamples.{Lawful, FarZone, RefusalParts, WayParts, PoseParts, CauseParts, ChangeParts, ZoneRules, PartsAreMet}
 
 refusal_parts : RefusalParts
 refusal_parts = record {
@@ -192,8 +200,34 @@ zone_rules = record {
   moves_alone = λ law. let e : false ≡ true = law.moving_belongs_to_host in cc;
 }
 
+far_sound : IsSound eight_table (last_zone (interior (Some 2) OpenIn false) false)
+far_sound =
+    let full = false ∷ true ∷ replicate 14 false in
+    let plan = is_plan eight_table refl in
+    sound-after eight_table (start_state full 3) (did 3 (Claim 7) ∷ did 3 (SetPose 0) ∷ did 3 (SetPose 1) ∷ did 3 (Yield 7) ∷ []) plan
+    (start_is_sound eight_table (start_state full 3) plan (record { stamp_in_range = omega arith; has_sixteen_places = refl; same = refl }))
+
+far_zone : FarZone
+far_zone = record {
+  claim = refl;
+  give = refl;
+  take = refl;
+  yield = refl;
+  release = refl;
+  pose = refl;
+  shown = refl;
+  comes = refl;
+  comes_outward = refl;
+  plates = refl;
+  sound = far_sound;
+  stranger = λ sound. let e : false ≡ true = (sound.zone_is_lawful 7 (omega arith)).owner_is_party in cc;
+  two_plates = λ sound. let e : 2 ≤ 1 = sound.one_plate_a_place 2 in absurd (omega arith);
+  posture = refl;
+}
+
 pub parts : PartsAreMet
 parts = record {
+  far = far_zone;
   refusals = refusal_parts;
   ways = way_parts;
   poses = pose_parts;

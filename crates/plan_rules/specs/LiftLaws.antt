@@ -18,7 +18,7 @@ use Rattle.plan_rules.specs.Laws.{done, marked, OneHolder, MoverIsHost, GuestOnl
 use Rattle.plan_rules.specs.Laws.{StampCountsChanges, RightLasts, PostureByEvents, StaysSound, PosesFit}
 use Rattle.plan_rules.specs.Laws.{HandoverByHolder, StoppedUntilResumed, Lawful, EveryLegalHistoryIsLawful}
 use Rattle.plan_rules.specs.Laws.{StopBarsNoOthers, is_barred}
-use Rattle.plan_rules.specs.RefusalLaws.{RefusalsTell}
+use Rattle.plan_rules.specs.RefusalLaws.{IsRefusedBy, RefusalsTell}
 
 -- the state of the lift after a history
 abbrev pub state : State → List Event → State
@@ -110,6 +110,8 @@ pub record LiftReplies (s : State) (m : ℕ) : Type 0 where
   pub other_zone : RefusalsTell → IsSound lift_table s → reply lift_table s m (Yield 1) ≢ Refused (PlateInZone 0)
   pub party : RefusalsTell → IsSound lift_table s → reply lift_table s 2 (Claim 1) ≢ Refused NotParty
   pub stopped : RefusalsTell → IsSound lift_table s → s.stopped ≡ true → reply lift_table s m (Claim 1) ≢ Done
+  pub refused : RefusalsTell → IsSound lift_table s → (zone_at s 1).flag ≡ true
+      → IsRefusedBy lift_table s m (Give 1) (PlateInZone 1)
   pub flagged : RefusalsTell → IsSound lift_table s → (zone_at s 1).flag ≡ true
       → reply lift_table s m (Release 1) ≢ Done
 

@@ -5,6 +5,7 @@ use Rattle.std.specs.Prelude.{Option, Some, None}
 use Rattle.std.specs.Bool.{then_some}
 use Rattle.plan_types.specs.declared.posture.Posture.{Posture}
 use Rattle.plan_types.specs.declared.posture.Posture.TheVariants.{Closed, Moving, OpenIn, OpenOut}
+use Rattle.plan_types.specs.declared.call.Call.{Call}
 use Rattle.plan_types.specs.declared.call.Call.TheVariants.{Claim, Give, Yield, Take, Release, SetPose, Inquire, Stop}
 use Rattle.plan_types.specs.declared.call.Call.TheVariants.{Resume}
 use Rattle.plan_types.specs.declared.answer.Refusal.{Refusal}
@@ -16,13 +17,16 @@ use Rattle.plan_types.specs.Examples.{lift_table}
 use Rattle.plan_types.specs.Readings.{transfer, postures}
 use Rattle.plan_rules.specs.declared.state.ZoneState.{ZoneState}
 use Rattle.plan_rules.specs.declared.state.State.{State}
-use Rattle.plan_rules.specs.State.{free_zone, one_if, leads_to, is_coming}
-use Rattle.plan_rules.specs.Sound.{implies, is_open, is_owned_by, is_received_by, IsLawfulZone}
+use Rattle.plan_rules.specs.State.{free_zone, one_if, leads_to, is_coming, coming, plates_for, plates_of}
+use Rattle.plan_rules.specs.Sound.{implies, is_open, is_owned_by, is_received_by, IsLawfulZone, IsSound}
 use Rattle.plan_rules.specs.Refusals as refusal
 use Rattle.plan_rules.specs.Causes as cause
 use Rattle.plan_rules.specs.RefusalLaws.{from_on}
 use Rattle.plan_rules.specs.Reply as reply
-use Rattle.plan_rules.specs.Examples.{doors_table}
+use Rattle.plan_rules.specs.Reply.{next}
+use Rattle.plan_rules.specs.History.{posture_by_events}
+use Rattle.plan_rules.specs.Examples.{did, doors_table}
+use Rattle.plan_rules.specs.CauseExamples.{eight_table, last_zone}
 use Rattle.plan_rules.specs.OrderExamples.{interior, with_stop}
 use Rattle.plan_rules.specs.StateExamples.{lift_state, lower, upper, both}
 
@@ -241,7 +245,38 @@ pub record ZoneRules : Type 0 where
   pub guest_in_closed : ¬ Lawful (Some 2) Closed false
   pub moves_alone : ¬ Lawful None Moving false
 
+-- the eighth of eight zones, whose host is 3 and whose guest is 2: inward from place 1 to place 2, outward from 2 to 0
+abbrev pub after_far_call : ZoneState → Bool → ℕ → Call → State
+after_far_call eighth full m c = next eight_table (last_zone eighth full) m c
+
+pub record FarZone : Type 0 where
+  pub claim : after_far_call (interior None OpenIn false) false 2 (Claim 7)
+      ≡ record (last_zone (interior (Some 2) OpenIn false) false) { stamp = 8 }
+  pub give : after_far_call (interior (Some 2) OpenIn false) false 2 (Give 7)
+      ≡ record (last_zone (interior (Some 3) OpenIn true) false) { stamp = 8; full = replicate 16 false }
+  pub take : after_far_call (interior (Some 3) OpenIn true) false 3 (Take 7)
+      ≡ record (last_zone (interior (Some 3) OpenIn false) true) { stamp = 8 }
+  pub yield : after_far_call (interior (Some 3) OpenOut false) false 3 (Yield 7)
+      ≡ record (last_zone (interior (Some 2) OpenOut false) false) { stamp = 8 }
+  pub release : after_far_call (interior (Some 2) OpenOut false) true 2 (Release 7)
+      ≡ record (last_zone (interior None OpenOut false) true) { stamp = 8 }
+  pub pose : after_far_call (interior (Some 3) Moving false) false 3 (SetPose 1)
+      ≡ record (last_zone (interior (Some 3) OpenIn false) false) { stamp = 8 }
+  pub shown : reply.reply eight_table (last_zone (interior (Some 2) OpenOut true) false) 1 (Inquire 7)
+      ≡ Shown (Some 2) true OpenOut
+  pub comes : map (plates_for eight_table (last_zone (interior (Some 3) OpenIn true) false)) (0 ∷ 1 ∷ 2 ∷ [])
+      ≡ 0 ∷ 1 ∷ 1 ∷ []
+  pub comes_outward : map (coming eight_table (last_zone (interior (Some 2) OpenOut true) false)) (0 ∷ 1 ∷ 2 ∷ [])
+      ≡ 1 ∷ 0 ∷ 0 ∷ []
+  pub plates : plates_of eight_table (last_zone (interior (Some 3) OpenIn true) true) ≡ 3
+  pub sound : IsSound eight_table (last_zone (interior (Some 2) OpenIn false) false)
+  pub stranger : ¬ IsSound eight_table (last_zone (interior (Some 1) OpenIn false) false)
+  pub two_plates : ¬ IsSound eight_table (last_zone (interior (Some 3) OpenIn true) true)
+  pub posture : posture_by_events eight_table (last_zone free_zone false) (did 3 (SetPose 0) ∷ did 2 (SetPose 3) ∷ []) 7
+      ≡ Moving
+
 pub record PartsAreMet : Type 0 where
+  pub far : FarZone
   pub refusals : RefusalParts
   pub ways : WayParts
   pub poses : PoseParts
