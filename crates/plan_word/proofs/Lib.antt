@@ -5,3 +5,4 @@ mod LaidOut
 mod RoundTrip
 mod Soundness
 mod Packing
+mod StateRows

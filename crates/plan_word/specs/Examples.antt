@@ -1,8 +1,8 @@
 -- Words of the press and of the lift, put together by hand.
-use Rattle.std.specs.Prelude.{◌≡◌, ℕ, ◌-◌, Bool, true, false, ◌∷◌, ◌++◌, replicate, Option, Some}
+use Rattle.std.specs.Prelude.{◌≡◌, ℕ, ◌-◌, Bool, true, false, [], ◌∷◌, ◌++◌, map, replicate, Option, Some, None}
 use Rattle.plan_types.specs.declared.posture.Posture.{Posture}
 use Rattle.plan_types.specs.declared.posture.Posture.TheVariants.{Closed, Moving, OpenIn, OpenOut}
-use Rattle.plan_types.specs.Examples.{press_table, lift_table}
+use Rattle.plan_types.specs.Examples.{press_table, lift_table, counted}
 use Rattle.plan_rules.specs.declared.state.ZoneState.{ZoneState}
 use Rattle.plan_rules.specs.declared.state.State.{State}
 use Rattle.plan_rules.specs.State.{free_zone, zone_at, start_state}
@@ -10,8 +10,9 @@ use Rattle.plan_rules.specs.Examples.{press_start, full_press, lift_start, press
 use Rattle.plan_word.specs.declared.layout.Field.TheVariants.{Zone, Place, Stamp, Stop}
 use Rattle.plan_word.specs.Layout.{most_zones}
 use Rattle.plan_word.specs.OfPlan.{IsOfPlan}
-use Rattle.plan_word.specs.Packed.{packed}
-use Rattle.plan_word.specs.Reading.{told, state_told}
+use Rattle.plan_word.specs.Packed.{packed, owner_code, posture_code, zone_code, held, part_of, zone_parts, place_parts}
+use Rattle.plan_word.specs.Reading.{told, state_told, owner_of_code, posture_of_code, zone_of_code, zone_in_word}
+use Rattle.plan_word.specs.Reading.{place_told}
 
 abbrev pub zone : Option ℕ → Bool → Posture → ZoneState
 zone owner flag posture = record { owner = owner; flag = flag; posture = posture }
@@ -55,6 +56,17 @@ with_zone z = record {
 abbrev pub with_place : ℕ → State
 with_place p = start_state (replicate p false ++ true ∷ replicate (15 - p) false) 0
 
+-- the guest has the third zone of eight, which is open inward, and the host the last one, which moves
+abbrev pub far_zones : State
+far_zones = record {
+  zones =
+      free_zone ∷ free_zone ∷ zone (Some 0) false OpenIn ∷ replicate 4 free_zone ++ zone (Some 1) false Moving
+      ∷ free_zone ∷ free_zone ∷ [];
+  full = false ∷ false ∷ true ∷ replicate 13 false;
+  stamp = 1048575;
+  stopped = true;
+}
+
 -- the press: its zone in bits 0 to 4, its places in 5 and 6, the stamp from 7, the stop in 27
 -- the lift: its zones from bits 0 and 5, its places in 10 to 12, the stamp from 13
 pub record WordsAreRight : Type 0 where
@@ -66,6 +78,24 @@ pub record WordsAreRight : Type 0 where
   pub lift_lifted : packed lift_table lifted ≡ 0x143C1
   -- the zones from bits 0 and 5, the places in 10 to 12, the stamp from 13, the stop in 33; each host has its own zone
   pub two_presses_word : packed presses_table two_presses ≡ 0x200006AA9
+  -- the third zone and the last one of eight, the last place of three, the last stamp, and a stop
+  pub most_zones_word : packed (counted 8 3) far_zones ≡ 0xFFFFFC4800004800
+  pub last_of_places : packed (counted 0 16) (with_place 15) ≡ 0x8000
+  pub nothing : packed (counted 8 3) (start_state (replicate 16 false) 0) ≡ 0
+  -- by the host and the guest of each zone of the lift, and by no machine
+  pub owners : map (owner_code lift_table 1) (None ∷ Some 0 ∷ Some 2 ∷ []) ≡ 0 ∷ 1 ∷ 2 ∷ []
+  pub owners_below : map (owner_code lift_table 0) (None ∷ Some 0 ∷ Some 1 ∷ []) ≡ 0 ∷ 1 ∷ 2 ∷ []
+  pub postures : map posture_code (Closed ∷ Moving ∷ OpenIn ∷ OpenOut ∷ []) ≡ 0 ∷ 1 ∷ 2 ∷ 3 ∷ []
+  pub zones : map (zone_code lift_table 1)
+      (free_zone ∷ zone (Some 0) false Moving ∷ zone (Some 2) true OpenOut ∷ zone None false OpenIn ∷ [])
+      ≡ 0 ∷ 9 ∷ 30 ∷ 16 ∷ []
+  -- what each field holds, and what it adds to the word
+  pub held : map (held presses_table two_presses) (Zone 0 ∷ Zone 1 ∷ Place 0 ∷ Place 1 ∷ Place 2 ∷ Stamp ∷ Stop ∷ [])
+      ≡ 9 ∷ 21 ∷ 0 ∷ 1 ∷ 0 ∷ 3 ∷ 1 ∷ []
+  pub parts : map (part_of presses_table two_presses) (Zone 0 ∷ Zone 1 ∷ Place 1 ∷ Stamp ∷ Stop ∷ [])
+      ≡ 9 ∷ 672 ∷ 2048 ∷ 24576 ∷ 8589934592 ∷ []
+  pub of_zones : map (zone_parts presses_table two_presses) (0 ∷ 1 ∷ 2 ∷ []) ≡ 0 ∷ 9 ∷ 681 ∷ []
+  pub of_places : map (place_parts presses_table two_presses) (0 ∷ 1 ∷ 2 ∷ 3 ∷ []) ≡ 0 ∷ 0 ∷ 2048 ∷ 2048 ∷ []
 
 -- the states that words tell, and the numbers of the fields of a word of ones
 pub record WordsTell : Type 0 where
@@ -74,6 +104,16 @@ pub record WordsTell : Type 0 where
   pub press_full : state_told press_table 0x7FFFFF2 ≡ full_press
   pub lift_lifted : state_told lift_table 0x143C1 ≡ lifted
   pub two_presses_told : state_told presses_table 0x200006AA9 ≡ two_presses
+  pub most_zones_told : state_told (counted 8 3) 0xFFFFFC4800004800 ≡ far_zones
+  pub nothing : state_told (counted 8 3) 0 ≡ start_state (replicate 16 false) 0
+  pub owners : map (owner_of_code lift_table 1) (0 ∷ 1 ∷ 2 ∷ 3 ∷ []) ≡ None ∷ Some 0 ∷ Some 2 ∷ Some 2 ∷ []
+  pub postures : map posture_of_code (0 ∷ 1 ∷ 2 ∷ 3 ∷ []) ≡ Closed ∷ Moving ∷ OpenIn ∷ OpenOut ∷ []
+  pub zones : map (zone_of_code lift_table 0) (0 ∷ 9 ∷ 14 ∷ 21 ∷ 24 ∷ [])
+      ≡ free_zone ∷ zone (Some 0) false Moving ∷ zone (Some 1) true Moving ∷ zone (Some 0) true OpenIn
+      ∷ zone None false OpenOut ∷ []
+  pub no_more_zones : map (zone_in_word press_table 0xFFFFFFF) (0 ∷ 1 ∷ 9 ∷ [])
+      ≡ zone (Some 0) true OpenOut ∷ free_zone ∷ free_zone ∷ []
+  pub no_more_places : map (place_told press_table 0xFFFFFFF) (0 ∷ 1 ∷ 2 ∷ 15 ∷ []) ≡ true ∷ true ∷ false ∷ false ∷ []
   -- the spare code 3, of zone 1 of the lift, tells its guest
   pub spare : (zone_at (state_told lift_table 0x60) 1).owner ≡ Some 2
   pub last_zone : told most_zones 0xFFFFFFFFFFFFFFFF (Zone 7) ≡ 31
@@ -91,3 +131,15 @@ pub record NotOfPress : Type 0 where
   pub stamp : ¬ IsOfPlan press_table (start_state (replicate 16 false) 1048576)
   pub two_plates : ¬ IsOfPlan press_table (record (given 5 false) { full = false ∷ true ∷ replicate 14 false })
   pub shut_guest : ¬ IsOfPlan press_table (with_zone 0)
+  pub third_posture : ¬ IsOfPlan lift_table (record lift_start {
+    zones =
+        free_zone ∷ free_zone ∷ zone None false OpenIn ∷ replicate 7 free_zone;
+  })
+  pub fourth_place : ¬ IsOfPlan lift_table (with_place 3)
+
+-- states of the press: a start, and one in which the loader has the open press and both have a plate; and of the lift
+pub record StatesOfPlans : Type 0 where
+  pub start : IsOfPlan press_table press_start
+  pub full : IsOfPlan press_table full_press
+  pub lift : IsOfPlan lift_table lift_start
+  pub sixteenth_place : IsOfPlan (counted 0 16) (with_place 15)

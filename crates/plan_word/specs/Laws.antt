@@ -1,6 +1,7 @@
 -- Laws of the word of every state of a plan.
 use Rattle.std.specs.Prelude.{◌≡◌, ℕ, ◌+◌, ◌*◌, ◌/◌, ◌%◌, ◌<◌, ◌^◌, IsTrue}
 use Rattle.plan_types.specs.Table.{PlanTable, zone_count, place_count, word_width}
+use Rattle.plan_types.specs.Examples.{lift_table}
 use Rattle.plan_rules.specs.declared.state.State.{State}
 use Rattle.plan_rules.specs.State.{zone_at, is_full, one_if}
 use Rattle.plan_word.specs.declared.layout.Field.{Field}
@@ -34,3 +35,20 @@ abbrev pub WordsAreDistinct : Type 0
 WordsAreDistinct =
     (t : PlanTable) (one other : State) → IsOfPlan t one → IsOfPlan t other → packed t one ≡ packed t other
     → one ≡ other
+
+-- what these laws say of the lift: its zones from bits 0 and 5, its places in 10 to 12, the stamp from 13, the stop in
+-- 33
+pub record LiftWords (s other : State) : Type 0 where
+  pub zone_fits : EveryWordIsLaidOut → IsOfPlan lift_table s → zone_code lift_table 1 (zone_at s 1) < 32
+  pub stamp_fits : EveryWordIsLaidOut → IsOfPlan lift_table s → s.stamp < 1048576
+  pub zone_reads_back : EveryWordIsLaidOut → IsOfPlan lift_table s
+      → packed lift_table s / 32 % 32 ≡ zone_code lift_table 1 (zone_at s 1)
+  pub ends : EveryWordIsLaidOut → IsOfPlan lift_table s → packed lift_table s < 2 ^ 34
+  pub zone : LayoutsTell → IsLaidOut lift_table s
+      → packed lift_table s / 2 ^ 5 % 32 ≡ zone_code lift_table 1 (zone_at s 1)
+  pub place : LayoutsTell → IsLaidOut lift_table s → packed lift_table s / 2 ^ 12 % 2 ≡ one_if (is_full s 2)
+  pub stamp : LayoutsTell → IsLaidOut lift_table s → packed lift_table s / 2 ^ 13 % 1048576 ≡ s.stamp
+  pub stop : LayoutsTell → IsLaidOut lift_table s → packed lift_table s / 2 ^ 33 % 2 ≡ one_if s.stopped
+  pub above : LayoutsTell → IsLaidOut lift_table s → packed lift_table s < 2 ^ 34
+  pub same : WordsAreDistinct → IsOfPlan lift_table s → IsOfPlan lift_table other
+      → packed lift_table s ≡ packed lift_table other → s ≡ other

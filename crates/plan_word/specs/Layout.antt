@@ -1,5 +1,5 @@
 -- The layout of a plan's word: the zones, the places, the stamp and the stop, from the lowest bit up.
-use Rattle.std.specs.Prelude.{◌≡◌, ◌≢◌, ℕ, ◌+◌, ◌*◌, ◌≤◌, Bool, true, false, nat_lt, ◌⊎◌, IsTrue}
+use Rattle.std.specs.Prelude.{◌≡◌, ◌≢◌, ℕ, ◌+◌, ◌*◌, ◌≤◌, Bool, true, false, nat_lt, [], ◌∷◌, map, ◌⊎◌, IsTrue}
 use Rattle.plan_types.specs.Table.{PlanTable, zone_count, place_count, word_width}
 use Rattle.plan_types.specs.Examples.{press_table, lift_table}
 use Rattle.plan_word.specs.declared.layout.Field.{Field}
@@ -50,6 +50,10 @@ pub record FieldsAreApart : Type 0 where
 abbrev pub most_zones : Counts
 most_zones = record { zones = 8; places = 3 }
 
+-- no zones and no places
+abbrev pub no_rows : Counts
+no_rows = record { zones = 0; places = 0 }
+
 -- whether its word has a field, where the field begins, and where it ends
 abbrev pub span : Field → Bool × ℕ × ℕ
 span f = (has most_zones f, start_of most_zones f, end_of most_zones f)
@@ -72,3 +76,20 @@ pub record ExamplesFit : Type 0 where
   pub no_fourth_place : has most_zones (Place 3) ≡ false
   pub stamp : span Stamp ≡ (true, 43, 63)
   pub stop : span Stop ≡ (true, 63, 64)
+  pub bits : map bits_of (Zone 3 ∷ Place 5 ∷ Stamp ∷ Stop ∷ []) ≡ 5 ∷ 1 ∷ 20 ∷ 1 ∷ []
+  pub middle : map (start_of most_zones) (Zone 3 ∷ Place 1 ∷ []) ≡ 15 ∷ 41 ∷ []
+  pub empty : map (has no_rows) (Zone 0 ∷ Place 0 ∷ Stamp ∷ Stop ∷ []) ≡ false ∷ false ∷ true ∷ true ∷ []
+  pub empty_starts : map (start_of no_rows) (Stamp ∷ Stop ∷ []) ≡ 0 ∷ 20 ∷ []
+  pub empty_width : width_of no_rows ≡ 21
+  pub counts : counts_of lift_table ≡ record { zones = 2; places = 3 }
+
+-- what the law says of some fields, of any word
+pub record FieldsFit (c : Counts) (t : PlanTable) : Type 0 where
+  pub width : FieldsAreApart → 5 * zone_count t + place_count t + 21 ≡ word_width t
+  pub zones : FieldsAreApart → IsTrue (nat_lt 3 c.zones) → IsTrue (nat_lt 2 c.places)
+      → (20 ≤ 5 * c.zones + 2) ⊎ (5 * c.zones + 3 ≤ 15)
+  pub places : FieldsAreApart → IsTrue (nat_lt 2 c.places)
+      → (5 * c.zones + 3 ≤ 5 * c.zones + c.places) ⊎ (5 * c.zones + c.places + 20 ≤ 5 * c.zones + 2)
+  pub last_zone : FieldsAreApart → IsTrue (nat_lt 7 c.zones) → 40 ≤ width_of c
+  pub last_place : FieldsAreApart → IsTrue (nat_lt 2 c.places) → 5 * c.zones + 3 ≤ width_of c
+  pub stop : FieldsAreApart → 5 * c.zones + c.places + 21 ≤ width_of c

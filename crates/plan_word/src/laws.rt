@@ -1,21 +1,23 @@
 //! Laws, each the contract of a function that does nothing. `plan.machines()` reads the plan, so the prover knows that
 //! it is one.
 ghost use Rattle.std.specs.Prelude.{◌≡◌, ℕ, ◌≤◌, false};
-ghost use Rattle.plan_types.specs.Table.{place_count};
+ghost use Rattle.plan_types.specs.Table.{PlanTable, place_count};
 ghost use Rattle.plan_rules.specs.State.{is_full};
+ghost use Rattle.plan_rules.specs.declared.state.State.{State as PlanState};
 ghost use Rattle.plan_rules.specs.Sound.{IsStart};
 ghost use Rattle.plan_rules.specs.Reply.{next};
-ghost use Rattle.plan_word.specs.Layout.{FieldsAreApart, ExamplesFit};
+ghost use Rattle.plan_word.specs.Layout.{Counts, FieldsAreApart, FieldsFit, ExamplesFit};
 ghost use Rattle.plan_word.specs.OfPlan.{IsOfPlan};
-ghost use Rattle.plan_word.specs.Laws.{EveryWordIsLaidOut, LayoutsTell, WordsAreDistinct};
-ghost use Rattle.plan_word.specs.Examples.{WordsAreRight, WordsTell, NotOfPress};
+ghost use Rattle.plan_word.specs.Laws.{EveryWordIsLaidOut, LayoutsTell, WordsAreDistinct, LiftWords};
+ghost use Rattle.plan_word.specs.Examples.{WordsAreRight, WordsTell, NotOfPress, StatesOfPlans};
 
 use plan_rules::State;
 use plan_types::{Call, Plan};
 
-/// No two fields of a word overlap, and each ends within its width.
+/// No two fields of a word overlap, and each ends within its width. And what this says of some fields.
 pub fn fields_are_apart()
-    ensures { FieldsAreApart }
+    ensures apart { FieldsAreApart }
+    ensures fit { (c : Counts) (t : PlanTable) → FieldsFit c t }
 {}
 
 /// The words of a press, of a lift and of ten zones, with literal widths and places.
@@ -33,9 +35,11 @@ pub fn layouts_tell()
     ensures { LayoutsTell }
 {}
 
-/// No two states of a plan have the same word: a state that is packed and unpacked is the same state.
+/// No two states of a plan have the same word: a state that is packed and unpacked is the same state. And what this law
+/// and the two before it say of a lift.
 pub fn words_are_distinct()
-    ensures { WordsAreDistinct }
+    ensures distinct { WordsAreDistinct }
+    ensures lift { (s other : PlanState) → LiftWords s other }
 {}
 
 /// States of the press, of the lift and of two presses have these literal words, which tell them; and some states
@@ -44,6 +48,7 @@ pub fn words_are_right()
     ensures words { WordsAreRight }
     ensures states { WordsTell }
     ensures strangers { NotOfPress }
+    ensures of_plans { StatesOfPlans }
 {}
 
 /// A start is a state of the plan if only places of the plan are full.
