@@ -1,8 +1,8 @@
 mod Wanted
 pub mod lemmas
-mod Lasting
-mod Running
-mod Masking
+pub mod Lasting
+pub mod Running
+pub mod Masking
 mod Posing
 mod Leading
 mod RunRows
