@@ -1,6 +1,6 @@
 -- The crane's program, row by row.
 use Rattle.std.specs.Prelude.{◌≡◌, ◌≢◌, ◌<◌, ◌≤◌, ℕ, ℤ, ◌+ℤ◌, ◌≤ℤ◌, Bool, true, false, ◌&&◌, ◌||◌, not, ◌↔◌, IsTrue}
-use Rattle.std.specs.Prelude.{if◌then◌else◌, List, [], ◌∷◌, Option, Some, None, Result, Ok, Err}
+use Rattle.std.specs.Prelude.{if◌then◌else◌, List, [], ◌∷◌, Option, Some, None, Result, Ok, Err, codes}
 use Rattle.cell_rules.specs.Types.{Machine, Crane, Zone, Z5, Z6, Posture, OpenIn, OpenOut, Call, Claim, Give, Take}
 use Rattle.cell_rules.specs.Types.{Release, Inquire, Event}
 use Rattle.cell_types.specs.declared.place.Place.TheVariants.{Crane as OnCrane}
@@ -100,6 +100,23 @@ number_at LowerToFeed = 10
 number_at DropPlate = 11
 number_at RaiseFromFeed = 12
 number_at GivePlate = 13
+
+-- the word of a step, as films show it
+abbrev pub word_at : CraneStep → List ℕ
+word_at RaiseToFetch = codes "raise to fetch"
+word_at TravelToDeposit = codes "travel to deposit"
+word_at AwaitPlate = codes "await plate"
+word_at LowerToPlate = codes "lower to plate"
+word_at GripPlate = codes "grip plate"
+word_at RaiseWithPlate = codes "raise with plate"
+word_at TakePlate = codes "take plate"
+word_at ReleaseDeposit = codes "release deposit"
+word_at TravelToFeed = codes "travel to feed"
+word_at ClaimFeed = codes "claim feed"
+word_at LowerToFeed = codes "lower to feed"
+word_at DropPlate = codes "drop plate"
+word_at RaiseFromFeed = codes "raise from feed"
+word_at GivePlate = codes "give plate"
 
 abbrev pub steps : List CraneStep
 steps =

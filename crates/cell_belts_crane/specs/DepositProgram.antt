@@ -1,5 +1,5 @@
 -- The deposit belt's program, row by row.
-use Rattle.std.specs.Prelude.{◌≡◌, ℕ, Bool, true, false, not, ◌&&◌, if◌then◌else◌, List, [], ◌∷◌, Ok}
+use Rattle.std.specs.Prelude.{◌≡◌, ℕ, Bool, true, false, not, ◌&&◌, if◌then◌else◌, List, [], ◌∷◌, Ok, codes}
 use Rattle.cell_rules.specs.Types.{Deposit, Z4, Z5, DepEntry, DepEnd, Pose, Landing, Running, Offering, Call, Claim}
 use Rattle.cell_rules.specs.Types.{Give, Take, Release, SetPose, Advance, Event, Zone, Closed, OpenIn, OpenOut, Moving}
 use Rattle.cell_sensors.specs.declared.sense.DepositSense.{DepositSense}
@@ -89,6 +89,21 @@ number_at MoveOn = 8
 number_at PoseOffering = 9
 number_at GivePlate = 10
 number_at ClaimBack = 11
+
+-- the word of a step, as films show it
+abbrev pub word_at : DepositStep → List ℕ
+word_at ClaimEntry = codes "claim entry"
+word_at ClaimExit = codes "claim exit"
+word_at PoseLanding = codes "pose landing"
+word_at ReleaseEntry = codes "release entry"
+word_at TakePlate = codes "take plate"
+word_at StartRun = codes "start run"
+word_at RunIn = codes "run in"
+word_at RunOut = codes "run out"
+word_at MoveOn = codes "move on"
+word_at PoseOffering = codes "pose offering"
+word_at GivePlate = codes "give plate"
+word_at ClaimBack = codes "claim back"
 
 abbrev pub steps : List DepositStep
 steps =

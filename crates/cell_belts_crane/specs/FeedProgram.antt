@@ -1,5 +1,5 @@
 -- The feed belt's program, row by row.
-use Rattle.std.specs.Prelude.{◌≡◌, pos, ℕ, Bool, true, false, not, ◌&&◌, if◌then◌else◌, List, [], ◌∷◌, Ok}
+use Rattle.std.specs.Prelude.{◌≡◌, pos, ℕ, Bool, true, false, not, ◌&&◌, if◌then◌else◌, List, [], ◌∷◌, Ok, codes}
 use Rattle.cell_rules.specs.Types.{Feed, Z1, Z6, FeedEntry, FeedEnd, Pose, Landing, Running, Halted, Call, Claim}
 use Rattle.cell_rules.specs.Types.{Give, Take, Release, SetPose, Advance, Event, Zone, Closed, OpenIn, Moving}
 use Rattle.cell_sensors.specs.declared.sense.FeedSense.{FeedSense}
@@ -88,6 +88,21 @@ number_at StartOut = 8
 number_at RunOut = 9
 number_at Halt = 10
 number_at GivePlate = 11
+
+-- the word of a step, as films show it
+abbrev pub word_at : FeedStep → List ℕ
+word_at ClaimEntry = codes "claim entry"
+word_at PoseLanding = codes "pose landing"
+word_at ReleaseEntry = codes "release entry"
+word_at TakePlate = codes "take plate"
+word_at StartIn = codes "start in"
+word_at RunIn = codes "run in"
+word_at MoveOn = codes "move on"
+word_at ClaimExit = codes "claim exit"
+word_at StartOut = codes "start out"
+word_at RunOut = codes "run out"
+word_at Halt = codes "halt"
+word_at GivePlate = codes "give plate"
 
 abbrev pub steps : List FeedStep
 steps =

@@ -211,6 +211,28 @@ impl CraneStep {
         self as u8
     }
 
+    /// The word of the step, as films show it.
+    pub fn word(self) -> &'static str
+        ensures { result.now ≡ program.word_at self }
+    {
+        match self {
+            CraneStep::RaiseToFetch => "raise to fetch",
+            CraneStep::TravelToDeposit => "travel to deposit",
+            CraneStep::AwaitPlate => "await plate",
+            CraneStep::LowerToPlate => "lower to plate",
+            CraneStep::GripPlate => "grip plate",
+            CraneStep::RaiseWithPlate => "raise with plate",
+            CraneStep::TakePlate => "take plate",
+            CraneStep::ReleaseDeposit => "release deposit",
+            CraneStep::TravelToFeed => "travel to feed",
+            CraneStep::ClaimFeed => "claim feed",
+            CraneStep::LowerToFeed => "lower to feed",
+            CraneStep::DropPlate => "drop plate",
+            CraneStep::RaiseFromFeed => "raise from feed",
+            CraneStep::GivePlate => "give plate",
+        }
+    }
+
     /// What the crane keeps at the step.
     pub fn keeps(self) -> CraneShare
         ensures { result ≡ program.keeps_at self }

@@ -182,6 +182,26 @@ impl DepositStep {
         self as u8
     }
 
+    /// The word of the step, as films show it.
+    pub fn word(self) -> &'static str
+        ensures { result.now ≡ program.word_at self }
+    {
+        match self {
+            DepositStep::ClaimEntry => "claim entry",
+            DepositStep::ClaimExit => "claim exit",
+            DepositStep::PoseLanding => "pose landing",
+            DepositStep::ReleaseEntry => "release entry",
+            DepositStep::TakePlate => "take plate",
+            DepositStep::StartRun => "start run",
+            DepositStep::RunIn => "run in",
+            DepositStep::RunOut => "run out",
+            DepositStep::MoveOn => "move on",
+            DepositStep::PoseOffering => "pose offering",
+            DepositStep::GivePlate => "give plate",
+            DepositStep::ClaimBack => "claim back",
+        }
+    }
+
     /// What the belt keeps at the step.
     pub fn keeps(self) -> BeltShare
         ensures { result ≡ program.keeps_at self }

@@ -181,6 +181,26 @@ impl FeedStep {
         self as u8
     }
 
+    /// The word of the step, as films show it.
+    pub fn word(self) -> &'static str
+        ensures { result.now ≡ program.word_at self }
+    {
+        match self {
+            FeedStep::ClaimEntry => "claim entry",
+            FeedStep::PoseLanding => "pose landing",
+            FeedStep::ReleaseEntry => "release entry",
+            FeedStep::TakePlate => "take plate",
+            FeedStep::StartIn => "start in",
+            FeedStep::RunIn => "run in",
+            FeedStep::MoveOn => "move on",
+            FeedStep::ClaimExit => "claim exit",
+            FeedStep::StartOut => "start out",
+            FeedStep::RunOut => "run out",
+            FeedStep::Halt => "halt",
+            FeedStep::GivePlate => "give plate",
+        }
+    }
+
     /// What the belt keeps at the step.
     pub fn keeps(self) -> BeltShare
         ensures { result ≡ program.keeps_at self }

@@ -1,5 +1,5 @@
 -- What the robot keeps at each step of its program, and the numbers of its steps.
-use Rattle.std.specs.Prelude.{ℕ, ◌+◌, nat_eq, Bool, true, false, not, ◌&&◌, List, [], ◌∷◌}
+use Rattle.std.specs.Prelude.{ℕ, ◌+◌, nat_eq, Bool, true, false, not, ◌&&◌, List, [], ◌∷◌, codes}
 use Rattle.cell_rules.specs.Types.{Zone, Robot, Z2, Z3, Z4, Arm1, Arm2, PressIn, PressOut, OpenIn, OpenOut}
 use Rattle.cell_rules.specs.Names.{ModelState, zone_at, is_full, one_if, same_flag}
 use Rattle.cell_control.specs.Keeping.{posed, unposed, are_kept}
@@ -125,6 +125,37 @@ number_at ReachDeposit = 24
 number_at DropOnDeposit = 25
 number_at LeaveDeposit = 26
 number_at GiveToDeposit = 27
+
+-- the word of a step, as films show it
+abbrev pub word_at : RobotStep → List ℕ
+word_at TurnToTable = codes "turn to table"
+word_at AwaitPlate = codes "await plate"
+word_at ReachTable = codes "reach table"
+word_at GripPlate = codes "grip plate"
+word_at LeaveTable = codes "leave table"
+word_at TakePlate = codes "take plate"
+word_at ReleaseTable = codes "release table"
+word_at TurnToLoad = codes "turn to load"
+word_at ClaimPress = codes "claim press"
+word_at InspectPress = codes "inspect press"
+word_at ReleasePress = codes "release press"
+word_at ReachToLoad = codes "reach to load"
+word_at DropInPress = codes "drop in press"
+word_at LeaveLoaded = codes "leave loaded"
+word_at GiveToPress = codes "give to press"
+word_at TurnToUnload = codes "turn to unload"
+word_at AwaitForged = codes "await forged"
+word_at ReachToUnload = codes "reach to unload"
+word_at GripForged = codes "grip forged"
+word_at LeaveUnloaded = codes "leave unloaded"
+word_at TakeForged = codes "take forged"
+word_at ReleaseUnloaded = codes "release unloaded"
+word_at TurnToDeposit = codes "turn to deposit"
+word_at ClaimDeposit = codes "claim deposit"
+word_at ReachDeposit = codes "reach deposit"
+word_at DropOnDeposit = codes "drop on deposit"
+word_at LeaveDeposit = codes "leave deposit"
+word_at GiveToDeposit = codes "give to deposit"
 
 abbrev pub steps : List RobotStep
 steps =

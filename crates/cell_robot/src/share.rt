@@ -183,6 +183,42 @@ impl RobotStep {
         self as u8
     }
 
+    /// The word of the step, as films show it.
+    pub fn word(self) -> &'static str
+        ensures { result.now ≡ program.word_at self }
+    {
+        match self {
+            RobotStep::TurnToTable => "turn to table",
+            RobotStep::AwaitPlate => "await plate",
+            RobotStep::ReachTable => "reach table",
+            RobotStep::GripPlate => "grip plate",
+            RobotStep::LeaveTable => "leave table",
+            RobotStep::TakePlate => "take plate",
+            RobotStep::ReleaseTable => "release table",
+            RobotStep::TurnToLoad => "turn to load",
+            RobotStep::ClaimPress => "claim press",
+            RobotStep::InspectPress => "inspect press",
+            RobotStep::ReleasePress => "release press",
+            RobotStep::ReachToLoad => "reach to load",
+            RobotStep::DropInPress => "drop in press",
+            RobotStep::LeaveLoaded => "leave loaded",
+            RobotStep::GiveToPress => "give to press",
+            RobotStep::TurnToUnload => "turn to unload",
+            RobotStep::AwaitForged => "await forged",
+            RobotStep::ReachToUnload => "reach to unload",
+            RobotStep::GripForged => "grip forged",
+            RobotStep::LeaveUnloaded => "leave unloaded",
+            RobotStep::TakeForged => "take forged",
+            RobotStep::ReleaseUnloaded => "release unloaded",
+            RobotStep::TurnToDeposit => "turn to deposit",
+            RobotStep::ClaimDeposit => "claim deposit",
+            RobotStep::ReachDeposit => "reach deposit",
+            RobotStep::DropOnDeposit => "drop on deposit",
+            RobotStep::LeaveDeposit => "leave deposit",
+            RobotStep::GiveToDeposit => "give to deposit",
+        }
+    }
+
     /// What the robot keeps at the step.
     pub fn keeps(self) -> RobotShare
         ensures { result ≡ program.keeps_at self }

@@ -1,5 +1,6 @@
 -- The press's program, row by row.
-use Rattle.std.specs.Prelude.{◌≡◌, ◌≢◌, ℕ, Bool, true, false, not, ◌&&◌, ◌||◌, if◌then◌else◌, List, [], ◌∷◌, Result, Ok, Err}
+use Rattle.std.specs.Prelude.{◌≡◌, ◌≢◌, ℕ, Bool, true, false, not, ◌&&◌, ◌||◌, if◌then◌else◌, List, [], ◌∷◌}
+use Rattle.std.specs.Prelude.{Result, Ok, Err, codes}
 use Rattle.cell_rules.specs.Types.{Press, Z3, PressIn, PressOut, Pose, Travelling, Middle, Low, Top, Call, Claim}
 use Rattle.cell_rules.specs.Types.{Give, Take, Release, SetPose, Advance, Event, Zone, Closed, OpenIn, OpenOut, Moving}
 use Rattle.cell_sensors.specs.declared.sense.PressSense.{PressSense}
@@ -108,6 +109,24 @@ number_at MoveToBottom = 11
 number_at PoseLow = 12
 number_at GivePlate = 13
 number_at ClaimBack = 14
+
+-- the word of a step, as films show it
+abbrev pub word_at : PressStep → List ℕ
+word_at ClaimFirst = codes "claim first"
+word_at LeaveForMiddle = codes "leave for middle"
+word_at MoveToMiddle = codes "move to middle"
+word_at PoseMiddle = codes "pose middle"
+word_at ReleaseInterior = codes "release interior"
+word_at TakePlate = codes "take plate"
+word_at LeaveForTop = codes "leave for top"
+word_at MoveToTop = codes "move to top"
+word_at PoseTop = codes "pose top"
+word_at Forge = codes "forge"
+word_at LeaveForBottom = codes "leave for bottom"
+word_at MoveToBottom = codes "move to bottom"
+word_at PoseLow = codes "pose low"
+word_at GivePlate = codes "give plate"
+word_at ClaimBack = codes "claim back"
 
 abbrev pub steps : List PressStep
 steps =

@@ -1,6 +1,6 @@
 -- The table's program, row by row.
 use Rattle.std.specs.Prelude.{◌≡◌, ◌≢◌, ◌⊎◌, ◌<◌, ◌≤◌, ℕ, ℤ, Bool, true, false, not, ◌&&◌, if◌then◌else◌, List, Option}
-use Rattle.std.specs.Prelude.{Some, None, [], ◌∷◌, Result, Ok, Err}
+use Rattle.std.specs.Prelude.{Some, None, [], ◌∷◌, Result, Ok, Err, codes}
 use Rattle.cell_types.specs.declared.machine.Machine.TheVariants.{Table as TableMachine}
 use Rattle.cell_rules.specs.Types.{Z1, Z2, Pose, Turning, Loading, Unloading, Call, Claim, Give, Take, Release}
 use Rattle.cell_rules.specs.Types.{SetPose, Event, Zone, Closed, OpenIn, OpenOut, Moving}
@@ -103,6 +103,21 @@ number_at MoveToUnloading = 8
 number_at PoseUnloading = 9
 number_at GivePlate = 10
 number_at ClaimBack = 11
+
+-- the word of a step, as films show it
+abbrev pub word_at : TableStep → List ℕ
+word_at ClaimEntry = codes "claim entry"
+word_at ClaimExit = codes "claim exit"
+word_at LeaveForLoading = codes "leave for loading"
+word_at MoveToLoading = codes "move to loading"
+word_at PoseLoading = codes "pose loading"
+word_at ReleaseEntry = codes "release entry"
+word_at TakePlate = codes "take plate"
+word_at LeaveForUnloading = codes "leave for unloading"
+word_at MoveToUnloading = codes "move to unloading"
+word_at PoseUnloading = codes "pose unloading"
+word_at GivePlate = codes "give plate"
+word_at ClaimBack = codes "claim back"
 
 abbrev pub steps : List TableStep
 steps =

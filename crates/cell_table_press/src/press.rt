@@ -134,6 +134,29 @@ impl PressStep {
         self as u8
     }
 
+    /// The word of the step, as films show it.
+    pub fn word(self) -> &'static str
+        ensures { result.now ≡ program.word_at self }
+    {
+        match self {
+            PressStep::ClaimFirst => "claim first",
+            PressStep::LeaveForMiddle => "leave for middle",
+            PressStep::MoveToMiddle => "move to middle",
+            PressStep::PoseMiddle => "pose middle",
+            PressStep::ReleaseInterior => "release interior",
+            PressStep::TakePlate => "take plate",
+            PressStep::LeaveForTop => "leave for top",
+            PressStep::MoveToTop => "move to top",
+            PressStep::PoseTop => "pose top",
+            PressStep::Forge => "forge",
+            PressStep::LeaveForBottom => "leave for bottom",
+            PressStep::MoveToBottom => "move to bottom",
+            PressStep::PoseLow => "pose low",
+            PressStep::GivePlate => "give plate",
+            PressStep::ClaimBack => "claim back",
+        }
+    }
+
     /// What the press keeps at the step.
     pub fn keeps(self) -> PressShare
         ensures { result ≡ program.keeps_at self }

@@ -218,6 +218,26 @@ impl TableStep {
         self as u8
     }
 
+    /// The word of the step, as films show it.
+    pub fn word(self) -> &'static str
+        ensures { result.now ≡ program.word_at self }
+    {
+        match self {
+            TableStep::ClaimEntry => "claim entry",
+            TableStep::ClaimExit => "claim exit",
+            TableStep::LeaveForLoading => "leave for loading",
+            TableStep::MoveToLoading => "move to loading",
+            TableStep::PoseLoading => "pose loading",
+            TableStep::ReleaseEntry => "release entry",
+            TableStep::TakePlate => "take plate",
+            TableStep::LeaveForUnloading => "leave for unloading",
+            TableStep::MoveToUnloading => "move to unloading",
+            TableStep::PoseUnloading => "pose unloading",
+            TableStep::GivePlate => "give plate",
+            TableStep::ClaimBack => "claim back",
+        }
+    }
+
     /// What the table keeps at the step.
     pub fn keeps(self) -> TableShare
         ensures { result ≡ program.keeps_at self }

@@ -37,7 +37,13 @@ use Rattle.cell_parts.specs.declared.belt.Belt.{Belt}
 use Rattle.cell_parts.specs.declared.plant.PlantState.{PlantState}
 use Rattle.cell_plant.specs.declared.frame.Frame.{Frame}
 use Rattle.cell_plant.specs.declared.frame.MachineSteps.{MachineSteps}
-use Rattle.film_app.specs.StepWords.{feed_word, table_word, robot_word, press_word, deposit_word, crane_word, stopped_text}
+use Rattle.cell_belts_crane.specs.FeedProgram as feed_program
+use Rattle.cell_belts_crane.specs.DepositProgram as deposit_program
+use Rattle.cell_belts_crane.specs.CraneProgram as crane_program
+use Rattle.cell_robot.specs.RobotKeeps as robot_program
+use Rattle.cell_table_press.specs.PressProgram as press_program
+use Rattle.cell_table_press.specs.TableProgram as table_program
+use Rattle.film_app.specs.StepWords.{stopped_text}
 use Rattle.cell_config.specs.Letters.{letter_word}
 use Rattle.film_app.specs.Fields as fields
 use Rattle.film_app.specs.Lines.{Fields, LastCalls, changes_text, fields_before, fields_of, frame_line, if_new, is_same, line_by, lines_after, machine_text, nothing_said, said_after, start_line, turn_line}
@@ -84,7 +90,7 @@ pose-plain pose.Halted = refl
 pose-plain pose.Offering = refl
 pose-plain pose.Standing = refl
 
-feed-plain : (x : FeedStep) → are_plain (feed_word x) ≡ true
+feed-plain : (x : FeedStep) → are_plain (feed_program.word_at x) ≡ true
 feed-plain feed.ClaimEntry = refl
 feed-plain feed.PoseLanding = refl
 feed-plain feed.ReleaseEntry = refl
@@ -98,7 +104,7 @@ feed-plain feed.RunOut = refl
 feed-plain feed.Halt = refl
 feed-plain feed.GivePlate = refl
 
-table-plain : (x : TableStep) → are_plain (table_word x) ≡ true
+table-plain : (x : TableStep) → are_plain (table_program.word_at x) ≡ true
 table-plain table.ClaimEntry = refl
 table-plain table.ClaimExit = refl
 table-plain table.LeaveForLoading = refl
@@ -112,7 +118,7 @@ table-plain table.PoseUnloading = refl
 table-plain table.GivePlate = refl
 table-plain table.ClaimBack = refl
 
-robot-plain : (x : RobotStep) → are_plain (robot_word x) ≡ true
+robot-plain : (x : RobotStep) → are_plain (robot_program.word_at x) ≡ true
 robot-plain robot.TurnToTable = refl
 robot-plain robot.AwaitPlate = refl
 robot-plain robot.ReachTable = refl
@@ -142,7 +148,7 @@ robot-plain robot.DropOnDeposit = refl
 robot-plain robot.LeaveDeposit = refl
 robot-plain robot.GiveToDeposit = refl
 
-press-plain : (x : PressStep) → are_plain (press_word x) ≡ true
+press-plain : (x : PressStep) → are_plain (press_program.word_at x) ≡ true
 press-plain press.ClaimFirst = refl
 press-plain press.LeaveForMiddle = refl
 press-plain press.MoveToMiddle = refl
@@ -159,7 +165,7 @@ press-plain press.PoseLow = refl
 press-plain press.GivePlate = refl
 press-plain press.ClaimBack = refl
 
-deposit-plain : (x : DepositStep) → are_plain (deposit_word x) ≡ true
+deposit-plain : (x : DepositStep) → are_plain (deposit_program.word_at x) ≡ true
 deposit-plain deposit.ClaimEntry = refl
 deposit-plain deposit.ClaimExit = refl
 deposit-plain deposit.PoseLanding = refl
@@ -173,7 +179,7 @@ deposit-plain deposit.PoseOffering = refl
 deposit-plain deposit.GivePlate = refl
 deposit-plain deposit.ClaimBack = refl
 
-crane-plain : (x : CraneStep) → are_plain (crane_word x) ≡ true
+crane-plain : (x : CraneStep) → are_plain (crane_program.word_at x) ≡ true
 crane-plain crane.RaiseToFetch = refl
 crane-plain crane.TravelToDeposit = refl
 crane-plain crane.AwaitPlate = refl

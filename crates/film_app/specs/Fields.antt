@@ -20,7 +20,12 @@ use Rattle.cell_parts.specs.declared.plant.RobotPlant.{RobotPlant}
 use Rattle.cell_parts.specs.declared.plant.TablePlant.{TablePlant}
 use Rattle.cell_plant.specs.declared.frame.Frame.{Frame}
 use Rattle.cell_plant.specs.declared.frame.MachineSteps.{MachineSteps}
-use Rattle.film_app.specs.StepWords.{feed_word, table_word, robot_word, press_word, deposit_word, crane_word}
+use Rattle.cell_belts_crane.specs.FeedProgram as feed_program
+use Rattle.cell_belts_crane.specs.DepositProgram as deposit_program
+use Rattle.cell_belts_crane.specs.CraneProgram as crane_program
+use Rattle.cell_robot.specs.RobotKeeps as robot_program
+use Rattle.cell_table_press.specs.PressProgram as press_program
+use Rattle.cell_table_press.specs.TableProgram as table_program
 use Rattle.film_app.specs.StepWords.{stopped_text}
 
 -- texts with a comma, or a semicolon, between any two
@@ -74,12 +79,12 @@ part_text Watch p = []
 
 -- the watch has no step
 abbrev pub step_word : Machine → MachineSteps → List ℕ
-step_word Feed s = feed_word s.feed
-step_word Table s = table_word s.table
-step_word Robot s = robot_word s.robot
-step_word Press s = press_word s.press
-step_word Deposit s = deposit_word s.deposit
-step_word Crane s = crane_word s.crane
+step_word Feed s = feed_program.word_at s.feed
+step_word Table s = table_program.word_at s.table
+step_word Robot s = robot_program.word_at s.robot
+step_word Press s = press_program.word_at s.press
+step_word Deposit s = deposit_program.word_at s.deposit
+step_word Crane s = crane_program.word_at s.crane
 step_word Watch s = []
 
 abbrev pub step_text : Machine → Frame → List ℕ
