@@ -80,4 +80,20 @@ table_keeps z table.GivePlate loaded = pp ((has_empty TableMachine (zone_at z Z1
 table_keeps z table.ClaimBack loaded = pp ((has_empty TableMachine (zone_at z Z1) && stands (zone_at z Z1) Closed)) ((lends TableMachine (zone_at z Z2) && stands (zone_at z Z2) OpenOut)) (not loaded) (same_flag (is_full z OnTable) loaded)
 
 pub keeps_are_met : KeepsAreMet
-keeps_are_met = record { press = press_keeps; table = table_keeps }
+keeps_are_met = record {
+  numbers = record {
+    press_steps = refl;
+    press_claims = refl;
+    press_takes = refl;
+    press_forges = refl;
+    press_gives = refl;
+    press_claims_back = refl;
+    table_steps = refl;
+    table_claims = refl;
+    table_takes = refl;
+    table_gives = refl;
+    table_claims_back = refl;
+  };
+  press = press_keeps;
+  table = table_keeps;
+}

@@ -1,5 +1,6 @@
 -- What press and table have at each step: they are in step with a state exactly if they have this.
-use Rattle.std.specs.Prelude.{◌≡◌, Bool, ◌&&◌, ◌||◌, not}
+use Rattle.std.specs.Prelude.{◌≡◌, Bool, ◌&&◌, ◌||◌, not, map}
+use Rattle.std.specs.List.{range_with_len}
 use Rattle.cell_types.specs.declared.machine.Machine.{Machine}
 use Rattle.cell_types.specs.declared.machine.Machine.TheVariants.{Table as TableMachine}
 use Rattle.cell_types.specs.declared.place.Place.TheVariants.{Table as OnTable}
@@ -89,7 +90,22 @@ table_is_at table.ClaimBack entry exit loaded =
     && not loaded
 
 -- each notes its plates as they are
+-- the steps are numbered from 0, in the order of the program
+pub record NumberExamples : Type 0 where
+  pub press_steps : map press_program.number_at press_program.steps ≡ range_with_len 0 15
+  pub press_claims : press_program.number_at press.ClaimFirst ≡ 0
+  pub press_takes : press_program.number_at press.TakePlate ≡ 5
+  pub press_forges : press_program.number_at press.Forge ≡ 9
+  pub press_gives : press_program.number_at press.GivePlate ≡ 13
+  pub press_claims_back : press_program.number_at press.ClaimBack ≡ 14
+  pub table_steps : map table_program.number_at table_program.steps ≡ range_with_len 0 12
+  pub table_claims : table_program.number_at table.ClaimEntry ≡ 0
+  pub table_takes : table_program.number_at table.TakePlate ≡ 6
+  pub table_gives : table_program.number_at table.GivePlate ≡ 10
+  pub table_claims_back : table_program.number_at table.ClaimBack ≡ 11
+
 pub record KeepsAreMet : Type 0 where
+  pub numbers : NumberExamples
   pub press : (z : ModelState) (step : PressStep) (loaded forged : Bool) (d : Direction)
       → press_program.in_step (press_at step loaded forged d) z
       ≡ (press_is_at step (zone_at z Z3) loaded forged
