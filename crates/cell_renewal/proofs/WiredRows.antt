@@ -1,15 +1,18 @@
 -- How a worker with devices may end.
-use Rattle.std.proofs.Common.{◌≡◌, ◌≢◌, ◌≤◌, ◌<◌, true, false, None, Some, refl, sym, ap, ◌∙◌, arith}
+use Rattle.std.proofs.Common.{◌≡◌, ◌≢◌, ◌+◌, ◌≤◌, ◌<◌, ℕ, Bool, true, false, None, refl, sym, ap, ◌∙◌, arith}
 use Rattle.cell_devices.specs.declared.motor.Motor.TheVariants.{Off, Plus}
 use Rattle.cell_control.specs.declared.commands.Commands.{Commands}
 use Rattle.cell_devices.specs.declared.act.PressAct.{PressAct}
-use Rattle.cell_notes.specs.declared.status.Status.TheVariants.{Fine, GateLimit, Refused, Sensor, Worn}
+use Rattle.cell_notes.specs.declared.status.Status.{Status}
+use Rattle.cell_notes.specs.declared.status.Status.TheVariants.{Fine, GateLimit, Sensor}
 use Rattle.cell_table_press.specs.Names.{press_steps}
 use Rattle.cell_table_press.specs.declared.press.PressProgress.{PressProgress}
 use Rattle.cell_table_press.specs.declared.press.PressStep.TheVariants.{ClaimFirst}
 use Rattle.cell_devices.specs.declared.motor.Direction.TheVariants.{Minus as Downward}
-use Rattle.cell_renewal.specs.WiredLaws.{AreToldToRest, told_clash, told_unread}
-use Rattle.cell_renewal.specs.WiredExamples.{PressEnds, WiredEndsAreTold, any_gate, open_gate, shut_gate, told_on}
+use Rattle.cell_renewal.specs.WiredLaws.{AreToldToRest, WiredWorkerEnds, told_clash, told_unread}
+use Rattle.cell_threads.specs.Laws.{gate_by}
+use Rattle.cell_renewal.proofs.WiredEnding.{ended}
+use Rattle.cell_renewal.specs.WiredExamples.{PressEnds, PressGivesBack, Remembering, keeps_told, shows_any, WiredEndsAreTold, any_gate, open_gate, shut_gate, told_on}
 
 some_step : PressProgress
 some_step = record { step = ClaimFirst; loaded = false; forged = false; direction = Downward }
@@ -92,8 +95,20 @@ untold_of t = t.is_fault (ap (λ (c : Commands PressAct). c.fault) t.set)
 untold : ¬ PressEnds open_gate told_unread 2 Sensor
 untold k = untold_of (k.rests sensor_and_fine sensor_and_kept_out)
 
+-- what the law says of it
+law : (lets : ℕ → Bool) (limit turns missed : ℕ) (status : Status) (devices : Remembering) → PressGivesBack lets limit turns missed status devices → WiredWorkerEnds press_steps keeps_told (gate_by lets) limit (turns + missed) status devices
+law lets limit turns missed status devices k = ended k.0 press_steps shows_any keeps_told (gate_by lets) limit k.1 k.2 k.3 k.4 devices turns missed status k.5
+
+at_rest : (devices : Remembering) → AreToldToRest press_steps keeps_told devices → (devices.act.press ≡ Off) × (devices.fault ≢ None)
+at_rest devices k = (ap (λ (c : Commands PressAct). c.act.press) k.set ∙ ap (λ (a : PressAct). a.press) k.rest, λ none. k.is_fault (sym (ap (λ (c : Commands PressAct). c.fault) k.set) ∙ none))
+
 pub wired_ends_are_told : WiredEndsAreTold
 wired_ends_are_told = record {
+  within = λ lets limit turns missed status devices k. (law lets limit turns missed status devices k).within;
+  let_in = λ lets limit turns missed status devices k cycle low. sym ((law lets limit turns missed status devices k).let_in cycle low);
+  all_cycles = λ lets limit turns missed devices k. (law lets limit turns missed Fine devices k).fine refl;
+  next_refused = λ lets limit turns missed devices k. let shut = (law lets limit turns missed GateLimit devices k).kept_out refl in (shut.0, sym shut.1);
+  motor_off = λ lets limit turns missed status devices k not_fine not_shut. at_rest devices ((law lets limit turns missed status devices k).rests not_fine not_shut);
   fine = fine;
   fault = fault;
   kept_out = kept_out;

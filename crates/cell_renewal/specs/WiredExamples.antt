@@ -1,15 +1,19 @@
 -- How a worker with devices may end, and how it may not; and six of which one was refused, or ended as worn.
-use Rattle.std.specs.Prelude.{◌≡◌, ◌≢◌, ℕ, Bool, true, false, ⊤, Some}
+use Rattle.std.specs.Prelude.{◌≡◌, ◌≢◌, ◌+◌, ◌<◌, ◌≤◌, ℕ, Bool, true, false, ⊤, Option, Some, None}
 use Rattle.cell_rules.specs.Types.{Machine, Feed, Table, Robot, Press, Deposit, Crane, journal_of}
 use Rattle.cell_rules.specs.Names.{ModelState, IsAudited, after, noted}
+use Rattle.cell_sensors.specs.declared.sense.PressSense.{PressSense}
+use Rattle.cell_interlock.specs.Views.{PassView}
 use Rattle.cell_control.specs.declared.commands.Commands.{Commands}
 use Rattle.cell_devices.specs.declared.act.PressAct.{PressAct}
-use Rattle.cell_devices.specs.declared.motor.Motor.TheVariants.{Plus}
+use Rattle.cell_devices.specs.declared.motor.Motor.TheVariants.{Off, Plus}
 use Rattle.cell_notes.specs.declared.status.Status.{Status}
 use Rattle.cell_notes.specs.declared.status.Status.TheVariants.{Fine, GateLimit, Refused, Sensor, Worn}
 use Rattle.cell_table_press.specs.Names.{press_steps}
+use Rattle.cell_table_press.specs.declared.press.PressProgress.{PressProgress}
 use Rattle.cell_parts.specs.Axes.{CellScales}
 use Rattle.cell_plant.specs.Machines.{any_near}
+use Rattle.cell_threads.specs.Laws.{gate_by}
 use Rattle.cell_threads.specs.Results.{seen_in}
 use Rattle.cell_threads.specs.Workers.{GateOf}
 use Rattle.cell_threads.specs.declared.six_of.SixOf.{SixOf}
@@ -17,6 +21,7 @@ use Rattle.cell_renewal.specs.RenewedRecords.{NoneEnded, SixLeft}
 use Rattle.cell_renewal.specs.WiredLaws.{WiredWorkerEnds, told_clash, told_unread}
 use Rattle.cell_renewal.specs.WiredRecords.{NoneIsRefused, TellsWired, WiredRecord}
 use Rattle.cell_renewal.specs.WiredTeams.{Sets, Shows}
+use Rattle.cell_renewal.specs.WiredWorkers.{IsWiredResult, wired_moment}
 
 -- a gate that lets a machine in, one that refuses it, and one that does either
 abbrev pub open_gate : GateOf
@@ -65,7 +70,39 @@ Tells c devices opening r =
     (shows Press) (sets Press) (shows Deposit) (sets Deposit) (shows Crane) (sets Crane) devices opening 9 9
     (λ m. any_gate) r
 
+-- devices that show anything, and keep what they were told last
+abbrev pub Remembering : Type 0
+Remembering = Commands PressAct
+
+abbrev pub shows_any : Remembering → Option PressSense → Remembering → Type 0
+shows_any before sense now = ⊤
+
+abbrev pub keeps_told : Remembering → Commands PressAct → Remembering → Type 0
+keeps_told before told now = now ≡ told
+
+-- a press with such devices, and a gate by a rule: how many turns and cycles without a reading, its status, and what
+-- its devices were told last
+abbrev pub PressGivesBack : (ℕ → Bool) → ℕ → ℕ → ℕ → Status → Remembering → Type 0
+PressGivesBack lets limit turns missed status devices =
+    (tries : ℕ) × (pass : PassView) × (kept : PassView) × (progress : PressProgress) × (first : Remembering)
+    × IsWiredResult tries press_steps shows_any keeps_told (gate_by lets) limit
+    (wired_moment pass progress None first 0 0) kept turns missed status devices
+
 pub record WiredEndsAreTold : Type 0 where
+  -- whichever a press gives back: what holds of it, in its own numbers
+  pub within : (lets : ℕ → Bool) (limit turns missed : ℕ) (status : Status) (devices : Remembering)
+      → PressGivesBack lets limit turns missed status devices → turns + missed ≤ limit
+  pub let_in : (lets : ℕ → Bool) (limit turns missed : ℕ) (status : Status) (devices : Remembering)
+      → PressGivesBack lets limit turns missed status devices
+      → (cycle : ℕ) → cycle < turns + missed → lets cycle ≡ true
+  pub all_cycles : (lets : ℕ → Bool) (limit turns missed : ℕ) (devices : Remembering)
+      → PressGivesBack lets limit turns missed Fine devices → turns + missed ≡ limit
+  pub next_refused : (lets : ℕ → Bool) (limit turns missed : ℕ) (devices : Remembering)
+      → PressGivesBack lets limit turns missed GateLimit devices
+      → (turns + missed < limit) × (lets (turns + missed) ≡ false)
+  pub motor_off : (lets : ℕ → Bool) (limit turns missed : ℕ) (status : Status) (devices : Remembering)
+      → PressGivesBack lets limit turns missed status devices → status ≢ Fine → status ≢ GateLimit
+      → (devices.act.press ≡ Off) × (devices.fault ≢ None)
   -- three cycles are fine; a fault may end the second; a gate may refuse the third
   pub fine : PressEnds open_gate told_clash 3 Fine
   pub fault : PressEnds open_gate told_clash 2 Sensor
