@@ -8,3 +8,4 @@ mod Leading
 mod RunRows
 mod NeedRows
 mod PoseRows
+mod PartRows

@@ -1,5 +1,5 @@
 -- Literal states that permit motors or don't, and answers that aren't shown.
-use Rattle.std.proofs.Common.{◌≡◌, ℕ, zero, suc, ◌<◌, true, false, [], Some, refl, arith, IsTrue}
+use Rattle.std.proofs.Common.{◌≡◌, ℕ, zero, suc, ◌<◌, true, false, Some, refl, arith, IsTrue}
 use Rattle.plan_types.specs.declared.posture.Posture.TheVariants.{Moving}
 use Rattle.plan_types.specs.Examples.{press_table, lift_table}
 use Rattle.plan_types.specs.Table.{is_hosted}
@@ -9,7 +9,7 @@ use Rattle.plan_rules.specs.Examples.{press_start, full_press}
 use Rattle.plan_word.specs.Examples.{lifted}
 use Rattle.plan_motors.specs.declared.exclusion.Cause.TheVariants.{Zone}
 use Rattle.plan_motors.specs.Motor.{need_of, place_need, meets, meets_place, Permits}
-use Rattle.plan_motors.specs.Decided.{NeverBoth, IsShown}
+use Rattle.plan_motors.specs.Decided.{IsShown}
 use Rattle.plan_motors.specs.declared.exclusion.Exclusion.TheVariants.{Excluded}
 use Rattle.plan_motors.specs.Exclusion.{state_for}
 use Rattle.plan_motors.specs.Examples.{owned, ram, arm, loading_arm, valve, upper_gate}

@@ -12,3 +12,4 @@ pub mod Examples
 pub mod RunExamples
 pub mod NeedExamples
 pub mod PoseExamples
+pub mod PartExamples

@@ -4,6 +4,7 @@ ghost use Rattle.plan_motors.specs.Examples as examples;
 ghost use Rattle.plan_motors.specs.Examples.{CausesAreRight, StatesForBoth, MasksAreRight, FirstFaults, FaultsInOrder};
 ghost use Rattle.plan_motors.specs.RunExamples.{RunsAreRight};
 ghost use Rattle.plan_motors.specs.NeedExamples.{NeedsAreRight, PermitsAreRight, BadAnswers, AnswersTell};
+ghost use Rattle.plan_motors.specs.PartExamples.{PartsAreRight};
 ghost use Rattle.plan_motors.specs.PoseExamples.{GatesAreApart, PosesLeadOn, PosesAreTaken, PosturesAreOf};
 
 use crate::motor::{Motor, NO_NEED, ZoneNeed};
@@ -84,12 +85,14 @@ pub fn runs_are_right()
     lawful_histories();
 }
 
-/// What literal motors need, which states permit them, and answers that aren't shown.
+/// What literal motors need, which states permit them, and answers that aren't shown. And the parts of exclusions, of
+/// masks and of poses, and what fits a plan, or doesn't by one rule.
 pub fn needs_are_right()
     ensures needs { NeedsAreRight }
     ensures states { PermitsAreRight }
     ensures shown { BadAnswers }
     ensures answers { AnswersTell }
+    ensures parts { PartsAreRight }
 {}
 
 /// The lift's gates are kept apart by its poses alone; and which literal poses are taken.

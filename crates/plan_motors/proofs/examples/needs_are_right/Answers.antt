@@ -1,4 +1,5 @@
 use Rattle.std.proofs.Common.{refl}
+use Rattle.plan_motors.proofs.PartRows.{parts_are_right}
 use Rattle.plan_motors.proofs.NeedRows.{permits_are_right, bad_answers}
 use Rattle.plan_motors.proofs.examples.needs_are_right.Goals as goal
 
@@ -13,3 +14,6 @@ returns-clause-shown c = bad_answers
 
 pub returns-clause-answers : goal.returns-clause-answers
 returns-clause-answers c = record { by_zone = refl; by_place = refl; by_none = refl; never_by_zone = refl; never_by_place = refl; never_by_poses = refl; perhaps = refl }
+
+pub returns-clause-parts : goal.returns-clause-parts
+returns-clause-parts c = parts_are_right
