@@ -1,3 +1,4 @@
 mod Seen
 mod Order
 mod Callers
+mod Permitting

@@ -11,11 +11,11 @@ use Rattle.word_interlock.proofs.lemmas.Histories.{waits-foreign}
 use Rattle.plan_interlock.specs.Book.{plan_book}
 use Rattle.plan_interlock.specs.Laws.{EveryPassSeesLaws, RightsLast}
 
-legal_here : (t : PlanTable) (s : State) (h : List Event) → IsLegalBy (plan_book t) s h → IsLegal t s h
+pub legal_here : (t : PlanTable) (s : State) (h : List Event) → IsLegalBy (plan_book t) s h → IsLegal t s h
 legal_here t s [] l = tt
 legal_here t s (e ∷ h) l = (l.0, legal_here t (next t s e.machine e.call) h l.1)
 
-after_here : (t : PlanTable) (s : State) (h : List Event) → after_by (plan_book t) s h ≡ after t s h
+pub after_here : (t : PlanTable) (s : State) (h : List Event) → after_by (plan_book t) s h ≡ after t s h
 after_here t s [] = refl
 after_here t s (e ∷ h) = after_here t (next t s e.machine e.call) h
 

@@ -5,3 +5,5 @@ pub mod Order
 pub mod Callers
 pub mod SeenExamples
 pub mod BookExamples
+pub mod Motors
+pub mod MotorExamples

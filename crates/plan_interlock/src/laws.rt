@@ -6,12 +6,16 @@ ghost use Rattle.plan_rules.specs.Sound.{IsStart};
 ghost use Rattle.plan_interlock.specs.Book.{plan_book, plan_of};
 ghost use Rattle.plan_interlock.specs.Callers.{EveryMachineCalls, PassesInOrder};
 ghost use Rattle.plan_interlock.specs.Laws.{EveryPassSeesLaws, RightsLast};
+ghost use Rattle.plan_interlock.specs.Motors.{PermissionsLast, SurveysPermitTheSame};
+ghost use Rattle.plan_interlock.specs.MotorExamples.{MotorExamples};
 ghost use Rattle.plan_interlock.specs.Order.{BusyCallsAreFew, CallsKeepOrder, HistoryIsOne};
 ghost use Rattle.plan_interlock.specs.SeenExamples.{SeenExamples};
 ghost use Rattle.plan_interlock.specs.BookExamples.{BookExamples, OrderTells};
 
 use crate::rules::PlanRules;
 use plan_rules::State;
+use plan_rules::laws::lawful_histories;
+use plan_word::laws::words_are_laid_out;
 
 /// A start can open an interlock if only places of the plan are full.
 pub fn starts_can_open(rules: &PlanRules, opening: &State)
@@ -48,6 +52,28 @@ pub fn rights_last(rules: &PlanRules)
 {
     let _ = rules;
 }
+
+/// At the point of its call a machine may still run each motor that it has found permitted since its last one, by a load
+/// or by a survey.
+pub fn permissions_last(rules: &PlanRules)
+    ensures { PermissionsLast (plan_of rules.now) }
+{
+    lawful_histories();
+    let _ = rules;
+}
+
+/// A load of the word (`Interlock::survey_word`) permits the motors that a survey of the same moment permits.
+pub fn surveys_permit_the_same(rules: &PlanRules)
+    ensures { SurveysPermitTheSame (plan_of rules.now) }
+{
+    words_are_laid_out();
+    let _ = rules;
+}
+
+/// Bits of literal numbers, literal words of the press, and a permission that lasts through literal events.
+pub fn motor_examples_are_right()
+    ensures { MotorExamples }
+{}
 
 /// A literal history that no pass sees, and literal rights that don't last.
 pub fn seen_examples_are_right()

@@ -3,8 +3,10 @@
 
 pub mod examples;
 pub mod laws;
+pub mod motors;
 pub mod rules;
 
+pub use motors::permitted_motors;
 pub use rules::PlanRules;
 
 /// The interlock of a plant, which threads share.
