@@ -1,7 +1,7 @@
--- The examples of `standstills_are_told`, `screens_are_meant`, `answers_are_meant` and `served_is_meant`.
+-- The examples of `standstills_are_told`, `screens_are_meant`, `screens_differ`, `answers_are_meant` and `served_is_meant`.
 use Rattle.std.proofs.Common.{◌<◌, length, ap, refl, arith}
 use Rattle.std.specs.Fmt.{digits}
-use Rattle.plan_app.specs.ScreenExamples.{AnswersAreMeant, ScreensAreMeant, ServedIsMeant, StandstillLines}
+use Rattle.plan_app.specs.ScreenExamples.{AnswersAreMeant, KindsOfScreens, ScreensAreMeant, ServedIsMeant, StandstillLines}
 
 pub standstill-lines : StandstillLines
 unfolding digits
@@ -20,7 +20,24 @@ screens-meant = record {
   none = λ n ps s text is turns. is.free turns;
   runs = λ n ps s text is. is.runs;
   told = λ n ps s text is. (is.situations, is.answers, is.plates, is.come, is.are, is.told);
+  none_starves = λ n ps s text is. (is.answers, is.plates, is.are, is.starving);
+  some_starves = λ n ps s text is. (is.situations, is.answers, is.plates, is.come, is.are, is.starving, is.told);
+  starving_runs = λ n ps s text is. is.runs;
+  starving_none = λ n ps s text is turns. is.free turns;
   stands = λ n ps s text is. (is.turns, is.lead, is.shortest, is.told);
+}
+
+pub kinds-of-screens : KindsOfScreens
+unfolding digits
+kinds-of-screens = record {
+  free = λ text shows. shows.1;
+  starving = λ text shows. shows.1;
+  free_though_starving = λ text shows. let e = shows.0 in cc;
+  starving_though_free = λ text shows. let e = shows.0 in cc;
+  standstill = λ starve text shows. absurd shows;
+  waits = λ text shows. shows;
+  free_at_a_standstill = λ text shows. absurd shows;
+  starving_at_a_standstill = λ text shows. absurd shows;
 }
 
 pub answers-meant : AnswersAreMeant

@@ -3,7 +3,8 @@
 ghost use Rattle.plan_app.specs.GoingExamples.{EventLines, MachinesAreTold, WalksAreTold};
 ghost use Rattle.plan_app.specs.InputExamples.{InputsAreSplit, RequestsAreRead, WordsAreMade};
 ghost use Rattle.plan_app.specs.LineExamples.{HeaderLines, PartyLines, ReportLines, WholeTexts};
-ghost use Rattle.plan_app.specs.ScreenExamples.{AnswersAreMeant, ScreensAreMeant, ServedIsMeant, StandstillLines};
+ghost use Rattle.plan_app.specs.ScreenExamples.{AnswersAreMeant, KindsOfScreens, ScreensAreMeant};
+ghost use Rattle.plan_app.specs.ScreenExamples.{ServedIsMeant, StandstillLines};
 ghost use Rattle.plan_app.specs.SizeExamples.{SizesAreCounted};
 ghost use Rattle.plan_app.specs.StarvingExamples.{StarvingIsKnown};
 ghost use Rattle.plan_app.specs.WordExamples.{PlatesAreTold, WordsAreTold};
@@ -81,6 +82,11 @@ pub fn standstills_are_told()
 /// What a screen says is so: that no turns lead to a standstill, or that these do.
 pub fn screens_are_meant()
     ensures { ScreensAreMeant }
+{}
+
+/// Of each kind of screen another text.
+pub fn screens_differ()
+    ensures { KindsOfScreens }
 {}
 
 /// What is answered of machines and plates is so.
