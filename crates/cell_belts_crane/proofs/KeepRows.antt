@@ -113,4 +113,25 @@ crane_keeps z crane.RaiseFromFeed magnet = posed ((has Crane (zone_at z Z6) && s
 crane_keeps z crane.GivePlate magnet = posed ((has Crane (zone_at z Z6) && stands (zone_at z Z6) OpenIn)) (is_full z OnCrane) (not magnet)
 
 pub keeps_are_met : KeepsAreMet
-keeps_are_met = record { feed = feed_keeps; deposit = deposit_keeps; crane = crane_keeps }
+keeps_are_met = record {
+  numbers = record {
+    feed_steps = refl;
+    feed_claims = refl;
+    feed_runs_in = refl;
+    feed_claims_exit = refl;
+    feed_gives = refl;
+    deposit_steps = refl;
+    deposit_claims = refl;
+    deposit_takes = refl;
+    deposit_runs_out = refl;
+    deposit_claims_back = refl;
+    crane_steps = refl;
+    crane_raises = refl;
+    crane_takes = refl;
+    crane_claims = refl;
+    crane_gives = refl;
+  };
+  feed = feed_keeps;
+  deposit = deposit_keeps;
+  crane = crane_keeps;
+}

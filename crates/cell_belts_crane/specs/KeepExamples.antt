@@ -1,5 +1,6 @@
 -- What belts and crane have at each step: they are in step with a state exactly if they have this.
-use Rattle.std.specs.Prelude.{◌≡◌, Bool, ◌&&◌, ◌||◌, not}
+use Rattle.std.specs.Prelude.{◌≡◌, Bool, ◌&&◌, ◌||◌, not, map}
+use Rattle.std.specs.List.{range_with_len}
 use Rattle.cell_types.specs.declared.machine.Machine.{Machine}
 use Rattle.cell_types.specs.declared.machine.Machine.TheVariants.{Crane}
 use Rattle.cell_types.specs.declared.place.Place.TheVariants.{Crane as OnCrane}
@@ -123,7 +124,26 @@ feed_noted z entry last = same_flag (is_full z FeedEntry) entry && same_flag (is
 abbrev pub deposit_noted : ModelState → Bool → Bool → Bool
 deposit_noted z entry last = same_flag (is_full z DepEntry) entry && same_flag (is_full z DepEnd) last
 
+-- the steps are numbered from 0, in the order of the program
+pub record NumberExamples : Type 0 where
+  pub feed_steps : map feed_program.number_at feed_program.steps ≡ range_with_len 0 12
+  pub feed_claims : feed_program.number_at feed.ClaimEntry ≡ 0
+  pub feed_runs_in : feed_program.number_at feed.RunIn ≡ 5
+  pub feed_claims_exit : feed_program.number_at feed.ClaimExit ≡ 7
+  pub feed_gives : feed_program.number_at feed.GivePlate ≡ 11
+  pub deposit_steps : map deposit_program.number_at deposit_program.steps ≡ range_with_len 0 12
+  pub deposit_claims : deposit_program.number_at deposit.ClaimEntry ≡ 0
+  pub deposit_takes : deposit_program.number_at deposit.TakePlate ≡ 4
+  pub deposit_runs_out : deposit_program.number_at deposit.RunOut ≡ 7
+  pub deposit_claims_back : deposit_program.number_at deposit.ClaimBack ≡ 11
+  pub crane_steps : map crane_program.number_at crane_program.steps ≡ range_with_len 0 14
+  pub crane_raises : crane_program.number_at crane.RaiseToFetch ≡ 0
+  pub crane_takes : crane_program.number_at crane.TakePlate ≡ 6
+  pub crane_claims : crane_program.number_at crane.ClaimFeed ≡ 9
+  pub crane_gives : crane_program.number_at crane.GivePlate ≡ 13
+
 pub record KeepsAreMet : Type 0 where
+  pub numbers : NumberExamples
   pub feed : (z : ModelState) (step : FeedStep) (entry last : Bool)
       → feed_program.in_step (feed_at step entry last) z
       ≡ (feed_is_at step (zone_at z Z6) (zone_at z Z1) entry last && feed_noted z entry last)
