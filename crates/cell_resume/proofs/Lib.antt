@@ -22,3 +22,4 @@ mod DepositNumbers
 mod CraneResumes
 mod CraneTeam
 mod FiguresHold
+mod TestsHold

@@ -11,3 +11,4 @@ pub mod Checkpoints
 pub mod TeamTest
 pub mod Laws
 pub mod Figures
+pub mod TestExamples

@@ -3,6 +3,7 @@
 ghost use Rattle.cell_resume.specs.Laws.{NoResumedMachineIsRefused, ResumedMachinesStayInStep};
 ghost use Rattle.cell_resume.specs.Laws.{MachinesAreInStep};
 ghost use Rattle.cell_resume.specs.Figures.{FigureRows};
+ghost use Rattle.cell_resume.specs.TestExamples.{TestsAreMet};
 
 /// From each state with which six machines are in step, in each legal history in which each has
 /// come by its own events to a step of its program, whatever the order of the calls and whatever
@@ -28,4 +29,12 @@ pub fn machines_are_in_step()
 /// taken back by each later one, and mean the same.
 pub fn checkpoints_by_figures()
     ensures { FigureRows }
+{}
+
+/// The test of six machines, in figures: each machine's number may name no step, or one that isn't in
+/// step with the state, and the first such machine is told. A program that may go on begins where it
+/// stood.
+#[tactic(auto, using(crate::proofs::TestsHold::tests_hold))]
+pub fn tests_by_figures()
+    ensures { TestsAreMet }
 {}
