@@ -100,4 +100,16 @@ robot_keeps z LeaveDeposit first second fed on1 on2 = ap (λ x. x && others z Le
 robot_keeps z GiveToDeposit first second fed on1 on2 = ap (λ x. x && others z GiveToDeposit first second fed on1 on2) (zones_keep z GiveToDeposit)
 
 pub keeps_are_met : KeepsAreMet
-keeps_are_met = record { robot = robot_keeps }
+keeps_are_met = record {
+  numbers = record {
+    all = refl;
+    turns = refl;
+    takes = refl;
+    claims = refl;
+    gives = refl;
+    awaits = refl;
+    releases = refl;
+    gives_on = refl;
+  };
+  robot = robot_keeps;
+}

@@ -1,11 +1,12 @@
 -- What the robot has at each step: it is in step with a state exactly if it has this.
-use Rattle.std.specs.Prelude.{◌≡◌, ◌+◌, nat_eq, Bool, true, ◌&&◌, ◌||◌, not}
+use Rattle.std.specs.Prelude.{◌≡◌, ◌+◌, nat_eq, Bool, true, ◌&&◌, ◌||◌, not, map}
+use Rattle.std.specs.List.{range_with_len}
 use Rattle.cell_rules.specs.Types.{Robot, Z2, Z3, Z4, Arm1, Arm2, PressIn, PressOut, Posture, OpenIn, OpenOut}
 use Rattle.cell_rules.specs.Types.{same_posture}
 use Rattle.cell_rules.specs.Names.{ModelState, is_full, is_owned_by, one_if, same_flag, zone_at}
 use Rattle.cell_rules.specs.declared.zones.ZoneState.{ZoneState}
 use Rattle.cell_robot.specs.declared.robot.RobotStep.{RobotStep}
-use Rattle.cell_robot.specs.declared.robot.RobotStep.TheVariants.{ReachTable, GripPlate}
+use Rattle.cell_robot.specs.declared.robot.RobotStep.TheVariants.{TurnToTable, ReachTable, GripPlate}
 use Rattle.cell_robot.specs.declared.robot.RobotStep.TheVariants.{LeaveTable, TakePlate, ReleaseTable, TurnToLoad}
 use Rattle.cell_robot.specs.declared.robot.RobotStep.TheVariants.{ClaimPress, InspectPress, ReleasePress, ReachToLoad}
 use Rattle.cell_robot.specs.declared.robot.RobotStep.TheVariants.{DropInPress, LeaveLoaded, GiveToPress, TurnToUnload}
@@ -14,7 +15,7 @@ use Rattle.cell_robot.specs.declared.robot.RobotStep.TheVariants.{LeaveUnloaded,
 use Rattle.cell_robot.specs.declared.robot.RobotStep.TheVariants.{TurnToDeposit, ClaimDeposit, ReachDeposit}
 use Rattle.cell_robot.specs.declared.robot.RobotStep.TheVariants.{DropOnDeposit, LeaveDeposit, GiveToDeposit}
 use Rattle.cell_robot.specs.RobotExamples.{at, magnets, noted}
-use Rattle.cell_robot.specs.RobotKeeps.{in_step}
+use Rattle.cell_robot.specs.RobotKeeps.{in_step, number_at, steps}
 
 -- it has the zone; no plate is on its way there, or one is; and if it has the zone, one is
 abbrev pub has : ZoneState → Bool
@@ -99,7 +100,19 @@ notes_are z first second fed =
     && (same_flag (is_full z Arm2) second
     && nat_eq (one_if (is_full z PressIn) + one_if (is_full z PressOut) + one_if (zone_at z Z3).flag) (one_if fed))
 
+-- the steps are numbered from 0, in the order of the program
+pub record NumberExamples : Type 0 where
+  pub all : map number_at steps ≡ range_with_len 0 28
+  pub turns : number_at TurnToTable ≡ 0
+  pub takes : number_at TakePlate ≡ 5
+  pub claims : number_at ClaimPress ≡ 8
+  pub gives : number_at GiveToPress ≡ 14
+  pub awaits : number_at AwaitForged ≡ 16
+  pub releases : number_at ReleaseUnloaded ≡ 21
+  pub gives_on : number_at GiveToDeposit ≡ 27
+
 pub record KeepsAreMet : Type 0 where
+  pub numbers : NumberExamples
   pub robot : (z : ModelState) (step : RobotStep) (first second fed on1 on2 : Bool)
       → in_step (at step (noted first second fed) (magnets on1 on2)) z
       ≡ (zones_are_at step (zone_at z Z2) (zone_at z Z3) (zone_at z Z4)
