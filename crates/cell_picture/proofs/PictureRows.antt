@@ -19,6 +19,8 @@ take-rows = record {
   busy = refl;
   elsewhere = refl;
   by_another = refl;
+  by_no_turn = refl;
+  given = refl;
 }
 
 part-rows : PartExamples
@@ -57,6 +59,10 @@ ramp-rows = record {
   falls_above = refl;
   before_start = refl;
   far = refl;
+  far_below = refl;
+  sum_stops = refl;
+  less_by = refl;
+  less_stops = refl;
 }
 
 value-rows : ValueExamples
@@ -122,6 +128,8 @@ unfolding digits value_text ramp_at on_feed on_deposit on_arm1 on_arm2 at_grippe
 plate-rows = record {
   count = refl;
   none = refl;
+  counted_at_start = refl;
+  none_at_start = refl;
   first = refl;
   second = refl;
   no_third = refl;

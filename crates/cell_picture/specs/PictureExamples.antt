@@ -1,6 +1,6 @@
 -- What a picture shows of frames, in literal numbers and text.
 use Rattle.std.specs.Prelude.{◌≡◌, ℕ, pos, neg_ℤ, ℤ, Bool, true, false, List, [], ◌∷◌, ◌++◌, codes, Some, None, Ok}
-use Rattle.cell_rules.specs.Types.{Done, Refused, NoPlate, Claim, Take, Feed, Table, Robot, Press, Deposit, Crane}
+use Rattle.cell_rules.specs.Types.{Done, Refused, NoPlate, Claim, Give, Take, Feed, Table, Robot, Press, Deposit, Crane}
 use Rattle.cell_rules.specs.Types.{Watch, Place, Posture, Closed, OpenIn, OpenOut, Settled, Busy, Zone, Z1, Z2, Z3}
 use Rattle.cell_rules.specs.Types.{Z4, Z5, Z6}
 use Rattle.cell_types.specs.declared.place.Place.TheVariants as place
@@ -20,7 +20,7 @@ use Rattle.cell_picture.specs.declared.values.Value.TheVariants.{PlateAngle, Pla
 use Rattle.cell_picture.specs.Columns.{attribute_text, column_end, frame_at, transform_text}
 use Rattle.cell_picture.specs.Parts.{shown_part, takes_plate}
 use Rattle.cell_picture.specs.Pictures.{plates_in}
-use Rattle.cell_picture.specs.Ramps.{ramp, ramp_at}
+use Rattle.cell_picture.specs.Ramps.{less, ramp, ramp_at}
 use Rattle.cell_picture.specs.Spots.{on_deposit, on_feed, plate_spot}
 use Rattle.cell_picture.specs.Values.{colour, value_text}
 
@@ -42,6 +42,8 @@ pub record TakeExamples : Type 0 where
   pub busy : takes_plate (record has_claimed { asked = Some (Take Z6, Ok (Busy 1 1)) }) ≡ false
   pub elsewhere : takes_plate (record has_claimed { asked = Some (Take Z1, Ok (Settled Done 1)) }) ≡ false
   pub by_another : takes_plate (record (takes 1) { turn = Some (turn_of Crane) }) ≡ false
+  pub by_no_turn : takes_plate (record (takes 1) { turn = None }) ≡ false
+  pub given : takes_plate (record has_claimed { asked = Some (Give Z6, Ok (Settled Done 1)) }) ≡ false
 
 abbrev pub three : List Frame
 three = claims 1 ∷ claims 2 ∷ claims 3 ∷ []
@@ -119,6 +121,10 @@ pub record RampExamples : Type 0 where
   pub falls_above : ramp_at (ramp (pos 7) (neg_ℤ (pos 110))) (pos 5) ≡ pos 6
   pub before_start : ramp_at (ramp (pos 7) (pos 110)) (neg_ℤ (pos 5)) ≡ pos 6
   pub far : ramp_at (ramp (pos 7) (pos 110)) (pos 2147483647) ≡ pos 4294974
+  pub far_below : ramp_at (ramp (pos 7) (pos 110)) (neg_ℤ (pos 2147483648)) ≡ neg_ℤ (pos 4294960)
+  pub sum_stops : ramp_at (ramp (pos 2147483647) (pos 110)) (pos 500) ≡ pos 2147483647
+  pub less_by : less (pos 30) (pos 90) ≡ neg_ℤ (pos 60)
+  pub less_stops : less (neg_ℤ (pos 2147483648)) (pos 1) ≡ neg_ℤ (pos 2147483648)
 
 -- each zone but the sixth has another owner
 abbrev pub owned : ModelState
@@ -223,6 +229,8 @@ both = frame_with (full place.DepEntry (full place.FeedEntry all_free)) apart
 pub record PlateExamples : Type 0 where
   pub count : plates_in (both ∷ []) ≡ 2
   pub none : plates_in [] ≡ 0
+  pub counted_at_start : plates_in (both ∷ frame_with all_free apart ∷ []) ≡ 2
+  pub none_at_start : plates_in (frame_with all_free apart ∷ both ∷ []) ≡ 0
   pub first : plate_spot both 0 ≡ Some (table_spot (pos 344))
   pub second : plate_spot both 1 ≡ Some (deposit_spot (pos 56) (pos 0) true)
   pub no_third : plate_spot both 2 ≡ None
