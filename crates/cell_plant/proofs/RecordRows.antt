@@ -65,6 +65,7 @@ module _ (r : RunRecord) (c : CellScales) where
   lawful : (s : ModelState) (turns : List Turn) → Tells c s turns r → IsOfLegalHistory s r
   lawful s turns t = record {
     seen = events_in t.steps;
+    start = t.told.start;
     legal = t.legal;
     journals = t.told.journals;
     end = t.told.end ∙ ap Some t.reached;

@@ -174,9 +174,10 @@ open_too_early = held_by Press Z3 OpenIn
 abbrev pub IsOfNoTurn : ModelState → RunRecord → Type 0
 IsOfNoTurn s r = IsRecordOf s [] (cell_at_start s) r
 
--- a record is of a legal history, which leads to its end; each machine has noted its own events of it
+-- a record is of a legal history from its start, which leads to its end; each machine has noted its own events of it
 pub record IsOfLegalHistory (opening : ModelState) (r : RunRecord) : Type 0 where
   pub seen : List Event
+  pub start : r.start ≡ opening
   pub legal : IsLegal opening seen
   pub journals : (m : Machine) → journal_of r.journals m ≡ noted opening seen m
   pub end : r.end ≡ Some (after opening seen)
