@@ -18,6 +18,11 @@ read_rows = record {
   by_watch = refl;
   stop = refl;
   resume = refl;
+  stop_by_low = refl;
+  resume_by_watch = refl;
+  give_by_watch = refl;
+  stop_alone = refl;
+  callers = refl;
 }
 
 pub no_request_rows : NoRequests

@@ -15,6 +15,8 @@ start_rows = record {
   first_and_last = refl;
   last_stamp = refl;
   no_place = refl;
+  all = refl;
+  flag_past_one = refl;
   start_alone = refl;
   too_few = refl;
   too_many = refl;
@@ -41,12 +43,25 @@ reason_rows = record {
   pose_name = refl;
   verb_of_name = refl;
   zone = refl;
+  zones = refl;
+  names = refl;
+  verbs = refl;
+  places = refl;
+  no_caller = refl;
+  empty_verb = refl;
+  empty_word = refl;
+  empty_name = refl;
+  call_too_long = refl;
   pose = refl;
 }
 
 pub script_rows : ScriptsAreAnswered
 unfolding digits field_at answers_of
 script_rows = record {
+  other = refl;
+  bad_first_row = refl;
+  bad_twelfth_row = refl;
+  none_left = refl;
   clean = refl;
   bad_row = refl;
   start_alone = refl;
@@ -62,6 +77,9 @@ cut_rows = record {
   whole = refl;
   start = refl;
   empty = refl;
+  marked = refl;
+  marked_start = refl;
+  mark_alone = refl;
 }
 
 pub mark_rows : MarksAreLeftOut

@@ -1,5 +1,7 @@
 -- Literal examples: what answers are told by, which starts are read, and which texts are names.
-use Rattle.std.specs.Prelude.{◌≡◌, ℕ, true, false, List, [], ◌∷◌, ◌++◌, codes, replicate, Option, Some, None}
+use Rattle.std.specs.Prelude.{◌≡◌, ℕ, true, false, List, [], ◌∷◌, ◌++◌, codes, filter, map, replicate}
+use Rattle.std.specs.Prelude.{Option, Some, None}
+use Rattle.std.specs.List.{range_with_len}
 use Rattle.plan_types.specs.Examples.{press_table}
 use Rattle.plan_types.specs.declared.posture.Posture.TheVariants.{Closed, Moving, OpenIn, OpenOut}
 use Rattle.plan_types.specs.declared.answer.Answer.{Answer}
@@ -13,7 +15,7 @@ use Rattle.plan_rules.specs.State.{start_state}
 use Rattle.plan_text.specs.Answers.{answer_text}
 use Rattle.plan_text.specs.Names.{Text, is_name}
 use Rattle.plan_text.specs.Named.{Named, named}
-use Rattle.plan_text.specs.Starts.{start_of}
+use Rattle.plan_text.specs.Starts.{are_places, full_places, is_flag, is_one, stamp_in, start_of}
 
 -- a loader and a press, with two zones
 abbrev pub press_names : Named
@@ -63,6 +65,15 @@ pub record StartsAreRead : Type 0 where
   pub last_stamp : start_of 1 (codes "1") (Some 1048575) ≡ Some (start_state (true ∷ replicate 15 false) 1048575)
   pub past_last : start_of 1 (codes "1") (Some 1048576) ≡ None
   pub no_stamp : start_of 1 (codes "1") None ≡ None
+  pub flags : filter is_flag (range_with_len 0 256) ≡ codes "01"
+  pub counted : map (λ count. are_places count (codes "010")) (2 ∷ 3 ∷ 4 ∷ []) ≡ false ∷ true ∷ false ∷ []
+  pub flagged : map (are_places 3) (codes "210" ∷ codes "020" ∷ codes "01 " ∷ codes "111" ∷ [])
+      ≡ false ∷ false ∷ false ∷ true ∷ []
+  pub each : full_places (codes "0110100110010111")
+      ≡ false ∷ true ∷ true ∷ false ∷ true ∷ false ∷ false ∷ true ∷ true ∷ false ∷ false ∷ true ∷ false ∷ true
+      ∷ true ∷ true ∷ []
+  pub none_past_the_end : map (is_one (codes "101")) (0 ∷ 1 ∷ 2 ∷ 3 ∷ []) ≡ true ∷ false ∷ true ∷ false ∷ []
+  pub absent : stamp_in None ≡ Some 0
 
 pub record NamesAreJudged : Type 0 where
   pub short : is_name (codes "a") ≡ true
@@ -75,3 +86,6 @@ pub record NamesAreJudged : Type 0 where
   pub capital : is_name (codes "aZ") ≡ false
   pub capital_first : is_name (codes "Az") ≡ false
   pub hyphen : is_name (codes "a-z") ≡ false
+  pub dot_last : is_name (codes "gate_7.") ≡ false
+  pub space_within : is_name (codes "gate 7") ≡ false
+  pub long : is_name (codes "abcdefghijklmnopqrstuvw_012345_9") ≡ true

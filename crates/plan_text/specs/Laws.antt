@@ -1,5 +1,5 @@
 -- Laws of words: a word is read as what it is told for, words of scripts are taken, and own poses come first.
-use Rattle.std.specs.Prelude.{◌≡◌, ℕ, ◌<◌, true, false, codes, length, Some, is_some, IsTrue}
+use Rattle.std.specs.Prelude.{◌≡◌, ◌≢◌, ℕ, ◌<◌, ◌++◌, true, false, codes, length, Some, None, is_some, IsTrue}
 use Rattle.plan_types.specs.Table.{machine_of}
 use Rattle.plan_types.specs.declared.call.Call.{Call}
 use Rattle.plan_types.specs.declared.call.Call.TheVariants.{SetPose}
@@ -67,3 +67,17 @@ pub record OwnPosesComeFirst : Type 0 where
       → own_pose n machine name ≡ Some pose → machine_of n.plan pose ≡ machine
   pub found : (n : Named) (machine pose : ℕ) → pose < length n.poses → machine_of n.plan pose ≡ machine
       → IsTrue (is_some (own_pose n machine (name_in n.poses pose)))
+
+-- what these two laws say of a machine 4, of any plan and any names
+pub record LawsOfWords (n : Named) (name : Text) (c : Call) : Type 0 where
+  pub claim : CallsAreToldAsRead → call_of n 4 Claim name ≡ Some c → call_text n c ≡ codes "claim " ++ name
+  pub give : CallsAreToldAsRead → call_of n 4 Give name ≡ Some c → call_text n c ≡ codes "give " ++ name
+  pub yield : CallsAreToldAsRead → call_of n 4 Yield name ≡ Some c → call_text n c ≡ codes "yield " ++ name
+  pub take : CallsAreToldAsRead → call_of n 4 Take name ≡ Some c → call_text n c ≡ codes "take " ++ name
+  pub release : CallsAreToldAsRead → call_of n 4 Release name ≡ Some c → call_text n c ≡ codes "release " ++ name
+  pub inquire : CallsAreToldAsRead → call_of n 4 Inquire name ≡ Some c → call_text n c ≡ codes "inquire " ++ name
+  pub pose : CallsAreToldAsRead → call_of n 4 Pose name ≡ Some c → call_text n c ≡ codes "pose " ++ name
+  pub comes_first : OwnPosesComeFirst → own_pose n 4 name ≡ Some 7 → call_of n 4 Pose name ≡ Some (SetPose 7)
+  pub is_own : OwnPosesComeFirst → own_pose n 4 name ≡ Some 7 → machine_of n.plan 7 ≡ 4
+  pub is_found : OwnPosesComeFirst → 7 < length n.poses → machine_of n.plan 7 ≡ 4
+      → own_pose n 4 (name_in n.poses 7) ≢ None

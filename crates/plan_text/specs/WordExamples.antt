@@ -1,5 +1,5 @@
 -- Literal examples of names and calls, by a lift between two floors where poses of two machines have one name.
-use Rattle.std.specs.Prelude.{◌≡◌, ℕ, true, false, List, [], ◌∷◌, ◌++◌, codes, filter, length, replicate}
+use Rattle.std.specs.Prelude.{◌≡◌, ℕ, true, false, List, [], ◌∷◌, ◌++◌, codes, filter, length, map, replicate}
 use Rattle.std.specs.Prelude.{Option, Some, None}
 use Rattle.std.specs.List.{range_with_len}
 use Rattle.plan_types.specs.Table.{PlanTable, plan_table}
@@ -9,11 +9,12 @@ use Rattle.plan_types.specs.declared.call.Call.TheVariants as call
 use Rattle.plan_types.specs.declared.posture.Posture.TheVariants.{Closed, Moving, OpenIn, OpenOut}
 use Rattle.plan_types.specs.declared.answer.Answer.TheVariants.{Shown, Refused}
 use Rattle.plan_types.specs.declared.answer.Refusal.TheVariants.{Held, Shut, NotOwner, PlateInZone}
-use Rattle.plan_text.specs.Answers.{answer_text, posture_of}
-use Rattle.plan_text.specs.Calls.{call_of, call_text, own_pose, verb_of}
+use Rattle.plan_text.specs.Answers.{all_postures, answer_text, flag_text, owner_word, posture_of}
+use Rattle.plan_text.specs.Calls.{call_of, call_text, caller_of, own_pose, pose_if, pose_named, verb_of}
 use Rattle.plan_text.specs.Named.{Named, named}
-use Rattle.plan_text.specs.Names.{Text, is_name, is_name_byte, is_reserved, name_in, number_in, script_words}
-use Rattle.plan_text.specs.Requests.{request, request_of}
+use Rattle.plan_text.specs.Names.{Text, is_name, is_name_byte, is_reserved, name_in, number_if, number_in}
+use Rattle.plan_text.specs.Names.{script_words}
+use Rattle.plan_text.specs.Requests.{request, request_of, stop_by}
 use Rattle.plan_text.specs.declared.calls.Verb.TheVariants as verbs
 use Rattle.plan_text.specs.declared.request.Request.{Request}
 
@@ -85,6 +86,13 @@ pub record RequestsAreRead : Type 0 where
   pub by_watch : three_words (codes "watch") (codes "pose") (codes "open") ≡ asks 15 (call.SetPose 1)
   pub stop : two_words (codes "watch") (codes "stop") ≡ asks 15 call.Stop
   pub resume : two_words (codes "high") (codes "resume") ≡ asks 2 call.Resume
+  pub stop_by_low : two_words (codes "low") (codes "stop") ≡ asks 1 call.Stop
+  pub resume_by_watch : two_words (codes "watch") (codes "resume") ≡ asks 15 call.Resume
+  pub give_by_watch : three_words (codes "watch") (codes "give") (codes "below") ≡ asks 15 (call.Give 0)
+  pub stop_alone : map stop_by (codes "stop" ∷ codes "resume" ∷ codes "stops" ∷ [] ∷ [])
+      ≡ Some call.Stop ∷ Some call.Resume ∷ None ∷ None ∷ []
+  pub callers : map (caller_of floors) (codes "watch" ∷ codes "lift" ∷ codes "low" ∷ codes "high" ∷ codes "attic" ∷ [])
+      ≡ Some 15 ∷ Some 0 ∷ Some 1 ∷ Some 2 ∷ None ∷ []
 
 pub record NoRequests : Type 0 where
   pub no_fields : request_of floors [] ≡ None
@@ -118,6 +126,10 @@ pub record OwnPoses : Type 0 where
   pub watch_has_none : own_pose floors 15 (codes "away") ≡ None
   pub zone : own_pose floors 0 (codes "below") ≡ None
   pub read : call_of floors 0 verbs.Pose (codes "open") ≡ Some (call.SetPose 1)
+  pub tried : map (pose_if floors 2 (codes "open")) (0 ∷ 1 ∷ 2 ∷ 3 ∷ []) ≡ None ∷ None ∷ Some 2 ∷ None ∷ []
+  pub named : map (λ m. pose_named floors m (codes "away")) (0 ∷ 1 ∷ 2 ∷ 15 ∷ [])
+      ≡ Some 0 ∷ Some 0 ∷ Some 3 ∷ Some 0 ∷ []
+  pub numbered : map (number_if three (codes "lift")) (0 ∷ 1 ∷ 2 ∷ 3 ∷ []) ≡ Some 0 ∷ None ∷ Some 2 ∷ None ∷ []
 
 -- ---- texts
 
@@ -145,3 +157,10 @@ pub record AnswersName : Type 0 where
   pub open_in : answer_text floors (Refused (Shut OpenIn)) ≡ codes "shut openin"
   pub open_out : answer_text floors (Refused (Shut OpenOut)) ≡ codes "shut openout"
   pub shown : answer_text floors (Shown (Some 2) true Moving) ≡ codes "zone high 1 moving"
+  pub shown_low : answer_text floors (Shown (Some 1) false OpenIn) ≡ codes "zone low 0 openin"
+  pub postures : map (λ posture. answer_text floors (Shown None false posture)) all_postures
+      ≡ codes "zone free 0 closed" ∷ codes "zone free 0 moving" ∷ codes "zone free 0 openin"
+      ∷ codes "zone free 0 openout" ∷ []
+  pub flags : map flag_text (false ∷ true ∷ []) ≡ codes " 0 " ∷ codes " 1 " ∷ []
+  pub owners : map (owner_word floors) (None ∷ Some 0 ∷ Some 1 ∷ Some 2 ∷ [])
+      ≡ codes "free" ∷ codes "lift" ∷ codes "low" ∷ codes "high" ∷ []

@@ -1,6 +1,9 @@
 //! The laws of words. Each function's contract is one.
+ghost use Rattle.plan_types.specs.declared.call.Call.{Call};
 ghost use Rattle.plan_text.specs.Examples as examples;
 ghost use Rattle.plan_text.specs.Laws as laws;
+ghost use Rattle.plan_text.specs.Named.{Named};
+ghost use Rattle.plan_text.specs.Names.{Text};
 ghost use Rattle.plan_text.specs.ScriptExamples as scripts;
 ghost use Rattle.plan_text.specs.WordExamples as words;
 
@@ -24,9 +27,11 @@ pub fn words_are_taken()
     ensures { laws.WordsAreTaken }
 {}
 
-/// A machine that has a pose of some name means that one, also where another machine's pose has the name.
+/// A machine that has a pose of some name means that one, also where another machine's pose has the name. And what this
+/// law and the one before the last say of one machine.
 pub fn own_poses_come_first()
-    ensures { laws.OwnPosesComeFirst }
+    ensures first { laws.OwnPosesComeFirst }
+    ensures of_one { (n : Named) (name : Text) (c : Call) → laws.LawsOfWords n name c }
 {}
 
 /// Examples: the whole text of each answer.
