@@ -42,6 +42,17 @@ pub record NumbersAreMet : Type 0 where
 -- the two numbers of a call, and numbers of none: the cell's Advance, a stop of a zone, and verbs before and past all
 pub record CallsAreMet : Type 0 where
   pub pose : IsCall 6 63 (SetPose 63)
+  pub claim : IsCall 1 9 (Claim 9)
+  pub give : IsCall 2 8 (Give 8)
+  pub yield : IsCall 3 0 (Yield 0)
+  pub take : IsCall 4 7 (Take 7)
+  pub release : IsCall 5 1 (Release 1)
+  pub inquire : IsCall 8 255 (Inquire 255)
+  pub stop : IsCall 9 0 Stop
+  pub resume : IsCall 10 0 Resume
+  pub resume_of_zone : ¬ IsCall 10 1 Resume
+  pub some_stop : ¬ NoCall 9 0
+  pub some_claim : ¬ NoCall 1 255
   pub other_verb : ¬ IsCall 5 63 (SetPose 63)
   pub other_object : ¬ IsCall 6 62 (SetPose 63)
   pub some_call : ¬ NoCall 6 63
@@ -61,6 +72,24 @@ pub record RepliesAreMet : Type 0 where
   pub nobody : reply_of (Refused (NotOwner None)) 76 ≡ reply 76 5 255 255 255 false
   pub plate : reply_of (Refused (PlateInZone 9)) 77 ≡ reply 77 6 255 9 255 false
   pub stopped : reply_of (Refused Stopped) 78 ≡ reply 78 14 255 255 255 false
+  -- all refusals that name nothing; each posture, and each machine and zone of a few
+  pub naming_nothing : map (λ r. reply_of (Refused r) 80)
+      (NotParty ∷ AlreadyMine ∷ NoPlate ∷ PlaceFull ∷ WrongWay ∷ Jump ∷ NoPose ∷ Worn ∷ Stopped ∷ NotStopped ∷ [])
+      ≡ map (λ n. reply 80 n 255 255 255 false) (1 ∷ 3 ∷ 7 ∷ 8 ∷ 9 ∷ 10 ∷ 12 ∷ 13 ∷ 14 ∷ 15 ∷ [])
+  pub naming_posture : map (λ q. reply_of (Refused (Shut q)) 81) (Closed ∷ Moving ∷ OpenIn ∷ OpenOut ∷ [])
+      ≡ map (λ n. reply 81 4 255 255 n false) (0 ∷ 1 ∷ 2 ∷ 3 ∷ [])
+  pub naming_machine : map (λ m. reply_of (Refused (Held m)) 82) (0 ∷ 1 ∷ 14 ∷ [])
+      ≡ map (λ m. reply 82 2 m 255 255 false) (0 ∷ 1 ∷ 14 ∷ [])
+  pub naming_owner : map (λ o. reply_of (Refused (NotOwner o)) 83) (Some 0 ∷ Some 1 ∷ Some 14 ∷ None ∷ [])
+      ≡ map (λ m. reply 83 5 m 255 255 false) (0 ∷ 1 ∷ 14 ∷ 255 ∷ [])
+  pub naming_zone : map (λ z. reply_of (Refused (PlateInZone z)) 84) (0 ∷ 1 ∷ 7 ∷ [])
+      ≡ map (λ z. reply 84 6 255 z 255 false) (0 ∷ 1 ∷ 7 ∷ [])
+  pub showing_posture : map (λ q. reply_of (Shown (Some 0) false q) 85) (Closed ∷ Moving ∷ OpenIn ∷ OpenOut ∷ [])
+      ≡ map (λ n. reply 85 32 0 255 n false) (0 ∷ 1 ∷ 2 ∷ 3 ∷ [])
+  pub showing_plate : map (λ plate. reply_of (Shown None plate Closed) 86) (false ∷ true ∷ [])
+      ≡ map (reply 86 32 255 255 0) (false ∷ true ∷ [])
+  pub bare_ones : map (λ n. bare_reply n 87) (64 ∷ 65 ∷ 67 ∷ 68 ∷ [])
+      ≡ map (λ n. reply 87 n 255 255 255 false) (64 ∷ 65 ∷ 67 ∷ 68 ∷ [])
   pub bare : bare_reply 67 79 ≡ reply 79 67 255 255 255 false
 
 -- nothing else is asked of a plan's bytes and of a state's word, and nothing less

@@ -55,6 +55,17 @@ stop_of_zone Resume is = let e : 9 ≡ 10 = is.0 in omega (arith, e)
 pub returns : goal.returns
 returns c = record {
   pose = (refl, refl);
+  claim = (refl, refl);
+  give = (refl, refl);
+  yield = (refl, refl);
+  take = (refl, refl);
+  release = (refl, refl);
+  inquire = (refl, refl);
+  stop = (refl, refl);
+  resume = (refl, refl);
+  resume_of_zone = λ is. let e : 1 ≡ 0 = is.1 in omega (arith, e);
+  some_stop = λ none. none Stop (refl, refl);
+  some_claim = λ none. none (Claim 255) (refl, refl);
   other_verb = λ is. let e : 5 ≡ 6 = is.0 in omega (arith, e);
   other_object = λ is. let e : 62 ≡ 63 = is.1 in omega (arith, e);
   some_call = λ none. none (SetPose 63) (refl, refl);

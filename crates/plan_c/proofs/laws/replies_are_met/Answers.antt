@@ -12,5 +12,13 @@ returns c = record {
   nobody = refl;
   plate = refl;
   stopped = refl;
+  naming_nothing = refl;
+  naming_posture = refl;
+  naming_machine = refl;
+  naming_owner = refl;
+  naming_zone = refl;
+  showing_posture = refl;
+  showing_plate = refl;
+  bare_ones = refl;
   bare = refl;
 }
