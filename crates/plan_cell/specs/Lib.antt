@@ -4,3 +4,4 @@ pub mod Mapping
 pub mod Laws
 pub mod OwnRuleExamples
 pub mod LawExamples
+pub mod TableExamples

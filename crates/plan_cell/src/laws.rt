@@ -5,6 +5,7 @@ ghost use Rattle.plan_cell.specs.Laws.{CellRefusesMore, RefusesByItsOwnRules, Ow
 ghost use Rattle.plan_cell.specs.Laws.{AdvanceAloneIsMissing, InquiriesAreAlike, SoundByPlan};
 ghost use Rattle.plan_cell.specs.OwnRuleExamples.{OwnRuleExamples};
 ghost use Rattle.plan_cell.specs.LawExamples.{LawExamples, InquiriesTell, NumbersAreRight};
+ghost use Rattle.plan_cell.specs.TableExamples.{TableExamples};
 
 /// The tables of the cell are a plan.
 pub fn cell_is_plan()
@@ -49,10 +50,11 @@ pub fn sound_by_plan()
     ensures { SoundByPlan }
 {}
 
-/// What these laws say of literal calls, whatever answers them; answers to inquiries that they don't allow; and the
-/// numbers of names.
+/// What these laws say of literal calls, whatever answers them; answers to inquiries that they don't allow; the numbers
+/// of names; and the plan of the cell, row by row.
 pub fn law_examples_are_right()
     ensures laws { LawExamples }
     ensures inquiries { InquiriesTell }
     ensures numbers { NumbersAreRight }
+    ensures tables { TableExamples }
 {}

@@ -1,4 +1,4 @@
-use Rattle.std.proofs.Common.{◌≡◌, true, false, Some, None, inl, inr, refl}
+use Rattle.std.proofs.Common.{◌≡◌, true, false, Some, None, inl, inr, refl, arith}
 use Rattle.cell_types.specs.declared.machine.Machine.TheVariants.{Feed, Table, Robot, Press, Deposit, Crane, Watch}
 use Rattle.cell_types.specs.declared.zone.Zone.TheVariants.{Z1, Z3, Z4, Z5, Z6}
 use Rattle.cell_types.specs.declared.place.Place.TheVariants as place
@@ -76,4 +76,16 @@ returns-clause-numbers c = record {
   release = refl;
   pose = refl;
   inquire = refl;
+}
+
+pub returns-clause-tables : goal.returns-clause-tables
+returns-clause-tables c = record {
+  sound = λ s. record {
+    plates = λ law k. (law s k).one_plate_a_place 4;
+    zone = λ law k. (law s k).zone_is_lawful 5 (omega arith);
+    stamp = λ law k. (law s k).stamp_in_range;
+  };
+  rows = record { machines = refl; hosts = refl; guests = refl; keepers = refl; inward = refl; outward = refl; posing = refl; after_moving = refl; table_z1 = refl; table_z2 = refl; press_z3 = refl; feed_z6 = refl; deposit_z4 = refl; deposit_z5 = refl };
+  states = record { postures = refl; zone = refl; free = refl; state = refl; zones = refl; places = refl; stop = refl; shown = refl };
+  own = record { held_back = refl; belt_is_empty = refl; yield = refl; release = refl; other_refusal = refl; feed_runs = refl; feed_runs_empty = refl; deposit_runs = refl; press_opens = refl; press_opens_empty = refl; press_unloads = refl };
 }
