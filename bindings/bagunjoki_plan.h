@@ -3,9 +3,9 @@
    `plan header` prints a plan's bytes, and the numbers of its machines, zones, poses and places, from 0. The state of
    the plant is one 64-bit word. bagunjoki_plan_step answers a call on such a word, and gives the word after it.
    bagunjoki_plan_ask makes a call on a word that threads or processes share; bagunjoki_plan_settle asks until it is
-   answered.
+   answered. BAGUNJOKI_PLAN_MAY_RUN tells of a word that was loaded whether a motor may run.
 
-   What is proved (crates/plan_c): what the four functions of the library return. What isn't: the loops of
+   What is proved (crates/plan_c): what the five functions of the library return. What isn't: the loops of
    bagunjoki_plan_ask, bagunjoki_plan_settle and bagunjoki_plan_renew, which your compiler translates. They are right if
      - nothing but these three writes the word after it was set to a start's,
      - no two callers call as the same machine, and
@@ -118,6 +118,16 @@ uint64_t bagunjoki_plan_restamp(const uint8_t *plan, size_t length, uint64_t wor
    there is no such plan, the word is no state's, or if there is no memory. */
 uint32_t bagunjoki_plan_stamp(const uint8_t *plan, size_t length, uint64_t word);
 
+/* Whether the state of a word permits a motor, or a part to stand somewhere: by the motor's mask and pattern, which
+   `plan header` prints. It reads no plan and takes no memory, so a signal handler may call it too. Of a word that is no
+   state's it says nothing.
+   The motor is then permitted until a call of its own machine loses the permission, whatever others do. Your duty:
+   before its machine's next call that loses the permission the motor is off and at rest, and the part is out. */
+bool bagunjoki_plan_may_run(uint64_t word, uint64_t mask, uint64_t pattern);
+
+/* The same by two instructions of the processor. No proof speaks of it, but it says what the function's does. */
+#define BAGUNJOKI_PLAN_MAY_RUN(word, mask, pattern) (((uint64_t)(word) & (uint64_t)(mask)) == (uint64_t)(pattern))
+
 #ifdef __cplusplus
 }
 typedef std::atomic<uint64_t> bagunjoki_plan_word;
@@ -136,6 +146,9 @@ typedef _Atomic uint64_t bagunjoki_plan_word;
 static inline void bagunjoki_plan_open(bagunjoki_plan_word *shared, uint64_t start) {
     BAGUNJOKI_PLAN_ATOMIC(store)(shared, start);
 }
+
+/* Loads a shared word, sequentially consistent, for BAGUNJOKI_PLAN_MAY_RUN. */
+static inline uint64_t bagunjoki_plan_load(bagunjoki_plan_word *shared) { return BAGUNJOKI_PLAN_ATOMIC(load)(shared); }
 
 /* A call on a shared word, as bagunjoki_ask of bagunjoki.h: one load, and at most `tries` exchanges, all sequentially
    consistent. The reply's `next` is the word that the call left, if it is DONE, and otherwise the word in which it was

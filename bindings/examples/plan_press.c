@@ -1,12 +1,13 @@
 /* Two machines at a press, each a thread: the loader puts plates into the press and takes them out, and the press
-   closes in between (docs/FROM_C.md, "Another plant").
+   closes in between (docs/FROM_C.md, "Another plant"). Each runs its motor only while the word lets it, and has it off
+   and at rest before its next call.
    cc -pthread plan_press.c $(pkg-config --cflags --libs bagunjoki_plan) */
 #include <bagunjoki_plan.h>
 #include <pthread.h>
 #include <sched.h>
 #include <stdio.h>
 
-/* What `plan header` prints of this plan, as far as it is used here: numbers and bytes. */
+/* What `plan header` prints of this plan, as far as it is used here: numbers, motors and bytes. */
 #define PLAN_MACHINE_LOADER 0
 #define PLAN_MACHINE_PRESS 1
 #define PLAN_ZONE_INTERIOR 0
@@ -14,6 +15,10 @@
 #define PLAN_POSE_PRESS_UNLOAD 1
 #define PLAN_POSE_PRESS_CLOSED 2
 #define PLAN_POSE_PRESS_TRAVELLING 3
+#define PLAN_MASK_RAM 0x1B
+#define PLAN_PATTERN_RAM 0x09
+#define PLAN_MASK_ARM 0x03
+#define PLAN_PATTERN_ARM 0x02
 static const uint8_t PLAN_BYTES[] = {
     2, 1, 4, 2,
     1, 0, 1, 0, 1, 1, 1, 0,
@@ -26,29 +31,36 @@ static const uint8_t PLAN_BYTES[] = {
 
 enum { ROUNDS = 1000 };
 
+/* A step is a call. Before it a motor has run, if there is one: all words let run what has no mask. */
 struct step {
     uint8_t verb, object;
+    uint64_t mask, pattern;
 };
+
+#define NO_MOTOR 0, 0
+#define RAM PLAN_MASK_RAM, PLAN_PATTERN_RAM
+#define ARM PLAN_MASK_ARM, PLAN_PATTERN_ARM
 
 /* The press has the interior to itself while it moves and while it is closed. */
 static const struct step press_program[] = {
-    {BAGUNJOKI_PLAN_CLAIM, PLAN_ZONE_INTERIOR},
-    {BAGUNJOKI_PLAN_SET_POSE, PLAN_POSE_PRESS_TRAVELLING},
-    {BAGUNJOKI_PLAN_SET_POSE, PLAN_POSE_PRESS_LOAD},
-    {BAGUNJOKI_PLAN_YIELD, PLAN_ZONE_INTERIOR},
-    {BAGUNJOKI_PLAN_TAKE, PLAN_ZONE_INTERIOR},
-    {BAGUNJOKI_PLAN_SET_POSE, PLAN_POSE_PRESS_TRAVELLING},
-    {BAGUNJOKI_PLAN_SET_POSE, PLAN_POSE_PRESS_CLOSED},
-    {BAGUNJOKI_PLAN_SET_POSE, PLAN_POSE_PRESS_TRAVELLING},
-    {BAGUNJOKI_PLAN_SET_POSE, PLAN_POSE_PRESS_UNLOAD},
-    {BAGUNJOKI_PLAN_GIVE, PLAN_ZONE_INTERIOR},
+    {BAGUNJOKI_PLAN_CLAIM, PLAN_ZONE_INTERIOR, NO_MOTOR},
+    {BAGUNJOKI_PLAN_SET_POSE, PLAN_POSE_PRESS_TRAVELLING, NO_MOTOR},
+    {BAGUNJOKI_PLAN_SET_POSE, PLAN_POSE_PRESS_LOAD, RAM},
+    {BAGUNJOKI_PLAN_YIELD, PLAN_ZONE_INTERIOR, NO_MOTOR},
+    {BAGUNJOKI_PLAN_TAKE, PLAN_ZONE_INTERIOR, NO_MOTOR},
+    {BAGUNJOKI_PLAN_SET_POSE, PLAN_POSE_PRESS_TRAVELLING, NO_MOTOR},
+    {BAGUNJOKI_PLAN_SET_POSE, PLAN_POSE_PRESS_CLOSED, RAM},
+    {BAGUNJOKI_PLAN_SET_POSE, PLAN_POSE_PRESS_TRAVELLING, NO_MOTOR},
+    {BAGUNJOKI_PLAN_SET_POSE, PLAN_POSE_PRESS_UNLOAD, RAM},
+    {BAGUNJOKI_PLAN_GIVE, PLAN_ZONE_INTERIOR, NO_MOTOR},
 };
 
-/* The loader waits until the press has handed the interior over. */
+/* The loader waits until its arm may be in the press, which has then handed the interior over. The arm is out again
+   before the calls that end that. */
 static const struct step loader_program[] = {
-    {BAGUNJOKI_PLAN_GIVE, PLAN_ZONE_INTERIOR},
-    {BAGUNJOKI_PLAN_TAKE, PLAN_ZONE_INTERIOR},
-    {BAGUNJOKI_PLAN_RELEASE, PLAN_ZONE_INTERIOR},
+    {BAGUNJOKI_PLAN_GIVE, PLAN_ZONE_INTERIOR, ARM},
+    {BAGUNJOKI_PLAN_TAKE, PLAN_ZONE_INTERIOR, ARM},
+    {BAGUNJOKI_PLAN_RELEASE, PLAN_ZONE_INTERIOR, NO_MOTOR},
 };
 
 struct machine {
@@ -56,7 +68,7 @@ struct machine {
     uint8_t number;
     const struct step *program;
     unsigned length;
-    unsigned done;
+    unsigned done, driven;
     uint8_t stopped_by;
 };
 
@@ -73,6 +85,11 @@ static void *run(void *given) {
     unsigned rounds = 0, at = 0;
     while (rounds < ROUNDS) {
         const struct step *step = &machine->program[at];
+        if (!BAGUNJOKI_PLAN_MAY_RUN(bagunjoki_plan_load(&plant), step->mask, step->pattern)) {
+            sched_yield(); /* (the motor is off) */
+            continue;
+        }
+        /* here the motor runs, until it is off and at rest */
         bagunjoki_plan_renew(PLAN_BYTES, sizeof PLAN_BYTES, &plant, 5000, 0, 8);
         bagunjoki_plan_reply reply = bagunjoki_plan_ask(PLAN_BYTES, sizeof PLAN_BYTES, &plant, machine->number,
                                                         step->verb, step->object, 8);
@@ -85,6 +102,7 @@ static void *run(void *given) {
             return NULL;
         }
         machine->done++;
+        machine->driven += step->mask != 0;
         at++;
         if (at == machine->length) {
             at = 0;
@@ -96,8 +114,8 @@ static void *run(void *given) {
 
 int main(void) {
     struct machine machines[] = {
-        {"loader", PLAN_MACHINE_LOADER, loader_program, 3, 0, 0},
-        {"press", PLAN_MACHINE_PRESS, press_program, 10, 0, 0},
+        {"loader", PLAN_MACHINE_LOADER, loader_program, 3, 0, 0, 0},
+        {"press", PLAN_MACHINE_PRESS, press_program, 10, 0, 0, 0},
     };
     pthread_t threads[2];
     /* a plate on the loader's hand, none in the press */
@@ -108,6 +126,7 @@ int main(void) {
         if (pthread_create(&threads[k], NULL, run, &machines[k])) return 1;
     for (int k = 0; k < 2; k++) pthread_join(threads[k], NULL);
     for (int k = 0; k < 2; k++)
-        printf("%s: %u calls done, stopped by %u\n", machines[k].name, machines[k].done, machines[k].stopped_by);
+        printf("%s: %u calls done, its motor run %u times, stopped by %u\n", machines[k].name, machines[k].done,
+               machines[k].driven, machines[k].stopped_by);
     return machines[0].stopped_by || machines[1].stopped_by;
 }

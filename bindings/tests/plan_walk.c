@@ -1,5 +1,6 @@
 /* Random calls at the lift of plan_types::examples, by the library. It prints a sum of all replies; the test
-   walks_as_c_does of the crate plan_c has the same from plan_rules. A number as argument: how many rounds, for time. */
+   walks_as_c_does of the crate plan_c has the same from plan_rules. By each word the function and the macro say the same
+   of the lift's motors, and never that two of them may run. A number as argument: how many rounds, for time. */
 #include <bagunjoki_plan.h>
 #include <stdio.h>
 #include <stdlib.h>
@@ -19,6 +20,22 @@ static const uint8_t PLAN_BYTES[] = {
 
 enum { CALLS = 100000 };
 
+/* The motors of the lift: its cabin, which holds both zones and moves, and the gates of its two floors. */
+static const struct {
+    uint64_t mask, pattern;
+} motors[] = {{0x37B, 0x129}, {0x03, 0x02}, {0x60, 0x40}};
+
+/* Whether function and macro say the same of each motor, and one of them at most may run. */
+static bool motors_are_kept_apart(uint64_t word) {
+    int running = 0;
+    for (int k = 0; k < 3; k++) {
+        bool may_run = bagunjoki_plan_may_run(word, motors[k].mask, motors[k].pattern);
+        if (may_run != BAGUNJOKI_PLAN_MAY_RUN(word, motors[k].mask, motors[k].pattern)) return false;
+        running += may_run;
+    }
+    return running <= 1;
+}
+
 static uint64_t mix(uint64_t sum, uint64_t value) { return (sum ^ value) * 1099511628211u; }
 
 static uint64_t walk(void) {
@@ -31,6 +48,7 @@ static uint64_t walk(void) {
         uint8_t machine = callers[drawn % 4], verb = drawn / 4 % 11, object = drawn / 64 % 6;
         bagunjoki_plan_reply reply = bagunjoki_plan_step(PLAN_BYTES, sizeof PLAN_BYTES, word, machine, verb, object);
         word = reply.next;
+        if (!motors_are_kept_apart(word)) return 0;
         sum = mix(mix(mix(sum, reply.next), reply.answer), reply.owner);
         sum = mix(mix(mix(sum, reply.zone), reply.posture), reply.plate);
     }

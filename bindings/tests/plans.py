@@ -22,7 +22,9 @@ TYPES = compare.TYPES | {"bagunjoki_plan_reply": "Reply"}
 PLANS = [("press", "bindings/examples/plan_press.c")]
 PLANS += [("lift", f"bindings/tests/plan_{it}.c") for it in ("walk", "memory")]
 PLANS += [("press", "bindings/tests/settle.c")]
-PRESS = "loader: 3000 calls done, stopped by 0\npress: 10000 calls done, stopped by 0\n"
+PRESS = """loader: 3000 calls done, its motor run 2000 times, stopped by 0
+press: 10000 calls done, its motor run 3000 times, stopped by 0
+"""
 
 
 def of_crates(root):

@@ -1,13 +1,21 @@
 //! The functions that C calls. Each checks whatever it is passed, and frees what it takes before it returns. Each reads
 //! the plan, which alone takes memory, and then answers by it.
-ghost use Rattle.std.specs.Prelude.{◌≡◌, ◌≢◌, ◌≤◌, ◌<◌};
+ghost use Rattle.std.specs.Prelude.{◌≡◌, ◌≢◌, ◌↔◌, ◌≤◌, ◌<◌, List, IsTrue};
 ghost use Rattle.plan_types.specs.Table.{PlanTable};
+ghost use Rattle.plan_types.specs.Plan.{IsPlan};
 ghost use Rattle.plan_types.specs.declared.call.Call.{Call};
+ghost use Rattle.plan_types.specs.declared.answer.Event.{Event};
 ghost use Rattle.plan_rules.specs.declared.state.State.{State as PlanState};
 ghost use Rattle.plan_rules.specs.State.{last_stamp, start_state};
 ghost use Rattle.plan_rules.specs.Reply as rules;
+ghost use Rattle.plan_rules.specs.History.{after};
 ghost use Rattle.plan_word.specs.Packed.{packed};
-ghost use Rattle.plan_c.specs.Given.{IsPlanOf, NoPlan, IsWordOf, NoState};
+ghost use Rattle.plan_motors.specs.declared.motor.Motor.{Motor};
+ghost use Rattle.plan_motors.specs.Motor.{Permits};
+ghost use Rattle.plan_motors.specs.Mask.{IsMaskOf, allows};
+ghost use Rattle.plan_motors.specs.OfPlan.{IsMotorOf};
+ghost use Rattle.plan_motors.specs.Laws.{KeepsPermission};
+ghost use Rattle.plan_c.specs.Given.{IsPlanOf, NoPlan, IsWordOf, NoState, motor_mask};
 ghost use Rattle.plan_c.specs.Numbers.{IsCall, NoCall};
 ghost use Rattle.plan_c.specs.Starts.{IsStartText, places_in};
 ghost use Rattle.plan_c.specs.Replies as replies;
@@ -16,6 +24,9 @@ use crate::by_plan::{NO_STAMP, NO_WORD, reply_by, restamp_by, stamp_by, start_by
 use crate::calls::call_with;
 use crate::reading::read_plan;
 use crate::reply::{NO_CALL, NO_MEMORY, NO_PLAN, Reply, bare_reply};
+use plan_motors::MotorMask;
+use plan_rules::laws::lawful_histories;
+use plan_word::laws::words_are_laid_out;
 use std::alloc::{AllocError, Global};
 
 /// Makes a call on a word, by a plan. If the bytes are a plan, the numbers name a call, and the word is
@@ -106,4 +117,26 @@ pub extern "C" fn bagunjoki_plan_stamp(alloc: Global, plan: &[u8], word: u64) ->
         Ok(Some((plan, layout))) => stamp_by(&plan, &layout, word),
         Ok(None) | Err(AllocError) => NO_STAMP,
     }
+}
+
+/// Whether a motor may run, by the bits of a word that it looks at (`mask`) and what they have to be (`pattern`). It
+/// reads no plan, and takes no memory.
+///
+/// If the word is a state's, and mask and pattern are those of a motor of the plan, the state permits the motor exactly
+/// if it may run (`permitted`); and it stays permitted, whatever calls others make, until a call of its own machine loses
+/// the permission (`lasts`).
+#[unsafe(no_mangle)]
+pub extern "C" fn bagunjoki_plan_may_run(word: u64, mask: u64, pattern: u64) -> bool
+    ensures allowed { result ≡ allows (motor_mask mask pattern) word }
+    ensures permitted { (t : PlanTable) (state : PlanState) (motor : Motor)
+        → IsWordOf t word state → IsMaskOf t motor (motor_mask mask pattern)
+        → (IsTrue result ↔ Permits t state motor) }
+    ensures lasts { (t : PlanTable) (state : PlanState) (motor : Motor) (since : List Event)
+        → IsPlan t → IsMotorOf t motor → IsWordOf t word state
+        → IsMaskOf t motor (motor_mask mask pattern) → IsTrue result
+        → KeepsPermission t state since motor → Permits t (after t state since) motor }
+{
+    lawful_histories();
+    words_are_laid_out();
+    MotorMask { mask, pattern }.allows(word)
 }

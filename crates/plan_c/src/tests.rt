@@ -2,7 +2,8 @@
 
 use crate::calls::call_with;
 use crate::exports::{
-    bagunjoki_plan_restamp, bagunjoki_plan_stamp, bagunjoki_plan_start, bagunjoki_plan_step,
+    bagunjoki_plan_may_run, bagunjoki_plan_restamp, bagunjoki_plan_stamp, bagunjoki_plan_start,
+    bagunjoki_plan_step,
 };
 use crate::reply::{NO_CALL, Reply, bare_reply, reply_of};
 use plan_rules::{LAST_STAMP, State, apply};
@@ -62,6 +63,38 @@ fn is_answered_in_numbers(rt: HostRuntime) -> Result<(), Fail> {
     assert!(rt; bagunjoki_plan_stamp(rt.alloc(), &plan, u64::MAX) == u32::MAX);
     assert!(rt; bagunjoki_plan_start(rt.alloc(), &plan, b"1", 0) == u64::MAX);
     assert!(rt; bagunjoki_plan_step(rt.alloc(), &[], word, 1, 1, 0).answer == 67);
+    Ok(())
+}
+
+// The masks and the patterns of two motors of the press, and which of them may run after each call of a round: the ram,
+// while the press holds its zone and moves, and the loader's arm, while the loader holds it.
+const RAM: (u64, u64) = (0x1B, 0x09);
+
+const ARM: (u64, u64) = (0x03, 0x02);
+
+const MOTORS: &[([u8; 3], bool, bool)] = &[
+    ([1, 1, 0], false, false),
+    ([1, 6, 3], true, false),
+    ([0, 1, 0], true, false),
+    ([15, 9, 0], true, false),
+    ([15, 10, 0], true, false),
+    ([1, 6, 0], false, false),
+    ([1, 3, 0], false, true),
+    ([1, 6, 3], false, true),
+    ([0, 2, 0], false, false),
+];
+
+#[test]
+fn motors_run_while_they_may(rt: HostRuntime) -> Result<(), Fail> {
+    let press = examples::press(rt.alloc())?;
+    assert!(rt; press.fault().is_none());
+    let plan = write_tables(rt.alloc(), &press)?;
+    let mut word = bagunjoki_plan_start(rt.alloc(), &plan, b"10", 0);
+    for (call, ram, arm) in MOTORS {
+        word = bagunjoki_plan_step(rt.alloc(), &plan, word, call[0], call[1], call[2]).next;
+        assert!(rt; bagunjoki_plan_may_run(word, RAM.0, RAM.1) == *ram);
+        assert!(rt; bagunjoki_plan_may_run(word, ARM.0, ARM.1) == *arm);
+    }
     Ok(())
 }
 

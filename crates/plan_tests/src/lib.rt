@@ -23,6 +23,8 @@ mod headers;
 #[cfg(test)]
 mod limits;
 #[cfg(test)]
+mod loads;
+#[cfg(test)]
 mod programs;
 #[cfg(test)]
 mod progress;
