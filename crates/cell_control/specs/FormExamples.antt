@@ -1,5 +1,6 @@
 -- A small program, and what the forms of rows, turns, controllers and lines say of it.
-use Rattle.std.specs.Prelude.{◌≡◌, ⊤, ℕ, zero, suc, ◌+◌, ◌<◌, ◌≤◌, ◌⊎◌, Bool, true, false, List, [], ◌∷◌, Option, Some, None}
+use Rattle.std.specs.Prelude.{◌≡◌, ⊤, ℕ, zero, suc, ◌+◌, ◌<◌, ◌≤◌, ◌⊎◌, Bool, true, false, List}
+use Rattle.std.specs.Prelude.{[], ◌∷◌, Option, Some, None}
 use Rattle.std.specs.Prelude.{Ok, Err}
 use Rattle.cell_rules.specs.Types.{Machine, Posture, Press, Robot, Z2, Z3, Claim, Give, Inquire, Release, Held, NoPlate}
 use Rattle.cell_rules.specs.Types.{Done, Refused, Shown, OpenIn, Settled, Event}
@@ -171,7 +172,10 @@ pub record ControllerExamples : Type 0 where
     told = record { act = 7; fault = None };
     asked = Some (Release Z3, Ok (Settled Done 5));
   }) (running Falling)
-  pub asks_what_it_tells : ¬ Takes (running Claiming) (record { told = record { act = 7; fault = None }; asked = None }) (running Falling)
+  pub asks_what_it_tells : ¬ Takes (running Claiming) (record {
+    told = record { act = 7; fault = None };
+    asked = None;
+  }) (running Falling)
   pub stopped_asks_nothing : ¬ Takes stopped (record {
     told = record { act = 11; fault = Some Memory };
     asked = Some (Claim Z3, Ok (Settled Done 5));
@@ -180,8 +184,10 @@ pub record ControllerExamples : Type 0 where
   pub faulty : answered {Act = ℕ} 3 (Some Memory) ≡ Err Memory
   pub with_commands : at_rest {Act = ℕ} 3 (Ok Rising) ≡ Ok (Rising, 3)
   pub with_fault : at_rest {S = SmallStep} {Act = ℕ} 3 (Err Memory) ≡ Err Memory
-  pub turned_well : turned {Act = ℕ} Giving (Ok (Rising, 3)) ≡ record { result = Ok 3; progress = Rising; stopped = None }
-  pub turned_faulty : turned {Act = ℕ} Giving (Err Memory) ≡ record { result = Err Memory; progress = Giving; stopped = Some Memory }
+  pub turned_well : turned {Act = ℕ} Giving (Ok (Rising, 3))
+      ≡ record { result = Ok 3; progress = Rising; stopped = None }
+  pub turned_faulty : turned {Act = ℕ} Giving (Err Memory)
+      ≡ record { result = Err Memory; progress = Giving; stopped = Some Memory }
 
 -- a machine on its line, and off it; one that has stopped may be at any step
 pub record WiringExamples : Type 0 where

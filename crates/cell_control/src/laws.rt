@@ -33,8 +33,8 @@ pub fn waits_by_refusals()
     ensures { WaitRows }
 {}
 
-/// A small program, in figures: the rows of its steps, its checks and drives, the answers to its calls,
-/// its turns, and a controller of it on its line and off it.
+/// A small program, in figures: the rows of its steps, its checks and drives, the answers to its
+/// calls, its turns, and a controller of it on its line and off it.
 #[tactic(auto, using(crate::proofs::FormFigures::forms))]
 pub fn forms_are_met()
     ensures { FormsAreMet }

@@ -31,9 +31,9 @@ pub fn checkpoints_by_figures()
     ensures { FigureRows }
 {}
 
-/// The test of six machines, in figures: each machine's number may name no step, or one that isn't in
-/// step with the state, and the first such machine is told. A program that may go on begins where it
-/// stood.
+/// The test of six machines, in figures: each machine's number may name no step, or one that isn't
+/// in step with the state, and the first such machine is told. A program that may go on begins
+/// where it stood.
 #[tactic(auto, using(crate::proofs::TestsHold::tests_hold))]
 pub fn tests_by_figures()
     ensures { TestsAreMet }

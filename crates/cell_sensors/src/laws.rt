@@ -44,13 +44,15 @@ pub fn limits_are_met()
     ensures { LimitExamples }
 {}
 
-/// Heights of a line, windows around a position, tolerances, calibrated sensors and scales, in figures.
+/// Heights of a line, windows around a position, tolerances, calibrated sensors and scales, in
+/// figures.
 #[tactic(auto, using(crate::proofs::LineFigures::lines))]
 pub fn lines_are_met()
     ensures { LineExamples }
 {}
 
-/// The sensors of each machine out of the fourteen, and which switches exclude each other, in figures.
+/// The sensors of each machine out of the fourteen, and which switches exclude each other, in
+/// figures.
 #[tactic(auto, using(crate::proofs::SenseFigures::senses))]
 pub fn senses_are_met()
     ensures { SenseExamples }
