@@ -10,7 +10,8 @@ use Rattle.cell_threads.specs.Promises.{GivesOf}
 use Rattle.cell_threads.specs.Watching.{WatchesOf}
 use Rattle.cell_threads.specs.Workers.{GateOf}
 use Rattle.cell_threads.specs.declared.six.SixRecord.{SixRecord}
-use Rattle.cell_renewal.specs.Renewing.{EndsRound, GoesOnBy, IsTurnedOver, RoundMoment, RunsRenewed, TakesRound, leave_of, round_in}
+use Rattle.cell_renewal.specs.Renewing.{EndsRound, GoesOnBy, IsTurnedOver, RoundMoment, RunsRenewed, TakesRound}
+use Rattle.cell_renewal.specs.Renewing.{leave_of, round_in}
 use Rattle.cell_renewal.specs.RenewalExamples.{six}
 use Rattle.cell_threads.specs.declared.six_of.SixOf.{SixOf}
 use Rattle.cell_renewal.specs.declared.renewed.RoundEnd.{RoundEnd}
