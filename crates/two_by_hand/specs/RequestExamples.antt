@@ -1,7 +1,8 @@
 -- The text, the party and the call of each request, and the words of replies.
-use Rattle.std.specs.Prelude.{◌≡◌, ℕ, List, [], ◌∷◌, codes, map, None}
+use Rattle.std.specs.Prelude.{◌≡◌, ℕ, Bool, List, [], ◌∷◌, codes, map, replicate, Option, Some, None}
 use Rattle.cell_rules.specs.Types.{Claim, Release, SetPose, Z3, Travelling, Middle, Settled, Busy, Done, Refused}
-use Rattle.cell_rules.specs.Types.{Held, Jump, NotOwner, NotParty, Shut, Stopped, Machine, Posture}
+use Rattle.cell_rules.specs.Types.{AlreadyMine, Held, Jump, NoPlate, NoPose, NotAtWork, NotOwner, NotParty, PlaceFull}
+use Rattle.cell_rules.specs.Types.{PlateInZone, Robot, Shown, Shut, Stopped, WrongWay, Worn, Z4, Machine, Posture}
 use Rattle.two_by_hand.specs.declared.requests.Party.TheVariants.{Ram, Loader}
 use Rattle.two_by_hand.specs.declared.requests.Request.{Request}
 use Rattle.two_by_hand.specs.declared.requests.Request.TheVariants.{RamIn, RamMoves, RamOpens, RamOut}
@@ -26,4 +27,9 @@ pub record RequestsAreMet : Type 0 where
       ≡ codes "wait: it isn't open"
   pub no : map (λ r. reply_word (Settled (Refused r) 7)) (NotParty ∷ NotOwner None ∷ Jump ∷ Stopped ∷ [])
       ≡ codes "no" ∷ codes "no" ∷ codes "no" ∷ codes "no" ∷ []
+  pub no_others : map (λ r. reply_word (Settled (Refused r) 0)) (AlreadyMine ∷ NotOwner (Some Robot) ∷ PlateInZone Z4
+      ∷ NoPlate ∷ PlaceFull ∷ WrongWay ∷ NotAtWork ∷ NoPose ∷ Worn ∷ [])
+      ≡ replicate 9 (codes "no")
+  pub shown : (owner : Option Machine) (flag : Bool) (posture : Posture) (stamp : ℕ)
+      → reply_word (Settled (Shown owner flag posture) stamp) ≡ codes "no"
   pub again : (lost stamp : ℕ) → reply_word (Busy lost stamp) ≡ codes "again"

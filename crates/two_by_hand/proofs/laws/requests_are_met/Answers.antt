@@ -10,5 +10,7 @@ returns c = record {
   held = λ stamp machine. refl;
   shut = λ stamp posture. refl;
   no = refl;
+  no_others = refl;
+  shown = λ owner flag posture stamp. refl;
   again = λ lost stamp. refl;
 }
