@@ -5,3 +5,4 @@ mod LineRows
 mod Serving
 mod Looping
 mod StatusLemmas
+mod FieldRows

@@ -8,3 +8,4 @@ pub mod Plain
 pub mod LineExamples
 pub mod WordExamples
 pub mod Statuses
+pub mod FieldExamples

@@ -25,7 +25,7 @@ abbrev pub text_of : List (List ℕ) → List ℕ
 text_of lines = concat (map (λ line. line ++ codes "\n") lines)
 
 -- the line of the beginning
-abbrev starts_text : List ℕ
+abbrev pub starts_text : List ℕ
 starts_text =
     codes "start;80000000;claim entry,,900,0;claim entry,0,0;turn to table,0,0,300,0,0;"
     ++ codes "claim first,1000;claim entry,,,0;raise to fetch,0,900,0"

@@ -1,5 +1,6 @@
 //! Laws of films, each the contract of a function that does nothing.
 
+ghost use Rattle.film_app.specs.FieldExamples.{FieldsAreTold};
 ghost use Rattle.film_app.specs.LineExamples.{LineExamples};
 ghost use Rattle.film_app.specs.Plain.{LinesNeedNoEscape};
 ghost use Rattle.film_app.specs.Statuses.{StatusesTell};
@@ -18,10 +19,11 @@ pub fn lines_are_met()
     ensures { LineExamples }
 {}
 
-/// Examples: the words of all steps, and what the program's words ask for, in literal text.
+/// Examples: the words of all steps, what the program's words ask for, and each field of a line, in literal text.
 pub fn words_are_met()
     ensures steps { StepsAreMet }
     ensures requests { RequestsAreMet }
+    ensures fields { FieldsAreTold }
 {}
 
 /// What each exit status says, of known bytes. At 0 the page, or the picture, is that of the frames
