@@ -31,7 +31,7 @@ in_order all e = record {
 
 -- ---- what their stamps say
 
-twice_row : (all : List Noted) (s : ℕ) → stands all ≡ true → twice_after None (done_stamps all) ≡ Some s → IsTwice (done_at all) s
+pub twice_row : (all : List Noted) (s : ℕ) → stands all ≡ true → twice_after None (done_stamps all) ≡ Some s → IsTwice (done_at all) s
 twice_row all s e t =
     let o = in_order all e in
     twice_is all all (done_stamps all) s o refl (twice_tells (done_stamps all) (rising_stamps all all (done_stamps all) o refl) (Some s) t)
@@ -44,7 +44,7 @@ not_twice all e t =
 abbrev Gapped : ℕ → ℕ → List Noted → Option ℕ → Type 0
 Gapped start least all gap = gap_after start (greatest least all) (done_stamps all) ≡ gap
 
-gap_row : (start least : ℕ) (all : List Noted) (s : ℕ) → stands all ≡ true → twice_after None (done_stamps all) ≡ None → Gapped start least all (Some s)
+pub gap_row : (start least : ℕ) (all : List Noted) (s : ℕ) → stands all ≡ true → twice_after None (done_stamps all) ≡ None → Gapped start least all (Some s)
     → HasNoTwice (done_at all) × IsGap start (greatest least all) (done_at all) s
 gap_row start least all s e t g =
     let o = in_order all e in
@@ -65,10 +65,10 @@ stamps_row start least all e t g =
 
 -- ---- what fits
 
-later : (start : ℕ) (x : Noted) → start < x.entry.stamp → ¬ IsTooEarly start x
+pub later : (start : ℕ) (x : Noted) → start < x.entry.stamp → ¬ IsTooEarly start x
 later start x h k = elim k [ inl l ↦ omega (arith, h, l) | inr l ↦ omega (arith, h, l.1) ]
 
-claim_fits : AllFit opening opening (noted Feed (feed_claims 6).1 true ∷ [])
+pub claim_fits : AllFit opening opening (noted Feed (feed_claims 6).1 true ∷ [])
 claim_fits = (record { in_turn = refl; in_time = later 5 (noted Feed (feed_claims 6).1 true) (omega arith); answer = refl }, tt)
 
 differs : IsMisfit opening (all_noted (journals_of two_err)) 6
@@ -83,7 +83,7 @@ differs = record {
 }
 
 -- the first entry is too early
-too_early : (x : Noted) → IsTooEarly 5 x → IsMisfit opening (x ∷ []) (stamp_of x)
+pub too_early : (x : Noted) → IsTooEarly 5 x → IsMisfit opening (x ∷ []) (stamp_of x)
 too_early x early = record { before = []; x = x; rest = []; split = refl; fit = tt; misfit = λ fits. fits.in_time early; is = refl }
 
 misses : (end : ModelState) → ¬ (reached ≡ end) → MissesEnd opening (all_noted (journals_of (feed_claims 6 ∷ []))) (Some end)

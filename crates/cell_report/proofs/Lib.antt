@@ -22,3 +22,4 @@ mod Reports
 mod ReportRows
 mod OneFault
 mod AuditRows
+mod StampRows

@@ -8,3 +8,4 @@ pub mod Report
 pub mod ReportExamples
 pub mod AuditLaws
 pub mod AuditExamples
+pub mod StampExamples

@@ -1,15 +1,19 @@
 -- Whole reports of runs, in which no number and no word is the same as its neighbour, and the line of each audit.
-use Rattle.std.specs.Prelude.{◌≡◌, ℕ, pos, negsuc, Bool, true, false, List, [], ◌∷◌, ◌++◌, codes, Option, Some, None}
-use Rattle.cell_rules.specs.Types.{Machine, Feed, Table, Robot, Crane, Posture, Closed, Moving, OpenIn, OpenOut}
-use Rattle.cell_rules.specs.Types.{Journals}
-use Rattle.cell_rules.specs.Names.{everywhere, free_zone, zone_map, place_set, ModelState, model_state}
+use Rattle.std.specs.Prelude.{◌≡◌, ℕ, pos, negsuc, Bool, true, false, List, [], ◌∷◌, ◌++◌, codes, map, Option, Some}
+use Rattle.std.specs.Prelude.{None}
+use Rattle.cell_rules.specs.Types.{Machine, Feed, Table, Robot, Crane, Watch, Posture, Closed, Moving, OpenIn, OpenOut}
+use Rattle.cell_rules.specs.Types.{Journals, Z4, all_machines, all_places}
+use Rattle.cell_types.specs.declared.place.Place.{Place}
+use Rattle.cell_rules.specs.Names.{empty, everywhere, free_zone, insert_place, zone_map, place_set, ModelState}
+use Rattle.cell_rules.specs.Names.{model_state}
 use Rattle.cell_rules.specs.declared.zones.ZoneState.{ZoneState}
 use Rattle.cell_notes.specs.declared.counts.Counts.{Counts}
 use Rattle.cell_notes.specs.declared.status.Status.TheVariants.{Fine, Worn, Sensor, Refused, GateLimit}
 use Rattle.cell_notes.specs.declared.run_record.RunRecord.{RunRecord}
 use Rattle.cell_notes.specs.declared.status.Status.TheVariants.{Memory as NoMemory}
 use Rattle.cell_report.specs.declared.audit_faults.AuditFault.TheVariants.{Twice, Gap, Differs, End, Memory}
-use Rattle.cell_report.specs.Report.{audit_line, report_text}
+use Rattle.cell_report.specs.Report.{audit_line, axes_line, machine_line, machine_lines, places_line, report_text}
+use Rattle.cell_report.specs.Report.{spaced, stamp_line, start_line, text_of_lines, where_known, zone_line}
 
 abbrev pub counts : ℕ → ℕ → ℕ → ℕ → ℕ → Counts
 counts turns done read refused busy = record { turns = turns; done = done; read = read; refused = refused; busy = busy }
@@ -68,7 +72,45 @@ zones_and_places =
 abbrev pub axes : List ℕ
 axes = codes "axes press 0 arm1 1 arm2 20 rotation 300 lift -4 turn 500 crane 2000 gripper -2147483648\n"
 
+-- the first line of a cell in which one place is full
+abbrev pub one_at : Place → List ℕ
+one_at place = start_line (model_state (everywhere free_zone) (insert_place empty place) 0 false)
+
+-- the line of a zone that this machine owns
+abbrev pub zone_of : Machine → List ℕ
+zone_of owner = zone_line (model_state (everywhere (zone (Some owner) true Closed)) empty 0 false) Z4
+
 pub record ReportsAreMet : Type 0 where
+  pub places : map one_at all_places
+      ≡ codes "start 1000000000 0" ∷ codes "start 0100000000 0" ∷ codes "start 0010000000 0"
+      ∷ codes "start 0001000000 0" ∷ codes "start 0000100000 0" ∷ codes "start 0000010000 0"
+      ∷ codes "start 0000001000 0" ∷ codes "start 0000000100 0" ∷ codes "start 0000000010 0"
+      ∷ codes "start 0000000001 0" ∷ []
+  pub owners : map zone_of all_machines
+      ≡ codes "zone z4 feed 1 closed" ∷ codes "zone z4 table 1 closed" ∷ codes "zone z4 robot 1 closed"
+      ∷ codes "zone z4 press 1 closed" ∷ codes "zone z4 deposit 1 closed" ∷ codes "zone z4 crane 1 closed"
+      ∷ codes "zone z4 watch 1 closed" ∷ []
+  pub no_blank : spaced [] ≡ []
+  pub one_word : spaced (codes "ab" ∷ []) ≡ codes "ab"
+  pub three_words : spaced (codes "ab" ∷ codes "c" ∷ codes "de" ∷ []) ≡ codes "ab c de"
+  pub no_axis : axes_line [] ≡ codes "axes"
+  pub two_axes : axes_line (negsuc 0 ∷ pos 7 ∷ []) ≡ codes "axes press -1 arm1 7"
+  pub idle_machine : machine_line Watch (counts 0 0 0 0 0) Fine
+      ≡ codes "watch turns 0 done 0 read 0 refused 0 busy 0 ok"
+  pub no_machine : machine_lines [] [] ≡ []
+  pub stopped : stamp_line (model_state (everywhere free_zone) empty 7 true) ≡ codes "stamp 7 plates 0 stopped 1"
+  pub no_place : places_line (model_state (everywhere free_zone) empty 7 true) ≡ codes "places 0000000000"
+  pub unknown : where_known None (λ s. stamp_line s ∷ []) ≡ []
+  pub no_line : text_of_lines [] ≡ []
+  pub two_lines : text_of_lines (codes "a b" ∷ [] ∷ []) ≡ codes "a b\n\n"
+  pub with_end_and_fault : (journals : Journals) → report_text (run (Some (last false)) journals) (Some (Differs 3))
+      ≡ start_and_machines ++ zones_and_places ++ axes
+      ++ codes "stamp 1048575 plates 6 stopped 0\n" ++ codes "audit differs 3\n"
+  pub without_end_or_fault : (journals : Journals)
+      → report_text (run None journals) None ≡ start_and_machines ++ axes ++ codes "audit ok\n"
+  pub last_gap : audit_line (Some (Gap 1048575)) ≡ codes "audit gap 1048575"
+  pub first_twice : audit_line (Some (Twice 1)) ≡ codes "audit twice 1"
+  pub differs_at_nought : audit_line (Some (Differs 0)) ≡ codes "audit differs 0"
   pub with_end : (journals : Journals) → report_text (run (Some (last false)) journals) None
       ≡ start_and_machines ++ zones_and_places ++ axes
       ++ codes "stamp 1048575 plates 6 stopped 0\n" ++ codes "audit ok\n"

@@ -3,6 +3,7 @@
 ghost use Rattle.cell_report.specs.AuditExamples.{FaultExamples, OrderExamples};
 ghost use Rattle.cell_report.specs.AuditLaws.{FaultIsOne, OrderIsOne};
 ghost use Rattle.cell_report.specs.ReportExamples.{ReportsAreMet};
+ghost use Rattle.cell_report.specs.StampExamples.{StampExamples};
 
 /// The journals alone decide an audit: their entries have only one order, and they have at most one
 /// fault, `Memory` apart.
@@ -13,11 +14,12 @@ pub fn audits_are_one()
 {}
 
 /// Examples: journals of a few entries, their order, and why an audit refuses them: the least of
-/// several stamps, and the first of several causes.
-#[tactic(auto, using(crate::proofs::AuditRows::orders, crate::proofs::AuditRows::faults))]
+/// several stamps, and the first of several causes; the figures of their entries, and which of them fit.
+#[tactic(auto, using(crate::proofs::AuditRows::orders, crate::proofs::AuditRows::faults, crate::proofs::StampRows::stamps_are_met))]
 pub fn audits_are_met()
     ensures order { OrderExamples }
     ensures fault { FaultExamples }
+    ensures stamps { StampExamples }
 {}
 
 /// Examples: runs with their whole reports, two with an end, of which one is stopped, and one
