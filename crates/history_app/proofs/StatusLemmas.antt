@@ -2,6 +2,7 @@
 use Rattle.std.proofs.Common.{◌≡◌, ◌≤◌, inl, inr, ℕ, zero, suc, List, [], ◌∷◌, ◌++◌, length, take, Option, Some, refl, ap, arith, ⊎_elim}
 use Rattle.std.proofs.lemmas.List.{length-append}
 use Rattle.clap.proofs.OnLiterals.{clap_on_literals}
+use Rattle.cell_words.specs.declared.words.RunFlags.{RunFlags}
 use Rattle.text_io.specs.Input.{TakesAtMost}
 use Rattle.cell_rules.specs.Types.{Event}
 use Rattle.cell_rules.specs.ModelState.{ModelState}
@@ -17,6 +18,8 @@ recordings : (turns tries : ℕ) (bytes : List ℕ) → RecordingsTell turns tri
 recordings turns tries bytes = record {
   run = λ r k. (k.run, k.start);
   well = λ text rest k. let w = k.well refl in (w.0, w.1.0, w.1.1.0, (w.1.1.1.history, w.1.1.1.is, w.1.1.1.fits, w.1.1.1.written));
+  appended = λ rest old new k. let w = k.well refl in (w.0, w.1.0, w.1.1.0, (w.1.1.1.history, w.1.1.1.is, w.1.1.1.fits, w.1.1.1.written));
+  takes = λ exit rest old new k. (k.status, k.taken);
   replayed = λ script rest k.
       let a = recordings_answered turns tries bytes script (k.well refl) in
       (a.0, a.1.0, a.1.1.clean, a.1.1.history, a.1.1.journals, a.1.1.text);
@@ -37,6 +40,9 @@ tellings r old new = record {
   fails = λ k stopped part long memory.
       ⊎_elim (λ c. stopped c.0 c.1)
       (λ d. ⊎_elim (λ c. part c.0 c.1.0 c.1.1) (λ e. ⊎_elim (λ c. long c.0 c.1.0 c.1.1.0 c.1.1.1) (λ c. memory c) e) d) k;
+  stopped = λ stopped k. inl (stopped, k);
+  long = λ history is long part. inr (inr (inl (history, (is, (long, part)))));
+  no_memory = λ part. inr (inr (inr part));
   well = λ k. k;
   failed = λ k. k;
   refused = λ k. k;
@@ -60,6 +66,12 @@ writings = record {
   of_stopped = inl (refl, refl);
   part = inr (1, refl);
   other = λ k. ⊎_elim (λ c. let e = c.1 in cc) (λ w. not_second w.0 w.1) k;
+  nothing_written = inr (0, refl);
+  after_other = (refl, refl);
+  other_lost = λ k. let e = k.1 in cc;
+  stopped_after_other = inl (refl, refl);
+  part_after_other = inr (1, refl);
+  refused_of_stopped = λ k. k;
   refused = λ k. k;
 }
 
@@ -69,7 +81,10 @@ words = record {
   nothing = (refl, refl);
   both = (refl, refl);
   turns = (refl, refl);
-  other_turns = λ k. let e = k.1 in cc;
+  most = (refl, refl);
+  turn_more = λ k. let e = k.0 in cc;
+  no_try = λ k. let e = k.0 in cc;
+  other_turns = λ k. let e = ap (λ (f : RunFlags). f.turns) k.1 in omega (arith, e);
   other_word = λ k. let e = k.0 in cc;
 }
 

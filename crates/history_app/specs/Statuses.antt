@@ -4,6 +4,7 @@ use Rattle.std.specs.Prelude.{Some, Ok, Err}
 use Rattle.std.specs.Io.KnownBytes.{Appends}
 use Rattle.std.specs.List.{concat}
 use Rattle.clap.specs.Words.{Text}
+use Rattle.text_io.specs.Input.{TakesAtMost}
 use Rattle.text_io.specs.Output.{WrotePrefix}
 use Rattle.cell_rules.specs.Types.{Event, Machine, journal_of}
 use Rattle.cell_rules.specs.Journal.{noted}
@@ -32,6 +33,12 @@ pub record RecordingsTell (turns tries : ℕ) (bytes : List ℕ) : Type 0 where
   pub well : (text : List ℕ) (rest : Option (List ℕ)) → Records turns tries 0 (Some bytes) rest (Some []) (Some text)
       → (r : RunRecord) × TellsPacedRun turns tries bytes r × AreFine r.status
       × ((history : List Event) × IsOf r history × (length history ≤ 65536) × (text ≡ script_of r.start history))
+  pub appended : (rest old new : Option (List ℕ)) → Records turns tries 0 (Some bytes) rest old new
+      → (r : RunRecord) × TellsPacedRun turns tries bytes r × AreFine r.status
+      × ((history : List Event) × IsOf r history × (length history ≤ 65536)
+      × Appends old new (script_of r.start history))
+  pub takes : (exit : ℕ) (rest old new : Option (List ℕ)) → Records turns tries exit (Some bytes) rest old new
+      → (exit < 2) × TakesAtMost (Some bytes) rest 2097153
   pub replayed : (script : List ℕ) (rest : Option (List ℕ))
       → Records turns tries 0 (Some bytes) rest (Some []) (Some script)
       → (r : RunRecord) × TellsPacedRun turns tries bytes r × (script_outcome script ≡ Clean)
@@ -67,11 +74,18 @@ pub record TellingsTell (r : RunRecord) (old new : Option (List ℕ)) : Type 0 w
       → ((history : List Event) → IsOf r history → 65536 < length history
       → ¬ WrotePrefix old new (codes "fault long\n"))
       → (¬ WrotePrefix old new (codes "fault memory\n")) → ⊥
+  pub stopped : ¬ AreFine r.status → WroteScript r old new → TellingFails r old new
+  pub long : (history : List Event) → IsOf r history → 65536 < length history
+      → WrotePrefix old new (codes "fault long\n") → TellingFails r old new
+  pub no_memory : WrotePrefix old new (codes "fault memory\n") → TellingFails r old new
   pub well : IsTold r Well old new → AreFine r.status × WroteScript r old new
   pub failed : IsTold r Failed old new → TellingFails r old new
   pub refused : ¬ IsTold r Refused old new
 
--- of the script 1 and 2 this was written
+-- of the script 1 and 2 this was written, after other bytes or after none
+abbrev pub WritesAfter : List ℕ → Bool → Exit → List ℕ → Type 0
+WritesAfter old fine exit written = IsWritten (1 ∷ 2 ∷ []) fine exit (Some old) (Some written)
+
 abbrev pub Writes : Bool → Exit → List ℕ → Type 0
 Writes fine exit written = IsWritten (1 ∷ 2 ∷ []) fine exit (Some []) (Some written)
 
@@ -82,6 +96,12 @@ pub record WritingsAreMet : Type 0 where
   pub of_stopped : Writes false Failed (1 ∷ 2 ∷ [])
   pub part : Writes true Failed (1 ∷ [])
   pub other : ¬ Writes false Failed (2 ∷ [])
+  pub nothing_written : Writes true Failed []
+  pub after_other : WritesAfter (7 ∷ []) true Well (7 ∷ 1 ∷ 2 ∷ [])
+  pub other_lost : ¬ WritesAfter (7 ∷ []) true Well (1 ∷ 2 ∷ [])
+  pub stopped_after_other : WritesAfter (7 ∷ []) false Failed (7 ∷ 1 ∷ 2 ∷ [])
+  pub part_after_other : WritesAfter (7 ∷ []) false Failed (7 ∷ 1 ∷ [])
+  pub refused_of_stopped : ¬ Writes false Refused (1 ∷ 2 ∷ [])
   pub refused : ¬ Writes true Refused []
 
 -- these words after the program's name ask for a recording with these turns and tries
@@ -92,6 +112,9 @@ pub record WordsAreMet : Type 0 where
   pub nothing : AskAfterName 1000 8 []
   pub both : AskAfterName 3 64 (codes "--tries=64" ∷ codes "--turns=3" ∷ [])
   pub turns : AskAfterName 5 8 (codes "--turns" ∷ codes "5" ∷ [])
+  pub most : AskAfterName 100000 64 (codes "--turns=100000" ∷ codes "--tries" ∷ codes "64" ∷ [])
+  pub turn_more : ¬ AskAfterName 100001 8 (codes "--turns=100001" ∷ [])
+  pub no_try : ¬ AskAfterName 1000 0 (codes "--tries=0" ∷ [])
   pub other_turns : ¬ AskAfterName 1000 8 (codes "--turns" ∷ codes "5" ∷ [])
   pub other_word : ¬ AskAfterName 1000 8 (codes "run" ∷ [])
 

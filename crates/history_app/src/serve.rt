@@ -1,20 +1,20 @@
 //! What the program `history` does.
 
-ghost use Rattle.std.specs.Prelude.{◌≡◌, ◌≤◌, ◌<◌, ◌⊎◌, ℕ, codes, IfOk};
+ghost use Rattle.std.specs.Prelude.{◌≡◌, ◌≤◌, ◌<◌, ◌⊎◌, ℕ, codes};
 ghost use Rattle.std.specs.Io.KnownBytes.{Appends};
 ghost use Rattle.text_io.specs.Input.{TakesAtMost};
 ghost use Rattle.text_io.specs.Output.{WrotePrefix};
 ghost use Rattle.program_shell.specs.Printed.{Prints};
 ghost use Rattle.program_shell.specs.Versions.{AskForVersion, version_line};
 ghost use Rattle.cell_config.specs.Settings.{max_bytes_read};
-ghost use Rattle.cell_words.specs.Words.{AreTaken, AskForHelp, texts_of};
-ghost use Rattle.history_app.specs.Served.{AskForHistory, Records, run_words as run_words_of};
+ghost use Rattle.cell_words.specs.Words.{AreTakenAsFlags, AskForHelpOnFlags, texts_of};
+ghost use Rattle.history_app.specs.Served.{AskForHistory, Records};
 
 use crate::record::record;
 use cell_replay::MAX_RECORDS;
-use cell_words::{Mode, read_words, refuse_in_own_words};
-use program_shell::{Exit, asks_for_version, fail, print_version, with_texts};
-use std::alloc::{AllocError, Global};
+use cell_words::{read_flags, refuse_in_own_words};
+use program_shell::{Exit, asks_for_version, print_version, with_texts};
+use std::alloc::Global;
 use std::env::Env;
 use std::io::{Read, Write};
 use std::sync::Wait;
@@ -47,7 +47,7 @@ const OTHER_WORDS: &str =
     "error: the only arguments are --turns N, --tries N, --help and --version\n";
 
 /// Does what the words ask for, and returns the exit status. The first word is the program's name;
-/// the others are those that may follow the word `run` of `cell`. It waits until all threads have
+/// the others are flags, those of the word `run` of `cell`. It waits until all threads have
 /// ended. The status is
 /// - 0 if all went well, for help, and for the version;
 /// - 1 for a refused input, a stopped machine, a history that is too long for a script, a failed
@@ -79,12 +79,12 @@ where
 
     // Status 0 comes only for words that `clap` takes and for words that ask for help or for the
     // version. Status 2 never comes for words that it takes.
-    ensures taken { result ≡ 0 → AreTaken (run_words_of (texts_of words.now))
-        ⊎ (AskForHelp (run_words_of (texts_of words.now)) ⊎ AskForVersion (texts_of words.now)) }
-    ensures refused { AreTaken (run_words_of (texts_of words.now)) → result < 2 }
+    ensures taken { result ≡ 0 → AreTakenAsFlags (texts_of words.now)
+        ⊎ (AskForHelpOnFlags (texts_of words.now) ⊎ AskForVersion (texts_of words.now)) }
+    ensures refused { AreTakenAsFlags (texts_of words.now) → result < 2 }
 
     // For other words that `clap` doesn't take, status 0 says that the help was written.
-    ensures help { ¬ AreTaken (run_words_of (texts_of words.now)) →
+    ensures help { ¬ AreTakenAsFlags (texts_of words.now) →
         ¬ AskForVersion (texts_of words.now) → result ≡ 0 →
         Appends (W.contents writer.old) (W.contents writer.new) HELP.now }
 
@@ -98,30 +98,10 @@ where
     if asks_for_version(words) {
         return print_version(writer, "history").status();
     }
-    let Ok(words) = run_words(alloc, words) else {
-        return fail(writer, "memory").status();
-    };
-    match read_words(alloc, words.as_slice()) {
-        Ok(Mode::Run { turns, tries }) => record(rt, alloc, turns, tries, reader, writer).status(),
-        // (never: the word `run` stands before the flags)
-        Ok(Mode::Replay) => Exit::Failed.status(),
-        Ok(Mode::Sim) => Exit::Failed.status(),
+    match read_flags(alloc, words) {
+        Ok(flags) => { record(rt, alloc, flags.turns, flags.tries, reader, writer).status() }
         Err(error) => refuse_in_own_words(writer, error, HELP, OTHER_WORDS).status(),
     }
-}
-
-/// The words of `cell` that ask for a run with these flags.
-fn run_words<'a>(alloc: Global, words: &[&'a str]) -> Result<Vec<&'a str>, AllocError>
-    ensures { IfOk result (λ all. texts_of all.items ≡ run_words_of (texts_of words.now)) }
-{
-    let mut all = Vec::new(alloc);
-    all.push("cell")?;
-    all.push("run")?;
-    let [_, flags @ ..] = words else {
-        return Ok(all);
-    };
-    all.extend_from_slice(flags)?;
-    Ok(all)
 }
 
 /// Runs the program with the words that it was started with, its input and its output, and returns
