@@ -6,9 +6,11 @@ use Rattle.std.proofs.lemmas.List.{flat_map_more, length-take-le, map_more, map_
 use Rattle.std.proofs.lemmas.List.Folds.{list_all-append}
 use Rattle.std.specs.List.{AllZip, enumerate_from, flat_map, list_all}
 use Rattle.plan_text.specs.Names.{Text, is_name}
-use Rattle.plan_document.specs.Names.{AreNames, all_poses, identifier, identifiers, identifiers_in, machine_names, names_in, numbered, numbered_poses, place_names, places_in, pose_names, zone_names}
+use Rattle.plan_document.specs.Names.{AreNames, all_poses, hazard_names, identifier, identifiers, identifiers_in, machine_names, motor_names, names_in, numbered, numbered_poses, place_names, places_in, pose_names, zone_names}
 use Rattle.plan_document.specs.Saying.{keepers}
+use Rattle.plan_document.specs.declared.document.HazardRow.{HazardRow}
 use Rattle.plan_document.specs.declared.document.MachineRow.{MachineRow}
+use Rattle.plan_document.specs.declared.document.MotorRow.{MotorRow}
 use Rattle.plan_document.specs.declared.document.PoseRow.{PoseRow}
 use Rattle.plan_document.specs.declared.document.ZoneRow.{ZoneRow}
 
@@ -44,6 +46,12 @@ machine_names_more rows i row h is = map_row_more (λ (r : MachineRow). string_b
 
 pub zone_names_more : (rows : List ZoneRow) (i : ℕ) (row : ZoneRow) → i < length rows → row ≡ get_or rows i row → zone_names (take (i + 1) rows) ≡ zone_names (take i rows) ++ string_bytes row.name ∷ []
 zone_names_more rows i row h is = map_row_more (λ (r : ZoneRow). string_bytes r.name) rows i row h is
+
+pub motor_names_more : (rows : List MotorRow) (i : ℕ) (row : MotorRow) → i < length rows → row ≡ get_or rows i row → motor_names (take (i + 1) rows) ≡ motor_names (take i rows) ++ string_bytes row.name ∷ []
+motor_names_more rows i row h is = map_row_more (λ (r : MotorRow). string_bytes r.name) rows i row h is
+
+pub hazard_names_more : (rows : List HazardRow) (i : ℕ) (row : HazardRow) → i < length rows → row ≡ get_or rows i row → hazard_names (take (i + 1) rows) ≡ hazard_names (take i rows) ++ string_bytes row.name ∷ []
+hazard_names_more rows i row h is = map_row_more (λ (r : HazardRow). string_bytes r.name) rows i row h is
 
 pub names_in_more : (rows : List PoseRow) (i : ℕ) (row : PoseRow) → i < length rows → row ≡ get_or rows i row → names_in (take (i + 1) rows) ≡ names_in (take i rows) ++ string_bytes row.name ∷ []
 names_in_more rows i row h is = map_row_more (λ (r : PoseRow). string_bytes r.name) rows i row h is

@@ -1,5 +1,6 @@
 mod Growing
 mod Given
+mod Listed
 mod Written
 mod Distinct
 mod Doable
@@ -7,3 +8,4 @@ mod Theirs
 mod NameWords
 mod PlanRows
 mod ReadingRows
+mod MotorRows

@@ -24,11 +24,12 @@ use Rattle.plan_document.specs.declared.resolving.ProgrammedPlan.{ProgrammedPlan
 use Rattle.plan_document.specs.Laws.{AcceptedLinesAreTheirs, RefusedLinesAreNeverDone}
 use Rattle.plan_document.specs.NameLaws.{NamesAreWords, is_one_word}
 use Rattle.plan_document.specs.Names.{AreDistinct, all_poses, machine_names, names_in, numbered, place_names, pose_names, zone_names}
-use Rattle.plan_document.specs.Saying.{IsCallOf, IsNamedPlanOf, IsPlanOf, IsPoseOf, IsProgramOf, IsZoneOf, gives_zone, is_free, keepers, may_be_done, own_call}
+use Rattle.plan_document.specs.Postures.{gives_zone}
+use Rattle.plan_document.specs.Saying.{IsCallOf, IsNamedPlanOf, IsPlanOf, IsPoseOf, IsProgramOf, IsZoneOf, is_free, keepers, may_be_done, own_call}
 use Rattle.plan_document.specs.PlanExamples.{AreApart, AreOneWord, CallsAreOfLines, DocumentsAreMet, HasTwo, LawsOfLift, LinesAreRead, NamesAreTold, NeverDone, NeverTheirs, PlansHaveNames, PlansHavePrograms, PlansHaveRows, PlansSayRows, PosesAreRead, PosturesAreGiven, WaysAreRead, ZonesAreRead, letters}
 use Rattle.plan_document.specs.WordExamples.{parked}
 
-impossible : false ≡ true → ⊥
+pub impossible : false ≡ true → ⊥
 impossible e = cc
 
 both : (a b : Bool) → (a && b) ≡ true → (a ≡ true) × (b ≡ true)
@@ -37,7 +38,7 @@ both false b e = absurd (cc)
 
 -- ---- names
 
-are_apart : (names : List Text) → AreDistinct names → AreApart names
+pub are_apart : (names : List Text) → AreDistinct names → AreApart names
 are_apart names all i j li lj same =
     let e : Some i ≡ Some j = sym (all i li) ∙ ap (number_in names) same ∙ all j lj in
     cc
@@ -51,7 +52,7 @@ name_rows = record {
 }
 
 -- names that pass a test aren't those of which one fails it
-unless : (test : Text → Bool) (names wrong : List Text) → list_all test names ≡ true → list_all test wrong ≡ false → names ≢ wrong
+pub unless : (test : Text → Bool) (names wrong : List Text) → list_all test names ≡ true → list_all test wrong ≡ false → names ≢ wrong
 unless test names wrong pass fails same = impossible (sym fails ∙ sym (ap (list_all test) same) ∙ pass)
 
 word_rows : (n : Named) → NamesAreWords n → AreOneWord n
@@ -65,7 +66,7 @@ word_rows n is = record {
 -- ---- zones
 
 -- a name that is said to have a number has it
-has : (names : List Text) (name said : Text) (number : ℕ) → number_in names name ≡ Some number → name ≡ said → number_in names said ≡ Some number
+pub has : (names : List Text) (name said : Text) (number : ℕ) → number_in names name ≡ Some number → name ≡ said → number_in names said ≡ Some number
 has names name said number is e = sym (ap (number_in names) e) ∙ is
 
 third : (name : Text) (number : ℕ) → number_in letters name ≡ Some number → name ≡ codes "c" → number ≡ 2
@@ -74,13 +75,13 @@ third name number is e = let h : Some 2 ≡ Some number = has letters name (code
 second : (name : Text) (number : ℕ) → number_in letters name ≡ Some number → name ≡ codes "b" → number ≡ 1
 second name number is e = let h : Some 1 ≡ Some number = has letters name (codes "b") number is e in cc
 
-fourth : (name : Text) (number : ℕ) → number_in letters name ≡ Some number → name ≡ codes "d" → number ≡ 3
+pub fourth : (name : Text) (number : ℕ) → number_in letters name ≡ Some number → name ≡ codes "d" → number ≡ 3
 fourth name number is e = let h : Some 3 ≡ Some number = has letters name (codes "d") number is e in cc
 
-sixth : (name : Text) (number : ℕ) → number_in letters name ≡ Some number → name ≡ codes "f" → number ≡ 5
+pub sixth : (name : Text) (number : ℕ) → number_in letters name ≡ Some number → name ≡ codes "f" → number ≡ 5
 sixth name number is e = let h : Some 5 ≡ Some number = has letters name (codes "f") number is e in cc
 
-nobody : (name : Text) (number : ℕ) → number_in letters name ≡ Some number → name ≢ codes "x"
+pub nobody : (name : Text) (number : ℕ) → number_in letters name ≡ Some number → name ≢ codes "x"
 nobody name number is e = let h : None ≡ Some number = has letters name (codes "x") number is e in cc
 
 way_rows : WaysAreRead
@@ -104,8 +105,8 @@ zone_rows row zone = record {
 
 -- ---- poses
 
-known_second : (a b : PostureRow) → list_all (gives_zone letters) (a ∷ b ∷ []) ≡ true → gives_zone letters b ≡ true
-known_second a b all = (both (gives_zone letters b) true (both (gives_zone letters a) _ all).1).0
+known_second : (a b : PostureRow) → list_all (gives_zone posture_of letters) (a ∷ b ∷ []) ≡ true → gives_zone posture_of letters b ≡ true
+known_second a b all = (both (gives_zone posture_of letters b) true (both (gives_zone posture_of letters a) _ all).1).0
 
 posture_rows : (a b : PostureRow) → PosturesAreGiven a b
 posture_rows a b = record {
@@ -118,10 +119,10 @@ posture_rows a b = record {
   no_posture = λ gives is e. no_posture e (known_second a b is.known);
 }
   where
-    no_zone : string_bytes b.zone ≡ codes "x" → gives_zone letters b ≡ true → ⊥
+    no_zone : string_bytes b.zone ≡ codes "x" → gives_zone posture_of letters b ≡ true → ⊥
     no_zone e known = let h : false ≡ true = rw e at known in impossible h
 
-    no_posture : string_bytes b.posture ≡ codes "open" → gives_zone letters b ≡ true → ⊥
+    no_posture : string_bytes b.posture ≡ codes "open" → gives_zone posture_of letters b ≡ true → ⊥
     no_posture e known =
         let p = both (is_some (number_in letters (string_bytes b.zone))) (is_some (posture_of (string_bytes b.posture))) known in
         let h : false ≡ true = sym (ap (λ t. is_some (posture_of t)) e) ∙ p.1 in
@@ -230,12 +231,12 @@ names_of_plans d n is = record {
   no_pose = unless is_name n.poses _ is.spelled_poses refl;
 }
 
-two : {A B : Type 0} (R : A → B → Type 0) (xs : List A) (ys : List B) (a b : A) (x y : B) → AllZip R xs ys → xs ≡ a ∷ b ∷ [] → ys ≡ x ∷ y ∷ [] → R a x × R b y
+pub two : {A B : Type 0} (R : A → B → Type 0) (xs : List A) (ys : List B) (a b : A) (x y : B) → AllZip R xs ys → xs ≡ a ∷ b ∷ [] → ys ≡ x ∷ y ∷ [] → R a x × R b y
 two R xs ys a b x y all left right =
     let h : AllZip R (a ∷ b ∷ []) (x ∷ y ∷ []) = subst (λ zs. AllZip R (a ∷ b ∷ []) zs) right (subst (λ zs. AllZip R zs ys) left all) in
     (h.0, h.1.0)
 
-lost : {A B : Type 0} (R : A → B → Type 0) (xs : List A) (ys : List B) (a b : A) (x : B) → AllZip R xs ys → xs ≡ a ∷ b ∷ [] → ys ≢ x ∷ []
+pub lost : {A B : Type 0} (R : A → B → Type 0) (xs : List A) (ys : List B) (a b : A) (x : B) → AllZip R xs ys → xs ≡ a ∷ b ∷ [] → ys ≢ x ∷ []
 lost R xs ys a b x all left right =
     let h : AllZip R (a ∷ b ∷ []) (x ∷ []) = subst (λ zs. AllZip R (a ∷ b ∷ []) zs) right (subst (λ zs. AllZip R zs ys) left all) in
     h.1

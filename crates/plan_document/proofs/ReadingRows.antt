@@ -63,10 +63,10 @@ values_read = record {
 
 -- ---- rows
 
-same_members : (a b : Members) → table a ≡ table b → a ≡ b
+pub same_members : (a b : Members) → table a ≡ table b → a ≡ b
 same_members a b e = cc
 
-no_text : (text : Text) (a : Members) → string text ≡ table a → ⊥
+pub no_text : (text : Text) (a : Members) → string text ≡ table a → ⊥
 no_text text a e = cc
 
 poses_in : (members : Members) (row : PoseRow) → PosesAreIn members row

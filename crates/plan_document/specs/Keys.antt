@@ -6,7 +6,8 @@ use Rattle.toml.specs.Data.{Members, member, no_members}
 use Rattle.plan_text.specs.Names.{Text}
 use Rattle.plan_document.specs.declared.fault.Key.{Key}
 use Rattle.plan_document.specs.declared.fault.Key.TheVariants.{Machine, Zone, Name, Places, Poses, Program, Gives}
-use Rattle.plan_document.specs.declared.fault.Key.TheVariants.{AfterMoving, Host, Guest, Inward, Outward}
+use Rattle.plan_document.specs.declared.fault.Key.TheVariants.{AfterMoving, Host, Guest, Inward, Outward, Motor, Hazard}
+use Rattle.plan_document.specs.declared.fault.Key.TheVariants.{Holds, Stands, Full, Empty, Motors}
 use Rattle.plan_document.specs.declared.fault.RowOf.{RowOf}
 use Rattle.plan_document.specs.declared.fault.RowOf.TheVariants as row
 
@@ -23,9 +24,16 @@ key_word Host = codes "host"
 key_word Guest = codes "guest"
 key_word Inward = codes "inward"
 key_word Outward = codes "outward"
+key_word Motor = codes "motor"
+key_word Hazard = codes "hazard"
+key_word Holds = codes "holds"
+key_word Stands = codes "stands"
+key_word Full = codes "full"
+key_word Empty = codes "empty"
+key_word Motors = codes "motors"
 
 abbrev pub top_keys : List Key
-top_keys = Machine ∷ Zone ∷ []
+top_keys = Machine ∷ Zone ∷ Motor ∷ Hazard ∷ []
 
 abbrev pub machine_keys : List Key
 machine_keys = Name ∷ Places ∷ Poses ∷ Program ∷ []
@@ -36,12 +44,20 @@ pose_keys = Name ∷ Gives ∷ AfterMoving ∷ []
 abbrev pub zone_keys : List Key
 zone_keys = Name ∷ Host ∷ Guest ∷ Inward ∷ Outward ∷ []
 
+abbrev pub motor_keys : List Key
+motor_keys = Name ∷ Machine ∷ Holds ∷ Stands ∷ Full ∷ Empty ∷ []
+
+abbrev pub hazard_keys : List Key
+hazard_keys = Name ∷ Motors ∷ []
+
 -- the keys that a row may have
 abbrev pub keys_in : RowOf → List Key
 keys_in row.Document = top_keys
 keys_in (row.Machine _) = machine_keys
 keys_in (row.Pose _ _) = pose_keys
 keys_in (row.Zone _) = zone_keys
+keys_in (row.Motor _) = motor_keys
+keys_in (row.Hazard _) = hazard_keys
 
 -- a text is the word of one of these keys
 abbrev pub is_word_of : List Key → Text → Bool

@@ -1,10 +1,13 @@
 pub mod Limits
 pub mod Names
 pub mod Keys
+pub mod Postures
+pub mod Motors
 pub mod Saying
 pub mod Reading
 pub mod Laws
 pub mod NameLaws
 pub mod WordExamples
 pub mod PlanExamples
+pub mod MotorExamples
 pub mod ReadingExamples

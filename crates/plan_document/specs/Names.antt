@@ -1,8 +1,11 @@
 -- The names in a document, by kinds, in the order of its rows.
-use Rattle.std.specs.Prelude.{◌≡◌, ℕ, ◌<◌, List, ◌++◌, codes, length, map, string_bytes, Some, IsTrue}
+use Rattle.std.specs.Prelude.{◌≡◌, ℕ, ◌<◌, Bool, ◌&&◌, not, nat_eq, nat_le, nat_lt, List, ◌++◌, codes, length, map}
+use Rattle.std.specs.Prelude.{string_bytes, Some, IsTrue}
 use Rattle.std.specs.List.{enumerate_from, flat_map, list_all}
 use Rattle.plan_text.specs.Names.{Text, is_name, name_in, number_in}
+use Rattle.plan_document.specs.declared.document.HazardRow.{HazardRow}
 use Rattle.plan_document.specs.declared.document.MachineRow.{MachineRow}
+use Rattle.plan_document.specs.declared.document.MotorRow.{MotorRow}
 use Rattle.plan_document.specs.declared.document.PoseRow.{PoseRow}
 use Rattle.plan_document.specs.declared.document.ZoneRow.{ZoneRow}
 
@@ -11,6 +14,12 @@ machine_names machines = map (λ row. string_bytes row.name) machines
 
 abbrev pub zone_names : List ZoneRow → List Text
 zone_names zones = map (λ row. string_bytes row.name) zones
+
+abbrev pub motor_names : List MotorRow → List Text
+motor_names motors = map (λ row. string_bytes row.name) motors
+
+abbrev pub hazard_names : List HazardRow → List Text
+hazard_names hazards = map (λ row. string_bytes row.name) hazards
 
 -- the places that a machine keeps, and those of all machines
 abbrev pub places_in : MachineRow → List Text
@@ -41,6 +50,13 @@ all_poses machines = flat_map (λ (machine, row). numbered_poses machine row.pos
 
 abbrev pub AreNames : List Text → Type 0
 AreNames texts = IsTrue (list_all is_name texts)
+
+-- a hazard's name: of ASCII what can be printed, but for a colon, which ends it in a report; at most 60 characters
+abbrev pub is_title_byte : ℕ → Bool
+is_title_byte byte = nat_le 32 byte && nat_le byte 126 && not (nat_eq byte 58)
+
+abbrev pub is_title : Text → Bool
+is_title text = nat_lt 0 (length text) && nat_le (length text) 60 && list_all is_title_byte text
 
 -- ---- names that are told apart
 

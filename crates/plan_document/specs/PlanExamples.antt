@@ -14,6 +14,7 @@ use Rattle.plan_types.specs.declared.table.Way.{Way}
 use Rattle.plan_rules.specs.declared.state.State.{State}
 use Rattle.plan_rules.specs.Reply.{reply}
 use Rattle.plan_rules.specs.Sound.{IsSound}
+use Rattle.plan_text.specs.Answers.{posture_of}
 use Rattle.plan_text.specs.Named.{Named}
 use Rattle.plan_text.specs.Names.{Text, name_in}
 use Rattle.plan_document.specs.declared.document.Document.{Document}
@@ -26,8 +27,8 @@ use Rattle.plan_document.specs.declared.resolving.ProgrammedPlan.{ProgrammedPlan
 use Rattle.plan_document.specs.Laws.{AcceptedLinesAreTheirs, RefusedLinesAreNeverDone}
 use Rattle.plan_document.specs.NameLaws.{NamedPlansHaveWords, NamesAreWords}
 use Rattle.plan_document.specs.Names.{AreDistinct, AreNames, identifiers, names_in}
-use Rattle.plan_document.specs.Saying.{AreCallsOf, AreGiven, IsCallOf, IsNamedPlanOf, IsPlanOf, IsPoseOf, IsWayOf}
-use Rattle.plan_document.specs.Saying.{IsZoneOf, given}
+use Rattle.plan_document.specs.Postures.{AreGiven, given}
+use Rattle.plan_document.specs.Saying.{AreCallsOf, IsCallOf, IsNamedPlanOf, IsPlanOf, IsPoseOf, IsWayOf, IsZoneOf}
 use Rattle.plan_document.specs.WordExamples.{parked}
 
 -- ---- names
@@ -88,24 +89,24 @@ pub record Gives (row : PostureRow) (zone_name posture_word : Text) : Type 0 whe
 pub record PosturesAreGiven (a b : PostureRow) : Type 0 where
   -- the last row about a zone, and no other
   pub last : Gives a (codes "c") (codes "closed") → Gives b (codes "c") (codes "openin")
-      → given letters (a ∷ b ∷ []) 2 ≡ Some OpenIn
+      → given posture_of letters (a ∷ b ∷ []) 2 ≡ Some OpenIn
   pub both : Gives a (codes "c") (codes "closed") → Gives b (codes "d") (codes "openin")
-      → given letters (a ∷ b ∷ []) 2 ≡ Some Closed
+      → given posture_of letters (a ∷ b ∷ []) 2 ≡ Some Closed
   pub none : Gives a (codes "c") (codes "closed") → Gives b (codes "d") (codes "openin")
-      → given letters (a ∷ b ∷ []) 0 ≡ None
+      → given posture_of letters (a ∷ b ∷ []) 0 ≡ None
   -- up to the tenth zone
-  pub tenth : (gives : _) → AreGiven letters (a ∷ []) gives → Gives a (codes "j") (codes "moving")
+  pub tenth : (gives : _) → AreGiven posture_of letters (a ∷ []) gives → Gives a (codes "j") (codes "moving")
       → get_or gives 9 None ≡ Some Moving
-  pub ninth : (gives : _) → AreGiven letters (a ∷ []) gives → Gives a (codes "j") (codes "moving")
+  pub ninth : (gives : _) → AreGiven posture_of letters (a ∷ []) gives → Gives a (codes "j") (codes "moving")
       → get_or gives 8 None ≡ None
-  pub no_zone : (gives : _) → AreGiven letters (a ∷ b ∷ []) gives → string_bytes b.zone ≢ codes "x"
-  pub no_posture : (gives : _) → AreGiven letters (a ∷ b ∷ []) gives → string_bytes b.posture ≢ codes "open"
+  pub no_zone : (gives : _) → AreGiven posture_of letters (a ∷ b ∷ []) gives → string_bytes b.zone ≢ codes "x"
+  pub no_posture : (gives : _) → AreGiven posture_of letters (a ∷ b ∷ []) gives → string_bytes b.posture ≢ codes "open"
 
 -- a pose of machine 7
 pub record PosesAreRead (row : PoseRow) (pose : PlanPose) : Type 0 where
   pub machine : IsPoseOf letters (7, row) pose → pose.machine ≡ 7
   pub after_moving : IsPoseOf letters (7, row) pose → pose.after_moving ≡ row.after_moving
-  pub gives : IsPoseOf letters (7, row) pose → AreGiven letters row.gives.items pose.gives
+  pub gives : IsPoseOf letters (7, row) pose → AreGiven posture_of letters row.gives.items pose.gives
 
 -- ---- programs
 

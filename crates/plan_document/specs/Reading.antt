@@ -8,13 +8,15 @@ use Rattle.toml.specs.Data.{as_array, get_member}
 use Rattle.toml.specs.Parse.{parse_document}
 use Rattle.plan_text.specs.Names.{Text}
 use Rattle.plan_document.specs.declared.document.Document.{Document}
+use Rattle.plan_document.specs.declared.document.HazardRow.{HazardRow}
 use Rattle.plan_document.specs.declared.document.MachineRow.{MachineRow}
+use Rattle.plan_document.specs.declared.document.MotorRow.{MotorRow}
 use Rattle.plan_document.specs.declared.document.PoseRow.{PoseRow}
 use Rattle.plan_document.specs.declared.document.PostureRow.{PostureRow}
 use Rattle.plan_document.specs.declared.document.WayRow.{WayRow}
 use Rattle.plan_document.specs.declared.document.ZoneRow.{ZoneRow}
 use Rattle.plan_document.specs.declared.resolving.ProgrammedPlan.{ProgrammedPlan}
-use Rattle.plan_document.specs.Keys.{has_only, machine_keys, pose_keys, top_keys, zone_keys}
+use Rattle.plan_document.specs.Keys.{hazard_keys, has_only, machine_keys, motor_keys, pose_keys, top_keys, zone_keys}
 use Rattle.plan_document.specs.Saying.{IsPlanOf}
 
 -- a text, as TOML has it
@@ -50,17 +52,26 @@ abbrev pub IsTruth : Option Data → Bool → Type 0
 IsTruth None truth = truth ≡ false
 IsTruth (Some value) truth = value ≡ boolean truth
 
--- a list of two places
+-- a list of two texts
+abbrev pub pair : String Global → String Global → Data
+pair first second = array (item (written first) (item (written second) no_items))
+
+-- two places
 abbrev pub IsWay : Option Data → Option WayRow → Type 0
 IsWay None None = ⊤
 IsWay None (Some row) = ⊥
 IsWay (Some value) None = ⊥
-IsWay (Some value) (Some row) = value ≡ array (item (written row.from) (item (written row.to) no_items))
+IsWay (Some value) (Some row) = value ≡ pair row.from row.to
 
 -- a table from zones to postures
 abbrev pub gives_written : List PostureRow → Members
 gives_written [] = no_members
 gives_written (row ∷ rows) = member (string_bytes row.zone) (written row.posture) (gives_written rows)
+
+-- no rows where the key is absent
+abbrev pub ArePostures : Option Data → List PostureRow → Type 0
+ArePostures None rows = rows ≡ []
+ArePostures (Some value) rows = value ≡ table (gives_written rows)
 
 -- ---- rows
 
@@ -91,12 +102,32 @@ pub record IsZoneIn (value : Data) (row : ZoneRow) : Type 0 where
   pub inward : IsWay (get_member (codes "inward") members) row.inward
   pub outward : IsWay (get_member (codes "outward") members) row.outward
 
+pub record IsMotorIn (value : Data) (row : MotorRow) : Type 0 where
+  pub members : Members
+  pub is_table : value ≡ table members
+  pub keys : IsTrue (has_only motor_keys members)
+  pub name : HasText (codes "name") members row.name
+  pub machine : HasText (codes "machine") members row.machine
+  pub holds : ArePostures (get_member (codes "holds") members) row.holds.items
+  pub stands : ArePostures (get_member (codes "stands") members) row.stands.items
+  pub full : HasTexts (codes "full") members row.full.items
+  pub empty : HasTexts (codes "empty") members row.empty.items
+
+pub record IsHazardIn (value : Data) (row : HazardRow) : Type 0 where
+  pub members : Members
+  pub is_table : value ≡ table members
+  pub keys : IsTrue (has_only hazard_keys members)
+  pub name : HasText (codes "name") members row.name
+  pub motors : get_member (codes "motors") members ≡ Some (pair row.first row.second)
+
 -- ---- documents
 
 pub record IsDocumentIn (members : Members) (d : Document) : Type 0 where
   pub keys : IsTrue (has_only top_keys members)
   pub machines : HasRows IsMachineIn (codes "machine") members d.machines.items
   pub zones : HasRows IsZoneIn (codes "zone") members d.zones.items
+  pub motors : HasRows IsMotorIn (codes "motor") members d.motors.items
+  pub hazards : HasRows IsHazardIn (codes "hazard") members d.hazards.items
 
 -- the plan that the rows in a table say
 pub record IsPlanOfTable (members : Members) (plan : ProgrammedPlan) : Type 0 where

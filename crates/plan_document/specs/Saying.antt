@@ -1,15 +1,11 @@
 -- What a document says: which plan is its plan. A name stands for the number of its row.
-use Rattle.std.specs.Prelude.{◌≡◌, ℕ, ◌<◌, Bool, true, false, ◌&&◌, ◌||◌, not, nat_eq, List, ◌++◌, map}
-use Rattle.std.specs.Prelude.{length, get_or}
-use Rattle.std.specs.Prelude.{replicate, codes, String, string_bytes, Option, Some, None, is_some, option_map, IsTrue}
-use Rattle.std.specs.Prelude.{if◌then◌else◌, ⊤}
+use Rattle.std.specs.Prelude.{◌≡◌, ℕ, Bool, true, false, ◌||◌, not, nat_eq, List, ◌++◌, map, length}
+use Rattle.std.specs.Prelude.{replicate, codes, String, string_bytes, Option, Some, None, option_map, IsTrue, ⊤}
 use Rattle.std.specs.declared.alloc.Global.{Global}
-use Rattle.std.specs.List.{AllZip, filter_map, flat_map, last_or, list_all}
-use Rattle.std.specs.Option.{option_eq}
+use Rattle.std.specs.List.{AllZip, flat_map, list_all}
 use Rattle.plan_types.specs.declared.call.Call.{Call}
 use Rattle.plan_types.specs.declared.call.Call.TheVariants.{Claim, Give, Yield, Take, Release, Inquire, SetPose, Stop}
 use Rattle.plan_types.specs.declared.call.Call.TheVariants.{Resume}
-use Rattle.plan_types.specs.declared.posture.Posture.{Posture}
 use Rattle.plan_types.specs.declared.posture.Posture.TheVariants.{OpenIn, OpenOut}
 use Rattle.plan_types.specs.declared.table.Transfer.{Transfer}
 use Rattle.plan_types.specs.declared.table.Way.{Way}
@@ -25,11 +21,12 @@ use Rattle.plan_text.specs.declared.calls.Verb.TheVariants as verbs
 use Rattle.plan_document.specs.declared.document.Document.{Document}
 use Rattle.plan_document.specs.declared.document.MachineRow.{MachineRow}
 use Rattle.plan_document.specs.declared.document.PoseRow.{PoseRow}
-use Rattle.plan_document.specs.declared.document.PostureRow.{PostureRow}
 use Rattle.plan_document.specs.declared.document.WayRow.{WayRow}
 use Rattle.plan_document.specs.declared.document.ZoneRow.{ZoneRow}
 use Rattle.plan_document.specs.declared.resolving.ProgrammedPlan.{ProgrammedPlan}
 use Rattle.plan_document.specs.declared.tables.Rows.{Rows}
+use Rattle.plan_document.specs.Motors.{AreNamedMotorsOf}
+use Rattle.plan_document.specs.Postures.{AreGiven}
 use Rattle.plan_document.specs.Names.{AreDistinct, AreNames, all_poses, identifiers, machine_names, numbered}
 use Rattle.plan_document.specs.Names.{place_names, pose_names, zone_names}
 
@@ -52,30 +49,10 @@ pub record IsZoneOf (machines places : List Text) (row : ZoneRow) (zone : PlanZo
 
 -- ---- poses
 
--- a row is about a zone by its name, and gives it a posture by its word
-abbrev pub gives_zone : List Text → PostureRow → Bool
-gives_zone zones row =
-    is_some (number_in zones (string_bytes row.zone)) && is_some (posture_of (string_bytes row.posture))
-
-abbrev pub is_about : List Text → ℕ → PostureRow → Bool
-is_about zones zone row = option_eq nat_eq (number_in zones (string_bytes row.zone)) (Some zone)
-
--- what a row gives a zone: its posture, if the row is about the zone
-abbrev pub given_by : List Text → ℕ → PostureRow → Option Posture
-given_by zones zone row = if is_about zones zone row then posture_of (string_bytes row.posture) else None
-
--- what rows give a zone: the posture of the last row about it
-abbrev pub given : List Text → List PostureRow → ℕ → Option Posture
-given zones rows zone = last_or None (filter_map (given_by zones zone) rows)
-
-pub record AreGiven (zones : List Text) (rows : List PostureRow) (gives : List (Option Posture)) : Type 0 where
-  pub known : IsTrue (list_all (gives_zone zones) rows)
-  pub last_given : (zone : ℕ) → zone < 10 → get_or gives zone None ≡ given zones rows zone
-
 pub record IsPoseOf (zones : List Text) (row : ℕ × PoseRow) (pose : PlanPose) : Type 0 where
   pub machine : pose.machine ≡ row.0
   pub after_moving : pose.after_moving ≡ row.1.after_moving
-  pub gives : AreGiven zones row.1.gives.items pose.gives
+  pub gives : AreGiven posture_of zones row.1.gives.items pose.gives
 
 -- ---- places
 
@@ -161,10 +138,11 @@ pub record IsNamedPlanOf (d : Document) (n : Named) : Type 0 where
   pub poses : AllZip (IsPoseOf n.zones) (all_poses d.machines.items) n.plan.poses
   pub places : n.plan.places ≡ keepers d.machines.items
 
--- the plan of a document, and what each machine asks
+-- the plan of a document, what each machine asks, and its motors and hazards
 pub record IsPlanOf (d : Document) (p : ProgrammedPlan) : Type 0 where
   pub named : IsNamedPlanOf d p.named
   pub programs : AllZip (IsProgramOf p.named) (numbered d.machines.items) p.programs
+  pub motors : AreNamedMotorsOf d p.named p.motors
 
 -- ---- the rows before they are a plan
 

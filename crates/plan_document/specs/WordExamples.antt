@@ -1,5 +1,5 @@
 -- Literal examples of words: keys, names, bytes that part words, and lines that may be.
-use Rattle.std.specs.Prelude.{◌≡◌, true, false, List, [], ◌∷◌, codes, filter, Some, None}
+use Rattle.std.specs.Prelude.{◌≡◌, true, false, List, [], ◌∷◌, codes, filter, replicate, Some, None}
 use Rattle.std.specs.List.{range_with_len}
 use Rattle.toml.specs.Data.{Members, member, no_members, string}
 use Rattle.plan_types.specs.Table.{plan_table}
@@ -15,7 +15,7 @@ use Rattle.plan_document.specs.Keys.{has_only, is_word_of, key_word, keys_in}
 use Rattle.plan_document.specs.Laws.{is_line, loaded}
 use Rattle.plan_document.specs.Limits.{byte_limit, max_bytes_read}
 use Rattle.plan_document.specs.NameLaws.{is_one_word, parts_words}
-use Rattle.plan_document.specs.Names.{identifier}
+use Rattle.plan_document.specs.Names.{identifier, is_title}
 use Rattle.plan_document.specs.Saying.{is_free, may_be_done, own_call}
 
 -- ---- keys
@@ -33,23 +33,35 @@ pub record KeysHaveWords : Type 0 where
   pub guest : key_word key.Guest ≡ codes "guest"
   pub inward : key_word key.Inward ≡ codes "inward"
   pub outward : key_word key.Outward ≡ codes "outward"
+  pub motor : key_word key.Motor ≡ codes "motor"
+  pub hazard : key_word key.Hazard ≡ codes "hazard"
+  pub holds : key_word key.Holds ≡ codes "holds"
+  pub stands : key_word key.Stands ≡ codes "stands"
+  pub full : key_word key.Full ≡ codes "full"
+  pub empty : key_word key.Empty ≡ codes "empty"
+  pub motors : key_word key.Motors ≡ codes "motors"
 
 -- all words of keys, and some that are none
 abbrev pub candidates : List Text
 candidates =
-    [] ∷ codes "after_moving" ∷ codes "gives" ∷ codes "guest" ∷ codes "host" ∷ codes "inward" ∷ codes "machine"
-    ∷ codes "machines" ∷ codes "nam" ∷ codes "name" ∷ codes "Name" ∷ codes "outward" ∷ codes "places" ∷ codes "poses"
-    ∷ codes "program" ∷ codes "zone" ∷ []
+    [] ∷ codes "after_moving" ∷ codes "empty" ∷ codes "full" ∷ codes "gives" ∷ codes "guest" ∷ codes "hazard"
+    ∷ codes "holds" ∷ codes "host" ∷ codes "inward" ∷ codes "machine" ∷ codes "machines" ∷ codes "motor"
+    ∷ codes "motors" ∷ codes "nam" ∷ codes "name" ∷ codes "Name" ∷ codes "outward" ∷ codes "places" ∷ codes "poses"
+    ∷ codes "program" ∷ codes "stands" ∷ codes "zone" ∷ []
 
 -- the keys that a row may have
 pub record RowsHaveKeys : Type 0 where
-  pub document : filter (is_word_of (keys_in row.Document)) candidates ≡ codes "machine" ∷ codes "zone" ∷ []
+  pub document : filter (is_word_of (keys_in row.Document)) candidates
+      ≡ codes "hazard" ∷ codes "machine" ∷ codes "motor" ∷ codes "zone" ∷ []
   pub machine : filter (is_word_of (keys_in (row.Machine 3))) candidates
       ≡ codes "name" ∷ codes "places" ∷ codes "poses" ∷ codes "program" ∷ []
   pub pose : filter (is_word_of (keys_in (row.Pose 3 1))) candidates
       ≡ codes "after_moving" ∷ codes "gives" ∷ codes "name" ∷ []
   pub zone : filter (is_word_of (keys_in (row.Zone 3))) candidates
       ≡ codes "guest" ∷ codes "host" ∷ codes "inward" ∷ codes "name" ∷ codes "outward" ∷ []
+  pub motor : filter (is_word_of (keys_in (row.Motor 3))) candidates
+      ≡ codes "empty" ∷ codes "full" ∷ codes "holds" ∷ codes "machine" ∷ codes "name" ∷ codes "stands" ∷ []
+  pub hazard : filter (is_word_of (keys_in (row.Hazard 3))) candidates ≡ codes "motors" ∷ codes "name" ∷ []
 
 abbrev pub named_key : Text → Members → Members
 named_key word members = member word (string []) members
@@ -74,6 +86,17 @@ pub record WordsAreParted : Type 0 where
   pub one : is_one_word (codes "take_out9") ≡ true
   pub last_byte : is_one_word (codes "take,") ≡ false
   pub first_byte : is_one_word (codes " take") ≡ false
+
+-- which texts name a hazard
+pub record TitlesAreTold : Type 0 where
+  pub blanks : is_title (codes "arm 2, at the die") ≡ true
+  pub capital : is_title (codes "Arm_9~") ≡ true
+  pub empty : is_title [] ≡ false
+  pub colon : is_title (codes "arm: crushed") ≡ false
+  pub line : is_title (codes "arm\n") ≡ false
+  pub not_ascii : is_title (127 ∷ []) ≡ false
+  pub sixty : is_title (replicate 60 97) ≡ true
+  pub more : is_title (replicate 61 97) ≡ false
 
 pub record NamesAreMade : Type 0 where
   pub parts : identifier (codes "a") (codes "b_c") ≡ codes "a_b_c"

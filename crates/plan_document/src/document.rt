@@ -57,11 +57,43 @@ pub struct ZoneRow {
     pub outward: Option<WayRow>,
 }
 
-/// A document: its machines and its zones, in order.
+/// A motor, or a part that stands somewhere, `[[motor]]` in the document.
+#[derive(Drop)]
+pub struct MotorRow {
+    /// Its name.
+    pub name: String,
+    /// The machine whose motor or part it is, by name.
+    pub machine: String,
+    /// The zones that the machine has to hold, each with the word of the posture that it has to have, or `any`.
+    pub holds: Vec<PostureRow>,
+    /// The postures that zones of the machine have to have, held or not.
+    pub stands: Vec<PostureRow>,
+    /// The names of the places that have to be full.
+    pub full: Vec<String>,
+    /// The names of the places that have to be empty.
+    pub empty: Vec<String>,
+}
+
+/// Two motors that are never to be permitted both, `[[hazard]]` in the document.
+#[derive(Drop)]
+pub struct HazardRow {
+    /// Its name.
+    pub name: String,
+    /// The one motor, by name.
+    pub first: String,
+    /// The other, by name.
+    pub second: String,
+}
+
+/// A document: its machines, zones, motors and hazards, in order.
 #[derive(Drop)]
 pub struct Document {
     /// The machines.
     pub machines: Vec<MachineRow>,
     /// The zones.
     pub zones: Vec<ZoneRow>,
+    /// The motors.
+    pub motors: Vec<MotorRow>,
+    /// The hazards.
+    pub hazards: Vec<HazardRow>,
 }

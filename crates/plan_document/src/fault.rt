@@ -22,6 +22,10 @@ pub enum RowOf {
     },
     /// A zone.
     Zone(usize),
+    /// A motor.
+    Motor(usize),
+    /// A hazard.
+    Hazard(usize),
 }
 
 /// The keys of a document.
@@ -51,6 +55,20 @@ pub enum Key {
     Inward,
     /// `outward`
     Outward,
+    /// `motor`
+    Motor,
+    /// `hazard`
+    Hazard,
+    /// `holds`
+    Holds,
+    /// `stands`
+    Stands,
+    /// `full`
+    Full,
+    /// `empty`
+    Empty,
+    /// `motors`
+    Motors,
 }
 
 impl Key {
@@ -71,18 +89,36 @@ impl Key {
             Key::Guest => "guest",
             Key::Inward => "inward",
             Key::Outward => "outward",
+            Key::Motor => "motor",
+            Key::Hazard => "hazard",
+            Key::Holds => "holds",
+            Key::Stands => "stands",
+            Key::Full => "full",
+            Key::Empty => "empty",
+            Key::Motors => "motors",
         }
     }
 }
 
-/// The keys of a document's top, of a machine, of a pose and of a zone.
-const TOP_KEYS: [Key; 2] = [Key::Machine, Key::Zone];
+/// The keys of a document's top, of a machine, of a pose, of a zone, of a motor and of a hazard.
+const TOP_KEYS: [Key; 4] = [Key::Machine, Key::Zone, Key::Motor, Key::Hazard];
 
 const MACHINE_KEYS: [Key; 4] = [Key::Name, Key::Places, Key::Poses, Key::Program];
 
 const POSE_KEYS: [Key; 3] = [Key::Name, Key::Gives, Key::AfterMoving];
 
 const ZONE_KEYS: [Key; 5] = [Key::Name, Key::Host, Key::Guest, Key::Inward, Key::Outward];
+
+const MOTOR_KEYS: [Key; 6] = [
+    Key::Name,
+    Key::Machine,
+    Key::Holds,
+    Key::Stands,
+    Key::Full,
+    Key::Empty,
+];
+
+const HAZARD_KEYS: [Key; 2] = [Key::Name, Key::Motors];
 
 impl RowOf {
     /// The keys that such a row may have.
@@ -94,6 +130,8 @@ impl RowOf {
             RowOf::Machine(_) => &MACHINE_KEYS,
             RowOf::Pose { .. } => &POSE_KEYS,
             RowOf::Zone(_) => &ZONE_KEYS,
+            RowOf::Motor(_) => &MOTOR_KEYS,
+            RowOf::Hazard(_) => &HAZARD_KEYS,
         }
     }
 
@@ -228,6 +266,27 @@ pub enum Wrong {
     },
     /// The machine doesn't host this zone.
     Foreign(String),
+    /// The value is no list of two motors.
+    NoMotors,
+    /// A text is no name of a hazard.
+    NoTitle(String),
+    /// No motor has this name.
+    NoMotor(String),
+    /// What a zone has to have while it is held is neither a posture nor `any`.
+    NoHeldPosture {
+        /// The zone's name.
+        zone: String,
+        /// What it has to have.
+        word: String,
+    },
+    /// The machine is neither host nor guest of this zone.
+    NoParty(String),
+    /// The machine doesn't keep this place.
+    NotKept(String),
+    /// This zone, or this place, stands under another key of the motor, too.
+    AlsoIn(Key, String),
+    /// No state permits the motor.
+    NeverPermitted,
     /// Memory ran out.
     Memory,
 }

@@ -16,6 +16,14 @@ const NO_NAME: &str =
 /// What is said of a text that isn't a posture.
 const NO_POSTURE: &str = " isn't a posture; known: closed, moving, openin, openout";
 
+/// What is said of a text that is neither a posture nor `any`.
+const NO_HELD_POSTURE: &str =
+    " isn't a posture; known: closed, moving, openin, openout, and any for each of them";
+
+/// What is said of a text that isn't a hazard's name.
+const NO_TITLE: &str =
+    " isn't a hazard's name: printable ASCII without a colon, at most 60 characters";
+
 /// What is said of a text that isn't a call.
 const NO_CALL: &str =
     " isn't a call: claim, give, yield, take or release with a zone, or pose with a pose";
@@ -74,6 +82,8 @@ fn write_rows<W: fmt::Write>(
             write_row(f, ": pose ", pose, &names.pose)
         }
         RowOf::Zone(zone) => write_row(f, "zone ", zone, &names.row),
+        RowOf::Motor(motor) => write_row(f, "motor ", motor, &names.row),
+        RowOf::Hazard(hazard) => write_row(f, "hazard ", hazard, &names.row),
     }
 }
 
@@ -115,6 +125,8 @@ fn no_tables(key: Option<Key>) -> &'static str {
     match key {
         Some(Key::Machine) => "it takes a list of tables; begin each with [[machine]]",
         Some(Key::Zone) => "it takes a list of tables; begin each with [[zone]]",
+        Some(Key::Motor) => "it takes a list of tables; begin each with [[motor]]",
+        Some(Key::Hazard) => "it takes a list of tables; begin each with [[hazard]]",
         _ => "it takes a list of tables",
     }
 }
@@ -132,6 +144,13 @@ fn write_astray<W: fmt::Write>(
     write!(f, "{before}{place}{between}{machine}")
 }
 
+/// Writes that a zone or a place stands under another key of the motor, too.
+fn write_also_in<W: fmt::Write>(f: &mut fmt::Formatter<W>, key: Key, text: &str) -> fmt::Result {
+    let quoted = Quoted { text };
+    let word = key.word();
+    write!(f, "{quoted} is in {word}, too")
+}
+
 fn write_wrong<W: fmt::Write>(wrong: &Wrong, f: &mut fmt::Formatter<W>) -> fmt::Result {
     let (before, text, after) = match wrong {
         Wrong::NoName(text) => ("", text, NO_NAME),
@@ -146,6 +165,12 @@ fn write_wrong<W: fmt::Write>(wrong: &Wrong, f: &mut fmt::Formatter<W>) -> fmt::
         Wrong::NoCall(text) => ("", text, NO_CALL),
         Wrong::Never(why, text) => ("", text, why.text()),
         Wrong::Foreign(text) => ("the machine doesn't host ", text, ""),
+        Wrong::NoTitle(text) => ("", text, NO_TITLE),
+        Wrong::NoMotor(text) => ("no motor is named ", text, ""),
+        Wrong::NoHeldPosture { word, .. } => ("", word, NO_HELD_POSTURE),
+        Wrong::NoParty(text) => ("the machine is neither host nor guest of ", text, ""),
+        Wrong::NotKept(text) => ("the machine doesn't keep ", text, ""),
+        Wrong::AlsoIn(key, text) => return write_also_in(f, *key, text.as_str()),
         Wrong::Astray {
             place,
             end,
@@ -171,6 +196,8 @@ fn write_plain<W: fmt::Write>(wrong: &Wrong, f: &mut fmt::Formatter<W>) -> fmt::
         Wrong::NoTable => "it takes a table, such as { interior = \"closed\" }",
         Wrong::NoTruth => "it takes true or false",
         Wrong::NoWay => "it takes two places: from which one, and to which",
+        Wrong::NoMotors => "it takes two motors, such as [\"ram\", \"arm_in_press\"]",
+        Wrong::NeverPermitted => "no state of the plan permits it",
         Wrong::TooMany(most) => return write!(f, "there are more than {most}"),
         Wrong::TooManyLines(most) => return write!(f, "it has more than {most} lines"),
         Wrong::HostIsGuest => "the host is its own guest",

@@ -1,7 +1,7 @@
 //! Finds the first of two names that are the same.
 
 use crate::fault::{DocumentFault, Key, Location, RowOf, Wrong};
-use crate::row_names::{name_in, row_at};
+use crate::row_names::{row_at, text_in};
 use crate::values::value_at;
 use toml::Table;
 
@@ -26,6 +26,14 @@ fn first_named(table: &Table, second: Location, name: &str) -> Option<Location> 
             let first = first_row(table, Key::Zone, zone, name)?;
             Some(RowOf::Zone(first).key(Key::Name))
         }
+        (RowOf::Motor(motor), _) => {
+            let first = first_row(table, Key::Motor, motor, name)?;
+            Some(RowOf::Motor(first).key(Key::Name))
+        }
+        (RowOf::Hazard(hazard), _) => {
+            let first = first_row(table, Key::Hazard, hazard, name)?;
+            Some(RowOf::Hazard(first).key(Key::Name))
+        }
         (RowOf::Pose { machine, pose }, _) => {
             let row = row_at(table, Key::Machine, machine)?;
             let pose = first_row(row, Key::Poses, pose, name)?;
@@ -37,7 +45,7 @@ fn first_named(table: &Table, second: Location, name: &str) -> Option<Location> 
 /// The first of the rows before a number that has this name.
 fn first_row(table: &Table, key: Key, end: usize, name: &str) -> Option<usize> {
     for index in 0..end {
-        if row_at(table, key, index).and_then(name_in) == Some(name) {
+        if row_at(table, key, index).and_then(text_in) == Some(name) {
             return Some(index);
         }
     }

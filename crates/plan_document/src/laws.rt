@@ -1,5 +1,6 @@
 //! Laws of documents. Each function's contract is one.
 ghost use Rattle.plan_document.specs.Laws as laws;
+ghost use Rattle.plan_document.specs.MotorExamples.{MotorsAreMet};
 ghost use Rattle.plan_document.specs.NameLaws.{NamedPlansHaveWords};
 ghost use Rattle.plan_document.specs.PlanExamples as plans;
 ghost use Rattle.plan_document.specs.ReadingExamples.{RowsAreRead};
@@ -37,10 +38,11 @@ pub fn keys_are_met()
     ensures limits { words.LimitsAreMet }
 {}
 
-/// Examples: bytes that part words, names for C, and names that are free.
+/// Examples: bytes that part words, names for C, names that are free, and names of hazards.
 pub fn words_are_met()
     ensures parted { words.WordsAreParted }
     ensures names { words.NamesAreMade }
+    ensures titles { words.TitlesAreTold }
 {}
 
 /// Examples: what a machine means by a verb and a name, and which lines a lift and its floors may have.
@@ -56,6 +58,12 @@ pub fn lines_are_met()
 pub fn plans_are_met()
     ensures rows { plans.DocumentsAreMet }
     ensures plans { plans.PlansSayRows }
+{}
+
+/// Examples of what the rows of motors and hazards say, and of which TOML they are read.
+#[tactic(auto, using(crate::proofs::MotorRows::motor_rows))]
+pub fn motors_are_met()
+    ensures { MotorsAreMet }
 {}
 
 /// What the laws say of a lift between two floors.

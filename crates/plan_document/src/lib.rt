@@ -7,6 +7,8 @@ mod fault_words;
 mod first;
 pub mod laws;
 mod locating;
+mod motor_rows;
+mod motors;
 mod programs;
 mod reading;
 mod resolving;
@@ -14,9 +16,12 @@ mod row_names;
 mod tables;
 mod values;
 
-pub use document::{Document, MachineRow, PoseRow, PostureRow, WayRow, ZoneRow};
+pub use document::{
+    Document, HazardRow, MachineRow, MotorRow, PoseRow, PostureRow, WayRow, ZoneRow,
+};
 pub use fault::{
     DocumentFault, Key, Location, PlanTextFault, RowNames, RowOf, TooWide, WayEnd, Wrong,
 };
+pub use motors::NamedMotors;
 pub use reading::{MAX_BYTES, plan_of, read_plan};
 pub use resolving::ProgrammedPlan;

@@ -76,8 +76,15 @@ fn push_location(steps: &mut Vec<Step<'_>>, location: Location) -> Result<(), Al
 fn key_name_of(fault: &DocumentFault) -> Option<&str> {
     match (fault.location.key, &fault.wrong) {
         (None, Wrong::Unknown(name))
-        | (Some(Key::Gives), Wrong::NoZone(name) | Wrong::Foreign(name))
-        | (Some(Key::Gives), Wrong::NoPosture { zone: name, .. }) => Some(name.as_str()),
+        | (
+            Some(Key::Gives | Key::Holds | Key::Stands),
+            Wrong::NoZone(name)
+            | Wrong::Foreign(name)
+            | Wrong::NoParty(name)
+            | Wrong::AlsoIn(_, name)
+            | Wrong::NoPosture { zone: name, .. }
+            | Wrong::NoHeldPosture { zone: name, .. },
+        ) => Some(name.as_str()),
         _ => None,
     }
 }
@@ -92,6 +99,8 @@ fn push_row(steps: &mut Vec<Step<'_>>, row: RowOf) -> Result<(), AllocError> {
             push_item(steps, Key::Poses, pose)
         }
         RowOf::Zone(zone) => push_item(steps, Key::Zone, zone),
+        RowOf::Motor(motor) => push_item(steps, Key::Motor, motor),
+        RowOf::Hazard(hazard) => push_item(steps, Key::Hazard, hazard),
     }
 }
 

@@ -13,6 +13,7 @@ use crate::document::{Document, MachineRow, PoseRow, ZoneRow};
 use crate::fault::{DocumentFault, Key, PlanTextFault, RowNames, RowOf, Wrong};
 use crate::first::first_of;
 use crate::locating::{line_at, line_of};
+use crate::motor_rows::{hazards_at, motors_at};
 use crate::resolving::{ProgrammedPlan, programmed_plan_of};
 use crate::row_names::names_of;
 use crate::values::{
@@ -30,8 +31,8 @@ pub const MAX_BYTES: usize = 65_536;
 /// Reads a plan from the bytes that the reader has left. At most 65,537 bytes are taken from it.
 ///
 /// The error is the first fault. Faults come in this order: too many bytes, no TOML, keys and values of rows, names,
-/// tables, the lines of programs, and last whole programs. The error is `Read` if the reader fails. `Memory` may come
-/// from any allocation.
+/// tables, the lines of programs, whole programs, and last motors and hazards. The error is `Read` if the reader fails.
+/// `Memory` may come from any allocation.
 pub fn read_plan<R: Read>(alloc: Global, reader: &mut R) -> Result<ProgrammedPlan, PlanTextFault>
     ensures plan { IfSome (R.remaining reader.old) (λ bytes. IfOk result (IsPlanIn bytes)) }
     ensures taken { TakesAtMost (R.remaining reader.old) (R.remaining reader.new) max_bytes_read }
@@ -123,7 +124,14 @@ fn document_in(alloc: Global, table: &Table) -> Result<Document, DocumentFault>
     check_top(alloc, table)?;
     let machines = machines_at(alloc, table)?;
     let zones = zones_at(alloc, table)?;
-    Ok(Document { machines, zones })
+    let motors = motors_at(alloc, table)?;
+    let hazards = hazards_at(alloc, table)?;
+    Ok(Document {
+        machines,
+        zones,
+        motors,
+        hazards,
+    })
 }
 
 /// Refuses a document with an unknown key at the top, or without machines.

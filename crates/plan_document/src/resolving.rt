@@ -1,11 +1,14 @@
 //! From the rows of a document to the plan that they say.
 ghost use Rattle.std.specs.Prelude.{IfOk};
-ghost use Rattle.plan_document.specs.Saying.{IsNamedPlanOf, IsPlanOf};
+ghost use Rattle.std.specs.List.{AllZip};
+ghost use Rattle.plan_document.specs.Names.{numbered};
+ghost use Rattle.plan_document.specs.Saying.{IsNamedPlanOf, IsPlanOf, IsProgramOf};
 
 use crate::document::Document;
 use crate::fault::{
     DocumentFault, Key, Location, PlanTextFault, RowOf, TooWide, WayEnd, Wrong, too_many,
 };
+use crate::motors::{NamedMotors, named_motors_of};
 use crate::programs::programs_of;
 use crate::tables::rows_of;
 use crate::values::copy;
@@ -21,9 +24,11 @@ pub struct ProgrammedPlan {
     pub named: NamedPlan,
     /// What each machine asks.
     pub programs: Programs,
+    /// The motors and the hazards.
+    pub motors: NamedMotors,
 }
 
-/// The plan of a document, with its names and programs, or the first fault.
+/// The plan of a document, with its names, programs and motors, or the first fault.
 pub fn programmed_plan_of(
     alloc: Global,
     document: &Document,
@@ -32,9 +37,39 @@ pub fn programmed_plan_of(
 {
     let named = named_plan_of(alloc, document)?;
     match programs_of(alloc, document, &named) {
-        Ok(programs) => Ok(ProgrammedPlan { named, programs }),
+        Ok(programs) => with_motors(alloc, document, named, programs),
         Err(fault) => Err(fault_without(named, fault)),
     }
+}
+
+/// A plan with programs, and with the motors and hazards of its document, or the first fault of these.
+fn with_motors(
+    alloc: Global,
+    document: &Document,
+    named: NamedPlan,
+    programs: Programs,
+) -> Result<ProgrammedPlan, PlanTextFault>
+    requires named { IsNamedPlanOf document.now named }
+    requires programs { AllZip (IsProgramOf named) (numbered document.now.machines.items) programs }
+    ensures { IfOk result (IsPlanOf document.now) }
+{
+    match named_motors_of(alloc, document, &named) {
+        Ok(motors) => Ok(ProgrammedPlan {
+            named,
+            programs,
+            motors,
+        }),
+        Err(fault) => Err(fault_without_both(named, programs, fault)),
+    }
+}
+
+/// The fault of motors, without the plan and the programs, which end here.
+fn fault_without_both(
+    _named: NamedPlan,
+    _programs: Programs,
+    fault: DocumentFault,
+) -> PlanTextFault {
+    fault.into()
 }
 
 /// The fault of a program, without the plan, which ends here.

@@ -8,6 +8,7 @@ ghost use Rattle.plan_text.specs.Answers.{posture_of};
 ghost use Rattle.plan_document.specs.Names.{AreDistinct, AreNames, all_poses, identifier, identifiers};
 ghost use Rattle.plan_document.specs.Names.{identifiers_in, machine_names, names_in, numbered_poses};
 ghost use Rattle.plan_document.specs.Names.{place_names, places_in, pose_names, zone_names};
+ghost use Rattle.plan_document.specs.Postures.{AreGiven};
 ghost use Rattle.plan_document.specs.Saying as saying;
 ghost use Rattle.plan_document.specs.declared.document.PoseRow.{PoseRow as Pose};
 
@@ -93,7 +94,7 @@ fn add_rows(alloc: Global, document: &Document, rows: &mut Rows) -> Result<(), D
 }
 
 /// Adds a name of a row to names of its kind, of which a plan has at most `most`.
-fn add_name(
+pub fn add_name(
     alloc: Global,
     names: &mut Names,
     name: &str,
@@ -131,7 +132,8 @@ fn check_name(alloc: Global, names: &Names, name: &str, most: usize) -> Result<(
     Ok(())
 }
 
-fn push_name(alloc: Global, names: &mut Names, name: &str) -> Result<(), DocumentFault>
+/// Adds a name where there is room for it.
+pub fn push_name(alloc: Global, names: &mut Names, name: &str) -> Result<(), DocumentFault>
     requires { length names.old < 64 }
     ensures { OnOk result (names.new ≡ names.old ++ name.now ∷ []) }
 {
@@ -286,7 +288,8 @@ fn zone_of(
     })
 }
 
-fn machine_named(
+/// The machine with a name.
+pub fn machine_named(
     alloc: Global,
     machines: &Names,
     name: &str,
@@ -300,7 +303,13 @@ fn machine_named(
     }
 }
 
-fn place_named(alloc: Global, places: &Names, name: &str, at: Location) -> Result<u8, DocumentFault>
+/// The place with a name.
+pub fn place_named(
+    alloc: Global,
+    places: &Names,
+    name: &str,
+    at: Location,
+) -> Result<u8, DocumentFault>
     ensures { IfOk result (λ number. number_in places.now name.now ≡ Some number) }
 {
     match places.number_of(name.as_bytes()) {
@@ -479,13 +488,13 @@ fn pose_of(
 }
 
 /// What rows give each zone.
-fn gives_of(
+pub fn gives_of(
     alloc: Global,
     zones: &Names,
     rows: &[PostureRow],
     at: Location,
 ) -> Result<[Option<Posture>; MAX_ZONES], DocumentFault>
-    ensures { IfOk result (saying.AreGiven zones.now rows.now) }
+    ensures { IfOk result (AreGiven posture_of zones.now rows.now) }
 {
     let mut gives = [None; MAX_ZONES];
     for i in 0..rows.len() {
@@ -496,6 +505,21 @@ fn gives_of(
         gives[usize::from(zone)] = Some(posture);
     }
     Ok(gives)
+}
+
+/// The zone with a name.
+pub fn zone_named(
+    alloc: Global,
+    zones: &Names,
+    name: &str,
+    at: Location,
+) -> Result<u8, DocumentFault>
+    ensures { IfOk result (λ number. number_in zones.now name.now ≡ Some number) }
+{
+    match zones.number_of(name.as_bytes()) {
+        Some(zone) => Ok(zone),
+        None => Err(at.fault(Wrong::NoZone(copy(alloc, name)?))),
+    }
 }
 
 /// The zone that a row is about, and the posture that the row gives it.
@@ -510,9 +534,7 @@ fn given_by(
     ensures posture { IfOk result (λ given.
         posture_of (string_bytes row.now.posture) ≡ Some given.1) }
 {
-    let Some(zone) = zones.number_of(row.zone.as_bytes()) else {
-        return Err(at.fault(Wrong::NoZone(copy(alloc, row.zone.as_str())?)));
-    };
+    let zone = zone_named(alloc, zones, row.zone.as_str(), at)?;
     let Some(posture) = posture_in(row.posture.as_str()) else {
         return Err(at.fault(no_posture(alloc, row)?));
     };

@@ -4,7 +4,7 @@ ghost use Rattle.toml.specs.Data.{as_array, get_member, table};
 ghost use Rattle.toml.specs.View.{table_view, view};
 ghost use Rattle.plan_document.specs.Keys.{key_word};
 ghost use Rattle.plan_document.specs.Keys.{has_only, keys_in};
-ghost use Rattle.plan_document.specs.declared.fault.Key.TheVariants.{Gives};
+ghost use Rattle.plan_document.specs.declared.fault.Key.TheVariants.{Gives, Motors};
 ghost use Rattle.plan_document.specs.declared.fault.Wrong.TheVariants.{Memory as NoMemory};
 ghost use Rattle.plan_document.specs.Reading as reading;
 
@@ -189,6 +189,25 @@ pub fn gives_at(alloc: Global, pose: &Table, row: RowOf) -> Result<Vec<PostureRo
     }
 }
 
+/// The zones and words in the table of a key: none if the key is absent.
+pub fn postures_at(
+    alloc: Global,
+    table: &Table,
+    row: RowOf,
+    key: Key,
+) -> Result<Vec<PostureRow>, DocumentFault>
+    ensures { IfOk result (λ rows.
+        reading.ArePostures (get_member (key_word key) (table_view table.now)) rows.items) }
+{
+    let Some(value) = value_at(table, key) else {
+        return Ok(Vec::new(alloc));
+    };
+    match value.as_table() {
+        Some(given) => gives_in(alloc, given, row.key(key)),
+        None => Err(row.key(key).fault(Wrong::NoTable)),
+    }
+}
+
 /// What a table gives: to each key, a zone, the posture that its value names.
 fn gives_in(alloc: Global, given: &Table, at: Location) -> Result<Vec<PostureRow>, DocumentFault>
     ensures { IfOk result (λ rows. table_view given.now ≡ reading.gives_written rows.items) }
@@ -210,6 +229,48 @@ fn posture_row(alloc: Global, zone: &str, posture: &str) -> Result<PostureRow, A
     let zone = copy(alloc, zone)?;
     let posture = copy(alloc, posture)?;
     Ok(PostureRow { zone, posture })
+}
+
+/// The two motors of a hazard.
+pub fn motors_at(
+    alloc: Global,
+    table: &Table,
+    row: RowOf,
+) -> Result<(String, String), DocumentFault>
+    ensures { IfOk result (λ both.
+        get_member (key_word Motors) (table_view table.now) ≡ Some (reading.pair both.0 both.1)) }
+{
+    let at = row.key(Key::Motors);
+    let Some(value) = value_at(table, Key::Motors) else {
+        return Err(at.fault(Wrong::Missing));
+    };
+    let Some(items) = value.as_array() else {
+        return Err(at.fault(Wrong::NoMotors));
+    };
+    match items.as_slice() {
+        [first, second] => both_of(alloc, first, second, at),
+        _ => Err(at.fault(Wrong::NoMotors)),
+    }
+}
+
+fn both_of(
+    alloc: Global,
+    first: &Value,
+    second: &Value,
+    at: Location,
+) -> Result<(String, String), DocumentFault>
+    ensures first { IfOk result (λ both. view first.now ≡ reading.written both.0) }
+    ensures second { IfOk result (λ both. view second.now ≡ reading.written both.1) }
+{
+    let Some(first) = first.as_str() else {
+        return Err(at.fault(Wrong::NoMotors));
+    };
+    let Some(second) = second.as_str() else {
+        return Err(at.fault(Wrong::NoMotors));
+    };
+    let first = copy(alloc, first)?;
+    let second = copy(alloc, second)?;
+    Ok((first, second))
 }
 
 /// Refuses a row with a key that such a row may not have.
