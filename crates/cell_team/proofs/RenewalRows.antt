@@ -3,7 +3,7 @@ use Rattle.std.proofs.Common.{◌≤◌, ℕ, [], refl, arith, rules}
 use Rattle.cell_rules.specs.Names.{empty, last_stamp, start_state}
 use Rattle.cell_parts.specs.Axes.{CellScales}
 use Rattle.cell_team.specs.Team.{programs_of}
-use Rattle.cell_team.specs.Renewals.{HaveComeFrom, IsRenewed, StandAfter, six_at_start, RenewalExamples}
+use Rattle.cell_team.specs.Renewals.{HaveComeFrom, IsRenewed, StandAfter, first_team, six_at_start, RenewalExamples}
 
 -- no machine has moved
 still : (c : CellScales) → HaveComeFrom (programs_of c) (six_at_start c) [] (six_at_start c)
@@ -39,4 +39,23 @@ renewals_are_met c = record {
   never = never c;
   once = λ stamp fits. once_more c 0 0 stamp fits (never c);
   twice = once_more c 1 0 last_stamp (omega arith) (once_more c 0 0 0 (omega arith) (never c));
+  each_has_come = λ first history team feed table robot press deposit crane. record {
+    feed = feed;
+    table = table;
+    robot = robot;
+    press = press;
+    deposit = deposit;
+    crane = crane;
+  };
+  after_a_run = λ start history team stamp starts legal come fits. record {
+    before = start;
+    first = first_team (programs_of c) start;
+    stood = (starts, refl);
+    history = history;
+    legal = legal;
+    come = come;
+    stamp = stamp;
+    in_range = fits;
+    opens = refl;
+  };
 }

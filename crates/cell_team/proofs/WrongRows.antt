@@ -19,7 +19,7 @@ use Rattle.cell_table_press.specs.declared.table.TableStep.TheVariants as table_
 use Rattle.cell_rules.specs.Types.{Refusal, Worn}
 use Rattle.cell_team.specs.Heeded.{is_worn}
 use Rattle.cell_team.specs.WrongPrograms as wrong
-use Rattle.cell_team.specs.WrongPrograms.{by_feed, by_table, by_robot, by_press, by_deposit, by_crane, RightRows, WrongProgramsAreRefused}
+use Rattle.cell_team.specs.WrongPrograms.{by_feed, by_table, by_robot, by_press, by_deposit, by_crane, RightRows, WrongProgramsAreRefused, WrongRowsAre}
 use Rattle.cell_team.proofs.lemmas.Together.{none-refused}
 
 -- a start with these plates, and the machines there
@@ -314,6 +314,27 @@ only_worn : (r : Refusal) → is_worn r ≡ true → r ≡ Worn
 only_worn Worn e = refl
 only_worn _ e = cc
 
+wrong-rows : WrongRowsAre
+wrong-rows = record {
+  takes_asking = λ p. refl;
+  runs_asking = λ p. refl;
+  gives_asking = λ p. refl;
+  gives_waiting = λ p. refl;
+  loads_leading = λ p. refl;
+  claims_asking = λ p. refl;
+  enters_asking = λ p. refl;
+  enters_waiting = λ p. refl;
+  claims_back_asking = λ p. refl;
+  claims_at_once = λ p. refl;
+  moves_asking = λ p. refl;
+  rises_asking = λ p. refl;
+  offers_asking = λ p. refl;
+  releases_asking = λ p. refl;
+  takes_its_plate_else = λ p. refl;
+  lands_asking = λ p. refl;
+  lands_waiting = λ p. refl;
+}
+
 pub wrong-refused : WrongProgramsAreRefused
 wrong-refused = record {
   right = right-rows;
@@ -331,5 +352,6 @@ wrong-refused = record {
     releases_its_plate = releases_its_plate;
     lands_in_a_shut_zone = lands_in_a_shut_zone;
   };
+  rows = wrong-rows;
   only_worn = only_worn;
 }

@@ -64,3 +64,16 @@ pub record RenewalExamples (c : CellScales) : Type 0 where
   pub once : (stamp : ℕ) → stamp ≤ last_stamp
       → StandAfter (programs_of c) 1 (start_state empty stamp) (six_at_start c)
   pub twice : StandAfter (programs_of c) 2 (start_state empty last_stamp) (six_at_start c)
+  -- six machines have come from their steps if each has; and a renewal opens with the state that was left, but for the
+  -- stamp, and with the machines where they were
+  pub each_has_come : (first : Team) (history : List Event) (team : Team)
+      → HasComeFrom (programs_of c).feed first.feed history team.feed
+      → HasComeFrom (programs_of c).table first.table history team.table
+      → HasComeFrom (programs_of c).robot first.robot history team.robot
+      → HasComeFrom (programs_of c).press first.press history team.press
+      → HasComeFrom (programs_of c).deposit first.deposit history team.deposit
+      → HasComeFrom (programs_of c).crane first.crane history team.crane
+      → HaveComeFrom (programs_of c) first history team
+  pub after_a_run : (start : ModelState) (history : List Event) (team : Team) (stamp : ℕ) → IsStartState start
+      → IsLegal start history → HaveComeFrom (programs_of c) (first_team (programs_of c) start) history team
+      → stamp ≤ last_stamp → StandAfter (programs_of c) 1 (restamped (after start history) stamp) team

@@ -1,6 +1,7 @@
 -- Programs that are wrong in one row: by each of them a machine is refused what its step doesn't wait for.
-use Rattle.std.specs.Prelude.{◌≡◌, pos, true}
-use Rattle.cell_rules.specs.Types.{Refusal, Worn}
+use Rattle.std.specs.Prelude.{◌≡◌, pos, true, Some}
+use Rattle.cell_rules.specs.Types.{Refusal, Worn, Claim, Give, Take, Release, SetPose, Z2, Z3, Z4, Z5, Z6}
+use Rattle.cell_rules.specs.Types.{Running, Travelling, Offering}
 use Rattle.cell_sensors.specs.Scale.{Scale, scale_by}
 use Rattle.cell_control.specs.Names.{with_waits, Steps}
 use Rattle.cell_control.specs.declared.row.Row.{Row}
@@ -113,11 +114,12 @@ abbrev pub offers_before_it_moves_on : DepositStep → DepositProgress → Row D
 offers_before_it_moves_on deposit_step.MoveOn p = deposit_program.row_at deposit_step.PoseOffering p
 offers_before_it_moves_on step p = deposit_program.row_at step p
 
--- the crane releases a zone with a plate in it; it waits only until the feed belt's zone is free
+-- the crane releases a zone with a plate in it
 abbrev pub releases_its_plate : CraneStep → CraneProgress → Row CraneProgress
 releases_its_plate crane_step.TakePlate p = crane_program.row_at crane_step.ReleaseDeposit p
 releases_its_plate step p = crane_program.row_at step p
 
+-- it waits only until the feed belt's zone is free
 abbrev pub lands_in_a_shut_zone : CraneStep → CraneProgress → Row CraneProgress
 lands_in_a_shut_zone crane_step.ClaimFeed p = with_waits (crane_program.row_at crane_step.ClaimFeed p) UntilFree
 lands_in_a_shut_zone step p = crane_program.row_at step p
@@ -146,8 +148,31 @@ pub record WrongRows : Type 0 where
   pub releases_its_plate : ¬ NoneIsRefused (by_crane releases_its_plate)
   pub lands_in_a_shut_zone : ¬ NoneIsRefused (by_crane lands_in_a_shut_zone)
 
+-- what is asked in each wrong row, for what the step waits, or where it leads; and the crane's other rows stay
+pub record WrongRowsAre : Type 0 where
+  pub takes_asking : (p : FeedProgress) → (takes_unreleased feed_step.ReleaseEntry p).call ≡ Some (Take Z6)
+  pub runs_asking : (p : FeedProgress) → (runs_onto_plate feed_step.ClaimExit p).call ≡ Some (SetPose Running)
+  pub gives_asking : (p : TableProgress) → (gives_until_free table_step.GivePlate p).call ≡ Some (Give Z2)
+  pub gives_waiting : (p : TableProgress) → (gives_until_free table_step.GivePlate p).waits ≡ UntilFree
+  pub loads_leading : (p : TableProgress)
+      → (loads_a_full_table table_step.LeaveForUnloading p).next.step ≡ table_step.MoveToLoading
+  pub claims_asking : (p : RobotProgress) → (claims_what_it_has robot_step.InspectPress p).call ≡ Some (Claim Z3)
+  pub enters_asking : (p : RobotProgress) → (enters_a_shut_zone robot_step.ClaimDeposit p).call ≡ Some (Claim Z4)
+  pub enters_waiting : (p : RobotProgress) → (enters_a_shut_zone robot_step.ClaimDeposit p).waits ≡ UntilFree
+  pub claims_back_asking : (p : PressProgress) → (claims_back_at_once press_step.ClaimBack p).call ≡ Some (Claim Z3)
+  pub claims_at_once : (p : PressProgress) → (claims_back_at_once press_step.ClaimBack p).waits ≡ Never
+  pub moves_asking : (p : PressProgress) → (moves_unclaimed press_step.ClaimBack p).call ≡ Some (SetPose Travelling)
+  pub rises_asking : (p : PressProgress) → (rises_empty press_step.TakePlate p).call ≡ Some (SetPose Travelling)
+  pub offers_asking : (p : DepositProgress)
+      → (offers_before_it_moves_on deposit_step.MoveOn p).call ≡ Some (SetPose Offering)
+  pub releases_asking : (p : CraneProgress) → (releases_its_plate crane_step.TakePlate p).call ≡ Some (Release Z5)
+  pub takes_its_plate_else : (p : CraneProgress) → (lands_in_a_shut_zone crane_step.TakePlate p).call ≡ Some (Take Z5)
+  pub lands_asking : (p : CraneProgress) → (lands_in_a_shut_zone crane_step.ClaimFeed p).call ≡ Some (Claim Z6)
+  pub lands_waiting : (p : CraneProgress) → (lands_in_a_shut_zone crane_step.ClaimFeed p).waits ≡ UntilFree
+
 -- of refusals that no step waits for, only a worn one is heeded
 pub record WrongProgramsAreRefused : Type 0 where
   pub right : RightRows
   pub wrong : WrongRows
+  pub rows : WrongRowsAre
   pub only_worn : (r : Refusal) → is_worn r ≡ true → r ≡ Worn
