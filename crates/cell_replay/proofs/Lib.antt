@@ -6,6 +6,7 @@ mod Scripts
 mod FirstScripts
 mod FaultRows
 mod ScriptRows
+mod StepRows
 mod RowsLeft
 mod Writings
 mod BufferedWrites

@@ -10,3 +10,4 @@ pub mod Held
 pub mod Records
 pub mod Writing
 pub mod ScriptRecords
+pub mod StepExamples

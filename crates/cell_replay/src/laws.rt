@@ -9,6 +9,7 @@ ghost use Rattle.cell_replay.specs.FaultExamples.{FaultsAreMet};
 ghost use Rattle.cell_replay.specs.FirstVersion as first;
 ghost use Rattle.cell_replay.specs.FirstVersion.{IsOfFirstVersion};
 ghost use Rattle.cell_replay.specs.ScriptExamples.{ScriptsAreMet};
+ghost use Rattle.cell_replay.specs.StepExamples.{StepsAreMet};
 
 use csv_rows::{Outcome, ScriptFault};
 
@@ -46,10 +47,11 @@ pub fn first_version_stays(script: &[u8])
 {}
 
 /// Example scripts with their whole answers: calls, each form of record 0, scripts that stop the
-/// cell, and cut scripts.
-#[tactic(auto, using(crate::proofs::ScriptRows::scripts_are_met))]
+/// cell, and cut scripts. And the steps of an answer, one by one.
+#[tactic(auto, using(crate::proofs::ScriptRows::scripts_are_met, crate::proofs::StepRows::steps_are_met))]
 pub fn scripts_are_met()
-    ensures { ScriptsAreMet }
+    ensures scripts { ScriptsAreMet }
+    ensures steps { StepsAreMet }
 {}
 
 /// What replays that failed may have written, and what they may not.
