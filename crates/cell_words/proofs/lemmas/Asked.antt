@@ -6,8 +6,7 @@ use Rattle.clap.specs.declared.error.kind.ErrorKind.TheVariants as ErrorKind
 use Rattle.clap.proofs.OnLiterals.{clap_on_literals}
 use Rattle.program_shell.specs.Versions.{AskForVersion}
 use Rattle.program_shell.proofs.lemmas.Versions.{version_words}
-use Rattle.cell_words.specs.Words.{AreTaken, AreTakenAsFlags, AskByFlags, AskForRun, flags_of, mode_of}
-use Rattle.cell_words.specs.declared.words.RunFlags.{RunFlags}
+use Rattle.cell_words.specs.Words.{AreTaken, AreTakenAsFlags, AskForRun, mode_of}
 use Rattle.cell_words.specs.declared.words.Mode.{Mode}
 use Rattle.cell_words.specs.declared.words.Mode.TheVariants.{Run}
 
@@ -16,13 +15,6 @@ pub run_asked : (words : List Text) (m : Mode) (turns tries turns' tries' : ℕ)
 run_asked words m turns tries turns' tries' e f k =
     let same : Run turns tries ≡ Run turns' tries' = sym e ∙ (f ∙ k.1) in
     (cc, cc)
-
--- the flags have the numbers that were read
-pub flags_asked : (words : List Text) (turns tries turns' tries' : ℕ) → record { turns = turns; tries = tries } ≡ flags_of words → AskByFlags turns' tries' words
-    → (turns ≡ turns') × (tries ≡ tries')
-flags_asked words turns tries turns' tries' e k =
-    let same = e ∙ k.1 in
-    (ap (λ (f : RunFlags). f.turns) same, ap (λ (f : RunFlags). f.tries) same)
 
 -- ---- words that ask for the version
 
