@@ -17,7 +17,7 @@ use Rattle.cell_replay.specs.declared.fault.ReplayFault.TheVariants.{Read, Write
 use Rattle.cell_words.specs.Words.{mode_of}
 use Rattle.cell_words.specs.declared.words.Mode.TheVariants.{Sim, Run}
 use Rattle.explain_app.specs.Explained.{IsTextOfOutcome, IsTextOfSettings, LeavesUnsaid, SaysOfConfig, SaysOfScript}
-use Rattle.explain_app.specs.Explained.{config_heading, script_heading}
+use Rattle.explain_app.specs.Explained.{WroteUnder, config_heading, script_heading}
 use Rattle.explain_app.specs.declared.verdict.Verdict.TheVariants.{Taken, Refused}
 use Rattle.explain_app.specs.ExplainExamples.{ExplanationsAreMet, OfConfig, OfScript, StatusesTell}
 
@@ -177,6 +177,15 @@ config_refused : (o : Result Settings ConfigFault) (text : List ℕ) → SaysOfC
 config_refused (Ok settings) text k = let e : Refused ≡ Taken = k.0 in cc
 config_refused (Err fault) text k = (fault, refl, k.1.0, k.1.1)
 
+-- the same of any output
+script_told : (o : Outcome) (old new : Option (List ℕ)) → SaysOfScript o Refused old new → (fault : ScriptFault) × (o ≡ outcome.Refused fault) × WroteUnder (script_heading fault) old new
+script_told outcome.Clean old new k = let e : Refused ≡ Taken = k.0 in cc
+script_told (outcome.Refused fault) old new k = (fault, refl, k.1)
+
+config_told : (o : Result Settings ConfigFault) (old new : Option (List ℕ)) → SaysOfConfig o Refused old new → (fault : ConfigFault) × (o ≡ Err fault) × WroteUnder (config_heading fault) old new
+config_told (Ok settings) old new k = let e : Refused ≡ Taken = k.0 in cc
+config_told (Err fault) old new k = (fault, refl, k.1)
+
 all_taken : (most : ℕ) (bytes : List ℕ) → TakesAtMost (Some bytes) (Some []) most → length bytes ≤ most
 all_taken most bytes k = let h = k.1 in let all : length bytes ≡ length (k.0 ++ []) = ap length k.2 in omega (arith, h, all, length-append k.0 [])
 
@@ -184,10 +193,12 @@ pub statuses-tell : StatusesTell
 statuses-tell = record {
   script_taken = λ bytes rest old new k. script_taken (script_outcome bytes) old new (k.silent refl);
   script_refused = λ bytes text rest k. script_refused (script_outcome bytes) text (k.told refl);
+  script_told = λ bytes rest old new k. script_told (script_outcome bytes) old new (k.told refl);
   script_untold = λ input rest old new k. k.failed refl;
   script_taken_off = λ exit bytes old new k. all_taken 4194305 bytes k.taken;
   config_taken = λ bytes rest old new k. config_taken (settings_of bytes) old new (k.silent refl);
   config_refused = λ bytes text rest k. config_refused (settings_of bytes) text (k.told refl);
+  config_told = λ bytes rest old new k. config_told (settings_of bytes) old new (k.told refl);
   config_untold = λ input rest old new k. k.failed refl;
   config_taken_off = λ exit bytes old new k. all_taken 2097153 bytes k.taken;
   text_of_script = λ bytes text k. script_text (script_outcome bytes) text k;

@@ -97,6 +97,9 @@ pub record StatusesTell : Type 0 where
       → ExplainsScript 1 (Some bytes) rest (Some []) (Some text)
       → (fault : ScriptFault) × (script_outcome bytes ≡ outcome.Refused fault) × (words : List ℕ)
       × (text ≡ script_heading fault ++ words)
+  pub script_told : (bytes : List ℕ) (rest old new : Option (List ℕ)) → ExplainsScript 1 (Some bytes) rest old new
+      → (fault : ScriptFault) × (script_outcome bytes ≡ outcome.Refused fault)
+      × WroteUnder (script_heading fault) old new
   pub script_untold : (input rest old new : Option (List ℕ)) → ExplainsScript 3 input rest old new
       → (fault : ReplayFault) × LeavesUnsaid (IsTextOfScript input) fault old new
   pub script_taken_off : (exit : ℕ) (bytes old new : List ℕ)
@@ -107,6 +110,8 @@ pub record StatusesTell : Type 0 where
       → ExplainsConfig 1 (Some bytes) rest (Some []) (Some text)
       → (fault : ConfigFault) × (settings_of bytes ≡ Err fault) × (words : List ℕ)
       × (text ≡ config_fault_text fault ++ codes ": " ++ words)
+  pub config_told : (bytes : List ℕ) (rest old new : Option (List ℕ)) → ExplainsConfig 1 (Some bytes) rest old new
+      → (fault : ConfigFault) × (settings_of bytes ≡ Err fault) × WroteUnder (config_heading fault) old new
   pub config_untold : (input rest old new : Option (List ℕ)) → ExplainsConfig 3 input rest old new
       → (fault : ReplayFault) × LeavesUnsaid (IsTextOfConfig input) fault old new
   pub config_taken_off : (exit : ℕ) (bytes old new : List ℕ)
