@@ -9,4 +9,5 @@ mod CurveChoices
 mod AxisScales
 mod SectionOrder
 mod ConfigRows
+mod PartRows
 mod SectionRows

@@ -8,3 +8,4 @@ pub mod ConfigWords
 pub mod ConfigExamples
 pub mod SectionExamples
 pub mod ConfigLaws
+pub mod PartExamples

@@ -3,6 +3,7 @@
 ghost use Rattle.std.specs.Prelude.{◌≡◌, ℕ, List, Ok};
 ghost use Rattle.cell_config.specs.ConfigExamples.{ConfigsAreMet};
 ghost use Rattle.cell_config.specs.ConfigLaws.{AreCalibrated, LetterLimits, TextLimits};
+ghost use Rattle.cell_config.specs.PartExamples.{PartsAreMet};
 ghost use Rattle.cell_config.specs.SectionExamples.{SectionsAreMet};
 ghost use Rattle.cell_config.specs.Settings.{Settings, settings_of};
 
@@ -21,9 +22,11 @@ pub fn settings_are_calibrated()
 {}
 
 /// Examples: configurations and what they say, or why they are refused: each key, each kind, both
-/// ends of each range, and the first of two faults; the words of each fault, and the bytes read.
+/// ends of each range, and the first of two faults; the words of each fault, and the bytes read. And their
+/// parts in figures.
 pub fn configs_are_met()
-    ensures { ConfigsAreMet }
+    ensures configs { ConfigsAreMet }
+    ensures parts { PartsAreMet }
 {}
 
 /// Examples: sections that are refused, and the only thing that `check_sections` may say of each:
