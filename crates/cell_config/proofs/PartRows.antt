@@ -1,7 +1,5 @@
 -- The parts of configurations in the examples.
-use Rattle.cell_config.proofs.Names.{Pair, rules, ◌≡◌, ℕ, pos, true, false, List, [], ◌∷◌, Option, Some, None, Ok, Err, inl, refl, ap, arith, length, chars, is_utf8, settings_of}
-use Rattle.toml.proofs.OnLiterals.{toml_on_literals}
-use Rattle.cell_config.specs.Configured.{in_order}
+use Rattle.cell_config.proofs.Names.{Pair, rules, ℕ, List, [], ◌∷◌, inl, refl, ap, arith, chars}
 use Rattle.cell_config.specs.PartExamples.{KeyExamples, LetterExamples, PartsAreMet, RefusedExamples, SaidExamples, StepExamples, ValueExamples}
 
 letters : LetterExamples

@@ -1,5 +1,5 @@
 -- The steps of an answer in the examples.
-use Rattle.std.proofs.Common.{rules, ◌≡◌, ◌≤◌, ℕ, true, false, List, [], ◌∷◌, length, take, drop, refl, subst, Some, None, arith, codes}
+use Rattle.std.proofs.Common.{rules, ◌≡◌, ◌≤◌, ℕ, true, false, List, [], ◌∷◌, length, take, drop, refl, subst, Some, arith, codes}
 use Rattle.std.specs.Prelude.{option_map}
 use Rattle.std.specs.Fmt.{digits}
 use Rattle.cell_replay.specs.Requests.{call_of, machine_of, request_of}

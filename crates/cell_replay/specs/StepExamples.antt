@@ -19,7 +19,7 @@ use Rattle.cell_replay.specs.Records.{GivesRow, RowsLeft}
 use Rattle.cell_replay.specs.Requests.{machine_of, request, request_by, request_fields, request_of}
 use Rattle.cell_replay.specs.Script.{byte_limit, end_of, event_lines, events_from, history_of, is_cut_of, line_of}
 use Rattle.cell_replay.specs.Script.{lines_from, outcome_from, requests_in, rows_start, script_outcome, script_text}
-use Rattle.cell_replay.specs.Script.{start_fields, start_line, used, without_last}
+use Rattle.cell_replay.specs.Script.{start_line, used, without_last}
 use Rattle.cell_replay.specs.ScriptExamples.{asks, first, nonsense}
 use Rattle.cell_replay.specs.Versions.{all_versions, further_calls, has_call, version_of, version_word}
 use Rattle.cell_replay.specs.Writing.{IsGrown, Writes, WritesEnd, WritesLine, WritesScript, lines_after, lines_left}
