@@ -10,5 +10,8 @@ returns c = record {
   robot = refl;
   press_low = refl;
   press_high = refl;
+  turned = refl;
+  robot_far = refl;
+  lowered = refl;
   crane = refl;
 }
