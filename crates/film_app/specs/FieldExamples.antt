@@ -1,6 +1,6 @@
 -- Fields of lines, in literal text: moving axes, words with letters, each machine's status, and what a film keeps.
 use Rattle.std.specs.Prelude.{◌≡◌, ℕ, pos, true, false, List, [], ◌∷◌, ◌++◌, codes, map, replicate, Some, None, Ok, Err}
-use Rattle.cell_rules.specs.Types.{Feed, Table, Robot, Press, Deposit, Crane, Watch, Refused, Done, Worn, Settled, Busy}
+use Rattle.cell_rules.specs.Types.{Feed, Press, Crane, Watch, Refused, Done, Worn, Settled, Busy}
 use Rattle.cell_rules.specs.Names.{ModelState, place_set, start_state}
 use Rattle.cell_rules.specs.declared.heard.LineFault.TheVariants.{Memory}
 use Rattle.cell_notes.specs.Names.{at_machine, each_machine, with_machine}
