@@ -139,11 +139,11 @@ forms = record {
     asks_what_it_tells = λ k. (let c = claims_only _ k.0 k.2.1.sensed k.2.0 k.1 k.2.1.senses k.2.1.performs in let lie : None ≡ Some (Claim Z3, c.0) = c.1 in cc);
     stopped_asks_nothing = λ k. (let lie : Some (Claim Z3, Ok (Settled Done 5)) ≡ None = k.2.0.1 in cc);
     well = refl;
-    faulty = refl;
+    faulty = λ fault. refl;
     with_commands = refl;
-    with_fault = refl;
+    with_fault = λ fault. refl;
     turned_well = refl;
-    turned_faulty = refl;
+    turned_faulty = λ fault. refl;
   };
   wirings = record {
     wiring = refl;

@@ -42,8 +42,8 @@ shares = record {
     any_posture = refl;
     its_posture = refl;
     other_posture = refl;
-    in_posture = refl;
-    in_any_posture = refl;
+    in_posture = λ share posture. refl;
+    in_any_posture = λ share. refl;
   };
   kept = kept;
 }

@@ -8,6 +8,7 @@ use Rattle.cell_rules.specs.Names.{ModelState, IsSound}
 use Rattle.cell_sensors.specs.declared.sense.SensorFault.TheVariants.{High}
 use Rattle.cell_control.specs.declared.controller.Controller.{Controller}
 use Rattle.cell_control.specs.declared.controller.TakenTurn.{TakenTurn}
+use Rattle.cell_control.specs.declared.fault.CtlFault.{CtlFault}
 use Rattle.cell_control.specs.declared.fault.CtlFault.TheVariants.{Memory}
 use Rattle.cell_control.specs.declared.row.Row.{Row}
 use Rattle.cell_control.specs.declared.row.Waits.TheVariants as waits
@@ -181,13 +182,13 @@ pub record ControllerExamples : Type 0 where
     asked = Some (Claim Z3, Ok (Settled Done 5));
   }) stopped
   pub well : answered {Act = ℕ} 3 None ≡ Ok 3
-  pub faulty : answered {Act = ℕ} 3 (Some Memory) ≡ Err Memory
+  pub faulty : (fault : CtlFault) → answered {Act = ℕ} 3 (Some fault) ≡ Err fault
   pub with_commands : at_rest {Act = ℕ} 3 (Ok Rising) ≡ Ok (Rising, 3)
-  pub with_fault : at_rest {S = SmallStep} {Act = ℕ} 3 (Err Memory) ≡ Err Memory
+  pub with_fault : (fault : CtlFault) → at_rest {S = SmallStep} {Act = ℕ} 3 (Err fault) ≡ Err fault
   pub turned_well : turned {Act = ℕ} Giving (Ok (Rising, 3))
       ≡ record { result = Ok 3; progress = Rising; stopped = None }
-  pub turned_faulty : turned {Act = ℕ} Giving (Err Memory)
-      ≡ record { result = Err Memory; progress = Giving; stopped = Some Memory }
+  pub turned_faulty : (fault : CtlFault) → turned {Act = ℕ} Giving (Err fault)
+      ≡ record { result = Err fault; progress = Giving; stopped = Some fault }
 
 -- a machine on its line, and off it; one that has stopped may be at any step
 pub record WiringExamples : Type 0 where

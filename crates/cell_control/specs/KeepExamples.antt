@@ -1,6 +1,6 @@
 -- What a share of a zone asks for, by whether the machine owns the zone and whether a plate is there.
 use Rattle.std.specs.Prelude.{◌≡◌, Bool, true, false, ◌&&◌, List, [], ◌∷◌, Some, None}
-use Rattle.cell_rules.specs.Types.{Machine, Zone, Closed, Moving, OpenIn, OpenOut}
+use Rattle.cell_rules.specs.Types.{Machine, Posture, Zone, Closed, Moving, OpenIn, OpenOut}
 use Rattle.cell_rules.specs.Names.{ModelState, owns, posture_at, zone_at}
 use Rattle.cell_rules.specs.Types.{same_posture}
 use Rattle.cell_control.specs.declared.share.Share.{Share}
@@ -23,8 +23,9 @@ pub record ShareExamples : Type 0 where
   pub any_posture : is_posed None Moving ≡ true
   pub its_posture : is_posed (Some OpenOut) OpenOut ≡ true
   pub other_posture : is_posed (Some OpenOut) OpenIn ≡ false
-  pub in_posture : posed Lent Closed ≡ record { share = Lent; posture = Some Closed }
-  pub in_any_posture : unposed Loaded ≡ record { share = Loaded; posture = None }
+  pub in_posture : (share : Share) (posture : Posture)
+      → posed share posture ≡ record { share = share; posture = Some posture }
+  pub in_any_posture : (share : Share) → unposed share ≡ record { share = share; posture = None }
 
 -- of a machine and a zone, by what the state has there; all zones of a list have to be kept
 pub record KeepExamples (m : Machine) (z : ModelState) (y : Zone) : Type 0 where

@@ -6,7 +6,7 @@ use Rattle.cell_picture.specs.Parts.{last_take, shown_part, takes_plate}
 use Rattle.cell_picture.specs.Ramps.{ramp_at}
 use Rattle.cell_picture.specs.Spots.{at_gripper, comes_in, goes_out, on_arm1, on_arm2, on_deposit, on_feed, plate_spot, stages}
 use Rattle.cell_picture.specs.Values.{value_text}
-use Rattle.cell_picture.specs.PictureExamples.{TakeExamples, PartExamples, ColumnExamples, RampExamples, ValueExamples, SpotExamples, PlateExamples, PictureExamples}
+use Rattle.cell_picture.specs.PictureExamples.{TakeExamples, PartExamples, ColumnExamples, RampExamples, ValueExamples, SpotExamples, PlateExamples, TextMeans, PictureExamples}
 
 take-rows : TakeExamples
 unfolding takes_plate
@@ -140,6 +140,13 @@ plate-rows = record {
   blank = refl;
 }
 
+text-means : TextMeans
+unfolding Rattle.cell_picture.specs.Pictures.plates_text
+text-means = record {
+  whole = λ part count text shows. (shows.machines, shows.plate, shows.columns, shows.plate_columns, shows.whole);
+  plates = λ part plate. refl;
+}
+
 pub picture-examples : PictureExamples
 picture-examples = record {
   takes = take-rows;
@@ -149,4 +156,5 @@ picture-examples = record {
   values = value-rows;
   spots = spot-rows;
   plates = plate-rows;
+  text = text-means;
 }

@@ -17,9 +17,12 @@ use Rattle.cell_picture.specs.declared.values.Value.TheVariants.{FeedEdge, Depos
 use Rattle.cell_picture.specs.declared.values.Value.TheVariants.{TableHeight, PressHeight, RobotTurn}
 use Rattle.cell_picture.specs.declared.values.Value.TheVariants.{Arm1, Arm2, CraneWay, GripperHeight, PlateShift}
 use Rattle.cell_picture.specs.declared.values.Value.TheVariants.{PlateAngle, PlateReach, PlateForged}
-use Rattle.cell_picture.specs.Columns.{attribute_text, column_end, frame_at, transform_text}
+use Rattle.cell_picture.specs.declared.pieces.Piece.{Piece}
+use Rattle.cell_picture.specs.declared.pieces.TheConstants.{PICTURE_HEAD, PICTURE_TAIL}
+use Rattle.cell_picture.specs.Columns.{attribute_text, column_end, frame_at, machine_values, pieces_text}
+use Rattle.cell_picture.specs.Columns.{plate_values, transform_text, values_in}
 use Rattle.cell_picture.specs.Parts.{shown_part, takes_plate}
-use Rattle.cell_picture.specs.Pictures.{plates_in}
+use Rattle.cell_picture.specs.Pictures.{ShowsPart, plates_in, plates_text}
 use Rattle.cell_picture.specs.Ramps.{less, ramp, ramp_at}
 use Rattle.cell_picture.specs.Spots.{on_deposit, on_feed, plate_spot}
 use Rattle.cell_picture.specs.Values.{colour, value_text}
@@ -240,6 +243,14 @@ pub record PlateExamples : Type 0 where
   pub forged : value_text PlateForged 1 both ≡ codes "1"
   pub blank : value_text PlateForged 0 both ≡ codes "0"
 
+-- a text that shows a part of a film has its head, the machines' pieces with all their columns, each plate's, and its tail
+pub record TextMeans : Type 0 where
+  pub whole : (part : List Frame) (count : ℕ) (text : List ℕ) → ShowsPart part count text
+      → (machines plate : List Piece) × (values_in machines ≡ machine_values) × (values_in plate ≡ plate_values)
+      × (text ≡ PICTURE_HEAD.now ++ (pieces_text part 0 machines ++ (plates_text part plate count ++ PICTURE_TAIL.now)))
+  pub plates : (part : List Frame) (plate : List Piece)
+      → plates_text part plate 2 ≡ pieces_text part 0 plate ++ pieces_text part 1 plate
+
 pub record PictureExamples : Type 0 where
   pub takes : TakeExamples
   pub parts : PartExamples
@@ -248,3 +259,4 @@ pub record PictureExamples : Type 0 where
   pub values : ValueExamples
   pub spots : SpotExamples
   pub plates : PlateExamples
+  pub text : TextMeans

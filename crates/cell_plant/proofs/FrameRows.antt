@@ -77,6 +77,15 @@ frame_examples = record {
   apart = refl;
   axes_are_apart = λ e. not_so (equals (pos 5) (pos 2)) refl (ap (λ (p : PlantState). p.table.lift.position) e);
   status_apart = refl;
+  statuses = λ w. record {
+    feed = refl;
+    table = refl;
+    robot = refl;
+    press = refl;
+    deposit = refl;
+    crane = refl;
+    watch = refl;
+  };
   wrong = wrong;
   shown = shown;
 }

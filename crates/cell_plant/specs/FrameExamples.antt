@@ -1,5 +1,6 @@
 -- The frames of a literal run, and films that are wrong in one thing.
 use Rattle.std.specs.Prelude.{◌≡◌, false, List, [], ◌∷◌, ◌++◌, Some, None, Result, Ok, Err}
+use Rattle.cell_rules.specs.Types.{Table, Robot, Deposit, Crane}
 use Rattle.cell_rules.specs.Types.{Feed, Press, Watch, Z1, Z3, Z6, Closed, Claim, Stop, Done, Refused, Shut, Settled}
 use Rattle.cell_rules.specs.Types.{Busy, FeedEnd}
 use Rattle.cell_devices.specs.declared.motor.Motor.TheVariants.{Minus}
@@ -21,6 +22,8 @@ use Rattle.cell_plant.specs.declared.frame.MachineSteps.{MachineSteps}
 use Rattle.cell_plant.specs.declared.observer.SeenFault.TheVariants as ends
 use Rattle.cell_plant.specs.Frames.{IsCut, IsShown, frame_of, frames_of}
 use Rattle.cell_plant.specs.Runs.{Step}
+use Rattle.cell_plant.specs.CellStates.{CellState, statuses_in}
+use Rattle.cell_unit.specs.Statuses.{status_of}
 use Rattle.cell_plant.specs.RecordExamples.{axes_apart, last_apart}
 use Rattle.cell_plant.specs.RunExamples.{opening, entered, stopped, schedule, steps, turn_of, busy_turn_of}
 use Rattle.cell_plant.specs.RunExamples.{claims_entry, press_falls}
@@ -143,6 +146,16 @@ pub record ShownExamples : Type 0 where
   pub no_turn_is_left : ¬ IsCut {E = Unit {0}} ends.Memory []
   pub fails_last : IsCut {E = Unit {0}} (ends.Observer tt) []
 
+-- each machine's status is by what has stopped it
+pub record StatusesAreTheirs (w : CellState) : Type 0 where
+  pub feed : (statuses_in w).feed ≡ status_of (w.side Feed).stopped
+  pub table : (statuses_in w).table ≡ status_of (w.side Table).stopped
+  pub robot : (statuses_in w).robot ≡ status_of (w.side Robot).stopped
+  pub press : (statuses_in w).press ≡ status_of (w.side Press).stopped
+  pub deposit : (statuses_in w).deposit ≡ status_of (w.side Deposit).stopped
+  pub crane : (statuses_in w).crane ≡ status_of (w.side Crane).stopped
+  pub watch : (statuses_in w).watch ≡ status_of (w.side Watch).stopped
+
 -- ---- all of these
 
 -- a press that falls is shown with its motor on; machines that differ are shown as they are
@@ -161,5 +174,6 @@ pub record FrameExamples : Type 0 where
     crane = Memory;
     watch = Worn;
   }
+  pub statuses : (w : CellState) → StatusesAreTheirs w
   pub wrong : WrongFilms
   pub shown : ShownExamples
