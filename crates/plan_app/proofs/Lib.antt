@@ -9,3 +9,5 @@ mod LineRows
 mod GoingRows
 mod InputRows
 mod ScreenRows
+mod Verdicts
+mod HazardRows

@@ -1,7 +1,7 @@
 -- The examples of `report_lines_are_met`, `header_lines_are_met`, `party_lines_are_met` and `texts_are_whole`.
 use Rattle.std.proofs.Common.{refl}
 use Rattle.std.specs.Fmt.{digits}
-use Rattle.plan_app.specs.Headers.{header_text}
+use Rattle.plan_app.specs.Headers.{header_text, motors_part}
 use Rattle.plan_app.specs.LineExamples.{HeaderLines, PartyLines, ReportLines, WholeTexts}
 use Rattle.plan_app.specs.Reports.{report_text}
 
@@ -50,12 +50,13 @@ party-lines = record {
 }
 
 pub whole-texts : WholeTexts
-unfolding digits report_text header_text
+unfolding digits report_text header_text motors_part
 whole-texts = record {
   report = refl;
   names = refl;
   poses = refl;
   word = refl;
   bytes = refl;
+  with_motors = refl;
   header = refl;
 }

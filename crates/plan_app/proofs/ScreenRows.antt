@@ -56,7 +56,7 @@ answers-meant = record {
 
 pub served-meant : ServedIsMeant
 served-meant = record {
-  report = λ old new said. said;
+  report = λ old new (plan, is, (text, tells, wrote)). (plan, is, text, tells, wrote);
   header = λ old new said. said;
   answers = λ old new (plan, is, (clean, wrote)). (plan, is, clean, wrote);
   free = λ old new (plan, is, (opening, at, (text, tells, wrote))). (plan, is, opening, at, text, tells, wrote);

@@ -1,4 +1,4 @@
--- What `plan header` prints of a plan: numbers for its names, the layout of its word, and its bytes.
+-- What `plan header` prints of a plan: numbers for its names, the layout of its word, its motors' masks, and its bytes.
 use Rattle.std.specs.Prelude.{ℕ, ◌%◌, nat_eq, [], ◌++◌, codes, flat_map, get_or, length, List}
 use Rattle.std.specs.Prelude.{if◌then◌else◌}
 use Rattle.std.specs.Fmt.{decimal}
@@ -8,11 +8,15 @@ use Rattle.plan_types.specs.Bytes.{bytes_of}
 use Rattle.plan_word.specs.Layout.{Counts, counts_of, has, start_of, width_of}
 use Rattle.plan_word.specs.declared.layout.Field.{Field}
 use Rattle.plan_word.specs.declared.layout.Field.TheVariants.{Zone, Place, Stamp, Stop}
+use Rattle.plan_motors.specs.declared.motor.Motor.{Motor}
+use Rattle.plan_motors.specs.Mask.{mask_of, pattern_of}
+use Rattle.plan_motors.specs.OfPlan.{motor_at}
 use Rattle.plan_text.specs.Names.{Text, name_in}
 use Rattle.plan_text.specs.Named.{Named}
 use Rattle.plan_app.specs.Words.{capitals, machine_name, zone_name}
 use Rattle.plan_app.specs.declared.header.TheConstants.{BEGIN, ZONES, PLACES, POSES, PARTIES, CODES, BITS}
 use Rattle.plan_app.specs.declared.header.TheConstants.{BYTES, END}
+use Rattle.plan_app.specs.declared.header_motors.TheConstants.{MOTORS}
 
 -- a name in capitals, and its number
 abbrev pub defined : Text → ℕ → Text
@@ -83,6 +87,27 @@ bit_lines n =
     flat_map (zone_bit n) (range_with_len 0 (length n.zones))
     ++ (flat_map (place_bit n) (range_with_len 0 (length n.places)) ++ last_bits n)
 
+-- ---- the motors: which bits of a word each looks at, and what they have to be
+
+-- a name in capitals, and bits of a word
+abbrev pub bits_defined : Text → ℕ → Text
+bits_defined name bits = codes "#define PLAN_" ++ (name ++ (codes " UINT64_C(" ++ (decimal bits ++ codes ")\n")))
+
+abbrev pub bits_line : Text → Text → ℕ → Text
+bits_line kind name bits = bits_defined (capitals (kind ++ name)) bits
+
+abbrev pub mask_lines : Named → List Text → List Motor → ℕ → Text
+mask_lines n names motors k =
+    bits_line (codes "mask_") (name_in names k) (mask_of n.plan (motor_at motors k))
+    ++ bits_line (codes "pattern_") (name_in names k) (pattern_of n.plan (motor_at motors k))
+
+abbrev pub some_motors : Named → List Text → List Motor → Text
+some_motors n names motors = MOTORS.now ++ flat_map (mask_lines n names motors) (range_with_len 0 (length names))
+
+-- of a plan without motors nothing
+unfoldable pub motors_part : Named → List Text → List Motor → Text
+motors_part n names motors = if nat_eq (length names) 0 then [] else some_motors n names motors
+
 -- ---- the plan as bytes, eight in a line
 
 abbrev pub byte_gap : ℕ → Text
@@ -126,5 +151,6 @@ table_text bytes = BYTES.now ++ (byte_words bytes ++ END.now)
 abbrev pub bytes_part : Named → Text
 bytes_part n = table_text (bytes_of n.plan)
 
-unfoldable pub header_text : Named → Text
-header_text n = names_part n ++ (parties_part n ++ (word_part n ++ bytes_part n))
+unfoldable pub header_text : Named → List Text → List Motor → Text
+header_text n names motors =
+    names_part n ++ (parties_part n ++ (word_part n ++ (motors_part n names motors ++ bytes_part n)))

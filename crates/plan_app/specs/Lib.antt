@@ -2,6 +2,7 @@ pub mod Requests
 pub mod Input
 pub mod Words
 pub mod Reports
+pub mod Hazards
 pub mod Headers
 pub mod Going
 pub mod Starving
@@ -12,6 +13,7 @@ pub mod WordExamples
 pub mod StarvingExamples
 pub mod SizeExamples
 pub mod LineExamples
+pub mod HazardExamples
 pub mod GoingExamples
 pub mod InputExamples
 pub mod ScreenExamples

@@ -3,6 +3,7 @@ use Rattle.std.specs.Prelude.{◌≡◌, List, false, [], ◌∷◌, ◌++◌, c
 use Rattle.plan_types.specs.Table.{PlanTable, plan_table}
 use Rattle.plan_types.specs.Examples.{lift_table, pose, zone}
 use Rattle.plan_rules.specs.Examples.{presses_table}
+use Rattle.plan_motors.specs.Examples.{fan}
 use Rattle.plan_word.specs.Layout.{counts_of}
 use Rattle.plan_word.specs.declared.layout.Field.TheVariants.{Stamp, Stop}
 use Rattle.plan_text.specs.Names.{Text}
@@ -136,5 +137,8 @@ pub record WholeTexts : Type 0 where
       ++ codes "#define PLAN_BITS_ZONE 5\n" ++ codes "#define PLAN_BITS_PLACE 1\n"
       ++ codes "#define PLAN_BITS_STAMP 20\n" ++ codes "#define PLAN_BITS_STOP 1\n" ++ codes "#define PLAN_BITS 35\n"
   pub bytes : header.bytes_part gates ≡ gates_bytes
-  pub header : header.header_text gates
+  pub with_motors : header.header_text gates (codes "fan" ∷ []) (fan ∷ [])
+      ≡ header.names_part gates ++ header.parties_part gates ++ header.word_part gates
+      ++ header.motors_part gates (codes "fan" ∷ []) (fan ∷ []) ++ gates_bytes
+  pub header : header.header_text gates [] []
       ≡ header.names_part gates ++ header.parties_part gates ++ header.word_part gates ++ gates_bytes

@@ -1,4 +1,4 @@
--- What `plan check` prints of a plan.
+-- What `plan check` prints of any plan.
 use Rattle.std.specs.Prelude.{ℕ, nat_eq, [], ◌++◌, codes, flat_map, length, List, if◌then◌else◌}
 use Rattle.std.specs.Fmt.{decimal}
 use Rattle.std.specs.List.{range_with_len}

@@ -1,5 +1,5 @@
 -- What the program has written, by the plan of the document in its input.
-use Rattle.std.specs.Prelude.{◌≡◌, ℕ, List, Option, Ok, IfSome}
+use Rattle.std.specs.Prelude.{◌≡◌, ℕ, true, List, Option, Ok, IfSome}
 use Rattle.std.specs.Io.KnownBytes.{Appends}
 use Rattle.plan_rules.specs.declared.state.State.{State}
 use Rattle.plan_explorer.specs.Programs.{PlanPrograms}
@@ -10,7 +10,7 @@ use Rattle.csv_rows.specs.declared.script_end.Outcome.TheVariants.{Clean}
 use Rattle.plan_text.specs.Script.{script_answers, script_start}
 use Rattle.plan_app.specs.Headers.{header_text}
 use Rattle.plan_app.specs.Input.{document_in, script_in}
-use Rattle.plan_app.specs.Reports.{report_text}
+use Rattle.plan_app.specs.Hazards.{TellsReport}
 use Rattle.plan_app.specs.Screens.{TellsFree}
 
 -- ---- by a plan
@@ -30,6 +30,10 @@ FindsFree plan script old new =
     (opening : State) × (script_start plan.named script ≡ Ok opening)
     × WritesFree plan.named plan.programs opening old new
 
+-- a report, by which the motors of each hazard are kept apart, was written, and nothing else
+abbrev pub WritesReport : ProgrammedPlan → Option (List ℕ) → Option (List ℕ) → Type 0
+WritesReport plan old new = (text : List ℕ) × TellsReport plan true text × Appends old new text
+
 -- ---- by the plan of the document in these bytes
 
 -- the script after it was answered
@@ -42,15 +46,15 @@ abbrev pub FindsFreeIn : List ℕ → Option (List ℕ) → Option (List ℕ) �
 FindsFreeIn bytes old new =
     (plan : ProgrammedPlan) × IsPlanIn (document_in bytes) plan × FindsFree plan (script_in bytes) old new
 
--- its report was written, and nothing else
+-- its report was written, by which the motors of each hazard are kept apart, and nothing else
 abbrev pub ReportsIn : List ℕ → Option (List ℕ) → Option (List ℕ) → Type 0
 ReportsIn bytes old new =
-    (plan : ProgrammedPlan) × IsPlanIn (document_in bytes) plan × Appends old new (report_text plan.named)
+    (plan : ProgrammedPlan) × IsPlanIn (document_in bytes) plan × WritesReport plan old new
 
 -- or its header
 abbrev pub WritesHeaderIn : List ℕ → Option (List ℕ) → Option (List ℕ) → Type 0
 WritesHeaderIn bytes old new =
-    (plan : ProgrammedPlan) × IsPlanIn (document_in bytes) plan × Appends old new (header_text plan.named)
+    (plan : ProgrammedPlan) × IsPlanIn (document_in bytes) plan × Appends old new (header_text plan.named plan.motors.names plan.motors.motors.items)
 
 -- ---- by the plan of the document in the input
 

@@ -49,7 +49,11 @@ pub fn screen_of(
     ensures { IfOk result
         (λ screen. spec.IsScreen plan.now.named plan.now.programs opening.now screen) }
 {
-    let ProgrammedPlan { named, programs } = plan;
+    let ProgrammedPlan {
+        named,
+        programs,
+        ..
+    } = plan;
     match explore(alloc, named.plan(), opening, programs)? {
         Explored::Free(situations) => free_screen(alloc, plan, opening, situations),
         Explored::Standstill(turns) => { standstill_screen(alloc, plan, opening, turns.as_slice()) }

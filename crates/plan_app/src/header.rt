@@ -1,4 +1,4 @@
-//! What `plan header` prints: a plan's names and the layout of its word, for C and C++.
+//! What `plan header` prints: a plan's names, the layout of its word, and its motors' masks, for C and C++.
 ghost use Rattle.std.specs.Prelude.{◌≡◌, ◌<◌, ◌++◌, IfOk, OnOk, flat_map, length, string_bytes};
 ghost use Rattle.std.specs.List.{range_with_len};
 ghost use Rattle.plan_types.specs.Table.{keeper_of};
@@ -7,6 +7,8 @@ ghost use Rattle.plan_word.specs.Layout.{counts_of};
 ghost use Rattle.plan_app.specs.Headers as spec;
 ghost use Rattle.plan_app.specs.Words as words;
 
+use crate::header_motors::push_motors_part;
+use plan_document::ProgrammedPlan;
 use plan_text::{NamedPlan, Names};
 use plan_types::{Plan, write_tables};
 use plan_word::{Field, Layout};
@@ -70,29 +72,33 @@ const BYTES: &str =
 /// How the header ends.
 const END: &str = "\n};\n\n#endif\n";
 
-/// What `plan header` prints of a plan: its names' numbers, the parties of its zones, its word's fields and its bytes.
-pub fn header_of(alloc: Global, named: &NamedPlan) -> Result<String, AllocError>
-    ensures { IfOk result (λ text. string_bytes text ≡ spec.header_text named.now) }
+/// What `plan header` prints of a plan: its names' numbers, the parties of its zones, its word's fields, the masks of its
+/// motors and its bytes.
+pub fn header_of(alloc: Global, plan: &ProgrammedPlan) -> Result<String, AllocError>
+    ensures { IfOk result (λ text. string_bytes text
+        ≡ spec.header_text plan.now.named plan.now.motors.names plan.now.motors.motors.items) }
 {
     let mut text = String::new(alloc);
-    match push_header(alloc, &mut text, named) {
+    match push_header(alloc, &mut text, plan) {
         Ok(()) => Ok(text),
         Err(error) => Err(error),
     }
 }
 
 #[tactic(auto, unfolding(crate::specs::Headers::header_text))]
-fn push_header(alloc: Global, text: &mut String, named: &NamedPlan) -> Result<(), AllocError>
-    ensures { OnOk result (string_bytes text.new ≡ string_bytes text.old ++ spec.header_text named.now) }
+fn push_header(alloc: Global, text: &mut String, plan: &ProgrammedPlan) -> Result<(), AllocError>
+    ensures { OnOk result (string_bytes text.new ≡ string_bytes text.old
+        ++ spec.header_text plan.now.named plan.now.motors.names plan.now.motors.motors.items) }
 {
-    push_names_part(alloc, text, named)?;
-    push_parties_part(alloc, text, named)?;
-    push_word_part(alloc, text, named)?;
-    push_bytes_part(alloc, text, named)
+    push_names_part(alloc, text, &plan.named)?;
+    push_parties_part(alloc, text, &plan.named)?;
+    push_word_part(alloc, text, &plan.named)?;
+    push_motors_part(alloc, text, &plan.named, &plan.motors)?;
+    push_bytes_part(alloc, text, &plan.named)
 }
 
 /// A text in capitals.
-fn capitals_of(alloc: Global, text: &str) -> Result<String, AllocError>
+pub(crate) fn capitals_of(alloc: Global, text: &str) -> Result<String, AllocError>
     ensures { IfOk result (λ capitals. string_bytes capitals ≡ words.capitals text.now) }
 {
     text.to_ascii_uppercase(alloc)

@@ -1,6 +1,7 @@
 //! Laws of what is printed, each the contract of a function that does nothing.
 
 ghost use Rattle.plan_app.specs.GoingExamples.{EventLines, MachinesAreTold, WalksAreTold};
+ghost use Rattle.plan_app.specs.HazardExamples.{AreKept, HazardLines, KeptMotorsAreNeverBoth, MaskLines};
 ghost use Rattle.plan_app.specs.InputExamples.{InputsAreSplit, RequestsAreRead, WordsAreMade};
 ghost use Rattle.plan_app.specs.LineExamples.{HeaderLines, PartyLines, ReportLines, WholeTexts};
 ghost use Rattle.plan_app.specs.ScreenExamples.{AnswersAreMeant, KindsOfScreens, ScreensAreMeant};
@@ -22,6 +23,22 @@ pub fn plates_are_told()
 /// Examples: by which answers a machine may starve, or plates may rest, so that `plan explore` ends with status 1.
 pub fn starving_is_known()
     ensures { StarvingIsKnown }
+{}
+
+/// Examples: what is said of hazards, line by line and whole, and what is kept apart.
+pub fn hazard_lines_are_met()
+    ensures lines { HazardLines }
+    ensures kept { AreKept }
+{}
+
+/// Examples: the masks of a lift's motors in its header.
+pub fn masks_are_printed()
+    ensures { MaskLines }
+{}
+
+/// If the status of `check` says that all is well, the motors of each hazard are never permitted both, from a start on.
+pub fn kept_motors_are_never_both()
+    ensures { KeptMotorsAreNeverBoth }
 {}
 
 /// Examples: lines of reports, whole.

@@ -1,5 +1,5 @@
-//! What `plan check` prints of a plan.
-ghost use Rattle.std.specs.Prelude.{◌≡◌, ◌≤◌, ◌++◌, IfOk, OnOk, flat_map, length, string_bytes};
+//! What `plan check` prints of any plan.
+ghost use Rattle.std.specs.Prelude.{◌≡◌, ◌≤◌, ◌++◌, OnOk, flat_map, length, string_bytes};
 ghost use Rattle.std.specs.List.{range_with_len};
 ghost use Rattle.plan_word.specs.Layout.{counts_of};
 ghost use Rattle.plan_app.specs.Reports as spec;
@@ -7,22 +7,12 @@ ghost use Rattle.plan_app.specs.Reports as spec;
 use crate::words::ending;
 use plan_text::{NamedPlan, Names};
 use plan_word::{Field, Layout};
-use std::alloc::{AllocError, Global};
+use std::alloc::AllocError;
 
-/// What `plan check` prints of a plan: a line for each kind of names, one for the width of its word, and one for each
-/// field of the word.
-pub fn report_of(alloc: Global, named: &NamedPlan) -> Result<String, AllocError>
-    ensures { IfOk result (λ text. string_bytes text ≡ spec.report_text named.now) }
-{
-    let mut text = String::new(alloc);
-    match push_report(&mut text, named) {
-        Ok(()) => Ok(text),
-        Err(error) => Err(error),
-    }
-}
-
+/// Adds what `plan check` prints of any plan: a line for each kind of names, one for the width of its word, and one for
+/// each field of the word.
 #[tactic(auto, unfolding(crate::specs::Reports::report_text))]
-fn push_report(text: &mut String, named: &NamedPlan) -> Result<(), AllocError>
+pub fn push_report(text: &mut String, named: &NamedPlan) -> Result<(), AllocError>
     ensures { OnOk result (string_bytes text.new ≡ string_bytes text.old ++ spec.report_text named.now) }
 {
     push_kinds(text, named)?;
@@ -41,7 +31,7 @@ fn push_kinds(text: &mut String, named: &NamedPlan) -> Result<(), AllocError>
 }
 
 /// Adds how many names of a kind there are, and the names.
-fn push_names(text: &mut String, kind: &str, names: &Names) -> Result<(), AllocError>
+pub fn push_names(text: &mut String, kind: &str, names: &Names) -> Result<(), AllocError>
     ensures { OnOk result (string_bytes text.new ≡ string_bytes text.old ++ spec.names_line kind.now names.now) }
 {
     let count = names.len();

@@ -8,16 +8,15 @@ ghost use Rattle.program_shell.specs.Versions.{version_line};
 ghost use Rattle.program_shell.specs.Words.{texts_of};
 ghost use Rattle.plan_app.specs.Headers.{header_text};
 ghost use Rattle.plan_app.specs.Input.{byte_limit, max_bytes_read};
-ghost use Rattle.plan_app.specs.Reports.{report_text};
 ghost use Rattle.plan_app.specs.Served.{AnswersIn, AnswersInput, AnswersScript, FindsFree};
 ghost use Rattle.plan_app.specs.Served.{FindsFreeIn, FindsInputFree, Reports, ReportsIn};
-ghost use Rattle.plan_app.specs.Served.{WritesFree, WritesHeader, WritesHeaderIn};
+ghost use Rattle.plan_app.specs.Served.{WritesFree, WritesHeader, WritesHeaderIn, WritesReport};
 ghost use Rattle.plan_app.specs.Requests.{request_of};
 
 use crate::explore::{Screen, screen_of};
+use crate::hazards::{Report, report_of};
 use crate::header::header_of;
 use crate::input::{MAX_BYTES, plan_length};
-use crate::report::report_of;
 use crate::request;
 use crate::request::Request;
 use crate::size::{MAX_SITUATIONS, is_large};
@@ -34,7 +33,8 @@ use text_io::{InputFault, read_up_to};
 /// The help.
 const HELP: &str = "\
 Reads a plan of a plant, in TOML, from standard input.
-  plan check      says what it is, and the layout of its word, or its first fault
+  plan check      says what it is, the layout of its word, and what keeps the motors of each
+                  hazard apart, or its first fault
   plan replay     answers the script after it, which begins with the line start,..
   plan explore    says whether some order of turns of its programs leads from the start
                   after it, a line start,.., to a standstill; and else whether each machine
@@ -43,8 +43,8 @@ Reads a plan of a plant, in TOML, from standard input.
   plan --version  prints the version
 A script may follow the plan in each case. At most 1,000,000 situations are explored; more
 are fault large. Exit status: 0 on success, and for help; 2 for bad arguments; otherwise
-1: a fault, a standstill, an order in which a machine starves or plates rest, or a failed
-write.
+1: a fault, motors that aren't kept apart, a standstill, an order in which a machine starves
+or plates rest, or a failed write.
 
 Example:
   cat examples/plans/press.toml examples/plans/press.csv | plan replay
@@ -143,39 +143,43 @@ fn serve_plan<W: Write>(
 ) -> Exit
     ensures status { result ≢ Exit.Refused }
     ensures reported { request ≡ Request.Check → result ≡ Exit.Well →
-        Appends (W.contents writer.old) (W.contents writer.new) (report_text plan.named) }
+        WritesReport plan (W.contents writer.old) (W.contents writer.new) }
     ensures answered { request ≡ Request.Replay → result ≡ Exit.Well →
         AnswersScript plan.named script.now (W.contents writer.old) (W.contents writer.new) }
     ensures free { request ≡ Request.Explore → result ≡ Exit.Well →
         FindsFree plan script.now (W.contents writer.old) (W.contents writer.new) }
     ensures header { request ≡ Request.Header → result ≡ Exit.Well →
-        Appends (W.contents writer.old) (W.contents writer.new) (header_text plan.named) }
+        Appends (W.contents writer.old) (W.contents writer.new)
+        (header_text plan.named plan.motors.names plan.motors.motors.items) }
 {
     match request {
-        Request::Header => print_header(alloc, &plan.named, writer),
+        Request::Header => print_header(alloc, &plan, writer),
         Request::Replay => replay_script(alloc, &plan.named, script, writer),
         Request::Explore => explore_script(alloc, &plan, script, writer),
-        _ => print_report(alloc, &plan.named, writer),
+        _ => print_report(alloc, &plan, writer),
     }
 }
 
-fn print_report<W: Write>(alloc: Global, named: &NamedPlan, writer: &mut W) -> Exit
+/// Prints the report of a plan. It isn't well where the motors of a hazard aren't kept apart.
+fn print_report<W: Write>(alloc: Global, plan: &ProgrammedPlan, writer: &mut W) -> Exit
     ensures status { result ≢ Exit.Refused }
     ensures reported { result ≡ Exit.Well →
-        Appends (W.contents writer.old) (W.contents writer.new) (report_text named.now) }
+        WritesReport plan.now (W.contents writer.old) (W.contents writer.new) }
 {
-    match report_of(alloc, named) {
-        Ok(text) => print(writer, text.as_bytes()),
+    match report_of(alloc, plan) {
+        Ok(Report::Kept(text)) => print(writer, text.as_bytes()),
+        Ok(Report::Unkept(text)) => print_warning(writer, text.as_str()),
         Err(AllocError) => fail(writer, "memory"),
     }
 }
 
-fn print_header<W: Write>(alloc: Global, named: &NamedPlan, writer: &mut W) -> Exit
+fn print_header<W: Write>(alloc: Global, plan: &ProgrammedPlan, writer: &mut W) -> Exit
     ensures status { result ≢ Exit.Refused }
     ensures header { result ≡ Exit.Well →
-        Appends (W.contents writer.old) (W.contents writer.new) (header_text named.now) }
+        Appends (W.contents writer.old) (W.contents writer.new)
+        (header_text plan.now.named plan.now.motors.names plan.now.motors.motors.items) }
 {
-    match header_of(alloc, named) {
+    match header_of(alloc, plan) {
         Ok(text) => print(writer, text.as_bytes()),
         Err(AllocError) => fail(writer, "memory"),
     }
@@ -250,7 +254,8 @@ fn print_screen<W: Write>(
     }
 }
 
-/// Prints what was found of a standstill, or of who starves. That isn't well, whatever was written.
+/// Prints what was found of a standstill, of who starves, or of motors that aren't kept apart. That isn't well, whatever
+/// was written.
 fn print_warning<W: Write>(writer: &mut W, text: &str) -> Exit
     ensures { result ≡ Exit.Failed }
 {
@@ -273,8 +278,8 @@ fn print_answers<W: Write>(writer: &mut W, answered: &ScriptAnswers) -> Exit
 }
 
 /// Does what the words ask for, and returns the exit status: 0 on success, and for help; 1 for a refused plan or
-/// script, a standstill, a machine that may starve, plates that may rest, a failed read or write, and if memory ran
-/// out; 2 for other words.
+/// script, a hazard whose motors aren't kept apart, a standstill, a machine that may starve, plates that may rest, a
+/// failed read or write, and if memory ran out; 2 for other words.
 pub fn serve<R: Read, W: Write>(alloc: Global, words: &[&str], reader: &mut R, writer: &mut W) -> u8
     ensures status { result ≤ 2 }
 
@@ -296,7 +301,8 @@ pub fn serve<R: Read, W: Write>(alloc: Global, words: &[&str], reader: &mut R, w
     ensures explore { request_of (texts_of words.now) ≡ Some Request.Explore → result ≡ 0 →
         FindsInputFree (R.remaining reader.old) (W.contents writer.old) (W.contents writer.new) }
 
-    // With `check` and with `header` it says that the report or the header of this plan was written.
+    // With `check`: status 0 says that this plan's report was written, and that the motors of each hazard are kept apart.
+    // With `header`: that its header was written.
     ensures check { request_of (texts_of words.now) ≡ Some Request.Check → result ≡ 0 →
         Reports (R.remaining reader.old) (W.contents writer.old) (W.contents writer.new) }
     ensures header { request_of (texts_of words.now) ≡ Some Request.Header → result ≡ 0 →

@@ -1,0 +1,6 @@
+use Rattle.plan_app.specs.Hazards as spec
+use Rattle.plan_app.proofs.Lines.{one_more}
+use Rattle.plan_app.proofs.hazards.push_hazards.Goals as goal
+
+pub hazards-preserved : goal.hazards-preserved
+hazards-preserved c = one_more (spec.hazard_line c.args.named.now c.args.titles.now c.args.verdicts.now) _ _ _ c.hazards.hazard c.hazards.invariant c.in_ok-push_hazard.ensures

@@ -1,0 +1,81 @@
+-- What is said of hazards, line by line and whole; and what it means that all motors are kept apart.
+use Rattle.std.specs.Prelude.{◌≡◌, ℕ, ◌<◌, Bool, true, false, [], ◌∷◌, ◌++◌, codes, length, replicate, List, Some, None}
+use Rattle.plan_types.specs.declared.posture.Posture.{Posture}
+use Rattle.plan_types.specs.declared.posture.Posture.TheVariants.{Closed, Moving, OpenIn}
+use Rattle.plan_rules.specs.declared.state.State.{State}
+use Rattle.plan_rules.specs.declared.state.ZoneState.{ZoneState}
+use Rattle.plan_rules.specs.State.{free_zone}
+use Rattle.plan_motors.specs.declared.exclusion.Cause.TheVariants.{Zone, Place}
+use Rattle.plan_motors.specs.declared.verdict.Verdict.TheVariants.{Excluded, ByPoses, Possible}
+use Rattle.plan_motors.specs.Examples.{cabin, lower_gate}
+use Rattle.plan_motors.specs.OfPlan.{hazard_at, motor_at}
+use Rattle.plan_motors.specs.Poses.{NeverFromPostures}
+use Rattle.plan_text.specs.Names.{Text}
+use Rattle.plan_document.specs.declared.resolving.ProgrammedPlan.{ProgrammedPlan}
+use Rattle.plan_app.specs.Hazards.{TellsReport, are_kept, hazard_line, motors_text, opening, verdict_words}
+use Rattle.plan_app.specs.Headers.{mask_lines, motors_part}
+use Rattle.plan_app.specs.LineExamples.{lift}
+use Rattle.plan_app.specs.declared.header_motors.TheConstants.{MOTORS}
+
+-- the first two zones of the lift so, the others free and closed; the first and the last place full or not
+abbrev pub lifted : ZoneState → ZoneState → Bool → Bool → State
+lifted lower upper first last = record {
+  zones = lower ∷ upper ∷ replicate 8 free_zone;
+  full = first ∷ false ∷ last ∷ replicate 13 false;
+  stamp = 0;
+  stopped = false;
+}
+
+abbrev pub held_by : ℕ → Posture → ZoneState
+held_by machine posture = record { owner = Some machine; flag = false; posture = posture }
+
+abbrev pub open_to_all : ZoneState
+open_to_all = record { owner = None; flag = false; posture = OpenIn }
+
+abbrev pub titles : List Text
+titles = codes "caught below" ∷ codes "both gates" ∷ []
+
+pub record HazardLines : Type 0 where
+  pub zone : verdict_words lift (Excluded (Zone 1)) ≡ codes "kept apart by upper"
+  pub place : verdict_words lift (Excluded (Place 2)) ≡ codes "kept apart by place loft"
+  pub poses : verdict_words lift (ByPoses 0) ≡ codes "kept apart by the poses of lift"
+  pub nothing : verdict_words lift (Possible (lifted free_zone free_zone false false))
+      ≡ codes "NOT kept apart: a state permits both"
+  pub held : verdict_words lift (Possible (lifted free_zone (held_by 0 Moving) true false))
+      ≡ codes "NOT kept apart: a state permits both; upper held by lift, moving; cabin full"
+  pub all : verdict_words lift (Possible (lifted (held_by 1 Closed) open_to_all true true))
+      ≡ codes "NOT kept apart: a state permits both; lower held by low, closed; upper free, openin; "
+      ++ codes "cabin full; loft full"
+  pub first : hazard_line lift titles (Excluded (Zone 0) ∷ ByPoses 0 ∷ []) 0
+      ≡ codes "caught below: kept apart by lower\n"
+  pub second : hazard_line lift titles (Excluded (Zone 0) ∷ ByPoses 0 ∷ []) 1
+      ≡ codes "both gates: kept apart by the poses of lift\n"
+  pub whole : motors_text lift (codes "hoist" ∷ codes "gate" ∷ []) titles (Excluded (Zone 0) ∷ ByPoses 0 ∷ [])
+      ≡ codes "2 motors: hoist gate\n" ++ codes "caught below: kept apart by lower\n"
+      ++ codes "both gates: kept apart by the poses of lift\n"
+  pub no_hazard : motors_text lift (codes "hoist" ∷ []) [] [] ≡ codes "1 motor: hoist\n"
+  pub no_motor : motors_text lift [] [] [] ≡ []
+
+-- what is kept apart
+pub record AreKept : Type 0 where
+  pub all : are_kept (Excluded (Zone 0) ∷ Excluded (Place 1) ∷ ByPoses 0 ∷ []) ≡ true
+  pub none : are_kept [] ≡ true
+  pub last : are_kept (ByPoses 0 ∷ Possible (lifted free_zone free_zone false false) ∷ []) ≡ false
+
+-- two bits of a zone tell its owner, from the lowest, two its posture, from the fourth
+pub record MaskLines : Type 0 where
+  pub first : mask_lines lift (codes "hoist" ∷ codes "gate" ∷ []) (cabin ∷ lower_gate ∷ []) 0
+      ≡ codes "#define PLAN_MASK_HOIST UINT64_C(891)\n" ++ codes "#define PLAN_PATTERN_HOIST UINT64_C(297)\n"
+  pub second : mask_lines lift (codes "hoist" ∷ codes "gate" ∷ []) (cabin ∷ lower_gate ∷ []) 1
+      ≡ codes "#define PLAN_MASK_GATE UINT64_C(3)\n" ++ codes "#define PLAN_PATTERN_GATE UINT64_C(2)\n"
+  pub whole : motors_part lift (codes "gate" ∷ []) (lower_gate ∷ [])
+      ≡ MOTORS.now ++ codes "#define PLAN_MASK_GATE UINT64_C(3)\n" ++ codes "#define PLAN_PATTERN_GATE UINT64_C(2)\n"
+  pub no_motor : motors_part lift [] [] ≡ []
+
+-- if a report says that all are kept apart, the motors of each hazard are never permitted both, from a start on
+abbrev pub KeptMotorsAreNeverBoth : Type 0
+KeptMotorsAreNeverBoth =
+    (plan : ProgrammedPlan) (text : Text) → TellsReport plan true text → (k : ℕ) → k < length plan.motors.hazards.items
+    → NeverFromPostures plan.named.plan opening
+    (motor_at plan.motors.motors.items (hazard_at plan.motors.hazards.items k).first)
+    (motor_at plan.motors.motors.items (hazard_at plan.motors.hazards.items k).second)
