@@ -104,7 +104,8 @@ def answer_by_twin(verb, text, lines):
     if fault:
         return 1, fault, None, None
     if verb == "check":
-        return 0, None, twin.plans.report(plan), None
+        found = twin.plans.report(plan)
+        return int(twin.plans.is_unkept(found)), None, found, None
     if verb == "replay":
         found, accepted = twin.replayed(plan, script)
         return 0 if accepted else 1, None, found, None

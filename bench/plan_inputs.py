@@ -8,6 +8,9 @@ NAMES = "feed loader press arm belt cart door crane rail oven lift drum saw mill
 PLACES = "hand die hook bed fork slot rack bin pan tip".split()
 POSES = "load unload closed travelling high low left right open shut".split()
 ZONES = "inside mouth track pit z1 z2 z3 shelf".split()
+MOTORS = "ram hoist arm_in_press lamp blades drive hammer valve jaw fan".split()
+TITLES = ("arm crushed", "two trains", "A jam (again)", "boiling over", "x", "derailed - 2")
+KINDS = ("machine", "zone", "motor", "hazard")
 WORDS = ("Press", "", "2nd", "a-b", "a b", "é", "x" * 33, "a" * 41, "press ", "_a", "ab\t", "A")
 VALUES = ("3", "true", '"text"', "[]", "[1]", '["a", 2]', "{}", "{ a = 1 }", "1.5", "[[]]", "[{}]", '["a", "b", "c"]', "1979-05-27")
 
@@ -83,7 +86,7 @@ def crowd(r):
         machines[0]["poses"].append({"name": f"all_{posture}", "gives": gives})
     for row in machines:
         row["program"] = program(r, row, zones, 4)
-    return {"machine": machines, "zone": zones}
+    return {"machine": machines, "zone": zones, **motor_rows(r, machines, zones)}
 
 
 def plan(r, small=False):
@@ -105,7 +108,30 @@ def plan(r, small=False):
         own = []
         row["poses"] = [pose_row(r, hosted, own) for _ in range(r.choice((1, 2, 3, 4)) if hosted else r.randrange(2))]
         row["program"] = program(r, row, zones, 4 if small else 8)
-    return {"machine": machines, "zone": zones}
+    return {"machine": machines, "zone": zones, **motor_rows(r, machines, zones)}
+
+
+def motor_row(r, machine, zones, taken):
+    """A motor that needs only what no other machine's call can change; seldom one that no state permits."""
+    row = {"name": name(r, MOTORS, taken), "machine": machine["name"]}
+    hosted = [it["name"] for it in zones if it["host"] == machine["name"]]
+    visited = [it["name"] for it in zones if it["guest"] == machine["name"]]
+    holds = {it: r.choice((*POSTURES, "any", "any")) for it in hosted if r.randrange(2)}
+    holds |= {it: r.choice(("openin", "openout", "any", "any")) for it in visited if r.randrange(2)}
+    stands = {it: r.choice(("closed", "openin", "openout", *POSTURES)) for it in hosted if it not in holds and r.randrange(3) == 0}
+    full = {it: r.choice(("full", "empty")) for it in machine["places"] if r.randrange(3) == 0}
+    lists = {key: [it for it, kind in full.items() if kind == key] for key in ("full", "empty")}
+    return row | {key: value for key, value in {"holds": holds, "stands": stands, **lists}.items() if value or r.randrange(20) == 0}
+
+
+def motor_rows(r, machines, zones):
+    """The rows of motors, and of hazards between them: of half of the plans none."""
+    if r.randrange(2):
+        return {}
+    names, titles = [], []
+    motors = [motor_row(r, r.choice(machines), zones, names) for _ in range(r.choice((0, 1, 2, 3, 5, 8)))]
+    hazards = [{"name": name(r, TITLES, titles), "motors": [r.choice(names), r.choice(names)]} for _ in range(r.randrange(6) if motors else 0)]
+    return {"motor": motors, "hazard": hazards}
 
 
 def rounds(r, document):
@@ -133,6 +159,8 @@ def spoil(r, document):
     kinds = [spoil_key, spoil_value, spoil_name, spoil_program, spoil_program, spoil_many, spoil_for_c]
     kinds += [spoil_zone] * 2 if zones else []
     kinds += [spoil_pose] * 2 if poses else []
+    kinds += [spoil_motor] * 4 if items(document, "motor") else []
+    kinds += [spoil_hazard] * 2 if items(document, "hazard") else []
     machine = r.choice(machines) if machines else {}
     r.choice(kinds)(r, document, machine, r.choice(zones) if zones else {}, r.choice(poses) if poses else {})
 
@@ -207,6 +235,53 @@ def spoil_pose(r, document, machine, zone, pose):
     if isinstance(pose.get("gives"), dict):
         zones = [it["name"] for it in items(document, "zone") if "name" in it and not isinstance(it["name"], Raw)] + ["nowhere"]
         pose["gives"][r.choice(zones)] = r.choice((*POSTURES, "open", "Moving", "", "x" * 45))
+
+
+def spoil_motor(r, document, machine, zone, pose):
+    """Spoils a motor: a key or a value, its name or its machine, or what it needs."""
+    motor, kind = r.choice(items(document, "motor")), r.randrange(10)
+    zones = [it["name"] for it in items(document, "zone") if isinstance(it.get("name"), str)] + ["nowhere"]
+    places = [place for row in items(document, "machine") for place in items(row, "places")] + ["nowhere"]
+    names = [it["name"] for it in items(document, "motor") if isinstance(it.get("name"), str)]
+    if kind == 0:
+        motor[r.choice(("colour", "motors", "zone"))] = Raw(r.choice(VALUES))
+    elif kind == 1:
+        motor.pop(r.choice([*motor]))
+    elif kind == 2:
+        motor[r.choice(("name", "machine", "holds", "stands", "full", "empty"))] = Raw(r.choice(VALUES))
+    elif kind == 3:
+        motor["name"] = r.choice((*WORDS, *names, *names))
+    elif kind == 4:
+        motor["machine"] = r.choice((machine.get("name", "nobody"), "nobody", "x" * 50))
+    elif kind == 5:
+        items(document, "motor").extend({**motor, "name": f"extra{it}"} for it in range(r.choice((5, 56, 60, 64))))
+    elif kind < 8:
+        table = motor.setdefault(r.choice(("holds", "stands")), {})
+        if isinstance(table, dict):
+            table[r.choice(zones)] = r.choice((*POSTURES, *POSTURES, "any", "Any", "x" * 45))
+    else:
+        listed = motor.setdefault(r.choice(("full", "empty")), [])
+        if isinstance(listed, list):
+            listed.insert(r.randrange(len(listed) + 1), r.choice(places))
+
+
+def spoil_hazard(r, document, machine, zone, pose):
+    """Spoils a hazard: a key or a value, its name or its motors."""
+    hazard, kind = r.choice(items(document, "hazard")), r.randrange(6)
+    names = [it["name"] for it in items(document, "hazard") if isinstance(it.get("name"), str)]
+    motors = [it["name"] for it in items(document, "motor") if isinstance(it.get("name"), str)] + ["nobody"]
+    if kind == 0:
+        hazard[r.choice(("colour", "motor", "machine"))] = Raw(r.choice(VALUES))
+    elif kind == 1:
+        hazard.pop(r.choice([*hazard]))
+    elif kind == 2:
+        hazard[r.choice(("name", "motors"))] = Raw(r.choice(VALUES))
+    elif kind == 3:
+        hazard["name"] = r.choice((*WORDS, "a: b", "a" * 60, "a" * 61, "~", *names, *names))
+    elif kind == 4:
+        items(document, "hazard").extend({**hazard, "name": f"extra {it}"} for it in range(r.choice((5, 60, 64))))
+    else:
+        hazard["motors"] = [r.choice(motors) for _ in range(r.choice((2, 2, 2, 1, 3)))]
 
 
 class Text:
@@ -287,7 +362,7 @@ def put_table(text, table, steps):
 
 
 def put_row(text, kind, number, row):
-    """Writes a row under its head, [[machine]] or [[zone]]."""
+    """Writes a row under its head, as [[machine]] or [[zone]]."""
     r = text.r
     text.mark([kind, number])
     text.put(f"[[{kind}]]" + r.choice(("", "", " # it")))
@@ -330,12 +405,12 @@ def document_text(r, document):
     """The document as a text, and the lines of its places."""
     text = Text(r)
     for key, value in document.items():
-        if key not in ("machine", "zone") or isinstance(value, Raw):
+        if key not in KINDS or isinstance(value, Raw):
             text.mark([key])
             text.put(f"{key_text(r, key)} = ")
             put_value(text, value, [key])
             text.end()
-    rows = [(kind, at, row) for kind in ("machine", "zone") for at, row in enumerate(items(document, kind))]
+    rows = [(kind, at, row) for kind in KINDS for at, row in enumerate(items(document, kind))]
     if r.randrange(10) == 0:
         rows.sort(key=lambda it: it[0], reverse=True)
     for kind, at, row in rows:
