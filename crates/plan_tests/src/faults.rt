@@ -19,7 +19,7 @@ const ROWS: &[(&str, &str)] = &[
     ("", "the document: there is no [[machine]]"),
     (
         "machines = 1\n",
-        "line 1: the document: \"machines\" isn't a key here; known: machine, zone",
+        "line 1: the document: \"machines\" isn't a key here; known: machine, zone, motor, hazard",
     ),
     (
         "machine = 1\n",
@@ -149,7 +149,7 @@ program = ['''
     ),
     (
         "[[machine]]\nname = \"a\"\n\n[plant]\nname = \"a\"\n",
-        "line 4: the document: \"plant\" isn't a key here; known: machine, zone",
+        "line 4: the document: \"plant\" isn't a key here; known: machine, zone, motor, hazard",
     ),
     // A list has several lines: the line is the text's.
     (

@@ -25,6 +25,10 @@ mod limits;
 #[cfg(test)]
 mod loads;
 #[cfg(test)]
+mod motor_faults;
+#[cfg(test)]
+mod motors;
+#[cfg(test)]
 mod programs;
 #[cfg(test)]
 mod progress;
