@@ -14,12 +14,15 @@ use Rattle.cell_types.specs.declared.call.Call.{Call}
 use Rattle.cell_types.specs.declared.call.Call.TheVariants.{Claim, Give, Yield, Take, Release, SetPose, Inquire, Stop}
 use Rattle.cell_types.specs.declared.call.Call.TheVariants.{Resume}
 use Rattle.cell_types.specs.declared.answer.Answer.{Answer}
+use Rattle.cell_types.specs.declared.answer.Refusal.{Refusal}
 use Rattle.cell_types.specs.declared.answer.Refusal.TheVariants.{PlaceFull}
-use Rattle.cell_types.specs.declared.answer.Answer.TheVariants.{Done}
+use Rattle.cell_types.specs.declared.answer.Answer.TheVariants.{Done, Refused}
 use Rattle.cell_rules.specs.declared.zones.ZoneState.{ZoneState}
 use Rattle.cell_rules.specs.ZoneMap.{free_zone, everywhere, put_zone}
 use Rattle.cell_rules.specs.PlaceSet.{PlaceSet, empty, insert_place}
-use Rattle.cell_rules.specs.ModelState.{ModelState, model_state}
+use Rattle.cell_rules.specs.ModelState.{ModelState, model_state, zone_at, is_full}
+use Rattle.cell_rules.specs.Refusals.{owns}
+use Rattle.cell_rules.specs.Reply.{reply, next}
 use Rattle.plan_types.specs.declared.call.Call.{Call as PlanCall}
 use Rattle.plan_types.specs.declared.call.Call.TheVariants.{Claim as DoClaim, Give as DoGive, Yield as DoYield}
 use Rattle.plan_types.specs.declared.call.Call.TheVariants.{Take as DoTake, Release as DoRelease}
@@ -33,7 +36,7 @@ use Rattle.plan_rules.specs.Reply.{reply as plan_reply}
 use Rattle.plan_cell.specs.Numbers.{machine_number, zone_number, place_number, pose_number, plan_call}
 use Rattle.plan_cell.specs.CellPlan.{cell_table}
 use Rattle.plan_cell.specs.Mapping.{plan_state}
-use Rattle.plan_cell.specs.Laws.{DoneBy, DoesMore, DoesNoMore, RefuseBy, AreAlikeBy, is_own_rule}
+use Rattle.plan_cell.specs.Laws.{DoneBy, DoesMore, DoesNoMore, RefuseBy, AreAlikeBy, is_own_rule, RefusedByOwnRule}
 use Rattle.plan_cell.specs.OwnRuleExamples.{empty_cell}
 
 abbrev pub held_in : Machine → Posture → ZoneState
@@ -72,14 +75,39 @@ pub record DoneCalls (answers : PlanState → ℕ → PlanCall → PlanAnswer) (
   pub stops : DoneBy answers after empty_cell Watch Stop DoStop
   pub resumes : DoneBy answers after stopped_cell Watch Resume DoResume
 
+-- one undone call of each kind, by a machine, about a zone and a pose
+pub record UndoneOf (answers : PlanState → ℕ → PlanCall → PlanAnswer) (m z p : ℕ) : Type 0 where
+  pub claim : answers (plan_state stopped_cell) m (DoClaim z) ≢ PlanDone
+  pub give : answers (plan_state empty_cell) m (DoGive z) ≢ PlanDone
+  pub yields : answers (plan_state empty_cell) m (DoYield z) ≢ PlanDone
+  pub take : answers (plan_state empty_cell) m (DoTake z) ≢ PlanDone
+  pub release : answers (plan_state empty_cell) m (DoRelease z) ≢ PlanDone
+  pub pose : answers (plan_state empty_cell) m (DoSetPose p) ≢ PlanDone
+  pub resume : answers (plan_state empty_cell) m DoResume ≢ PlanDone
+
 -- calls that the cell refuses, by no rule of its own, so that its plan doesn't do them
 pub record UndoneCalls (answers : PlanState → ℕ → PlanCall → PlanAnswer) : Type 0 where
-  pub claim : answers (plan_state stopped_cell) 3 (DoClaim 0) ≢ PlanDone
   pub give : answers (plan_state (press_open Robot empty false)) 2 (DoGive 2) ≢ PlanDone
   pub yields : answers (plan_state press_given) 3 (DoYield 2) ≢ PlanDone
   pub take : answers (plan_state (press_open Press empty true)) 3 (DoTake 2) ≢ PlanDone
-  pub release : answers (plan_state empty_cell) 5 (DoRelease 5) ≢ PlanDone
-  pub resume : answers (plan_state empty_cell) 15 DoResume ≢ PlanDone
+  pub pose : answers (plan_state (press_in Closed empty false)) 3 (DoSetPose 4) ≢ PlanDone
+  pub of_feed : UndoneOf answers 0 5 7
+  pub of_table : UndoneOf answers 1 0 1
+  pub of_robot : UndoneOf answers 2 2 15
+  pub of_press : UndoneOf answers 3 2 3
+  pub of_deposit : UndoneOf answers 4 4 10
+  pub of_crane : UndoneOf answers 5 5 15
+  pub of_watch : UndoneOf answers 15 3 15
+
+-- the same of any call: what the plan doesn't do the cell doesn't; what the cell does leaves the same state; and what
+-- the cell refuses, by no rule of its own, the plan doesn't do
+pub record AnyCall (answers : PlanState → ℕ → PlanCall → PlanAnswer) (after : PlanState → ℕ → PlanCall → PlanState)
+    (s : ModelState) (m : Machine) (c : Call) (d : PlanCall) (is : plan_call m c ≡ Some d) : Type 0 where
+  pub refused : DoesMore answers after → answers (plan_state s) (machine_number m) d ≢ PlanDone → reply s m c ≢ Done
+  pub left : DoesMore answers after → reply s m c ≡ Done
+      → after (plan_state s) (machine_number m) d ≡ plan_state (next s m c)
+  pub undone : DoesNoMore answers → (r : Refusal) → reply s m c ≡ Refused r → is_own_rule s m c r ≡ false
+      → answers (plan_state s) (machine_number m) d ≢ PlanDone
 
 abbrev pub belt_runs : ModelState
 belt_runs = cell_at Z6 (held_in Feed Moving) (insert_place empty place.FeedEnd) true
@@ -87,19 +115,24 @@ belt_runs = cell_at Z6 (held_in Feed Moving) (insert_place empty place.FeedEnd) 
 abbrev pub belt_end_full : Zone → Machine → ModelState
 belt_end_full z m = cell_at z (held_in m Closed) (insert_place (insert_place empty place.FeedEnd) place.DepEnd) true
 
--- calls that the cell refuses by its own rules
-pub record OwnRefusals (answers : ModelState → Machine → Call → Answer) : Type 0 where
-  pub yields : answers belt_runs Feed (Yield Z1) ≢ Done
-  pub releases : answers belt_runs Feed (Release Z1) ≢ Done
-  pub feed_runs : answers (belt_end_full Z6 Feed) Feed (SetPose Running) ≢ Done
-  pub deposit_runs : answers (belt_end_full Z4 Deposit) Deposit (SetPose Running) ≢ Done
-  pub press_opens : answers (press_in Moving (insert_place empty place.PressOut) true) Press (SetPose Middle) ≢ Done
+-- calls that the cell refuses by its own rules, in any state, stopped or not
+pub record OwnRefusals (answers : ModelState → Machine → Call → Answer) (s : ModelState) : Type 0 where
+  pub yields : (zone_at s Z6).posture ≡ Moving → is_full s place.FeedEnd ≡ true → answers s Feed (Yield Z1) ≢ Done
+  pub releases : (zone_at s Z6).posture ≡ Moving → is_full s place.FeedEnd ≡ true → answers s Feed (Release Z1) ≢ Done
+  pub feed_runs : is_full s place.FeedEnd ≡ true → owns s Feed Z1 ≡ false → answers s Feed (SetPose Running) ≢ Done
+  pub deposit_runs : is_full s place.DepEnd ≡ true → answers s Deposit (SetPose Running) ≢ Done
+  pub press_opens : is_full s place.PressOut ≡ true → answers s Press (SetPose Middle) ≢ Done
 
 pub record LawExamples : Type 0 where
   pub done : (answers : PlanState → ℕ → PlanCall → PlanAnswer) (after : PlanState → ℕ → PlanCall → PlanState)
       → DoesMore answers after → DoneCalls answers after
   pub undone : (answers : PlanState → ℕ → PlanCall → PlanAnswer) → DoesNoMore answers → UndoneCalls answers
-  pub own : (answers : ModelState → Machine → Call → Answer) → RefuseBy answers → OwnRefusals answers
+  pub any : (answers : PlanState → ℕ → PlanCall → PlanAnswer) (after : PlanState → ℕ → PlanCall → PlanState)
+      (s : ModelState) (m : Machine) (c : Call) (d : PlanCall) (is : plan_call m c ≡ Some d)
+      → AnyCall answers after s m c d is
+  pub own : (answers : ModelState → Machine → Call → Answer) (s : ModelState) → RefuseBy answers → OwnRefusals answers s
+  -- feed doesn't own z1, so it is refused by the plan's rules, though a rule of the cell holds too
+  pub not_owner : ¬ RefusedByOwnRule belt_runs Feed (Yield Z1)
   -- feed may run its belt with a plate at its end while it owns z1
   pub feed_owns : is_own_rule (belt_end_full Z1 Feed) Feed (SetPose Running) PlaceFull ≡ false
 

@@ -1,19 +1,56 @@
-use Rattle.std.proofs.Common.{◌≡◌, true, false, Some, None, inl, inr, refl, arith}
+use Rattle.std.proofs.Common.{◌≡◌, ◌≢◌, ◌∙◌, ℕ, Bool, true, false, ◌&&◌, not, Some, None, inl, inr, refl, sym, ap, subst, arith}
+use Rattle.cell_types.specs.declared.machine.Machine.{Machine}
 use Rattle.cell_types.specs.declared.machine.Machine.TheVariants.{Feed, Table, Robot, Press, Deposit, Crane, Watch}
 use Rattle.cell_types.specs.declared.zone.Zone.TheVariants.{Z1, Z3, Z4, Z5, Z6}
 use Rattle.cell_types.specs.declared.place.Place.TheVariants as place
 use Rattle.cell_types.specs.declared.posture.Posture.TheVariants.{Closed, Moving, OpenIn, OpenOut}
-use Rattle.cell_types.specs.declared.pose.Pose.TheVariants.{Travelling, Middle, Top, Running}
+use Rattle.cell_types.specs.declared.pose.Pose.TheVariants.{Turning, Loading, Travelling, Middle, Top, Running}
+use Rattle.cell_types.specs.declared.call.Call.{Call}
 use Rattle.cell_types.specs.declared.call.Call.TheVariants.{Claim, Give, Yield, Take, Release, SetPose, Stop, Resume}
-use Rattle.cell_types.specs.declared.answer.Refusal.TheVariants.{PlaceFull, InUse}
+use Rattle.cell_types.specs.declared.answer.Refusal.{Refusal}
+use Rattle.cell_types.specs.declared.answer.Refusal.TheVariants.{PlaceFull, InUse, NotOwner}
+use Rattle.cell_types.specs.declared.answer.Answer.TheVariants.{Done, Refused}
+use Rattle.cell_types.specs.Same.{same_posture}
+use Rattle.cell_rules.specs.ModelState.{ModelState, zone_at, is_full}
+use Rattle.cell_rules.specs.Reply.{reply}
+use Rattle.plan_types.specs.declared.call.Call.{Call as PlanCall}
+use Rattle.plan_types.specs.declared.answer.Answer.{Answer as PlanAnswer}
+use Rattle.plan_types.specs.declared.answer.Answer.TheVariants.{Done as PlanDone}
+use Rattle.plan_rules.specs.declared.state.State.{State as PlanState}
+use Rattle.plan_cell.specs.Numbers.{machine_number, plan_call}
+use Rattle.plan_cell.specs.Mapping.{plan_state}
+use Rattle.plan_cell.specs.Laws.{DoesNoMore, feed_holds_back, is_own_rule}
 use Rattle.cell_rules.specs.ZoneMap.{free_zone}
 use Rattle.cell_rules.specs.PlaceSet.{empty, insert_place}
 use Rattle.plan_types.specs.declared.call.Call.TheVariants as by_plan
 use Rattle.plan_types.specs.declared.posture.Posture.TheVariants as posture
 use Rattle.plan_types.specs.declared.answer.Answer.TheVariants.{Shown}
 use Rattle.plan_cell.specs.OwnRuleExamples.{empty_cell}
-use Rattle.plan_cell.specs.LawExamples.{held_in, cell_at, stopped_cell, press_open, press_in, press_given, belt_runs, belt_end_full}
+use Rattle.plan_cell.specs.LawExamples.{held_in, cell_at, stopped_cell, press_open, press_in, press_given, belt_runs}
 use Rattle.plan_cell.proofs.laws.law_examples_are_right.Goals as goal
+
+one_refusal : {r q : Refusal} → Refused r ≡ Refused q → r ≡ q
+one_refusal {r} {q} e = cc
+
+both : (a b : Bool) → a ≡ true → b ≡ true → (a && b) ≡ true
+both true b e f = f
+both false b e f = cc
+
+held_back : (s : ModelState) → (zone_at s Z6).posture ≡ Moving → is_full s place.FeedEnd ≡ true → feed_holds_back s ≡ true
+held_back s moves full = both _ _ (ap (λ q. same_posture q Moving) moves) full
+
+-- what the cell refuses, by no rule of its own, the plan doesn't do
+undone : (answers : PlanState → ℕ → PlanCall → PlanAnswer) → DoesNoMore answers → (s : ModelState) (m : Machine) (c : Call) (d : PlanCall)
+    → plan_call m c ≡ Some d → (r : Refusal) → reply s m c ≡ Refused r → is_own_rule s m c r ≡ false
+    → answers (plan_state s) (machine_number m) d ≢ PlanDone
+undone answers k s m c d is r refused none e = elim (k s m c d is e) [
+  | inl done ↦ let apart : Done ≡ Refused r = sym done ∙ refused in cc
+  | inr own ↦
+      let same : own.refusal ≡ r = one_refusal (sym own.answer ∙ refused) in
+      let rule : is_own_rule s m c r ≡ true = subst (λ q. is_own_rule s m c q ≡ true) same own.rule in
+      let apart : false ≡ true = sym none ∙ rule in
+      cc
+]
 
 pub returns-clause-laws : goal.returns-clause-laws
 returns-clause-laws c = record {
@@ -32,20 +69,90 @@ returns-clause-laws c = record {
     resumes = k stopped_cell Watch Resume by_plan.Resume refl refl;
   };
   undone = λ answers k. record {
-    claim = λ e. elim (k stopped_cell Press (Claim Z1) (by_plan.Claim 0) refl e) [ inl done ↦ cc | inr r ↦ let rule = r.rule in cc ];
-    give = λ e. elim (k (press_open Robot empty false) Robot (Give Z3) (by_plan.Give 2) refl e) [ inl done ↦ cc | inr r ↦ let rule = r.rule in cc ];
-    yields = λ e. elim (k press_given Press (Yield Z3) (by_plan.Yield 2) refl e) [ inl done ↦ cc | inr r ↦ let rule = r.rule in cc ];
-    take = λ e. elim (k (press_open Press empty true) Press (Take Z3) (by_plan.Take 2) refl e) [ inl done ↦ cc | inr r ↦ let rule = r.rule in cc ];
-    release = λ e. elim (k empty_cell Crane (Release Z6) (by_plan.Release 5) refl e) [ inl done ↦ cc | inr r ↦ let rule = r.rule in cc ];
-    resume = λ e. elim (k empty_cell Watch Resume by_plan.Resume refl e) [ inl done ↦ cc | inr r ↦ let rule = r.rule in cc ];
+    give = undone answers k (press_open Robot empty false) Robot (Give Z3) (by_plan.Give 2) refl _ refl refl;
+    yields = undone answers k press_given Press (Yield Z3) (by_plan.Yield 2) refl _ refl refl;
+    take = undone answers k (press_open Press empty true) Press (Take Z3) (by_plan.Take 2) refl _ refl refl;
+    pose = undone answers k (press_in Closed empty false) Press (SetPose Middle) (by_plan.SetPose 4) refl _ refl refl;
+    of_feed = record {
+      claim = undone answers k stopped_cell Feed (Claim Z6) (by_plan.Claim 5) refl _ refl refl;
+      give = undone answers k empty_cell Feed (Give Z6) (by_plan.Give 5) refl _ refl refl;
+      yields = undone answers k empty_cell Feed (Yield Z6) (by_plan.Yield 5) refl _ refl refl;
+      take = undone answers k empty_cell Feed (Take Z6) (by_plan.Take 5) refl _ refl refl;
+      release = undone answers k empty_cell Feed (Release Z6) (by_plan.Release 5) refl _ refl refl;
+      pose = undone answers k empty_cell Feed (SetPose Running) (by_plan.SetPose 7) refl _ refl refl;
+      resume = undone answers k empty_cell Feed Resume by_plan.Resume refl _ refl refl;
+    };
+    of_table = record {
+      claim = undone answers k stopped_cell Table (Claim Z1) (by_plan.Claim 0) refl _ refl refl;
+      give = undone answers k empty_cell Table (Give Z1) (by_plan.Give 0) refl _ refl refl;
+      yields = undone answers k empty_cell Table (Yield Z1) (by_plan.Yield 0) refl _ refl refl;
+      take = undone answers k empty_cell Table (Take Z1) (by_plan.Take 0) refl _ refl refl;
+      release = undone answers k empty_cell Table (Release Z1) (by_plan.Release 0) refl _ refl refl;
+      pose = undone answers k empty_cell Table (SetPose Loading) (by_plan.SetPose 1) refl _ refl refl;
+      resume = undone answers k empty_cell Table Resume by_plan.Resume refl _ refl refl;
+    };
+    of_robot = record {
+      claim = undone answers k stopped_cell Robot (Claim Z3) (by_plan.Claim 2) refl _ refl refl;
+      give = undone answers k empty_cell Robot (Give Z3) (by_plan.Give 2) refl _ refl refl;
+      yields = undone answers k empty_cell Robot (Yield Z3) (by_plan.Yield 2) refl _ refl refl;
+      take = undone answers k empty_cell Robot (Take Z3) (by_plan.Take 2) refl _ refl refl;
+      release = undone answers k empty_cell Robot (Release Z3) (by_plan.Release 2) refl _ refl refl;
+      pose = undone answers k empty_cell Robot (SetPose Turning) (by_plan.SetPose 15) refl _ refl refl;
+      resume = undone answers k empty_cell Robot Resume by_plan.Resume refl _ refl refl;
+    };
+    of_press = record {
+      claim = undone answers k stopped_cell Press (Claim Z3) (by_plan.Claim 2) refl _ refl refl;
+      give = undone answers k empty_cell Press (Give Z3) (by_plan.Give 2) refl _ refl refl;
+      yields = undone answers k empty_cell Press (Yield Z3) (by_plan.Yield 2) refl _ refl refl;
+      take = undone answers k empty_cell Press (Take Z3) (by_plan.Take 2) refl _ refl refl;
+      release = undone answers k empty_cell Press (Release Z3) (by_plan.Release 2) refl _ refl refl;
+      pose = undone answers k empty_cell Press (SetPose Travelling) (by_plan.SetPose 3) refl _ refl refl;
+      resume = undone answers k empty_cell Press Resume by_plan.Resume refl _ refl refl;
+    };
+    of_deposit = record {
+      claim = undone answers k stopped_cell Deposit (Claim Z5) (by_plan.Claim 4) refl _ refl refl;
+      give = undone answers k empty_cell Deposit (Give Z5) (by_plan.Give 4) refl _ refl refl;
+      yields = undone answers k empty_cell Deposit (Yield Z5) (by_plan.Yield 4) refl _ refl refl;
+      take = undone answers k empty_cell Deposit (Take Z5) (by_plan.Take 4) refl _ refl refl;
+      release = undone answers k empty_cell Deposit (Release Z5) (by_plan.Release 4) refl _ refl refl;
+      pose = undone answers k empty_cell Deposit (SetPose Running) (by_plan.SetPose 10) refl _ refl refl;
+      resume = undone answers k empty_cell Deposit Resume by_plan.Resume refl _ refl refl;
+    };
+    of_crane = record {
+      claim = undone answers k stopped_cell Crane (Claim Z6) (by_plan.Claim 5) refl _ refl refl;
+      give = undone answers k empty_cell Crane (Give Z6) (by_plan.Give 5) refl _ refl refl;
+      yields = undone answers k empty_cell Crane (Yield Z6) (by_plan.Yield 5) refl _ refl refl;
+      take = undone answers k empty_cell Crane (Take Z6) (by_plan.Take 5) refl _ refl refl;
+      release = undone answers k empty_cell Crane (Release Z6) (by_plan.Release 5) refl _ refl refl;
+      pose = undone answers k empty_cell Crane (SetPose Turning) (by_plan.SetPose 15) refl _ refl refl;
+      resume = undone answers k empty_cell Crane Resume by_plan.Resume refl _ refl refl;
+    };
+    of_watch = record {
+      claim = undone answers k stopped_cell Watch (Claim Z4) (by_plan.Claim 3) refl _ refl refl;
+      give = undone answers k empty_cell Watch (Give Z4) (by_plan.Give 3) refl _ refl refl;
+      yields = undone answers k empty_cell Watch (Yield Z4) (by_plan.Yield 3) refl _ refl refl;
+      take = undone answers k empty_cell Watch (Take Z4) (by_plan.Take 3) refl _ refl refl;
+      release = undone answers k empty_cell Watch (Release Z4) (by_plan.Release 3) refl _ refl refl;
+      pose = undone answers k empty_cell Watch (SetPose Turning) (by_plan.SetPose 15) refl _ refl refl;
+      resume = undone answers k empty_cell Watch Resume by_plan.Resume refl _ refl refl;
+    };
   };
-  own = λ answers k. record {
-    yields = k belt_runs Feed (Yield Z1) InUse refl;
-    releases = k belt_runs Feed (Release Z1) InUse refl;
-    feed_runs = k (belt_end_full Z6 Feed) Feed (SetPose Running) PlaceFull refl;
-    deposit_runs = k (belt_end_full Z4 Deposit) Deposit (SetPose Running) PlaceFull refl;
-    press_opens = k (press_in Moving (insert_place empty place.PressOut) true) Press (SetPose Middle) PlaceFull refl;
+  any = λ answers after s m c d is. record {
+    refused = λ k un done. un (k s m c d is done).0;
+    left = λ k done. (k s m c d is done).1;
+    undone = λ k r. undone answers k s m c d is r;
   };
+  own = λ answers s k. record {
+    yields = λ moves full. k s Feed (Yield Z1) InUse (held_back s moves full);
+    releases = λ moves full. k s Feed (Release Z1) InUse (held_back s moves full);
+    feed_runs = λ full other. k s Feed (SetPose Running) PlaceFull (both _ _ full (ap not other));
+    deposit_runs = λ full. k s Deposit (SetPose Running) PlaceFull full;
+    press_opens = λ full. k s Press (SetPose Middle) PlaceFull full;
+  };
+  not_owner = λ refused.
+      let answer : Refused (NotOwner None) ≡ Refused refused.refusal = refused.answer in
+      let rule : false ≡ true = subst (λ r. is_own_rule belt_runs Feed (Yield Z1) r ≡ true) (sym (one_refusal answer)) refused.rule in
+      cc;
   feed_owns = refl;
 }
 
