@@ -1,5 +1,5 @@
 -- The small program meets its figures.
-use Rattle.std.proofs.Common.{◌≡◌, ℕ, zero, suc, ◌+◌, ◌<◌, Bool, true, false, refl, ap, arith, inl, inr, Option, Some, None, Result, Ok, Err}
+use Rattle.std.proofs.Common.{◌≡◌, ℕ, zero, suc, ◌+◌, ◌<◌, Bool, true, false, refl, ap, arith, subst, inl, inr, List, [], Option, Some, None, Result, Ok, Err}
 use Rattle.std.specs.Prelude.{◌⊎◌, ⊤}
 use Rattle.cell_rules.specs.Types.{Machine, Posture, Press, Robot, Refusal, Z2, Z3, Call, Claim, Inquire, Release, Held, Shut, OpenIn, Closed, Done, Settled, Reply}
 use Rattle.cell_rules.specs.declared.heard.LineFault.{LineFault}
@@ -7,7 +7,11 @@ use Rattle.cell_sensors.specs.declared.sense.SensorFault.{SensorFault}
 use Rattle.cell_sensors.specs.declared.sense.SensorFault.TheVariants.{High}
 use Rattle.cell_control.specs.Names.{waits_on, is_inquiry, Performed, PerformsSensed}
 use Rattle.cell_control.specs.Rows.{NoOtherAnswers}
-use Rattle.cell_control.specs.Steps.{Drives}
+use Rattle.cell_control.specs.Steps.{Drives, GoesOn, program_of}
+use Rattle.cell_rules.specs.Programs.{MovesIn}
+use Rattle.cell_rules.specs.Seen.{heard_after}
+use Rattle.cell_rules.specs.declared.heard.Heard.{Heard}
+use Rattle.cell_control.proofs.lemmas.StepLemmas.{drives_on}
 use Rattle.cell_control.specs.FormExamples.{SmallStep, Claiming, Falling, Rising, Stuck, Inquiring, Prying, Giving, small, by, row_at, shown_at, led_by, FormsAreMet}
 use Rattle.cell_control.proofs.lemmas.WaitLemmas.{stays_never, stays_until_free, stays_until_room}
 
@@ -62,6 +66,21 @@ claims_only : (asked : Option (Call × Result Reply LineFault)) (sense : ℕ) (s
 claims_only asked sense (Err f) r e (inl k) h = absurd (cc)
 claims_only asked sense (Err f) r e (inr k) h = absurd (omega (arith, e, k.1))
 claims_only asked sense (Ok reading) r e s h = (h.0, h.1.1)
+
+-- a step that asks is not passed by driving
+asks_first : (n : ℕ) → ¬ MovesIn (program_of small) n Claiming Falling
+asks_first zero k = cc
+asks_first (suc n) k = let lie : Some (Claim Z3) ≡ None = k.1.asks_nothing in cc
+
+on_from : (p q : SmallStep) → Drives small p q → GoesOn small [] p [] q
+on_from p q d = drives_on small p q [] d
+
+-- a turn that claims has been heard
+hears_claim : (before now : Heard) (sensed : Result ℕ SensorFault) (r : Performed SmallStep ℕ) → small.senses 3 sensed
+    → PerformsSensed small sensed (now ≡ before) (λ c x. (x ≡ Ok (Settled Done 5)) × (now ≡ heard_after before c x)) Claiming r → now ≡ heard_after before (Claim Z3) (Ok (Settled Done 5))
+hears_claim before now (Err f) r (inl k) h = absurd (cc)
+hears_claim before now (Err f) r (inr k) h = absurd (omega (arith, k.1))
+hears_claim before now (Ok reading) r s h = subst (λ x. now ≡ heard_after before (Claim Z3) x) h.1.0 h.1.1
 
 abbrev call_in : Option (Call × Result Reply LineFault) → Option Call
 call_in None = None
@@ -154,5 +173,19 @@ forms = record {
     other_off_line = λ left k. (let lie : Robot ≡ Press = k.own in cc);
     sound_off_line = λ left not_sound k. not_sound k.sound;
     running_off_line = λ left k. k.reached refl;
+  };
+  going = record {
+    drives = on_from Rising Giving moves;
+    asks_first = λ k. (let come = k Claiming (0, refl) in asks_first come.0 come.1);
+    controller_drives = λ runs. on_from Rising Giving moves;
+    controller_asks_first = λ k. (let come = k refl Claiming (0, refl) in asks_first come.0 come.1);
+    controller_stops = λ runs. absurd (cc);
+    line_drives = λ runs. on_from Rising Giving moves;
+    line_asks_first = λ k. (let come = k refl Claiming (0, refl) in asks_first come.0 come.1);
+    line_stops = λ runs. absurd (cc);
+  };
+  hearing = record {
+    hears = λ heard. ((Ok (Falling, 100)), record { sensed = Ok 3; senses = inl (refl, omega arith); performs = (Ok (Settled Done 5), (refl, refl), refl) }, refl);
+    hears_no_other = λ before now k. hears_claim before now k.1.sensed k.0 k.1.senses k.1.performs;
   };
 }

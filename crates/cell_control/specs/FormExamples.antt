@@ -4,7 +4,8 @@ use Rattle.std.specs.Prelude.{[], ◌∷◌, Option, Some, None}
 use Rattle.std.specs.Prelude.{Ok, Err}
 use Rattle.cell_rules.specs.Types.{Machine, Posture, Press, Robot, Z2, Z3, Claim, Give, Inquire, Release, Held, NoPlate}
 use Rattle.cell_rules.specs.Types.{Done, Refused, Shown, OpenIn, Settled, Event}
-use Rattle.cell_rules.specs.Names.{ModelState, IsSound}
+use Rattle.cell_rules.specs.Names.{ModelState, IsSound, heard_after}
+use Rattle.cell_rules.specs.declared.heard.Heard.{Heard}
 use Rattle.cell_sensors.specs.declared.sense.SensorFault.TheVariants.{High}
 use Rattle.cell_control.specs.declared.controller.Controller.{Controller}
 use Rattle.cell_control.specs.declared.controller.TakenTurn.{TakenTurn}
@@ -13,13 +14,13 @@ use Rattle.cell_control.specs.declared.fault.CtlFault.TheVariants.{Memory}
 use Rattle.cell_control.specs.declared.row.Row.{Row}
 use Rattle.cell_control.specs.declared.row.Waits.TheVariants as waits
 use Rattle.cell_control.specs.Controllers.{program_in, step_in, stopped_in, rest_in, OwnsLine, HasReached, TakesTurnBy}
-use Rattle.cell_control.specs.Controllers.{MeetsDemands}
+use Rattle.cell_control.specs.Controllers.{GoesOnBy, MeetsDemands}
 use Rattle.cell_control.specs.Row.{row_that_asks, row_that_drives, with_waits}
 use Rattle.cell_control.specs.Rows.{AskRow, CheckRow, DriveRow, InquiryRow, NoOtherAnswers, UntilFree, UntilOpen}
 use Rattle.cell_control.specs.Rows.{UntilRoom, is_inquiry}
-use Rattle.cell_control.specs.Steps.{Drives, IsReached, Steps, program_of, with_senses}
+use Rattle.cell_control.specs.Steps.{Drives, GoesOn, IsReached, Steps, program_of, with_senses}
 use Rattle.cell_control.specs.Turns.{answered, at_rest, turned}
-use Rattle.cell_control.specs.Wiring.{IsUnwired, IsWired, wiring_of}
+use Rattle.cell_control.specs.Wiring.{GoesOnWired, IsUnwired, IsWired, TurnsWired, wiring_of}
 
 pub data SmallStep : Type 0 where
   Claiming : SmallStep
@@ -203,6 +204,35 @@ pub record WiringExamples : Type 0 where
   pub sound_off_line : (left : ModelState) → ¬ (IsSound left) → ¬ IsUnwired small Press left (Some Memory) Stuck
   pub running_off_line : (left : ModelState) → IsUnwired small Press left None Stuck → IsReached small left [] Stuck
 
+-- a machine goes on where its step leads, and no other way; one that has stopped has nothing to show
+abbrev pub GoesOnLine : Option CtlFault → SmallStep → SmallStep → Type 0
+GoesOnLine fault p q =
+    GoesOnWired {P = ℕ} small (λ seen. seen) (wiring_of 7 p None []) (wiring_of 7 q fault [])
+
+abbrev pub GoesOnFrom : Controller ℕ SmallStep ℕ ℕ ℕ → Controller ℕ SmallStep ℕ ℕ ℕ → Type 0
+GoesOnFrom before now = GoesOnBy (λ program. small) before [] now []
+
+pub record GoingExamples : Type 0 where
+  pub drives : GoesOn small [] Rising [] Giving
+  pub asks_first : ¬ GoesOn small [] Claiming [] Falling
+  pub controller_drives : GoesOnFrom (running Rising) (running Giving)
+  pub controller_asks_first : ¬ GoesOnFrom (running Claiming) (running Falling)
+  pub controller_stops : GoesOnFrom (running Claiming) stopped
+  pub line_drives : GoesOnLine None Rising Giving
+  pub line_asks_first : ¬ GoesOnLine None Claiming Falling
+  pub line_stops : GoesOnLine (Some Memory) Claiming Falling
+
+-- a line has heard the call of a turn, with what came back
+abbrev pub ClaimsOnLine : Heard → Heard → Type 0
+ClaimsOnLine before now =
+    TurnsWired {P = ℕ} small (λ line call reply next. reply ≡ Ok (Settled Done 5)) (λ line. line)
+    (wiring_of 7 Claiming None before) 3 (record { act = 100; fault = None }) (wiring_of 7 Falling None now)
+
+pub record HearingExamples : Type 0 where
+  pub hears : (heard : Heard) → ClaimsOnLine heard (heard_after heard (Claim Z3) (Ok (Settled Done 5)))
+  pub hears_no_other : (before now : Heard) → ClaimsOnLine before now
+      → now ≡ heard_after before (Claim Z3) (Ok (Settled Done 5))
+
 pub record FormsAreMet : Type 0 where
   pub rows : RowExamples
   pub asks : AskExamples
@@ -211,3 +241,5 @@ pub record FormsAreMet : Type 0 where
   pub answers : AnswerExamples
   pub controllers : ControllerExamples
   pub wirings : WiringExamples
+  pub going : GoingExamples
+  pub hearing : HearingExamples

@@ -11,10 +11,13 @@ use Rattle.cell_rules.specs.declared.heard.Heard.{Heard}
 use Rattle.cell_rules.specs.declared.heard.LineFault.TheVariants as line
 use Rattle.cell_control.specs.declared.fault.CtlFault.{CtlFault}
 use Rattle.cell_control.specs.declared.fault.CtlFault.TheVariants as fault
+use Rattle.cell_control.specs.declared.controller.Controller.{Controller}
+use Rattle.cell_control.specs.Controllers.{GoesOnBy}
 use Rattle.cell_control.specs.Demands.{HoldsIn}
-use Rattle.cell_control.specs.Steps.{Steps, step_after_reply, InStepAfter, IsReached}
+use Rattle.cell_control.specs.Steps.{Steps, step_after_reply, InStepAfter, IsReached, GoesOn}
 use Rattle.cell_control.specs.Turns.{Turned, Turns, HearsTurn}
 use Rattle.cell_control.specs.Row.{waits_on}
+use Rattle.cell_control.specs.Wiring.{GoesOnWired, wiring_of}
 
 -- the sensors say nothing but this
 abbrev pub Says : {S Sense Reading Act : Type 0} → Steps S Sense Reading Act → Sense → Result Reading SensorFault
@@ -128,12 +131,26 @@ pub record ReachedRows {S Sense Reading Act : Type 0} (t : Steps S Sense Reading
   pub carried_over : (opened : ModelState) → IsSound opening → IsLegal opening seen
       → IsSameFor t.machine (after opening seen) opened → IsReached t opening seen p → IsReached t opened [] p
 
+-- a machine that has reached its step and goes on has reached the next one, alone, by its controller and on its line
+abbrev pub controller_at : {S Sense Reading Act : Type 0} → Steps S Sense Reading Act → S
+    → Controller ℕ S Sense Reading Act
+controller_at t p = record { program = 0; progress = p; stopped = None }
+
+pub record GoingRows {S Sense Reading Act : Type 0} (t : Steps S Sense Reading Act) (p q : S) (opening : ModelState)
+    (before now : List Event) : Type 0 where
+  pub alone : GoesOn t before p now q → IsReached t opening before p → IsReached t opening now q
+  pub by_controller : GoesOnBy {P = ℕ} (λ program. t) (controller_at t p) before (controller_at t q) now
+      → IsReached t opening before p → IsReached t opening now q
+  pub on_its_line : GoesOnWired {P = ℕ} t (λ seen. seen) (wiring_of 0 p None before) (wiring_of 0 q None now)
+      → IsReached t opening before p → IsReached t opening now q
+
 -- all rows
 pub record TurnRows {S Sense Reading Act : Type 0} (t : Steps S Sense Reading Act) (p : S) (s : Sense) : Type 0 where
   pub answered : (w : Turned S Act) → AnswerRows t p s w
   pub silent : (w : Turned S Act) → SilentRows t p s w
   pub heard : (before now : Heard) → HeardRows t p s before now
   pub reached : (opening : ModelState) (seen : List Event) → ReachedRows t p opening seen
+  pub goes_on : (next : S) (opening : ModelState) (before now : List Event) → GoingRows t p next opening before now
 
 -- ---- what a motor that enters a zone demands
 

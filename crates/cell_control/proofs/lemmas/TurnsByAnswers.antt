@@ -9,9 +9,9 @@ use Rattle.cell_rules.specs.declared.heard.LineFault.{LineFault}
 use Rattle.cell_rules.specs.declared.heard.Heard.{Heard}
 use Rattle.cell_control.specs.declared.fault.CtlFault.TheVariants as fault
 use Rattle.cell_control.specs.Names.{fault_of, InStepAfter, Steps, is_while_stopped, waits_out, after_answer, step_after_reply, program_of, Performed, PerformsCall, PerformsSensed, Turned, Turns, at_rest, turned, Says, stops_with, waits_on}
-use Rattle.cell_control.proofs.lemmas.StepLemmas.{reached_first, reached_carried}
+use Rattle.cell_control.proofs.lemmas.StepLemmas.{reached_by, reached_first, reached_carried}
 use Rattle.cell_control.specs.Turns.{asked_at}
-use Rattle.cell_control.specs.TurnRows.{TurnAnswered, AnswerRows, SilentRows, HeardRows, AsksAlways, ReachedRows, TurnRows}
+use Rattle.cell_control.specs.TurnRows.{TurnAnswered, AnswerRows, SilentRows, HeardRows, AsksAlways, ReachedRows, GoingRows, TurnRows}
 
 module _ {S Sense Reading Act : Type 0} (t : Steps S Sense Reading Act) (p : S) (s : Sense) where
   -- the outcome of a turn that asks, by what came back
@@ -134,5 +134,12 @@ module _ {S Sense Reading Act : Type 0} (t : Steps S Sense Reading Act) (p : S) 
     carried_over = λ opened sound legal same k. reached_carried t p opening opened seen [] sound legal same refl k;
   }
 
+  going : (q : S) (opening : ModelState) (before now : List Event) → GoingRows t p q opening before now
+  going q opening before now = record {
+    alone = λ on k. reached_by t p q opening before now on k;
+    by_controller = λ on k. reached_by t p q opening before now (on refl) k;
+    on_its_line = λ on k. reached_by t p q opening before now (on refl) k;
+  }
+
   pub turn-rows : TurnRows t p s
-  turn-rows = record { answered = answers; silent = silent; heard = heard; reached = reached }
+  turn-rows = record { answered = answers; silent = silent; heard = heard; reached = reached; goes_on = going }
