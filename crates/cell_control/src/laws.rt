@@ -16,7 +16,8 @@ use crate::program::Program;
 /// stays, each refusal on which it doesn't, the refusal in a stopped cell, on which each step stays,
 /// a Busy, and a call that is out of memory. Sensors that can't be used stop the controller, and a
 /// stopped controller stays so. Also what each of these turns asks, and the machine's progress by
-/// none of its events, and by one.
+/// none of its events, and by one. A machine that has reached its step and goes on has reached the
+/// next one.
 pub fn turns_by_answers<P: Program>(program: &P, progress: P::Progress, sense: &P::Sense)
     ensures { TurnRows (P.steps program.now) progress sense.now }
 {}
@@ -34,7 +35,8 @@ pub fn waits_by_refusals()
 {}
 
 /// A small program, in figures: the rows of its steps, its checks and drives, the answers to its
-/// calls, its turns, and a controller of it on its line and off it.
+/// calls, its turns, and a controller of it on its line and off it; where it goes on, and what its
+/// line hears.
 #[tactic(auto, using(crate::proofs::FormFigures::forms))]
 pub fn forms_are_met()
     ensures { FormsAreMet }
