@@ -73,13 +73,21 @@ large_table =
     ++ pose_at 1 4 OpenOut ∷ [])
     (0 ∷ 1 ∷ 2 ∷ 3 ∷ 4 ∷ 5 ∷ 6 ∷ 7 ∷ 8 ∷ 9 ∷ 10 ∷ 11 ∷ 12 ∷ 13 ∷ 14 ∷ 0 ∷ [])
 
--- both are plans, and so are a large one, one machine alone, and nothing at all
+-- a pose of machine 1 that gives each of eight zones, which machine 1 hosts, this posture
+abbrev pub eight_posed : Posture → PlanTable
+eight_posed q =
+    plan_table 2 (replicate 8 (zone 1 0 None None))
+    (record { machine = 1; after_moving = false; gives = replicate 8 (Some q) ++ None ∷ None ∷ [] } ∷ []) []
+
+-- both are plans, and so are a large one, one machine alone, nothing at all, and one whose pose sets eight zones
 pub record ExamplesArePlans : Type 0 where
   pub press : IsPlan press_table
   pub lift : IsPlan lift_table
   pub large : IsPlan large_table
   pub one_machine : IsPlan (plan_table 1 [] [] [])
   pub nothing : IsPlan (plan_table 0 [] [] [])
+  pub eight_move : IsPlan (eight_posed Moving)
+  pub eight_open : IsPlan (eight_posed OpenOut)
 
 abbrev pub two_at : PlanZone → List PlanPose → PlanTable
 two_at row poses = plan_table 2 (row ∷ []) poses (0 ∷ 1 ∷ [])

@@ -8,3 +8,4 @@ pub mod Readings
 pub mod Bytes
 pub mod Parts
 pub mod ByteExamples
+pub mod TableLaws

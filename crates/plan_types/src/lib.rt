@@ -8,6 +8,7 @@ pub mod call;
 mod check;
 pub mod examples;
 pub mod fault;
+pub mod laws;
 pub mod plan;
 pub mod posture;
 mod read;

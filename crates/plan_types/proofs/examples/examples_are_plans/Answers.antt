@@ -1,8 +1,9 @@
 use Rattle.std.proofs.Common.{◌≡◌, [], Some, None, refl, sym, ◌∙◌}
+use Rattle.plan_types.specs.declared.posture.Posture.TheVariants.{Moving, OpenOut}
 use Rattle.plan_types.specs.declared.fault.PlanFault.{PlanFault}
 use Rattle.plan_types.specs.Table.{PlanTable, plan_table}
 use Rattle.plan_types.specs.Faults.{plan_fault}
-use Rattle.plan_types.specs.Examples.{IsNoPlan, press_table, lift_table, large_table}
+use Rattle.plan_types.specs.Examples.{IsNoPlan, press_table, lift_table, large_table, eight_posed}
 use Rattle.plan_types.proofs.lemmas.Checked.{is_plan, no_fault_of_plan}
 use Rattle.plan_types.proofs.examples.examples_are_plans.Goals as goal
 
@@ -13,6 +14,8 @@ returns-clause-plans c = record {
   large = is_plan large_table refl;
   one_machine = is_plan (plan_table 1 [] [] []) refl;
   nothing = is_plan (plan_table 0 [] [] []) refl;
+  eight_move = is_plan (eight_posed Moving) refl;
+  eight_open = is_plan (eight_posed OpenOut) refl;
 }
 
 no_plan : (t : PlanTable) (fault : PlanFault) → plan_fault t ≡ Some fault → IsNoPlan t fault

@@ -1,0 +1,93 @@
+-- Laws of all tables: what is read of a row, which way a plate goes, which poses move, and the rules of a plan again, on
+-- the rows themselves.
+use Rattle.std.specs.Prelude.{◌≡◌, ◌↔◌, ℕ, ◌+◌, ◌*◌, ◌<◌, ◌≤◌, true, List, ◌∷◌, ◌++◌, length, get_or, All}
+use Rattle.std.specs.Prelude.{Option, Some, None}
+use Rattle.plan_types.specs.declared.posture.Posture.{Posture}
+use Rattle.plan_types.specs.declared.posture.Posture.TheVariants.{Closed, Moving, OpenIn, OpenOut}
+use Rattle.plan_types.specs.declared.table.Way.{Way}
+use Rattle.plan_types.specs.declared.table.PlanZone.{PlanZone}
+use Rattle.plan_types.specs.declared.table.PlanPose.{PlanPose}
+use Rattle.plan_types.specs.Table.{PlanTable, plan_table, zone_row, pose_row, keeper_of, posture_of, is_moving_pose}
+use Rattle.plan_types.specs.Table.{transfer_of, no_zone, no_pose}
+use Rattle.plan_types.specs.Plan.{IsPlan}
+use Rattle.plan_types.specs.Examples.{way, zone}
+use Rattle.plan_types.specs.Readings.{transfer}
+
+-- tables, with rows and then one more before their own zones, poses or places
+abbrev pub with_zone : PlanTable → List PlanZone → PlanZone → PlanTable
+with_zone t rows row = plan_table t.machines (rows ++ row ∷ t.zones) t.poses t.places
+
+abbrev pub with_pose : PlanTable → List PlanPose → PlanPose → PlanTable
+with_pose t rows row = plan_table t.machines t.zones (rows ++ row ∷ t.poses) t.places
+
+abbrev pub with_place : PlanTable → List ℕ → ℕ → PlanTable
+with_place t keepers keeper = plan_table t.machines t.zones t.poses (keepers ++ keeper ∷ t.places)
+
+-- a row's number is how many rows come before it; from the table's length on there is none
+pub record RowsByNumber : Type 0 where
+  pub zone : (t : PlanTable) (rows : List PlanZone) (row : PlanZone) → zone_row (with_zone t rows row) (length rows) ≡ row
+  pub pose : (t : PlanTable) (rows : List PlanPose) (row : PlanPose) → pose_row (with_pose t rows row) (length rows) ≡ row
+  pub keeper : (t : PlanTable) (rows : List ℕ) (m : ℕ) → keeper_of (with_place t rows m) (length rows) ≡ m
+  pub zone_past_the_end : (t : PlanTable) (z : ℕ) → length t.zones ≤ z → zone_row t z ≡ no_zone
+  pub pose_past_the_end : (t : PlanTable) (p : ℕ) → length t.poses ≤ p → pose_row t p ≡ no_pose
+  pub keeper_past_the_end : (t : PlanTable) (p : ℕ) → length t.places ≤ p → keeper_of t p ≡ 0
+
+-- OpenIn gives a plate's way inward, from the guest to the host; OpenOut its way outward, from the host to the guest;
+-- there is none in another posture, none by a row without that way, and none through a zone past the table's end
+pub record TransfersByRow : Type 0 where
+  pub inward : (t : PlanTable) (rows : List PlanZone) (host guest from to : ℕ) (outward : Option Way)
+      → transfer_of (with_zone t rows (zone host guest (way from to) outward)) (length rows) OpenIn
+      ≡ transfer guest host from to
+  pub outward : (t : PlanTable) (rows : List PlanZone) (host guest from to : ℕ) (inward : Option Way)
+      → transfer_of (with_zone t rows (zone host guest inward (way from to))) (length rows) OpenOut
+      ≡ transfer host guest from to
+  pub no_inward : (t : PlanTable) (rows : List PlanZone) (host guest : ℕ) (outward : Option Way)
+      → transfer_of (with_zone t rows (zone host guest None outward)) (length rows) OpenIn ≡ None
+  pub no_outward : (t : PlanTable) (rows : List PlanZone) (host guest : ℕ) (inward : Option Way)
+      → transfer_of (with_zone t rows (zone host guest inward None)) (length rows) OpenOut ≡ None
+  pub closed : (t : PlanTable) (z : ℕ) → transfer_of t z Closed ≡ None
+  pub moving : (t : PlanTable) (z : ℕ) → transfer_of t z Moving ≡ None
+  pub past_the_end : (t : PlanTable) (z : ℕ) (q : Posture) → length t.zones ≤ z → transfer_of t z q ≡ None
+
+-- a pose moves exactly if it gives some zone Moving; and what it gives a zone stands at the zone's number in its row
+pub record PosesByZone : Type 0 where
+  pub moves : (t : PlanTable) (p : ℕ) → (is_moving_pose t p ≡ true) ↔ ((z : ℕ) × (posture_of t p z ≡ Some Moving))
+  pub gives : (t : PlanTable) (rows : List PlanPose) (row : PlanPose) (before after : List (Option Posture))
+      (given : Option Posture) → row.gives ≡ before ++ given ∷ after
+      → posture_of (with_pose t rows row) (length rows) (length before) ≡ given
+
+-- a place of the tables that a machine keeps
+abbrev pub Keeps : PlanTable → ℕ → ℕ → Type 0
+Keeps t m p = (p < length t.places) × (get_or t.places p 0 ≡ m)
+
+-- a way, if there is one, starts at a place that one machine keeps, and ends at one that the other keeps
+abbrev pub GoesBetween : PlanTable → ℕ → ℕ → Option Way → Type 0
+GoesBetween t giver receiver given = (w : Way) → given ≡ Some w → Keeps t giver w.from × Keeps t receiver w.to
+
+pub record KeepsZoneRules (t : PlanTable) (row : PlanZone) : Type 0 where
+  pub host : row.host < t.machines
+  pub guest : row.guest < t.machines
+  pub two : ¬ (row.host ≡ row.guest)
+  pub inward : GoesBetween t row.guest row.host row.inward
+  pub outward : GoesBetween t row.host row.guest row.outward
+
+-- the zones that a pose gives a posture are in the tables, and its machine is the host of each
+pub record KeepsPoseRules (t : PlanTable) (row : PlanPose) : Type 0 where
+  pub machine : row.machine < t.machines
+  pub zones : (z : ℕ) (q : Posture) → z < 10 → get_or row.gives z None ≡ Some q
+      → (z < length t.zones) × ((get_or t.zones z no_zone).host ≡ row.machine)
+
+pub record KeepsRules (t : PlanTable) : Type 0 where
+  pub machines : t.machines < 16
+  pub zones : length t.zones < 11
+  pub poses : length t.poses < 65
+  pub places : length t.places < 17
+  -- twenty-one of a word's 64 bits are for the stamp and the stop
+  pub width : length t.places + 5 * length t.zones < 44
+  pub keepers : All (λ m. m < t.machines) t.places
+  pub zone_rows : All (KeepsZoneRules t) t.zones
+  pub pose_rows : All (KeepsPoseRules t) t.poses
+
+-- plans are the tables that keep these rules, and no others
+abbrev pub PlansKeepRules : Type 0
+PlansKeepRules = (t : PlanTable) → IsPlan t ↔ KeepsRules t
