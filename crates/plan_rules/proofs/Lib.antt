@@ -18,3 +18,4 @@ mod BreakingLift
 mod OfLift
 mod HoldingRows
 mod PartRows
+mod FullPlaces

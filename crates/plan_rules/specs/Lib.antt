@@ -16,3 +16,4 @@ pub mod BrokenLaws
 pub mod LiftLaws
 pub mod HoldingExamples
 pub mod PartExamples
+pub mod PlaceLaws

@@ -8,6 +8,7 @@ ghost use Rattle.plan_rules.specs.History.{IsLegal};
 ghost use Rattle.plan_rules.specs.Laws as law;
 ghost use Rattle.plan_rules.specs.Laws.{Throughout};
 ghost use Rattle.plan_rules.specs.LiftLaws.{LawsOfLift};
+ghost use Rattle.plan_rules.specs.PlaceLaws.{FullPlaces};
 ghost use Rattle.plan_rules.specs.RefusalLaws.{RefusalsTell};
 
 use crate::state::State;
@@ -119,6 +120,12 @@ pub fn handover_by_holder(plan: &Plan, opening: &State, history: &[Event])
 /// comes before it in the call's order.
 pub fn refusals_tell_causes()
     ensures { RefusalsTell }
+{}
+
+/// In all tables and states a place counts as full exactly if it has a plate, or if a plate is in a zone of the plan
+/// whose way ends at it. A refusal and its cause count alike.
+pub fn full_places()
+    ensures { FullPlaces }
 {}
 
 /// All these laws hold of each prefix of every legal history from any sound opening, for every plan, stored or not.
