@@ -180,6 +180,10 @@ pub record WatchCauses : Type 0 where
   pub stop : AtPress given watch Stop []
   pub stop_by_loader : AtPress given 0 Stop (NotParty ∷ [])
   pub stop_late : AtPress (late given) watch Stop (Worn ∷ Stopped ∷ [])
+  -- not stopped, at the last stamp
+  pub stop_worn_by_press : AtPress (with_last_stamp given) 1 Stop (NotParty ∷ Worn ∷ [])
+  pub stop_worn : AtPress (with_last_stamp given) watch Stop (Worn ∷ [])
+  pub resume_worn_by_press : AtPress (with_last_stamp given) 1 Resume (NotParty ∷ Worn ∷ NotStopped ∷ [])
   pub stop_late_by_press : AtPress (late given) 1 Stop (NotParty ∷ Worn ∷ Stopped ∷ [])
   pub resume : AtPress given watch Resume (NotStopped ∷ [])
   pub resume_by_loader : AtPress given 0 Resume (NotParty ∷ NotStopped ∷ [])

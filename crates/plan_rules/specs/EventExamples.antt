@@ -67,6 +67,9 @@ pub record DoneAlone : Type 0 where
   pub resume_refused : is_resume (refused 1 Resume NotParty) ≡ false
   pub stop_is_no_resume : is_resume (did watch Stop) ≡ false
   pub claim_is_neither : is_stop (did 0 (Claim 0)) ≡ false
+  -- whoever made it
+  pub stopped_by_other : is_stop (did 1 Stop) ≡ true
+  pub resumed_by_other : is_resume (did 1 Resume) ≡ true
   -- six calls of `loading` are done; an inquiry isn't
   pub count : done_count loading ≡ 6
   pub inquiry : done_count (event 1 (Inquire 0) (Shown None false Closed) ∷ did 1 (Claim 0) ∷ []) ≡ 1

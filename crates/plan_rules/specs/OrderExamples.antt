@@ -111,6 +111,7 @@ pub record PoseOrder : Type 0 where
 
 pub record StopOrder : Type 0 where
   pub party : ComesFirst (with_stop free) 1 Stop NotParty Stopped
+  pub party_worn : ComesFirst (with_last_stamp free) 1 Stop NotParty Worn
   pub stopped : ComesFirst (with_last_stamp (with_stop free)) watch Stop Stopped Worn
 
 pub record ResumeOrder : Type 0 where

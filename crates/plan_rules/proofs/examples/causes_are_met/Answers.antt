@@ -10,7 +10,7 @@ returns c = record {
   take = record { free_loader = refl; moving_loader = refl; moving_press = refl; given_loader = refl; given_press = refl; given_back_loader = refl; given_back_press = refl; late_call = refl; late_watch = refl };
   release = record { free_loader = refl; free_press = refl; given_loader = refl; given_press = refl; moving_loader = refl; moving_press = refl; outward = refl; not_owner = refl; late_call = refl; late_watch = refl };
   pose = record { not_owner = refl; jump = refl; loader = refl; no_pose = refl; full = refl; opens = refl; jump_onto_full = refl; same_pose = refl; moves = refl; plate = refl; plate_closes = refl; plate_same_pose = refl; anothers = refl; anothers_same_pose = refl; anothers_turns = refl; late_moves = refl; late_opens = refl; late_loader = refl };
-  watch = record { inquire = refl; inquire_late = refl; inquire_past_the_end = refl; stop = refl; stop_by_loader = refl; stop_late = refl; stop_late_by_press = refl; resume = refl; resume_by_loader = refl; resume_late = refl; resume_late_by_press = refl };
+  watch = record { inquire = refl; inquire_late = refl; inquire_past_the_end = refl; stop = refl; stop_by_loader = refl; stop_late = refl; stop_worn_by_press = refl; stop_worn = refl; resume_worn_by_press = refl; stop_late_by_press = refl; resume = refl; resume_by_loader = refl; resume_late = refl; resume_late_by_press = refl };
   last_zone = record { claim_shut = refl; claim_host = refl; claim_stranger = refl; claim_past_the_end = refl; claim_held = refl; claim_held_by_guest = refl; give_anothers = refl; give = refl; give_full = refl; give_outward = refl; give_full_outward = refl; yield = refl; take = refl; release = refl; pose_free = refl; pose_anothers = refl; pose_full = refl; pose_opens = refl; pose_jumps = refl; pose_of_seventh = refl; anothers_pose = refl; inquire = refl; inquire_past_the_end = refl };
   both_gates = record { both = refl; second = refl; owner_of_second = refl; neither = refl; jump = refl; jump_by_second = refl };
   orders = record { numbers = refl; claim = refl; give = refl; yield = refl; take = refl; release = refl; pose = refl; inquire = refl; stop = refl; resume = refl };

@@ -13,7 +13,7 @@ pub returns-clause-events : goal.returns-clause-events
 returns-clause-events c = record {
   gained = record { claim = refl; claim_of_other = refl; give = refl; give_back = refl; give_of_other = refl; give_by_stranger = refl; yield = refl; yield_back = refl; yield_of_other = refl; yield_by_stranger = refl; take = refl; release = refl; pose = refl; inquire = refl; stop = refl; resume = refl };
   lost = record { claim = refl; give = refl; give_of_other = refl; yield = refl; yield_of_other = refl; release = refl; release_of_other = refl; take = refl; pose = refl; inquire = refl; stop = refl; resume = refl };
-  done_alone = record { claimed = refl; claim_refused = refl; released = refl; release_refused = refl; stopped = refl; stop_refused = refl; resume_is_no_stop = refl; resumed = refl; resume_refused = refl; stop_is_no_resume = refl; claim_is_neither = refl; count = refl; inquiry = refl };
+  done_alone = record { claimed = refl; claim_refused = refl; released = refl; release_refused = refl; stopped = refl; stop_refused = refl; resume_is_no_stop = refl; resumed = refl; resume_refused = refl; stop_is_no_resume = refl; claim_is_neither = refl; stopped_by_other = refl; resumed_by_other = refl; count = refl; inquiry = refl };
   postures = record { opening = refl; last = refl; refused = refl; other_call = refl; first_zone = refl; second_zone = refl; left = refl; given = refl; state = refl };
   not_legal = record {
     first = λ legal. let e : Done ≡ Refused (Shut Closed) = legal.0 in cc;

@@ -9,6 +9,6 @@ returns c = record {
   take = record { party = (refl, refl); owner = (refl, refl); no_plate = (refl, refl) };
   release = record { party = (refl, refl); owner = (refl, refl); owner_too = (refl, refl); plate = (refl, refl); shut = (refl, refl) };
   pose = record { own = (refl, refl); stopped = (refl, refl); owner = (refl, refl); plate = (refl, refl); jump = (refl, refl); full = (refl, refl) };
-  stop = record { party = (refl, refl); stopped = (refl, refl) };
+  stop = record { party = (refl, refl); party_worn = (refl, refl); stopped = (refl, refl) };
   resume = record { party = (refl, refl); not_stopped = (refl, refl) };
 }
