@@ -1,5 +1,5 @@
--- Laws of all tables: what is read of a row, which way a plate goes, which poses move, and the rules of a plan again, on
--- the rows themselves.
+-- Laws of all tables: what is read of a row, which way a plate goes, which poses move, and the rules of a plan again,
+-- on the rows themselves.
 use Rattle.std.specs.Prelude.{◌≡◌, ◌↔◌, ℕ, ◌+◌, ◌*◌, ◌<◌, ◌≤◌, true, List, ◌∷◌, ◌++◌, length, get_or, All}
 use Rattle.std.specs.Prelude.{Option, Some, None}
 use Rattle.plan_types.specs.declared.posture.Posture.{Posture}
@@ -25,8 +25,10 @@ with_place t keepers keeper = plan_table t.machines t.zones t.poses (keepers ++ 
 
 -- a row's number is how many rows come before it; from the table's length on there is none
 pub record RowsByNumber : Type 0 where
-  pub zone : (t : PlanTable) (rows : List PlanZone) (row : PlanZone) → zone_row (with_zone t rows row) (length rows) ≡ row
-  pub pose : (t : PlanTable) (rows : List PlanPose) (row : PlanPose) → pose_row (with_pose t rows row) (length rows) ≡ row
+  pub zone : (t : PlanTable) (rows : List PlanZone) (row : PlanZone)
+      → zone_row (with_zone t rows row) (length rows) ≡ row
+  pub pose : (t : PlanTable) (rows : List PlanPose) (row : PlanPose)
+      → pose_row (with_pose t rows row) (length rows) ≡ row
   pub keeper : (t : PlanTable) (rows : List ℕ) (m : ℕ) → keeper_of (with_place t rows m) (length rows) ≡ m
   pub zone_past_the_end : (t : PlanTable) (z : ℕ) → length t.zones ≤ z → zone_row t z ≡ no_zone
   pub pose_past_the_end : (t : PlanTable) (p : ℕ) → length t.poses ≤ p → pose_row t p ≡ no_pose
