@@ -1,13 +1,13 @@
 -- Which calls are never done, by the rules of plans.
-use Rattle.std.proofs.Common.{◌≡◌, ◌≢◌, ◌∙◌, ℕ, Bool, true, false, ◌||◌, nat_eq, Option, Some, None, refl, sym, ap, nat_lt, if◌then◌else◌}
-use Rattle.std.proofs.lemmas.Bool.{eq-eqb, lt-ltb}
+use Rattle.std.proofs.Common.{◌≡◌, ◌≢◌, ◌∙◌, ◌<◌, ◌⊎◌, inl, inr, ℕ, Bool, true, false, ◌&&◌, ◌||◌, nat_eq, Option, Some, None, refl, sym, ap, nat_lt, if◌then◌else◌}
+use Rattle.std.proofs.lemmas.Bool.{eq-eqb, eqb-true, lt-ltb, ltb-true}
 use Rattle.plan_types.specs.declared.posture.Posture.{Posture}
 use Rattle.plan_types.specs.declared.posture.Posture.TheVariants.{Closed, Moving, OpenIn, OpenOut}
 use Rattle.plan_types.specs.declared.table.Transfer.{Transfer}
 use Rattle.plan_types.specs.declared.call.Call.{Call}
 use Rattle.plan_types.specs.declared.call.Call.TheVariants.{Claim, Give, Yield, Take, Release, SetPose, Inquire, Stop, Resume}
 use Rattle.plan_types.specs.declared.answer.Answer.TheVariants.{Done}
-use Rattle.plan_types.specs.Table.{PlanTable, machine_of, pose_count, transfer_of}
+use Rattle.plan_types.specs.Table.{PlanTable, guest_of, has_pose, host_of, is_party, machine_of, pose_count, transfer_of, zone_count}
 use Rattle.plan_rules.specs.declared.state.State.{State}
 use Rattle.plan_rules.specs.State.{owner_of, posture_at}
 use Rattle.plan_rules.specs.Sound.{IsSound}
@@ -15,6 +15,8 @@ use Rattle.plan_rules.specs.Refusals.{given_by}
 use Rattle.plan_rules.specs.Reply.{reply}
 use Rattle.plan_rules.proofs.lemmas.DoneCalls.{claim_done, give_done, yield_done, take_done, release_done, pose_done}
 use Rattle.plan_rules.proofs.lemmas.Soundness.{done_none, plate_comes}
+use Rattle.plan_document.specs.Laws.{AcceptedLinesHaveReasons, GivesThrough, HasZone, TakesThrough}
+use Rattle.plan_document.proofs.Theirs.{guest_is_party, host_is_party}
 use Rattle.plan_document.specs.Saying.{is_from, is_to, may_be_done}
 
 -- ---- ways
@@ -70,3 +72,63 @@ done_may_be t m Resume s k e = refl
 
 pub never_done : (t : PlanTable) (m : ℕ) (c : Call) → may_be_done t m c ≡ false → (s : State) → IsSound t s → reply t s m c ≢ Done
 never_done t m c never s k done = let may = done_may_be t m c s k done in cc
+
+-- ---- reasons
+
+two_ways : (a b : Bool) → (a || b) ≡ true → (a ≡ true) ⊎ (b ≡ true)
+two_ways true b e = inl refl
+two_ways false b e = inr e
+
+gives_way : (t : PlanTable) (m z : ℕ) (q : Posture) (o : Option Transfer) → transfer_of t z q ≡ o → is_from m o ≡ true → GivesThrough t m z
+gives_way t m z q None is e = absurd (cc)
+gives_way t m z q (Some way) is e = (q, way, is, eqb-true way.giver m e)
+
+takes_way : (t : PlanTable) (m z : ℕ) (q : Posture) (o : Option Transfer) → transfer_of t z q ≡ o → is_to m o ≡ true → TakesThrough t m z
+takes_way t m z q None is e = absurd (cc)
+takes_way t m z q (Some way) is e = (q, way, is, eqb-true way.receiver m e)
+
+both : (a b : Bool) → (a && b) ≡ true → (a ≡ true) × (b ≡ true)
+both true b e = (refl, e)
+both false b e = absurd (cc)
+
+has_zone : (t : PlanTable) (m z : ℕ) → is_party t m z ≡ true → HasZone t m z
+has_zone t m z e =
+    let p = both (nat_lt z (zone_count t)) _ e in
+    let own = two_ways (nat_eq m (host_of t z)) (nat_eq m (guest_of t z)) p.1 in (
+      ltb-true z (zone_count t) p.0,
+      elim own [ inl h ↦ inl (sym (eqb-true m (host_of t z) h)) | inr g ↦ inr (sym (eqb-true m (guest_of t z) g)) ],
+    )
+
+party : (t : PlanTable) (m z : ℕ) → HasZone t m z → is_party t m z ≡ true
+party t m z has =
+    elim has.1 [ inl h ↦ host_is_party t m z has.0 h | inr g ↦ guest_is_party t m z has.0 g ]
+
+own_poses : (t : PlanTable) (m p : ℕ) → has_pose t m p ≡ true → (p < pose_count t) × (machine_of t p ≡ m)
+own_poses t m p e =
+    let h = both (nat_lt p (pose_count t)) (nat_eq (machine_of t p) m) e in
+    (ltb-true p (pose_count t) h.0, eqb-true (machine_of t p) m h.1)
+
+pub lines_have_reasons : AcceptedLinesHaveReasons
+lines_have_reasons t m = record {
+  claims = has_zone t m;
+  yields = has_zone t m;
+  releases = has_zone t m;
+  gives = λ z e. elim (two_ways (is_from m (transfer_of t z OpenIn)) (is_from m (transfer_of t z OpenOut)) e) [
+    | inl i ↦ gives_way t m z OpenIn (transfer_of t z OpenIn) refl i
+    | inr o ↦ gives_way t m z OpenOut (transfer_of t z OpenOut) refl o
+  ];
+  takes = λ z e. elim (two_ways (is_to m (transfer_of t z OpenIn)) (is_to m (transfer_of t z OpenOut)) e) [
+    | inl i ↦ takes_way t m z OpenIn (transfer_of t z OpenIn) refl i
+    | inr o ↦ takes_way t m z OpenOut (transfer_of t z OpenOut) refl o
+  ];
+  poses = own_poses t m;
+  may_claim = party t m;
+  may_yield = party t m;
+  may_release = party t m;
+  may_give = λ z g. through t z (is_from m) refl g.0 (ap (is_from m) g.2 ∙ eq-eqb g.1.giver m g.3);
+  may_take = λ z g. through t z (is_to m) refl g.0 (ap (is_to m) g.2 ∙ eq-eqb g.1.receiver m g.3);
+  may_pose = λ p l is. rw (lt-ltb p (pose_count t) l, eq-eqb (machine_of t p) m is) refl;
+  may_inquire = λ z. refl;
+  may_stop = refl;
+  may_resume = refl;
+}

@@ -19,7 +19,7 @@ given_push {X = X} meaning zones rows row zone posture is =
     ap (last_or None)
     (filter_map-append (given_by meaning zones zone) rows (row ∷ []) ∙ ap (λ (o : Option X). filter_map (given_by meaning zones zone) rows ++ cons_option o []) is)
 
-given_here : {X : Type 0} (meaning : Text → Option X) (zones : List Text) (rows : List PostureRow) (row : PostureRow) (zone : ℕ) (posture : X) → given_by meaning zones zone row ≡ Some posture → given meaning zones (rows ++ row ∷ []) zone ≡ Some posture
+pub given_here : {X : Type 0} (meaning : Text → Option X) (zones : List Text) (rows : List PostureRow) (row : PostureRow) (zone : ℕ) (posture : X) → given_by meaning zones zone row ≡ Some posture → given meaning zones (rows ++ row ∷ []) zone ≡ Some posture
 given_here meaning zones rows row zone posture is =
     given_push meaning zones rows row zone (Some posture) is ∙ last_push None (filter_map (given_by meaning zones zone) rows) posture
 

@@ -9,3 +9,4 @@ mod NameWords
 mod PlanRows
 mod ReadingRows
 mod MotorRows
+mod PlanLaws

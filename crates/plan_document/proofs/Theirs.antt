@@ -32,14 +32,14 @@ to_receiver m giver receiver None e = absurd (cc)
 to_receiver m giver receiver (Some w) e = eqb-true receiver m e
 
 -- a machine that is host or guest of a zone of the plan is a party
-host_is_party : (t : PlanTable) (m z : ℕ) → z < zone_count t → host_of t z ≡ m → is_party t m z ≡ true
+pub host_is_party : (t : PlanTable) (m z : ℕ) → z < zone_count t → host_of t z ≡ m → is_party t m z ≡ true
 host_is_party t m z l is = rw (lt-ltb z (zone_count t) l, eq-eqb m (host_of t z) (sym is)) refl
 
 or_true : (a : Bool) → (a || true) ≡ true
 or_true true = refl
 or_true false = refl
 
-guest_is_party : (t : PlanTable) (m z : ℕ) → z < zone_count t → guest_of t z ≡ m → is_party t m z ≡ true
+pub guest_is_party : (t : PlanTable) (m z : ℕ) → z < zone_count t → guest_of t z ≡ m → is_party t m z ≡ true
 guest_is_party t m z l is = rw (lt-ltb z (zone_count t) l, eq-eqb m (guest_of t z) (sym is), or_true (nat_eq m (host_of t z))) refl
 
 -- a zone with plates is one of the plan

@@ -1,11 +1,14 @@
 -- Laws of what a document may say, by the rules of plans.
-use Rattle.std.specs.Prelude.{◌≡◌, ◌≢◌, ℕ, Bool, true, false, [], ◌∷◌, None, IsTrue}
+use Rattle.std.specs.Prelude.{◌≡◌, ◌≢◌, ◌<◌, ◌⊎◌, ℕ, Bool, Some, true, false, [], ◌∷◌, None, IsTrue}
 use Rattle.plan_types.specs.declared.call.Call.{Call}
 use Rattle.plan_types.specs.declared.call.Call.TheVariants.{Claim, Give, Yield, Take, Release, SetPose, Inquire, Stop}
 use Rattle.plan_types.specs.declared.call.Call.TheVariants.{Resume}
 use Rattle.plan_types.specs.declared.answer.Answer.TheVariants.{Done, Refused}
 use Rattle.plan_types.specs.declared.answer.Refusal.TheVariants.{NotParty, NoPose}
-use Rattle.plan_types.specs.Table.{PlanTable, plan_table}
+use Rattle.plan_types.specs.declared.posture.Posture.{Posture}
+use Rattle.plan_types.specs.declared.table.Transfer.{Transfer}
+use Rattle.plan_types.specs.Table.{PlanTable, guest_of, host_of, machine_of, plan_table, pose_count, transfer_of}
+use Rattle.plan_types.specs.Table.{zone_count}
 use Rattle.plan_types.specs.Examples.{press_poses, way, zone}
 use Rattle.plan_rules.specs.declared.state.State.{State}
 use Rattle.plan_rules.specs.Reply.{reply}
@@ -29,6 +32,38 @@ abbrev pub AcceptedLinesAreTheirs : Type 0
 AcceptedLinesAreTheirs =
     (t : PlanTable) (m : ℕ) (c : Call) → IsTrue (is_line c) → may_be_done t m c ≡ true → (s : State) → IsSound t s
     → (reply t s m c ≢ Refused NotParty) × (reply t s m c ≢ Refused NoPose)
+
+-- a machine gives through a zone, or takes, if it is the giver, or the receiver, of a plate in some posture of the zone
+abbrev pub GivesThrough : PlanTable → ℕ → ℕ → Type 0
+GivesThrough t m z = (q : Posture) × (way : Transfer) × (transfer_of t z q ≡ Some way) × (way.giver ≡ m)
+
+abbrev pub TakesThrough : PlanTable → ℕ → ℕ → Type 0
+TakesThrough t m z = (q : Posture) × (way : Transfer) × (transfer_of t z q ≡ Some way) × (way.receiver ≡ m)
+
+-- a machine has a zone of the plan, as its host or as its guest
+abbrev pub HasZone : PlanTable → ℕ → ℕ → Type 0
+HasZone t m z = (z < zone_count t) × ((host_of t z ≡ m) ⊎ (guest_of t z ≡ m))
+
+-- what is so of a line that is accepted, and what is enough for it
+pub record LinesHaveReasons (t : PlanTable) (m : ℕ) : Type 0 where
+  pub claims : (z : ℕ) → may_be_done t m (Claim z) ≡ true → HasZone t m z
+  pub yields : (z : ℕ) → may_be_done t m (Yield z) ≡ true → HasZone t m z
+  pub releases : (z : ℕ) → may_be_done t m (Release z) ≡ true → HasZone t m z
+  pub gives : (z : ℕ) → may_be_done t m (Give z) ≡ true → GivesThrough t m z
+  pub takes : (z : ℕ) → may_be_done t m (Take z) ≡ true → TakesThrough t m z
+  pub poses : (p : ℕ) → may_be_done t m (SetPose p) ≡ true → (p < pose_count t) × (machine_of t p ≡ m)
+  pub may_claim : (z : ℕ) → HasZone t m z → may_be_done t m (Claim z) ≡ true
+  pub may_yield : (z : ℕ) → HasZone t m z → may_be_done t m (Yield z) ≡ true
+  pub may_release : (z : ℕ) → HasZone t m z → may_be_done t m (Release z) ≡ true
+  pub may_give : (z : ℕ) → GivesThrough t m z → may_be_done t m (Give z) ≡ true
+  pub may_take : (z : ℕ) → TakesThrough t m z → may_be_done t m (Take z) ≡ true
+  pub may_pose : (p : ℕ) → p < pose_count t → machine_of t p ≡ m → may_be_done t m (SetPose p) ≡ true
+  pub may_inquire : (z : ℕ) → may_be_done t m (Inquire z) ≡ true
+  pub may_stop : may_be_done t m Stop ≡ true
+  pub may_resume : may_be_done t m Resume ≡ true
+
+abbrev pub AcceptedLinesHaveReasons : Type 0
+AcceptedLinesHaveReasons = (t : PlanTable) (m : ℕ) → LinesHaveReasons t m
 
 -- a loader (0) that gives plates to a press (1), or takes them from it, and a bystander (2)
 abbrev pub loaded : PlanTable

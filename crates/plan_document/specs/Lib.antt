@@ -7,6 +7,7 @@ pub mod Saying
 pub mod Reading
 pub mod Laws
 pub mod NameLaws
+pub mod PlanLaws
 pub mod WordExamples
 pub mod PlanExamples
 pub mod MotorExamples

@@ -3,6 +3,7 @@ ghost use Rattle.plan_document.specs.Laws as laws;
 ghost use Rattle.plan_document.specs.MotorExamples.{MotorsAreMet};
 ghost use Rattle.plan_document.specs.NameLaws.{NamedPlansHaveWords};
 ghost use Rattle.plan_document.specs.PlanExamples as plans;
+ghost use Rattle.plan_document.specs.PlanLaws as plan_laws;
 ghost use Rattle.plan_document.specs.ReadingExamples.{RowsAreRead};
 ghost use Rattle.plan_document.specs.WordExamples as words;
 
@@ -19,6 +20,22 @@ pub fn accepted_lines_are_theirs()
 {
     refusals_tell_causes();
 }
+
+/// A line is accepted where the plan has a reason: a zone of the machine, a plate that it gives or takes, a pose of its
+/// own; and nowhere else.
+pub fn accepted_lines_have_reasons()
+    ensures { laws.AcceptedLinesHaveReasons }
+{}
+
+/// Each row of a document, wherever it stands, has its names in the plan: places their keepers, zones their machines
+/// and places, poses their machines and postures, motors their needs, hazards their motors.
+pub fn rows_have_names()
+    ensures places { plan_laws.PlacesAreKept }
+    ensures zones { plan_laws.ZonesHaveNames }
+    ensures poses { plan_laws.PosesHaveNames }
+    ensures motors { plan_laws.MotorsHaveNeeds }
+    ensures hazards { plan_laws.HazardsHaveNames }
+{}
 
 /// Which lines of three machines at a zone with one way are accepted.
 pub fn lines_are_judged()
