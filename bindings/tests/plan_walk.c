@@ -1,6 +1,7 @@
 /* Random calls at the lift of plan_types::examples, by the library. It prints a sum of all replies; the test
-   walks_as_c_does of the crate plan_c has the same from plan_rules. By each word the function and the macro say the same
-   of the lift's motors, and never that two of them may run. A number as argument: how many rounds, for time. */
+   walks_as_c_does of the crate plan_c has the same from plan_rules. By each word the function and the macro say the
+   same of the lift's motors, and never that two of them may run. Before that, a few calls by a plan whose word has
+   64 bits. A number as argument: how many rounds, for time. */
 #include <bagunjoki_plan.h>
 #include <stdio.h>
 #include <stdlib.h>
@@ -55,7 +56,27 @@ static uint64_t walk(void) {
     return sum;
 }
 
+/* Eight zones and three places: the stamp ends at bit 62, and the stop is bit 63. The test
+   words_of_all_bits_are_answered of plan_c makes these calls, and more. */
+static bool words_of_all_bits_are_answered(void) {
+    uint8_t plan[4 + 8 * 8 + 3] = {2, 8, 0, 3};
+    size_t length = sizeof plan;
+    for (int zone = 0; zone < 8; zone++) plan[4 + 8 * zone + 1] = 1;
+    plan[length - 1] = 1;
+    uint64_t start = bagunjoki_plan_start(plan, length, (const uint8_t *)"101", 3, 1048574);
+    bagunjoki_plan_reply stop =
+        bagunjoki_plan_step(plan, length, start, BAGUNJOKI_PLAN_WATCH, BAGUNJOKI_PLAN_STOP, 0);
+    uint64_t early = bagunjoki_plan_restamp(plan, length, stop.next, 7);
+    return start == 0x7FFFF50000000000u && stop.answer == BAGUNJOKI_PLAN_DONE && stop.next == 0xFFFFFD0000000000u
+           && bagunjoki_plan_stamp(plan, length, stop.next) == 1048575 && early == 0x80003D0000000000u
+           && bagunjoki_plan_step(plan, length, early, 0, BAGUNJOKI_PLAN_CLAIM, 7).answer == BAGUNJOKI_PLAN_STOPPED;
+}
+
 int main(int argc, char **argv) {
+    if (!words_of_all_bits_are_answered()) {
+        puts("a word of 64 bits isn't answered by its plan");
+        return 1;
+    }
     uint64_t sum = walk();
     printf("0x%016llx\n", (unsigned long long)sum);
     if (argc > 1) {

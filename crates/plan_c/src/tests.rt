@@ -144,6 +144,41 @@ fn an_open_free_zone_is_a_state(rt: HostRuntime) -> Result<(), Fail> {
     Ok(())
 }
 
+// Eight zones and three places: the word has 64 bits, the stamp from bit 43 up, and the stop in bit 63. Whatever the
+// highest bits, each function answers by the plan, and memory doesn't run out.
+#[test]
+fn words_of_all_bits_are_answered(rt: HostRuntime) -> Result<(), Fail> {
+    let mut plan = [2, 8, 0, 3].to_vec(rt.alloc())?;
+    for _ in 0..8 {
+        plan.extend_from_slice(&[0, 1, 0, 0, 0, 0, 0, 0])?;
+    }
+    plan.extend_from_slice(&[0, 0, 1])?;
+    let start = bagunjoki_plan_start(rt.alloc(), &plan, b"101", 1_048_574);
+    assert!(rt; start == 0x7FFF_F500_0000_0000);
+    assert!(rt; bagunjoki_plan_stamp(rt.alloc(), &plan, start) == 1_048_574);
+    let claimed = bagunjoki_plan_step(rt.alloc(), &plan, start, 0, 1, 7);
+    assert!(rt; claimed.answer == 0);
+    assert!(rt; claimed.next == 0x7FFF_FD08_0000_0000);
+    let stop = bagunjoki_plan_step(rt.alloc(), &plan, start, 15, 9, 0);
+    assert!(rt; stop.answer == 0);
+    assert!(rt; stop.next == 0xFFFF_FD00_0000_0000);
+    assert!(rt; bagunjoki_plan_stamp(rt.alloc(), &plan, stop.next) == 1_048_575);
+    assert!(rt; bagunjoki_plan_step(rt.alloc(), &plan, stop.next, 15, 10, 0).answer == 13);
+    let shown = bagunjoki_plan_step(rt.alloc(), &plan, stop.next, 15, 8, 7);
+    assert!(rt; [shown.answer, shown.owner, shown.posture] == [32, 255, 0]);
+    assert!(rt; shown.next == stop.next);
+    let early = bagunjoki_plan_restamp(rt.alloc(), &plan, stop.next, 7);
+    assert!(rt; early == 0x8000_3D00_0000_0000);
+    assert!(rt; bagunjoki_plan_step(rt.alloc(), &plan, early, 0, 1, 7).answer == 14);
+    assert!(rt; bagunjoki_plan_step(rt.alloc(), &plan, early, 15, 10, 0).next == 0x4500_0000_0000);
+    assert!(rt; bagunjoki_plan_restamp(rt.alloc(), &plan, early, 1_048_575) == stop.next);
+    // no machine has the number 3 of an owner: the word of no state
+    let stateless = 0xFFFF_FD18_0000_0000;
+    assert!(rt; bagunjoki_plan_step(rt.alloc(), &plan, stateless, 0, 1, 7).answer == 65);
+    assert!(rt; bagunjoki_plan_stamp(rt.alloc(), &plan, stateless) == u32::MAX);
+    Ok(())
+}
+
 // Of `bindings/tests/plan_walk.c`, which makes the same calls by the library.
 const WALKED: u64 = 0x8ebe0a45669b9ad7;
 
