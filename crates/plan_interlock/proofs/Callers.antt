@@ -29,7 +29,7 @@ in-range m a (suc n) low high = go (nat_eq a m) refl (in-range m (a + 1) n)
         let above : a + 1 ≤ m = grind (arith, nat_tests, low, e) in
         omega (arith, head, rest above (omega (arith, high)))
 
-all-machines : (n : ℕ) → n ≤ 15 → min n 15 ≡ n
+pub all-machines : (n : ℕ) → n ≤ 15 → min n 15 ≡ n
 all-machines n few = grind (arith, few)
 
 -- the watch stands at the end alone

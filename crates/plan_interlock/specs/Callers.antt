@@ -1,6 +1,7 @@
 -- Who calls: the machines of the plan, and the watch.
-use Rattle.std.specs.Prelude.{◌≡◌, ◌≢◌, ℕ, ◌<◌, ◌≤◌, nat_eq, [], ◌∷◌}
-use Rattle.plan_types.specs.Table.{PlanTable, watch}
+use Rattle.std.specs.Prelude.{◌≡◌, ◌≢◌, ℕ, ◌<◌, ◌≤◌, nat_eq, [], ◌∷◌, ◌++◌}
+use Rattle.std.specs.List.{range_with_len}
+use Rattle.plan_types.specs.Table.{PlanTable, plan_table, watch}
 use Rattle.plan_types.specs.Examples.{press_table, lift_table}
 use Rattle.word_interlock.specs.RuleBook.{times}
 use Rattle.plan_interlock.specs.Book.{plan_book}
@@ -16,6 +17,12 @@ pub record EveryMachineCalls (t : PlanTable) : Type 0 where
   pub nobody_else : (m : ℕ) → t.machines ≤ m → m ≢ watch → passes_of t m ≡ 0
 
 -- the passes come in the order of the machines' numbers, the watch's last
+abbrev pub CallsInOrder : PlanTable → Type 0
+CallsInOrder t = (plan_book t).actors ≡ range_with_len 0 t.machines ++ watch ∷ []
+
+-- the same of literal plans
 pub record PassesInOrder : Type 0 where
   pub press : (plan_book press_table).actors ≡ 0 ∷ 1 ∷ 15 ∷ []
   pub lift : (plan_book lift_table).actors ≡ 0 ∷ 1 ∷ 2 ∷ 15 ∷ []
+  pub ten : (plan_book (plan_table 10 [] [] [])).actors ≡ 0 ∷ 1 ∷ 2 ∷ 3 ∷ 4 ∷ 5 ∷ 6 ∷ 7 ∷ 8 ∷ 9 ∷ 15 ∷ []
+  pub nobody : (plan_book (plan_table 0 [] [] [])).actors ≡ 15 ∷ []

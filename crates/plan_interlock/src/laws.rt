@@ -1,10 +1,10 @@
 //! Laws of every interlock by a plan, each the contract of a function that does nothing.
 ghost use Rattle.std.specs.Prelude.{◌≡◌, ℕ, ◌≤◌, false};
-ghost use Rattle.plan_types.specs.Table.{place_count};
+ghost use Rattle.plan_types.specs.Table.{PlanTable, place_count};
 ghost use Rattle.plan_rules.specs.State.{is_full};
 ghost use Rattle.plan_rules.specs.Sound.{IsStart};
 ghost use Rattle.plan_interlock.specs.Book.{plan_book, plan_of};
-ghost use Rattle.plan_interlock.specs.Callers.{EveryMachineCalls, PassesInOrder};
+ghost use Rattle.plan_interlock.specs.Callers.{CallsInOrder, EveryMachineCalls, PassesInOrder};
 ghost use Rattle.plan_interlock.specs.Laws.{EveryPassSeesLaws, RightsLast};
 ghost use Rattle.plan_interlock.specs.Motors.{PermissionsLast, SurveysPermitTheSame};
 ghost use Rattle.plan_interlock.specs.MotorExamples.{MotorExamples};
@@ -33,9 +33,10 @@ pub fn every_machine_calls(rules: &PlanRules)
     let _ = rules.plan().machines();
 }
 
-/// The passes of the press and of the lift come in the order of the machines' numbers, the watch's last.
+/// The passes come in the order of the machines' numbers, the watch's last: of any plan, and of literal ones.
 pub fn passes_in_order()
-    ensures { PassesInOrder }
+    ensures any { (t : PlanTable) → t.machines ≤ 15 → CallsInOrder t }
+    ensures literal { PassesInOrder }
 {}
 
 /// All that a pass sees keeps the laws of plans: no zone has two holders, plates are neither lost nor made, and so on.
