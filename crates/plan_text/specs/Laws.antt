@@ -1,13 +1,19 @@
 -- Laws of words: a word is read as what it is told for, words of scripts are taken, and own poses come first.
-use Rattle.std.specs.Prelude.{◌≡◌, ◌≢◌, ℕ, ◌<◌, ◌++◌, true, false, codes, length, Some, None, is_some, IsTrue}
+use Rattle.std.specs.Prelude.{◌≡◌, ◌≢◌, ℕ, suc, ◌<◌, true, false, List, [], ◌∷◌, ◌++◌, codes, length, map, Some, None}
+use Rattle.std.specs.Prelude.{is_some, IsTrue}
 use Rattle.plan_types.specs.Table.{machine_of}
 use Rattle.plan_types.specs.declared.call.Call.{Call}
 use Rattle.plan_types.specs.declared.call.Call.TheVariants.{SetPose}
+use Rattle.plan_types.specs.declared.call.Call.TheVariants as call
 use Rattle.plan_types.specs.declared.posture.Posture.{Posture}
 use Rattle.plan_types.specs.declared.posture.Posture.TheVariants.{Closed, Moving, OpenIn, OpenOut}
-use Rattle.plan_text.specs.Names.{Text, is_reserved, name_in}
+use Rattle.plan_types.specs.declared.answer.Answer.TheVariants.{Done, Shown, Refused}
+use Rattle.plan_types.specs.declared.answer.Refusal.TheVariants.{NotParty, Held, AlreadyMine, Shut, NotOwner}
+use Rattle.plan_types.specs.declared.answer.Refusal.TheVariants.{PlateInZone, NoPlate, PlaceFull, WrongWay, Jump}
+use Rattle.plan_types.specs.declared.answer.Refusal.TheVariants.{NoPose, Worn, Stopped, NotStopped}
+use Rattle.plan_text.specs.Names.{Text, is_reserved, name_in, number_in}
 use Rattle.plan_text.specs.Named.{Named}
-use Rattle.plan_text.specs.Answers.{posture_of, posture_word}
+use Rattle.plan_text.specs.Answers.{answer_text, posture_of, posture_word}
 use Rattle.plan_text.specs.Calls.{call_of, call_text, own_pose, verb_of, verb_word, words}
 use Rattle.plan_text.specs.declared.calls.Verb.{Verb}
 use Rattle.plan_text.specs.declared.calls.Verb.TheVariants.{Claim, Give, Yield, Take, Release, Inquire, Pose}
@@ -81,3 +87,44 @@ pub record LawsOfWords (n : Named) (name : Text) (c : Call) : Type 0 where
   pub is_own : OwnPosesComeFirst → own_pose n 4 name ≡ Some 7 → machine_of n.plan 7 ≡ 4
   pub is_found : OwnPosesComeFirst → 7 < length n.poses → machine_of n.plan 7 ≡ 4
       → own_pose n 4 (name_in n.poses 7) ≢ None
+
+-- the name with a number, of any names
+pub record NamesAreInOrder (name : Text) (names : List Text) (number : ℕ) : Type 0 where
+  pub first : name_in (name ∷ names) 0 ≡ name
+  pub next : name_in (name ∷ names) (suc number) ≡ name_in names number
+  pub past : name_in [] number ≡ []
+
+-- what a call about a zone or a pose with some number is told by, and what it is read of
+pub record CallsByNumber (n : Named) (number : ℕ) : Type 0 where
+  pub claim : call_text n (call.Claim number) ≡ codes "claim " ++ name_in n.zones number
+  pub give : call_text n (call.Give number) ≡ codes "give " ++ name_in n.zones number
+  pub yield : call_text n (call.Yield number) ≡ codes "yield " ++ name_in n.zones number
+  pub take : call_text n (call.Take number) ≡ codes "take " ++ name_in n.zones number
+  pub release : call_text n (call.Release number) ≡ codes "release " ++ name_in n.zones number
+  pub inquire : call_text n (call.Inquire number) ≡ codes "inquire " ++ name_in n.zones number
+  pub pose : call_text n (SetPose number) ≡ codes "pose " ++ name_in n.poses number
+  pub stop : call_text n call.Stop ≡ codes "stop"
+  pub resume : call_text n call.Resume ≡ codes "resume"
+  pub read : (machine : ℕ) (name : Text) → number_in n.zones name ≡ Some number
+      → map (λ verb. call_of n machine verb name) (Claim ∷ Give ∷ Yield ∷ Take ∷ Release ∷ Inquire ∷ [])
+      ≡ Some (call.Claim number) ∷ Some (call.Give number) ∷ Some (call.Yield number) ∷ Some (call.Take number)
+      ∷ Some (call.Release number) ∷ Some (call.Inquire number) ∷ []
+
+-- what an answer that names a machine or a zone with some number, or a posture, is told by; and one that names nothing
+pub record AnswersByNumber (n : Named) (number : ℕ) (posture : Posture) : Type 0 where
+  pub held : answer_text n (Refused (Held number)) ≡ codes "held " ++ name_in n.machines number
+  pub shut : answer_text n (Refused (Shut posture)) ≡ codes "shut " ++ posture_word posture
+  pub not_owner : answer_text n (Refused (NotOwner (Some number))) ≡ codes "notowner " ++ name_in n.machines number
+  pub no_owner : answer_text n (Refused (NotOwner None)) ≡ codes "notowner free"
+  pub plate_in : answer_text n (Refused (PlateInZone number)) ≡ codes "platein " ++ name_in n.zones number
+  pub full : answer_text n (Shown (Some number) true posture)
+      ≡ codes "zone " ++ name_in n.machines number ++ codes " 1 " ++ posture_word posture
+  pub empty : answer_text n (Shown (Some number) false posture)
+      ≡ codes "zone " ++ name_in n.machines number ++ codes " 0 " ++ posture_word posture
+  pub free_full : answer_text n (Shown None true posture) ≡ codes "zone free 1 " ++ posture_word posture
+  pub free_empty : answer_text n (Shown None false posture) ≡ codes "zone free 0 " ++ posture_word posture
+  pub done : answer_text n Done ≡ codes "done"
+  pub bare : map (λ refusal. answer_text n (Refused refusal))
+      (NotParty ∷ AlreadyMine ∷ NoPlate ∷ PlaceFull ∷ WrongWay ∷ Jump ∷ NoPose ∷ Worn ∷ Stopped ∷ NotStopped ∷ [])
+      ≡ codes "notparty" ∷ codes "already" ∷ codes "noplate" ∷ codes "placefull" ∷ codes "wrongway" ∷ codes "jump"
+      ∷ codes "nopose" ∷ codes "worn" ∷ codes "stopped" ∷ codes "notstopped" ∷ []

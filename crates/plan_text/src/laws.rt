@@ -1,5 +1,7 @@
 //! The laws of words. Each function's contract is one.
+ghost use Rattle.std.specs.Prelude.{ℕ, List};
 ghost use Rattle.plan_types.specs.declared.call.Call.{Call};
+ghost use Rattle.plan_types.specs.declared.posture.Posture.{Posture};
 ghost use Rattle.plan_text.specs.Examples as examples;
 ghost use Rattle.plan_text.specs.Laws as laws;
 ghost use Rattle.plan_text.specs.Named.{Named};
@@ -32,6 +34,13 @@ pub fn words_are_taken()
 pub fn own_poses_come_first()
     ensures first { laws.OwnPosesComeFirst }
     ensures of_one { (n : Named) (name : Text) (c : Call) → laws.LawsOfWords n name c }
+{}
+
+/// What each call and each answer is told by, and what calls are read of: of any plan, whatever the names and the numbers.
+pub fn texts_are_by_number()
+    ensures names { (name : Text) (names : List Text) (number : ℕ) → laws.NamesAreInOrder name names number }
+    ensures calls { (n : Named) (number : ℕ) → laws.CallsByNumber n number }
+    ensures answers { (n : Named) (number : ℕ) (posture : Posture) → laws.AnswersByNumber n number posture }
 {}
 
 /// Examples: the whole text of each answer.
