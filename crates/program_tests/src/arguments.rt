@@ -3,7 +3,7 @@
 use super::reports::{EMPTY, PRESS, PRESS_REPORT, SIX_WORKERS};
 use super::served::{SCRIPT, TEXT};
 use cell_app::start::start;
-use program_shell::words_of;
+use program_shell::{Exit, fail, words_of};
 use std::alloc::Global;
 use std::sync::Wait;
 use std::thread::Threads;
@@ -63,6 +63,40 @@ fn reads_the_words_after_the_name(rt: HostRuntime) {
     for (arguments, wanted) in WORDS {
         assert!(rt; is_read_as(rt.alloc(), arguments, wanted), "{wanted:?}");
     }
+}
+
+/// Forty words of one letter each.
+const LETTERS: &[u8] = b"0123456789abcdefghijklmnopqrstuvwxyzABCD";
+
+#[test]
+fn reads_forty_words(rt: HostRuntime) {
+    let mut arguments: Vec<&[u8]> = Vec::new(rt.alloc());
+    arguments.push(b"cell").expect(&rt, "memory");
+    for at in 0..LETTERS.len() {
+        arguments.push(&LETTERS[at..at + 1]).expect(&rt, "memory");
+    }
+    let env = Given {
+        arguments: arguments.as_slice(),
+    };
+    let words = words_of(rt.alloc(), &env).expect(&rt, "words");
+    assert_eq!(rt; words.len(), 41);
+    for at in 0..LETTERS.len() {
+        assert!(rt;
+            words[at + 1].as_bytes() == &LETTERS[at..at + 1],
+            "word {at}"
+        );
+    }
+}
+
+#[test]
+fn writes_a_long_fault_whole(rt: HostRuntime) {
+    let fault = "long ".repeat(rt.alloc(), 1_000).expect(&rt, "memory");
+    let mut wanted = String::from_str(rt.alloc(), "fault ").expect(&rt, "memory");
+    wanted.push_str(fault.as_str()).expect(&rt, "memory");
+    wanted.push_str("\n").expect(&rt, "memory");
+    let mut written = Vec::new(rt.alloc());
+    assert!(rt; fail(&mut written, fault.as_str()) == Exit::Failed);
+    assert!(rt; written.as_slice() == wanted.as_bytes());
 }
 
 /// Whether the program, started with these arguments, answers the input with this status and text.
