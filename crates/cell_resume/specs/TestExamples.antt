@@ -49,7 +49,28 @@ pub record TeamExamples : Type 0 where
   pub deposit_astray : Test (record at_start { deposit = 4 }) (Err (NotInStep machine.Deposit))
   pub crane_astray : Test (record at_start { crane = 6 }) (Err (NotInStep machine.Crane))
   pub first_of_two : Test (record at_start { press = 30; table = 7 }) (Err (NotInStep machine.Table))
-  pub last_of_all : Test (record at_start { deposit = 12; crane = 14 }) (Err (NoStep machine.Deposit))
+
+-- the numbers of several machines name no step, and the first such machine is told
+pub record FirstToldExamples : Type 0 where
+  pub all_six :
+      Test (record at_start { feed = 12; table = 12; robot = 28; press = 30; deposit = 12; crane = 14 })
+      (Err (NoStep machine.Feed))
+  pub last_five :
+      Test (record at_start { table = 12; robot = 28; press = 30; deposit = 12; crane = 14 })
+      (Err (NoStep machine.Table))
+  pub last_four :
+      Test (record at_start { robot = 28; press = 30; deposit = 12; crane = 14 })
+      (Err (NoStep machine.Robot))
+  pub last_three : Test (record at_start { press = 30; deposit = 12; crane = 14 }) (Err (NoStep machine.Press))
+  pub last_two : Test (record at_start { deposit = 12; crane = 14 }) (Err (NoStep machine.Deposit))
+  pub feed_and_table : Test (record at_start { feed = 12; table = 12 }) (Err (NoStep machine.Feed))
+  pub table_and_robot : Test (record at_start { table = 12; robot = 28 }) (Err (NoStep machine.Table))
+  pub robot_and_press : Test (record at_start { robot = 28; press = 30 }) (Err (NoStep machine.Robot))
+  pub press_and_deposit : Test (record at_start { press = 30; deposit = 12 }) (Err (NoStep machine.Press))
+  -- so are steps astray
+  pub all_astray :
+      Test (record at_start { feed = 3; table = 7; robot = 5; press = 12; deposit = 4; crane = 6 })
+      (Err (NotInStep machine.Feed))
 
 -- the numbers of a start are of no other team, and at a start only the first steps are in step
 abbrev pub AreOf : Team → Type 0
@@ -107,6 +128,7 @@ pub record ResumedExamples {S Sense Reading Act : Type 0} (t : Steps S Sense Rea
 pub record TestsAreMet : Type 0 where
   pub tested : TestedExamples
   pub team : TeamExamples
+  pub first_told : FirstToldExamples
   pub others : OtherTeams
   pub wrong : WrongExamples
   pub resumed : (stood : FeedProgress) (s : ModelState) → ResumedExamples feed_steps stood s
