@@ -1,3 +1,4 @@
 pub mod lemmas
 mod Names
 mod Assembling
+mod TeamRows

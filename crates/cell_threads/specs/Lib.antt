@@ -7,3 +7,4 @@ pub mod Promises
 pub mod Six
 pub mod Watching
 pub mod Laws
+pub mod TeamExamples

@@ -2,6 +2,7 @@
 //! contract is the law.
 ghost use Rattle.cell_unit.specs.Sides.{unit_rig, unit_table};
 ghost use Rattle.cell_threads.specs.Laws.{TurnsAreTaken, WorkersEnd, WorkersTellTurns};
+ghost use Rattle.cell_threads.specs.TeamExamples.{TeamsAreTold};
 
 use cell_control::{Part, Program};
 use cell_unit::MachineUnit;
@@ -29,4 +30,11 @@ pub fn turns_are_taken<P: Program, B: Part<Sense = P::Sense, Act = P::Act>>(
     _unit: &MachineUnit<P, B>,
 )
     ensures { TurnsAreTaken (unit_table P.steps _unit.now) (unit_rig B.rig B.make _unit.now) }
+{}
+
+/// Examples of what six workers and a watch leave: whose field is whose, what a record tells of what
+/// each gave back, how a worker may end, who is started, and the texts of the faults of runs.
+#[tactic(auto, using(crate::proofs::TeamRows::teams_are_told))]
+pub fn teams_are_told()
+    ensures { TeamsAreTold }
 {}
