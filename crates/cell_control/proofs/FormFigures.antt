@@ -1,5 +1,5 @@
 -- The small program meets its figures.
-use Rattle.std.proofs.Common.{◌≡◌, ℕ, zero, suc, ◌+◌, ◌<◌, Bool, true, false, refl, ap, arith, subst, inl, inr, List, [], Option, Some, None, Result, Ok, Err}
+use Rattle.std.proofs.Common.{◌≡◌, ℕ, zero, suc, ◌+◌, ◌<◌, Bool, true, false, refl, ap, arith, subst, inl, inr, [], Option, Some, None, Result, Ok, Err}
 use Rattle.std.specs.Prelude.{◌⊎◌, ⊤}
 use Rattle.cell_rules.specs.Types.{Machine, Posture, Press, Robot, Refusal, Z2, Z3, Call, Claim, Inquire, Release, Held, Shut, OpenIn, Closed, Done, Settled, Reply}
 use Rattle.cell_rules.specs.declared.heard.LineFault.{LineFault}
