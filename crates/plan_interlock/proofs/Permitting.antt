@@ -13,9 +13,9 @@ use Rattle.plan_motors.specs.Motor.{Permits}
 use Rattle.plan_motors.specs.Mask.{IsMaskOf, allows}
 use Rattle.plan_motors.specs.OfPlan.{IsMotorOf}
 use Rattle.plan_motors.specs.Laws.{KeepsPermission}
-use Rattle.plan_motors.proofs.Lasting.{permission_lasts}
-use Rattle.plan_motors.proofs.Running.{may_run_permits}
-use Rattle.plan_motors.proofs.Masking.{mask_permits}
+use Rattle.plan_motors.proofs.lemmas.Lasting.{permission_lasts}
+use Rattle.plan_motors.proofs.lemmas.Running.{may_run_permits}
+use Rattle.plan_motors.proofs.lemmas.Masking.{mask_permits}
 use Rattle.word_interlock.specs.History.{after as after_by, IsLawful}
 use Rattle.word_interlock.proofs.lemmas.Histories.{sound-after, waits-foreign}
 use Rattle.plan_interlock.specs.Book.{plan_book}

@@ -24,7 +24,7 @@ use Rattle.plan_motors.specs.declared.poses.Leads.{Leads}
 use Rattle.plan_motors.specs.Decided.{NeverBoth}
 use Rattle.plan_motors.specs.Poses.{fits_in, leads_on, matters, LeadOn, posture_after, given_leads_on, GivesWell, LeavesAlone, AllMove, LeadsFurther, LeadsByMoving, AreLeads, LeadSomewhere, HasPosturesOf, IsApartByPoses, NeverFromPostures}
 use Rattle.plan_motors.proofs.Wanted.{fits_if}
-use Rattle.plan_motors.proofs.Lasting.{sound_after, never_after}
+use Rattle.plan_motors.proofs.lemmas.Lasting.{sound_after, never_after}
 
 pub implied : (a b : Bool) → (a ≡ true → b ≡ true) → implies a b ≡ true
 implied true b k = k refl

@@ -17,7 +17,7 @@ use Rattle.plan_motors.specs.OfPlan.{IsMotorOf, motor_at}
 use Rattle.plan_motors.specs.Examples.{ram, arm}
 use Rattle.plan_motors.specs.RunExamples.{moves, opens, gives, may_run, state_after, RunsAreRight}
 use Rattle.plan_motors.proofs.lemmas.Checked.{all_fit}
-use Rattle.plan_motors.proofs.Running.{may_run_permits}
+use Rattle.plan_motors.proofs.lemmas.Running.{may_run_permits}
 
 pub plan : IsPlan press_table
 plan = is_plan press_table refl

@@ -1,2 +1,5 @@
 pub mod Excluding
 pub mod Checked
+pub mod Lasting
+pub mod Running
+pub mod Masking

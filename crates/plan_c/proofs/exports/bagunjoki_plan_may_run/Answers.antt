@@ -6,8 +6,8 @@ use Rattle.plan_motors.specs.declared.motor.Motor.{Motor}
 use Rattle.plan_motors.specs.declared.mask.MotorMask.{MotorMask}
 use Rattle.plan_motors.specs.Motor.{Permits}
 use Rattle.plan_motors.specs.Mask.{IsMaskOf, allows}
-use Rattle.plan_motors.proofs.Masking.{mask_permits}
-use Rattle.plan_motors.proofs.Running.{kept_permits}
+use Rattle.plan_motors.proofs.lemmas.Masking.{mask_permits}
+use Rattle.plan_motors.proofs.lemmas.Running.{kept_permits}
 use Rattle.plan_c.specs.Given.{IsWordOf}
 use Rattle.plan_c.proofs.exports.bagunjoki_plan_may_run.Goals as goal
 

@@ -1,4 +1,4 @@
-use Rattle.plan_motors.proofs.Lasting.{never_after}
+use Rattle.plan_motors.proofs.lemmas.Lasting.{never_after}
 use Rattle.plan_motors.proofs.laws.hazards_are_never_permitted.Goals as goal
 
 pub returns : goal.returns

@@ -1,4 +1,4 @@
-use Rattle.plan_motors.proofs.Running.{never_run_from}
+use Rattle.plan_motors.proofs.lemmas.Running.{never_run_from}
 use Rattle.plan_motors.proofs.laws.hazards_never_run_from.Goals as goal
 
 pub returns : goal.returns

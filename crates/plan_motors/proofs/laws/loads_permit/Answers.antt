@@ -1,5 +1,5 @@
-use Rattle.plan_motors.proofs.Running.{kept_permits}
-use Rattle.plan_motors.proofs.Masking.{mask_permits}
+use Rattle.plan_motors.proofs.lemmas.Running.{kept_permits}
+use Rattle.plan_motors.proofs.lemmas.Masking.{mask_permits}
 use Rattle.plan_motors.proofs.laws.loads_permit.Goals as goal
 
 pub returns : goal.returns

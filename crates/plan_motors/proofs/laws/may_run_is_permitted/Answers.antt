@@ -1,4 +1,4 @@
-use Rattle.plan_motors.proofs.Running.{may_run_permits, permitted_may_run}
+use Rattle.plan_motors.proofs.lemmas.Running.{may_run_permits, permitted_may_run}
 use Rattle.plan_motors.proofs.laws.may_run_is_permitted.Goals as goal
 
 pub returns : goal.returns

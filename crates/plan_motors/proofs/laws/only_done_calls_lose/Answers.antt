@@ -1,4 +1,4 @@
-use Rattle.plan_motors.proofs.Running.{only_done_loses}
+use Rattle.plan_motors.proofs.lemmas.Running.{only_done_loses}
 use Rattle.plan_motors.proofs.laws.only_done_calls_lose.Goals as goal
 
 pub returns : goal.returns

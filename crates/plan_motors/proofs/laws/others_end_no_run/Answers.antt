@@ -1,4 +1,4 @@
-use Rattle.plan_motors.proofs.Running.{others_end_none}
+use Rattle.plan_motors.proofs.lemmas.Running.{others_end_none}
 use Rattle.plan_motors.proofs.laws.others_end_no_run.Goals as goal
 
 pub returns : goal.returns

@@ -1,4 +1,4 @@
-use Rattle.plan_motors.proofs.Lasting.{next_permits}
+use Rattle.plan_motors.proofs.lemmas.Lasting.{next_permits}
 use Rattle.plan_motors.proofs.laws.others_keep_permissions.Goals as goal
 
 pub returns : goal.returns

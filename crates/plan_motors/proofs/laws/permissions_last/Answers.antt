@@ -1,4 +1,4 @@
-use Rattle.plan_motors.proofs.Lasting.{permission_lasts}
+use Rattle.plan_motors.proofs.lemmas.Lasting.{permission_lasts}
 use Rattle.plan_motors.proofs.laws.permissions_last.Goals as goal
 
 pub returns : goal.returns

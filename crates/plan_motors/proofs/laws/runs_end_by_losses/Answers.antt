@@ -1,4 +1,4 @@
-use Rattle.plan_motors.proofs.Running.{one_more}
+use Rattle.plan_motors.proofs.lemmas.Running.{one_more}
 use Rattle.plan_motors.proofs.laws.runs_end_by_losses.Goals as goal
 
 pub returns : goal.returns

@@ -4,7 +4,7 @@ use Rattle.std.proofs.lemmas.Nat.Bits.{bit_at_cat_low}
 use Rattle.plan_types.specs.Below.{sum_below}
 use Rattle.plan_types.proofs.lemmas.Below.{below_next}
 use Rattle.plan_rules.specs.State.{one_if}
-use Rattle.plan_motors.proofs.Masking.{flag_fits, next_bound}
+use Rattle.plan_motors.proofs.lemmas.Masking.{flag_fits, next_bound}
 use Rattle.plan_motors.specs.Mask.{allows, mask_at}
 use Rattle.plan_motors.proofs.mask.permitted_motors.Goals as goal
 

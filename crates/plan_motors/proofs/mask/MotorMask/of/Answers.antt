@@ -1,4 +1,4 @@
-use Rattle.plan_motors.proofs.Masking.{mask_permits}
+use Rattle.plan_motors.proofs.lemmas.Masking.{mask_permits}
 use Rattle.plan_motors.proofs.mask.MotorMask.of.Goals as goal
 
 pub returns-clause-permits : goal.returns-clause-permits

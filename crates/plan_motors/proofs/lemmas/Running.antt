@@ -21,7 +21,7 @@ use Rattle.plan_motors.specs.Decided.{NeverBoth}
 use Rattle.plan_motors.specs.Poses.{NeverFrom}
 use Rattle.plan_motors.specs.OfPlan.{IsMotorOf}
 use Rattle.plan_motors.specs.Laws.{LosesPermission, KeepsPermission, MayStillRun, MayRun}
-use Rattle.plan_motors.proofs.Lasting.{next_permits, sound_after, never_after}
+use Rattle.plan_motors.proofs.lemmas.Lasting.{next_permits, sound_after, never_after}
 
 no : false ≡ true → ⊥
 no e = cc
