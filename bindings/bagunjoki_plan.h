@@ -125,7 +125,7 @@ uint32_t bagunjoki_plan_stamp(const uint8_t *plan, size_t length, uint64_t word)
    before its machine's next call that loses the permission the motor is off and at rest, and the part is out. */
 bool bagunjoki_plan_may_run(uint64_t word, uint64_t mask, uint64_t pattern);
 
-/* The same by two instructions of the processor. No proof speaks of it, but it says what the function's does. */
+/* The same by one AND and one comparison. No proof speaks of it, but it says what the function says. */
 #define BAGUNJOKI_PLAN_MAY_RUN(word, mask, pattern) (((uint64_t)(word) & (uint64_t)(mask)) == (uint64_t)(pattern))
 
 #ifdef __cplusplus
