@@ -76,7 +76,7 @@ def make_input(seed, index):
     """What the program is asked, an input, and the lines of what stands in its document, if they are known."""
     r = random.Random(f"{seed} {index}")
     verb = r.choice(("check",) * 6 + ("replay",) * 3 + ("explore",))
-    rows = plan_inputs.plan(r, verb == "explore")
+    rows = plan_inputs.plan(r, verb == "explore" or verb == "check" and r.randrange(3) == 0)
     if verb == "explore" and r.randrange(2):
         plan_inputs.rounds(r, rows)
     script = b"" if verb == "check" and r.randrange(10) else plan_inputs.script(r, rows)
@@ -104,7 +104,7 @@ def answer_by_twin(verb, text, lines):
     if fault:
         return 1, fault, None, None
     if verb == "check":
-        found = twin.plans.report(plan)
+        found = twin.checked(plan, script)
         return int(twin.plans.is_unkept(found)), None, found, None
     if verb == "replay":
         found, accepted = twin.replayed(plan, script)

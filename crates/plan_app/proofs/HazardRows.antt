@@ -1,17 +1,21 @@
 -- The examples of `hazard_lines_are_met` and `masks_are_printed`, and the law `kept_motors_are_never_both`.
-use Rattle.std.proofs.Common.{◌≡◌, ◌<◌, ℕ, suc, zero, Bool, true, false, ◌&&◌, List, [], ◌∷◌, length, refl, arith}
+use Rattle.std.proofs.Common.{◌≡◌, ◌<◌, ℕ, suc, zero, Bool, true, false, ◌&&◌, List, [], ◌∷◌, length, refl, arith, Option}
 use Rattle.std.specs.Fmt.{digits}
 use Rattle.std.specs.List.{AllZip, list_all}
-use Rattle.plan_types.specs.Table.{PlanTable}
 use Rattle.plan_motors.specs.declared.motor.Hazard.{Hazard}
-use Rattle.plan_motors.specs.declared.motor.Motor.{Motor}
-use Rattle.plan_motors.specs.declared.verdict.Verdict.{Verdict}
 use Rattle.plan_motors.specs.Mask.{mask_of, pattern_of}
 use Rattle.plan_motors.specs.OfPlan.{hazard_at, motor_at}
 use Rattle.plan_motors.specs.Poses.{NeverFromPostures}
-use Rattle.plan_motors.specs.Verdict.{is_never}
-use Rattle.plan_app.specs.HazardExamples.{AreKept, HazardLines, KeptMotorsAreNeverBoth, MaskLines}
-use Rattle.plan_app.specs.Hazards.{IsVerdictOf, motors_text, opening}
+use Rattle.plan_app.specs.HazardExamples.{AreKept, AreTurns, HazardLines, KeptMotorsAreNeverBoth, LeadLines, MaskLines, press_calls}
+use Rattle.plan_app.specs.GoingExamples.{loaded, press}
+use Rattle.plan_explorer.specs.Examples.{patient}
+use Rattle.plan_motors.specs.declared.verdict.Verdict.TheVariants.{Possible}
+use Rattle.plan_app.specs.declared.leads.Lead.{Lead}
+use Rattle.plan_app.specs.declared.leads.Lead.TheVariants.{Unsought, Never, Turns, Large}
+use Rattle.plan_app.specs.Hazards.{IsFindingOf, is_kept, lead_text, motors_text, opening}
+use Rattle.plan_app.specs.declared.hazards.Finding.{Finding}
+use Rattle.plan_document.specs.declared.resolving.ProgrammedPlan.{ProgrammedPlan}
+use Rattle.plan_rules.specs.declared.state.State.{State}
 use Rattle.plan_app.specs.Headers.{motors_part}
 
 pub hazard-lines : HazardLines
@@ -26,8 +30,27 @@ hazard-lines = record {
   first = refl;
   second = refl;
   whole = refl;
+  no_finding = refl;
   no_hazard = refl;
   no_motor = refl;
+}
+
+turns_told : (lead : Lead) → AreTurns lead (0 ∷ 1 ∷ 1 ∷ []) → lead_text press patient loaded (Possible loaded) lead ≡ press_calls
+turns_told Unsought is = absurd is
+turns_told Never is = absurd is
+turns_told (Turns turns) is = rw is refl
+turns_told Large is = absurd is
+
+pub lead-lines : LeadLines
+lead-lines = record {
+  never = refl;
+  no_places = λ t. refl;
+  large = refl;
+  at_once = refl;
+  calls = refl;
+  turns = turns_told;
+  full = refl;
+  scripted = refl;
 }
 
 pub are-kept : AreKept
@@ -41,17 +64,18 @@ both : (a b : Bool) → (a && b) ≡ true → (a ≡ true) × (b ≡ true)
 both true b e = (refl, e)
 both false b e = absurd (cc)
 
-abbrev Never : PlanTable → List Motor → Hazard → Type 0
-Never t motors h = NeverFromPostures t opening (motor_at motors h.first) (motor_at motors h.second)
+abbrev NeverBoth : ProgrammedPlan → Hazard → Type 0
+NeverBoth plan h =
+    NeverFromPostures plan.named.plan opening (motor_at plan.motors.motors.items h.first)
+    (motor_at plan.motors.motors.items h.second)
 
-never_both : (t : PlanTable) (motors : List Motor) (hazards : List Hazard) (verdicts : List Verdict) → AllZip (IsVerdictOf t motors) hazards verdicts → list_all is_never verdicts ≡ true
-    → (k : ℕ) → k < length hazards → Never t motors (hazard_at hazards k)
-never_both t motors [] verdicts are kept k l = absurd (omega (arith, l))
-never_both t motors (h ∷ hazards) [] are kept k l = absurd are
-never_both t motors (h ∷ hazards) (v ∷ verdicts) are kept zero l = are.0.never (both (is_never v) (list_all is_never verdicts) kept).0
-never_both t motors (h ∷ hazards) (v ∷ verdicts) are kept (suc k) l =
-    never_both t motors hazards verdicts are.1 (both (is_never v) (list_all is_never verdicts) kept).1 k (omega (arith, l))
+never_both : (plan : ProgrammedPlan) (start : Option State) (hazards : List Hazard) (findings : List Finding) → AllZip (IsFindingOf plan start) hazards findings → list_all is_kept findings ≡ true
+    → (k : ℕ) → k < length hazards → NeverBoth plan (hazard_at hazards k)
+never_both plan start [] findings are kept k l = absurd (omega (arith, l))
+never_both plan start (h ∷ hazards) [] are kept k l = absurd are
+never_both plan start (h ∷ hazards) (f ∷ findings) are kept zero l = are.0.verdict.never (both (is_kept f) (list_all is_kept findings) kept).0
+never_both plan start (h ∷ hazards) (f ∷ findings) are kept (suc k) l =
+    never_both plan start hazards findings are.1 (both (is_kept f) (list_all is_kept findings) kept).1 k (omega (arith, l))
 
 pub kept-never-both : KeptMotorsAreNeverBoth
-kept-never-both plan text is k l =
-    never_both plan.named.plan plan.motors.motors.items plan.motors.hazards.items is.verdicts is.are is.are_kept k l
+kept-never-both plan start text is k l = never_both plan start plan.motors.hazards.items is.findings is.are is.are_kept k l

@@ -10,4 +10,5 @@ mod GoingRows
 mod InputRows
 mod ScreenRows
 mod Verdicts
+mod Found
 mod HazardRows

@@ -1,13 +1,16 @@
 -- What `plan check` says of the hazards of a plan.
-use Rattle.std.specs.Prelude.{◌≡◌, ℕ, Bool, ◌&&◌, nat_eq, List, [], ◌++◌, codes, flat_map, get_or, length, replicate}
+use Rattle.std.specs.Prelude.{◌≡◌, ℕ, Bool, ◌&&◌, nat_eq, List, [], ◌++◌, codes, flat_map, length, replicate, slice_get}
 use Rattle.std.specs.Prelude.{true, false, is_none, Option, Some, None, string_bytes, IsTrue, if◌then◌else◌}
+use Rattle.std.specs.Prelude.{Result, Ok, Err}
 use Rattle.std.specs.List.{AllZip, list_all, range_with_len}
+use Rattle.csv_rows.specs.declared.script_end.ScriptFault.{ScriptFault}
 use Rattle.plan_types.specs.declared.posture.Posture.TheVariants.{Closed}
 use Rattle.plan_types.specs.Same.{same_posture}
 use Rattle.plan_types.specs.Table.{PlanTable}
 use Rattle.plan_rules.specs.declared.state.State.{State}
 use Rattle.plan_rules.specs.declared.state.ZoneState.{ZoneState}
 use Rattle.plan_rules.specs.State.{is_full, start_state, zone_at}
+use Rattle.plan_explorer.specs.Programs.{PlanPrograms}
 use Rattle.plan_motors.specs.declared.exclusion.Cause.TheVariants.{Zone, Place}
 use Rattle.plan_motors.specs.declared.motor.Hazard.{Hazard}
 use Rattle.plan_motors.specs.declared.motor.Motor.{Motor}
@@ -19,13 +22,17 @@ use Rattle.plan_motors.specs.Verdict.{IsShownBy, is_never}
 use Rattle.plan_text.specs.Answers.{posture_word}
 use Rattle.plan_text.specs.Named.{Named}
 use Rattle.plan_text.specs.Names.{Text, name_in}
-use Rattle.plan_document.specs.declared.motors.NamedMotors.{NamedMotors}
 use Rattle.plan_document.specs.declared.resolving.ProgrammedPlan.{ProgrammedPlan}
+use Rattle.plan_app.specs.Going.{way_text}
+use Rattle.plan_app.specs.Leads.{IsLeadOf, opening_by}
 use Rattle.plan_app.specs.Reports.{names_line, report_text}
 use Rattle.plan_app.specs.Words.{machine_name, zone_name}
-use Rattle.plan_app.specs.declared.hazards.TheConstants.{UNKEPT}
+use Rattle.plan_app.specs.declared.hazards.Finding.{Finding}
+use Rattle.plan_app.specs.declared.hazards.TheConstants.{LARGE, LED, UNKEPT, UNLED, UNSOUGHT}
 use Rattle.plan_app.specs.declared.hazards.Report.{Report}
 use Rattle.plan_app.specs.declared.hazards.Report.TheVariants.{Kept, Unkept}
+use Rattle.plan_app.specs.declared.leads.Lead.{Lead}
+use Rattle.plan_app.specs.declared.leads.Lead.TheVariants.{Unsought, Never, Turns, Large}
 
 -- ---- verdicts
 
@@ -39,11 +46,24 @@ pub record IsVerdictOf (t : PlanTable) (motors : List Motor) (h : Hazard) (v : V
   pub shown : IsShownBy t (motor_at motors h.first) (motor_at motors h.second) opening v
   pub never : IsTrue (is_never v) → NeverFromPostures t opening (motor_at motors h.first) (motor_at motors h.second)
 
-abbrev pub AreVerdicts : Named → NamedMotors → List Verdict → Type 0
-AreVerdicts n m verdicts = AllZip (IsVerdictOf n.plan m.motors.items) m.hazards.items verdicts
+abbrev pub IsHazardLead : ProgrammedPlan → Option State → Hazard → Verdict → Lead → Type 0
+IsHazardLead plan start h v lead =
+    IsLeadOf plan.named.plan plan.programs (opening_by start v) v (motor_at plan.motors.motors.items h.first)
+    (motor_at plan.motors.motors.items h.second) lead
 
-abbrev pub are_kept : List Verdict → Bool
-are_kept verdicts = list_all is_never verdicts
+-- what is shown of a hazard: a verdict, and what a search for turns that lead to a state which permits both has found
+pub record IsFindingOf (plan : ProgrammedPlan) (start : Option State) (h : Hazard) (f : Finding) : Type 0 where
+  pub verdict : IsVerdictOf plan.named.plan plan.motors.motors.items h f.verdict
+  pub lead : IsHazardLead plan start h f.verdict f.lead
+
+abbrev pub AreFindings : ProgrammedPlan → Option State → List Finding → Type 0
+AreFindings plan start findings = AllZip (IsFindingOf plan start) plan.motors.hazards.items findings
+
+abbrev pub is_kept : Finding → Bool
+is_kept f = is_never f.verdict
+
+abbrev pub are_kept : List Finding → Bool
+are_kept findings = list_all is_kept findings
 
 -- ---- the state that permits both: zones that aren't free and closed, and full places
 
@@ -72,40 +92,96 @@ state_words n s =
     flat_map (zone_part n s) (range_with_len 0 (length n.zones))
     ++ flat_map (place_part n s) (range_with_len 0 (length n.places))
 
--- ---- lines
-
 abbrev pub verdict_words : Named → Verdict → Text
 verdict_words n (Excluded (Zone zone)) = codes "kept apart by " ++ zone_name n zone
 verdict_words n (Excluded (Place place)) = codes "kept apart by place " ++ name_in n.places place
 verdict_words n (ByPoses machine) = codes "kept apart by the poses of " ++ machine_name n machine
 verdict_words n (Possible s) = UNKEPT.now ++ state_words n s
 
--- past the end of the list stands a verdict of no hazard
-abbrev pub verdict_at : List Verdict → ℕ → Verdict
-verdict_at verdicts k = get_or verdicts k (Excluded (Place 0))
+-- `start 10`: a digit for each place, as in scripts
+abbrev pub digit_of : State → ℕ → Text
+digit_of s place = if is_full s place then codes "1" else codes "0"
+
+abbrev pub start_digits : Named → State → Text
+start_digits n s = codes "start " ++ flat_map (digit_of s) (range_with_len 0 (length n.places))
+
+abbrev pub start_words : Named → State → Text
+start_words n s = if nat_eq (length n.places) 0 then codes "the start" else start_digits n s
+
+-- ---- whether turns lead to it
+
+abbrev pub unsought_line : Named → Verdict → Text
+unsought_line n v = verdict_words n v ++ codes "\n"
+
+abbrev pub unled_line : Named → State → Verdict → Text
+unled_line n begun v =
+    verdict_words n v ++ (UNLED.now ++ (start_words n begun ++ codes "\n"))
+
+abbrev pub large_line : Named → State → Verdict → Text
+large_line n begun v =
+    verdict_words n v ++ (UNSOUGHT.now
+    ++ (start_words n begun ++ LARGE.now))
+
+abbrev pub at_once_line : Named → State → Text
+at_once_line n begun = LED.now ++ (start_words n begun ++ codes " permits both\n")
+
+-- what the turns ask, and are answered
+abbrev pub calls_text : Named → PlanPrograms → State → List ℕ → Text
+calls_text n ps begun turns =
+    (LED.now ++ codes "from ") ++ (start_words n begun
+    ++ (codes " these calls permit both\n" ++ way_text n ps begun turns))
+
+-- the opening itself permits both if no turns are needed
+abbrev pub led_text : Named → PlanPrograms → State → List ℕ → Text
+led_text n ps begun turns =
+    if nat_eq (length turns) 0 then at_once_line n begun else calls_text n ps begun turns
+
+abbrev pub lead_text : Named → PlanPrograms → State → Verdict → Lead → Text
+lead_text n ps begun v Unsought = unsought_line n v
+lead_text n ps begun v Never = unled_line n begun v
+lead_text n ps begun v (Turns turns) = led_text n ps begun turns.items
+lead_text n ps begun v Large = large_line n begun v
+
+-- ---- lines
 
 -- `arm crushed: kept apart by interior`
-abbrev pub hazard_line : Named → List Text → List Verdict → ℕ → Text
-hazard_line n titles verdicts k =
-    name_in titles k ++ (codes ": " ++ (verdict_words n (verdict_at verdicts k) ++ codes "\n"))
+abbrev pub finding_line : Named → PlanPrograms → List Text → Option State → ℕ → Finding → Text
+finding_line n ps titles start k f =
+    (name_in titles k ++ codes ": ") ++ lead_text n ps (opening_by start f.verdict) f.verdict f.lead
 
-abbrev pub hazard_lines : Named → List Text → List Verdict → Text
-hazard_lines n titles verdicts = flat_map (hazard_line n titles verdicts) (range_with_len 0 (length titles))
+abbrev pub line_if : Named → PlanPrograms → List Text → Option State → ℕ → Option Finding → Text
+line_if n ps titles start k None = []
+line_if n ps titles start k (Some f) = finding_line n ps titles start k f
+
+abbrev pub hazard_line : Named → PlanPrograms → List Text → Option State → List Finding → ℕ → Text
+hazard_line n ps titles start findings k = line_if n ps titles start k (slice_get findings k)
+
+abbrev pub hazard_lines : Named → PlanPrograms → List Text → Option State → List Finding → Text
+hazard_lines n ps titles start findings =
+    flat_map (hazard_line n ps titles start findings) (range_with_len 0 (length titles))
 
 -- of a plan without motors nothing
-unfoldable pub motors_text : Named → List Text → List Text → List Verdict → Text
-motors_text n motors titles verdicts =
-    if nat_eq (length motors) 0 then [] else names_line (codes "motor") motors ++ hazard_lines n titles verdicts
+unfoldable pub motors_text : Named → PlanPrograms → List Text → List Text → Option State → List Finding → Text
+motors_text n ps motors titles start findings =
+    if nat_eq (length motors) 0 then []
+    else names_line (codes "motor") motors ++ hazard_lines n ps titles start findings
 
 -- ---- the report
 
--- the verdicts, and whether all motors are kept apart that have to be
-pub record TellsReport (plan : ProgrammedPlan) (kept : Bool) (text : Text) : Type 0 where
-  pub verdicts : List Verdict
-  pub are : AreVerdicts plan.named plan.motors verdicts
-  pub are_kept : are_kept verdicts ≡ kept
-  pub told : text ≡ report_text plan.named ++ motors_text plan.named plan.motors.names plan.motors.hazard_names verdicts
+-- what is shown of each hazard, with turns from the start if there is one, and whether all motors are kept apart that
+-- have to be
+pub record TellsReport (plan : ProgrammedPlan) (start : Option State) (kept : Bool) (text : Text) : Type 0 where
+  pub findings : List Finding
+  pub are : AreFindings plan start findings
+  pub are_kept : are_kept findings ≡ kept
+  pub told : text ≡ report_text plan.named
+      ++ motors_text plan.named plan.programs plan.motors.names plan.motors.hazard_names start findings
 
-abbrev pub IsReport : ProgrammedPlan → Report → Type 0
-IsReport plan (Kept text) = TellsReport plan true (string_bytes text)
-IsReport plan (Unkept text) = TellsReport plan false (string_bytes text)
+abbrev pub IsReport : ProgrammedPlan → Option State → Report → Type 0
+IsReport plan start (Kept text) = TellsReport plan start true (string_bytes text)
+IsReport plan start (Unkept text) = TellsReport plan start false (string_bytes text)
+
+-- the start of a script, if it has one
+abbrev pub start_if : Result State ScriptFault → Option State
+start_if (Ok s) = Some s
+start_if (Err fault) = None

@@ -10,7 +10,7 @@ use Rattle.csv_rows.specs.declared.script_end.Outcome.TheVariants.{Clean}
 use Rattle.plan_text.specs.Script.{script_answers, script_start}
 use Rattle.plan_app.specs.Headers.{header_text}
 use Rattle.plan_app.specs.Input.{document_in, script_in}
-use Rattle.plan_app.specs.Hazards.{TellsReport}
+use Rattle.plan_app.specs.Hazards.{TellsReport, start_if}
 use Rattle.plan_app.specs.Screens.{TellsFree}
 
 -- ---- by a plan
@@ -30,9 +30,11 @@ FindsFree plan script old new =
     (opening : State) × (script_start plan.named script ≡ Ok opening)
     × WritesFree plan.named plan.programs opening old new
 
--- a report, by which the motors of each hazard are kept apart, was written, and nothing else
-abbrev pub WritesReport : ProgrammedPlan → Option (List ℕ) → Option (List ℕ) → Type 0
-WritesReport plan old new = (text : List ℕ) × TellsReport plan true text × Appends old new text
+-- a report, with turns from the script's start if it has one, by which the motors of each hazard are kept apart, was
+-- written, and nothing else
+abbrev pub WritesReport : ProgrammedPlan → List ℕ → Option (List ℕ) → Option (List ℕ) → Type 0
+WritesReport plan script old new =
+    (text : List ℕ) × TellsReport plan (start_if (script_start plan.named script)) true text × Appends old new text
 
 -- ---- by the plan of the document in these bytes
 
@@ -49,7 +51,7 @@ FindsFreeIn bytes old new =
 -- its report was written, by which the motors of each hazard are kept apart, and nothing else
 abbrev pub ReportsIn : List ℕ → Option (List ℕ) → Option (List ℕ) → Type 0
 ReportsIn bytes old new =
-    (plan : ProgrammedPlan) × IsPlanIn (document_in bytes) plan × WritesReport plan old new
+    (plan : ProgrammedPlan) × IsPlanIn (document_in bytes) plan × WritesReport plan (script_in bytes) old new
 
 -- or its header
 abbrev pub WritesHeaderIn : List ℕ → Option (List ℕ) → Option (List ℕ) → Type 0

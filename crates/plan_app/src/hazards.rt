@@ -1,22 +1,45 @@
-//! What `plan check` prints of a plan with motors: its report, and what keeps the motors of each hazard apart.
+//! What `plan check` prints of a plan with motors: its report, and what keeps the motors of each hazard apart, or what
+//! leads to a state that permits both.
 ghost use Rattle.std.specs.Prelude.{◌≡◌, ◌++◌, IfOk, OnOk, flat_map, length, string_bytes};
-ghost use Rattle.std.specs.List.{AllZip, range_with_len};
+ghost use Rattle.std.specs.List.{range_with_len};
 ghost use Rattle.plan_motors.specs.OfPlan as of_plan;
-ghost use Rattle.plan_motors.specs.Verdict.{is_never as never_spec};
 ghost use Rattle.plan_app.specs.Hazards as spec;
-ghost use Rattle.plan_app.specs.Reports.{names_line, report_text};
+ghost use Rattle.plan_app.specs.Reports.{report_text};
 
+use crate::going::push_way;
+use crate::leads::{Lead, is_never, lead_of, opening_by};
 use crate::report::{push_names, push_report};
-use plan_document::{NamedMotors, ProgrammedPlan};
+use plan_document::ProgrammedPlan;
 use plan_motors::{Cause, Hazard, Motor, NO_NEED, Verdict, judge};
 use plan_rules::{State, ZoneState};
+use plan_text::NamedPlan;
 use plan_text::words::posture_word;
-use plan_text::{NamedPlan, Names};
-use plan_types::{MAX_PLACES, MAX_ZONES, Plan, Posture};
+use plan_types::{MAX_PLACES, MAX_ZONES, Posture};
 use std::alloc::{AllocError, Global};
 
 /// What is said of a hazard whose motors aren't kept apart, before a state that permits both.
 const UNKEPT: &str = "NOT kept apart: a state permits both";
+
+/// What is said of them where turns lead to such a state.
+const LED: &str = "NOT kept apart: ";
+
+/// What is said of such a state to which no turns lead, before the start.
+const UNLED: &str = "; none of the programs leads there from ";
+
+/// What is said of such a state if no turns are sought, before the start.
+const UNSOUGHT: &str = "; calls aren't sought from ";
+
+/// What stands after the start: why.
+const LARGE: &str = ": more than 1,000,000 situations\n";
+
+/// What is shown of a hazard.
+#[derive(Drop)]
+pub struct Finding {
+    /// What keeps its motors apart, or a state that permits both.
+    pub verdict: Verdict,
+    /// What a search for turns that lead to such a state has found.
+    pub lead: Lead,
+}
 
 /// What `plan check` prints.
 #[derive(Drop)]
@@ -27,64 +50,106 @@ pub enum Report {
     Unkept(String),
 }
 
-/// What `plan check` prints of a plan: its report, and if it has motors, their names, and a line for each hazard.
-pub fn report_of(alloc: Global, plan: &ProgrammedPlan) -> Result<Report, AllocError>
-    ensures { IfOk result (spec.IsReport plan.now) }
+/// What `plan check` prints of a plan: its report, and if it has motors, their names, and what is said of each hazard.
+/// Turns are sought from the start, if there is one. An error says that memory ran out.
+pub fn report_of(
+    alloc: Global,
+    plan: &ProgrammedPlan,
+    start: Option<State>,
+) -> Result<Report, AllocError>
+    ensures { IfOk result (spec.IsReport plan.now start) }
 {
-    let verdicts = verdicts_of(
-        alloc,
-        plan.named.plan(),
-        &plan.motors.motors,
-        &plan.motors.hazards,
-    )?;
-    report_by(alloc, plan, verdicts.as_slice())
+    let findings = findings_of(alloc, plan, start)?;
+    report_by(alloc, plan, start, findings.as_slice())
 }
 
-/// The report of a plan, by these verdicts of its hazards.
+/// The report of a plan, by what is shown of its hazards.
 fn report_by(
     alloc: Global,
     plan: &ProgrammedPlan,
-    verdicts: &[Verdict],
+    start: Option<State>,
+    findings: &[Finding],
 ) -> Result<Report, AllocError>
-    requires { spec.AreVerdicts plan.now.named plan.now.motors verdicts.now }
-    ensures { IfOk result (spec.IsReport plan.now) }
+    requires { spec.AreFindings plan.now start findings.now }
+    ensures { IfOk result (spec.IsReport plan.now start) }
 {
-    let text = report_with(alloc, plan, verdicts)?;
-    if are_kept(verdicts) {
+    let text = report_with(alloc, plan, start, findings)?;
+    if are_kept(findings) {
         Ok(Report::Kept(text))
     } else {
         Ok(Report::Unkept(text))
     }
 }
 
-// ---- verdicts
+// ---- findings
 
-/// What is said of each hazard.
-fn verdicts_of(
+/// What is shown of each hazard.
+fn findings_of(
     alloc: Global,
-    plan: &Plan,
-    motors: &[Motor],
-    hazards: &[Hazard],
-) -> Result<Vec<Verdict>, AllocError>
-    ensures { IfOk result (λ verdicts.
-        AllZip (spec.IsVerdictOf plan.now motors.now) hazards.now verdicts.items) }
+    plan: &ProgrammedPlan,
+    start: Option<State>,
+) -> Result<Vec<Finding>, AllocError>
+    ensures { IfOk result (λ findings. spec.AreFindings plan.now start findings.items) }
 {
-    let mut verdicts = Vec::new(alloc);
-    for i in 0..hazards.len() {
-        let verdict = verdict_of(plan, motors, hazards, i);
-        verdicts.push(verdict)?;
+    let mut findings = Vec::new(alloc);
+    for i in 0..plan.motors.hazards.len() {
+        let hazard = hazard_at(&plan.motors.hazards, i);
+        let finding = finding_of(alloc, plan, start, hazard)?;
+        findings.push(finding)?;
     }
-    Ok(verdicts)
+    Ok(findings)
 }
 
-/// What is said of a hazard, from a start on.
-fn verdict_of(plan: &Plan, motors: &[Motor], hazards: &[Hazard], number: usize) -> Verdict
-    ensures { spec.IsVerdictOf plan.now motors.now (of_plan.hazard_at hazards.now number) result }
+/// What is shown of a hazard.
+fn finding_of(
+    alloc: Global,
+    plan: &ProgrammedPlan,
+    start: Option<State>,
+    hazard: Hazard,
+) -> Result<Finding, AllocError>
+    ensures { IfOk result (spec.IsFindingOf plan.now start hazard) }
 {
-    let hazard = hazard_at(hazards, number);
-    let first = motor_at(motors, hazard.first);
-    let second = motor_at(motors, hazard.second);
-    judge(plan, &first, &second, &State::start([false; MAX_PLACES], 0))
+    let verdict = verdict_of(plan, hazard);
+    let lead = hazard_lead(alloc, plan, start, verdict, hazard)?;
+    Ok(Finding { verdict, lead })
+}
+
+/// What keeps the motors of a hazard apart, from a start on, or a state that permits both.
+fn verdict_of(plan: &ProgrammedPlan, hazard: Hazard) -> Verdict
+    ensures { spec.IsVerdictOf plan.now.named.plan plan.now.motors.motors.items hazard result }
+{
+    let first = motor_at(&plan.motors.motors, hazard.first);
+    let second = motor_at(&plan.motors.motors, hazard.second);
+    judge(
+        plan.named.plan(),
+        &first,
+        &second,
+        &State::start([false; MAX_PLACES], 0),
+    )
+}
+
+/// What a search for turns that lead to a state which permits both motors of a hazard finds.
+fn hazard_lead(
+    alloc: Global,
+    plan: &ProgrammedPlan,
+    start: Option<State>,
+    verdict: Verdict,
+    hazard: Hazard,
+) -> Result<Lead, AllocError>
+    ensures { IfOk result (spec.IsHazardLead plan.now start hazard verdict) }
+{
+    let opening = opening_by(start, &verdict);
+    let first = motor_at(&plan.motors.motors, hazard.first);
+    let second = motor_at(&plan.motors.motors, hazard.second);
+    lead_of(
+        alloc,
+        plan.named.plan(),
+        &plan.programs,
+        &opening,
+        &verdict,
+        &first,
+        &second,
+    )
 }
 
 /// A hazard by its number; one of the first motor alone if there is no such hazard.
@@ -115,108 +180,257 @@ pub(crate) fn motor_at(motors: &[Motor], motor: u8) -> Motor
 }
 
 /// Whether all motors are kept apart that have to be.
-fn are_kept(verdicts: &[Verdict]) -> bool
-    ensures { result ≡ spec.are_kept verdicts.now }
+fn are_kept(findings: &[Finding]) -> bool
+    ensures { result ≡ spec.are_kept findings.now }
 {
-    verdicts.iter().all(|verdict| is_never(verdict))
+    findings.iter().all(|finding| is_kept(finding))
 }
 
-fn is_never(verdict: &Verdict) -> bool
-    ensures { result ≡ never_spec verdict.now }
+/// Whether the motors of a hazard are kept apart.
+fn is_kept(finding: &Finding) -> bool
+    ensures { result ≡ spec.is_kept finding.now }
 {
-    match verdict {
-        Verdict::Excluded(_) | Verdict::ByPoses(_) => true,
-        Verdict::Possible(_) => false,
-    }
+    is_never(&finding.verdict)
 }
 
 // ---- lines
 
-/// The report of a plan, with these verdicts of its hazards.
+/// The report of a plan, with what is shown of its hazards.
 fn report_with(
     alloc: Global,
     plan: &ProgrammedPlan,
-    verdicts: &[Verdict],
+    start: Option<State>,
+    findings: &[Finding],
 ) -> Result<String, AllocError>
     ensures { IfOk result (λ text. string_bytes text ≡ report_text plan.now.named
-        ++ spec.motors_text plan.now.named plan.now.motors.names plan.now.motors.hazard_names verdicts.now) }
+        ++ spec.motors_text plan.now.named plan.now.programs plan.now.motors.names plan.now.motors.hazard_names
+        start findings.now) }
 {
     let mut text = String::new(alloc);
-    push_whole_report(&mut text, plan, verdicts)?;
+    push_whole_report(&mut text, plan, start, findings)?;
     Ok(text)
 }
 
 fn push_whole_report(
     text: &mut String,
     plan: &ProgrammedPlan,
-    verdicts: &[Verdict],
+    start: Option<State>,
+    findings: &[Finding],
 ) -> Result<(), AllocError>
     ensures { OnOk result (string_bytes text.new ≡ string_bytes text.old ++ (report_text plan.now.named
-        ++ spec.motors_text plan.now.named plan.now.motors.names plan.now.motors.hazard_names verdicts.now)) }
+        ++ spec.motors_text plan.now.named plan.now.programs plan.now.motors.names plan.now.motors.hazard_names
+        start findings.now)) }
 {
     push_report(text, &plan.named)?;
-    push_motors(text, &plan.named, &plan.motors, verdicts)
+    push_motors(text, plan, start, findings)
 }
 
-/// Adds the names of motors, and a line for each hazard; nothing if there are no motors.
+/// Adds the names of motors, and what is said of each hazard; nothing if there are no motors.
 #[tactic(auto, unfolding(crate::specs::Hazards::motors_text))]
 fn push_motors(
     text: &mut String,
-    named: &NamedPlan,
-    motors: &NamedMotors,
-    verdicts: &[Verdict],
+    plan: &ProgrammedPlan,
+    start: Option<State>,
+    findings: &[Finding],
 ) -> Result<(), AllocError>
     ensures { OnOk result (string_bytes text.new ≡ string_bytes text.old
-        ++ spec.motors_text named.now motors.now.names motors.now.hazard_names verdicts.now) }
+        ++ spec.motors_text plan.now.named plan.now.programs plan.now.motors.names plan.now.motors.hazard_names
+        start findings.now) }
 {
-    if motors.names.len() == 0 {
+    if plan.motors.names.len() == 0 {
         return Ok(());
     }
-    push_names(text, "motor", &motors.names)?;
-    push_hazards(text, named, &motors.hazard_names, verdicts)
+    push_names(text, "motor", &plan.motors.names)?;
+    push_hazards(text, plan, start, findings)
 }
 
-/// Adds a line for each hazard.
+/// Adds what is said of each hazard.
 fn push_hazards(
     text: &mut String,
-    named: &NamedPlan,
-    titles: &Names,
-    verdicts: &[Verdict],
+    plan: &ProgrammedPlan,
+    start: Option<State>,
+    findings: &[Finding],
 ) -> Result<(), AllocError>
     ensures { OnOk result (string_bytes text.new ≡ string_bytes text.old
-        ++ spec.hazard_lines named.now titles.now verdicts.now) }
+        ++ spec.hazard_lines plan.now.named plan.now.programs plan.now.motors.hazard_names start findings.now) }
 {
-    'hazards: for hazard in 0..titles.len() as u8 {
-        push_hazard(text, named, titles, verdicts, hazard)?;
+    'hazards: for hazard in 0..plan.motors.hazard_names.len() as u8 {
+        push_hazard(text, plan, start, findings, hazard)?;
     }
     Ok(())
 }
 
-/// Adds the line of a hazard.
+/// Adds what is said of a hazard, if something is shown of it.
 fn push_hazard(
     text: &mut String,
-    named: &NamedPlan,
-    titles: &Names,
-    verdicts: &[Verdict],
+    plan: &ProgrammedPlan,
+    start: Option<State>,
+    findings: &[Finding],
     hazard: u8,
 ) -> Result<(), AllocError>
     ensures { OnOk result (string_bytes text.new ≡ string_bytes text.old
-        ++ spec.hazard_line named.now titles.now verdicts.now hazard) }
+        ++ spec.hazard_line plan.now.named plan.now.programs plan.now.motors.hazard_names start findings.now hazard) }
 {
-    text.push_str(titles.name(hazard))?;
-    text.push_str(": ")?;
-    push_verdict(text, named, verdict_at(verdicts, hazard))?;
+    match findings.get(usize::from(hazard)) {
+        Some(finding) => push_finding(text, plan, start, hazard, finding),
+        None => Ok(()),
+    }
+}
+
+/// Adds the name of a hazard, and what is shown of it.
+fn push_finding(
+    text: &mut String,
+    plan: &ProgrammedPlan,
+    start: Option<State>,
+    hazard: u8,
+    finding: &Finding,
+) -> Result<(), AllocError>
+    ensures { OnOk result (string_bytes text.new ≡ string_bytes text.old
+        ++ spec.finding_line plan.now.named plan.now.programs plan.now.motors.hazard_names start hazard finding.now) }
+{
+    push_two(text, plan.motors.hazard_names.name(hazard), ": ")?;
+    let opening = opening_by(start, &finding.verdict);
+    push_lead(text, plan, &opening, finding.verdict, &finding.lead)
+}
+
+/// Adds what keeps two motors apart; or the turns that lead to a state which permits both, or that state.
+fn push_lead(
+    text: &mut String,
+    plan: &ProgrammedPlan,
+    opening: &State,
+    verdict: Verdict,
+    lead: &Lead,
+) -> Result<(), AllocError>
+    ensures { OnOk result (string_bytes text.new ≡ string_bytes text.old
+        ++ spec.lead_text plan.now.named plan.now.programs opening.now verdict lead.now) }
+{
+    match lead {
+        Lead::Unsought => push_unsought(text, &plan.named, verdict),
+        Lead::Never => push_unled(text, &plan.named, opening, verdict),
+        Lead::Turns(turns) => push_led(text, plan, opening, turns.as_slice()),
+        Lead::Large => push_large(text, &plan.named, opening, verdict),
+    }
+}
+
+/// Adds what keeps two motors apart, of which nothing is sought.
+fn push_unsought(text: &mut String, named: &NamedPlan, verdict: Verdict) -> Result<(), AllocError>
+    ensures { OnOk result (string_bytes text.new ≡ string_bytes text.old ++ spec.unsought_line named.now verdict) }
+{
+    push_verdict(text, named, verdict)?;
     text.push_str("\n")
 }
 
-/// What is said of a hazard by its number.
-fn verdict_at(verdicts: &[Verdict], hazard: u8) -> Verdict
-    ensures { result ≡ spec.verdict_at verdicts.now hazard }
+/// Adds the state that permits both, and that no program leads there.
+fn push_unled(
+    text: &mut String,
+    named: &NamedPlan,
+    opening: &State,
+    verdict: Verdict,
+) -> Result<(), AllocError>
+    ensures { OnOk result (string_bytes text.new ≡ string_bytes text.old
+        ++ spec.unled_line named.now opening.now verdict) }
 {
-    match verdicts.get(usize::from(hazard)) {
-        Some(verdict) => *verdict,
-        None => Verdict::Excluded(Cause::Place(0)),
+    push_verdict(text, named, verdict)?;
+    text.push_str(UNLED)?;
+    push_start(text, named, opening)?;
+    text.push_str("\n")
+}
+
+/// Adds the state that permits both, and that there are too many situations to seek turns that lead there.
+fn push_large(
+    text: &mut String,
+    named: &NamedPlan,
+    opening: &State,
+    verdict: Verdict,
+) -> Result<(), AllocError>
+    ensures { OnOk result (string_bytes text.new ≡ string_bytes text.old
+        ++ spec.large_line named.now opening.now verdict) }
+{
+    push_verdict(text, named, verdict)?;
+    text.push_str(UNSOUGHT)?;
+    push_start(text, named, opening)?;
+    text.push_str(LARGE)
+}
+
+/// Adds the turns that lead from an opening to a state that permits both; or that the opening does, if there are none.
+fn push_led(
+    text: &mut String,
+    plan: &ProgrammedPlan,
+    opening: &State,
+    turns: &[u8],
+) -> Result<(), AllocError>
+    ensures { OnOk result (string_bytes text.new ≡ string_bytes text.old
+        ++ spec.led_text plan.now.named plan.now.programs opening.now turns.now) }
+{
+    if turns.len() == 0 {
+        push_at_once(text, &plan.named, opening)
+    } else {
+        push_calls(text, plan, opening, turns)
     }
+}
+
+/// Adds that an opening permits both motors.
+fn push_at_once(text: &mut String, named: &NamedPlan, opening: &State) -> Result<(), AllocError>
+    ensures { OnOk result (string_bytes text.new ≡ string_bytes text.old ++ spec.at_once_line named.now opening.now) }
+{
+    text.push_str(LED)?;
+    push_start(text, named, opening)?;
+    text.push_str(" permits both\n")
+}
+
+/// Adds what turns ask that lead to a state which permits both motors.
+fn push_calls(
+    text: &mut String,
+    plan: &ProgrammedPlan,
+    opening: &State,
+    turns: &[u8],
+) -> Result<(), AllocError>
+    ensures { OnOk result (string_bytes text.new ≡ string_bytes text.old
+        ++ spec.calls_text plan.now.named plan.now.programs opening.now turns.now) }
+{
+    push_two(text, LED, "from ")?;
+    push_start(text, &plan.named, opening)?;
+    text.push_str(" these calls permit both\n")?;
+    push_way(text, plan, opening, turns)
+}
+
+/// Adds a start: a digit for each place, as in scripts.
+fn push_start(text: &mut String, named: &NamedPlan, opening: &State) -> Result<(), AllocError>
+    ensures { OnOk result (string_bytes text.new ≡ string_bytes text.old ++ spec.start_words named.now opening.now) }
+{
+    if named.places().len() == 0 {
+        text.push_str("the start")
+    } else {
+        push_start_digits(text, named, opening)
+    }
+}
+
+fn push_start_digits(
+    text: &mut String,
+    named: &NamedPlan,
+    opening: &State,
+) -> Result<(), AllocError>
+    ensures { OnOk result (string_bytes text.new ≡ string_bytes text.old ++ spec.start_digits named.now opening.now) }
+{
+    text.push_str("start ")?;
+    push_digits(text, named, opening)
+}
+
+/// Adds a digit for each place.
+fn push_digits(text: &mut String, named: &NamedPlan, opening: &State) -> Result<(), AllocError>
+    ensures { OnOk result (string_bytes text.new ≡ string_bytes text.old
+        ++ flat_map (spec.digit_of opening.now) (range_with_len 0 (length named.now.places))) }
+{
+    'places: for place in 0..named.places().len() as u8 {
+        push_digit(text, opening, place)?;
+    }
+    Ok(())
+}
+
+fn push_digit(text: &mut String, opening: &State, place: u8) -> Result<(), AllocError>
+    ensures { OnOk result (string_bytes text.new ≡ string_bytes text.old ++ spec.digit_of opening.now place) }
+{
+    text.push_str(if opening.is_full(place) { "1" } else { "0" })
 }
 
 /// Adds what keeps two motors apart, or the state that permits both.

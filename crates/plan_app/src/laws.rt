@@ -1,7 +1,7 @@
 //! Laws of what is printed, each the contract of a function that does nothing.
 
 ghost use Rattle.plan_app.specs.GoingExamples.{EventLines, MachinesAreTold, WalksAreTold};
-ghost use Rattle.plan_app.specs.HazardExamples.{AreKept, HazardLines, KeptMotorsAreNeverBoth, MaskLines};
+ghost use Rattle.plan_app.specs.HazardExamples.{AreKept, HazardLines, KeptMotorsAreNeverBoth, LeadLines, MaskLines};
 ghost use Rattle.plan_app.specs.InputExamples.{InputsAreSplit, RequestsAreRead, WordsAreMade};
 ghost use Rattle.plan_app.specs.LineExamples.{HeaderLines, PartyLines, ReportLines, WholeTexts};
 ghost use Rattle.plan_app.specs.ScreenExamples.{AnswersAreMeant, KindsOfScreens, ScreensAreMeant};
@@ -25,9 +25,10 @@ pub fn starving_is_known()
     ensures { StarvingIsKnown }
 {}
 
-/// Examples: what is said of hazards, line by line and whole, and what is kept apart.
+/// Examples: what is said of hazards, line by line and whole, what of turns that lead to one, and what is kept apart.
 pub fn hazard_lines_are_met()
     ensures lines { HazardLines }
+    ensures leads { LeadLines }
     ensures kept { AreKept }
 {}
 

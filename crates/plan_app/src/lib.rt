@@ -8,6 +8,7 @@ pub mod header;
 mod header_motors;
 pub mod input;
 pub mod laws;
+pub mod leads;
 pub mod report;
 pub mod request;
 pub mod serve;

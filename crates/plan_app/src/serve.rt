@@ -1,11 +1,12 @@
 //! What the program `plan` does.
-ghost use Rattle.std.specs.Prelude.{◌≡◌, ◌≢◌, ◌≤◌, Some, None, IfOk, IfSome, codes, length};
+ghost use Rattle.std.specs.Prelude.{◌≡◌, ◌≢◌, ◌≤◌, ℕ, List, true, Some, None, IfOk, IfSome, codes, length};
 ghost use Rattle.std.specs.Io.KnownBytes.{Appends};
 ghost use Rattle.text_io.specs.Input.{TakesAtMost};
 ghost use Rattle.text_io.specs.Output.{WrotePrefix};
 ghost use Rattle.program_shell.specs.Printed.{Prints};
 ghost use Rattle.program_shell.specs.Versions.{version_line};
 ghost use Rattle.program_shell.specs.Words.{texts_of};
+ghost use Rattle.plan_app.specs.Hazards as hazards;
 ghost use Rattle.plan_app.specs.Headers.{header_text};
 ghost use Rattle.plan_app.specs.Input.{byte_limit, max_bytes_read};
 ghost use Rattle.plan_app.specs.Served.{AnswersIn, AnswersInput, AnswersScript, FindsFree};
@@ -22,7 +23,7 @@ use crate::request::Request;
 use crate::size::{MAX_SITUATIONS, is_large};
 use plan_document::{ProgrammedPlan, plan_of};
 use plan_rules::State;
-use plan_text::{NamedPlan, Outcome, ScriptAnswers, answer_script, start_of_script};
+use plan_text::{NamedPlan, Outcome, ScriptAnswers, ScriptFault, answer_script, start_of_script};
 use program_shell::{Exit, fail, print, print_version, refuse_words, with_texts};
 use std::alloc::{AllocError, Global};
 use std::env::Env;
@@ -34,7 +35,7 @@ use text_io::{InputFault, read_up_to};
 const HELP: &str = "\
 Reads a plan of a plant, in TOML, from standard input.
   plan check      says what it is, the layout of its word, and what keeps the motors of each
-                  hazard apart, or its first fault
+                  hazard apart, or which calls of its programs permit both; or its first fault
   plan replay     answers the script after it, which begins with the line start,..
   plan explore    says whether some order of turns of its programs leads from the start
                   after it, a line start,.., to a standstill; and else whether each machine
@@ -133,7 +134,7 @@ fn serve_bytes<W: Write>(alloc: Global, request: Request, bytes: &[u8], writer: 
     }
 }
 
-/// Prints what the request asks of a plan, and of the script after it for `Replay` and `Explore`.
+/// Prints what the request asks of a plan, and of the script after it for `Replay`, `Explore` and `Check`.
 fn serve_plan<W: Write>(
     alloc: Global,
     request: Request,
@@ -143,7 +144,7 @@ fn serve_plan<W: Write>(
 ) -> Exit
     ensures status { result ≢ Exit.Refused }
     ensures reported { request ≡ Request.Check → result ≡ Exit.Well →
-        WritesReport plan (W.contents writer.old) (W.contents writer.new) }
+        WritesReport plan script.now (W.contents writer.old) (W.contents writer.new) }
     ensures answered { request ≡ Request.Replay → result ≡ Exit.Well →
         AnswersScript plan.named script.now (W.contents writer.old) (W.contents writer.new) }
     ensures free { request ≡ Request.Explore → result ≡ Exit.Well →
@@ -156,17 +157,50 @@ fn serve_plan<W: Write>(
         Request::Header => print_header(alloc, &plan, writer),
         Request::Replay => replay_script(alloc, &plan.named, script, writer),
         Request::Explore => explore_script(alloc, &plan, script, writer),
-        _ => print_report(alloc, &plan, writer),
+        _ => report_script(alloc, &plan, script, writer),
+    }
+}
+
+/// Prints the report of a plan, with turns from the start of the script, if it has one.
+fn report_script<W: Write>(
+    alloc: Global,
+    plan: &ProgrammedPlan,
+    script: &[u8],
+    writer: &mut W,
+) -> Exit
+    ensures status { result ≢ Exit.Refused }
+    ensures reported { result ≡ Exit.Well →
+        WritesReport plan.now script.now (W.contents writer.old) (W.contents writer.new) }
+{
+    match start_of_script(alloc, &plan.named, script) {
+        Ok(start) => print_report(alloc, plan, start_if(&start), writer),
+        Err(fault) => fail_to_read(writer, fault),
+    }
+}
+
+/// The start of a script, if it has one.
+fn start_if(start: &Result<State, ScriptFault>) -> Option<State>
+    ensures { result ≡ hazards.start_if start.now }
+{
+    match start {
+        Ok(opening) => Some(*opening),
+        Err(_) => None,
     }
 }
 
 /// Prints the report of a plan. It isn't well where the motors of a hazard aren't kept apart.
-fn print_report<W: Write>(alloc: Global, plan: &ProgrammedPlan, writer: &mut W) -> Exit
+fn print_report<W: Write>(
+    alloc: Global,
+    plan: &ProgrammedPlan,
+    start: Option<State>,
+    writer: &mut W,
+) -> Exit
     ensures status { result ≢ Exit.Refused }
-    ensures reported { result ≡ Exit.Well →
-        WritesReport plan.now (W.contents writer.old) (W.contents writer.new) }
+    ensures reported { result ≡ Exit.Well → (text : List ℕ)
+        × hazards.TellsReport plan.now start true text
+        × Appends (W.contents writer.old) (W.contents writer.new) text }
 {
-    match report_of(alloc, plan) {
+    match report_of(alloc, plan, start) {
         Ok(Report::Kept(text)) => print(writer, text.as_bytes()),
         Ok(Report::Unkept(text)) => print_warning(writer, text.as_str()),
         Err(AllocError) => fail(writer, "memory"),

@@ -1,11 +1,12 @@
-//! What is printed of motors and hazards: what keeps the motors apart, or a state that permits both, and the masks.
+//! What is printed of motors and hazards: what keeps the motors apart, or a state that permits both and the calls that
+//! lead there, and the masks.
 
 use super::doubles::{is_answered, run};
 use std::alloc::AllocError;
 use std::str;
 
-/// Two machines at a press.
-const PRESS: &str = "\
+/// Two machines at a press: the machines.
+const MACHINES: &str = "\
 [[machine]]
 name = \"loader\"
 places = [\"hand\"]
@@ -17,7 +18,10 @@ poses = [
   { name = \"load\", gives = { interior = \"openin\" }, after_moving = true },
   { name = \"travelling\", gives = { interior = \"moving\" } },
 ]
+";
 
+/// Its zone, and its motors.
+const ROWS: &str = "\
 [[zone]]
 name = \"interior\"
 host = \"press\"
@@ -80,33 +84,36 @@ const HAZARDS: &[(&str, u8, &str)] = &[
     (
         "\"valve\", \"arm_in_press\"",
         1,
-        "NOT kept apart: a state permits both; interior held by loader, openin",
+        "NOT kept apart: a state permits both; interior held by loader, openin; \
+        none of the programs leads there from start 00",
     ),
     (
         "\"heater\", \"heater\"",
         1,
-        "NOT kept apart: a state permits both; die full",
+        "NOT kept apart: start 01 permits both",
     ),
     (
         "\"ram\", \"valve\"",
         1,
-        "NOT kept apart: a state permits both; interior held by press, moving",
+        "NOT kept apart: a state permits both; interior held by press, moving; \
+        none of the programs leads there from start 00",
     ),
     (
         "\"valve\", \"valve\"",
         1,
-        "NOT kept apart: a state permits both",
+        "NOT kept apart: start 00 permits both",
     ),
 ];
 
 #[test]
 fn judges_hazards(rt: HostRuntime) -> Result<(), AllocError> {
-    assert!(rt; is_answered(rt.alloc(), b"check", PRESS, 0, REPORT));
+    let press = format!(in rt.alloc(); "{MACHINES}{ROWS}")?;
+    assert!(rt; is_answered(rt.alloc(), b"check", press.as_str(), 0, REPORT));
     for (motors, status, words) in HAZARDS {
         let hazard = format!(in rt.alloc();
             "[[hazard]]\nname = \"arm hurt\"\nmotors = [{motors}]\n"
         )?;
-        let document = format!(in rt.alloc(); "{PRESS}{hazard}")?;
+        let document = format!(in rt.alloc(); "{press}{hazard}")?;
         let text = format!(in rt.alloc(); "{REPORT}arm hurt: {words}\n")?;
         assert!(rt;
             is_answered(
@@ -135,15 +142,68 @@ motors = [\"ram\", \"arm_in_press\"]
 
 /// What is said of them.
 const LINES: &str = "\
-arm wet: NOT kept apart: a state permits both; interior held by loader, openin
+arm wet: NOT kept apart: a state permits both; interior held by loader, openin; none of the programs leads there \
+from start 00
 Arm (2) crushed!: kept apart by interior
 ";
 
 #[test]
 fn one_hazard_may_come(rt: HostRuntime) -> Result<(), AllocError> {
-    let document = format!(in rt.alloc(); "{PRESS}{BOTH}")?;
+    let document = format!(in rt.alloc(); "{MACHINES}{ROWS}{BOTH}")?;
     let text = format!(in rt.alloc(); "{REPORT}{LINES}")?;
     assert!(rt; is_answered(rt.alloc(), b"check", document.as_str(), 1, text.as_str()));
+    Ok(())
+}
+
+/// What the press does, as the last machine that has a program.
+const PROGRAM: &str = "\
+program = [\"claim interior\", \"pose travelling\", \"pose load\", \"yield interior\"]
+";
+
+/// What its calls lead to, with or without a plate in the loader's hand, and with a plate in the die.
+const LED: &str = "\
+arm wet: NOT kept apart: from start 00 these calls permit both
+  press asks: claim interior: done
+  press asks: pose travelling: done
+  press asks: pose load: done
+  press asks: yield interior: done
+Arm (2) crushed!: kept apart by interior
+";
+
+/// The script after the plan, and what is said of the first hazard.
+const STARTS: &[(&str, &str)] = &[
+    ("", "from start 00 these calls permit both"),
+    ("start,10\n", "from start 10 these calls permit both"),
+    (
+        "start,10,7\nloader,claim,interior\n",
+        "from start 10 these calls permit both",
+    ),
+    (
+        "start,01\n",
+        "a state permits both; interior held by loader, openin; none of the programs leads there from start 01",
+    ),
+    // A start that isn't valid is none.
+    ("start,1\n", "from start 00 these calls permit both"),
+];
+
+#[test]
+fn calls_lead_to_a_hazard(rt: HostRuntime) -> Result<(), AllocError> {
+    let document = format!(in rt.alloc(); "{MACHINES}{PROGRAM}{ROWS}{BOTH}")?;
+    let text = format!(in rt.alloc(); "{REPORT}{LED}")?;
+    assert!(rt; is_answered(rt.alloc(), b"check", document.as_str(), 1, text.as_str()));
+    for (script, words) in STARTS {
+        let input = format!(in rt.alloc(); "{document}{script}")?;
+        let mut written = Vec::new(rt.alloc());
+        let status = run(
+            rt.alloc(),
+            &[b"./plan", b"check"],
+            &mut input.as_bytes(),
+            &mut written,
+        );
+        let said = str::from_utf8(&written).expect(&rt, "text");
+        let line = format!(in rt.alloc(); "arm wet: NOT kept apart: {words}\n")?;
+        assert!(rt; status == 1 && said.contains(line.as_str()), "{said}");
+    }
     Ok(())
 }
 
@@ -166,15 +226,17 @@ const MASKS: &str = "\
 ";
 
 #[test]
-fn prints_masks(rt: HostRuntime) {
+fn prints_masks(rt: HostRuntime) -> Result<(), AllocError> {
+    let press = format!(in rt.alloc(); "{MACHINES}{ROWS}")?;
     let mut header = Vec::new(rt.alloc());
     let status = run(
         rt.alloc(),
         &[b"./plan", b"header"],
-        &mut PRESS.as_bytes(),
+        &mut press.as_bytes(),
         &mut header,
     );
     let text = str::from_utf8(&header).expect(&rt, "text");
     assert!(rt; status == 0 && text.contains(MASKS), "{text}");
     assert!(rt; text.contains("off and at rest"), "{text}");
+    Ok(())
 }

@@ -5,7 +5,7 @@ use Rattle.plan_app.proofs.serve.serve_bytes.Goals as goal
 pub returns-in-Ok-clause-reported : goal.returns-in-Ok-clause-reported
 returns-in-Ok-clause-reported g c =
     let is : IsPlanIn (document_in c.args.bytes.now) c.in-Ok.plan = rw (c.split_at.ensures.front, c.plan_length.ensures.length) at c.in-Ok.ensures.plan in
-    λ request well. (c.in-Ok.plan, is, c.serve_plan.ensures.reported request well)
+    λ request well. (c.in-Ok.plan, is, rw (c.split_at.ensures.back, c.plan_length.ensures.length) at (c.serve_plan.ensures.reported request well))
 
 pub returns-in-Ok-clause-answered : goal.returns-in-Ok-clause-answered
 returns-in-Ok-clause-answered g c =
