@@ -1,11 +1,17 @@
 -- More examples of what breaks a law, and of what keeps one by little.
-use Rattle.cell_rules.proofs.Names.{◌≡◌, true, List, [], ◌∷◌, ◌++◌, length, refl, sym, ap, arith, Machine, Feed, Robot, Press, Deposit, Watch, Zone, Z1, Z3, Z4, Z5, Z6, PressIn, PressOut, Arm2, FeedEnd, Closed, Moving, OpenIn, OpenOut, Turning, Unloading, Travelling, Middle}
+use Rattle.cell_rules.proofs.Names.{◌≡◌, true, List, [], ◌∷◌, ◌++◌, length, refl, sym, ap, ◌∙◌, arith, Machine, Feed, Robot, Press, Deposit, Watch, Zone, Z1, Z3, Z4, Z5, Z6, PressIn, PressOut, Arm2, FeedEnd, Closed, Moving, OpenIn, OpenOut, Turning, Unloading, Travelling, Middle}
 use Rattle.cell_rules.proofs.Names.{Low, Top, Running, Landing, Standing, Event, Claim, Give, Yield, Take, Release, SetPose, Advance, Inquire, Stop, Resume, Refusal, Refused, event, Worn, NotParty, Jump, ModelState, Holds, empty, insert_place, number_of, is_no_later, append-nil}
 use Rattle.cell_types.specs.declared.machine.Machine.TheVariants.{Table as TableMachine, Crane as CraneMachine}
 use Rattle.cell_rules.specs.declared.zones.ZoneState.{ZoneState}
-use Rattle.cell_rules.specs.BreakExamples.{HolderBreaks, CountBreaks, PrefixBreaks, BeltBreaks, FittingBreaks, StopBreaks, RefusalBreaks, SeenExamples, BenchExamples, KeptExamples, AnswersAlikeWhileRunning, LawfulKeepsEach, BreakExamples, halted_cell, full_at}
+use Rattle.cell_rules.specs.BreakExamples.{HolderBreaks, CountBreaks, PrefixBreaks, BeltBreaks, FittingBreaks, StopBreaks, RefusalBreaks, SeenExamples, BenchExamples, AnyBench, IsShownWhole, KeptExamples, AnswersAlikeWhileRunning, LawfulKeepsEach, BreakExamples, halted_cell, full_at}
 use Rattle.cell_rules.specs.BreakExamples.{feed_claims, halts_uncounted, press_claims}
-use Rattle.cell_rules.specs.Benches.{Desk}
+use Rattle.cell_rules.specs.Benches.{Desk, BenchAsks}
+use Rattle.cell_rules.specs.Stored.{IsHistory}
+use Rattle.cell_rules.specs.declared.bench.Bench.{Bench}
+use Rattle.cell_rules.specs.declared.heard.LineFault.{LineFault}
+use Rattle.cell_rules.specs.Types.{Call, Reply, Settled, Busy}
+use Rattle.std.specs.Prelude.{Result, Ok, Err}
+use Rattle.cell_rules.proofs.lemmas.SeenLemmas.{history-push}
 use Rattle.cell_rules.specs.Audited.{IsAudited}
 use Rattle.cell_rules.specs.LawExamples.{after_claim, only, unused}
 use Rattle.cell_rules.specs.StateExamples.{cell_with, free_in, held_in}
@@ -161,6 +167,24 @@ benches = record {
   changed_without_memory = λ b. let e : 0 ≡ 1 = ap (λ (d : Desk). length d.history) b.1 in omega (arith, e);
 }
 
+history_kept : (b d : Desk) (c : Call) (r : Result Reply LineFault) → IsHistory b.opening b.state b.history → BenchAsks b c r d → IsHistory d.opening d.state d.history
+history_kept b d c (Ok (Busy lost stamp)) k (busy, l, s, e) = rw e k
+history_kept b d c (Err fault) k (free, e) = rw e k
+history_kept b d c (Ok (Settled a stamp)) k (free, e, s, n) = rw n (history-push _ _ _ _ _ _ _ k e refl)
+
+any_bench : (b d : Desk) (c : Call) → AnyBench b d c
+any_bench b d c = record {
+  busy = λ lost stamp asked. asked.3;
+  out_of_memory = λ fault asked. asked.1;
+  opening = λ a stamp asked. ap (λ (x : Desk). x.opening) asked.3;
+  machine = λ a stamp asked. ap (λ (x : Desk). x.machine) asked.3;
+  free = λ a stamp asked. ap (λ (x : Desk). x.busy) asked.3 ∙ asked.0;
+  history = λ r k asked. history_kept b d c r k asked;
+}
+
+shown : (b : Bench) → IsShownWhole b
+shown b = record { desk = refl; asks = refl }
+
 -- each event is noted by its machine
 no_history : (h : List Event) → ¬ IsAudited unused (λ m. []) (Some after_claim) h
 no_history [] a = let e : 0 ≡ 1 = ap (λ (s : ModelState). s.stamp) a.ends in omega (arith, e)
@@ -243,6 +267,8 @@ break_examples = record {
   refusals = refusals;
   seen = seen;
   benches = benches;
+  any_bench = any_bench;
+  shown = shown;
   kept = kept;
   first_version = alike;
   lawful = lawful;

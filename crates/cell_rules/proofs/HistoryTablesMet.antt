@@ -104,6 +104,7 @@ history_tables = record {
     itself = refl;
     later = refl;
     not_in_it = refl;
+    before_none = refl;
     same_flags = refl;
     same_unset = refl;
   };

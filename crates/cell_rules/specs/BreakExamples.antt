@@ -1,14 +1,18 @@
 -- More examples of what breaks a law, each breaking one thing of it; and of what keeps one by little.
-use Rattle.std.specs.Prelude.{◌≡◌, ◌≢◌, true, false, List, [], ◌∷◌, length, Some, None, Ok, Err, IsTrue}
+use Rattle.std.specs.Prelude.{◌≡◌, ◌≢◌, ℕ, true, false, List, [], ◌∷◌, length, Some, None, Result, Ok, Err, IsTrue}
 use Rattle.cell_rules.specs.Types.{Machine, Feed, Robot, Press, Deposit, Watch, Z1, Z3, Z4, Z5, Z6, FeedEntry}
 use Rattle.cell_rules.specs.Types.{FeedEnd, Arm2, PressIn, DepEntry, DepEnd, Posture, Closed, Moving, OpenIn}
 use Rattle.cell_rules.specs.Types.{OpenOut, Turning, Unloading, Travelling, Middle, Low, Top, Running, Landing}
 use Rattle.cell_rules.specs.Types.{Halted, Standing, Call, Claim, Give, Yield, Take, Release, SetPose, Advance, Stop}
 use Rattle.cell_rules.specs.Types.{Resume, Jump, Worn, NotParty, NotAtWork, Done, Refused, Event, Settled, Busy}
+use Rattle.cell_rules.specs.Types.{Answer, Reply}
+use Rattle.cell_rules.specs.declared.bench.Bench.{Bench}
+use Rattle.cell_rules.specs.declared.heard.LineFault.{LineFault}
 use Rattle.cell_rules.specs.declared.heard.LineFault.TheVariants.{Memory}
 use Rattle.cell_types.specs.declared.machine.Machine.TheVariants.{Table as TableMachine, Crane as CraneMachine}
 use Rattle.cell_rules.specs.Audited.{IsAudited, HasNoHistory}
 use Rattle.cell_rules.specs.Benches.{Desk, BenchAsks}
+use Rattle.cell_rules.specs.BenchView.{desk_of, heard_of}
 use Rattle.cell_rules.specs.FirstVersion as first
 use Rattle.cell_rules.specs.FirstVersion.{has_call}
 use Rattle.cell_rules.specs.LawExamples.{table_with, unused, only, claim_of_press, after_claim}
@@ -184,6 +188,29 @@ pub record BenchExamples : Type 0 where
   pub out_of_memory_while_busy : ¬ BenchAsks busy_desk (Release Z3) (Err Memory) busy_desk
   pub changed_without_memory : ¬ BenchAsks (desk Press) (Release Z3) (Err Memory) (record (desk Press) { history = [] })
 
+-- at any bench a call that isn't made changes nothing; one that is answered leaves opening, caller and seat as they are,
+-- and a history that leads to the state
+pub record AnyBench (b d : Desk) (c : Call) : Type 0 where
+  pub busy : (lost stamp : ℕ) → BenchAsks b c (Ok (Busy lost stamp)) d → d ≡ b
+  pub out_of_memory : (fault : LineFault) → BenchAsks b c (Err fault) d → d ≡ b
+  pub opening : (a : Answer) (stamp : ℕ) → BenchAsks b c (Ok (Settled a stamp)) d → d.opening ≡ b.opening
+  pub machine : (a : Answer) (stamp : ℕ) → BenchAsks b c (Ok (Settled a stamp)) d → d.machine ≡ b.machine
+  pub free : (a : Answer) (stamp : ℕ) → BenchAsks b c (Ok (Settled a stamp)) d → d.busy ≡ false
+  pub history : (r : Result Reply LineFault) → IsHistory b.opening b.state b.history → BenchAsks b c r d
+      → IsHistory d.opening d.state d.history
+
+-- each field of a bench is shown as it is
+pub record IsShownWhole (b : Bench) : Type 0 where
+  pub desk :
+      desk_of b ≡ record {
+        opening = b.opening;
+        state = b.state;
+        history = b.history.items;
+        machine = b.machine;
+        busy = b.busy;
+      }
+  pub asks : (heard_of b).asks ≡ b.asks
+
 pub record KeptExamples : Type 0 where
   pub stored : IsHistory unused after_claim (only Press (Claim Z3))
   pub unsound_opening :
@@ -231,6 +258,8 @@ pub record BreakExamples : Type 0 where
   pub refusals : RefusalBreaks
   pub seen : SeenExamples
   pub benches : BenchExamples
+  pub any_bench : (b d : Desk) (c : Call) → AnyBench b d c
+  pub shown : (b : Bench) → IsShownWhole b
   pub kept : KeptExamples
   pub first_version : AnswersAlikeWhileRunning
   pub lawful : (s : ModelState) (h : List Event) → LawfulKeepsEach s h

@@ -164,6 +164,7 @@ pub record CallTable : Type 0 where
   pub itself : is_no_later (12 ∷ 5 ∷ 11 ∷ 7 ∷ []) 7 7 ≡ true
   pub later : is_no_later (12 ∷ 5 ∷ 11 ∷ 7 ∷ []) 7 12 ≡ false
   pub not_in_it : is_no_later (12 ∷ 5 ∷ 11 ∷ 7 ∷ []) 8 7 ≡ false
+  pub before_none : is_no_later (12 ∷ 5 ∷ 11 ∷ 7 ∷ []) 5 8 ≡ false
   pub same_flags : map (same_flag true) (true ∷ false ∷ []) ≡ true ∷ false ∷ []
   pub same_unset : map (same_flag false) (true ∷ false ∷ []) ≡ false ∷ true ∷ []
 

@@ -23,8 +23,8 @@ pub record DifferInStamps (s t : ModelState) : Type 0 where
   pub places : s.full ≡ t.full
   pub mark : s.stopped ≡ t.stopped
 
--- neither of them the last, such states answer alike, and a call leaves two that again differ in their stamps alone; and
--- both are sound, or neither
+-- neither of them the last, such states answer alike, and a call leaves two that again differ in their stamps alone;
+-- and both are sound, or neither
 pub record StampsDoNotTell (s t : ModelState) : Type 0 where
   pub answers : (m : Machine) (c : Call) → IsSound s → s.stamp < last_stamp → t.stamp < last_stamp
       → reply t m c ≡ reply s m c

@@ -1,7 +1,7 @@
 -- Examples of states that aren't sound, and of starts: each of them is wrong in one thing.
 use Rattle.std.specs.Prelude.{ℕ, true, false, [], ◌∷◌, Some}
-use Rattle.cell_rules.specs.Types.{Machine, Feed, Robot, Press, Zone, Z1, Z3, PressIn, PressOut, Posture, Closed, Moving}
-use Rattle.cell_rules.specs.Types.{OpenIn, OpenOut}
+use Rattle.cell_rules.specs.Types.{Machine, Feed, Robot, Press, Zone, Z1, Z3, PressIn, PressOut, Posture}
+use Rattle.cell_rules.specs.Types.{Closed, Moving, OpenIn, OpenOut}
 use Rattle.cell_rules.specs.declared.zones.ZoneState.{ZoneState}
 use Rattle.cell_rules.specs.ZoneMap.{free_zone, everywhere, put_zone}
 use Rattle.cell_rules.specs.PlaceSet.{PlaceSet, empty, insert_place}

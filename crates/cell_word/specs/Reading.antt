@@ -31,7 +31,13 @@ zone_in_word w z = record {
 
 abbrev pub zones_in_word : ℕ → ZoneMap
 zones_in_word w =
-    zone_map (zone_in_word w Z1) (zone_in_word w Z2) (zone_in_word w Z3) (zone_in_word w Z4) (zone_in_word w Z5) (zone_in_word w Z6)
+    zone_map
+    (zone_in_word w Z1)
+    (zone_in_word w Z2)
+    (zone_in_word w Z3)
+    (zone_in_word w Z4)
+    (zone_in_word w Z5)
+    (zone_in_word w Z6)
 
 abbrev pub is_told_full : ℕ → Place → Bool
 is_told_full w p = is_bit_set w (place_bit p)
