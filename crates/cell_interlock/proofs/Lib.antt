@@ -5,4 +5,5 @@ mod Instance
 mod Closing
 mod Timing
 mod Settling
+mod EachCases
 mod Outcomes

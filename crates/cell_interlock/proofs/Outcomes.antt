@@ -14,6 +14,7 @@ use Rattle.cell_rules.specs.Journal.{noted}
 use Rattle.cell_rules.specs.Seen.{event}
 use Rattle.cell_interlock.specs.Fresh.{IsFresh, AreFresh}
 use Rattle.cell_interlock.specs.OutcomeExamples.{opened, claim, claimed, released, by_feed, again_by_feed, by_table, by_robot, by_watch, barred, press_pass, watch_pass, before, begun, after_claim, lost_both, AskExamples, LookExamples, AttemptExamples, MoreExamples, ChangeExamples, AnswerExamples, OrderExamples, StampExamples, ReceiptExamples, RunExamples, PaidExamples, FreshExamples, LineExamples, ViewExamples, CaseExamples, FieldExamples, BookExamples, PartExamples, JournalExamples, OutcomeExamples}
+use Rattle.cell_interlock.proofs.EachCases.{each_laws}
 use Rattle.cell_interlock.proofs.Settled.{lawful_history, settled, replied}
 
 sound : IsSound opened
@@ -261,11 +262,11 @@ order = record {
 stamps : StampExamples
 stamps = record {
   done = (omega arith, λ is. omega arith);
-  done_with_same_stamp = λ f. let less : 2 < 2 = f.1 refl in omega (arith, less);
+  done_with_same_stamp = λ told f. let less : told < told = f.1 refl in omega (arith, less);
   refused = (omega arith, λ is. cc);
-  refused_with_lower_stamp = λ f. let least : 2 ≤ 1 = f.0 in omega (arith, least);
+  answered_with_lower_stamp = λ told a f. let least : told + 1 ≤ told = f.0 in omega (arith, least);
   busy = omega arith;
-  busy_with_lower_stamp = λ f. let least : 2 ≤ 1 = f in omega (arith, least);
+  busy_with_lower_stamp = λ told lost f. let least : told + 1 ≤ told = f in omega (arith, least);
 }
 
 receipts : (t : TableId) → ReceiptExamples t
@@ -412,4 +413,4 @@ journals t = record {
 }
 
 pub outcomes_are_known : OutcomeExamples
-outcomes_are_known = record { ask = ask; look = look; attempt = attempt; more = grows; changes = changes; answers = answers; order = order; stamps = stamps; receipts = receipts; runs = runs; paid = paid; fresh = fresh; lines = lines; views = views; cases = cases; fields = fields; book = book; parts = parts; journals = journals }
+outcomes_are_known = record { ask = ask; look = look; attempt = attempt; more = grows; changes = changes; answers = answers; order = order; stamps = stamps; receipts = receipts; runs = runs; paid = paid; fresh = fresh; lines = lines; views = views; cases = cases; fields = fields; book = book; parts = parts; journals = journals; each = each_laws }

@@ -13,4 +13,5 @@ pub mod Timing
 pub mod Lines
 pub mod Settling
 pub mod One
+pub mod EachLaws
 pub mod OutcomeExamples

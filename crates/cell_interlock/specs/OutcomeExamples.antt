@@ -1,6 +1,6 @@
 -- Examples of what a call of the press may leave of its pass, and of what it may not: each of these is wrong in one
 -- thing. The press claims z3, which is open inward and free in the opening. A call may lose two exchanges.
-use Rattle.std.specs.Prelude.{◌≡◌, ◌≢◌, ℕ, ◌↔◌, Bool, true, false, IsTrue, List, [], ◌∷◌, None, Ok, Err}
+use Rattle.std.specs.Prelude.{◌≡◌, ◌≢◌, ℕ, ◌+◌, ◌↔◌, Bool, true, false, IsTrue, List, [], ◌∷◌, None, Ok, Err}
 use Rattle.atomic_table.specs.Seated.{TableId}
 use Rattle.cell_types.specs.declared.machine.Machine.TheVariants.{Feed, Table, Robot, Press, Deposit, Crane, Watch}
 use Rattle.cell_types.specs.declared.zone.Zone.TheVariants.{Z1, Z3, Z6}
@@ -31,6 +31,7 @@ use Rattle.cell_interlock.specs.Calls.{IfSettled, IfBusy, stamp_in, IsStampedAft
 use Rattle.cell_interlock.specs.Book.{cell_book}
 use Rattle.cell_interlock.specs.Ends.{pass_in, journals_by, HasPart, IsEnd}
 use Rattle.cell_interlock.specs.Engine.{pass_from, pass_to, interlock_from, receipt_from, try_from, reply_from}
+use Rattle.cell_interlock.specs.EachLaws.{EachLaws}
 use Rattle.cell_interlock.specs.Order.{StandsBefore}
 use Rattle.cell_interlock.specs.Tries.{Looked, Attempted, after_look, after_attempt}
 use Rattle.cell_interlock.specs.Lines.{IsLine, Replied, PassAsks, LineView, LineAsks, LineSurveys}
@@ -265,11 +266,11 @@ pub record OrderExamples : Type 0 where
 -- no lower stamp, and a higher one if the call is Done
 pub record StampExamples : Type 0 where
   pub done : IsStampedAfter 1 (Settled Done 2)
-  pub done_with_same_stamp : ¬ IsStampedAfter 2 (Settled Done 2)
+  pub done_with_same_stamp : (told : ℕ) → ¬ IsStampedAfter told (Settled Done told)
   pub refused : IsStampedAfter 2 (Settled (Refused Stopped) 2)
-  pub refused_with_lower_stamp : ¬ IsStampedAfter 2 (Settled (Refused Stopped) 1)
+  pub answered_with_lower_stamp : (told : ℕ) (a : Answer) → ¬ IsStampedAfter (told + 1) (Settled a told)
   pub busy : IsStampedAfter 2 (Busy 1 2)
-  pub busy_with_lower_stamp : ¬ IsStampedAfter 2 (Busy 1 1)
+  pub busy_with_lower_stamp : (told lost : ℕ) → ¬ IsStampedAfter (told + 1) (Busy lost told)
 
 -- a receipt tells all that its pass has seen, and its moments
 pub record ReceiptExamples (t : TableId) : Type 0 where
@@ -444,3 +445,4 @@ pub record OutcomeExamples : Type 0 where
   pub book : BookExamples
   pub parts : (t : TableId) → PartExamples t
   pub journals : (t : TableId) → JournalExamples t
+  pub each : EachLaws

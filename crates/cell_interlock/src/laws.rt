@@ -8,7 +8,7 @@ ghost use Rattle.cell_interlock.specs.declared.rules.CellRules.{CellRules};
 ghost use Rattle.word_interlock.specs.Run.{CallsFollowReceipts, RunsKeepOrder};
 
 /// Examples of what a call may and may not leave of its pass: a whole call, its single steps, a
-/// meeting, calls in order, and a line.
+/// meeting, calls in order, and a line. And what holds of all passes, ends and calls one after another.
 pub fn outcomes_are_known()
     ensures { OutcomeExamples }
 {}
