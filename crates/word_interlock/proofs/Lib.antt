@@ -11,3 +11,4 @@ mod Examples
 mod OrderCases
 mod SeatCases
 mod HistoryCases
+mod EachCases

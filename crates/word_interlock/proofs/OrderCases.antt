@@ -1,5 +1,5 @@
 -- Literal cases of order, of what was seen, of a call that was Busy once, and of stamps.
-use Rattle.std.proofs.Common.{◌≡◌, ◌<◌, ◌≤◌, true, false, arith, List, [], ◌∷◌, ◌++◌, inl, inr, ⊎_elim, refl, sym, ap, ◌∙◌, subst, append_assoc}
+use Rattle.std.proofs.Common.{◌≡◌, ◌+◌, ◌<◌, ◌≤◌, true, false, arith, List, [], ◌∷◌, ◌++◌, inl, inr, ⊎_elim, refl, sym, ap, ◌∙◌, subst, append_assoc}
 use Rattle.std.proofs.lemmas.List.{same_from_push}
 use Rattle.word_interlock.specs.RuleBook.{RuleBook, IsRuleBook}
 use Rattle.word_interlock.specs.declared.views.Moment.{Moment}
@@ -102,11 +102,11 @@ module _ {R S M C A E : Type 0} (b : RuleBook S M C A E) (law : IsRuleBook b) (m
 stamp_cases_of : {S M C A E : Type 0} (b : RuleBook S M C A E) (a : A) → StampCases b a
 stamp_cases_of b a = record {
   done_with_the_next = (omega arith, λ yes. omega arith);
-  done_with_the_same = λ yes k. let higher : 3 < 3 = k.1 yes in omega (arith, higher);
+  done_with_the_same = λ yes told k. let higher : told < told = k.1 yes in omega (arith, higher);
   refused_with_the_same = λ no. (omega arith, λ yes. absurd (let f : true ≡ false = sym yes ∙ no in cc));
-  answered_with_a_lower_one = λ k. let same : 3 ≤ 2 = k.0 in omega (arith, same);
+  answered_with_a_lower_one = λ told k. let same : told + 1 ≤ told = k.0 in omega (arith, same);
   busy_with_the_same = λ lost. omega arith;
-  busy_with_a_lower_one = λ lost k. let same : 3 ≤ 2 = k in omega (arith, same);
+  busy_with_a_lower_one = λ lost told k. let same : told + 1 ≤ told = k in omega (arith, same);
 }
 
 pub order_cases : {S M C A E : Type 0} (b : RuleBook S M C A E) (law : IsRuleBook b) (R : Type 0) → OrderExamples R b

@@ -21,3 +21,4 @@ pub mod Receipts
 pub mod SeatExamples
 pub mod HistoryExamples
 pub mod OrderExamples
+pub mod EachLaws

@@ -1,6 +1,6 @@
 -- Literal cases of what stands before what, of who has seen what, of a call that was Busy once, and of stamps: by two
 -- actors, and an event of each.
-use Rattle.std.specs.Prelude.{◌≡◌, ℕ, true, false, List, [], ◌∷◌, ◌++◌}
+use Rattle.std.specs.Prelude.{◌≡◌, ℕ, ◌+◌, true, false, List, [], ◌∷◌, ◌++◌}
 use Rattle.word_interlock.specs.RuleBook.{RuleBook}
 use Rattle.word_interlock.specs.declared.reply.Reply.TheVariants.{Settled, Busy}
 use Rattle.word_interlock.specs.declared.views.ActorView.{ActorView}
@@ -53,15 +53,15 @@ module _ {R S M C A E : Type 0} (b : RuleBook S M C A E) (m n : M) (c : C) (a : 
     pub not_busy : ¬ IsAnsweredAtLast b 0 (pass_with b m n (b.event m c a) f v [] [] []) c a
         (answered_after (Begins m ∷ Begins m ∷ []))
 
--- replies to a caller that was told the stamp 3
+-- replies to a caller that was told a stamp
 module _ {S M C A E : Type 0} (b : RuleBook S M C A E) (a : A) where
   pub record StampCases : Type 0 where
     pub done_with_the_next : IsStampedAfter b 3 (Settled a 4)
-    pub done_with_the_same : b.is_done a ≡ true → ¬ IsStampedAfter b 3 (Settled a 3)
+    pub done_with_the_same : b.is_done a ≡ true → (told : ℕ) → ¬ IsStampedAfter b told (Settled a told)
     pub refused_with_the_same : b.is_done a ≡ false → IsStampedAfter b 3 (Settled a 3)
-    pub answered_with_a_lower_one : ¬ IsStampedAfter b 3 (Settled a 2)
+    pub answered_with_a_lower_one : (told : ℕ) → ¬ IsStampedAfter b (told + 1) (Settled a told)
     pub busy_with_the_same : (lost : ℕ) → IsStampedAfter b 3 (Busy lost 3)
-    pub busy_with_a_lower_one : (lost : ℕ) → ¬ IsStampedAfter b 3 (Busy lost 2)
+    pub busy_with_a_lower_one : (lost told : ℕ) → ¬ IsStampedAfter b (told + 1) (Busy lost told)
 
 abbrev pub OrderExamples : {S M C A E : Type 0} → Type 0 → RuleBook S M C A E → Type 0
 OrderExamples {S} {M} {C} {A} {E} R b =

@@ -1,5 +1,6 @@
 //! Laws of any rules: functions that do nothing. A function's contract is its law.
 ghost use Rattle.std.specs.Prelude.{ℕ};
+ghost use Rattle.word_interlock.specs.EachLaws.{EachLaws};
 ghost use Rattle.word_interlock.specs.History.{IsLawful};
 ghost use Rattle.word_interlock.specs.HistoryExamples.{HistoryExamples};
 ghost use Rattle.word_interlock.specs.MomentExamples.{MomentExamples};
@@ -81,11 +82,13 @@ pub fn moments_are_known<R: Rules>(rules: &R)
 /// Cases of calls one after another and of calls that overlap, of who has seen and was shown what,
 /// of a call that was Busy once, and of stamps after one that was told (`order`). Cases of seats, of
 /// their passes and receipts, of what replies tell and of what steps show (`seats`). Cases of
-/// histories, and of calls that were Busy (`histories`).
+/// histories, and of calls that were Busy (`histories`). What is said of several passes or receipts
+/// is said of each of them, and calls of a pass add up (`each`).
 pub fn order_is_known<R: Rules>(rules: &R)
     ensures order { OrderExamples R (R.book rules.now) }
     ensures seats { SeatExamples R (R.book rules.now) }
     ensures histories { HistoryExamples R (R.book rules.now) }
+    ensures each { EachLaws R.book rules.now }
 {
     let _ = rules;
 }
