@@ -11,13 +11,13 @@ use Rattle.plan_types.specs.Table.{PlanTable, no_zone, no_pose, zone_row, pose_r
 use Rattle.plan_types.specs.Plan.{IsPlan, leads}
 use Rattle.plan_types.specs.TableLaws.{Keeps, GoesBetween, KeepsZoneRules, KeepsPoseRules, KeepsRules}
 
-keeps : (t : PlanTable) (m p : ℕ) → is_place_of t p m ≡ true → Keeps t m p
+pub keeps : (t : PlanTable) (m p : ℕ) → is_place_of t p m ≡ true → Keeps t m p
 keeps t m p e =
     let below = nat_lt p (length t.places) in
     let same = nat_eq (get_or t.places p 0) m in
     (ltb-true _ _ (first_so below same e), eqb-true _ _ (second_so below same e))
 
-is_kept : (t : PlanTable) (m p : ℕ) → Keeps t m p → is_place_of t p m ≡ true
+pub is_kept : (t : PlanTable) (m p : ℕ) → Keeps t m p → is_place_of t p m ≡ true
 is_kept t m p k = rw (lt-ltb _ _ k.0, eq-eqb _ _ k.1) refl
 
 between : (t : PlanTable) (giver receiver : ℕ) (given : Option Way) → IsTrue (leads t giver receiver given)
@@ -30,7 +30,7 @@ between t giver receiver (Some v) e w is =
     subst (λ (x : Way). Keeps t giver x.from × Keeps t receiver x.to) same
     (keeps t giver v.from (first_so starts ends e), keeps t receiver v.to (second_so starts ends e))
 
-leads_on : (t : PlanTable) (giver receiver : ℕ) (given : Option Way) → GoesBetween t giver receiver given
+pub leads_on : (t : PlanTable) (giver receiver : ℕ) (given : Option Way) → GoesBetween t giver receiver given
     → IsTrue (leads t giver receiver given)
 leads_on t giver receiver None k = refl
 leads_on t giver receiver (Some w) k =

@@ -8,7 +8,7 @@ use Rattle.plan_types.specs.Examples.{way, zone, pose, two_at, press_table, lift
 use Rattle.plan_types.specs.Readings.{unlike_table}
 use Rattle.plan_types.specs.Bytes.{bytes_of, HasWholeRows}
 
--- a pose with a row for so many zones
+-- a pose with a row for each of n zones
 abbrev pub pose_of_width : ℕ → PlanPose
 pose_of_width n = record { machine = 0; after_moving = false; gives = replicate n None }
 

@@ -184,14 +184,16 @@ pub record FaultsTellRows : Type 0 where
       ≡ Some (NoSuchMachine 4)
   pub last_machine : plan_fault (two_at press_zone (replicate 63 (pose 1 false None None) ++ strange_pose ∷ []))
       ≡ Some (NoSuchMachine 63)
-  pub foreign : plan_fault (posed (pose_at 1 0 Closed ∷ pose_at 1 1 Closed ∷ pose_at 3 2 Closed ∷ pose_at 1 2 OpenIn ∷ []))
+  pub foreign
+      : plan_fault (posed (pose_at 1 0 Closed ∷ pose_at 1 1 Closed ∷ pose_at 3 2 Closed ∷ pose_at 1 2 OpenIn ∷ []))
       ≡ Some (ForeignZone 3 2)
   pub anothers : plan_fault (posed (pose_at 3 2 OpenOut ∷ pose_at 3 1 OpenOut ∷ [])) ≡ Some (ForeignZone 1 1)
   pub not_there : plan_fault (posed (pose_at 3 2 Moving ∷ pose_at 1 1 Moving ∷ pose_at 3 9 Moving ∷ []))
       ≡ Some (ForeignZone 2 9)
   pub last_pose : plan_fault (plan_table 2 (replicate 8 (zone 1 0 None None))
       (replicate 63 (pose_at 1 7 OpenOut) ++ pose_at 0 7 OpenOut ∷ []) []) ≡ Some (ForeignZone 63 7)
-  pub first_of_two : plan_fault (posed (pose 3 false None (Some Closed) ∷ pose 3 false (Some Closed) (Some Closed) ∷ []))
+  pub first_of_two
+      : plan_fault (posed (pose 3 false None (Some Closed) ∷ pose 3 false (Some Closed) (Some Closed) ∷ []))
       ≡ Some (ForeignZone 0 1)
   pub earlier_pose : plan_fault (posed (pose_at 2 2 Closed ∷ strange_pose ∷ [])) ≡ Some (ForeignZone 0 2)
 

@@ -9,3 +9,4 @@ pub mod Bytes
 pub mod Parts
 pub mod ByteExamples
 pub mod TableLaws
+pub mod FaultLaws

@@ -1,6 +1,6 @@
 -- Laws of all tables: what is read of a row, which way a plate goes, which poses move, and the rules of a plan again,
 -- on the rows themselves.
-use Rattle.std.specs.Prelude.{◌≡◌, ◌↔◌, ℕ, ◌+◌, ◌*◌, ◌<◌, ◌≤◌, true, List, ◌∷◌, ◌++◌, length, get_or, All}
+use Rattle.std.specs.Prelude.{◌≡◌, ◌↔◌, ◌⊎◌, ℕ, ◌+◌, ◌*◌, ◌<◌, ◌≤◌, true, List, ◌∷◌, ◌++◌, length, get_or, All}
 use Rattle.std.specs.Prelude.{Option, Some, None}
 use Rattle.plan_types.specs.declared.posture.Posture.{Posture}
 use Rattle.plan_types.specs.declared.posture.Posture.TheVariants.{Closed, Moving, OpenIn, OpenOut}
@@ -8,7 +8,7 @@ use Rattle.plan_types.specs.declared.table.Way.{Way}
 use Rattle.plan_types.specs.declared.table.PlanZone.{PlanZone}
 use Rattle.plan_types.specs.declared.table.PlanPose.{PlanPose}
 use Rattle.plan_types.specs.Table.{PlanTable, plan_table, zone_row, pose_row, keeper_of, posture_of, is_moving_pose}
-use Rattle.plan_types.specs.Table.{transfer_of, no_zone, no_pose}
+use Rattle.plan_types.specs.Table.{transfer_of, no_zone, no_pose, has_pose, is_hosted, is_party, is_place_of, word_width}
 use Rattle.plan_types.specs.Plan.{IsPlan}
 use Rattle.plan_types.specs.Examples.{way, zone}
 use Rattle.plan_types.specs.Readings.{transfer}
@@ -61,6 +61,16 @@ pub record PosesByZone : Type 0 where
 -- a place of the tables that a machine keeps
 abbrev pub Keeps : PlanTable → ℕ → ℕ → Type 0
 Keeps t m p = (p < length t.places) × (get_or t.places p 0 ≡ m)
+
+-- who hosts a zone, is its party, keeps a place or has a pose: exactly those whom the row of this number names
+pub record RightsByRow (t : PlanTable) (m : ℕ) : Type 0 where
+  pub hosts : (z : ℕ) → (is_hosted t z m ≡ true) ↔ ((z < length t.zones) × ((get_or t.zones z no_zone).host ≡ m))
+  pub party : (z : ℕ) → (is_party t m z ≡ true) ↔ ((z < length t.zones)
+      × ((m ≡ (get_or t.zones z no_zone).host) ⊎ (m ≡ (get_or t.zones z no_zone).guest)))
+  pub keeps : (p : ℕ) → (is_place_of t p m ≡ true) ↔ Keeps t m p
+  pub poses : (p : ℕ) → (has_pose t m p ≡ true) ↔ ((p < length t.poses) × ((get_or t.poses p no_pose).machine ≡ m))
+  -- five bits for each zone, one for each place, twenty-one for the stamp and the stop
+  pub width : word_width t ≡ 5 * length t.zones + length t.places + 21
 
 -- a way, if there is one, starts at a place that one machine keeps, and ends at one that the other keeps
 abbrev pub GoesBetween : PlanTable → ℕ → ℕ → Option Way → Type 0

@@ -1,6 +1,7 @@
 //! Two plants as examples, what `Plan::new` says of faulty tables, and what tables tell.
 ghost use Rattle.std.specs.Prelude.{◌≡◌, IfOk};
-ghost use Rattle.plan_types.specs.Examples.{ExamplesArePlans, FaultsInOrder, FaultsTellRows, FirstFaults, LargestPlans, NoPlans};
+ghost use Rattle.plan_types.specs.Examples.{ExamplesArePlans, FaultsInOrder, FaultsTellRows};
+ghost use Rattle.plan_types.specs.Examples.{FirstFaults, LargestPlans, NoPlans};
 ghost use Rattle.plan_types.specs.Faults.{PlansHaveNoFault};
 ghost use Rattle.plan_types.specs.Readings.{TablesTell};
 ghost use Rattle.plan_types.specs.Examples as examples;

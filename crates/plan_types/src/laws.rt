@@ -1,5 +1,8 @@
 //! Laws of all tables, each the contract of a function that does nothing.
-ghost use Rattle.plan_types.specs.TableLaws.{RowsByNumber, TransfersByRow, PosesByZone, PlansKeepRules};
+ghost use Rattle.std.specs.Prelude.{ℕ};
+ghost use Rattle.plan_types.specs.FaultLaws.{FaultsAreTrue};
+ghost use Rattle.plan_types.specs.Table.{PlanTable};
+ghost use Rattle.plan_types.specs.TableLaws.{RowsByNumber, TransfersByRow, PosesByZone, PlansKeepRules, RightsByRow};
 
 /// In all tables a row's number is how many rows come before it; past the end stands a row that says nothing.
 pub fn rows_by_number()
@@ -15,6 +18,16 @@ pub fn transfers_by_row()
 /// In all tables a pose moves exactly if it gives some zone Moving.
 pub fn poses_by_zone()
     ensures { PosesByZone }
+{}
+
+/// In all tables who hosts a zone, is its party, keeps a place or has a pose is whom the row of this number names.
+pub fn rights_by_row()
+    ensures { (t : PlanTable) (m : ℕ) → RightsByRow t m }
+{}
+
+/// The fault that tables are told is one that they have, at the place, zone or pose that it names.
+pub fn faults_are_true()
+    ensures { FaultsAreTrue }
 {}
 
 /// Plans are the tables that keep the rules, said again on the rows themselves, and no others.
