@@ -1,5 +1,5 @@
 -- What is said of several is said of each.
-use Rattle.std.proofs.Common.{◌≡◌, ℕ, List, [], ◌∷◌, ◌++◌, refl, sym, ap, ◌∙◌, subst, append-nil}
+use Rattle.std.proofs.Common.{◌≡◌, ℕ, List, [], ◌∷◌, ◌++◌, refl, sym, ap, subst, append-nil}
 use Rattle.atomic_table.specs.Table.{Me}
 use Rattle.word_interlock.specs.RuleBook.{RuleBook}
 use Rattle.word_interlock.specs.History.{IsLawful, BeginsWith, Waits}
@@ -10,9 +10,9 @@ use Rattle.word_interlock.specs.declared.views.HistoryView.{HistoryView}
 use Rattle.word_interlock.specs.declared.views.SeatView.{SeatView}
 use Rattle.word_interlock.specs.declared.views.Moment.{Moment}
 use Rattle.word_interlock.specs.Views.{PassView}
-use Rattle.word_interlock.specs.Moments.{own_moments, AreInTime, IsInTime}
-use Rattle.word_interlock.specs.Rule.{AllFit, AllShow, AllTell, Fits, Tells, TellFirst, WordMoment, WordMomentOfAll}
-use Rattle.word_interlock.specs.Bunches.{bunch, AllHavePart, AllLawful, HasPart, IsBunch, IsEnd}
+use Rattle.word_interlock.specs.Moments.{own_moments, AreInTime}
+use Rattle.word_interlock.specs.Rule.{AllFit, AllShow, AllTell, WordMoment, WordMomentOfAll}
+use Rattle.word_interlock.specs.Bunches.{AllHavePart, AllLawful}
 use Rattle.word_interlock.specs.Calls.{SeenAfter}
 use Rattle.word_interlock.specs.Seen.{IsSamePass}
 use Rattle.word_interlock.specs.Settling.{IsLater, MadeCall, MakesCalls}

@@ -12,7 +12,7 @@ use Rattle.word_interlock.specs.declared.views.Moment.{Moment}
 use Rattle.word_interlock.specs.Views.{PassView}
 use Rattle.word_interlock.specs.Moments.{own_moments, AreInTime}
 use Rattle.word_interlock.specs.Rule.{AllFit, AllShow, AllTell, TellFirst, WordMoment, WordMomentOfAll}
-use Rattle.word_interlock.specs.Bunches.{AllHavePart, AllLawful, IsBunch, IsEnd}
+use Rattle.word_interlock.specs.Bunches.{AllHavePart, IsBunch, IsEnd}
 use Rattle.word_interlock.specs.Asked.{Asked}
 use Rattle.word_interlock.specs.Seen.{HasSeenMore}
 use Rattle.word_interlock.specs.Settling.{MadeCall, MakesCalls}
