@@ -34,7 +34,7 @@ moves true true e f = refl
 moves true false e f = cc
 moves false b e f = cc
 
-no_jump : (t : PlanTable) (s : State) (m p : ℕ) → Poses t s m p → (pose_row t p).after_moving ≡ true → (z : ℕ) → z < zone_count t → host_of t z ≡ m → posture_at s z ≡ Moving
+pub no_jump : (t : PlanTable) (s : State) (m p : ℕ) → Poses t s m p → (pose_row t p).after_moving ≡ true → (z : ℕ) → z < zone_count t → host_of t z ≡ m → posture_at s z ≡ Moving
 no_jump t s m p f after_moving z l host =
     let none = unless (pose_row t p).after_moving (any_below (stands_at t s m) (zone_count t)) f.no_jump after_moving in
     let own : nat_eq (host_of t z) m ≡ true = ap (nat_eq (host_of t z)) (sym host) ∙ nat_eq-self (host_of t z) in
@@ -51,10 +51,10 @@ concerned t s m p y z given host =
     let own : nat_eq (host_of t z) m ≡ true = ap (nat_eq (host_of t z)) (sym host) ∙ nat_eq-self (host_of t z) in
     both (nat_eq (host_of t z) m) (is_moving_pose t p) (not (same_posture (posture_with t s p z) (posture_at s z))) own (gives_moving t p y given)
 
-held : (t : PlanTable) (s : State) (m p y z : ℕ) → Poses t s m p → posture_of t p y ≡ Some Moving → z < zone_count t → host_of t z ≡ m → owner_of s z ≡ Some m
+pub held : (t : PlanTable) (s : State) (m p y z : ℕ) → Poses t s m p → posture_of t p y ≡ Some Moving → z < zone_count t → host_of t z ≡ m → owner_of s z ≡ Some m
 held t s m p y z f given l host = owner_is (owner_of s z) m (moves (is_concerned t s m p z) (owns s m z) (f.owned z l) (concerned t s m p y z given host))
 
-clear : (t : PlanTable) (s : State) (m p y z : ℕ) → Poses t s m p → posture_of t p y ≡ Some Moving → z < zone_count t → host_of t z ≡ m → (zone_at s z).flag ≡ false
+pub clear : (t : PlanTable) (s : State) (m p y z : ℕ) → Poses t s m p → posture_of t p y ≡ Some Moving → z < zone_count t → host_of t z ≡ m → (zone_at s z).flag ≡ false
 clear t s m p y z f given l host = unless (is_concerned t s m p z) (zone_at s z).flag (f.clear z l) (concerned t s m p y z given host)
 
 third : (a b c : Bool) → (a && not b && c) ≡ false → a ≡ true → b ≡ false → c ≡ false
@@ -62,7 +62,7 @@ third true false c e f g = e
 third true true c e f g = cc
 third false b c e f g = cc
 
-room : (t : PlanTable) (s : State) (p z : ℕ) (way : Transfer) → opens_onto_plate t s p z ≡ None → posture_of t p z ≡ Some OpenIn → posture_at s z ≢ OpenIn → transfer_of t z OpenIn ≡ Some way → plates_for t s way.to ≡ 0
+pub room : (t : PlanTable) (s : State) (p z : ℕ) (way : Transfer) → opens_onto_plate t s p z ≡ None → posture_of t p z ≡ Some OpenIn → posture_at s z ≢ OpenIn → transfer_of t z OpenIn ≡ Some way → plates_for t s way.to ≡ 0
 room t s p z way e gives other is =
     let opens : same_posture (posture_with t s p z) OpenIn ≡ true = ap (λ o. same_posture (unwrap_or o (posture_at s z)) OpenIn) gives in
     let shut = false_from_ne_true (same_posture (posture_at s z) OpenIn) (λ same. other (one_posture _ _ same)) in

@@ -19,3 +19,5 @@ mod OfLift
 mod HoldingRows
 mod PartRows
 mod FullPlaces
+mod DoneExactly
+mod Truth

@@ -34,7 +34,7 @@ refused_some : (o : Option Refusal) (a : Answer) (r : Refusal) → (a ≡ Refuse
 refused_some None a r none e = absurd (none e)
 refused_some (Some q) a r none e = cc
 
-refusal_of_reply : (t : PlanTable) (s : State) (m : ℕ) (c : Call) (r : Refusal) → reply t s m c ≡ Refused r → refusal t s m c ≡ Some r
+pub refusal_of_reply : (t : PlanTable) (s : State) (m : ℕ) (c : Call) (r : Refusal) → reply t s m c ≡ Refused r → refusal t s m c ≡ Some r
 refusal_of_reply t s m c r e = refused_some (refusal t s m c) (accepted s c) r (never_refused s c r) e
 
 pub refusals_tell : RefusalsTell

@@ -240,7 +240,7 @@ pub record BothGatesCauses : Type 0 where
   pub jump_by_second : AtBothGates (interior (Some 0) Moving false) (interior (Some 0) Closed false) 0 (SetPose 1)
       (Jump ∷ [])
 
--- the numbers of the refusals, and each order by name: what it names plays no part
+-- the numbers of the refusals, and each order by name, whatever a call or a refusal names
 abbrev pub HasOrder : Call → List Refusal → Type 0
 HasOrder c rs = order_of c ≡ map number_of rs
 
@@ -248,15 +248,18 @@ pub record OrdersByName : Type 0 where
   pub numbers : map number_of refusals
       ≡ 1 ∷ 2 ∷ 2 ∷ 2 ∷ 2 ∷ 3 ∷ 4 ∷ 4 ∷ 4 ∷ 4 ∷ 5 ∷ 5 ∷ 5 ∷ 5 ∷ 5 ∷ 6 ∷ 6 ∷ 6 ∷ 6 ∷ 7 ∷ 8 ∷ 9 ∷ 10 ∷ 12 ∷ 13 ∷ 14
       ∷ 15 ∷ []
-  pub claim : HasOrder (Claim 3) (NotParty ∷ Stopped ∷ AlreadyMine ∷ Held 2 ∷ Shut Closed ∷ Worn ∷ [])
-  pub give : HasOrder (Give 3)
+  pub held : (o : ℕ) → number_of (Held o) ≡ 2
+  pub not_owner : (o : Option ℕ) → number_of (NotOwner o) ≡ 5
+  pub plate : (z : ℕ) → number_of (PlateInZone z) ≡ 6
+  pub claim : (z : ℕ) → HasOrder (Claim z) (NotParty ∷ Stopped ∷ AlreadyMine ∷ Held 2 ∷ Shut Closed ∷ Worn ∷ [])
+  pub give : (z : ℕ) → HasOrder (Give z)
       (NotParty ∷ Stopped ∷ NotOwner None ∷ PlateInZone 3 ∷ WrongWay ∷ NoPlate ∷ PlaceFull ∷ Worn ∷ [])
-  pub yield : HasOrder (Yield 3) (NotParty ∷ NotOwner None ∷ PlateInZone 3 ∷ Shut Closed ∷ Worn ∷ [])
-  pub take : HasOrder (Take 3) (NotParty ∷ NotOwner None ∷ NoPlate ∷ Worn ∷ [])
-  pub release : HasOrder (Release 3) (NotParty ∷ NotOwner None ∷ PlateInZone 3 ∷ Shut Moving ∷ Worn ∷ [])
-  pub pose : HasOrder (SetPose 3)
+  pub yield : (z : ℕ) → HasOrder (Yield z) (NotParty ∷ NotOwner None ∷ PlateInZone 3 ∷ Shut Closed ∷ Worn ∷ [])
+  pub take : (z : ℕ) → HasOrder (Take z) (NotParty ∷ NotOwner None ∷ NoPlate ∷ Worn ∷ [])
+  pub release : (z : ℕ) → HasOrder (Release z) (NotParty ∷ NotOwner None ∷ PlateInZone 3 ∷ Shut Moving ∷ Worn ∷ [])
+  pub pose : (p : ℕ) → HasOrder (SetPose p)
       (NoPose ∷ Stopped ∷ NotOwner None ∷ PlateInZone 3 ∷ Jump ∷ PlaceFull ∷ Worn ∷ [])
-  pub inquire : HasOrder (Inquire 3) (NotParty ∷ [])
+  pub inquire : (z : ℕ) → HasOrder (Inquire z) (NotParty ∷ [])
   pub stop : HasOrder Stop (NotParty ∷ Stopped ∷ Worn ∷ [])
   pub resume : HasOrder Resume (NotParty ∷ NotStopped ∷ Worn ∷ [])
 

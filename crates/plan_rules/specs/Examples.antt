@@ -157,7 +157,7 @@ opening_two_presses =
     ∷ did 2 (SetPose 3) ∷ event 0 (Inquire 0) (Shown (Some 0) false OpenIn)
     ∷ event 0 (Inquire 1) (Shown (Some 2) false OpenIn) ∷ []
 
--- machine 0 hosts two gates, with a place behind each; machine 1 is the guest at the first, 2 at the second; places:
+-- machine 0 hosts two gates, each with a place beyond it; machine 1 is the guest at the first, 2 at the second; places:
 -- 0 and 1 machine 0's, 2 machine 1's, 3 machine 2's
 -- poses: 0 moves both gates, 1 opens both inward, after moving
 abbrev pub gates_table : PlanTable

@@ -17,3 +17,5 @@ pub mod LiftLaws
 pub mod HoldingExamples
 pub mod PartExamples
 pub mod PlaceLaws
+pub mod DoneLaws
+pub mod SayLaws

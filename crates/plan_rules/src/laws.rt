@@ -4,12 +4,14 @@
 ghost use Rattle.std.specs.Prelude.{◌++◌};
 ghost use Rattle.plan_rules.specs.Sound.{IsSound, IsStart};
 ghost use Rattle.plan_rules.specs.BrokenLaws.{LawsCanBeBroken};
+ghost use Rattle.plan_rules.specs.DoneLaws.{CallsAreDoneExactly};
 ghost use Rattle.plan_rules.specs.History.{IsLegal};
 ghost use Rattle.plan_rules.specs.Laws as law;
 ghost use Rattle.plan_rules.specs.Laws.{Throughout};
 ghost use Rattle.plan_rules.specs.LiftLaws.{LawsOfLift};
 ghost use Rattle.plan_rules.specs.PlaceLaws.{FullPlaces};
 ghost use Rattle.plan_rules.specs.RefusalLaws.{RefusalsTell};
+ghost use Rattle.plan_rules.specs.SayLaws.{RefusalsAreTrue};
 
 use crate::state::State;
 use plan_types::{Event, Plan};
@@ -120,6 +122,19 @@ pub fn handover_by_holder(plan: &Plan, opening: &State, history: &[Event])
 /// comes before it in the call's order.
 pub fn refusals_tell_causes()
     ensures { RefusalsTell }
+{}
+
+/// In all tables and states each call is Done exactly if what its caller needs is there: the zones that it has to own or
+/// find free, no plate in them or one, a plate's way and its places, the postures, the plant running, stamps left. An
+/// inquiry about a zone of the plan shows the zone.
+pub fn calls_are_done_exactly()
+    ensures { CallsAreDoneExactly }
+{}
+
+/// In all tables and states a call that is refused is told what is so: of its zone, or if it is a pose of a zone that its
+/// machine hosts.
+pub fn refusals_are_true()
+    ensures { RefusalsAreTrue }
 {}
 
 /// In all tables and states a place counts as full exactly if it has a plate, or if a plate is in a zone of the plan
