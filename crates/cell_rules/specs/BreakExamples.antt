@@ -188,8 +188,8 @@ pub record BenchExamples : Type 0 where
   pub out_of_memory_while_busy : ¬ BenchAsks busy_desk (Release Z3) (Err Memory) busy_desk
   pub changed_without_memory : ¬ BenchAsks (desk Press) (Release Z3) (Err Memory) (record (desk Press) { history = [] })
 
--- at any bench a call that isn't made changes nothing; one that is answered leaves opening, caller and seat as they are,
--- and a history that leads to the state
+-- at any bench a call that isn't made changes nothing; one that is answered leaves the opening and the caller as they
+-- are, and a history that leads to the state
 pub record AnyBench (b d : Desk) (c : Call) : Type 0 where
   pub busy : (lost stamp : ℕ) → BenchAsks b c (Ok (Busy lost stamp)) d → d ≡ b
   pub out_of_memory : (fault : LineFault) → BenchAsks b c (Err fault) d → d ≡ b

@@ -1,4 +1,4 @@
--- What each refusal says, in all states of all tables: a call that is refused is told what is so.
+-- What each refusal says, in all states of all tables: it is so.
 use Rattle.std.specs.Prelude.{◌≡◌, ◌≢◌, ◌⊎◌, ℕ, ◌<◌, ◌≤◌, true, false, Some}
 use Rattle.plan_types.specs.declared.posture.Posture.TheVariants.{Closed, Moving, OpenIn}
 use Rattle.plan_types.specs.declared.table.Transfer.{Transfer}

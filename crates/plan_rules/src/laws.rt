@@ -124,15 +124,15 @@ pub fn refusals_tell_causes()
     ensures { RefusalsTell }
 {}
 
-/// In all tables and states each call is Done exactly if what its caller needs is there: the zones that it has to own or
-/// find free, no plate in them or one, a plate's way and its places, the postures, the plant running, stamps left. An
-/// inquiry about a zone of the plan shows the zone.
+/// In all tables and states each call is Done exactly if what its caller needs is there: the zones that it has to own
+/// or find free, a plate in them or none, a plate's way and its places, the postures, the plant running, stamps left.
+/// An inquiry about a zone of the plan shows the zone.
 pub fn calls_are_done_exactly()
     ensures { CallsAreDoneExactly }
 {}
 
-/// In all tables and states a call that is refused is told what is so: of its zone, or if it is a pose of a zone that its
-/// machine hosts.
+/// In all tables and states what a refusal says is so, of the call's zone, or for a pose of a zone that its machine
+/// hosts.
 pub fn refusals_are_true()
     ensures { RefusalsAreTrue }
 {}

@@ -1,4 +1,4 @@
--- The fault that tables are told is one that they have.
+-- A fault that is found in tables is there.
 use Rattle.std.proofs.Common.{◌≡◌, ℕ, zero, suc, ◌-◌, ◌<◌, ◌≤◌, Bool, true, false, not, nat_eq, nat_lt, nat_le, Option, Some, None, is_some, refl, subst, arith, inl, inr, eq-eqb}
 use Rattle.std.specs.Bool.{then_some}
 use Rattle.std.proofs.lemmas.Bool.{cases_lt, eqb-true, lt-ltb, le-leb}

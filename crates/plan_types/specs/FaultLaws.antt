@@ -1,4 +1,4 @@
--- What each fault says, on the rows themselves: the tables that are told a fault have it.
+-- What each fault says, on the rows themselves: a fault that is found in tables is there.
 use Rattle.std.specs.Prelude.{◌≡◌, ℕ, ◌+◌, ◌*◌, ◌<◌, ◌≤◌, length, get_or, Some, None}
 use Rattle.plan_types.specs.declared.posture.Posture.{Posture}
 use Rattle.plan_types.specs.declared.fault.PlanFault.{PlanFault}
@@ -19,7 +19,7 @@ OfZone t z breaks = (z < length t.zones) × breaks (get_or t.zones z no_zone)
 abbrev pub OfPose : PlanTable → ℕ → (PlanPose → Type 0) → Type 0
 OfPose t p breaks = (p < length t.poses) × breaks (get_or t.poses p no_pose)
 
--- a pose gives a zone a posture, though the zone isn't in the tables or its host is another machine
+-- a pose gives a zone a posture, but the zone isn't in the tables, or another machine hosts it
 abbrev pub GivesForeign : PlanTable → ℕ → PlanPose → Type 0
 GivesForeign t z row =
     (z < 10) × (q : Posture) × (get_or row.gives z None ≡ Some q)

@@ -8,7 +8,8 @@ use Rattle.plan_types.specs.declared.table.Way.{Way}
 use Rattle.plan_types.specs.declared.table.PlanZone.{PlanZone}
 use Rattle.plan_types.specs.declared.table.PlanPose.{PlanPose}
 use Rattle.plan_types.specs.Table.{PlanTable, plan_table, zone_row, pose_row, keeper_of, posture_of, is_moving_pose}
-use Rattle.plan_types.specs.Table.{transfer_of, no_zone, no_pose, has_pose, is_hosted, is_party, is_place_of, word_width}
+use Rattle.plan_types.specs.Table.{transfer_of, no_zone, no_pose, has_pose, is_hosted, is_party, is_place_of}
+use Rattle.plan_types.specs.Table.{word_width}
 use Rattle.plan_types.specs.Plan.{IsPlan}
 use Rattle.plan_types.specs.Examples.{way, zone}
 use Rattle.plan_types.specs.Readings.{transfer}

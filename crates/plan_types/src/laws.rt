@@ -25,7 +25,7 @@ pub fn rights_by_row()
     ensures { (t : PlanTable) (m : ℕ) → RightsByRow t m }
 {}
 
-/// The fault that tables are told is one that they have, at the place, zone or pose that it names.
+/// A fault that is found in tables is there, at the place, zone or pose that it names.
 pub fn faults_are_true()
     ensures { FaultsAreTrue }
 {}
