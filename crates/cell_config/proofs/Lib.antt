@@ -11,3 +11,4 @@ mod SectionOrder
 mod ConfigRows
 mod PartRows
 mod SectionRows
+mod Refusals

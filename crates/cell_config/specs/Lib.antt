@@ -9,3 +9,4 @@ pub mod ConfigExamples
 pub mod SectionExamples
 pub mod ConfigLaws
 pub mod PartExamples
+pub mod RefusalLaws

@@ -58,7 +58,8 @@ pub record KeyExamples : Type 0 where
   pub section : map (is_one_of section_keys) (codes "arm1" ∷ codes "arm2" ∷ codes "rotation" ∷ codes "turn"
       ∷ codes "gripper" ∷ codes "crane" ∷ codes "arm3" ∷ [])
       ≡ true ∷ true ∷ true ∷ true ∷ true ∷ false ∷ false ∷ []
-  pub inner : map (is_one_of inner_keys) (codes "raw" ∷ codes "tol" ∷ codes "points" ∷ codes "start" ∷ codes "point" ∷ [])
+  pub inner : map (is_one_of inner_keys) (codes "raw" ∷ codes "tol" ∷ codes "points" ∷ codes "start"
+      ∷ codes "point" ∷ [])
       ≡ true ∷ true ∷ true ∷ false ∷ false ∷ []
   pub two_entries : entries (five (codes "a") (member (codes "b") (integer (pos 6)) no_members))
       ≡ (codes "a", integer (pos 5)) ∷ (codes "b", integer (pos 6)) ∷ []

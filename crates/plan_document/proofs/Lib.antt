@@ -10,3 +10,5 @@ mod PlanRows
 mod ReadingRows
 mod MotorRows
 mod PlanLaws
+mod TableLaws
+mod ReadingLaws

@@ -32,7 +32,7 @@ use Rattle.plan_document.specs.WordExamples.{parked}
 pub impossible : false ≡ true → ⊥
 impossible e = cc
 
-both : (a b : Bool) → (a && b) ≡ true → (a ≡ true) × (b ≡ true)
+pub both : (a b : Bool) → (a && b) ≡ true → (a ≡ true) × (b ≡ true)
 both true b e = (refl, e)
 both false b e = absurd (cc)
 

@@ -8,6 +8,8 @@ pub mod Reading
 pub mod Laws
 pub mod NameLaws
 pub mod PlanLaws
+pub mod TableLaws
+pub mod ReadingLaws
 pub mod WordExamples
 pub mod PlanExamples
 pub mod MotorExamples

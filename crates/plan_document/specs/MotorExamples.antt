@@ -17,7 +17,8 @@ use Rattle.plan_document.specs.declared.document.PostureRow.{PostureRow}
 use Rattle.plan_document.specs.declared.resolving.ProgrammedPlan.{ProgrammedPlan}
 use Rattle.plan_document.specs.Motors.{IsHazardOf, IsMotorOf, held_need, need}
 use Rattle.plan_document.specs.PlanExamples.{AreApart, Gives, letters}
-use Rattle.plan_document.specs.Reading.{ArePostures, IsDocumentIn, IsHazardIn, IsMotorIn, HasRows, items_at, pair, written}
+use Rattle.plan_document.specs.Reading.{ArePostures, IsDocumentIn, IsHazardIn, IsMotorIn, HasRows, items_at, written}
+use Rattle.plan_document.specs.ReadingExamples.{two_items}
 use Rattle.plan_document.specs.Saying.{IsPlanOf}
 
 -- ---- rows
@@ -114,11 +115,13 @@ pub record MotorsAreIn (members : Members) (row : MotorRow) (is : IsMotorIn (tab
 
 pub record HazardsAreIn (members : Members) (row : HazardRow) (is : IsHazardIn (table members) row) : Type 0 where
   pub name : get_member (codes "name") members ≡ Some (string (string_bytes row.name))
-  pub motors : get_member (codes "motors") members ≡ Some (pair row.first row.second)
+  pub motors : get_member (codes "motors") members
+      ≡ Some (two_items (string (string_bytes row.first)) (string (string_bytes row.second)))
 
 pub record RowsAreOfMotors : Type 0 where
   pub motors : (members : Members) (row : MotorRow) (is : IsMotorIn (table members) row) → MotorsAreIn members row is
-  pub hazards : (members : Members) (row : HazardRow) (is : IsHazardIn (table members) row) → HazardsAreIn members row is
+  pub hazards : (members : Members) (row : HazardRow) (is : IsHazardIn (table members) row)
+      → HazardsAreIn members row is
   pub no_motor : (text : Text) (row : MotorRow) → IsMotorIn (string text) row → ⊥
   pub no_hazard : (text : Text) (row : HazardRow) → IsHazardIn (string text) row → ⊥
   pub unknown : (value : Data) (members : Members) (row : MotorRow)

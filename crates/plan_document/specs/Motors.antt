@@ -52,7 +52,8 @@ pub record AreNeeds (zones : List Text) (row : MotorRow) (needs : List ZoneNeed)
   pub holds_known : IsTrue (list_all (gives_zone held_need zones) row.holds.items)
   pub stands_known : IsTrue (list_all (gives_zone posture_of zones) row.stands.items)
   pub apart : (zone : ℕ) → zone < 10
-      → IsTrue (is_under_one (given held_need zones row.holds.items zone) (given posture_of zones row.stands.items zone))
+      → IsTrue (is_under_one (given held_need zones row.holds.items zone)
+      (given posture_of zones row.stands.items zone))
   pub each : (zone : ℕ) → zone < 10 → get_or needs zone no_need
       ≡ need (given held_need zones row.holds.items zone) (given posture_of zones row.stands.items zone)
 
@@ -97,8 +98,8 @@ pub record IsHazardOf (motors : List Text) (row : HazardRow) (hazard : Hazard) :
   pub first : number_in motors (string_bytes row.first) ≡ Some hazard.first
   pub second : number_in motors (string_bytes row.second) ≡ Some hazard.second
 
--- each table has a row for each row of the document, in which names are looked up, and the rows fit the plan; motors have
--- names, and hazards titles, which are told apart
+-- each table has a row for each row of the document, in which names are looked up, and the rows fit the plan; motors
+-- have names, and hazards titles, which are told apart
 pub record AreNamedMotorsOf (d : Document) (n : Named) (m : NamedMotors) : Type 0 where
   pub spelled_motors : AreNames m.names
   pub spelled_hazards : IsTrue (list_all is_title m.hazard_names)

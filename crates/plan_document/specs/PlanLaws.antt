@@ -1,6 +1,6 @@
 -- Laws of what plans say of their documents: each row of a document, wherever it stands, has its names in the plan.
-use Rattle.std.specs.Prelude.{◌≡◌, ℕ, ◌<◌, ◌+◌, true, false, List, [], ◌∷◌, ◌++◌, codes, length}
-use Rattle.std.specs.Prelude.{String, string_bytes, Some, None}
+use Rattle.std.specs.Prelude.{◌≡◌, ◌≢◌, ℕ, ◌<◌, ◌+◌, ◌⊎◌, true, false, List, ◌∷◌, ◌++◌, codes, length}
+use Rattle.std.specs.Prelude.{String, string_bytes, Some, None, is_some, IsTrue}
 use Rattle.std.specs.declared.alloc.Global.{Global}
 use Rattle.plan_types.specs.declared.posture.Posture.{Posture}
 use Rattle.plan_types.specs.declared.table.Way.{Way}
@@ -23,7 +23,7 @@ use Rattle.plan_document.specs.declared.resolving.ProgrammedPlan.{ProgrammedPlan
 use Rattle.plan_document.specs.Names.{pose_names}
 use Rattle.plan_document.specs.Saying.{IsNamedPlanOf, IsPlanOf}
 
--- a list has an item, after so many others
+-- a list has an item with a number, from 0
 pub record StandsAt {A : Type 0} (items : List A) (number : ℕ) (one : A) : Type 0 where
   pub before : List A
   pub after : List A
@@ -67,10 +67,28 @@ ZonesHaveNames =
 
 -- ---- poses
 
--- the last row about a zone
-abbrev pub IsLast : Named → List PostureRow → ℕ → PostureRow → Type 0
-IsLast n rows zone row =
-    (before : List PostureRow) × (rows ≡ before ++ row ∷ []) × (number_in n.zones (string_bytes row.zone) ≡ Some zone)
+-- a row is about a zone
+abbrev pub IsOfZone : Named → ℕ → PostureRow → Type 0
+IsOfZone n zone row = number_in n.zones (string_bytes row.zone) ≡ Some zone
+
+-- none of these rows is about a zone
+abbrev pub AreOfOthers : Named → ℕ → List PostureRow → Type 0
+AreOfOthers n zone rows = (number : ℕ) (row : PostureRow) → StandsAt rows number row → IsOfZone n zone row → ⊥
+
+-- a row is the last of these about a zone, wherever it stands
+pub record IsLast (n : Named) (rows : List PostureRow) (zone : ℕ) (row : PostureRow) : Type 0 where
+  pub before : List PostureRow
+  pub after : List PostureRow
+  pub is : rows ≡ before ++ row ∷ after
+  pub about : IsOfZone n zone row
+  pub others : AreOfOthers n zone after
+
+-- a row has the name of a zone
+abbrev pub HasZoneName : Named → PostureRow → Type 0
+HasZoneName n row = IsTrue (is_some (number_in n.zones (string_bytes row.zone)))
+
+abbrev pub HasPostureWord : PostureRow → Type 0
+HasPostureWord row = IsTrue (is_some (answers.posture_of (string_bytes row.posture)))
 
 pub record PoseHasName (n : Named) (pose owner : ℕ) (row : PoseRow) : Type 0 where
   pub name : name_in n.poses pose ≡ string_bytes row.name
@@ -79,6 +97,9 @@ pub record PoseHasName (n : Named) (pose owner : ℕ) (row : PoseRow) : Type 0 w
   -- up to the last of ten zones
   pub gives : (zone : ℕ) (one : PostureRow) (posture : Posture) → zone < 10 → IsLast n row.gives.items zone one
       → answers.posture_of (string_bytes one.posture) ≡ Some posture → posture_of n.plan pose zone ≡ Some posture
+  pub gives_none : (zone : ℕ) → zone < 10 → AreOfOthers n zone row.gives.items → posture_of n.plan pose zone ≡ None
+  pub known : (number : ℕ) (one : PostureRow) → StandsAt row.gives.items number one
+      → HasZoneName n one × HasPostureWord one
 
 -- a machine's poses come after those of the machines before it
 abbrev pub PosesHaveNames : Type 0
@@ -88,6 +109,15 @@ PosesHaveNames =
     → PoseHasName n (length (pose_names here.before) + nth) machine pose
 
 -- ---- motors and hazards
+
+abbrev pub HasPlaceName : Named → String Global → Type 0
+HasPlaceName n name = IsTrue (is_some (number_in n.places (string_bytes name)))
+
+-- none of these names is that of a place
+abbrev pub AreOfOtherPlaces : Named → ℕ → List (String Global) → Type 0
+AreOfOtherPlaces n place names =
+    (number : ℕ) (name : String Global) → StandsAt names number name
+    → number_in n.places (string_bytes name) ≢ Some place
 
 pub record MotorHasNeeds (n : Named) (row : MotorRow) (motor : Motor) : Type 0 where
   pub machine : name_in n.machines motor.machine ≡ string_bytes row.machine
@@ -105,6 +135,22 @@ pub record MotorHasNeeds (n : Named) (row : MotorRow) (motor : Motor) : Type 0 w
       → number_in n.places (string_bytes name) ≡ Some place → place_need motor place ≡ Some true
   pub empty : (place nth : ℕ) (name : String Global) → place < 16 → StandsAt row.empty.items nth name
       → number_in n.places (string_bytes name) ≡ Some place → place_need motor place ≡ Some false
+  -- what no row names isn't needed, and nothing is named under two keys
+  pub no_zone : (zone : ℕ) → zone < 10 → AreOfOthers n zone row.holds.items → AreOfOthers n zone row.stands.items
+      → need_of motor zone ≡ record { holds = false; posture = None }
+  pub no_place : (place : ℕ) → place < 16 → AreOfOtherPlaces n place row.full.items
+      → AreOfOtherPlaces n place row.empty.items → place_need motor place ≡ None
+  pub zone_once : (zone i j : ℕ) (a b : PostureRow) → zone < 10 → StandsAt row.holds.items i a → IsOfZone n zone a
+      → StandsAt row.stands.items j b → IsOfZone n zone b → ⊥
+  pub place_once : (place i j : ℕ) (a b : String Global) → place < 16 → StandsAt row.full.items i a
+      → number_in n.places (string_bytes a) ≡ Some place → StandsAt row.empty.items j b
+      → number_in n.places (string_bytes b) ≡ Some place → ⊥
+  pub known_holds : (number : ℕ) (one : PostureRow) → StandsAt row.holds.items number one
+      → HasZoneName n one × ((string_bytes one.posture ≡ codes "any") ⊎ HasPostureWord one)
+  pub known_stands : (number : ℕ) (one : PostureRow) → StandsAt row.stands.items number one
+      → HasZoneName n one × HasPostureWord one
+  pub known_full : (number : ℕ) (name : String Global) → StandsAt row.full.items number name → HasPlaceName n name
+  pub known_empty : (number : ℕ) (name : String Global) → StandsAt row.empty.items number name → HasPlaceName n name
 
 abbrev pub MotorsHaveNeeds : Type 0
 MotorsHaveNeeds =

@@ -4,9 +4,19 @@ ghost use Rattle.plan_document.specs.MotorExamples.{MotorsAreMet};
 ghost use Rattle.plan_document.specs.NameLaws.{NamedPlansHaveWords};
 ghost use Rattle.plan_document.specs.PlanExamples as plans;
 ghost use Rattle.plan_document.specs.PlanLaws as plan_laws;
+ghost use Rattle.plan_document.specs.Reading as reading;
 ghost use Rattle.plan_document.specs.ReadingExamples.{RowsAreRead};
+ghost use Rattle.plan_document.specs.ReadingLaws as reading_laws;
+ghost use Rattle.plan_document.specs.TableLaws as table_laws;
 ghost use Rattle.plan_document.specs.WordExamples as words;
+ghost use Rattle.plan_document.specs.declared.document.PostureRow.{PostureRow};
+ghost use Rattle.plan_document.specs.declared.document.WayRow.{WayRow};
+ghost use Rattle.plan_document.specs.declared.fault.Key.{Key};
+ghost use Rattle.plan_text.specs.Names.{Text};
+ghost use Rattle.std.specs.Prelude.{Bool, List};
+ghost use Rattle.toml.specs.Data.{Data, Items, Members};
 
+use plan_text::laws::{calls_are_told_as_read, own_poses_come_first};
 use plan_rules::laws::refusals_tell_causes;
 
 /// A line that is refused because it is never done is done in no sound state of the plan.
@@ -35,6 +45,39 @@ pub fn rows_have_names()
     ensures poses { plan_laws.PosesHaveNames }
     ensures motors { plan_laws.MotorsHaveNeeds }
     ensures hazards { plan_laws.HazardsHaveNames }
+{}
+
+/// Each table has as many rows as the document, and each row a name; all are names, and no two of one kind are the same,
+/// of poses no two for C.
+pub fn plans_have_counts_and_names()
+    ensures counts { table_laws.PlansHaveCounts }
+    ensures names { table_laws.PlansHaveNames }
+    ensures for_c { table_laws.PosesAreTwoForC }
+{}
+
+/// The program of each machine has a call for each line of its row, and the text of the call is the line.
+pub fn programs_have_lines()
+    ensures { table_laws.ProgramsHaveLines }
+{
+    calls_are_told_as_read();
+    own_poses_come_first();
+}
+
+/// Each item of a list is read as a row, and no other; of a table each member is looked at.
+pub fn lists_are_read()
+    ensures machines { reading_laws.ItemsAreRows reading.IsMachineIn }
+    ensures poses { reading_laws.ItemsAreRows reading.IsPoseIn }
+    ensures zones { reading_laws.ItemsAreRows reading.IsZoneIn }
+    ensures motors { reading_laws.ItemsAreRows reading.IsMotorIn }
+    ensures hazards { reading_laws.ItemsAreRows reading.IsHazardIn }
+    ensures items { (value : Data) (items : Items) (rest : List Data)
+        → reading_laws.ListsHaveItems value items rest }
+    ensures keys { (keys : List Key) (key : Key) (name : Text) (value : Data) (members : Members)
+        → reading_laws.KeysAreLookedAt keys key name value members }
+    ensures postures { (row : PostureRow) (rows : List PostureRow) (value : Data)
+        → reading_laws.PosturesAreWritten row rows value }
+    ensures values { (value : Data) (truth : Bool) (row : WayRow)
+        → reading_laws.ValuesAreWritten value truth row }
 {}
 
 /// Which lines of three machines at a zone with one way are accepted.

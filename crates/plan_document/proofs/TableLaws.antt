@@ -1,0 +1,233 @@
+-- How many rows a plan has, which names they have, and which calls its programs have.
+use Rattle.std.proofs.Common.{◌≡◌, ◌∙◌, ◌+◌, ◌<◌, ◌++◌, ◌∷◌, [], ℕ, Bool, true, false, ◌&&◌, not, List, codes, length, map, get_or, replicate, sum, refl, sym, ap, subst, arith, string_bytes}
+use Rattle.std.proofs.Common.{Option, Some, None, is_some, option_map}
+use Rattle.std.proofs.lemmas.List.{get_or_append_left, length-append, length-map, length-replicate, map-append}
+use Rattle.std.proofs.lemmas.List.Folds.{list_all_at}
+use Rattle.std.proofs.lemmas.List.FromFn.{length-enumerate_from}
+use Rattle.std.proofs.lemmas.List.Sums.{sum-map, sum_by-cons}
+use Rattle.std.proofs.lemmas.Slice.Zip.{AllZip-long}
+use Rattle.std.specs.List.{AllZip, enumerate_from, flat_map, list_all, sum_by}
+use Rattle.std.specs.Prelude.{String}
+use Rattle.std.specs.declared.alloc.Global.{Global}
+use Rattle.plan_types.specs.declared.call.Call.{Call}
+use Rattle.plan_types.specs.declared.call.Call.TheVariants.{SetPose}
+use Rattle.plan_text.specs.Calls.{call_text, own_pose, words}
+use Rattle.plan_text.specs.Laws.{CallsAreToldAsRead, OwnPosesComeFirst}
+use Rattle.plan_text.specs.Named.{Named}
+use Rattle.plan_text.specs.Names.{Text, is_name, is_reserved, name_in, number_in}
+use Rattle.plan_text.specs.declared.calls.Verb.{Verb}
+use Rattle.plan_text.specs.declared.calls.Verb.TheVariants as verbs
+use Rattle.plan_document.specs.declared.document.Document.{Document}
+use Rattle.plan_document.specs.declared.document.HazardRow.{HazardRow}
+use Rattle.plan_document.specs.declared.document.MachineRow.{MachineRow}
+use Rattle.plan_document.specs.declared.document.MotorRow.{MotorRow}
+use Rattle.plan_document.specs.declared.document.PoseRow.{PoseRow}
+use Rattle.plan_document.specs.declared.document.ZoneRow.{ZoneRow}
+use Rattle.plan_document.specs.declared.resolving.ProgrammedPlan.{ProgrammedPlan}
+use Rattle.plan_document.specs.Motors.{IsHazardOf, IsMotorOf}
+use Rattle.plan_document.specs.Names.{AreDistinct, all_poses, identifier, identifiers, identifiers_in, is_title, names_in, numbered, numbered_poses, place_names, places_in, pose_names}
+use Rattle.plan_document.specs.PlanLaws.{StandsAt}
+use Rattle.plan_document.specs.Saying.{AreCallsOf, IsCallOf, IsNamedPlanOf, IsPlanOf, IsPoseOf, IsProgramOf, IsZoneOf, is_free, keepers, may_be_done, own_call}
+use Rattle.plan_document.specs.TableLaws.{NamesAreSpelled, NamesAreTwo, NamesHaveCounts, PlansHaveCounts, PlansHaveNames, PosesAreTwoForC, ProgramHasLines, ProgramsHaveLines, RowsAreNamed, TablesHaveCounts}
+use Rattle.plan_document.proofs.PlanLaws.{all_at, as_many, flat_seam, own_number, own_place, seam, zipped}
+use Rattle.plan_document.proofs.PlanRows.{are_apart, impossible}
+
+-- ---- counts
+
+-- what all rows have is as much as the sum of what each has
+pub summed : {X A : Type 0} (g : X → List A) (many : X → ℕ) → ((x : X) → length (g x) ≡ many x) → (xs : List X) → length (flat_map g xs) ≡ sum (map many xs)
+summed {X} {A} g many same xs = by xs ∙ sym (sum-map many xs)
+  where
+    by : (xs : List X) → length (flat_map g xs) ≡ sum_by many xs
+    by [] = refl
+    by (x ∷ xs) = length-append (g x) (flat_map g xs) ∙ rw (same x, by xs) (sym (sum_by-cons many x xs))
+
+place_total : (machines : List MachineRow) → length (place_names machines) ≡ sum (map (λ row. length row.places.items) machines)
+place_total machines = summed places_in (λ row. length row.places.items) (λ row. length-map row.places.items string_bytes) machines
+
+pose_total : (machines : List MachineRow) → length (pose_names machines) ≡ sum (map (λ row. length row.poses.items) machines)
+pose_total machines =
+    summed (λ (row : MachineRow). names_in row.poses.items) (λ row. length row.poses.items) (λ row. length-map row.poses.items (λ (p : PoseRow). string_bytes p.name)) machines
+
+keeper_total : (machines : List MachineRow) → length (keepers machines) ≡ length (place_names machines)
+keeper_total machines =
+    as_many (λ (r : ℕ × MachineRow). replicate (length r.1.places.items) r.0) places_in
+    (λ k row. length-replicate (length row.places.items) k ∙ sym (length-map row.places.items string_bytes)) 0 machines
+
+all_pose_total : (machines : List MachineRow) → length (all_poses machines) ≡ length (pose_names machines)
+all_pose_total machines =
+    as_many (λ (r : ℕ × MachineRow). numbered_poses r.0 r.1.poses.items) (λ (row : MachineRow). names_in row.poses.items)
+    (λ k row. length-map {B = ℕ × PoseRow} row.poses.items (λ (p : PoseRow). (k, p)) ∙ sym (length-map row.poses.items (λ (p : PoseRow). string_bytes p.name))) 0 machines
+
+counts_of : (d : Document) (p : ProgrammedPlan) → IsPlanOf d p → TablesHaveCounts d p
+counts_of d p is = record {
+  machines = is.named.machines;
+  zones = AllZip-long (IsZoneOf p.named.machines p.named.places) d.zones.items p.named.plan.zones is.named.zones;
+  places = ap length is.named.places ∙ keeper_total d.machines.items ∙ place_total d.machines.items;
+  poses =
+      AllZip-long (IsPoseOf p.named.zones) (all_poses d.machines.items) p.named.plan.poses is.named.poses
+      ∙ all_pose_total d.machines.items
+      ∙ pose_total d.machines.items;
+  programs =
+      AllZip-long (IsProgramOf p.named) (numbered d.machines.items) p.programs is.programs ∙ length-enumerate_from 0 d.machines.items;
+  motors = AllZip-long (IsMotorOf p.named) d.motors.items p.motors.motors.items is.motors.motors;
+  hazards = AllZip-long (IsHazardOf p.motors.names) d.hazards.items p.motors.hazards.items is.motors.hazards;
+}
+
+pub counted : PlansHaveCounts
+counted d p is = (all, record {
+  machines = ap length is.named.named_machines ∙ length-map d.machines.items (λ (r : MachineRow). string_bytes r.name) ∙ sym all.machines;
+  zones = ap length is.named.named_zones ∙ length-map d.zones.items (λ (r : ZoneRow). string_bytes r.name) ∙ sym all.zones;
+  places = ap length is.named.named_places ∙ place_total d.machines.items ∙ sym all.places;
+  poses = ap length is.named.named_poses ∙ pose_total d.machines.items ∙ sym all.poses;
+  motors = ap length is.motors.named_motors ∙ length-map d.motors.items (λ (r : MotorRow). string_bytes r.name) ∙ sym all.motors;
+  hazards = ap length is.motors.named_hazards ∙ length-map d.hazards.items (λ (r : HazardRow). string_bytes r.name) ∙ sym all.hazards;
+})
+  where
+    all : TablesHaveCounts d p
+    all = counts_of d p is
+
+-- ---- names
+
+-- the name with the number of a row is that of the row
+named_at : {A : Type 0} (f : A → Text) (xs : List A) (names : List Text) (i : ℕ) (x : A) → names ≡ map f xs → StandsAt xs i x → name_in names i ≡ f x
+named_at f xs names i x is here =
+    ap (λ ns. name_in ns i) (is ∙ ap (map f) here.is ∙ map-append f here.before (x ∷ here.after))
+    ∙ seam (map f here.before) (f x) (map f here.after) [] i (length-map here.before f ∙ here.count)
+
+rows_named : (d : Document) (p : ProgrammedPlan) → IsPlanOf d p → RowsAreNamed d p
+rows_named d p is = record {
+  machines = λ i row here. named_at (λ (r : MachineRow). string_bytes r.name) d.machines.items p.named.machines i row is.named.named_machines here;
+  places = λ i nth row name here named. ap (λ (o : Option ℕ). is_some o) (own_place p.named d.machines.items is.named.distinct_places is.named.named_places i row here nth name named);
+  motors = λ i row here. named_at (λ (r : MotorRow). string_bytes r.name) d.motors.items p.motors.names i row is.motors.named_motors here;
+  hazards = λ i row here. named_at (λ (r : HazardRow). string_bytes r.name) d.hazards.items p.motors.hazard_names i row is.motors.named_hazards here;
+}
+
+-- each name passes the test that all pass
+passes : (test : Text → Bool) (names : List Text) (i : ℕ) → list_all test names ≡ true → i < length names → test (name_in names i) ≡ true
+passes test names i all within = by (test (name_in names i)) refl
+  where
+    by : (b : Bool) → test (name_in names i) ≡ b → test (name_in names i) ≡ true
+    by true is = is
+    by false is = absurd (impossible (sym (list_all_at test names i [] within is) ∙ all))
+
+not_true : (b : Bool) → not b ≡ true → b ≡ false
+not_true true e = absurd (impossible e)
+not_true false e = refl
+
+spelled : (d : Document) (p : ProgrammedPlan) → IsPlanOf d p → (number : ℕ) → NamesAreSpelled p number
+spelled d p is number = record {
+  machine = passes is_name p.named.machines number is.named.spelled_machines;
+  free = λ within. not_true (is_reserved (name_in p.named.machines number)) (passes is_free p.named.machines number is.named.free within);
+  zone = passes is_name p.named.zones number is.named.spelled_zones;
+  place = passes is_name p.named.places number is.named.spelled_places;
+  pose = passes is_name p.named.poses number is.named.spelled_poses;
+  motor = passes is_name p.motors.names number is.motors.spelled_motors;
+  hazard = passes is_title p.motors.hazard_names number is.motors.spelled_hazards;
+}
+
+pub named : PlansHaveNames
+named d p is = (rows_named d p is, spelled d p is, λ i j. record {
+  machines = are_apart p.named.machines is.named.distinct_machines i j;
+  zones = are_apart p.named.zones is.named.distinct_zones i j;
+  places = are_apart p.named.places is.named.distinct_places i j;
+  motors = are_apart p.motors.names is.motors.distinct_motors i j;
+  hazards = are_apart p.motors.hazard_names is.motors.distinct_hazards i j;
+})
+
+-- a pose's name for C has the pose's number
+c_number : (machines : List MachineRow) → AreDistinct (identifiers machines) → (i : ℕ) (row : MachineRow) (here : StandsAt machines i row) (k : ℕ) (pose : PoseRow) → StandsAt row.poses.items k pose
+    → number_in (identifiers machines) (identifier (string_bytes row.name) (string_bytes pose.name)) ≡ Some (length (pose_names here.before) + k)
+c_number machines distinct i row here k pose nth =
+    own_number (identifiers machines) (flat_map ids here.before ++ identifiers_in (string_bytes row.name) nth.before) _ _ _ distinct
+    (flat_seam (λ (r : MachineRow). r.poses.items) (λ r p. identifier (string_bytes r.name) (string_bytes p.name)) machines i row here k pose nth)
+    (length-append (flat_map ids here.before) (identifiers_in (string_bytes row.name) nth.before) ∙ rw (total, own) refl)
+  where
+    ids : MachineRow → List Text
+    ids r = identifiers_in (string_bytes r.name) r.poses.items
+
+    total : length (flat_map ids here.before) ≡ length (pose_names here.before)
+    total =
+        summed ids (λ r. length r.poses.items) (λ r. length-map r.poses.items (λ (p : PoseRow). identifier (string_bytes r.name) (string_bytes p.name))) here.before
+        ∙ sym (pose_total here.before)
+
+    own : length (identifiers_in (string_bytes row.name) nth.before) ≡ k
+    own = length-map nth.before (λ (p : PoseRow). identifier (string_bytes row.name) (string_bytes p.name)) ∙ nth.count
+
+same_number : (i j : ℕ) → Some i ≡ Some j → i ≡ j
+same_number i j e = cc
+
+pub two_for_c : PosesAreTwoForC
+two_for_c d n is i j a b here there k l p q one other same =
+    same_number _ _
+    (sym (c_number d.machines.items is.distinct_poses i a here k p one)
+    ∙ ap (number_in (identifiers d.machines.items)) same
+    ∙ c_number d.machines.items is.distinct_poses j b there l q other)
+
+-- ---- programs
+
+-- what stands at the place of a row, of rows with their numbers
+zip_numbered : {B : Type 0} (R : ℕ × MachineRow → B → Type 0) (k m : ℕ) (before : List MachineRow) (row : MachineRow) (after : List MachineRow) (ys : List B) (d : B) → k + length before ≡ m → AllZip R (enumerate_from k (before ++ row ∷ after)) ys → R (m, row) (get_or ys (length before) d)
+zip_numbered R k m [] row after [] d e all = absurd all
+zip_numbered R k m [] row after (y ∷ ys) d e all = let same : k ≡ m = omega (arith, e) in subst (λ j. R (j, row) y) same all.0
+zip_numbered R k m (b ∷ bs) row after [] d e all = absurd all
+zip_numbered R k m (b ∷ bs) row after (y ∷ ys) d e all = zip_numbered R (k + 1) m bs row after ys d (omega (arith, e)) all.1
+
+program_of : (n : Named) (machines : List MachineRow) (programs : List (List Call)) (machine : ℕ) (row : MachineRow) (program : List Call) → AllZip (IsProgramOf n) (numbered machines) programs → StandsAt machines machine row → StandsAt programs machine program → AreCallsOf n machine row.program.items program
+program_of n machines programs machine row program all here there =
+    let h : AllZip (IsProgramOf n) (enumerate_from 0 (here.before ++ row ∷ here.after)) programs = subst (λ ms. AllZip (IsProgramOf n) (numbered ms) programs) here.is all in
+    let at : IsProgramOf n (machine, row) (get_or programs (length here.before) program) =
+    zip_numbered (IsProgramOf n) 0 machine here.before row here.after programs program (omega (arith, here.count)) h in
+    let e : get_or programs (length here.before) program ≡ program =
+    ap (λ j. get_or programs j program) here.count ∙ ap (λ ps. get_or ps machine program) there.is ∙ seam there.before program there.after program machine there.count in
+    subst (λ calls. AreCallsOf n machine row.program.items calls) e at
+
+mapped : {A B : Type 0} (f : A → B) (xs : List A) (i : ℕ) (x : A) → StandsAt xs i x → StandsAt (map f xs) i (f x)
+mapped f xs i x here = record {
+  before = map f here.before;
+  after = map f here.after;
+  is = ap (map f) here.is ∙ map-append f here.before (x ∷ here.after);
+  count = length-map here.before f ∙ here.count;
+}
+
+-- a call that a verb and a name ask for is told by them
+told_by : (reads : CallsAreToldAsRead) (own : OwnPosesComeFirst) (n : Named) (machine : ℕ) (verb : Verb) (name : Text) (c : Call) → own_call n machine verb name ≡ Some c → call_text n c ≡ words verb name
+told_by reads own n machine verbs.Claim name c e = reads.same n machine verbs.Claim name c e
+told_by reads own n machine verbs.Give name c e = reads.same n machine verbs.Give name c e
+told_by reads own n machine verbs.Yield name c e = reads.same n machine verbs.Yield name c e
+told_by reads own n machine verbs.Take name c e = reads.same n machine verbs.Take name c e
+told_by reads own n machine verbs.Release name c e = reads.same n machine verbs.Release name c e
+told_by reads own n machine verbs.Inquire name c e = reads.same n machine verbs.Inquire name c e
+told_by reads own n machine verbs.Pose name c e = by (own_pose n machine name) refl
+  where
+    by : (o : Option ℕ) → own_pose n machine name ≡ o → call_text n c ≡ words verbs.Pose name
+    by None is = let h : None ≡ Some c = sym (ap (option_map SetPose) is) ∙ e in absurd (cc)
+    by (Some pose) is =
+        let h : Some (SetPose pose) ≡ Some c = sym (ap (option_map SetPose) is) ∙ e in
+        reads.same n machine verbs.Pose name c (own.first n machine pose name is ∙ h)
+
+-- a call of some line
+one_line : (n : Named) (machine : ℕ) (lines : List Text) (calls : List Call) (call : Call) (i : ℕ) → AllZip (IsCallOf n machine) lines calls → StandsAt calls i call → (line : Text) × IsCallOf n machine line call
+one_line n machine lines calls call i all here =
+    by here.before lines (subst (λ cs. AllZip (IsCallOf n machine) lines cs) here.is all)
+  where
+    by : (before : List Call) (lines : List Text) → AllZip (IsCallOf n machine) lines (before ++ call ∷ here.after) → (line : Text) × IsCallOf n machine line call
+    by [] [] all = absurd all
+    by [] (line ∷ lines) all = (line, all.0)
+    by (c ∷ cs) [] all = absurd all
+    by (c ∷ cs) (line ∷ lines) all = by cs lines all.1
+
+pub lined : CallsAreToldAsRead → OwnPosesComeFirst → ProgramsHaveLines
+lined reads own d p is machine row program here there = record {
+  count = AllZip-long (IsCallOf p.named machine) (map string_bytes row.program.items) program calls ∙ length-map row.program.items string_bytes;
+  text = λ i line call at_line at_call.
+      let one : IsCallOf p.named machine (string_bytes line) call =
+      zipped (IsCallOf p.named machine) (map string_bytes row.program.items) program i (string_bytes line) call calls (mapped string_bytes row.program.items i line at_line) at_call in
+      told_by reads own p.named machine one.verb one.name call one.call_is ∙ sym one.line_is;
+  may = λ i call at_call.
+      let one = one_line p.named machine (map string_bytes row.program.items) program call i calls at_call in
+      one.1.doable;
+}
+  where
+    calls : AreCallsOf p.named machine row.program.items program
+    calls = program_of p.named d.machines.items p.programs machine row program is.programs here there

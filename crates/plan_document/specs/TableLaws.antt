@@ -1,0 +1,106 @@
+-- Laws of what plans say of their documents: how many rows each table has, which names they have, and each program.
+use Rattle.std.specs.Prelude.{◌≡◌, ℕ, ◌<◌, ◌+◌, true, false, List, ◌++◌, codes, length, map, sum}
+use Rattle.std.specs.Prelude.{String, string_bytes, is_some, IsTrue}
+use Rattle.std.specs.declared.alloc.Global.{Global}
+use Rattle.plan_types.specs.declared.call.Call.{Call}
+use Rattle.plan_types.specs.Table.{place_count, pose_count, zone_count}
+use Rattle.plan_text.specs.Calls.{call_text}
+use Rattle.plan_text.specs.Named.{Named}
+use Rattle.plan_text.specs.Names.{Text, is_name, is_reserved, name_in, number_in}
+use Rattle.plan_document.specs.declared.document.Document.{Document}
+use Rattle.plan_document.specs.declared.document.HazardRow.{HazardRow}
+use Rattle.plan_document.specs.declared.document.MachineRow.{MachineRow}
+use Rattle.plan_document.specs.declared.document.MotorRow.{MotorRow}
+use Rattle.plan_document.specs.declared.document.PoseRow.{PoseRow}
+use Rattle.plan_document.specs.declared.resolving.ProgrammedPlan.{ProgrammedPlan}
+use Rattle.plan_document.specs.Names.{is_title, pose_names}
+use Rattle.plan_document.specs.PlanLaws.{StandsAt}
+use Rattle.plan_document.specs.Saying.{IsNamedPlanOf, IsPlanOf, may_be_done}
+
+-- ---- counts
+
+-- each table has as many rows as the document
+pub record TablesHaveCounts (d : Document) (p : ProgrammedPlan) : Type 0 where
+  pub machines : p.named.plan.machines ≡ length d.machines.items
+  pub zones : zone_count p.named.plan ≡ length d.zones.items
+  pub places : place_count p.named.plan ≡ sum (map (λ row. length row.places.items) d.machines.items)
+  pub poses : pose_count p.named.plan ≡ sum (map (λ row. length row.poses.items) d.machines.items)
+  pub programs : length p.programs ≡ length d.machines.items
+  pub motors : length p.motors.motors.items ≡ length d.motors.items
+  pub hazards : length p.motors.hazards.items ≡ length d.hazards.items
+
+-- and each row of a table has a name
+pub record NamesHaveCounts (p : ProgrammedPlan) : Type 0 where
+  pub machines : length p.named.machines ≡ p.named.plan.machines
+  pub zones : length p.named.zones ≡ zone_count p.named.plan
+  pub places : length p.named.places ≡ place_count p.named.plan
+  pub poses : length p.named.poses ≡ pose_count p.named.plan
+  pub motors : length p.motors.names ≡ length p.motors.motors.items
+  pub hazards : length p.motors.hazard_names ≡ length p.motors.hazards.items
+
+abbrev pub PlansHaveCounts : Type 0
+PlansHaveCounts = (d : Document) (p : ProgrammedPlan) → IsPlanOf d p → TablesHaveCounts d p × NamesHaveCounts p
+
+-- ---- names
+
+-- the rows that `PlanLaws` doesn't name
+pub record RowsAreNamed (d : Document) (p : ProgrammedPlan) : Type 0 where
+  pub machines : (machine : ℕ) (row : MachineRow) → StandsAt d.machines.items machine row
+      → name_in p.named.machines machine ≡ string_bytes row.name
+  pub places : (machine number : ℕ) (row : MachineRow) (name : String Global) → StandsAt d.machines.items machine row
+      → StandsAt row.places.items number name → IsTrue (is_some (number_in p.named.places (string_bytes name)))
+  pub motors : (motor : ℕ) (row : MotorRow) → StandsAt d.motors.items motor row
+      → name_in p.motors.names motor ≡ string_bytes row.name
+  pub hazards : (hazard : ℕ) (row : HazardRow) → StandsAt d.hazards.items hazard row
+      → name_in p.motors.hazard_names hazard ≡ string_bytes row.name
+
+-- each name is one, whatever its number
+pub record NamesAreSpelled (p : ProgrammedPlan) (number : ℕ) : Type 0 where
+  pub machine : number < length p.named.machines → is_name (name_in p.named.machines number) ≡ true
+  pub free : number < length p.named.machines → is_reserved (name_in p.named.machines number) ≡ false
+  pub zone : number < length p.named.zones → is_name (name_in p.named.zones number) ≡ true
+  pub place : number < length p.named.places → is_name (name_in p.named.places number) ≡ true
+  pub pose : number < length p.named.poses → is_name (name_in p.named.poses number) ≡ true
+  pub motor : number < length p.motors.names → is_name (name_in p.motors.names number) ≡ true
+  pub hazard : number < length p.motors.hazard_names → is_title (name_in p.motors.hazard_names number) ≡ true
+
+-- and no two of one kind are the same
+abbrev pub AreTwoNames : List Text → ℕ → ℕ → Type 0
+AreTwoNames names i j = i < length names → j < length names → name_in names i ≡ name_in names j → i ≡ j
+
+pub record NamesAreTwo (p : ProgrammedPlan) (i j : ℕ) : Type 0 where
+  pub machines : AreTwoNames p.named.machines i j
+  pub zones : AreTwoNames p.named.zones i j
+  pub places : AreTwoNames p.named.places i j
+  pub motors : AreTwoNames p.motors.names i j
+  pub hazards : AreTwoNames p.motors.hazard_names i j
+
+abbrev pub PlansHaveNames : Type 0
+PlansHaveNames =
+    (d : Document) (p : ProgrammedPlan) → IsPlanOf d p
+    → RowsAreNamed d p × ((number : ℕ) → NamesAreSpelled p number) × ((i j : ℕ) → NamesAreTwo p i j)
+
+-- two poses, of one machine or of two, that have one name for C are one pose
+abbrev pub PosesAreTwoForC : Type 0
+PosesAreTwoForC =
+    (d : Document) (n : Named) → IsNamedPlanOf d n → (i j : ℕ) (a b : MachineRow)
+    → (here : StandsAt d.machines.items i a) (there : StandsAt d.machines.items j b) → (k l : ℕ) (p q : PoseRow)
+    → StandsAt a.poses.items k p → StandsAt b.poses.items l q
+    → string_bytes a.name ++ codes "_" ++ string_bytes p.name ≡ string_bytes b.name ++ codes "_" ++ string_bytes q.name
+    → length (pose_names here.before) + k ≡ length (pose_names there.before) + l
+
+-- ---- programs
+
+-- a program has a call for each line: the text of the call is the line, and the call isn't refused in every state
+pub record ProgramHasLines (n : Named) (machine : ℕ) (row : MachineRow) (program : List Call) : Type 0 where
+  pub count : length program ≡ length row.program.items
+  pub text : (number : ℕ) (line : String Global) (call : Call) → StandsAt row.program.items number line
+      → StandsAt program number call → call_text n call ≡ string_bytes line
+  pub may : (number : ℕ) (call : Call) → StandsAt program number call → may_be_done n.plan machine call ≡ true
+
+-- the program of each machine, whatever its number
+abbrev pub ProgramsHaveLines : Type 0
+ProgramsHaveLines =
+    (d : Document) (p : ProgrammedPlan) → IsPlanOf d p → (machine : ℕ) (row : MachineRow) (program : List Call)
+    → StandsAt d.machines.items machine row → StandsAt p.programs machine program
+    → ProgramHasLines p.named machine row program
