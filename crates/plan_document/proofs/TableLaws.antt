@@ -75,14 +75,17 @@ counts_of d p is = record {
 }
 
 pub counted : PlansHaveCounts
-counted d p is = (all, record {
-  machines = ap length is.named.named_machines ∙ length-map d.machines.items (λ (r : MachineRow). string_bytes r.name) ∙ sym all.machines;
-  zones = ap length is.named.named_zones ∙ length-map d.zones.items (λ (r : ZoneRow). string_bytes r.name) ∙ sym all.zones;
-  places = ap length is.named.named_places ∙ place_total d.machines.items ∙ sym all.places;
-  poses = ap length is.named.named_poses ∙ pose_total d.machines.items ∙ sym all.poses;
-  motors = ap length is.motors.named_motors ∙ length-map d.motors.items (λ (r : MotorRow). string_bytes r.name) ∙ sym all.motors;
-  hazards = ap length is.motors.named_hazards ∙ length-map d.hazards.items (λ (r : HazardRow). string_bytes r.name) ∙ sym all.hazards;
-})
+counted d p is = (
+  all,
+  record {
+    machines = ap length is.named.named_machines ∙ length-map d.machines.items (λ (r : MachineRow). string_bytes r.name) ∙ sym all.machines;
+    zones = ap length is.named.named_zones ∙ length-map d.zones.items (λ (r : ZoneRow). string_bytes r.name) ∙ sym all.zones;
+    places = ap length is.named.named_places ∙ place_total d.machines.items ∙ sym all.places;
+    poses = ap length is.named.named_poses ∙ pose_total d.machines.items ∙ sym all.poses;
+    motors = ap length is.motors.named_motors ∙ length-map d.motors.items (λ (r : MotorRow). string_bytes r.name) ∙ sym all.motors;
+    hazards = ap length is.motors.named_hazards ∙ length-map d.hazards.items (λ (r : HazardRow). string_bytes r.name) ∙ sym all.hazards;
+  },
+)
   where
     all : TablesHaveCounts d p
     all = counts_of d p is
@@ -127,13 +130,17 @@ spelled d p is number = record {
 }
 
 pub named : PlansHaveNames
-named d p is = (rows_named d p is, spelled d p is, λ i j. record {
-  machines = are_apart p.named.machines is.named.distinct_machines i j;
-  zones = are_apart p.named.zones is.named.distinct_zones i j;
-  places = are_apart p.named.places is.named.distinct_places i j;
-  motors = are_apart p.motors.names is.motors.distinct_motors i j;
-  hazards = are_apart p.motors.hazard_names is.motors.distinct_hazards i j;
-})
+named d p is = (
+  rows_named d p is,
+  spelled d p is,
+  λ i j. record {
+    machines = are_apart p.named.machines is.named.distinct_machines i j;
+    zones = are_apart p.named.zones is.named.distinct_zones i j;
+    places = are_apart p.named.places is.named.distinct_places i j;
+    motors = are_apart p.motors.names is.motors.distinct_motors i j;
+    hazards = are_apart p.motors.hazard_names is.motors.distinct_hazards i j;
+  },
+)
 
 -- a pose's name for C has the pose's number
 c_number : (machines : List MachineRow) → AreDistinct (identifiers machines) → (i : ℕ) (row : MachineRow) (here : StandsAt machines i row) (k : ℕ) (pose : PoseRow) → StandsAt row.poses.items k pose
@@ -190,7 +197,7 @@ mapped f xs i x here = record {
   count = length-map here.before f ∙ here.count;
 }
 
--- a call that a verb and a name ask for is told by them
+-- the text of a call is the verb and the name that ask for it
 told_by : (reads : CallsAreToldAsRead) (own : OwnPosesComeFirst) (n : Named) (machine : ℕ) (verb : Verb) (name : Text) (c : Call) → own_call n machine verb name ≡ Some c → call_text n c ≡ words verb name
 told_by reads own n machine verbs.Claim name c e = reads.same n machine verbs.Claim name c e
 told_by reads own n machine verbs.Give name c e = reads.same n machine verbs.Give name c e

@@ -29,7 +29,8 @@ ItemsAreRows IsRow =
 -- the items of a list are all its items, in order
 pub record ListsHaveItems (value : Data) (items : Items) (rest : List Data) : Type 0 where
   pub none : items_in (Some (array no_items)) ≡ Some []
-  pub more : items_in (Some (array items)) ≡ Some rest → items_in (Some (array (item value items))) ≡ Some (value ∷ rest)
+  pub more : items_in (Some (array items)) ≡ Some rest
+      → items_in (Some (array (item value items))) ≡ Some (value ∷ rest)
 
 -- ---- tables
 

@@ -19,7 +19,7 @@ use Rattle.plan_document.specs.Saying.{IsNamedPlanOf, IsPlanOf, may_be_done}
 
 -- ---- counts
 
--- each table has as many rows as the document
+-- each table has the rows of the document, and no others
 pub record TablesHaveCounts (d : Document) (p : ProgrammedPlan) : Type 0 where
   pub machines : p.named.plan.machines ≡ length d.machines.items
   pub zones : zone_count p.named.plan ≡ length d.zones.items

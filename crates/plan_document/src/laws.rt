@@ -16,8 +16,8 @@ ghost use Rattle.plan_text.specs.Names.{Text};
 ghost use Rattle.std.specs.Prelude.{Bool, List};
 ghost use Rattle.toml.specs.Data.{Data, Items, Members};
 
-use plan_text::laws::{calls_are_told_as_read, own_poses_come_first};
 use plan_rules::laws::refusals_tell_causes;
+use plan_text::laws::{calls_are_told_as_read, own_poses_come_first};
 
 /// A line that is refused because it is never done is done in no sound state of the plan.
 pub fn refused_lines_are_never_done()
@@ -47,8 +47,8 @@ pub fn rows_have_names()
     ensures hazards { plan_laws.HazardsHaveNames }
 {}
 
-/// Each table has as many rows as the document, and each row a name; all are names, and no two of one kind are the same,
-/// of poses no two for C.
+/// Each table has the rows of the document and no others, and each row a name; all are names, and no two of one kind
+/// are the same, of poses no two for C.
 pub fn plans_have_counts_and_names()
     ensures counts { table_laws.PlansHaveCounts }
     ensures names { table_laws.PlansHaveNames }
