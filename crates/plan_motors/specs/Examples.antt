@@ -11,7 +11,8 @@ use Rattle.plan_motors.specs.declared.motor.Motor.{Motor}
 use Rattle.plan_motors.specs.declared.motor.Hazard.{Hazard}
 use Rattle.plan_motors.specs.declared.exclusion.Cause.TheVariants.{Zone, Place}
 use Rattle.plan_motors.specs.declared.fault.MotorFault.TheVariants.{NoSuchMachine, ForeignZone, NotHeld, ForeignPlace}
-use Rattle.plan_motors.specs.declared.fault.MotorFault.TheVariants.{NeverPermitted, NoSuchFirst, NoSuchSecond, TooManyMotors}
+use Rattle.plan_motors.specs.declared.fault.MotorFault.TheVariants.{NeverPermitted, NoSuchFirst, NoSuchSecond}
+use Rattle.plan_motors.specs.declared.fault.MotorFault.TheVariants.{TooManyMotors}
 use Rattle.plan_motors.specs.Motor.{no_need}
 use Rattle.plan_motors.specs.Exclusion.{cause, zone_for, state_for}
 use Rattle.plan_motors.specs.Faults.{first_fault}
@@ -191,7 +192,8 @@ pub record FirstFaults : Type 0 where
   pub sixteenth_place : first_fault press_table (ram ∷ arm ∷ at_place 1 15 true ∷ []) [] ≡ Some (ForeignPlace 2 15)
   pub second_never : first_fault press_table (ram ∷ motor 0 (held (Some Closed)) no_need None None ∷ []) []
       ≡ Some (NeverPermitted 1)
-  pub later_first : first_fault press_table (ram ∷ []) (hazard 0 0 ∷ hazard 0 0 ∷ hazard 7 0 ∷ []) ≡ Some (NoSuchFirst 2)
+  pub later_first : first_fault press_table (ram ∷ []) (hazard 0 0 ∷ hazard 0 0 ∷ hazard 7 0 ∷ [])
+      ≡ Some (NoSuchFirst 2)
   pub first_second : first_fault press_table (ram ∷ arm ∷ []) (hazard 1 2 ∷ []) ≡ Some (NoSuchSecond 0)
   pub most_motors : first_fault press_table (replicate 64 ram) (hazard 0 63 ∷ []) ≡ None
   pub too_many : first_fault press_table (replicate 65 ram) [] ≡ Some TooManyMotors

@@ -71,4 +71,5 @@ pub record PosturesAreOf : Type 0 where
   pub start : HasPosturesOf lift_table lift_start like_start
   pub other : ¬ HasPosturesOf lift_table lift_start full_press
   pub second_zone
-      : ¬ HasPosturesOf lift_table lift_start (record like_start { zones = free_zone ∷ replicate 9 (owned None OpenIn) })
+      : ¬ HasPosturesOf lift_table lift_start
+      (record like_start { zones = free_zone ∷ replicate 9 (owned None OpenIn) })

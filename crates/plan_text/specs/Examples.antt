@@ -1,4 +1,4 @@
--- Literal examples: what answers are told by, which starts are read, and which texts are names.
+-- Literal examples: the texts of answers, which starts are read, and which texts are names.
 use Rattle.std.specs.Prelude.{◌≡◌, ℕ, true, false, List, [], ◌∷◌, ◌++◌, codes, filter, map, replicate}
 use Rattle.std.specs.Prelude.{Option, Some, None}
 use Rattle.std.specs.List.{range_with_len}

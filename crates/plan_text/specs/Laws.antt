@@ -18,7 +18,7 @@ use Rattle.plan_text.specs.Calls.{call_of, call_text, own_pose, verb_of, verb_wo
 use Rattle.plan_text.specs.declared.calls.Verb.{Verb}
 use Rattle.plan_text.specs.declared.calls.Verb.TheVariants.{Claim, Give, Yield, Take, Release, Inquire, Pose}
 
--- a verb is told by a word, and this word is read as the verb
+-- a word tells a verb, and is read as the verb
 pub record IsWordOf (verb : Verb) (word : Text) : Type 0 where
   pub told : verb_word verb ≡ word
   pub read : verb_of word ≡ Some verb
@@ -43,7 +43,7 @@ pub record PosturesHaveWords : Type 0 where
   pub openin : IsWordOfPosture OpenIn (codes "openin")
   pub openout : IsWordOfPosture OpenOut (codes "openout")
 
--- a call that is read of some words is told by these words
+-- the text of a call has the words of which the call is read
 pub record CallsAreToldAsRead : Type 0 where
   pub same : (n : Named) (machine : ℕ) (verb : Verb) (name : Text) (c : Call)
       → call_of n machine verb name ≡ Some c → call_text n c ≡ words verb name
@@ -94,7 +94,7 @@ pub record NamesAreInOrder (name : Text) (names : List Text) (number : ℕ) : Ty
   pub next : name_in (name ∷ names) (suc number) ≡ name_in names number
   pub past : name_in [] number ≡ []
 
--- what a call about a zone or a pose with some number is told by, and what it is read of
+-- the text of a call about a zone or a pose with some number, and of what it is read
 pub record CallsByNumber (n : Named) (number : ℕ) : Type 0 where
   pub claim : call_text n (call.Claim number) ≡ codes "claim " ++ name_in n.zones number
   pub give : call_text n (call.Give number) ≡ codes "give " ++ name_in n.zones number
@@ -110,7 +110,7 @@ pub record CallsByNumber (n : Named) (number : ℕ) : Type 0 where
       ≡ Some (call.Claim number) ∷ Some (call.Give number) ∷ Some (call.Yield number) ∷ Some (call.Take number)
       ∷ Some (call.Release number) ∷ Some (call.Inquire number) ∷ []
 
--- what an answer that names a machine or a zone with some number, or a posture, is told by; and one that names nothing
+-- the text of an answer that names a machine or a zone with some number, or a posture; and of one that names nothing
 pub record AnswersByNumber (n : Named) (number : ℕ) (posture : Posture) : Type 0 where
   pub held : answer_text n (Refused (Held number)) ≡ codes "held " ++ name_in n.machines number
   pub shut : answer_text n (Refused (Shut posture)) ≡ codes "shut " ++ posture_word posture

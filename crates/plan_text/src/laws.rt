@@ -9,17 +9,17 @@ ghost use Rattle.plan_text.specs.Names.{Text};
 ghost use Rattle.plan_text.specs.ScriptExamples as scripts;
 ghost use Rattle.plan_text.specs.WordExamples as words;
 
-/// The verbs are told by these words, and are read of them.
+/// These words tell the verbs, and the verbs are read of them.
 pub fn verbs_have_words()
     ensures { laws.VerbsHaveWords }
 {}
 
-/// The postures are told by these words, and are read of them.
+/// These words tell the postures, and the postures are read of them.
 pub fn postures_have_words()
     ensures { laws.PosturesHaveWords }
 {}
 
-/// A call that is read of some words is told by these words.
+/// The text of a call has the words of which the call is read.
 pub fn calls_are_told_as_read()
     ensures { laws.CallsAreToldAsRead }
 {}
@@ -36,7 +36,8 @@ pub fn own_poses_come_first()
     ensures of_one { (n : Named) (name : Text) (c : Call) → laws.LawsOfWords n name c }
 {}
 
-/// What each call and each answer is told by, and what calls are read of: of any plan, whatever the names and the numbers.
+/// The text of each call and each answer, and of what calls are read: of any plan, whatever the names and the
+/// numbers.
 pub fn texts_are_by_number()
     ensures names { (name : Text) (names : List Text) (number : ℕ) → laws.NamesAreInOrder name names number }
     ensures calls { (n : Named) (number : ℕ) → laws.CallsByNumber n number }

@@ -51,7 +51,8 @@ pub struct Place {
     pub start: usize,
     /// Where its value begins; of a head, where its name ends.
     pub value: usize,
-    /// Where the value ends of the pair in which it stands; `None` if that is left open. Of a head, where its name ends.
+    /// Where the value ends of the pair in which it stands; `None` if that is left open. Of a head, where its name
+    /// ends.
     pub end: Option<usize>,
 }
 
