@@ -151,7 +151,8 @@ const HAZARDS: &[(&str, &str)] = &[
          printable ASCII without a colon, at most 60 characters",
     ),
     (
-        "[[hazard]]\nname = \"x y\"\nmotors = [\"ram\", \"ram\"]\n[[hazard]]\nname = \"x y\"\nmotors = [\"ram\", \"ram\"]\n",
+        "[[hazard]]\nname = \"x y\"\nmotors = [\"ram\", \"ram\"]\n\
+         [[hazard]]\nname = \"x y\"\nmotors = [\"ram\", \"ram\"]\n",
         "line 26: hazard 2: name: \"x y\" is defined twice, first on line 23",
     ),
 ];

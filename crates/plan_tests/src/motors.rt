@@ -207,8 +207,8 @@ fn calls_lead_to_a_hazard(rt: HostRuntime) -> Result<(), AllocError> {
     Ok(())
 }
 
-/// The masks of the press's motors. Bits 0 and 1 of the zone are its owner, 1 the host and 2 the guest, bits 3 and 4 its
-/// posture; bit 5 is the hand, bit 6 the die.
+/// The masks of the press's motors. Bits 0 and 1 of the zone are its owner, 1 the host and 2 the guest, bits 3 and 4
+/// its posture; bit 5 is the hand, bit 6 the die.
 const MASKS: &str = "\
 #define PLAN_MAY_RUN(word, motor) (((word) & PLAN_MASK_##motor) == PLAN_PATTERN_##motor)
 #define PLAN_MASK_RAM UINT64_C(27)
