@@ -1,2 +1,3 @@
 pub mod lemmas
 mod Shown
+mod Five

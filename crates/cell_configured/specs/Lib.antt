@@ -1,2 +1,3 @@
 pub mod Gauges
 pub mod Seen
+pub mod Laws

@@ -10,8 +10,8 @@ use Rattle.cell_plant.specs.declared.observer.SeenFault.{SeenFault}
 use Rattle.cell_config.specs.Configured.{in_order}
 use Rattle.cell_config.specs.declared.configuration.Config.{Config}
 
--- an observer has seen the whole run of a schedule by scales with the configuration's points: each reading is the one on
--- its curve
+-- an observer has seen the whole run of a schedule by scales with the configuration's points: each reading is the one
+-- on its curve
 abbrev pub SeesConfigured : {W E : Type 0} → (W → Frame → Result (Unit {0}) E → W → Type 0) → Config → List Turn → W
     → W → RunRecord → Type 0
 SeesConfigured sees config turns w v run = (c : CellScales) × ((config.points ≡ in_order c)

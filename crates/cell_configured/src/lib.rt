@@ -2,6 +2,7 @@
 #![tactic(auto)]
 
 pub mod gauges;
+pub mod laws;
 pub mod simulation;
 
 pub use gauges::cell_with_gauges;
