@@ -11,7 +11,8 @@ use Rattle.cell_control.specs.Keeping.{are_kept, has_share, is_kept, is_posed, p
 -- whether it has the share of a zone that it owns with a plate, owns without one, doesn't own with one, and without
 abbrev pub shares : Share → List Bool
 shares share =
-    has_share share true true ∷ has_share share true false ∷ has_share share false true ∷ has_share share false false ∷ []
+    has_share share true true ∷ has_share share true false
+    ∷ has_share share false true ∷ has_share share false false ∷ []
 
 pub record ShareExamples : Type 0 where
   pub clear : shares Clear ≡ false ∷ true ∷ false ∷ false ∷ []

@@ -47,8 +47,8 @@ pub record IsUnwired {S Sense Reading Act : Type 0} (t : Steps S Sense Reading A
 
 -- a turn is the controller's turn on its line
 abbrev pub TurnsWired : {P S Sense Reading Act L : Type 0} → Steps S Sense Reading Act
-    → (L → Call → Result Reply LineFault → L → Type 0) → (L → Heard) → Wiring P S L → Sense → Commands Act → Wiring P S L
-    → Type 0
+    → (L → Call → Result Reply LineFault → L → Type 0) → (L → Heard) → Wiring P S L → Sense → Commands Act
+    → Wiring P S L → Type 0
 TurnsWired t asks heard w s told w' =
     Turns t (w'.line ≡ w.line) (λ c r. asks w.line c r w'.line × (heard w'.line ≡ heard_after (heard w.line) c r))
     w.stopped w.progress s (record {

@@ -8,8 +8,8 @@ use Rattle.cell_rules.specs.Names.{empty, insert_place, zone_map, ModelState, mo
 use Rattle.cell_parts.specs.declared.plant.PlantState.{PlantState}
 use Rattle.cell_parts.specs.MotorDemands.{ForTravel, AtDeposit}
 use Rattle.cell_parts.specs.Laws.{AllDemandsMet, KeepApart}
-use Rattle.cell_parts.specs.Examples.{all_free, held_by, zone_of, at, driven_at, robot_at, table_at, crane_at, belt_with}
-use Rattle.cell_parts.specs.Examples.{with_press, with_robot}
+use Rattle.cell_parts.specs.Examples.{all_free, held_by, zone_of, at, driven_at, robot_at, table_at, crane_at}
+use Rattle.cell_parts.specs.Examples.{belt_with, with_press, with_robot}
 
 -- each zone moves, held by its host
 abbrev pub all_moving : ModelState

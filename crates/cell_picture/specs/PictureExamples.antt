@@ -243,7 +243,8 @@ pub record PlateExamples : Type 0 where
   pub forged : value_text PlateForged 1 both ≡ codes "1"
   pub blank : value_text PlateForged 0 both ≡ codes "0"
 
--- a text that shows a part of a film has its head, the machines' pieces with all their columns, each plate's, and its tail
+-- a text that shows a part of a film has its head, the machines' pieces with all their columns, each plate's pieces,
+-- and its tail
 pub record TextMeans : Type 0 where
   pub whole : (part : List Frame) (count : ℕ) (text : List ℕ) → ShowsPart part count text
       → (machines plate : List Piece) × (values_in machines ≡ machine_values) × (values_in plate ≡ plate_values)

@@ -33,7 +33,7 @@ shut_gate turn answer = answer ≡ false
 abbrev pub any_gate : GateOf
 any_gate turn answer = ⊤
 
--- a press may go through three cycles, and its devices were told this last: after so many cycles it ends so
+-- a press may go through three cycles, and its devices heard this last: after N cycles it ends with this status
 abbrev pub PressEnds : GateOf → Commands PressAct → ℕ → Status → Type 0
 PressEnds gate last cycles status =
     WiredWorkerEnds press_steps (λ (before : Unit {0}) told now. told ≡ last) gate 3 cycles status tt
@@ -45,7 +45,8 @@ told_on = record told_clash { act = record { press = Plus } }
 -- what six workers and a watch left, and the record of six workers, whose devices are nothing
 abbrev pub AnySix : Type 0
 AnySix =
-    SixLeft (Unit {0}) (Unit {0}) (Unit {0}) (Unit {0}) (Unit {0}) (Unit {0}) (Unit {0}) (Unit {0}) (Unit {0}) (Unit {0})
+    SixLeft (Unit {0}) (Unit {0}) (Unit {0}) (Unit {0}) (Unit {0}) (Unit {0}) (Unit {0}) (Unit {0}) (Unit {0})
+    (Unit {0})
 
 abbrev pub AnyRecord : Type 0
 AnyRecord = WiredRecord (Unit {0}) (Unit {0}) (Unit {0}) (Unit {0}) (Unit {0}) (Unit {0})

@@ -46,7 +46,8 @@ pub record KeyExamples : Type 0 where
   pub first_key_of_two : first_key (claimed 6 ∷ refused 5 ∷ []) ≡ 12
   pub put_first : put (noted Crane (claimed 5) true) (noted Press (claimed 6) true ∷ [])
       ≡ noted Crane (claimed 5) true ∷ noted Press (claimed 6) true ∷ []
-  pub put_between : put (noted Watch (claimed 8) true) (noted Press (refused 6) true ∷ noted Table (claimed 8) true ∷ [])
+  pub put_between :
+      put (noted Watch (claimed 8) true) (noted Press (refused 6) true ∷ noted Table (claimed 8) true ∷ [])
       ≡ noted Press (refused 6) true ∷ noted Watch (claimed 8) true ∷ noted Table (claimed 8) true ∷ []
   pub put_last : put (noted Watch (shown 8) true) (noted Table (claimed 8) true ∷ [])
       ≡ noted Table (claimed 8) true ∷ noted Watch (shown 8) true ∷ []

@@ -1,5 +1,6 @@
 -- A machine's status and the effect of its turn: rows with literal answers, for any program and any part.
-use Rattle.std.specs.Prelude.{◌≡◌, ⊤, ◌⊎◌, ℕ, Bool, true, false, List, [], ◌∷◌, ◌++◌, Option, Some, None, Result, Ok, Err}
+use Rattle.std.specs.Prelude.{◌≡◌, ⊤, ◌⊎◌, ℕ, Bool, true, false, List, [], ◌∷◌, ◌++◌, Option, Some, None}
+use Rattle.std.specs.Prelude.{Result, Ok, Err}
 use Rattle.cell_rules.specs.Types.{Machine, Posture, Call, Refusal, Jump, Stopped, Answer, Event, Reply}
 use Rattle.cell_rules.specs.Types.{Settled, Busy}
 use Rattle.cell_types.specs.declared.answer.Refusal.TheVariants.{Worn as NoStamp}

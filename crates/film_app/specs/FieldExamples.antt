@@ -76,7 +76,8 @@ pub record FieldsAreTold : Type 0 where
   pub plates : map plate_text (None ∷ Some (pos 0) ∷ Some (pos 900) ∷ []) ≡ [] ∷ codes "0" ∷ codes "900" ∷ []
   pub second_magnet : robot_text (record apart.robot { magnet1 = false; magnet2 = true }) ≡ codes "80,100+,120-,0,1"
   pub no_magnet : crane_text (record apart.crane { magnet = false }) ≡ codes "180+,200,0"
-  pub replies : map reply_text (Ok (Settled Done 5) ∷ Ok (Settled (Refused Worn) 1048575) ∷ Ok (Busy 3 9) ∷ Err Memory ∷ [])
+  pub replies :
+      map reply_text (Ok (Settled Done 5) ∷ Ok (Settled (Refused Worn) 1048575) ∷ Ok (Busy 3 9) ∷ Err Memory ∷ [])
       ≡ codes "done" ∷ codes "worn" ∷ codes "busy" ∷ codes "memory" ∷ []
   pub nothing_asked : asked_text None ≡ []
   -- all five fields are compared
@@ -87,7 +88,8 @@ pub record FieldsAreTold : Type 0 where
   pub not_new : if_new (codes "old") (codes "old") ≡ []
   -- what a film keeps so far: each machine's own last call
   pub silence : map (at_machine nothing_said) (Feed ∷ Crane ∷ Watch ∷ []) ≡ None ∷ None ∷ None ∷ []
-  pub said : map (at_machine (said_after (said_after nothing_said has_claimed) (press_at 980 Minus))) (Feed ∷ Press ∷ [])
+  pub said :
+      map (at_machine (said_after (said_after nothing_said has_claimed) (press_at 980 Minus))) (Feed ∷ Press ∷ [])
       ≡ has_claimed.asked ∷ None ∷ []
   pub so_far : shown_next (shown_next no_film starts) has_claimed
       ≡ record {

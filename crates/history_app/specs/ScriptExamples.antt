@@ -3,7 +3,8 @@ use Rattle.std.specs.Prelude.{◌≡◌, ℕ, true, false, List, [], ◌∷◌, 
 use Rattle.cell_types.specs.declared.place.Place.{Place}
 use Rattle.cell_rules.specs.Types.{Machine, Feed, Table, Robot, Press, Deposit, Crane, Watch, Z1, Z2, Z3, Z4, Z5, Z6}
 use Rattle.cell_rules.specs.Types.{Travelling, Closed, Call, Claim, Give, Yield, Take, Release, Inquire, Advance}
-use Rattle.cell_rules.specs.Types.{SetPose, Stop, Resume, Held, NotParty, Answer, Done, Refused, Shown, Event, all_places}
+use Rattle.cell_rules.specs.Types.{SetPose, Stop, Resume, Held, NotParty, Answer, Done, Refused, Shown, Event}
+use Rattle.cell_rules.specs.Types.{all_places}
 use Rattle.cell_rules.specs.Names.{ModelState, empty, insert_place, place_set, start_state}
 use Rattle.cell_replay.specs.declared.version.Version.TheVariants.{First, Second}
 use Rattle.history_app.specs.Scripts.{digits_of, event_row, line_of_row, opening_row, rows_of, script_of, version_for}

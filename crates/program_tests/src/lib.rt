@@ -1,5 +1,5 @@
-//! Rows of the programs `cell`, `history` and `explain`: what they answer and write. The expectations were worked out apart from it:
-//! by hand from the rules of the cell and from the formats; those of long runs by another program.
+//! Rows of the programs `cell`, `history` and `explain`: what they answer and write. The expectations were worked out
+//! apart from them: by hand from the rules of the cell and from the formats; those of long runs by another program.
 //! They use public calls only.
 #![tactic(auto)]
 
