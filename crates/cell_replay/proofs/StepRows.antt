@@ -1,10 +1,21 @@
 -- The steps of an answer in the examples.
-use Rattle.std.proofs.Common.{rules, ◌≡◌, ◌≤◌, ℕ, true, false, List, [], ◌∷◌, length, take, drop, refl, subst, Some, arith, codes}
+use Rattle.std.proofs.Common.{rules, ◌≡◌, ◌≤◌, ℕ, Bool, true, false, ◌&&◌, not, nat_le, List, [], ◌∷◌, length, take, drop, refl, subst, Option, Some, None, Ok, Err, arith, codes, le-leb, leb-true}
 use Rattle.std.specs.Prelude.{option_map}
 use Rattle.std.specs.Fmt.{digits}
 use Rattle.cell_replay.specs.Requests.{call_of, machine_of, request_of}
-use Rattle.cell_replay.specs.Script.{history_of, is_cut_of, requests_in}
-use Rattle.cell_replay.specs.StepExamples.{EndExamples, LeftExamples, RequestExamples, StepsAreMet, VersionExamples, WritingExamples}
+use Rattle.cell_replay.specs.Script.{history_of, is_cut_of, requests_in, start_fields, start_in, start_of}
+use Rattle.cell_replay.specs.StepExamples.{EndExamples, LeftExamples, RequestExamples, StartSteps, StepsAreMet, VersionExamples, WritingExamples}
+use Rattle.cell_replay.specs.Versions.{version_word}
+use Rattle.cell_replay.specs.declared.version.Version.{Version}
+use Rattle.cell_replay.specs.declared.version.Version.TheVariants.{First, Second}
+use Rattle.cell_rules.specs.Names.{ModelState, PlaceSet, has, is_start, last_stamp, places_in, size_of}
+use Rattle.cell_rules.specs.ModelState.{max_plates}
+use Rattle.cell_rules.specs.Start.{IsStart}
+use Rattle.cell_types.specs.declared.place.Place.TheVariants.{PressIn, PressOut}
+use Rattle.csv_rows.specs.Numbers.{number_in}
+use Rattle.csv_rows.specs.Rows.{Row}
+use Rattle.csv_rows.specs.declared.script_end.ScriptFault.{ScriptFault}
+use Rattle.csv_rows.specs.declared.script_end.ScriptFault.TheVariants.{BadStart}
 use Rattle.cell_replay.specs.Writing.{lines_after}
 
 versions : VersionExamples
@@ -13,6 +24,60 @@ versions = search rules
 requests : RequestExamples
 unfolding call_of machine_of request_of requests_in
 requests = search rules
+
+-- a start's test is its definition
+all_three : (a b c : Bool) → a ≡ true → b ≡ false → c ≡ true → (a && not b && c) ≡ true
+all_three a b c ka kb kc = simp (ka, kb, kc)
+
+three : (a b c : Bool) → (a && not b && c) ≡ true → (a ≡ true) × (b ≡ false) × (c ≡ true)
+three true false true k = (refl, refl, refl)
+three _ _ _ k = cc
+
+is-start : (full : PlaceSet) (stamp : ℕ) → IsStart full stamp → is_start full stamp ≡ true
+is-start full stamp k =
+    all_three (nat_le (size_of full) max_plates) (has full PressIn && has full PressOut) (nat_le stamp last_stamp)
+    (le-leb _ _ k.six_plates_at_most) k.one_in_press_at_most (le-leb _ _ k.stamp_in_range)
+
+start-is : (full : PlaceSet) (stamp : ℕ) → is_start full stamp ≡ true → IsStart full stamp
+start-is full stamp e =
+    let parts = three (nat_le (size_of full) max_plates) (has full PressIn && has full PressOut) (nat_le stamp last_stamp) e in
+    record {
+      six_plates_at_most = leb-true _ _ parts.0;
+      one_in_press_at_most = parts.1;
+      stamp_in_range = leb-true _ _ parts.2;
+    }
+
+no-start : (full : PlaceSet) (stamp : ℕ) (yes : Bool) → is_start full stamp ≡ yes → ¬ IsStart full stamp → is_start full stamp ≡ false
+no-start full stamp true e isnt = absurd (isnt (start-is full stamp e))
+no-start full stamp false e isnt = e
+
+state-of : (version : Version) (fields : Row) (s : ModelState) → start_fields fields ≡ Ok s → start_in (version_word version ∷ fields) ≡ Ok (record { version = version; state = s })
+unfolding start_in
+state-of First fields s e = rw e refl
+state-of Second fields s e = rw e refl
+
+fault-of : (version : Version) (fields : Row) (fault : ScriptFault) → start_fields fields ≡ Err fault → start_in (version_word version ∷ fields) ≡ Err fault
+unfolding start_in
+fault-of First fields fault e = rw e refl
+fault-of Second fields fault e = rw e refl
+
+no-number : (places : Option (List Bool)) (stamp : List ℕ) → number_in stamp ≡ None → start_of places (number_in stamp) ≡ Err BadStart
+no-number (Some flags) stamp none = rw none refl
+no-number None stamp none = refl
+
+starts : StartSteps
+unfolding start_in
+starts = record {
+  opens = λ full stamp k. rw (is-start full stamp k) refl;
+  refused = λ full stamp isnt. rw (no-start full stamp (is_start full stamp) refl isnt) refl;
+  by_fields = λ places stamp flags number p n. rw (p, n) refl;
+  unstamped = λ places. refl;
+  no_number = λ places stamp none. no-number (places_in places) stamp none;
+  field_more = λ places stamp more rest. refl;
+  state_of_any = state-of;
+  refused_of_any = fault-of;
+  no_version = λ word fields none. rw none refl;
+}
 
 ends : EndExamples
 unfolding digits call_of machine_of request_of history_of requests_in lines_after
@@ -115,4 +180,4 @@ left = record {
 }
 
 pub steps_are_met : StepsAreMet
-steps_are_met = record { versions = versions; requests = requests; ends = ends; writings = writings; left = left }
+steps_are_met = record { versions = versions; requests = requests; starts = starts; ends = ends; writings = writings; left = left }

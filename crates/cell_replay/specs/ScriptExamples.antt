@@ -27,6 +27,7 @@ pub record AnswerExamples : Type 0 where
   pub hand_back : IsAnswered (opens ++ codes "deposit,claim,z4\ndeposit,take,z4\ndeposit,yield,z4\ndeposit,release,z4")
       (opened ++ codes "1 1 done\n2 1 noplate\n3 1 shut closed\n4 2 done\n") Clean
   pub other_places : IsAnswered (codes "start,0101101010,65537\n") (codes "0 65537 start 5\n") Clean
+  pub six_plates : IsAnswered (codes "start,1110010101,77\n") (codes "0 77 start 6\n") Clean
   pub start_alone : IsAnswered (codes "start,1010010101,1048570\n") (codes "0 1048570 start 5\n") Clean
   pub no_request : IsAnswered (opens ++ codes "watch,inquire,z2\nfeed,claim,z7\nwatch,inquire,z2\n")
       (opened ++ codes "1 0 zone free 0 closed\nfault badrow 2\n") (Refused (BadRow 2))
@@ -93,7 +94,9 @@ pub record StopExamples : Type 0 where
   pub stop_of_a_zone : IsAnswered (opens2 ++ codes "watch,stop,z1\n")
       (opened2 ++ codes "fault badrow 1\n") (Refused (BadRow 1))
   pub start_alone : IsAnswered (codes "start2,0100000000,7\n") (codes "0 7 start2 1\n") Clean
+  pub two_plates : IsAnswered (codes "start2,0000101000,3\n") (codes "0 3 start2 2\n") Clean
   pub five_plates : IsAnswered (codes "start2,1010010101,1048570\n") (codes "0 1048570 start2 5\n") Clean
+  pub six_plates : IsAnswered (codes "start2,1101101010,524288\n") (codes "0 524288 start2 6\n") Clean
   pub no_places : HasBadStart (codes "start2\n")
   pub nine_places : HasBadStart (codes "start2,000000000\n")
   pub seven_plates : HasBadStart (codes "start2,1111101001\n")

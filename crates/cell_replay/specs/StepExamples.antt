@@ -1,13 +1,16 @@
 -- The steps of an answer, one by one: versions, requests, ends, what is left, and what is written.
-use Rattle.std.specs.Prelude.{◌≡◌, ℕ, true, false, List, [], ◌∷◌, length, map, codes, Option, Some, None, Ok, Err}
+use Rattle.std.specs.Prelude.{◌≡◌, ℕ, Bool, true, false, List, [], ◌∷◌, length, map, codes, Option, Some, None, Ok, Err}
 use Rattle.std.specs.Io.KnownBytes.{Appends}
 use Rattle.csv.specs.declared.reader.Reader.{Reader}
 use Rattle.cell_rules.specs.Types.{Feed, Table, Robot, Press, Deposit, Crane, Watch, Z1, Z2, Z3, Z4, Z5, Z6}
 use Rattle.cell_rules.specs.Types.{Claim, Give, Yield, Take, Release, SetPose, Advance, Inquire, Stop, Resume}
 use Rattle.cell_rules.specs.Types.{Travelling}
 use Rattle.cell_types.specs.declared.pose.Pose.TheVariants.{Standing}
-use Rattle.cell_rules.specs.Names.{ModelState, empty, start_state}
+use Rattle.cell_rules.specs.Names.{ModelState, PlaceSet, empty, places_in, places_of, start_state}
+use Rattle.cell_rules.specs.Start.{IsStart}
+use Rattle.csv_rows.specs.Numbers.{number_in}
 use Rattle.csv_rows.specs.Rows.{HasRows, Row}
+use Rattle.csv_rows.specs.declared.script_end.ScriptFault.{ScriptFault}
 use Rattle.csv_rows.specs.declared.script_end.ScriptFault.TheVariants.{BadRow, BadStart, Long, NoStart}
 use Rattle.csv_rows.specs.declared.script_end.Outcome.{Outcome}
 use Rattle.csv_rows.specs.declared.script_end.Outcome.TheVariants.{Clean, Refused}
@@ -19,7 +22,7 @@ use Rattle.cell_replay.specs.Records.{GivesRow, RowsLeft}
 use Rattle.cell_replay.specs.Requests.{machine_of, request, request_by, request_fields, request_of}
 use Rattle.cell_replay.specs.Script.{byte_limit, end_of, event_lines, events_from, history_of, is_cut_of, line_of}
 use Rattle.cell_replay.specs.Script.{lines_from, outcome_from, requests_in, rows_start, script_outcome, script_text}
-use Rattle.cell_replay.specs.Script.{start_line, used, without_last}
+use Rattle.cell_replay.specs.Script.{start_at, start_fields, start_in, start_line, used, without_last}
 use Rattle.cell_replay.specs.ScriptExamples.{asks, first, nonsense}
 use Rattle.cell_replay.specs.Versions.{all_versions, further_calls, has_call, version_of, version_word}
 use Rattle.cell_replay.specs.Writing.{IsGrown, Writes, WritesEnd, WritesLine, WritesScript, lines_after, lines_left}
@@ -27,6 +30,7 @@ use Rattle.cell_replay.specs.Writing.{outcome_left, requests_left}
 use Rattle.cell_replay.specs.declared.fault.ReplayFault.{ReplayFault}
 use Rattle.cell_replay.specs.declared.fault.ReplayFault.TheVariants.{Read, Write, Memory}
 use Rattle.cell_replay.specs.declared.request.Request.{Request}
+use Rattle.cell_replay.specs.declared.version.Version.{Version}
 use Rattle.cell_replay.specs.declared.version.Version.TheVariants.{First, Second}
 
 pub record VersionExamples : Type 0 where
@@ -94,6 +98,24 @@ pub record RequestExamples : Type 0 where
   pub no_call : request_by (Some Crane) None ≡ None
   pub call_alone : request_by None (Some Advance) ≡ None
   pub neither : request_by None None ≡ None
+
+-- A start's fields, of any places and any stamp: the state that they open with, or the start is refused. The version
+-- changes nothing of it.
+pub record StartSteps : Type 0 where
+  pub opens : (full : PlaceSet) (stamp : ℕ) → IsStart full stamp → start_at full stamp ≡ Ok (start_state full stamp)
+  pub refused : (full : PlaceSet) (stamp : ℕ) → ¬ IsStart full stamp → start_at full stamp ≡ Err BadStart
+  pub by_fields : (places stamp : List ℕ) (flags : List Bool) (number : ℕ) → places_in places ≡ Some flags
+      → number_in stamp ≡ Some number → start_fields (places ∷ stamp ∷ []) ≡ start_at (places_of flags) number
+  pub unstamped : (places : List ℕ) → start_fields (places ∷ []) ≡ start_fields (places ∷ codes "0" ∷ [])
+  pub no_number : (places stamp : List ℕ) → number_in stamp ≡ None
+      → start_fields (places ∷ stamp ∷ []) ≡ Err BadStart
+  pub field_more : (places stamp more : List ℕ) (rest : Row)
+      → start_fields (places ∷ stamp ∷ more ∷ rest) ≡ Err BadStart
+  pub state_of_any : (version : Version) (fields : Row) (s : ModelState) → start_fields fields ≡ Ok s
+      → start_in (version_word version ∷ fields) ≡ Ok (record { version = version; state = s })
+  pub refused_of_any : (version : Version) (fields : Row) (fault : ScriptFault) → start_fields fields ≡ Err fault
+      → start_in (version_word version ∷ fields) ≡ Err fault
+  pub no_version : (word : List ℕ) (fields : Row) → version_of word ≡ None → start_in (word ∷ fields) ≡ Err NoStart
 
 abbrev pub bare : ModelState
 bare = start_state empty 7
@@ -213,6 +235,7 @@ pub record LeftExamples : Type 0 where
 pub record StepsAreMet : Type 0 where
   pub versions : VersionExamples
   pub requests : RequestExamples
+  pub starts : StartSteps
   pub ends : EndExamples
   pub writings : WritingExamples
   pub left : LeftExamples
