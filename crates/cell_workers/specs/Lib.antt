@@ -1,3 +1,4 @@
 pub mod Records
 pub mod Results
 pub mod Laws
+pub mod LastMoments
