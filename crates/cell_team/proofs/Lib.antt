@@ -4,3 +4,4 @@ mod Waiting
 mod InsidePress
 mod WrongRows
 mod RenewalRows
+mod NextCallRows

@@ -16,10 +16,9 @@ use Rattle.cell_belts_crane.specs.declared.feed.FeedStep.TheVariants as feed_ste
 use Rattle.cell_robot.specs.declared.robot.RobotStep.TheVariants as robot_step
 use Rattle.cell_table_press.specs.declared.press.PressStep.TheVariants as press_step
 use Rattle.cell_table_press.specs.declared.table.TableStep.TheVariants as table_step
-use Rattle.cell_rules.specs.Types.{Refusal, Worn}
-use Rattle.cell_team.specs.Heeded.{is_worn}
 use Rattle.cell_team.specs.WrongPrograms as wrong
 use Rattle.cell_team.specs.WrongPrograms.{by_feed, by_table, by_robot, by_press, by_deposit, by_crane, RightRows, WrongProgramsAreRefused, WrongRowsAre}
+use Rattle.cell_team.proofs.lemmas.NextCalls.{only_worn}
 use Rattle.cell_team.proofs.lemmas.Together.{none-refused}
 
 -- a start with these plates, and the machines there
@@ -49,7 +48,7 @@ Follows t p [] q = p ≡ q
 Follows t p (Asks c ∷ turns) q = ((t.row p).call ≡ Some c) × Follows t (t.row p).next turns q
 Follows t p (Drives reading act ∷ turns) q = ((t.row p).call ≡ None) × (t.drives p reading act × Follows t (t.after_drive p reading act) turns q)
 
-driven : {S : Type 0} (program : Program S) (p u q : S) (events : List Event) → program.moves p u → Reached program u events q → Reached program p events q
+pub driven : {S : Type 0} (program : Program S) (p u q : S) (events : List Event) → program.moves p u → Reached program u events q → Reached program p events q
 driven program p u q [] move k = (suc k.0, (u, move, k.1))
 driven program p u q (e ∷ events) move k = (k.0, k.1, (suc k.2.0, (u, move, k.2.1)), k.3, k.4, k.5)
 
@@ -309,10 +308,6 @@ lands_in_a_shut_zone law =
 
 right-rows : RightRows
 right-rows = record { feed = none-refused scales; table = none-refused scales; robot = none-refused scales; press = none-refused scales; deposit = none-refused scales; crane = none-refused scales }
-
-only_worn : (r : Refusal) → is_worn r ≡ true → r ≡ Worn
-only_worn Worn e = refl
-only_worn _ e = cc
 
 wrong-rows : WrongRowsAre
 wrong-rows = record {

@@ -11,3 +11,4 @@ pub mod Stopping
 pub mod Turned
 pub mod Sensed
 pub mod Renewed
+pub mod NextCalls

@@ -1,6 +1,7 @@
 //! Laws of the six programs together. Each is the contract of a function with an empty body.
 ghost use Rattle.cell_team.specs.Heeded.{NoMachineIsRefused, NoMachineIsStopped};
 ghost use Rattle.cell_parts.specs.Axes.{CellScales};
+ghost use Rattle.cell_team.specs.NextCalls.{NextCallsAreHeeded};
 ghost use Rattle.cell_team.specs.Renewals.{NoRenewedMachineIsRefused, RenewalExamples};
 ghost use Rattle.cell_team.specs.WrongPrograms.{WrongProgramsAreRefused};
 
@@ -22,6 +23,12 @@ pub fn no_renewed_machine_is_refused()
 /// with any stamp, and after two.
 pub fn renewals_are_met()
     ensures { (c : CellScales) → RenewalExamples c }
+{}
+
+/// The same of each machine by its name, and how a machine comes on in a history: by an answer that
+/// leads on, by a refusal to where it was, and by driving.
+pub fn next_calls_are_heeded()
+    ensures { (c : CellScales) → NextCallsAreHeeded c }
 {}
 
 /// So in such a history no refusal has ever stopped a machine, but a worn one.
