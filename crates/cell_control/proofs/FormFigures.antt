@@ -1,14 +1,18 @@
 -- The small program meets its figures.
-use Rattle.std.proofs.Common.{◌≡◌, ℕ, zero, suc, ◌+◌, ◌<◌, Bool, true, false, refl, ap, arith, subst, inl, inr, [], Option, Some, None, Result, Ok, Err}
+use Rattle.std.proofs.Common.{◌≡◌, ℕ, zero, suc, ◌+◌, ◌<◌, Bool, true, false, refl, sym, ap, arith, subst, inl, inr, List, [], ◌∷◌, Option, Some, None, Result, Ok, Err}
 use Rattle.std.specs.Prelude.{◌⊎◌, ⊤}
-use Rattle.cell_rules.specs.Types.{Machine, Posture, Press, Robot, Refusal, Z2, Z3, Call, Claim, Inquire, Release, Held, Shut, OpenIn, Closed, Done, Settled, Reply}
+use Rattle.cell_rules.specs.Types.{Machine, Posture, Press, Robot, Refusal, Z2, Z3, Call, Claim, Inquire, Release, Held, Shut, OpenIn, Closed, Done, Settled, Reply, Event}
 use Rattle.cell_rules.specs.declared.heard.LineFault.{LineFault}
 use Rattle.cell_sensors.specs.declared.sense.SensorFault.{SensorFault}
 use Rattle.cell_sensors.specs.declared.sense.SensorFault.TheVariants.{High}
 use Rattle.cell_control.specs.Names.{waits_on, is_inquiry, Performed, PerformsSensed}
 use Rattle.cell_control.specs.Rows.{NoOtherAnswers}
-use Rattle.cell_control.specs.Steps.{Drives, GoesOn, program_of}
-use Rattle.cell_rules.specs.Programs.{MovesIn}
+use Rattle.cell_control.specs.Steps.{Drives, GoesOn, IsReached, program_of}
+use Rattle.cell_rules.specs.Programs.{Hears, MovesIn, Reached}
+use Rattle.cell_rules.specs.Names.{IsSameFor, IsSound, ModelState, empty, own_events, start_state, zone_at}
+use Rattle.cell_rules.proofs.lemmas.Lawful.{lawful_in, sound_from}
+use Rattle.cell_rules.proofs.lemmas.Puts.{each_zone}
+use Rattle.cell_control.specs.Turns.{asked_at}
 use Rattle.cell_rules.specs.Seen.{heard_after}
 use Rattle.cell_rules.specs.declared.heard.Heard.{Heard}
 use Rattle.cell_control.proofs.lemmas.StepLemmas.{drives_on}
@@ -81,6 +85,44 @@ hears_claim : (before now : Heard) (sensed : Result ℕ SensorFault) (r : Perfor
 hears_claim before now (Err f) r (inl k) h = absurd (cc)
 hears_claim before now (Err f) r (inr k) h = absurd (omega (arith, k.1))
 hears_claim before now (Ok reading) r s h = subst (λ x. now ≡ heard_after before (Claim Z3) x) h.1.0 h.1.1
+
+-- what a turn hears by what its sensors say
+heard_claim : (before now : Heard) (sensed : Result ℕ SensorFault) → small.senses 3 sensed → Hears (asked_at small sensed Claiming) before now → (r : Result Reply LineFault) × (now ≡ heard_after before (Claim Z3) r)
+heard_claim before now (Err f) (inl k) h = absurd (cc)
+heard_claim before now (Err f) (inr k) h = absurd (omega (arith, k.1))
+heard_claim before now (Ok reading) k h = h
+
+heard_nothing : (before now : Heard) (sensed : Result ℕ SensorFault) → Hears (asked_at small sensed Rising) before now → now ≡ before
+heard_nothing before now (Err f) h = h
+heard_nothing before now (Ok reading) h = h
+
+unread : (before now : Heard) (sensed : Result ℕ SensorFault) → sensed ≡ Err High → Hears (asked_at small sensed Claiming) before now → now ≡ before
+unread before now (Err f) e h = h
+unread before now (Ok reading) e h = absurd (cc)
+
+-- from a step that can't drive, nothing is reached but itself
+stuck : (n : ℕ) (q : SmallStep) → MovesIn (program_of small) n Stuck q → Stuck ≡ q
+stuck zero q k = k
+stuck (suc n) q k = absurd (k.1.drives)
+
+none_from_stuck : (events : List Event) → ¬ Reached (program_of small) Stuck events Rising
+none_from_stuck [] k = let lie : Stuck ≡ Rising = stuck k.0 Rising k.1 in cc
+none_from_stuck (e ∷ events) k =
+    let here : Stuck ≡ k.0 = stuck k.2.0 k.0 k.2.1 in
+    let lie : None ≡ Some e.call = subst (λ p. (row_at p).call ≡ Some e.call) (sym here) k.3 in
+    cc
+
+from_stuck : (first : SmallStep) (events : List Event) → first ≡ Stuck → ¬ Reached (program_of small) first events Rising
+from_stuck first events e k = none_from_stuck events (subst (λ p. Reached (program_of small) p events Rising) e k)
+
+same_for_itself : (s : ModelState) → IsSameFor Press s s
+same_for_itself s = record { owned = λ z e. refl; hosted = λ z e. refl; places = λ p e. refl }
+
+start_is_sound : IsSound (start_state empty 0)
+start_is_sound = sound_from (start_state empty 0) (omega arith) (each_zone (λ z. lawful_in empty z (zone_at (start_state empty 0) z) ≡ true) refl refl refl refl refl refl)
+
+rising : IsReached (record small { start = λ s. Rising }) (start_state empty 0) [] Rising
+rising = record { renewals = 0; first = Rising; in_step = refl; come = (0, refl) }
 
 abbrev call_in : Option (Call × Result Reply LineFault) → Option Call
 call_in None = None
@@ -187,5 +229,26 @@ forms = record {
   hearing = record {
     hears = λ heard. ((Ok (Falling, 100)), record { sensed = Ok 3; senses = inl (refl, omega arith); performs = (Ok (Settled Done 5), (refl, refl), refl) }, refl);
     hears_no_other = λ before now k. hears_claim before now k.1.sensed k.0 k.1.senses k.1.performs;
+  };
+  lines = record {
+    asks = λ before c r. (refl, refl);
+    asks_another = λ before now c other r apart k. apart k.0;
+    hears_another = λ before now c r apart k. apart k.1;
+    hears_what_it_asks = λ before now k. heard_claim before now k.sensed k.senses k.hears;
+    hears_any_reply = λ before r. record { sensed = Ok 3; senses = inl (refl, omega arith); hears = (r, refl) };
+    hears_nothing = λ before now k. heard_nothing before now k.sensed k.hears;
+    stopped_hears_nothing = λ before now k. k;
+    unread_hears_nothing = λ before now k. unread before now k.sensed k.senses k.hears;
+  };
+  carrying = record {
+    carried =
+        λ p s sound. record { opening = s; sound = sound; seen = []; legal = tt; first = p; in_step = (refl, refl); come = (0, refl); same = same_for_itself s };
+    not_in_step = λ p s k. k.in_step;
+    unsound = λ p s k. k.in_step k.sound;
+    came_not = λ s k. from_stuck k.first (own_events k.seen Press) k.in_step k.come;
+    same = λ p s k. (k.opening, k.seen, k.legal, k.same);
+    meets = λ none opening seen sound legal reached. refl;
+    any_while_it_asks = λ none. absurd (cc);
+    meets_not = λ k. (let lie : 4 ≡ 1 = k refl (start_state empty 0) [] start_is_sound tt rising in omega (arith, lie));
   };
 }

@@ -1,11 +1,13 @@
 -- A small program, and what the forms of rows, turns, controllers and lines say of it.
-use Rattle.std.specs.Prelude.{◌≡◌, ⊤, ℕ, zero, suc, ◌+◌, ◌<◌, ◌≤◌, ◌⊎◌, Bool, true, false, List}
+use Rattle.std.specs.Prelude.{◌≡◌, ◌≢◌, ⊤, ℕ, zero, suc, ◌+◌, ◌<◌, ◌≤◌, ◌⊎◌, Bool, true, false, List}
 use Rattle.std.specs.Prelude.{[], ◌∷◌, Option, Some, None}
-use Rattle.std.specs.Prelude.{Ok, Err}
-use Rattle.cell_rules.specs.Types.{Machine, Posture, Press, Robot, Z2, Z3, Claim, Give, Inquire, Release, Held, NoPlate}
+use Rattle.std.specs.Prelude.{Result, Ok, Err}
+use Rattle.cell_rules.specs.Types.{Machine, Posture, Press, Robot, Z2, Z3, Call, Claim, Give, Inquire, Release, Held}
+use Rattle.cell_rules.specs.Types.{NoPlate, Reply}
 use Rattle.cell_rules.specs.Types.{Done, Refused, Shown, OpenIn, Settled, Event}
-use Rattle.cell_rules.specs.Names.{ModelState, IsSound, heard_after}
+use Rattle.cell_rules.specs.Names.{ModelState, IsLegal, IsSameFor, IsSound, after, heard_after}
 use Rattle.cell_rules.specs.declared.heard.Heard.{Heard}
+use Rattle.cell_rules.specs.declared.heard.LineFault.{LineFault}
 use Rattle.cell_sensors.specs.declared.sense.SensorFault.TheVariants.{High}
 use Rattle.cell_control.specs.declared.controller.Controller.{Controller}
 use Rattle.cell_control.specs.declared.controller.TakenTurn.{TakenTurn}
@@ -14,11 +16,12 @@ use Rattle.cell_control.specs.declared.fault.CtlFault.TheVariants.{Memory}
 use Rattle.cell_control.specs.declared.row.Row.{Row}
 use Rattle.cell_control.specs.declared.row.Waits.TheVariants as waits
 use Rattle.cell_control.specs.Controllers.{program_in, step_in, stopped_in, rest_in, OwnsLine, HasReached, TakesTurnBy}
-use Rattle.cell_control.specs.Controllers.{GoesOnBy, MeetsDemands}
+use Rattle.cell_control.specs.Controllers.{AsksAndHears, GoesOnBy, HearsBy, MeetsDemands}
 use Rattle.cell_control.specs.Row.{row_that_asks, row_that_drives, with_waits}
 use Rattle.cell_control.specs.Rows.{AskRow, CheckRow, DriveRow, InquiryRow, NoOtherAnswers, UntilFree, UntilOpen}
 use Rattle.cell_control.specs.Rows.{UntilRoom, is_inquiry}
-use Rattle.cell_control.specs.Steps.{Drives, GoesOn, IsReached, Steps, program_of, with_senses}
+use Rattle.cell_control.specs.Steps.{Drives, GoesOn, IsCarriedOver, IsReached, MeetsDemandsOnceReached, Steps}
+use Rattle.cell_control.specs.Steps.{program_of, with_senses}
 use Rattle.cell_control.specs.Turns.{answered, at_rest, turned}
 use Rattle.cell_control.specs.Wiring.{GoesOnWired, IsUnwired, IsWired, TurnsWired, wiring_of}
 
@@ -233,6 +236,44 @@ pub record HearingExamples : Type 0 where
   pub hears_no_other : (before now : Heard) → ClaimsOnLine before now
       → now ≡ heard_after before (Claim Z3) (Ok (Settled Done 5))
 
+-- a line that is its own hearing hears what came back from what it asked; a turn of a controller is heard by what its
+-- step asks once its sensors are checked
+abbrev pub Asks : Call → Heard → Heard → Call → Result Reply LineFault → Type 0
+Asks only before now call reply = AsksAndHears (λ was c r is. c ≡ only) (λ line. line) before now call reply
+
+abbrev pub HearsAtThree : Controller ℕ SmallStep ℕ ℕ ℕ → Heard → Heard → Type 0
+HearsAtThree c before now = HearsBy by c 3 before now
+
+pub record LineExamples : Type 0 where
+  pub asks : (before : Heard) (c : Call) (r : Result Reply LineFault) → Asks c before (heard_after before c r) c r
+  pub asks_another : (before now : Heard) (c other : Call) (r : Result Reply LineFault) → c ≢ other
+      → ¬ Asks other before now c r
+  pub hears_another : (before now : Heard) (c : Call) (r : Result Reply LineFault) → now ≢ heard_after before c r
+      → ¬ Asks c before now c r
+  pub hears_what_it_asks : (before now : Heard) → HearsAtThree (running Claiming) before now
+      → (r : Result Reply LineFault) × (now ≡ heard_after before (Claim Z3) r)
+  pub hears_any_reply : (before : Heard) (r : Result Reply LineFault)
+      → HearsAtThree (running Claiming) before (heard_after before (Claim Z3) r)
+  pub hears_nothing : (before now : Heard) → HearsAtThree (running Rising) before now → now ≡ before
+  pub stopped_hears_nothing : (before now : Heard) → HearsAtThree stopped before now → now ≡ before
+  pub unread_hears_nothing : (before now : Heard)
+      → HearsBy (λ program. with_senses small (λ sense said. said ≡ Err High)) (running Claiming) 3 before now
+      → now ≡ before
+
+-- what a step that was carried over needs of the interlock before, each thing alone; and when the demands of motors are
+-- met once a step is reached
+pub record CarryingExamples : Type 0 where
+  pub carried : (p : SmallStep) (s : ModelState) → IsSound s
+      → IsCarriedOver small (λ first opening. (first ≡ p) × (opening ≡ s)) p s
+  pub not_in_step : (p : SmallStep) (s : ModelState) → ¬ IsCarriedOver small (λ first opening. ⊥) p s
+  pub unsound : (p : SmallStep) (s : ModelState) → ¬ IsCarriedOver small (λ first opening. ¬ IsSound opening) p s
+  pub came_not : (s : ModelState) → ¬ IsCarriedOver small (λ first opening. first ≡ Stuck) Rising s
+  pub same : (p : SmallStep) (s : ModelState) → IsCarriedOver small (λ first opening. ⊤) p s
+      → (opening : ModelState) × (seen : List Event) × IsLegal opening seen × IsSameFor Press (after opening seen) s
+  pub meets : MeetsDemandsOnceReached small Rising 1
+  pub any_while_it_asks : MeetsDemandsOnceReached small Claiming 4
+  pub meets_not : ¬ MeetsDemandsOnceReached (record small { start = λ s. Rising }) Rising 4
+
 pub record FormsAreMet : Type 0 where
   pub rows : RowExamples
   pub asks : AskExamples
@@ -243,3 +284,5 @@ pub record FormsAreMet : Type 0 where
   pub wirings : WiringExamples
   pub going : GoingExamples
   pub hearing : HearingExamples
+  pub lines : LineExamples
+  pub carrying : CarryingExamples

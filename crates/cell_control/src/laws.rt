@@ -35,8 +35,8 @@ pub fn waits_by_refusals()
 {}
 
 /// A small program, in figures: the rows of its steps, its checks and drives, the answers to its
-/// calls, its turns, and a controller of it on its line and off it; where it goes on, and what its
-/// line hears.
+/// calls, its turns, and a controller of it on its line and off it; where it goes on, what its line
+/// hears, and what a step that was carried over needs.
 #[tactic(auto, using(crate::proofs::FormFigures::forms))]
 pub fn forms_are_met()
     ensures { FormsAreMet }
