@@ -4,6 +4,7 @@ mod DemandsMet
 mod TeamTested
 mod Taking
 mod StaysInStep
+mod GoesOn
 mod FeedResumes
 mod FeedTeam
 mod FeedNumbers

@@ -10,5 +10,6 @@ pub mod Teams
 pub mod Checkpoints
 pub mod TeamTest
 pub mod Laws
+pub mod GoingOn
 pub mod Figures
 pub mod TestExamples

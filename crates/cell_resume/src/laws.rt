@@ -2,6 +2,8 @@
 //! the contract of a function with an empty body.
 ghost use Rattle.cell_resume.specs.Laws.{NoResumedMachineIsRefused, ResumedMachinesStayInStep};
 ghost use Rattle.cell_resume.specs.Laws.{MachinesAreInStep};
+ghost use Rattle.cell_parts.specs.Axes.{CellScales};
+ghost use Rattle.cell_resume.specs.GoingOn.{MachinesGoOn};
 ghost use Rattle.cell_resume.specs.Figures.{FigureRows};
 ghost use Rattle.cell_resume.specs.TestExamples.{TestsAreMet};
 
@@ -22,6 +24,12 @@ pub fn resumed_machines_stay_in_step()
 /// So it is in each legal history from a start.
 pub fn machines_are_in_step()
     ensures { MachinesAreInStep }
+{}
+
+/// The same machine by machine, from each sound state with which all are in step, and from a start:
+/// each stays in step, and its next call is refused only as worn, or with what its step waits for.
+pub fn machines_go_on()
+    ensures { (c : CellScales) → MachinesGoOn c }
 {}
 
 /// What the bytes mean, in figures: the number of each step of each machine, and the fourteen bytes
