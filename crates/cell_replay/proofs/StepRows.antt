@@ -1,14 +1,15 @@
 -- The steps of an answer in the examples.
-use Rattle.std.proofs.Common.{rules, ◌≡◌, ◌≤◌, ℕ, Bool, true, false, ◌&&◌, not, nat_le, List, [], ◌∷◌, length, take, drop, refl, subst, Option, Some, None, Ok, Err, arith, codes, le-leb, leb-true}
+use Rattle.std.proofs.Common.{rules, ◌≡◌, ◌≤◌, ◌++◌, ℕ, Bool, true, false, ◌&&◌, not, nat_le, List, [], ◌∷◌, length, take, drop, refl, subst, Option, Some, None, Ok, Err, arith, codes, le-leb, leb-true, le-ltb, lt-ltb}
 use Rattle.std.specs.Prelude.{option_map}
-use Rattle.std.specs.Fmt.{digits}
+use Rattle.std.specs.Fmt.{decimal, digits}
 use Rattle.cell_replay.specs.Requests.{call_of, machine_of, request_of}
-use Rattle.cell_replay.specs.Script.{history_of, is_cut_of, requests_in, start_fields, start_in, start_of}
-use Rattle.cell_replay.specs.StepExamples.{EndExamples, LeftExamples, RequestExamples, StartSteps, StepsAreMet, VersionExamples, WritingExamples}
+use Rattle.cell_replay.specs.Script.{history_of, is_cut_of, requests_in, start_fields, start_in, start_line, start_of}
+use Rattle.cell_replay.specs.StepExamples.{EndExamples, EndsByNumber, LeftExamples, RequestExamples, StartSteps, StepsAreMet, VersionExamples, WritingExamples}
 use Rattle.cell_replay.specs.Versions.{version_word}
+use Rattle.cell_replay.proofs.Writings.{end-all, end-bad}
 use Rattle.cell_replay.specs.declared.version.Version.{Version}
 use Rattle.cell_replay.specs.declared.version.Version.TheVariants.{First, Second}
-use Rattle.cell_rules.specs.Names.{ModelState, PlaceSet, has, is_start, last_stamp, places_in, size_of}
+use Rattle.cell_rules.specs.Names.{ModelState, PlaceSet, has, is_start, last_stamp, places_in, plates_of, size_of}
 use Rattle.cell_rules.specs.ModelState.{max_plates}
 use Rattle.cell_rules.specs.Start.{IsStart}
 use Rattle.cell_types.specs.declared.place.Place.TheVariants.{PressIn, PressOut}
@@ -113,6 +114,27 @@ ends = record {
   too_many_left = refl;
 }
 
+first-line : (version : Version) (s : ModelState) → start_line (record { version = version; state = s }) ≡ codes "0 " ++ (decimal s.stamp ++ (codes " " ++ (version_word version ++ (codes " " ++ (decimal (plates_of s) ++ codes "\n")))))
+unfolding digits
+first-line First s = refl
+first-line Second s = refl
+
+by-number : EndsByNumber
+unfolding lines_after
+by-number = record {
+  line = λ number stamp text. refl;
+  first_line = first-line;
+  next_line = λ done s r later. refl;
+  all_answered = end-all false;
+  all_answered_of_cut = end-all true;
+  bad_row = end-bad;
+  too_many = λ is_cut count more. rw (lt-ltb _ _ more) refl;
+  whole = λ bytes few. le-ltb _ _ few;
+  cut = λ bytes more. lt-ltb _ _ more;
+  room = λ taken. refl;
+  no_room = λ is_cut taken. refl;
+}
+
 -- what holds of known bytes
 known : {A : Type 0} (P : A → Type 0) (a : A) → P a → (x : A) → Some a ≡ Some x → P x
 known P a p x e = let same : a ≡ x = cc in subst P same p
@@ -180,4 +202,4 @@ left = record {
 }
 
 pub steps_are_met : StepsAreMet
-steps_are_met = record { versions = versions; requests = requests; starts = starts; ends = ends; writings = writings; left = left }
+steps_are_met = record { versions = versions; requests = requests; starts = starts; ends = ends; ends_by_number = by-number; writings = writings; left = left }

@@ -63,13 +63,13 @@ outcome-more v is_cut n row rest r few good =
     let count = ap length (requests-more v n row rest r few good) in
     ap₂ (end_of is_cut) (omega (arith, count)) (omega arith)
 
-end-bad : (is_cut : Bool) (n count : ℕ) → n < count → n < max_records → end_of is_cut n count ≡ Refused (BadRow (n + 1))
+pub end-bad : (is_cut : Bool) (n count : ℕ) → n < count → n < max_records → end_of is_cut n count ≡ Refused (BadRow (n + 1))
 end-bad is_cut n count more few = rw (lt-ltb n count more, ne_eqb n max_records (λ e. omega (arith, e, few))) refl
 
 outcome-bad : (v : Version) (is_cut : Bool) (n : ℕ) (row : Row) (rest : List Row) → n < max_records → request_of v row ≡ None → outcome_left v is_cut n (row ∷ rest) ≡ Refused (BadRow (n + 1))
 outcome-bad v is_cut n row rest few bad = outcome-ended v is_cut n (row ∷ rest) (requests-bad v n row rest few bad) ∙ end-bad is_cut n (n + length (row ∷ rest)) (omega arith) few
 
-end-all : (is_cut : Bool) (n : ℕ) → end_of is_cut n n ≡ end_of is_cut 0 0
+pub end-all : (is_cut : Bool) (n : ℕ) → end_of is_cut n n ≡ end_of is_cut 0 0
 end-all is_cut n = rw (le-ltb n n (omega arith)) refl
 
 outcome-none : (v : Version) (is_cut : Bool) (n : ℕ) → outcome_left v is_cut n [] ≡ end_of is_cut 0 0

@@ -1,12 +1,16 @@
 -- The steps of an answer, one by one: versions, requests, ends, what is left, and what is written.
-use Rattle.std.specs.Prelude.{◌≡◌, ℕ, Bool, true, false, List, [], ◌∷◌, length, map, codes, Option, Some, None, Ok, Err}
+use Rattle.std.specs.Prelude.{◌≡◌, ◌<◌, ◌≤◌, ◌+◌, ◌-◌, ◌++◌, ℕ, Bool, true, false, List, [], ◌∷◌, length, map, codes}
+use Rattle.std.specs.Prelude.{Option, Some, None, Ok, Err}
+use Rattle.std.specs.Fmt.{decimal}
 use Rattle.std.specs.Io.KnownBytes.{Appends}
 use Rattle.csv.specs.declared.reader.Reader.{Reader}
 use Rattle.cell_rules.specs.Types.{Feed, Table, Robot, Press, Deposit, Crane, Watch, Z1, Z2, Z3, Z4, Z5, Z6}
 use Rattle.cell_rules.specs.Types.{Claim, Give, Yield, Take, Release, SetPose, Advance, Inquire, Stop, Resume}
 use Rattle.cell_rules.specs.Types.{Travelling}
 use Rattle.cell_types.specs.declared.pose.Pose.TheVariants.{Standing}
-use Rattle.cell_rules.specs.Names.{ModelState, PlaceSet, empty, places_in, places_of, start_state}
+use Rattle.cell_rules.specs.Names.{ModelState, PlaceSet, empty, next, places_in, places_of, plates_of, reply}
+use Rattle.cell_rules.specs.Names.{start_state}
+use Rattle.cell_types.specs.Answers.{answer_text}
 use Rattle.cell_rules.specs.Start.{IsStart}
 use Rattle.csv_rows.specs.Numbers.{number_in}
 use Rattle.csv_rows.specs.Rows.{HasRows, Row}
@@ -156,6 +160,26 @@ pub record EndExamples : Type 0 where
   pub bad_left : outcome_left Second true 2 (asks ∷ nonsense ∷ asks ∷ []) ≡ Refused (BadRow 4)
   pub too_many_left : outcome_left Second false 65535 (asks ∷ asks ∷ []) ≡ Refused Long
 
+-- lines and ends, whatever the numbers are
+pub record EndsByNumber : Type 0 where
+  pub line : (number stamp : ℕ) (text : List ℕ) → line_of number stamp text
+      ≡ decimal number ++ (codes " " ++ (decimal stamp ++ (codes " " ++ (text ++ codes "\n"))))
+  pub first_line : (version : Version) (s : ModelState) → start_line (record { version = version; state = s })
+      ≡ codes "0 " ++ (decimal s.stamp ++ (codes " " ++ (version_word version ++ (codes " "
+      ++ (decimal (plates_of s) ++ codes "\n")))))
+  pub next_line : (done : ℕ) (s : ModelState) (r : Request) (later : List Request) → lines_after done s (r ∷ later)
+      ≡ line_of (done + 1) (next s r.machine r.call).stamp (answer_text (reply s r.machine r.call))
+      ∷ lines_after (done + 1) (next s r.machine r.call) later
+  pub all_answered : (count : ℕ) → end_of false count count ≡ Clean
+  pub all_answered_of_cut : (count : ℕ) → end_of true count count ≡ Refused Long
+  pub bad_row : (is_cut : Bool) (answered count : ℕ) → answered < count → answered < 65536
+      → end_of is_cut answered count ≡ Refused (BadRow (answered + 1))
+  pub too_many : (is_cut : Bool) (count : ℕ) → 65536 < count → end_of is_cut 65536 count ≡ Refused Long
+  pub whole : (bytes : List ℕ) → length bytes ≤ 4194304 → is_cut_of bytes ≡ false
+  pub cut : (bytes : List ℕ) → 4194304 < length bytes → is_cut_of bytes ≡ true
+  pub room : (taken : ℕ) → room_of None taken ≡ 4194304 - taken
+  pub no_room : (is_cut : Bool) (taken : ℕ) → room_of (Some is_cut) taken ≡ 0
+
 -- of the lines ab and c, which have this end
 abbrev pub two_lines : List (List ℕ)
 two_lines = codes "ab\n" ∷ codes "c\n" ∷ []
@@ -237,5 +261,6 @@ pub record StepsAreMet : Type 0 where
   pub requests : RequestExamples
   pub starts : StartSteps
   pub ends : EndExamples
+  pub ends_by_number : EndsByNumber
   pub writings : WritingExamples
   pub left : LeftExamples
