@@ -20,6 +20,7 @@ mod Counts
 mod Refusals
 mod Reports
 mod ReportRows
+mod NumberLines
 mod OneFault
 mod AuditRows
 mod StampRows

@@ -5,7 +5,7 @@ use Rattle.cell_rules.specs.Names.{event, next}
 use Rattle.cell_report.specs.AuditExamples.{claimed, entry, feed_claims, feed_errs, free, journals_of, noted, one_left_out, opening, refused, shown, two_pairs}
 use Rattle.cell_report.specs.Order.{AreInOrder}
 use Rattle.cell_report.specs.StampExamples.{CountExamples, FitExamples, KeyExamples, StampExamples, claims, claims_again, goes_back, two_ask}
-use Rattle.cell_report.proofs.AuditRows.{claim_fits, gap_row, later, twice_row}
+use Rattle.cell_report.proofs.AuditRows.{claim_fits, faults, gap_row, later, orders, twice_row}
 use Rattle.cell_report.proofs.Checks.{gapless, no_twice, rising_stamps, within_top}
 use Rattle.cell_report.proofs.OneFault.{order_is_one}
 use Rattle.cell_report.proofs.Puts.{in_order_is}
@@ -159,3 +159,5 @@ fit = record {
 
 pub stamps_are_met : StampExamples
 stamps_are_met = record { keys = keys; counts = counts; fit = fit }
+
+pub ruleset audit_rows = (orders, faults, stamps_are_met)

@@ -6,6 +6,7 @@ pub mod Retraced
 pub mod Traces
 pub mod Report
 pub mod ReportExamples
+pub mod LinesByNumber
 pub mod AuditLaws
 pub mod AuditExamples
 pub mod StampExamples

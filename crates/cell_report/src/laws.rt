@@ -2,6 +2,7 @@
 
 ghost use Rattle.cell_report.specs.AuditExamples.{FaultExamples, OrderExamples};
 ghost use Rattle.cell_report.specs.AuditLaws.{FaultIsOne, OrderIsOne};
+ghost use Rattle.cell_report.specs.LinesByNumber.{LinesByNumber};
 ghost use Rattle.cell_report.specs.ReportExamples.{ReportsAreMet};
 ghost use Rattle.cell_report.specs.StampExamples.{StampExamples};
 
@@ -15,11 +16,17 @@ pub fn audits_are_one()
 
 /// Examples: journals of a few entries, their order, and why an audit refuses them: the least of
 /// several stamps, and the first of several causes; the figures of their entries, and which of them fit.
-#[tactic(auto, using(crate::proofs::AuditRows::orders, crate::proofs::AuditRows::faults, crate::proofs::StampRows::stamps_are_met))]
+#[tactic(auto, using(crate::proofs::StampRows::audit_rows))]
 pub fn audits_are_met()
     ensures order { OrderExamples }
     ensures fault { FaultExamples }
     ensures stamps { StampExamples }
+{}
+
+/// The lines of a report, whatever their numbers, words and machines are, and the order of the lines.
+#[tactic(auto, using(crate::proofs::NumberLines::lines_by_number))]
+pub fn lines_by_number()
+    ensures { LinesByNumber }
 {}
 
 /// Examples: runs with their whole reports, two with an end, of which one is stopped, and one
