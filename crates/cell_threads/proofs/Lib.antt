@@ -2,3 +2,4 @@ pub mod lemmas
 mod Names
 mod Assembling
 mod TeamRows
+mod PromiseRows

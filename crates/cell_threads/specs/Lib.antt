@@ -8,3 +8,4 @@ pub mod Six
 pub mod Watching
 pub mod Laws
 pub mod TeamExamples
+pub mod PromiseExamples

@@ -2,6 +2,7 @@
 //! contract is the law.
 ghost use Rattle.cell_unit.specs.Sides.{unit_rig, unit_table};
 ghost use Rattle.cell_threads.specs.Laws.{TurnsAreTaken, WorkersEnd, WorkersTellTurns};
+ghost use Rattle.cell_threads.specs.PromiseExamples.{PromisesAreTold, ReadyIsTold};
 ghost use Rattle.cell_threads.specs.TeamExamples.{TeamsAreTold};
 
 use cell_control::{Part, Program};
@@ -37,4 +38,12 @@ pub fn turns_are_taken<P: Program, B: Part<Sense = P::Sense, Act = P::Act>>(
 #[tactic(auto, using(crate::proofs::TeamRows::teams_are_told))]
 pub fn teams_are_told()
     ensures { TeamsAreTold }
+{}
+
+/// Examples of six workers that are ready, each by its machine's pass, and of six of which one isn't;
+/// and what the promise of a worker says.
+#[tactic(auto, using(crate::proofs::PromiseRows::promise_rows))]
+pub fn promises_are_told()
+    ensures ready { ReadyIsTold }
+    ensures promises { PromisesAreTold }
 {}
