@@ -51,7 +51,7 @@ module _ (c : CellScales) (gives : CellGauges) where
       let lie : true ≡ false = sym e ∙ ap (λ o. is_none o) own in
       cc
 
-  stays : (w : CellState) (turns : List Turn) (steps : List Step) (n : Machine) (f : CtlFault) → IsRunBy c gives w turns steps → (w.side n).stopped ≡ Some f → ((end_of w steps).side n).stopped ≡ Some f
+  pub stays : (w : CellState) (turns : List Turn) (steps : List Step) (n : Machine) (f : CtlFault) → IsRunBy c gives w turns steps → (w.side n).stopped ≡ Some f → ((end_of w steps).side n).stopped ≡ Some f
   stays w [] [] n f r stopped = stopped
   stays w (t ∷ ts) (s ∷ ss) n f r stopped = stays s.moved ts ss n f r.1.1 (stays_if (goes_on w t.machine) (same_machine t.machine n) t.machine n t.busy w s f refl refl r.1.0 stopped)
   stays w _ _ n f r stopped = absurd r

@@ -24,6 +24,7 @@ mod OneTurn
 mod OneSense
 mod OneRun
 mod FineRuns
+mod RunLaws
 mod ExampleTurns
 mod TurnRows
 mod RunRows

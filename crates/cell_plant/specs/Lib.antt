@@ -9,6 +9,7 @@ pub mod Errands
 pub mod Safety
 pub mod SafetyExamples
 pub mod Cells
+pub mod RunLaws
 pub mod Frames
 pub mod RunExamples
 pub mod RecordExamples
