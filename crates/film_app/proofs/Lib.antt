@@ -6,3 +6,4 @@ mod Serving
 mod Looping
 mod StatusLemmas
 mod FieldRows
+mod FieldNumbers

@@ -9,3 +9,4 @@ pub mod LineExamples
 pub mod WordExamples
 pub mod Statuses
 pub mod FieldExamples
+pub mod FieldsByNumber

@@ -1,6 +1,7 @@
 //! Laws of films, each the contract of a function that does nothing.
 
 ghost use Rattle.film_app.specs.FieldExamples.{FieldsAreTold};
+ghost use Rattle.film_app.specs.FieldsByNumber.{FieldsByNumber};
 ghost use Rattle.film_app.specs.LineExamples.{LineExamples};
 ghost use Rattle.film_app.specs.Plain.{LinesNeedNoEscape};
 ghost use Rattle.film_app.specs.Statuses.{StatusesTell};
@@ -24,6 +25,12 @@ pub fn words_are_met()
     ensures steps { StepsAreMet }
     ensures requests { RequestsAreMet }
     ensures fields { FieldsAreTold }
+{}
+
+/// Fields and lines, and the page of a schedule, whatever their numbers are.
+#[tactic(auto, using(crate::proofs::FieldNumbers::by_number))]
+pub fn fields_by_number()
+    ensures { FieldsByNumber }
 {}
 
 /// What each exit status says, of known bytes. At 0 the page, or the picture, is that of the frames
