@@ -1,5 +1,5 @@
 -- What is kept of a turn, by what came back: rows with literal counts and entries.
-use Rattle.std.specs.Prelude.{◌≡◌, ℕ, Bool, List, [], ◌∷◌, Option, Some, None, Ok, Err, codes}
+use Rattle.std.specs.Prelude.{◌≡◌, ◌+◌, ◌++◌, ℕ, Bool, List, [], ◌∷◌, Option, Some, None, Ok, Err, codes}
 use Rattle.cell_rules.specs.Types.{Machine, Z1, Posture, Call, Claim, Refusal, Answer, Done, Shown, Refused, Entry}
 use Rattle.cell_rules.specs.Types.{Settled, Busy}
 use Rattle.cell_rules.specs.declared.heard.LineFault.TheVariants as line
@@ -41,6 +41,26 @@ pub record CountRows (call : Call) : Type 0 where
   pub busy : (lost : ℕ) → notes_with before (Some (call, Ok (Busy lost 7))) ≡ noted 12 1 2 3 5 (kept ∷ [])
   pub out_of_memory : notes_with before (Some (call, Err line.Memory)) ≡ noted 12 1 2 3 4 (kept ∷ [])
 
+-- whatever a notebook has: a turn more, and one more of its kind; a settled call is the journal's last entry
+abbrev pub AreCounted : Notes → Notes → ℕ → ℕ → ℕ → ℕ → Type 0
+AreCounted n now done read refused busy =
+    (now.counts.turns ≡ n.counts.turns + 1) × (now.counts.done ≡ n.counts.done + done)
+    × (now.counts.read ≡ n.counts.read + read) × (now.counts.refused ≡ n.counts.refused + refused)
+    × (now.counts.busy ≡ n.counts.busy + busy)
+
+pub record AnyCounts (n : Notes) (call : Call) (stamp : ℕ) : Type 0 where
+  pub nothing : AreCounted n (notes_with n None) 0 0 0 0
+  pub done : AreCounted n (notes_with n (Some (call, Ok (Settled Done stamp)))) 1 0 0 0
+  pub shown : (owner : Option Machine) (flag : Bool) (posture : Posture)
+      → AreCounted n (notes_with n (Some (call, Ok (Settled (Shown owner flag posture) stamp)))) 0 1 0 0
+  pub refused : (r : Refusal) → AreCounted n (notes_with n (Some (call, Ok (Settled (Refused r) stamp)))) 0 0 1 0
+  pub busy : (lost : ℕ) → AreCounted n (notes_with n (Some (call, Ok (Busy lost stamp)))) 0 0 0 1
+  pub out_of_memory : AreCounted n (notes_with n (Some (call, Err line.Memory))) 0 0 0 0
+  pub settled_is_noted : (a : Answer)
+      → (notes_with n (Some (call, Ok (Settled a stamp)))).journal ≡ n.journal ++ entry call a stamp ∷ []
+  pub busy_is_not_noted : (lost : ℕ) → (notes_with n (Some (call, Ok (Busy lost stamp)))).journal ≡ n.journal
+  pub nothing_is_not_noted : (notes_with n None).journal ≡ n.journal
+
 -- ---- what a part notes, and the events of a run
 
 pub record EventRows (m : Machine) (call : Call) (stamp : ℕ) : Type 0 where
@@ -69,6 +89,7 @@ pub record StatusWords : Type 0 where
 -- all rows
 pub record NotesAreMet : Type 0 where
   pub counts : (call : Call) → CountRows call
+  pub any_counts : (n : Notes) (call : Call) (stamp : ℕ) → AnyCounts n call stamp
   pub events : (m : Machine) (call : Call) (stamp : ℕ) → EventRows m call stamp
   pub words : StatusWords
   pub values : ValueRows
