@@ -77,5 +77,6 @@ tests_hold = record {
     watch_astray = λ k. k;
     state_is_known = λ k. k;
   };
+  bytes = record { each = λ a b c d e f g h feed table robot press deposit crane. refl; lowest_first = refl; great_numbers = refl };
   resumed = λ stood s. record { goes_on = refl; begins_anew = refl; row = refl };
 }

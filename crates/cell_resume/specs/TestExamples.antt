@@ -1,5 +1,6 @@
 -- The test of six machines, one after another, in figures: which machine's number is wrong, and how.
-use Rattle.std.specs.Prelude.{◌≡◌, ℕ, true, false, Some, None, Result, Ok, Err}
+use Rattle.std.specs.Prelude.{◌≡◌, ℕ, true, false, [], ◌∷◌, Some, None, Result, Ok, Err}
+use Rattle.std.specs.Int.{w64, from_le_bytes}
 use Rattle.cell_types.specs.declared.machine.Machine.TheVariants as machine
 use Rattle.cell_rules.specs.ModelState.{ModelState}
 use Rattle.cell_belts_crane.specs.Names.{feed_steps}
@@ -95,6 +96,23 @@ pub record OtherTeams : Type 0 where
   pub deposit_astray : ¬ Stand (record start_team { deposit = full_team.deposit })
   pub crane_astray : ¬ Stand (record start_team { crane = full_team.crane })
 
+-- whatever fourteen bytes are: eight for the word, the lowest first, then each machine's number
+pub record BytesMean : Type 0 where
+  pub each : (a b c d e f g h feed table robot press deposit crane : ℕ)
+      → checkpoint_in (a ∷ b ∷ c ∷ d ∷ e ∷ f ∷ g ∷ h ∷ feed ∷ table ∷ robot ∷ press ∷ deposit ∷ crane ∷ [])
+      ≡ record {
+        word = from_le_bytes w64 (a ∷ b ∷ c ∷ d ∷ e ∷ f ∷ g ∷ h ∷ []);
+        feed = feed;
+        table = table;
+        robot = robot;
+        press = press;
+        deposit = deposit;
+        crane = crane;
+      }
+  pub lowest_first : (checkpoint_in (7 ∷ 6 ∷ 5 ∷ 4 ∷ 3 ∷ 2 ∷ 1 ∷ 255 ∷ [])).word ≡ 18374970166623929863
+  pub great_numbers : checkpoint_in (0 ∷ 0 ∷ 0 ∷ 0 ∷ 0 ∷ 0 ∷ 0 ∷ 0 ∷ 10 ∷ 11 ∷ 27 ∷ 29 ∷ 255 ∷ 13 ∷ [])
+      ≡ record { word = 0; feed = 10; table = 11; robot = 27; press = 29; deposit = 255; crane = 13 }
+
 -- what is wrong with a checkpoint
 abbrev pub Wrong : Checkpoint → ResumeFault → Type 0
 Wrong checkpoint fault = IsWrong checkpoint start_state fault
@@ -131,4 +149,5 @@ pub record TestsAreMet : Type 0 where
   pub first_told : FirstToldExamples
   pub others : OtherTeams
   pub wrong : WrongExamples
+  pub bytes : BytesMean
   pub resumed : (stood : FeedProgress) (s : ModelState) → ResumedExamples feed_steps stood s
