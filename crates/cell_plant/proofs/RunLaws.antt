@@ -1,14 +1,13 @@
 -- What a record says of a simulated run.
-use Rattle.cell_plant.proofs.Names.{◌≡◌, ◌≤◌, ◌+◌, ℕ, Bool, true, false, ◌&&◌, cond, List, [], ◌∷◌, length, count_by, Option, Some, None, is_none, refl, sym, ap, ◌∙◌, subst, arith, Machine, same_machine, one_machine, Turn, CellScales, CellGauges, CellState, Step, IsRunBy, LeadsIfBy, goes_on, end_of, is_turn_of, sum_by-cons}
-use Rattle.cell_rules.specs.Names.{ModelState}
+use Rattle.cell_plant.proofs.Names.{◌≡◌, ◌≤◌, ◌+◌, ℕ, Bool, true, false, ◌&&◌, cond, List, [], ◌∷◌, ◌++◌, length, count_by, Option, Some, None, is_none, refl, sym, ap, ◌∙◌, subst, arith, Machine, same_machine, one_machine, Turn, CellScales, CellGauges, CellState, Step, IsRunBy, LeadsIfBy, goes_on, end_of, is_turn_of, sum_by-cons}
 use Rattle.cell_control.specs.declared.fault.CtlFault.{CtlFault}
-use Rattle.cell_notes.specs.declared.run_record.RunRecord.{RunRecord}
 use Rattle.cell_plant.proofs.FineRuns.{stays}
-use Rattle.cell_plant.specs.Cells.{TellsRun}
+use Rattle.cell_plant.proofs.LongerRuns.{counts-push, end-push, events-push, run-push}
+use Rattle.cell_plant.proofs.Watched.{frames_push}
 use Rattle.cell_plant.specs.CellStates.{cell_at_start}
-use Rattle.cell_plant.specs.Runs.{IsPassedOver, TakesTurnBy}
+use Rattle.cell_plant.specs.Runs.{LeadsBy}
 use Rattle.cell_plant.specs.Safety.{IsSafeRun, IsSafeState}
-use Rattle.cell_plant.specs.RunLaws.{RunIsTold, RunsAreTold, turns_of}
+use Rattle.cell_plant.specs.RunLaws.{RunsAreTold, RunsGrow, turns_of}
 
 -- the first of a list counts for one if it passes
 first-counts : {X : Type 0} (p : X → Bool) (x : X) (xs : List X) (b : Bool) → p x ≡ b → count_by p (x ∷ xs) ≡ cond b 1 0 + count_by p xs
@@ -99,3 +98,27 @@ runs-told c gives opening turns r k =
       clear = safe.clear;
       within = safe.within;
     }
+
+-- the last turn of a run
+only-step : (c : CellScales) (gives : CellGauges) (w : CellState) (ts : List Turn) (ss : List Step) (t : Turn) (s : Step) → length ss ≡ length ts → IsRunBy c gives w (ts ++ t ∷ []) (ss ++ s ∷ [])
+    → IsRunBy c gives w ts ss × (s.machine ≡ t.machine) × LeadsBy c gives t.machine t.busy (end_of w ss) s
+only-step c gives w [] [] t s same run = (tt, run.0, run.1.0)
+only-step c gives w (u ∷ ts) (x ∷ ss) t s same run =
+    let rest = only-step c gives x.moved ts ss t s (omega (arith, same)) run.1.1 in
+    ((run.0, (run.1.0, rest.0)), rest.1, rest.2)
+only-step c gives w [] (x ∷ ss) t s same run = absurd (omega (arith, same))
+only-step c gives w (u ∷ ts) [] t s same run = absurd (omega (arith, same))
+
+pub runs-grow : (c : CellScales) (gives : CellGauges) → RunsGrow c gives
+runs-grow c gives = record {
+  no_event = refl;
+  no_count = λ m. refl;
+  first_frame = λ opening. refl;
+  step = run-push c gives;
+  only_step = only-step c gives;
+  state = end-push;
+  events = events-push;
+  counts = counts-push;
+  frame = frames_push c gives;
+  shown = λ turn asked w. refl;
+}

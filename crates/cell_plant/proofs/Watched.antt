@@ -16,7 +16,7 @@ no_rest [] rest e = sym e
 no_rest (t ∷ ts) rest e = cc
 
 -- the frames of a run with one more turn
-frames_push : (c : CellScales) (gives : CellGauges) (w : CellState) (ts : List Turn) (ss : List Step) (t : Turn) (s : Step) → IsRunBy c gives w ts ss → frames_after (ts ++ t ∷ []) (ss ++ s ∷ []) ≡ frames_after ts ss ++ frame_of (Some t) s.asked s.moved ∷ []
+pub frames_push : (c : CellScales) (gives : CellGauges) (w : CellState) (ts : List Turn) (ss : List Step) (t : Turn) (s : Step) → IsRunBy c gives w ts ss → frames_after (ts ++ t ∷ []) (ss ++ s ∷ []) ≡ frames_after ts ss ++ frame_of (Some t) s.asked s.moved ∷ []
 frames_push c gives w [] [] t s r = refl
 frames_push c gives w (u ∷ ts) (x ∷ ss) t s r = ap (λ fs. frame_of (Some u) x.asked x.moved ∷ fs) (frames_push c gives x.moved ts ss t s r.1.1)
 frames_push c gives w _ _ t s r = absurd r

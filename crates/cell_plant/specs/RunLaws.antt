@@ -1,7 +1,9 @@
 -- What a record says of a simulated run, whichever the schedule, the opening and the gauges.
-use Rattle.std.specs.Prelude.{◌≡◌, ◌≤◌, ℕ, List, [], ◌∷◌, length, count_by, Some, None}
+use Rattle.std.specs.Prelude.{◌≡◌, ◌≤◌, ◌&&◌, ◌++◌, ℕ, List, [], ◌∷◌, length, count_by, Option, Some, None}
+use Rattle.std.specs.Prelude.{if◌then◌else◌}
 use Rattle.cell_rules.specs.Types.{Machine, Feed, Table, Robot, Press, Deposit, Crane, Watch, journal_of, same_machine}
 use Rattle.cell_rules.specs.Names.{IsLegal, ModelState, after, noted}
+use Rattle.cell_notes.specs.Names.{TurnCall, counts_with, no_counts, settled_in, values_of}
 use Rattle.cell_notes.specs.declared.run_record.RunRecord.{RunRecord}
 use Rattle.cell_notes.specs.declared.schedule.Turn.{Turn}
 use Rattle.cell_unit.specs.Statuses.{status_of}
@@ -9,9 +11,10 @@ use Rattle.cell_parts.specs.Axes.{CellScales}
 use Rattle.cell_parts.specs.Names.{NothingCollides, StaysWithin}
 use Rattle.cell_plant.specs.Cells.{TellsRun}
 use Rattle.cell_plant.specs.CellStates.{CellState, cell_at_start, plant_of}
+use Rattle.cell_plant.specs.Frames.{frame_of, frames_after, frames_of}
 use Rattle.cell_plant.specs.Machines.{CellGauges}
 use Rattle.cell_plant.specs.Records.{counts_in, events_in}
-use Rattle.cell_plant.specs.Runs.{IsRunBy, end_of}
+use Rattle.cell_plant.specs.Runs.{IsRunBy, LeadsBy, Step, end_of}
 
 -- how many turns of a schedule are a machine's
 abbrev pub turns_of : Machine → List Turn → ℕ
@@ -49,3 +52,45 @@ abbrev pub RunsAreTold : CellScales → CellGauges → Type 0
 RunsAreTold c gives =
     (opening : ModelState) (turns : List Turn) (r : RunRecord) (k : TellsRun c gives opening turns r)
     → RunIsTold c gives opening turns r k (end_of (cell_at_start opening) k.steps)
+
+-- what another turn adds to a run: its step, the state after it, its events and counts, and its frame
+pub record RunsGrow (c : CellScales) (gives : CellGauges) : Type 0 where
+  pub no_event : events_in [] ≡ []
+  pub no_count : (m : Machine) → counts_in [] m ≡ no_counts
+  pub first_frame : (opening : ModelState) → frames_of opening [] [] ≡ frame_of None None (cell_at_start opening) ∷ []
+  pub step : (w : CellState) (ts : List Turn) (ss : List Step) (t : Turn) (s : Step) → IsRunBy c gives w ts ss
+      → s.machine ≡ t.machine → LeadsBy c gives t.machine t.busy (end_of w ss) s
+      → IsRunBy c gives w (ts ++ t ∷ []) (ss ++ s ∷ [])
+  pub only_step : (w : CellState) (ts : List Turn) (ss : List Step) (t : Turn) (s : Step) → length ss ≡ length ts
+      → IsRunBy c gives w (ts ++ t ∷ []) (ss ++ s ∷ [])
+      → IsRunBy c gives w ts ss × (s.machine ≡ t.machine) × LeadsBy c gives t.machine t.busy (end_of w ss) s
+  pub state : (w : CellState) (ss : List Step) (s : Step) → end_of w (ss ++ s ∷ []) ≡ s.moved
+  pub events : (ss : List Step) (s : Step)
+      → events_in (ss ++ s ∷ []) ≡ events_in ss ++ settled_in s.machine s.asked
+  pub counts : (ss : List Step) (s : Step) (m : Machine) → counts_in (ss ++ s ∷ []) m
+      ≡ (if s.taken && same_machine s.machine m then counts_with (counts_in ss m) s.asked else counts_in ss m)
+  pub frame : (w : CellState) (ts : List Turn) (ss : List Step) (t : Turn) (s : Step) → IsRunBy c gives w ts ss
+      → frames_after (ts ++ t ∷ []) (ss ++ s ∷ []) ≡ frames_after ts ss ++ frame_of (Some t) s.asked s.moved ∷ []
+  pub shown : (turn : Option Turn) (asked : TurnCall) (w : CellState) → frame_of turn asked w
+      ≡ record {
+        turn = turn;
+        asked = asked;
+        steps = record {
+          feed = (w.side Feed).progress.step;
+          table = (w.side Table).progress.step;
+          robot = (w.side Robot).progress.step;
+          press = (w.side Press).progress.step;
+          deposit = (w.side Deposit).progress.step;
+          crane = (w.side Crane).progress.step;
+        };
+        status = values_of (λ m. status_of (w.side m).stopped);
+        state = w.interlock;
+        plant = record {
+          feed = (w.side Feed).part;
+          table = (w.side Table).part;
+          robot = (w.side Robot).part;
+          press = (w.side Press).part;
+          deposit = (w.side Deposit).part;
+          crane = (w.side Crane).part;
+        };
+      }

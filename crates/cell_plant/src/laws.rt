@@ -12,7 +12,7 @@ ghost use Rattle.cell_plant.specs.RecordExamples.{RecordExamples};
 ghost use Rattle.cell_plant.specs.RestExamples.{RestIsTold};
 ghost use Rattle.cell_plant.specs.Resting.{StoppedMachinesRest};
 ghost use Rattle.cell_plant.specs.RunExamples.{RunExamples};
-ghost use Rattle.cell_plant.specs.RunLaws.{RunsAreTold};
+ghost use Rattle.cell_plant.specs.RunLaws.{RunsAreTold, RunsGrow};
 ghost use Rattle.cell_plant.specs.Safety.{EveryRunIsSafe};
 ghost use Rattle.cell_plant.specs.SafetyExamples.{SafetyExamples};
 ghost use Rattle.cell_plant.specs.WatchExamples.{WatchRowsAreMet};
@@ -49,11 +49,12 @@ pub fn runs_are_one<F1: Gauge, F2: Gauge, F3: Gauge, F4: Gauge, F5: Gauge>(
 
 /// Each field of a record is told by the run's last state, whatever the schedule. A machine that hasn't
 /// stopped has had all the turns that the schedule gives it, and none has had more. The last state is
-/// safe.
+/// safe. Another turn adds a step to a run, its events, its count and its frame.
 pub fn runs_are_told<F1: Gauge, F2: Gauge, F3: Gauge, F4: Gauge, F5: Gauge>(
     _cell: &Cell<F1, F2, F3, F4, F5>,
 )
-    ensures { RunsAreTold (cell_scales _cell.now) (cell_gauges _cell.now) }
+    ensures told { RunsAreTold (cell_scales _cell.now) (cell_gauges _cell.now) }
+    ensures grow { RunsGrow (cell_scales _cell.now) (cell_gauges _cell.now) }
 {}
 
 /// No frame of a run shows a collision, whatever the schedule, the start and the calibrations. In
