@@ -1,13 +1,12 @@
 -- Ready workers and their promises: the examples.
-use Rattle.std.proofs.Common.{◌≡◌, ◌≢◌, ℕ, refl, sym, ◌∙◌, Some, None, ap}
+use Rattle.std.proofs.Common.{◌≡◌, ◌≢◌, ℕ, refl, ◌∙◌, Some, ap}
 use Rattle.std.specs.declared.thread.PromisedHandle.{PromisedHandle}
 use Rattle.cell_rules.specs.Types.{Machine, Feed, Table, Robot, Press, Deposit, Crane, Watch}
-use Rattle.cell_rules.specs.Names.{ModelState}
 use Rattle.cell_interlock.specs.Views.{InterlockView}
-use Rattle.cell_threads.specs.Promises.{HasKept, SixPasses}
-use Rattle.cell_threads.specs.Six.{AreReadyAt, six_fresh}
+use Rattle.cell_threads.specs.Promises.{SixPasses}
+use Rattle.cell_threads.specs.Six.{six_fresh}
 use Rattle.cell_threads.specs.TeamExamples.{SixNumbers, six}
-use Rattle.cell_threads.specs.PromiseExamples.{AnyReadyBut, OwnReady, Promise, PromisesAreTold, ReadyIsTold, any_but, asked, gives_itself}
+use Rattle.cell_threads.specs.PromiseExamples.{AnyReadyBut, OwnReady, Promise, PromisesAreTold, ReadyIsTold}
 use Rattle.cell_threads.specs.declared.worker_result.WorkerResult.{WorkerResult}
 
 each_ready : (i : InterlockView) → OwnReady (six 1 2 3 4 5 6) (six_fresh i)

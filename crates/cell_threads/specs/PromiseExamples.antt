@@ -1,6 +1,6 @@
 -- Which workers are ready, and what the promise of one that was started says, in literal numbers.
 use Rattle.std.specs.declared.thread.PromisedHandle.{PromisedHandle}
-use Rattle.std.specs.Prelude.{◌≡◌, ◌≢◌, ℕ, true, false, Option, Some, None}
+use Rattle.std.specs.Prelude.{◌≡◌, ◌≢◌, ℕ, true, false, Some, None}
 use Rattle.cell_types.specs.Same.{same_machine}
 use Rattle.cell_rules.specs.Types.{Machine, Feed, Table, Robot, Press, Deposit, Crane, Watch}
 use Rattle.cell_rules.specs.Names.{ModelState}

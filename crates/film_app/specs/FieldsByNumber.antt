@@ -1,6 +1,6 @@
 -- Fields and lines of a film, and its page, whatever their numbers are.
-use Rattle.std.specs.Prelude.{◌≡◌, ◌<◌, ◌≤◌, ℕ, ℤ, suc, pos, negsuc, Bool, true, false, List, [], ◌∷◌, ◌++◌, codes}
-use Rattle.std.specs.Prelude.{Option, Some, Ok}
+use Rattle.std.specs.Prelude.{◌≡◌, ◌<◌, ◌≤◌, ℕ, suc, pos, negsuc, true, false, List, [], ◌++◌, codes}
+use Rattle.std.specs.Prelude.{Some, Ok}
 use Rattle.std.specs.Fmt.{decimal, digits}
 use Rattle.cell_types.specs.Answers.{answer_text}
 use Rattle.cell_rules.specs.Types.{Answer, Settled, Busy, flag_word}
