@@ -19,6 +19,7 @@
 #define PLAN_PATTERN_RAM 0x09
 #define PLAN_MASK_ARM 0x03
 #define PLAN_PATTERN_ARM 0x02
+#define PLAN_MAY_RUN(word, motor) (((word) & PLAN_MASK_##motor) == PLAN_PATTERN_##motor)
 static const uint8_t PLAN_BYTES[] = {
     2, 1, 4, 2,
     1, 0, 1, 0, 1, 1, 1, 0,
@@ -31,15 +32,22 @@ static const uint8_t PLAN_BYTES[] = {
 
 enum { ROUNDS = 1000 };
 
-/* A step is a call. Before it a motor has run, if there is one: all words let run what has no mask. */
+enum motor { NO_MOTOR, RAM, ARM };
+
+/* A step is a call. Before it a motor has run, if there is one. */
 struct step {
     uint8_t verb, object;
-    uint64_t mask, pattern;
+    enum motor motor;
 };
 
-#define NO_MOTOR 0, 0
-#define RAM PLAN_MASK_RAM, PLAN_PATTERN_RAM
-#define ARM PLAN_MASK_ARM, PLAN_PATTERN_ARM
+/* Whether the word lets a motor run. A step without a motor needs no leave. */
+static bool may_run(uint64_t now, enum motor motor) {
+    switch (motor) {
+    case RAM: return PLAN_MAY_RUN(now, RAM);
+    case ARM: return PLAN_MAY_RUN(now, ARM);
+    default: return true;
+    }
+}
 
 /* The press has the interior to itself while it moves and while it is closed. */
 static const struct step press_program[] = {
@@ -85,7 +93,7 @@ static void *run(void *given) {
     unsigned rounds = 0, at = 0;
     while (rounds < ROUNDS) {
         const struct step *step = &machine->program[at];
-        if (!BAGUNJOKI_PLAN_MAY_RUN(bagunjoki_plan_load(&plant), step->mask, step->pattern)) {
+        if (!may_run(bagunjoki_plan_load(&plant), step->motor)) {
             sched_yield(); /* (the motor is off) */
             continue;
         }
@@ -102,7 +110,7 @@ static void *run(void *given) {
             return NULL;
         }
         machine->done++;
-        machine->driven += step->mask != 0;
+        machine->driven += step->motor != NO_MOTOR;
         at++;
         if (at == machine->length) {
             at = 0;
