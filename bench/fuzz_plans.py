@@ -30,8 +30,8 @@ import time
 
 sys.dont_write_bytecode = True
 HERE = os.path.dirname(os.path.realpath(__file__))
-OUT = f"{HERE}/out"
 sys.path[:0] = [HERE, f"{HERE}/plain"]
+import fuzz_end
 import plan as twin
 import plan_inputs
 
@@ -185,7 +185,7 @@ def main():
     reader.add_argument("--program", help=argparse.SUPPRESS)
     given = reader.parse_args()
     program = os.path.realpath(given.program or f"{HERE}/../crates/plan/out/plan")
-    os.makedirs(OUT, exist_ok=True)
+    os.makedirs(fuzz_end.OUT, exist_ok=True)
     if not given.program and subprocess.run([f"{HERE}/../plan", "--help"], stdout=subprocess.DEVNULL).returncode:
         # (it has said why)
         sys.exit(1)
@@ -198,17 +198,8 @@ def main():
             if len(results) % 50 == 0:
                 differing = sum(len(it) for _, it in results)
                 print(f"fuzz: {len(results) * AT_ONCE} inputs, {differing} differ", file=sys.stderr, flush=True)
-    for kind, count in sorted(sum((it[0] for it in results), collections.Counter()).items()):
-        print(f"{count:8} {kind}")
-    differing = sorted(it for _, these in results for it in these)
-    for index, verb, wrong in differing[:10]:
-        print(f"input {index}, {verb}: {'; '.join(wrong)}")
-    if differing:
-        with open(f"{OUT}/fuzz_differs", "wb") as it:
-            it.write(make_input(given.seed, differing[0][0])[1])
-        print(f"input {differing[0][0]} is kept in {OUT}/fuzz_differs")
-    print(f"{given.plans} inputs with seed {given.seed}, {time.monotonic() - begun:.0f} s: {len(differing)} differ")
-    sys.exit(1 if differing else 0)
+    line_of = lambda index, verb, wrong: f"input {index}, {verb}: {'; '.join(wrong)}"
+    fuzz_end.finish(results, given.seed, begun, line_of, lambda index: make_input(given.seed, index)[1])
 
 
 if __name__ == "__main__":
