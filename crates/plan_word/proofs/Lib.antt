@@ -1,8 +1,4 @@
 pub mod lemmas
 mod Apart
-mod Fields
-mod LaidOut
-mod RoundTrip
-mod Soundness
 mod Packing
 mod StateRows

@@ -6,7 +6,7 @@ use Rattle.plan_rules.specs.State.{one_if}
 use Rattle.plan_word.specs.declared.layout.Field.TheVariants.{Stamp, Stop}
 use Rattle.plan_word.specs.Layout.{Counts, counts_of, start_of}
 use Rattle.plan_word.specs.Packed.{packed}
-use Rattle.plan_word.proofs.LaidOut.{low_parts}
+use Rattle.plan_word.proofs.lemmas.LaidOut.{low_parts}
 
 pub packed_by : (t : PlanTable) (s : State) (l : Counts) (low stamped word a b : ℕ) → l ≡ counts_of t → low ≡ low_parts t s
     → stamped ≡ low + a * 2 ^ start_of l Stamp → a ≡ s.stamp → word ≡ stamped + b * 2 ^ start_of l Stop → b ≡ one_if s.stopped → word ≡ packed t s

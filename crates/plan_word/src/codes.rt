@@ -53,7 +53,7 @@ fn posture_of_code(code: u64) -> Posture
 
 /// The five bits of a zone, from the lowest: two for its owner (0 free, 1 the host, 2 the guest), one for its flag, two
 /// for its posture (Closed 0, Moving 1, OpenIn 2, OpenOut 3).
-pub(crate) fn zone_code(plan: &Plan, zone: u8, at: ZoneState) -> u64
+pub fn zone_code(plan: &Plan, zone: u8, at: ZoneState) -> u64
     ensures code { result ≡ packing.zone_code plan.now zone at }
     ensures fits { result < 32 }
 {
@@ -61,7 +61,7 @@ pub(crate) fn zone_code(plan: &Plan, zone: u8, at: ZoneState) -> u64
 }
 
 /// The state of a zone with these five bits.
-pub(crate) fn zone_of_code(plan: &Plan, zone: u8, code: u64) -> ZoneState
+pub fn zone_of_code(plan: &Plan, zone: u8, code: u64) -> ZoneState
     ensures { result ≡ reading.zone_of_code plan.now zone code }
 {
     ZoneState {

@@ -97,7 +97,7 @@ impl Layout {
     }
 
     /// The number in a field of a word.
-    pub(crate) fn value_in(&self, word: u64, field: Field) -> u64
+    pub fn value_in(&self, word: u64, field: Field) -> u64
         requires { layouts.has self.now field ≡ true }
         ensures value { result ≡ reading.told self.now word field }
         ensures fits { result < 2 ^ layouts.bits_of field }

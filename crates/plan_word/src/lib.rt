@@ -9,6 +9,8 @@ mod sound;
 mod step;
 mod word;
 
+pub use codes::{zone_code, zone_of_code};
 pub use layout::{Field, Layout};
+pub use sound::is_lawful_zone;
 pub use step::step_word;
 pub use word::{pack, stamp_of, unpack};

@@ -9,7 +9,7 @@ use plan_types::{Plan, Posture};
 
 /// Whether a zone keeps the rules: its owner is a party; a plate in it is on its way to the owner; a guest owns it only
 /// while it is open; and while it moves, its host does.
-fn is_lawful_zone(plan: &Plan, zone: u8, at: ZoneState) -> bool
+pub fn is_lawful_zone(plan: &Plan, zone: u8, at: ZoneState) -> bool
     ensures { IsTrue result ↔ IsLawfulZone plan.now zone at }
 {
     let row = plan.zone(zone);

@@ -1,6 +1,6 @@
 use Rattle.std.proofs.Common.{refl, arith}
 use Rattle.plan_word.specs.declared.layout.Field.TheVariants.{Zone, Stamp}
-use Rattle.plan_word.proofs.RoundTrip.{one_state}
+use Rattle.plan_word.proofs.lemmas.RoundTrip.{one_state}
 use Rattle.plan_word.proofs.laws.words_are_distinct.Goals as goal
 
 pub returns-clause-distinct : goal.returns-clause-distinct

@@ -1,4 +1,4 @@
-use Rattle.plan_word.proofs.LaidOut.{laid_out}
+use Rattle.plan_word.proofs.lemmas.LaidOut.{laid_out}
 use Rattle.plan_word.proofs.laws.words_are_laid_out.Goals as goal
 
 pub returns : goal.returns

@@ -1,5 +1,5 @@
 use Rattle.std.proofs.Common.{◌≡◌, length, refl, rules}
-use Rattle.plan_word.proofs.Soundness.{sound_by}
+use Rattle.plan_word.proofs.lemmas.Soundness.{sound_by}
 use Rattle.plan_word.proofs.sound.is_sound.Goals as goal
 
 pub returns : goal.returns

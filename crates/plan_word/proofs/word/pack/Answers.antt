@@ -1,7 +1,7 @@
 use Rattle.std.proofs.Common.{◌≡◌, ◌+◌, subst, arith}
 use Rattle.plan_types.specs.Table.{zone_count, place_count}
 use Rattle.plan_word.specs.Packed.{zone_parts, place_parts}
-use Rattle.plan_word.proofs.LaidOut.{low_parts}
+use Rattle.plan_word.proofs.lemmas.LaidOut.{low_parts}
 use Rattle.plan_word.proofs.Packing.{packed_by}
 use Rattle.plan_word.proofs.word.pack.Goals as goal
 

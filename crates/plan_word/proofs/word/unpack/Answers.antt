@@ -2,7 +2,7 @@ use Rattle.std.proofs.Common.{◌≡◌, sym, ◌∙◌, ap, refl, subst}
 use Rattle.plan_rules.specs.Sound.{IsSound}
 use Rattle.plan_word.specs.Packed.{packed}
 use Rattle.plan_word.specs.Reading.{state_told}
-use Rattle.plan_word.proofs.RoundTrip.{told_some, told_none, told_is_of_plan}
+use Rattle.plan_word.proofs.lemmas.RoundTrip.{told_some, told_none, told_is_of_plan}
 use Rattle.plan_word.proofs.word.unpack.Goals as goal
 use Rattle.plan_word.proofs.word.unpack.Goals.{else-is_sound-via-then-is_sound+else-pack-word, else-is_sound-via-else-is_sound}
 

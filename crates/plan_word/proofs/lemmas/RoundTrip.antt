@@ -15,7 +15,7 @@ use Rattle.plan_word.specs.Layout.{counts_of}
 use Rattle.plan_word.specs.OfPlan.{IsOfPlan}
 use Rattle.plan_word.specs.Packed.{owner_code, posture_code, zone_code, packed}
 use Rattle.plan_word.specs.Reading.{told, owner_of_code, posture_of_code, zone_of_code, zone_in_word, place_told, state_told}
-use Rattle.plan_word.proofs.LaidOut.{owner_fits, flag_fits, held_back}
+use Rattle.plan_word.proofs.lemmas.LaidOut.{owner_fits, flag_fits, held_back}
 
 -- ---- the codes
 some_owner : (t : PlanTable) (z m : ℕ) (b c : Bool) → nat_eq m (host_of t z) ≡ b → nat_eq m (guest_of t z) ≡ c → (b || c) ≡ true

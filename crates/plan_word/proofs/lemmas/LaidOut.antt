@@ -14,7 +14,7 @@ use Rattle.plan_word.specs.OfPlan.{IsOfPlan}
 use Rattle.plan_word.specs.Packed.{owner_code, posture_code, zone_code, held, zone_parts, place_parts, packed}
 use Rattle.plan_word.specs.Reading.{told}
 use Rattle.plan_word.specs.Laws.{IsLaidOut}
-use Rattle.plan_word.proofs.Fields.{row, row_below, row_back, row_above, next_bound, back}
+use Rattle.plan_word.proofs.lemmas.Fields.{row, row_below, row_back, row_above, next_bound, back}
 
 -- ---- each number fits
 pub owner_fits : (t : PlanTable) (z : ℕ) (o : Option ℕ) → owner_code t z o < 4
