@@ -1,0 +1,77 @@
+//! Whether a word is that of a state of the plan, found by a table of what each zone's bits tell.
+ghost use Rattle.std.specs.Prelude.{◌≡◌, ◌/◌, ◌%◌, ◌<◌, ◌^◌, ℕ, IsTrue, IfOk};
+ghost use Rattle.plan_types.specs.Table.{zone_count, place_count};
+ghost use Rattle.plan_types.specs.Plan.{IsPlan};
+ghost use Rattle.plan_rules.specs.State.{one_if};
+ghost use Rattle.plan_word.specs.Reading.{place_told};
+ghost use Rattle.plan_compiled.specs.Ends.{IsEnd, AreEnds, IsTable, TakenBelow};
+
+use plan_types::Plan;
+use plan_word::{is_lawful_zone, zone_of_code};
+use std::alloc::{AllocError, Global};
+
+/// A zone may not have the code.
+const BARRED: u32 = 1 << 31;
+
+/// Of each code of a zone: the place that a plate in the zone comes to, as a set bit, if there is one; or `BARRED`.
+#[derive(Clone, Copy)]
+pub(crate) struct Ends {
+    pub ends: [u32; 32],
+}
+
+fn end_of(plan: &Plan, zone: u8, code: u64) -> u32
+    ensures { IsEnd plan.now zone code result }
+{
+    let at = zone_of_code(plan, zone, code);
+    if code % 4 == 3 || !is_lawful_zone(plan, zone, at) {
+        return BARRED;
+    }
+    match plan.transfer(zone, at.posture) {
+        Some(way) if at.flag && way.to < 16 => 1 << way.to,
+        _ => 0,
+    }
+}
+
+fn ends_of(plan: &Plan, zone: u8) -> Ends
+    ensures { AreEnds plan.now zone result.ends }
+{
+    let mut ends = [0; 32];
+    for code in 0..32 {
+        ends[code] = end_of(plan, zone, code as u64);
+    }
+    Ends { ends }
+}
+
+/// The ends of all zones.
+pub(crate) fn table_of(alloc: Global, plan: &Plan) -> Result<Vec<Ends>, AllocError>
+    ensures { IfOk result (λ table. IsTable plan.now (zone_count plan.now) table.items) }
+{
+    let mut table = Vec::new(alloc);
+    for zone in 0..plan.zone_count() {
+        table.push(ends_of(plan, zone))?;
+    }
+    Ok(table)
+}
+
+/// Whether the zones and places of a word are those of a state of the plan.
+#[inline(always)]
+pub(crate) fn are_sound(plan: &Plan, table: &[Ends], word: u64, places: u64) -> bool
+    requires plan { IsPlan plan.now }
+    requires table { IsTable plan.now (zone_count plan.now) table.now }
+    requires below { places < 65536 }
+    requires places { (q : ℕ) → q < place_count plan.now
+        → places / 2 ^ q % 2 ≡ one_if (place_told plan.now word q) }
+    ensures { IsTrue result → (taken : ℕ) × TakenBelow plan.now word (zone_count plan.now) taken }
+{
+    let mut taken = places as u32 | BARRED;
+    let mut rest = word;
+    for zone in table {
+        let end = zone.ends[(rest % 32) as usize];
+        if taken & end != 0 {
+            return false;
+        }
+        taken |= end;
+        rest >>= 5;
+    }
+    true
+}
