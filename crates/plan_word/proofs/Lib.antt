@@ -1,4 +1,6 @@
 pub mod lemmas
 mod Apart
+mod Seen
+mod Guarding
 mod Packing
 mod StateRows

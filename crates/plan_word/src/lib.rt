@@ -1,16 +1,20 @@
 //! The word of a plan: which bits of 64 tell which part of a state, and calls on such words.
 #![tactic(auto)]
 
+mod answer;
 mod bits;
 mod codes;
+mod guards;
 pub mod laws;
 pub mod layout;
+mod pose_guards;
 mod sound;
 mod step;
 mod word;
 
+pub use answer::answer_word;
 pub use codes::{zone_code, zone_of_code};
 pub use layout::{Field, Layout};
 pub use sound::is_lawful_zone;
-pub use step::step_word;
+pub use step::{step_sound, step_word};
 pub use word::{pack, stamp_of, unpack};

@@ -39,7 +39,7 @@ fn are_lawful_zones(plan: &Plan, state: &State) -> bool
 }
 
 /// Whether a plate is on its way through a zone to a place.
-fn is_coming(plan: &Plan, zone: u8, at: ZoneState, place: u8) -> bool
+pub(crate) fn is_coming(plan: &Plan, zone: u8, at: ZoneState, place: u8) -> bool
     ensures { result ≡ states.is_coming plan.now at place zone }
 {
     match plan.transfer(zone, at.posture) {

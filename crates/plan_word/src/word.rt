@@ -1,9 +1,10 @@
 //! The word of a state, and the state of a word.
-ghost use Rattle.std.specs.Prelude.{◌≡◌, ◌≢◌, ◌≤◌, ◌↔◌, Some, IsNone};
+ghost use Rattle.std.specs.Prelude.{◌≡◌, ◌≢◌, ◌≤◌, ◌↔◌, Some, IsNone, nat_eq};
 ghost use Rattle.plan_types.specs.Table.{PlanTable};
 ghost use Rattle.plan_rules.specs.declared.state.State.{State as PlanState};
+ghost use Rattle.plan_rules.specs.State as states;
 ghost use Rattle.plan_rules.specs.State.{last_stamp};
-ghost use Rattle.plan_word.specs.declared.layout.Field.TheVariants.{Stamp};
+ghost use Rattle.plan_word.specs.declared.layout.Field.TheVariants.{Stamp, Stop};
 ghost use Rattle.plan_word.specs.Layout.{counts_of};
 ghost use Rattle.plan_word.specs.OfPlan.{IsOfPlan};
 ghost use Rattle.plan_word.specs.Packed.{packed};
@@ -43,9 +44,11 @@ pub fn pack(plan: &Plan, layout: &Layout, state: &State) -> u64
     layout.with(word, Field::Stop, u64::from(state.stopped))
 }
 
-fn zone_in_word(plan: &Plan, layout: &Layout, word: u64, zone: u8) -> ZoneState
+/// What a word tells of a zone: a free one past the end of the plan's table.
+pub(crate) fn zone_in_word(plan: &Plan, layout: &Layout, word: u64, zone: u8) -> ZoneState
     requires { layout.now ≡ counts_of plan.now }
-    ensures { result ≡ reading.zone_in_word plan.now word zone }
+    ensures bits { result ≡ reading.zone_in_word plan.now word zone }
+    ensures state { result ≡ states.zone_at (reading.state_told plan.now word) zone }
 {
     if zone < plan.zone_count() {
         zone_of_code(plan, zone, layout.value_in(word, Field::Zone(zone)))
@@ -54,9 +57,11 @@ fn zone_in_word(plan: &Plan, layout: &Layout, word: u64, zone: u8) -> ZoneState
     }
 }
 
-fn is_full_in(plan: &Plan, layout: &Layout, word: u64, place: u8) -> bool
+/// Whether a word tells of a plate at a place.
+pub(crate) fn is_full_in(plan: &Plan, layout: &Layout, word: u64, place: u8) -> bool
     requires { layout.now ≡ counts_of plan.now }
-    ensures { result ≡ reading.place_told plan.now word place }
+    ensures bit { result ≡ reading.place_told plan.now word place }
+    ensures state { result ≡ states.is_full (reading.state_told plan.now word) place }
 {
     place < plan.place_count() && layout.value_in(word, Field::Place(place)) == 1
 }
@@ -92,6 +97,15 @@ pub fn stamp_of(layout: &Layout, word: u64) -> u32
     layout.value_in(word, Field::Stamp) as u32
 }
 
+/// Whether a word tells that the plant is stopped.
+pub(crate) fn is_stopped_in(layout: &Layout, word: u64) -> bool
+    ensures told { result ≡ nat_eq (reading.told layout.now word Stop) 1 }
+    ensures state { (plan : PlanTable) → layout.now ≡ counts_of plan
+        → result ≡ (reading.state_told plan word).stopped }
+{
+    layout.value_in(word, Field::Stop) == 1
+}
+
 /// The state that the fields of a word tell, sound or not.
 fn state_in(plan: &Plan, layout: &Layout, word: u64) -> State
     requires { layout.now ≡ counts_of plan.now }
@@ -101,7 +115,7 @@ fn state_in(plan: &Plan, layout: &Layout, word: u64) -> State
         zones: zones_in_word(plan, layout, word),
         full: places_in_word(plan, layout, word),
         stamp: stamp_of(layout, word),
-        stopped: layout.value_in(word, Field::Stop) == 1,
+        stopped: is_stopped_in(layout, word),
     }
 }
 

@@ -13,7 +13,7 @@ loop-zone-preserved c =
     let i = c.loop-zone.zone in
     let ten = c.loop-zone.invariant.0 in
     let inside : i < length zones = omega (arith, ten, c.loop-zone-test.true) in
-    rw c.zone_in_word.ensures (length-set zones i (f i) ∙ ten, fill_by_more f zones i free_zone inside c.loop-zone.invariant.1)
+    rw c.zone_in_word.ensures.bits (length-set zones i (f i) ∙ ten, fill_by_more f zones i free_zone inside c.loop-zone.invariant.1)
 
 pub returns : goal.returns
 returns c = fill_by_all (zone_in_word c.args.plan.now c.args.word) c.loop-zone.zones 10 free_zone c.loop-zone.invariant.0 (search rules)
