@@ -12,4 +12,6 @@ mod RenewedRounds
 mod RenewedRecording
 mod RenewalRows
 mod WiredRows
+mod WiredTold
+mod WiredCycles
 mod RoundRows

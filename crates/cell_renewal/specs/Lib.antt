@@ -1,5 +1,6 @@
 pub mod WiredWorkers
 pub mod WiredLaws
+pub mod WiredCycles
 pub mod WiredTeams
 pub mod WiredRecords
 pub mod Going

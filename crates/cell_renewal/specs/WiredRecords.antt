@@ -2,7 +2,8 @@
 use Rattle.std.specs.Prelude.{◌≡◌, ◌≢◌, ℕ, List, [], ◌∷◌, Option, None, Some}
 use Rattle.cell_rules.specs.Types.{Machine, Feed, Table, Robot, Press, Deposit, Crane, Event, journal_of}
 use Rattle.cell_sensors.specs.declared.gauge.Gauge.{Ghosts}
-use Rattle.cell_rules.specs.Names.{ModelState, IsStartState, after, noted, Waits, LawfulThroughout, IsAudited}
+use Rattle.cell_rules.specs.Names.{ModelState, IsLegal, IsStartState, after, noted, own_events, Waits}
+use Rattle.cell_rules.specs.Names.{LawfulThroughout, IsAudited}
 use Rattle.cell_interlock.specs.Views.{PassView, InterlockView}
 use Rattle.cell_interlock.specs.Fresh.{fresh_pass}
 use Rattle.cell_control.specs.Names.{Steps}
@@ -97,6 +98,45 @@ module _ {D1 D2 D3 D4 D5 D6 : Type 0} (c : CellScales) (gives : CellGauges)
     pub journals : (m : Machine) → journal_of r.journals m ≡ noted opening (seen_in results m) m
     pub audited : IsAudited opening (journal_of r.journals) (Some r.end) history
     pub end : r.end ≡ after opening history
+
+  -- what each of the six left, by its machine's own name; and what the one history is
+  pub record IsToldWired (devices : SixOf D1 D2 D3 D4 D5 D6) (opening : ModelState) (tries limit : ℕ)
+      (gate : Machine → GateOf) (r : WiredRecord D1 D2 D3 D4 D5 D6)
+      (k : TellsWired devices opening tries limit gate r) : Type 0 where
+    pub feed : IsWiredResult tries (steps_by c gives Feed) shows1 sets1 (gate Feed) limit
+        (wired_moment (fresh_pass k.interlock Feed) ((steps_by c gives Feed).start k.interlock.opening) None
+        devices.feed 0 0) k.results.feed.pass r.outputs.feed.turns r.outputs.feed.missed r.outputs.feed.status
+        r.outputs.feed.devices
+    pub table : IsWiredResult tries (steps_by c gives Table) shows2 sets2 (gate Table) limit
+        (wired_moment (fresh_pass k.interlock Table) ((steps_by c gives Table).start k.interlock.opening) None
+        devices.table 0 0) k.results.table.pass r.outputs.table.turns r.outputs.table.missed r.outputs.table.status
+        r.outputs.table.devices
+    pub robot : IsWiredResult tries (steps_by c gives Robot) shows3 sets3 (gate Robot) limit
+        (wired_moment (fresh_pass k.interlock Robot) ((steps_by c gives Robot).start k.interlock.opening) None
+        devices.robot 0 0) k.results.robot.pass r.outputs.robot.turns r.outputs.robot.missed r.outputs.robot.status
+        r.outputs.robot.devices
+    pub press : IsWiredResult tries (steps_by c gives Press) shows4 sets4 (gate Press) limit
+        (wired_moment (fresh_pass k.interlock Press) ((steps_by c gives Press).start k.interlock.opening) None
+        devices.press 0 0) k.results.press.pass r.outputs.press.turns r.outputs.press.missed r.outputs.press.status
+        r.outputs.press.devices
+    pub deposit : IsWiredResult tries (steps_by c gives Deposit) shows5 sets5 (gate Deposit) limit
+        (wired_moment (fresh_pass k.interlock Deposit) ((steps_by c gives Deposit).start k.interlock.opening) None
+        devices.deposit 0 0) k.results.deposit.pass r.outputs.deposit.turns r.outputs.deposit.missed
+        r.outputs.deposit.status r.outputs.deposit.devices
+    pub crane : IsWiredResult tries (steps_by c gives Crane) shows6 sets6 (gate Crane) limit
+        (wired_moment (fresh_pass k.interlock Crane) ((steps_by c gives Crane).start k.interlock.opening) None
+        devices.crane 0 0) k.results.crane.pass r.outputs.crane.turns r.outputs.crane.missed r.outputs.crane.status
+        r.outputs.crane.devices
+    pub opened : k.interlock.opening ≡ opening
+    pub legal : IsLegal opening k.history
+    pub own : (m : Machine) → own_events k.history m ≡ own_events (seen_in k.results m) m
+    pub journals : (m : Machine) → journal_of r.journals m ≡ noted opening (seen_in k.results m) m
+
+  abbrev pub WiredTurnsAreTold : (Machine → GateOf) → Type 0
+  WiredTurnsAreTold gate =
+      (devices : SixOf D1 D2 D3 D4 D5 D6) (opening : ModelState) (tries limit : ℕ)
+      (r : WiredRecord D1 D2 D3 D4 D5 D6) (k : TellsWired devices opening tries limit gate r)
+      → IsToldWired devices opening tries limit gate r k
 
   -- so none of the six ended as refused
   abbrev pub NoneRecordedRefused : (Machine → GateOf) → Type 0
