@@ -146,6 +146,11 @@ OTHER_WORDS = {
     "SHOWN": "zone",
 }
 WITHOUT_OBJECT = (Verb.ADVANCE, Verb.STOP, Verb.RESUME)
+# What answers without the library.
+WITHOUT = {
+    "bagunjoki": "; `exercises/play.py FILE --words` needs none",
+    "bagunjoki_plan": "; `exercises/plans.py replay PLAN SCRIPT` needs none",
+}
 
 
 def word_of(name):
@@ -184,17 +189,17 @@ class NoLibrary(OSError):
     """There is no library, or what is there is another one."""
 
 
-def library_path():
-    """Where the library is."""
+def library_path(name="bagunjoki"):
+    """Where the library with this name is."""
     here = os.path.dirname(os.path.realpath(__file__))
-    if "BAGUNJOKI" in os.environ:
-        return os.path.realpath(os.environ["BAGUNJOKI"])
+    if name.upper() in os.environ:
+        return os.path.realpath(os.environ[name.upper()])
     for folder in (here, os.path.dirname(here), f"{here}/out/lib"):
-        if os.path.exists(f"{folder}/libbagunjoki.so"):
-            return f"{folder}/libbagunjoki.so"
-    found = ctypes.util.find_library("bagunjoki")
+        if os.path.exists(f"{folder}/lib{name}.so"):
+            return f"{folder}/lib{name}.so"
+    found = ctypes.util.find_library(name)
     if not found:
-        raise NoLibrary("there is no libbagunjoki.so: tools/bindings makes it, with the Rattle kit; `exercises/play.py FILE --words` needs none")
+        raise NoLibrary(f"there is no lib{name}.so: tools/bindings makes it, with the Rattle kit{WITHOUT[name]}")
     return found
 
 
@@ -211,16 +216,16 @@ FUNCTIONS = {
 }
 
 
-def load_library(path=None):
-    """The library, with the types of its functions."""
-    path = path or library_path()
+def load_library(path=None, prefix="bagunjoki", functions=None):
+    """The library with the functions that have this prefix, with their types."""
+    path = path or library_path(prefix)
     try:
         library = ctypes.CDLL(path)
-        for name, (result, arguments) in FUNCTIONS.items():
-            function = getattr(library, f"bagunjoki_{name}")
+        for name, (result, arguments) in (functions or FUNCTIONS).items():
+            function = getattr(library, f"{prefix}_{name}")
             function.restype, function.argtypes = result, arguments
     except (OSError, AttributeError) as why:
-        raise NoLibrary(f"this isn't the library of bagunjoki: {why}") from None
+        raise NoLibrary(f"this isn't the library of {prefix}: {why}") from None
     return library
 
 
@@ -273,18 +278,27 @@ class Word:
 
     def ask(self, machine, verb, thing=None):
         """Makes a call, by names, numbers or words of scripts, and gives the reply."""
-        machine, verb = name_of(Machine, machine), name_of(Verb, verb)
-        if (verb in WITHOUT_OBJECT) != (thing is None):
-            raise ValueError(f"{word_of(verb)} takes {'no' if thing else 'an'} object")
-        about = 0 if thing is None else name_of(Pose if verb == Verb.SET_POSE else Zone, thing)
+        call = self.numbers(machine, verb, thing)
         with self.lock:
             if self.renews and self.stamp == LAST_STAMP:
                 self.value = self.restamped(0)
-            raw = self.library.bagunjoki_step(self.value, machine, verb, about)
-            if raw.answer in (Answer.NO_CALL, Answer.NO_STATE):
-                raise ValueError(f"{word_of(Answer(raw.answer))}: {machine}, {verb}, {about}, {self.value:#x}")
+            raw = self.library.bagunjoki_step(self.value, *call)
+            if raw.answer > Answer.SHOWN:
+                raise ValueError(f"{word_of(Answer(raw.answer))}: {', '.join(map(str, call))}, {self.value:#x}")
             self.value = raw.next
-        return reply_of(raw, self.library.bagunjoki_stamp(raw.next))
+        return self.reply(raw, self.library.bagunjoki_stamp(raw.next))
+
+    def numbers(self, machine, verb, thing):
+        """The three numbers of a call: who calls, the verb and its object."""
+        machine, verb = name_of(Machine, machine), name_of(Verb, verb)
+        if (verb in WITHOUT_OBJECT) != (thing is None):
+            raise ValueError(f"{word_of(verb)} takes {'no' if thing else 'an'} object")
+        return machine, verb, 0 if thing is None else name_of(Pose if verb == Verb.SET_POSE else Zone, thing)
+
+    @staticmethod
+    def reply(raw, stamp):
+        """The reply by what the library gave back, with this stamp."""
+        return reply_of(raw, stamp)
 
     def restamped(self, stamp):
         """The word of the same state with another stamp."""
@@ -339,11 +353,13 @@ class Word:
     def table(self):
         """The state as a text: zones, places and stamp as a film has them, and the word's bits."""
         lines = [f"zone {word_of(it)} {str(self.zone(it)).partition(' ')[2]}" for it in Zone]
-        lines.append("places " + "".join(str(int(self.is_full(it))) for it in Place))
-        lines.append(f"stamp {self.stamp} plates {self.plates()} stopped {int(self.is_stopped)}")
+        return "\n".join(lines + self.rest_of_table("".join(str(int(self.is_full(it))) for it in Place)))
+
+    def rest_of_table(self, places):
+        """The lines of the table after those of the zones."""
+        lines = [f"places {places}", f"stamp {self.stamp} plates {self.plates()} stopped {int(self.is_stopped)}"]
         lines.append(f"word {self.value:#018x}")
-        lines += [f"  {bits:>20}  {name:<10}{said}".rstrip() for name, said, bits in self.bits()]
-        return "\n".join(lines)
+        return lines + [f"  {bits:>20}  {name:<10}{said}".rstrip() for name, said, bits in self.bits()]
 
     def show(self):
         """Prints the state."""
@@ -354,31 +370,37 @@ class Fault(Exception):
     """A script that isn't one; its text is the line that `cell replay` writes."""
 
 
-def start_of(record, library):
-    """The word of a script's first record."""
-    if not record or record[0] not in ("start", "start2"):
+def start_of(record, versions, start):
+    """The word of a script's first record, whose first field is one of these; `start` makes it, of places and a stamp."""
+    if not record or record[0] not in versions:
         raise Fault("fault nostart")
     stamp = record[2] if len(record) == 3 else "0"
     is_stamp = stamp.isascii() and stamp.isdigit() and len(stamp) <= 7
     try:
         if not is_stamp or len(record) not in (2, 3):
             raise ValueError
-        return Word(record[1], int(stamp), library)
+        return start(record[1], int(stamp))
     except ValueError:
         raise Fault("fault badstart") from None
 
 
 def answers_of(script, library=None):
     """Plays a script: for each record of it the text, the answer as `cell replay` writes it, and the word after it."""
+    start = lambda record: start_of(record, ("start", "start2"), lambda places, stamp: Word(places, stamp, library))
+    return answers_by(script, start, lambda version, record: version == "start2" or record[1:2] not in (["stop"], ["resume"]))
+
+
+def answers_by(script, start, is_known):
+    """Plays a script, whose first record makes a word, and of which those are calls that are known by the first field."""
     cell = version = None
     records = (it for it in csv.reader(script) if it)
     for number, record in enumerate(records):
         if cell is None:
-            cell, version = start_of(record, library), record[0]
+            cell, version = start(record), record[0]
             said = f"{version} {cell.plates()}"
         else:
             try:
-                if version == "start" and record[1:2] in (["stop"], ["resume"]) or not 2 <= len(record) <= 3:
+                if not is_known(version, record) or not 2 <= len(record) <= 3:
                     raise ValueError
                 said = cell.ask(*record)
             except ValueError:
@@ -388,20 +410,21 @@ def answers_of(script, library=None):
         raise Fault("fault nostart")
 
 
-def main(words):
-    """Plays a script, and gives the exit status."""
+def main(words=None, play=answers_of, load=load_library, usage=__doc__):
+    """Plays a script over the library that is loaded, and gives the exit status."""
+    words = sys.argv[1:] if words is None else words
     flags, files = [it for it in words if it.startswith("--")], [it for it in words if not it.startswith("--")]
     if {*flags} & {"--help"} or "-h" in files:
-        print(__doc__)
+        print(usage)
         return 0
     if set(flags) - {"--show", "--answers"} or len(files) > 1:
-        print(__doc__, file=sys.stderr)
+        print(usage, file=sys.stderr)
         return 2
     try:
-        library = load_library()
+        library = load()
         source = open(files[0], "rb") if files else sys.stdin.buffer
         with io.TextIOWrapper(source, encoding="utf-8-sig", errors="replace", newline="") as script:
-            for record, answer, cell in answers_of(script, library):
+            for record, answer, cell in play(script, library):
                 print(answer if "--answers" in flags else f"{record:<22}{answer}", flush=True)
                 if "--show" in flags:
                     print(cell.table() + "\n", flush=True)
@@ -415,4 +438,4 @@ def main(words):
 
 
 if __name__ == "__main__":
-    sys.exit(main(sys.argv[1:]))
+    sys.exit(main())

@@ -1,4 +1,4 @@
-"""Makes the wheel of the Python module with the shared library in it, for this machine only. pip calls build_wheel, by pyproject.toml.
+"""Makes the wheel of the Python modules with the shared libraries in it, for this machine only. pip calls build_wheel, by pyproject.toml.
 
 There is no source distribution: what the wheel carries is built by the Rattle kit.
 """
@@ -14,16 +14,16 @@ import sysconfig
 import zipfile
 
 HERE = os.path.dirname(os.path.realpath(__file__))
-MAIN = "import sys\n\nfrom bagunjoki import main\n\nsys.exit(main(sys.argv[1:]))\n"
+MAIN = "import sys\n\nfrom bagunjoki import main\n\nsys.exit(main())\n"
 # A wheel with the same files has the same bytes.
 DAY = (1980, 1, 1, 0, 0, 0)
 
 
-def library():
-    """The shared library, which is built first if it isn't there."""
-    path = os.environ.get("BAGUNJOKI") or f"{HERE}/out/lib/libbagunjoki.so"
+def library(name):
+    """The shared library with this name, which is built first if it isn't there."""
+    path = os.environ.get(name.upper()) or f"{HERE}/out/lib/lib{name}.so"
     if not os.path.exists(path) and not shutil.which("rattle"):
-        sys.exit("bagunjoki: there is no library: run tools/bindings with the Rattle kit, or set BAGUNJOKI=/path/libbagunjoki.so")
+        sys.exit(f"bagunjoki: there is no library: run tools/bindings with the Rattle kit, or set {name.upper()}=/path/lib{name}.so")
     if not os.path.exists(path):
         subprocess.run([sys.executable, f"{os.path.dirname(HERE)}/tools/bindings"], check=True)
     with open(path, "rb") as it:
@@ -52,7 +52,10 @@ def build_wheel(wheel_directory, config_settings=None, metadata_directory=None):
     with open(f"{HERE}/bagunjoki.py", "rb") as it:
         files = {f"{name}/__init__.py": it.read()}
     files[f"{name}/__main__.py"] = MAIN.encode()
-    files[f"{name}/libbagunjoki.so"] = library()
+    with open(f"{HERE}/bagunjoki_plan.py", "rb") as it:
+        files["bagunjoki_plan.py"] = it.read()
+    files[f"{name}/libbagunjoki.so"] = library("bagunjoki")
+    files[f"{name}/libbagunjoki_plan.so"] = library("bagunjoki_plan")
     files[f"{info}/METADATA"] = about.encode()
     files[f"{info}/WHEEL"] = f"Wheel-Version: 1.0\nGenerator: {name}\nRoot-Is-Purelib: false\nTag: {tag}\n".encode()
     files[f"{info}/RECORD"] = ("".join(row(*it) for it in files.items()) + f"{info}/RECORD,,\n").encode()

@@ -161,7 +161,7 @@ def example_by_cargo(trials):
 def example_by_wheel(trials):
     """The module from a wheel that carries the library, in an environment that has nothing else."""
     wheels, home = f"{trials.room}/wheels", f"{trials.room}/environment"
-    library = {"BAGUNJOKI": f"{trials.prefix}/lib/libbagunjoki.so"}
+    library = {it.upper(): f"{trials.prefix}/lib/lib{it}.so" for it in ("bagunjoki", "bagunjoki_plan")}
     trials.run([sys.executable, "-m", "pip", "wheel", "--quiet", "--no-index", "-w", wheels, trials.here], **library)
     trials.run([sys.executable, "-m", "venv", home])
     trials.run([f"{home}/bin/python", "-m", "pip", "install", "--quiet", "--no-index", *glob.glob(f"{wheels}/*.whl")])
@@ -228,6 +228,19 @@ def python(trials, version):
         if said.count("\n") != 1 or "library" not in said:
             raise Failed(f"without a library: {said}")
     return scripts(trials, [version, "-m", "bagunjoki", "--answers"], **module)
+
+
+def plans_in_python(trials, version, program):
+    """The modules of the example plans answer their scripts as there."""
+    module = {"PYTHONPATH": f"{trials.prefix}/lib/python", "PYTHONDONTWRITEBYTECODE": "1", "PYTHONWARNINGS": "error"}
+    count = 0
+    for plan in sorted(glob.glob(f"{trials.root}/examples/plans/*.toml")):
+        with open(plan, encoding="utf-8") as it, open(f"{trials.room}/its_plan.py", "w", encoding="ascii") as to:
+            to.write(trials.run([program, "header", "--python"], it.read()))
+        with open(f"{plan[:-5]}.csv", encoding="utf-8") as it, open(f"{plan[:-5]}.out", encoding="utf-8") as answers:
+            wants(trials.run([version, f"{trials.room}/its_plan.py", "--answers"], it.read(), **module), answers.read())
+        count += 1
+    return f"{count} plans"
 
 
 def pythons():
@@ -313,8 +326,13 @@ def in_all_languages(trials, compilers):
     if trials.there("cargo"):
         trials.attempt("interior.rs by cargo", example_by_cargo, trials)
     trials.attempt("interior.py by a wheel", example_by_wheel, trials)
+    program = f"{trials.root}/crates/plan/out/plan"
+    if not os.path.exists(program):
+        trials.absent.append("./plan")
     for version, path in pythons():
         trials.attempt(f"Python {version}", python, trials, path)
+        if os.path.exists(program):
+            trials.attempt(f"plans in Python {version}", plans_in_python, trials, path, program)
 
 
 def under_load(trials, compilers, calls):

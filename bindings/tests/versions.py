@@ -9,6 +9,7 @@ ELSEWHERE = {
     "bindings/bagunjoki.h": r'^#define BAGUNJOKI_VERSION "(.*)"$',
     "bindings/bagunjoki_plan.h": r'^#define BAGUNJOKI_PLAN_VERSION "(.*)"$',
     "bindings/bagunjoki.py": r'^__version__ = "(.*)"$',
+    "bindings/bagunjoki_plan.py": r'^__version__ = "(.*)"$',
     "bindings/pyproject.toml": r'^version = "(.*)"$',
     "bindings/rust/Cargo.toml": r'^version = "(.*)"$',
 }

@@ -1,12 +1,11 @@
--- The examples of `hazard_lines_are_met` and `masks_are_printed`, and the law `kept_motors_are_never_both`.
+-- The examples of `hazard_lines_are_met`, and the law `kept_motors_are_never_both`.
 use Rattle.std.proofs.Common.{◌≡◌, ◌<◌, ℕ, suc, zero, Bool, true, false, ◌&&◌, List, [], ◌∷◌, length, refl, arith, Option}
 use Rattle.std.specs.Fmt.{digits}
 use Rattle.std.specs.List.{AllZip, list_all}
 use Rattle.plan_motors.specs.declared.motor.Hazard.{Hazard}
-use Rattle.plan_motors.specs.Mask.{mask_of, pattern_of}
 use Rattle.plan_motors.specs.OfPlan.{hazard_at, motor_at}
 use Rattle.plan_motors.specs.Poses.{NeverFromPostures}
-use Rattle.plan_app.specs.HazardExamples.{AreKept, AreTurns, HazardLines, KeptMotorsAreNeverBoth, LeadLines, MaskLines, press_calls}
+use Rattle.plan_app.specs.HazardExamples.{AreKept, AreTurns, HazardLines, KeptMotorsAreNeverBoth, LeadLines, press_calls}
 use Rattle.plan_app.specs.GoingExamples.{loaded, press}
 use Rattle.plan_explorer.specs.Examples.{patient}
 use Rattle.plan_motors.specs.declared.verdict.Verdict.TheVariants.{Possible}
@@ -16,7 +15,6 @@ use Rattle.plan_app.specs.Hazards.{IsFindingOf, is_kept, lead_text, motors_text,
 use Rattle.plan_app.specs.declared.hazards.Finding.{Finding}
 use Rattle.plan_document.specs.declared.resolving.ProgrammedPlan.{ProgrammedPlan}
 use Rattle.plan_rules.specs.declared.state.State.{State}
-use Rattle.plan_app.specs.Headers.{motors_part}
 
 pub hazard-lines : HazardLines
 unfolding digits motors_text
@@ -55,10 +53,6 @@ lead-lines = record {
 
 pub are-kept : AreKept
 are-kept = record { all = refl; none = refl; last = refl }
-
-pub mask-lines : MaskLines
-unfolding digits mask_of pattern_of motors_part
-mask-lines = record { first = refl; second = refl; whole = refl; no_motor = refl }
 
 both : (a b : Bool) → (a && b) ≡ true → (a ≡ true) × (b ≡ true)
 both true b e = (refl, e)

@@ -29,6 +29,7 @@ requests-read = record {
   replay = refl;
   explore = refl;
   header = refl;
+  python = refl;
   help = refl;
   help_short = refl;
   version = refl;
@@ -46,6 +47,11 @@ requests-read = record {
   longer = refl;
   capital = refl;
   twice = refl;
+  check_for_python = refl;
+  header_for_rust = refl;
+  longer_word = refl;
+  python_alone = refl;
+  python_twice = refl;
 }
 
 pub words-made : WordsAreMade
@@ -54,5 +60,4 @@ words-made = record {
   one = refl;
   none = refl;
   more = refl;
-  capital = refl;
 }

@@ -1,5 +1,4 @@
 mod Inputs
-mod Lines
 mod Sizes
 mod Screens
 mod WordRows

@@ -1,8 +1,7 @@
--- The examples of `report_lines_are_met`, `header_lines_are_met`, `party_lines_are_met` and `texts_are_whole`.
+-- The examples of `report_lines_are_met` and `reports_are_whole`.
 use Rattle.std.proofs.Common.{refl}
 use Rattle.std.specs.Fmt.{digits}
-use Rattle.plan_app.specs.Headers.{header_text, motors_part}
-use Rattle.plan_app.specs.LineExamples.{HeaderLines, PartyLines, ReportLines, WholeTexts}
+use Rattle.plan_app.specs.LineExamples.{ReportLines, WholeReports}
 use Rattle.plan_app.specs.Reports.{report_text}
 
 pub report-lines : ReportLines
@@ -22,41 +21,6 @@ report-lines = record {
   stop = refl;
 }
 
-pub header-lines : HeaderLines
-unfolding digits
-header-lines = record {
-  zones = refl;
-  pose = refl;
-  parties = refl;
-  keeper = refl;
-  lower = refl;
-  upper = refl;
-  no_zone = refl;
-  loft = refl;
-  last = refl;
-  width = refl;
-  first_byte = refl;
-  next_byte = refl;
-}
-
-pub party-lines : PartyLines
-unfolding digits
-party-lines = record {
-  hosts = refl;
-  right_pose = refl;
-  poses = refl;
-  parties = refl;
-  bits = refl;
-}
-
-pub whole-texts : WholeTexts
-unfolding digits report_text header_text motors_part
-whole-texts = record {
-  report = refl;
-  names = refl;
-  poses = refl;
-  word = refl;
-  bytes = refl;
-  with_motors = refl;
-  header = refl;
-}
+pub whole-reports : WholeReports
+unfolding digits report_text
+whole-reports = record { report = refl }

@@ -24,7 +24,7 @@ use Rattle.plan_text.specs.Answers.{answer_text}
 use Rattle.plan_text.specs.Calls.{call_text}
 use Rattle.plan_text.specs.Names.{Text}
 use Rattle.plan_text.specs.Named.{Named}
-use Rattle.plan_app.specs.Words.{machine_name}
+use Rattle.plan_header.specs.Words.{machine_name}
 use Rattle.plan_app.specs.declared.going.TheConstants.{AGAIN, BRINGS, FAIRNESS, TURNS}
 
 -- ---- how soon

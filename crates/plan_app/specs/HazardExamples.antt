@@ -8,7 +8,6 @@ use Rattle.plan_rules.specs.declared.state.ZoneState.{ZoneState}
 use Rattle.plan_rules.specs.State.{free_zone, start_state}
 use Rattle.plan_motors.specs.declared.exclusion.Cause.TheVariants.{Zone, Place}
 use Rattle.plan_motors.specs.declared.verdict.Verdict.TheVariants.{Excluded, ByPoses, Possible}
-use Rattle.plan_motors.specs.Examples.{cabin, lower_gate}
 use Rattle.plan_motors.specs.OfPlan.{hazard_at, motor_at}
 use Rattle.plan_motors.specs.Poses.{NeverFromPostures}
 use Rattle.plan_text.specs.Names.{Text}
@@ -24,9 +23,7 @@ use Rattle.plan_app.specs.WordExamples.{three}
 use Rattle.plan_explorer.specs.Examples.{patient}
 use Rattle.plan_types.specs.Table.{PlanTable}
 use Rattle.plan_motors.specs.declared.verdict.Verdict.{Verdict}
-use Rattle.plan_app.specs.Headers.{mask_lines, motors_part}
-use Rattle.plan_app.specs.LineExamples.{lift}
-use Rattle.plan_app.specs.declared.header_motors.TheConstants.{MOTORS}
+use Rattle.plan_header.specs.HeaderExamples.{lift}
 
 -- the first two zones of the lift so, the others free and closed; the first and the last place full or not
 abbrev pub lifted : ZoneState → ZoneState → Bool → Bool → State
@@ -117,16 +114,6 @@ pub record AreKept : Type 0 where
   pub all : are_kept (kept (Excluded (Zone 0)) ∷ kept (Excluded (Place 1)) ∷ kept (ByPoses 0) ∷ []) ≡ true
   pub none : are_kept [] ≡ true
   pub last : are_kept (kept (ByPoses 0) ∷ unled (Possible (lifted free_zone free_zone false false)) ∷ []) ≡ false
-
--- two bits of a zone tell its owner, from the lowest, two its posture, from the fourth
-pub record MaskLines : Type 0 where
-  pub first : mask_lines lift (codes "hoist" ∷ codes "gate" ∷ []) (cabin ∷ lower_gate ∷ []) 0
-      ≡ codes "#define PLAN_MASK_HOIST UINT64_C(891)\n" ++ codes "#define PLAN_PATTERN_HOIST UINT64_C(297)\n"
-  pub second : mask_lines lift (codes "hoist" ∷ codes "gate" ∷ []) (cabin ∷ lower_gate ∷ []) 1
-      ≡ codes "#define PLAN_MASK_GATE UINT64_C(3)\n" ++ codes "#define PLAN_PATTERN_GATE UINT64_C(2)\n"
-  pub whole : motors_part lift (codes "gate" ∷ []) (lower_gate ∷ [])
-      ≡ MOTORS.now ++ codes "#define PLAN_MASK_GATE UINT64_C(3)\n" ++ codes "#define PLAN_PATTERN_GATE UINT64_C(2)\n"
-  pub no_motor : motors_part lift [] [] ≡ []
 
 -- if a report says that all are kept apart, the motors of each hazard are never permitted both, from a start on
 abbrev pub KeptMotorsAreNeverBoth : Type 0

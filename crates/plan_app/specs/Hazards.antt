@@ -26,7 +26,7 @@ use Rattle.plan_document.specs.declared.resolving.ProgrammedPlan.{ProgrammedPlan
 use Rattle.plan_app.specs.Going.{way_text}
 use Rattle.plan_app.specs.Leads.{IsLeadOf, opening_by}
 use Rattle.plan_app.specs.Reports.{names_line, report_text}
-use Rattle.plan_app.specs.Words.{machine_name, zone_name}
+use Rattle.plan_header.specs.Words.{machine_name, zone_name}
 use Rattle.plan_app.specs.declared.hazards.Finding.{Finding}
 use Rattle.plan_app.specs.declared.hazards.TheConstants.{LARGE, LED, UNKEPT, UNLED, UNSOUGHT}
 use Rattle.plan_app.specs.declared.hazards.Report.{Report}

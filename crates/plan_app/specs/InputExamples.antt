@@ -3,9 +3,9 @@ use Rattle.std.specs.Prelude.{◌≡◌, ℕ, List, [], ◌∷◌, codes, Option
 use Rattle.plan_text.specs.Names.{Text}
 use Rattle.plan_app.specs.Input.{byte_limit, document_in, max_bytes_read, plan_length, script_in}
 use Rattle.plan_app.specs.Requests.{request_of}
-use Rattle.plan_app.specs.Words.{capitals, counted}
+use Rattle.plan_app.specs.Words.{counted}
 use Rattle.plan_app.specs.declared.request.Request.{Request}
-use Rattle.plan_app.specs.declared.request.Request.TheVariants.{Check, Replay, Explore, Header, Help, Version}
+use Rattle.plan_app.specs.declared.request.Request.TheVariants.{Check, Replay, Explore, Header, Module, Help, Version}
 
 -- a document of one line, and a script of one
 abbrev pub both : List ℕ
@@ -43,6 +43,7 @@ pub record RequestsAreRead : Type 0 where
   pub replay : asked (codes "replay") ≡ Some Replay
   pub explore : asked (codes "explore") ≡ Some Explore
   pub header : asked (codes "header") ≡ Some Header
+  pub python : asked_with (codes "header") (codes "--python") ≡ Some Module
   pub help : asked (codes "--help") ≡ Some Help
   pub help_short : asked (codes "-h") ≡ Some Help
   pub version : asked (codes "--version") ≡ Some Version
@@ -63,11 +64,15 @@ pub record RequestsAreRead : Type 0 where
   pub longer : asked (codes "checks") ≡ None
   pub capital : asked (codes "Check") ≡ None
   pub twice : asked_with (codes "check") (codes "check") ≡ None
+  -- only a header is written for Python, by this word
+  pub check_for_python : asked_with (codes "check") (codes "--python") ≡ None
+  pub header_for_rust : asked_with (codes "header") (codes "--rust") ≡ None
+  pub longer_word : asked_with (codes "header") (codes "--pythons") ≡ None
+  pub python_alone : asked (codes "--python") ≡ None
+  pub python_twice : request_of (codes "plan" ∷ codes "header" ∷ codes "--python" ∷ codes "--python" ∷ []) ≡ None
 
 -- words that several texts have
 pub record WordsAreMade : Type 0 where
   pub one : counted 1 (codes "place") ≡ codes "1 place"
   pub none : counted 0 (codes "zone") ≡ codes "0 zones"
   pub more : counted 11 (codes "turn") ≡ codes "11 turns"
-  -- the first and the last letter; what is none stays
-  pub capital : capitals (codes "az_09{`@Z") ≡ codes "AZ_09{`@Z"

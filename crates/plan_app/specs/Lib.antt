@@ -2,7 +2,6 @@ pub mod Requests
 pub mod Input
 pub mod Words
 pub mod Reports
-pub mod Headers
 pub mod Going
 pub mod Starving
 pub mod Sizes

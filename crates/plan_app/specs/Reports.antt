@@ -7,7 +7,8 @@ use Rattle.plan_word.specs.declared.layout.Field.{Field}
 use Rattle.plan_word.specs.declared.layout.Field.TheVariants.{Zone, Place, Stamp, Stop}
 use Rattle.plan_text.specs.Names.{Text, name_in}
 use Rattle.plan_text.specs.Named.{Named}
-use Rattle.plan_app.specs.Words.{counted, zone_name}
+use Rattle.plan_header.specs.Words.{zone_name}
+use Rattle.plan_app.specs.Words.{counted}
 
 -- a colon before the first name, and a blank before each
 abbrev pub gap : ℕ → Text

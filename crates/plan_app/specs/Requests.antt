@@ -1,11 +1,11 @@
 -- What the words of the program ask for.
-use Rattle.std.specs.Prelude.{ℕ, List, [], ◌∷◌, codes, Option, Some, None, if◌then◌else◌}
+use Rattle.std.specs.Prelude.{ℕ, List, [], ◌∷◌, ◌&&◌, codes, Option, Some, None, if◌then◌else◌}
 use Rattle.std.specs.Str.{bytes_eq}
 use Rattle.program_shell.specs.Asked.{asked_of}
 use Rattle.program_shell.specs.declared.asked.Asked.{Asked}
 use Rattle.program_shell.specs.declared.asked.Asked.TheVariants as asked
 use Rattle.plan_app.specs.declared.request.Request.{Request}
-use Rattle.plan_app.specs.declared.request.Request.TheVariants.{Check, Replay, Explore, Header, Help, Version}
+use Rattle.plan_app.specs.declared.request.Request.TheVariants.{Check, Replay, Explore, Header, Module, Help, Version}
 
 -- the words of this program alone
 abbrev pub own_words : List (List ℕ)
@@ -20,11 +20,17 @@ request_by word =
     else (if bytes_eq word (codes "header") then Some Header
     else None)))
 
+-- what a word asks for with the name of a language
+abbrev pub request_for : List ℕ → List ℕ → Option Request
+request_for word language =
+    if bytes_eq word (codes "header") && bytes_eq language (codes "--python") then Some Module else None
+
 -- what words ask for, by what they ask for of every program
 abbrev pub request_asked : Asked → List (List ℕ) → Option Request
 request_asked asked.Help words = Some Help
 request_asked asked.Version words = Some Version
 request_asked asked.Other (name ∷ word ∷ []) = request_by word
+request_asked asked.Other (name ∷ word ∷ language ∷ []) = request_for word language
 request_asked asked.Other _ = None
 
 -- what words ask for; the first is the program's name

@@ -8,7 +8,8 @@ use Rattle.plan_document.specs.Reading.{IsPlanIn}
 use Rattle.plan_document.specs.declared.resolving.ProgrammedPlan.{ProgrammedPlan}
 use Rattle.csv_rows.specs.declared.script_end.Outcome.TheVariants.{Clean}
 use Rattle.plan_text.specs.Script.{script_answers, script_start}
-use Rattle.plan_app.specs.Headers.{header_text}
+use Rattle.plan_header.specs.Headers.{header_text}
+use Rattle.plan_header.specs.Modules.{module_text}
 use Rattle.plan_app.specs.Input.{document_in, script_in}
 use Rattle.plan_app.specs.Hazards.{TellsReport, start_if}
 use Rattle.plan_app.specs.Screens.{TellsFree}
@@ -56,7 +57,14 @@ ReportsIn bytes old new =
 -- or its header
 abbrev pub WritesHeaderIn : List ℕ → Option (List ℕ) → Option (List ℕ) → Type 0
 WritesHeaderIn bytes old new =
-    (plan : ProgrammedPlan) × IsPlanIn (document_in bytes) plan × Appends old new (header_text plan.named plan.motors.names plan.motors.motors.items)
+    (plan : ProgrammedPlan) × IsPlanIn (document_in bytes) plan
+    × Appends old new (header_text plan.named plan.motors.names plan.motors.motors.items)
+
+-- or its module
+abbrev pub WritesModuleIn : List ℕ → Option (List ℕ) → Option (List ℕ) → Type 0
+WritesModuleIn bytes old new =
+    (plan : ProgrammedPlan) × IsPlanIn (document_in bytes) plan
+    × Appends old new (module_text plan.named plan.motors.names plan.motors.motors.items)
 
 -- ---- by the plan of the document in the input
 
@@ -71,3 +79,6 @@ Reports input old new = IfSome input (λ bytes. ReportsIn bytes old new)
 
 abbrev pub WritesHeader : Option (List ℕ) → Option (List ℕ) → Option (List ℕ) → Type 0
 WritesHeader input old new = IfSome input (λ bytes. WritesHeaderIn bytes old new)
+
+abbrev pub WritesModule : Option (List ℕ) → Option (List ℕ) → Option (List ℕ) → Type 0
+WritesModule input old new = IfSome input (λ bytes. WritesModuleIn bytes old new)

@@ -13,7 +13,7 @@ use Rattle.plan_liveness.specs.declared.answer.Relay.{Relay}
 use Rattle.plan_text.specs.Names.{Text}
 use Rattle.plan_text.specs.Named.{Named, named}
 use Rattle.plan_app.specs.Going.{answer_words, plates_text, starves_text}
-use Rattle.plan_app.specs.Words.{machine_name}
+use Rattle.plan_header.specs.Words.{machine_name}
 
 abbrev pub within : ℕ → ℕ → Bound
 within plain helped = record { plain = plain; helped = helped }

@@ -10,11 +10,12 @@ use crate::going::push_way;
 use crate::leads::{Lead, is_never, lead_of, opening_by};
 use crate::report::{push_names, push_report};
 use plan_document::ProgrammedPlan;
-use plan_motors::{Cause, Hazard, Motor, NO_NEED, Verdict, judge};
+use plan_header::motor_at;
+use plan_motors::{Cause, Hazard, Verdict, judge};
 use plan_rules::{State, ZoneState};
 use plan_text::NamedPlan;
 use plan_text::words::posture_word;
-use plan_types::{MAX_PLACES, MAX_ZONES, Posture};
+use plan_types::{MAX_PLACES, Posture};
 use std::alloc::{AllocError, Global};
 
 /// What is said of a hazard whose motors aren't kept apart, before a state that permits both.
@@ -161,20 +162,6 @@ fn hazard_at(hazards: &[Hazard], hazard: usize) -> Hazard
         None => Hazard {
             first: 0,
             second: 0,
-        },
-    }
-}
-
-/// A motor by its number; one that needs nothing if there is no such motor.
-pub(crate) fn motor_at(motors: &[Motor], motor: u8) -> Motor
-    ensures { result ≡ of_plan.motor_at motors.now motor }
-{
-    match motors.get(usize::from(motor)) {
-        Some(motor) => *motor,
-        None => Motor {
-            machine: 0,
-            zones: [NO_NEED; MAX_ZONES],
-            places: [None; MAX_PLACES],
         },
     }
 }

@@ -1,9 +1,9 @@
 //! Laws of what is printed, each the contract of a function that does nothing.
 
 ghost use Rattle.plan_app.specs.GoingExamples.{EventLines, MachinesAreTold, WalksAreTold};
-ghost use Rattle.plan_app.specs.HazardExamples.{AreKept, HazardLines, KeptMotorsAreNeverBoth, LeadLines, MaskLines};
+ghost use Rattle.plan_app.specs.HazardExamples.{AreKept, HazardLines, KeptMotorsAreNeverBoth, LeadLines};
 ghost use Rattle.plan_app.specs.InputExamples.{InputsAreSplit, RequestsAreRead, WordsAreMade};
-ghost use Rattle.plan_app.specs.LineExamples.{HeaderLines, PartyLines, ReportLines, WholeTexts};
+ghost use Rattle.plan_app.specs.LineExamples.{ReportLines, WholeReports};
 ghost use Rattle.plan_app.specs.ScreenExamples.{AnswersAreMeant, KindsOfScreens, ScreensAreMeant};
 ghost use Rattle.plan_app.specs.ScreenExamples.{ServedIsMeant, StandstillLines};
 ghost use Rattle.plan_app.specs.SizeExamples.{SizesAreCounted};
@@ -32,11 +32,6 @@ pub fn hazard_lines_are_met()
     ensures kept { AreKept }
 {}
 
-/// Examples: the masks of a lift's motors in its header.
-pub fn masks_are_printed()
-    ensures { MaskLines }
-{}
-
 /// If the status of `check` says that all is well, the motors of each hazard are never permitted both, from a start on.
 pub fn kept_motors_are_never_both()
     ensures { KeptMotorsAreNeverBoth }
@@ -47,19 +42,9 @@ pub fn report_lines_are_met()
     ensures { ReportLines }
 {}
 
-/// Examples: lines of the header of a lift, whole.
-pub fn header_lines_are_met()
-    ensures { HeaderLines }
-{}
-
-/// Examples: lines of headers where hosts, keepers and the machines of poses differ.
-pub fn party_lines_are_met()
-    ensures { PartyLines }
-{}
-
-/// Examples: the report and the header of a plan, whole.
-pub fn texts_are_whole()
-    ensures { WholeTexts }
+/// Examples: the report of a plan, whole.
+pub fn reports_are_whole()
+    ensures { WholeReports }
 {}
 
 /// Examples: the lines of what machines ask, and of why they wait.
@@ -87,7 +72,7 @@ pub fn requests_are_read()
     ensures { RequestsAreRead }
 {}
 
-/// Examples: numbers of things, and names in capitals.
+/// Examples: numbers of things.
 pub fn words_are_made()
     ensures { WordsAreMade }
 {}

@@ -4,8 +4,6 @@
 pub mod explore;
 pub mod going;
 pub mod hazards;
-pub mod header;
-mod header_motors;
 pub mod input;
 pub mod laws;
 pub mod leads;

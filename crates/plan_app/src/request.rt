@@ -16,6 +16,8 @@ pub enum Request {
     Explore,
     /// Prints a header for C.
     Header,
+    /// Prints a module for Python.
+    Module,
     /// Prints help.
     Help,
     /// Prints the version.
@@ -34,7 +36,18 @@ pub fn request_of(words: &[&str]) -> Option<Request>
         (Asked::Help, _) => Some(Request::Help),
         (Asked::Version, _) => Some(Request::Version),
         (Asked::Other, [_, word]) => request_by(word),
+        (Asked::Other, [_, word, language]) => request_for(word, language),
         (Asked::Other, _) => None,
+    }
+}
+
+/// What a word of this program alone asks for with the name of a language.
+fn request_for(word: &str, language: &str) -> Option<Request>
+    ensures { result ≡ requests.request_for word.now language.now }
+{
+    match (word, language) {
+        ("header", "--python") => Some(Request::Module),
+        _ => None,
     }
 }
 

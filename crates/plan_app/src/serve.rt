@@ -7,21 +7,22 @@ ghost use Rattle.program_shell.specs.Printed.{Prints};
 ghost use Rattle.program_shell.specs.Versions.{version_line};
 ghost use Rattle.program_shell.specs.Words.{texts_of};
 ghost use Rattle.plan_app.specs.Hazards as hazards;
-ghost use Rattle.plan_app.specs.Headers.{header_text};
+ghost use Rattle.plan_header.specs.Headers.{header_text};
+ghost use Rattle.plan_header.specs.Modules.{module_text};
 ghost use Rattle.plan_app.specs.Input.{byte_limit, max_bytes_read};
 ghost use Rattle.plan_app.specs.Served.{AnswersIn, AnswersInput, AnswersScript, FindsFree};
 ghost use Rattle.plan_app.specs.Served.{FindsFreeIn, FindsInputFree, Reports, ReportsIn};
-ghost use Rattle.plan_app.specs.Served.{WritesFree, WritesHeader, WritesHeaderIn, WritesReport};
+ghost use Rattle.plan_app.specs.Served.{WritesFree, WritesHeader, WritesHeaderIn, WritesModule, WritesModuleIn, WritesReport};
 ghost use Rattle.plan_app.specs.Requests.{request_of};
 
 use crate::explore::{Screen, screen_of};
 use crate::hazards::{Report, report_of};
-use crate::header::header_of;
 use crate::input::{MAX_BYTES, plan_length};
 use crate::request;
 use crate::request::Request;
 use crate::size::{MAX_SITUATIONS, is_large};
 use plan_document::{ProgrammedPlan, plan_of};
+use plan_header::{header_of, module_of};
 use plan_rules::State;
 use plan_text::{NamedPlan, Outcome, ScriptAnswers, ScriptFault, answer_script, start_of_script};
 use program_shell::{Exit, fail, print, print_version, refuse_words, with_texts};
@@ -40,7 +41,8 @@ Reads a plan of a plant, in TOML, from standard input.
   plan explore    says whether some order of turns of its programs leads from the start
                   after it, a line start,.., to a standstill; and else whether each machine
                   goes on for ever, or in which order it starves
-  plan header     prints its names and the layout of its word for C
+  plan header     prints its names and the layout of its word for C; with --python, a module
+                  for Python
   plan --version  prints the version
 A script may follow the plan in each case. At most 1,000,000 situations are explored; more
 are fault large. Exit status: 0 on success, and for help; 2 for bad arguments; otherwise
@@ -104,6 +106,8 @@ fn serve_input<R: Read, W: Write>(
         FindsInputFree (R.remaining reader.old) (W.contents writer.old) (W.contents writer.new) }
     ensures header { request ≡ Request.Header → result ≡ Exit.Well →
         WritesHeader (R.remaining reader.old) (W.contents writer.old) (W.contents writer.new) }
+    ensures python { request ≡ Request.Module → result ≡ Exit.Well →
+        WritesModule (R.remaining reader.old) (W.contents writer.old) (W.contents writer.new) }
     ensures read { TakesAtMost (R.remaining reader.old) (R.remaining reader.new) max_bytes_read }
 {
     match read_input(alloc, reader) {
@@ -123,6 +127,8 @@ fn serve_bytes<W: Write>(alloc: Global, request: Request, bytes: &[u8], writer: 
         FindsFreeIn bytes.now (W.contents writer.old) (W.contents writer.new) }
     ensures header { request ≡ Request.Header → result ≡ Exit.Well →
         WritesHeaderIn bytes.now (W.contents writer.old) (W.contents writer.new) }
+    ensures python { request ≡ Request.Module → result ≡ Exit.Well →
+        WritesModuleIn bytes.now (W.contents writer.old) (W.contents writer.new) }
 {
     if bytes.len() > MAX_BYTES {
         return fail(writer, "long");
@@ -152,9 +158,13 @@ fn serve_plan<W: Write>(
     ensures header { request ≡ Request.Header → result ≡ Exit.Well →
         Appends (W.contents writer.old) (W.contents writer.new)
         (header_text plan.named plan.motors.names plan.motors.motors.items) }
+    ensures python { request ≡ Request.Module → result ≡ Exit.Well →
+        Appends (W.contents writer.old) (W.contents writer.new)
+        (module_text plan.named plan.motors.names plan.motors.motors.items) }
 {
     match request {
         Request::Header => print_header(alloc, &plan, writer),
+        Request::Module => print_module(alloc, &plan, writer),
         Request::Replay => replay_script(alloc, &plan.named, script, writer),
         Request::Explore => explore_script(alloc, &plan, script, writer),
         _ => report_script(alloc, &plan, script, writer),
@@ -214,6 +224,18 @@ fn print_header<W: Write>(alloc: Global, plan: &ProgrammedPlan, writer: &mut W) 
         (header_text plan.now.named plan.now.motors.names plan.now.motors.motors.items) }
 {
     match header_of(alloc, plan) {
+        Ok(text) => print(writer, text.as_bytes()),
+        Err(AllocError) => fail(writer, "memory"),
+    }
+}
+
+fn print_module<W: Write>(alloc: Global, plan: &ProgrammedPlan, writer: &mut W) -> Exit
+    ensures status { result ≢ Exit.Refused }
+    ensures python { result ≡ Exit.Well →
+        Appends (W.contents writer.old) (W.contents writer.new)
+        (module_text plan.now.named plan.now.motors.names plan.now.motors.motors.items) }
+{
+    match module_of(alloc, plan) {
         Ok(text) => print(writer, text.as_bytes()),
         Err(AllocError) => fail(writer, "memory"),
     }
@@ -336,11 +358,13 @@ pub fn serve<R: Read, W: Write>(alloc: Global, words: &[&str], reader: &mut R, w
         FindsInputFree (R.remaining reader.old) (W.contents writer.old) (W.contents writer.new) }
 
     // With `check`: status 0 says that this plan's report was written, and that the motors of each hazard are kept apart.
-    // With `header`: that its header was written.
+    // With `header`: that its header was written, or with `header --python` its module.
     ensures check { request_of (texts_of words.now) ≡ Some Request.Check → result ≡ 0 →
         Reports (R.remaining reader.old) (W.contents writer.old) (W.contents writer.new) }
     ensures header { request_of (texts_of words.now) ≡ Some Request.Header → result ≡ 0 →
         WritesHeader (R.remaining reader.old) (W.contents writer.old) (W.contents writer.new) }
+    ensures python { request_of (texts_of words.now) ≡ Some Request.Module → result ≡ 0 →
+        WritesModule (R.remaining reader.old) (W.contents writer.old) (W.contents writer.new) }
 
     // Status 2 comes exactly for other words, of which a line was printed, or a prefix of it.
     ensures refused { result ≡ 2 → request_of (texts_of words.now) ≡ None }
@@ -354,6 +378,7 @@ pub fn serve<R: Read, W: Write>(alloc: Global, words: &[&str], reader: &mut R, w
     match request::request_of(words) {
         Some(Request::Check) => serve_input(alloc, Request::Check, reader, writer).status(),
         Some(Request::Header) => serve_input(alloc, Request::Header, reader, writer).status(),
+        Some(Request::Module) => serve_input(alloc, Request::Module, reader, writer).status(),
         Some(Request::Replay) => serve_input(alloc, Request::Replay, reader, writer).status(),
         Some(Request::Explore) => serve_input(alloc, Request::Explore, reader, writer).status(),
         Some(Request::Help) => print(writer, HELP.as_bytes()).status(),

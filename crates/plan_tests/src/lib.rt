@@ -25,6 +25,8 @@ mod limits;
 #[cfg(test)]
 mod loads;
 #[cfg(test)]
+mod modules;
+#[cfg(test)]
 mod motor_faults;
 #[cfg(test)]
 mod motors;

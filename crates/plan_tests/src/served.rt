@@ -22,6 +22,8 @@ const ROWS: &[(&[&[u8]], u8, &str)] = &[
     (&[b"./plan", b"--version", b"--help"], 2, OTHER_WORDS),
     (&[b"./plan", b"check", b"--version"], 2, OTHER_WORDS),
     (&[b"./plan", b"help"], 2, OTHER_WORDS),
+    (&[b"./plan", b"header", b"--rust"], 2, OTHER_WORDS),
+    (&[b"./plan", b"check", b"--python"], 2, OTHER_WORDS),
     (&[b"./plan", b""], 2, OTHER_WORDS),
     (&[b"./plan", b"\xff"], 2, NO_TEXT),
     (&[b"bad\xff", b"checks"], 2, OTHER_WORDS),

@@ -1,5 +1,5 @@
 use Rattle.plan_app.specs.Going as spec
-use Rattle.plan_app.proofs.Lines.{one_more}
+use Rattle.plan_header.proofs.lemmas.Lines.{one_more}
 use Rattle.plan_app.proofs.going.push_going.Goals as goal
 
 pub machines-preserved : goal.machines-preserved

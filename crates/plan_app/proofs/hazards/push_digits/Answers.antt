@@ -1,5 +1,5 @@
 use Rattle.plan_app.specs.Hazards as spec
-use Rattle.plan_app.proofs.Lines.{one_more}
+use Rattle.plan_header.proofs.lemmas.Lines.{one_more}
 use Rattle.plan_app.proofs.hazards.push_digits.Goals as goal
 
 pub places-preserved : goal.places-preserved

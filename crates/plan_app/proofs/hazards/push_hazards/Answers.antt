@@ -1,5 +1,5 @@
 use Rattle.plan_app.specs.Hazards as spec
-use Rattle.plan_app.proofs.Lines.{one_more}
+use Rattle.plan_header.proofs.lemmas.Lines.{one_more}
 use Rattle.plan_app.proofs.hazards.push_hazards.Goals as goal
 
 pub hazards-preserved : goal.hazards-preserved

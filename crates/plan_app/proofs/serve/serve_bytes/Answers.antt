@@ -21,3 +21,8 @@ pub returns-in-Ok-clause-header : goal.returns-in-Ok-clause-header
 returns-in-Ok-clause-header g c =
     let is : IsPlanIn (document_in c.args.bytes.now) c.in-Ok.plan = rw (c.split_at.ensures.front, c.plan_length.ensures.length) at c.in-Ok.ensures.plan in
     λ request well. (c.in-Ok.plan, is, c.serve_plan.ensures.header request well)
+
+pub returns-in-Ok-clause-python : goal.returns-in-Ok-clause-python
+returns-in-Ok-clause-python g c =
+    let is : IsPlanIn (document_in c.args.bytes.now) c.in-Ok.plan = rw (c.split_at.ensures.front, c.plan_length.ensures.length) at c.in-Ok.ensures.plan in
+    λ request well. (c.in-Ok.plan, is, c.serve_plan.ensures.python request well)

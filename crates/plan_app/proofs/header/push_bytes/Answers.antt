@@ -1,6 +1,0 @@
-use Rattle.plan_app.specs.Headers as spec
-use Rattle.plan_app.proofs.Lines.{one_more}
-use Rattle.plan_app.proofs.header.push_bytes.Goals as goal
-
-pub bytes-preserved : goal.bytes-preserved
-bytes-preserved c = one_more (spec.byte_word c.args.bytes.now) _ _ _ c.bytes.at c.bytes.invariant c.in_ok-push_byte.ensures

@@ -1,6 +1,0 @@
-use Rattle.plan_app.specs.Headers as spec
-use Rattle.plan_app.proofs.Lines.{one_more}
-use Rattle.plan_app.proofs.header.push_place_bits.Goals as goal
-
-pub places-preserved : goal.places-preserved
-places-preserved c = one_more (spec.place_bit c.args.named.now) _ _ _ c.places.place c.places.invariant c.in_ok-push_place_bit.ensures

@@ -1,6 +1,0 @@
-use Rattle.plan_app.specs.Headers as spec
-use Rattle.plan_app.proofs.Lines.{one_more}
-use Rattle.plan_app.proofs.header.push_zones.Goals as goal
-
-pub zones-preserved : goal.zones-preserved
-zones-preserved c = one_more (spec.zone_parties c.args.named.now) _ _ _ c.zones.zone c.zones.invariant c.in_ok-push_zone.ensures

@@ -1,6 +1,0 @@
-use Rattle.plan_app.specs.Headers as spec
-use Rattle.plan_app.proofs.Lines.{one_more}
-use Rattle.plan_app.proofs.header_motors.push_motors.Goals as goal
-
-pub motors-preserved : goal.motors-preserved
-motors-preserved c = one_more (spec.mask_lines c.args.named.now c.args.names.now c.args.motors.now) _ _ _ c.motors.motor c.motors.invariant c.in_ok-push_motor.ensures

@@ -1,8 +1,0 @@
-use Rattle.std.proofs.Common.{◌≡◌, ◌++◌, string_bytes, flat_map}
-use Rattle.std.specs.List.{range_with_len}
-use Rattle.plan_app.specs.Headers as spec
-use Rattle.plan_app.proofs.header_motors.push_motors.Given as goal
-
-abbrev pub invariant-motors : goal.invariant-motors
-invariant-motors l =
-    string_bytes l.text ≡ string_bytes l.initial.text ++ flat_map (spec.mask_lines l.named l.names l.motors) (range_with_len 0 l.motor)

@@ -1,0 +1,3 @@
+pub mod lemmas
+mod HeaderRows
+mod ModuleRows

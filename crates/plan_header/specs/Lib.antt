@@ -1,0 +1,5 @@
+pub mod Words
+pub mod Headers
+pub mod Modules
+pub mod HeaderExamples
+pub mod ModuleExamples

@@ -1,0 +1,11 @@
+//! What `plan header` prints of a plan for other languages: a header for C and C++, a module for Python.
+#![tactic(auto)]
+
+pub mod header;
+pub mod laws;
+mod motors;
+pub mod python;
+
+pub use header::header_of;
+pub use motors::motor_at;
+pub use python::module_of;
