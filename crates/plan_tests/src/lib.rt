@@ -41,6 +41,8 @@ mod served;
 #[cfg(test)]
 mod sizes;
 #[cfg(test)]
+mod word_answers;
+#[cfg(test)]
 mod word_calls;
 #[cfg(test)]
 mod words;
