@@ -1,5 +1,5 @@
 -- Keys, stamps and points of a few entries, in figures; which entries fit; and what may be said of stamps alone.
-use Rattle.std.specs.Prelude.{◌≡◌, ℕ, true, false, List, [], ◌∷◌, Some, None}
+use Rattle.std.specs.Prelude.{◌≡◌, true, false, List, [], ◌∷◌, Some, None}
 use Rattle.cell_rules.specs.Types.{Feed, Table, Press, Crane, Watch, Z3, Z6, Claim, Inquire, Done, Refused}
 use Rattle.cell_rules.specs.Types.{AlreadyMine}
 use Rattle.cell_rules.specs.Names.{empty, start_state, event}
@@ -9,7 +9,7 @@ use Rattle.cell_report.specs.Order.{AreInOrder, all_noted, done_at, done_stamps,
 use Rattle.cell_report.specs.Order.{is_done_noted, key_at, key_of, put, stamp_of}
 use Rattle.cell_report.specs.InTurn.{IsFirstLeast, all_in_turn, first_key}
 use Rattle.cell_report.specs.AuditFaults.{AllFit, Fits, IsStampFault, IsTooEarly, end_stamp, times, top_of}
-use Rattle.cell_report.specs.AuditExamples.{IsRefused, Note, asks, backwards, claimed, entry, feed_claims, feed_errs}
+use Rattle.cell_report.specs.AuditExamples.{IsRefused, Note, asks, claimed, entry, feed_claims, feed_errs}
 use Rattle.cell_report.specs.AuditExamples.{free, journals_of, note, noted, one_left_out, opening, refused, shown}
 use Rattle.cell_report.specs.AuditExamples.{two_pairs}
 
