@@ -6,3 +6,5 @@ mod Refusing
 mod Soundness
 mod Converse
 mod OwnRules
+mod DoesNoMore
+mod OwnRulesHere

@@ -8,6 +8,7 @@ use Rattle.cell_types.specs.declared.zone.Zone.TheVariants.{Z1, Z2, Z3, Z4, Z5, 
 use Rattle.cell_types.specs.declared.place.Place.TheVariants as place
 use Rattle.cell_types.specs.declared.posture.Posture.{Posture}
 use Rattle.cell_types.specs.declared.posture.Posture.TheVariants.{Closed, Moving, OpenIn, OpenOut}
+use Rattle.cell_types.specs.declared.pose.Pose.{Pose}
 use Rattle.cell_types.specs.declared.pose.Pose.TheVariants.{Turning, Loading, Unloading, Travelling, Middle, Low, Top}
 use Rattle.cell_types.specs.declared.pose.Pose.TheVariants.{Running, Landing, Halted, Offering, Standing}
 use Rattle.cell_types.specs.declared.call.Call.{Call}
@@ -22,6 +23,7 @@ use Rattle.cell_rules.specs.ZoneMap.{free_zone, everywhere, put_zone}
 use Rattle.cell_rules.specs.PlaceSet.{PlaceSet, empty, insert_place}
 use Rattle.cell_rules.specs.ModelState.{ModelState, model_state, zone_at, is_full}
 use Rattle.cell_rules.specs.Refusals.{owns}
+use Rattle.cell_rules.specs.Laws.{is_barred}
 use Rattle.cell_rules.specs.Reply.{reply, next}
 use Rattle.plan_types.specs.declared.call.Call.{Call as PlanCall}
 use Rattle.plan_types.specs.declared.call.Call.TheVariants.{Claim as DoClaim, Give as DoGive, Yield as DoYield}
@@ -75,15 +77,17 @@ pub record DoneCalls (answers : PlanState → ℕ → PlanCall → PlanAnswer) (
   pub stops : DoneBy answers after empty_cell Watch Stop DoStop
   pub resumes : DoneBy answers after stopped_cell Watch Resume DoResume
 
--- one undone call of each kind, by a machine, about a zone and a pose
-pub record UndoneOf (answers : PlanState → ℕ → PlanCall → PlanAnswer) (m z p : ℕ) : Type 0 where
-  pub claim : answers (plan_state stopped_cell) m (DoClaim z) ≢ PlanDone
-  pub give : answers (plan_state empty_cell) m (DoGive z) ≢ PlanDone
-  pub yields : answers (plan_state empty_cell) m (DoYield z) ≢ PlanDone
-  pub take : answers (plan_state empty_cell) m (DoTake z) ≢ PlanDone
-  pub release : answers (plan_state empty_cell) m (DoRelease z) ≢ PlanDone
-  pub pose : answers (plan_state empty_cell) m (DoSetPose p) ≢ PlanDone
-  pub resume : answers (plan_state empty_cell) m DoResume ≢ PlanDone
+-- calls of any machine, about any zone: in the stopped cell no claim is done, in the empty one no call that needs its
+-- caller to own the zone, and no pose that moves; and nobody resumes the empty cell
+pub record UndoneBy (answers : PlanState → ℕ → PlanCall → PlanAnswer) (m : Machine) (z : Zone) (p : Pose) : Type 0 where
+  pub claim : answers (plan_state stopped_cell) (machine_number m) (DoClaim (zone_number z)) ≢ PlanDone
+  pub give : answers (plan_state empty_cell) (machine_number m) (DoGive (zone_number z)) ≢ PlanDone
+  pub yields : answers (plan_state empty_cell) (machine_number m) (DoYield (zone_number z)) ≢ PlanDone
+  pub take : answers (plan_state empty_cell) (machine_number m) (DoTake (zone_number z)) ≢ PlanDone
+  pub release : answers (plan_state empty_cell) (machine_number m) (DoRelease (zone_number z)) ≢ PlanDone
+  pub pose : is_barred (SetPose p) ≡ true
+      → answers (plan_state empty_cell) (machine_number m) (DoSetPose (pose_number m p)) ≢ PlanDone
+  pub resume : answers (plan_state empty_cell) (machine_number m) DoResume ≢ PlanDone
 
 -- calls that the cell refuses, by no rule of its own, so that its plan doesn't do them
 pub record UndoneCalls (answers : PlanState → ℕ → PlanCall → PlanAnswer) : Type 0 where
@@ -91,13 +95,7 @@ pub record UndoneCalls (answers : PlanState → ℕ → PlanCall → PlanAnswer)
   pub yields : answers (plan_state press_given) 3 (DoYield 2) ≢ PlanDone
   pub take : answers (plan_state (press_open Press empty true)) 3 (DoTake 2) ≢ PlanDone
   pub pose : answers (plan_state (press_in Closed empty false)) 3 (DoSetPose 4) ≢ PlanDone
-  pub of_feed : UndoneOf answers 0 5 7
-  pub of_table : UndoneOf answers 1 0 1
-  pub of_robot : UndoneOf answers 2 2 15
-  pub of_press : UndoneOf answers 3 2 3
-  pub of_deposit : UndoneOf answers 4 4 10
-  pub of_crane : UndoneOf answers 5 5 15
-  pub of_watch : UndoneOf answers 15 3 15
+  pub anywhere : (m : Machine) (z : Zone) (p : Pose) → UndoneBy answers m z p
 
 -- the same of any call: what the plan doesn't do the cell doesn't; what the cell does leaves the same state; and what
 -- the cell refuses, by no rule of its own, the plan doesn't do

@@ -5,3 +5,4 @@ pub mod Laws
 pub mod OwnRuleExamples
 pub mod LawExamples
 pub mod TableExamples
+pub mod OwnRuleLaws

@@ -4,6 +4,7 @@ ghost use Rattle.plan_cell.specs.CellPlan.{cell_table};
 ghost use Rattle.plan_cell.specs.Laws.{CellRefusesMore, RefusesByItsOwnRules, OwnRulesRefuse};
 ghost use Rattle.plan_cell.specs.Laws.{AdvanceAloneIsMissing, InquiriesAreAlike, SoundByPlan};
 ghost use Rattle.plan_cell.specs.OwnRuleExamples.{OwnRuleExamples};
+ghost use Rattle.plan_cell.specs.OwnRuleLaws.{OwnRulesAreThese};
 ghost use Rattle.plan_cell.specs.LawExamples.{LawExamples, InquiriesTell, NumbersAreRight};
 ghost use Rattle.plan_cell.specs.TableExamples.{TableExamples};
 
@@ -23,6 +24,12 @@ pub fn cell_refuses_more()
 /// and the press doesn't open for loading onto a forged plate (`PlaceFull`).
 pub fn cell_refuses_by_its_own_rules()
     ensures { RefusesByItsOwnRules }
+{}
+
+/// The cell's own rules, one by one: by which machine, in which call, with which refusal and in which states. There are
+/// these and no others, and what the plan does and the cell refuses, the cell refuses by one of them.
+pub fn own_rules_are_these()
+    ensures { OwnRulesAreThese }
 {}
 
 /// Where one of these rules holds, the cell doesn't do the call.
