@@ -53,7 +53,8 @@ fn unowned_at(
 fn any_unowned(plan: &Plan, layout: &Layout, word: u64, machine: u8, pose: u8) -> Option<Refusal>
     requires { layout.now ≡ counts_of plan.now }
     ensures { let state = state_told plan.now word in
-        result ≡ refusals.first_zone plan.now (refusals.unowned_by_pose plan.now state machine pose) }
+        result
+        ≡ refusals.first_zone plan.now (refusals.unowned_by_pose plan.now state machine pose) }
 {
     let moves = plan.is_moving_pose(pose);
     for zone in 0..plan.zone_count() {
@@ -86,7 +87,8 @@ fn plate_at(
 fn any_plate(plan: &Plan, layout: &Layout, word: u64, machine: u8, pose: u8) -> Option<Refusal>
     requires { layout.now ≡ counts_of plan.now }
     ensures { let state = state_told plan.now word in
-        result ≡ refusals.first_zone plan.now (refusals.plate_under_pose plan.now state machine pose) }
+        result
+        ≡ refusals.first_zone plan.now (refusals.plate_under_pose plan.now state machine pose) }
 {
     let moves = plan.is_moving_pose(pose);
     for zone in 0..plan.zone_count() {
