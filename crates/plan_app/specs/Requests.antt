@@ -25,13 +25,17 @@ abbrev pub request_for : List ℕ → List ℕ → Option Request
 request_for word language =
     if bytes_eq word (codes "header") && bytes_eq language (codes "--python") then Some Module else None
 
+-- what words ask for that aren't two
+abbrev pub request_with : List (List ℕ) → Option Request
+request_with (name ∷ word ∷ language ∷ []) = request_for word language
+request_with _ = None
+
 -- what words ask for, by what they ask for of every program
 abbrev pub request_asked : Asked → List (List ℕ) → Option Request
 request_asked asked.Help words = Some Help
 request_asked asked.Version words = Some Version
 request_asked asked.Other (name ∷ word ∷ []) = request_by word
-request_asked asked.Other (name ∷ word ∷ language ∷ []) = request_for word language
-request_asked asked.Other _ = None
+request_asked asked.Other words = request_with words
 
 -- what words ask for; the first is the program's name
 abbrev pub request_of : List (List ℕ) → Option Request

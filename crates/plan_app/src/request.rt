@@ -36,8 +36,17 @@ pub fn request_of(words: &[&str]) -> Option<Request>
         (Asked::Help, _) => Some(Request::Help),
         (Asked::Version, _) => Some(Request::Version),
         (Asked::Other, [_, word]) => request_by(word),
-        (Asked::Other, [_, word, language]) => request_for(word, language),
-        (Asked::Other, _) => None,
+        (Asked::Other, _) => request_with(words),
+    }
+}
+
+/// What words ask for that aren't two.
+fn request_with(words: &[&str]) -> Option<Request>
+    ensures { result ≡ requests.request_with (texts_of words.now) }
+{
+    match words {
+        [_, word, language] => request_for(word, language),
+        _ => None,
     }
 }
 
