@@ -3,3 +3,4 @@ mod Names
 mod Assembling
 mod TeamRows
 mod PromiseRows
+mod SixTold

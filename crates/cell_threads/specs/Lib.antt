@@ -8,4 +8,5 @@ pub mod Six
 pub mod Watching
 pub mod Laws
 pub mod TeamExamples
+pub mod SixTold
 pub mod PromiseExamples

@@ -3,8 +3,13 @@
 ghost use Rattle.cell_unit.specs.Sides.{unit_rig, unit_table};
 ghost use Rattle.cell_threads.specs.Laws.{TurnsAreTaken, WorkersEnd, WorkersTellTurns};
 ghost use Rattle.cell_threads.specs.PromiseExamples.{PromisesAreTold, ReadyIsTold};
+ghost use Rattle.cell_threads.specs.SixTold.{AnySixAreTold, AnyWatchedAreTold};
 ghost use Rattle.cell_threads.specs.TeamExamples.{TeamsAreTold};
 
+use crate::gate::Gate;
+use crate::six_of::SixOf;
+use crate::watching::Watching;
+use crate::worker::Worker;
 use cell_control::{Part, Program};
 use cell_unit::MachineUnit;
 
@@ -38,6 +43,29 @@ pub fn turns_are_taken<P: Program, B: Part<Sense = P::Sense, Act = P::Act>>(
 #[tactic(auto, using(crate::proofs::TeamRows::teams_are_told))]
 pub fn teams_are_told()
     ensures { TeamsAreTold }
+{}
+
+/// What a record says of any six workers, whatever the tries, the turns and the gate: each gave back
+/// what it promises, by its machine's fresh pass; the record has what they left, and tells one legal
+/// history. The same with a watch.
+pub fn any_six_are_told<W1, W2, W3, W4, W5, W6, H, G>(
+    _workers: &SixOf<W1, W2, W3, W4, W5, W6>,
+    _watch: &H,
+    _gate: &G,
+)
+where
+    W1: Worker,
+    W2: Worker,
+    W3: Worker,
+    W4: Worker,
+    W5: Worker,
+    W6: Worker,
+    H: Watching,
+    G: Gate,
+    ensures six { AnySixAreTold W1.gives_back W2.gives_back W3.gives_back W4.gives_back W5.gives_back
+        W6.gives_back (G.may_answer _gate.now) }
+    ensures watched { AnyWatchedAreTold W1.gives_back W2.gives_back W3.gives_back W4.gives_back
+        W5.gives_back W6.gives_back (G.may_answer _gate.now) H.watches }
 {}
 
 /// Examples of six workers that are ready, each by its machine's pass, and of six of which one isn't;
