@@ -1,5 +1,13 @@
 //! Laws of audits and reports, each the contract of a function that does nothing.
 
+ghost use Rattle.std.specs.Prelude.{◌≡◌, ◌≢◌, List, Option};
+ghost use Rattle.cell_rules.specs.Types.{Entry, Machine};
+ghost use Rattle.cell_rules.specs.ModelState.{ModelState};
+ghost use Rattle.cell_report.specs.declared.audit_faults.AuditFault.{AuditFault};
+ghost use Rattle.cell_report.specs.declared.audit_faults.AuditFault.TheVariants.{Memory};
+ghost use Rattle.cell_report.specs.declared.ordered.Noted.{Noted};
+ghost use Rattle.cell_report.specs.AuditFaults.{IsFault};
+ghost use Rattle.cell_report.specs.Order.{InOrder};
 ghost use Rattle.cell_report.specs.AuditExamples.{FaultExamples, OrderExamples};
 ghost use Rattle.cell_report.specs.AuditLaws.{FaultIsOne, OrderIsOne};
 ghost use Rattle.cell_report.specs.LinesByNumber.{LinesByNumber};
@@ -12,6 +20,12 @@ ghost use Rattle.cell_report.specs.StampExamples.{StampExamples};
 pub fn audits_are_one()
     ensures order { OrderIsOne }
     ensures fault { FaultIsOne }
+    ensures one_order { (all one other : List Noted) →
+        InOrder all one → InOrder all other → one ≡ other }
+    ensures one_fault { (start : ModelState) (journals : Machine → List Entry)
+        (end : Option ModelState) (one other : AuditFault) →
+        IsFault start journals end one → IsFault start journals end other →
+        one ≢ Memory → other ≢ Memory → one ≡ other }
 {}
 
 /// Examples: journals of a few entries, their order, and why an audit refuses them: the least of
