@@ -106,6 +106,7 @@ explanations-met = record {
   no_start = refl;
   bad_start = refl;
   bad_row = refl;
+  any_row = λ number. refl;
   long = refl;
   missing = refl;
   headed = (1 ∷ [], refl);

@@ -1,5 +1,6 @@
 -- What explanations begin with, what may be written of an input, and which words ask for which kind of input.
 use Rattle.std.specs.Prelude.{◌≡◌, ◌≤◌, ℕ, List, [], ◌∷◌, ◌++◌, codes, length, Option, Some, Ok, Err}
+use Rattle.std.specs.Fmt.{decimal}
 use Rattle.std.specs.Io.KnownBytes.{Keeps}
 use Rattle.clap.specs.Words.{Text}
 use Rattle.csv_rows.specs.declared.script_end.Outcome.TheVariants as outcome
@@ -45,6 +46,7 @@ pub record ExplanationsAreMet : Type 0 where
   pub no_start : script_heading NoStart ≡ codes "record 0, "
   pub bad_start : script_heading BadStart ≡ codes "record 0, "
   pub bad_row : script_heading (BadRow 12) ≡ codes "record 12, "
+  pub any_row : (number : ℕ) → script_heading (BadRow number) ≡ codes "record " ++ (decimal number ++ codes ", ")
   pub long : script_heading Long ≡ codes "the script is too long: "
   pub missing : config_heading Missing ≡ codes "config missing: "
   pub headed : Heads (7 ∷ 5 ∷ 1 ∷ [])
