@@ -1,5 +1,5 @@
 -- Each machine's next call, machine by machine; and how a machine comes on in a history.
-use Rattle.std.specs.Prelude.{◌≡◌, ◌⊎◌, ℕ, true, false, List, [], ◌∷◌, Some, None, Ok}
+use Rattle.std.specs.Prelude.{◌≡◌, ◌⊎◌, ◌++◌, ℕ, true, false, List, [], ◌∷◌, Some, None, Ok}
 use Rattle.cell_rules.specs.Types.{Machine, Feed, Table, Robot, Press, Deposit, Crane, Call, Refusal, Worn, Answer}
 use Rattle.cell_rules.specs.Types.{Refused, Event, same_machine}
 use Rattle.cell_rules.specs.Names.{ModelState, reply, after, event, IsLegal, IsStartState}
@@ -22,6 +22,22 @@ pub record NextCalls (c : CellScales) (z : ModelState) (team : Team) : Type 0 wh
   pub press : IsRefusedAtMost (programs_of c).press Press z team.press
   pub deposit : IsRefusedAtMost (programs_of c).deposit Deposit z team.deposit
   pub crane : IsRefusedAtMost (programs_of c).crane Crane z team.crane
+
+-- each refusal in a history of a call that a step asked to which the machine had come was such a one
+abbrev pub WasRefusedAtMost : {S Sense Reading Act : Type 0} → Steps S Sense Reading Act → Machine → ModelState
+    → List Event → Type 0
+WasRefusedAtMost {S = S} t m opening history =
+    (before rest : List Event) (call : Call) (r : Refusal) (p : S)
+    → history ≡ before ++ event m call (Refused r) ∷ rest → HasCome t opening before p → (t.row p).call ≡ Some call
+    → (r ≡ Worn) ⊎ (waits_out t p r ≡ true)
+
+pub record PastCalls (c : CellScales) (opening : ModelState) (history : List Event) : Type 0 where
+  pub feed : WasRefusedAtMost (programs_of c).feed Feed opening history
+  pub table : WasRefusedAtMost (programs_of c).table Table opening history
+  pub robot : WasRefusedAtMost (programs_of c).robot Robot opening history
+  pub press : WasRefusedAtMost (programs_of c).press Press opening history
+  pub deposit : WasRefusedAtMost (programs_of c).deposit Deposit opening history
+  pub crane : WasRefusedAtMost (programs_of c).crane Crane opening history
 
 -- how a machine comes on by this program: by any answer that leads on, by any refusal to where it was, and by driving;
 -- other machines' events change nothing
@@ -49,6 +65,15 @@ pub record NextCallsAreHeeded (c : CellScales) : Type 0 where
       → HasCome (programs_of c).deposit opening history team.deposit
       → HasCome (programs_of c).crane opening history team.crane
       → NextCalls c (after opening history) team
+  pub past : (opening : ModelState) (history : List Event) (team : Team)
+      → IsStartState opening → IsLegal opening history
+      → HasCome (programs_of c).feed opening history team.feed
+      → HasCome (programs_of c).table opening history team.table
+      → HasCome (programs_of c).robot opening history team.robot
+      → HasCome (programs_of c).press opening history team.press
+      → HasCome (programs_of c).deposit opening history team.deposit
+      → HasCome (programs_of c).crane opening history team.crane
+      → PastCalls c opening history
   pub renewed : (renewals : ℕ) (opening : ModelState) (history : List Event) (first team : Team)
       → StandAfter (programs_of c) renewals opening first → IsLegal opening history
       → HasComeFrom (programs_of c).feed first.feed history team.feed
