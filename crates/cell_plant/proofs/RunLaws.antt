@@ -3,11 +3,14 @@ use Rattle.cell_plant.proofs.Names.{◌≡◌, ◌≤◌, ◌+◌, ℕ, Bool, tr
 use Rattle.cell_control.specs.declared.fault.CtlFault.{CtlFault}
 use Rattle.cell_plant.proofs.FineRuns.{stays}
 use Rattle.cell_plant.proofs.LongerRuns.{counts-push, end-push, events-push, run-push}
+use Rattle.cell_plant.proofs.SafeRuns.{every_run}
 use Rattle.cell_plant.proofs.Watched.{frames_push}
+use Rattle.cell_plant.specs.Machines.{any_near}
+use Rattle.cell_rules.specs.Names.{ModelState}
 use Rattle.cell_plant.specs.CellStates.{cell_at_start}
 use Rattle.cell_plant.specs.Runs.{LeadsBy}
-use Rattle.cell_plant.specs.Safety.{IsSafeRun, IsSafeState}
-use Rattle.cell_plant.specs.RunLaws.{RunsAreTold, RunsGrow, turns_of}
+use Rattle.cell_plant.specs.Safety.{IsSafeRun, IsSafeState, IsSafelySet}
+use Rattle.cell_plant.specs.RunLaws.{ComesTo, EndsSafely, RunsAreTold, RunsGrow, turns_of}
 
 -- the first of a list counts for one if it passes
 first-counts : {X : Type 0} (p : X → Bool) (x : X) (xs : List X) (b : Bool) → p x ≡ b → count_by p (x ∷ xs) ≡ cond b 1 0 + count_by p xs
@@ -122,3 +125,29 @@ runs-grow c gives = record {
   frame = frames_push c gives;
   shown = λ turn asked w. refl;
 }
+
+-- the last step of a safe run is safely set
+last-set : (w : CellState) (ss : List Step) (s : Step) → IsSafeRun w (ss ++ s ∷ []) → IsSafelySet (end_of w ss) s
+last-set w [] s safe = safe.1.0
+last-set w (x ∷ ss) s safe = last-set x.moved ss s safe.1.1
+
+module _ (c : CellScales) where
+  safe-then : (opening : ModelState) (turns : List Turn) (steps : List Step) (w : CellState) → ComesTo c opening turns steps w → IsSafeState w
+  safe-then opening turns steps w k =
+      subst IsSafeState (sym k.3) (last-safe (cell_at_start opening) steps (every_run c opening turns steps k.0 k.1 k.2))
+
+  set-then : (opening : ModelState) (turns : List Turn) (steps : List Step) (w : CellState) (t : Turn) (s : Step) → ComesTo c opening turns steps w → s.machine ≡ t.machine → LeadsBy c (any_near c) t.machine t.busy w s → IsSafelySet w s
+  set-then opening turns steps w t s k same leads =
+      let last = subst (λ x. LeadsBy c (any_near c) t.machine t.busy x s) k.3 leads in
+      let run = run-push c (any_near c) (cell_at_start opening) turns steps t s k.2 same last in
+      let safe = every_run c opening (turns ++ t ∷ []) (steps ++ s ∷ []) k.0 k.1 run in
+      subst (λ x. IsSafelySet x s) (sym k.3) (last-set (cell_at_start opening) steps s safe)
+
+  pub ends-safely : EndsSafely c
+  ends-safely = record {
+    clear = λ opening turns steps w k. (safe-then opening turns steps w k).clear;
+    within = λ opening turns steps w k. (safe-then opening turns steps w k).within;
+    positions = λ opening turns steps w k. (safe-then opening turns steps w k).positions;
+    motors = λ opening turns steps w k. (safe-then opening turns steps w k).motors;
+    set = λ opening turns steps w t s k same leads taken. (set-then opening turns steps w t s k same leads).clear taken;
+  }

@@ -1,20 +1,22 @@
 -- What a record says of a simulated run, whichever the schedule, the opening and the gauges.
-use Rattle.std.specs.Prelude.{◌≡◌, ◌≤◌, ◌&&◌, ◌++◌, ℕ, List, [], ◌∷◌, length, count_by, Option, Some, None}
+use Rattle.std.specs.Prelude.{◌≡◌, ◌≤◌, ◌&&◌, ◌++◌, ℕ, true, List, [], ◌∷◌, length, count_by, Option, Some, None}
 use Rattle.std.specs.Prelude.{if◌then◌else◌}
 use Rattle.cell_rules.specs.Types.{Machine, Feed, Table, Robot, Press, Deposit, Crane, Watch, journal_of, same_machine}
-use Rattle.cell_rules.specs.Names.{IsLegal, ModelState, after, noted}
+use Rattle.cell_rules.specs.Names.{IsLegal, IsStartState, ModelState, after, noted}
 use Rattle.cell_notes.specs.Names.{TurnCall, counts_with, no_counts, settled_in, values_of}
 use Rattle.cell_notes.specs.declared.run_record.RunRecord.{RunRecord}
 use Rattle.cell_notes.specs.declared.schedule.Turn.{Turn}
 use Rattle.cell_unit.specs.Statuses.{status_of}
 use Rattle.cell_parts.specs.Axes.{CellScales}
-use Rattle.cell_parts.specs.Names.{NothingCollides, StaysWithin}
+use Rattle.cell_parts.specs.Names.{AreCellScales, MotorDemands, NothingCollides, NothingCollidesWhenSet}
+use Rattle.cell_parts.specs.Names.{PositionDemands, StaysWithin}
 use Rattle.cell_plant.specs.Cells.{TellsRun}
 use Rattle.cell_plant.specs.CellStates.{CellState, cell_at_start, plant_of}
+use Rattle.cell_plant.specs.Errands.{errand_of}
 use Rattle.cell_plant.specs.Frames.{frame_of, frames_after, frames_of}
-use Rattle.cell_plant.specs.Machines.{CellGauges}
+use Rattle.cell_plant.specs.Machines.{CellGauges, any_near}
 use Rattle.cell_plant.specs.Records.{counts_in, events_in}
-use Rattle.cell_plant.specs.Runs.{IsRunBy, LeadsBy, Step, end_of}
+use Rattle.cell_plant.specs.Runs.{IsRun, IsRunBy, LeadsBy, Step, end_of}
 
 -- how many turns of a schedule are a machine's
 abbrev pub turns_of : Machine → List Turn → ℕ
@@ -94,3 +96,25 @@ pub record RunsGrow (c : CellScales) (gives : CellGauges) : Type 0 where
           crane = (w.side Crane).part;
         };
       }
+
+-- Whatever the schedule and the start are, by any readings near the lines: where a run has come nothing collides, each
+-- axis is within its ends, and positions and motors have what they demand. So it is once the motors of another turn are
+-- set.
+abbrev pub ComesTo : CellScales → ModelState → List Turn → List Step → CellState → Type 0
+ComesTo c opening turns steps w =
+    AreCellScales c × IsStartState opening × IsRun c (cell_at_start opening) turns steps
+    × (w ≡ end_of (cell_at_start opening) steps)
+
+pub record EndsSafely (c : CellScales) : Type 0 where
+  pub clear : (opening : ModelState) (turns : List Turn) (steps : List Step) (w : CellState)
+      → ComesTo c opening turns steps w → NothingCollides (plant_of w)
+  pub within : (opening : ModelState) (turns : List Turn) (steps : List Step) (w : CellState)
+      → ComesTo c opening turns steps w → StaysWithin (plant_of w)
+  pub positions : (opening : ModelState) (turns : List Turn) (steps : List Step) (w : CellState)
+      → ComesTo c opening turns steps w → PositionDemands w.interlock (plant_of w)
+  pub motors : (opening : ModelState) (turns : List Turn) (steps : List Step) (w : CellState)
+      → ComesTo c opening turns steps w
+      → MotorDemands (errand_of (w.side Crane).progress.step) w.interlock (plant_of w)
+  pub set : (opening : ModelState) (turns : List Turn) (steps : List Step) (w : CellState) (t : Turn) (s : Step)
+      → ComesTo c opening turns steps w → s.machine ≡ t.machine → LeadsBy c (any_near c) t.machine t.busy w s
+      → s.taken ≡ true → NothingCollidesWhenSet s.machine (plant_of w) (plant_of s.set)

@@ -12,7 +12,7 @@ ghost use Rattle.cell_plant.specs.RecordExamples.{RecordExamples};
 ghost use Rattle.cell_plant.specs.RestExamples.{RestIsTold};
 ghost use Rattle.cell_plant.specs.Resting.{StoppedMachinesRest};
 ghost use Rattle.cell_plant.specs.RunExamples.{RunExamples};
-ghost use Rattle.cell_plant.specs.RunLaws.{RunsAreTold, RunsGrow};
+ghost use Rattle.cell_plant.specs.RunLaws.{EndsSafely, RunsAreTold, RunsGrow};
 ghost use Rattle.cell_plant.specs.Safety.{EveryRunIsSafe};
 ghost use Rattle.cell_plant.specs.SafetyExamples.{SafetyExamples};
 ghost use Rattle.cell_plant.specs.WatchExamples.{WatchRowsAreMet};
@@ -55,6 +55,7 @@ pub fn runs_are_told<F1: Gauge, F2: Gauge, F3: Gauge, F4: Gauge, F5: Gauge>(
 )
     ensures told { RunsAreTold (cell_scales _cell.now) (cell_gauges _cell.now) }
     ensures grow { RunsGrow (cell_scales _cell.now) (cell_gauges _cell.now) }
+    ensures safe { (c : CellScales) → EndsSafely c }
 {}
 
 /// No frame of a run shows a collision, whatever the schedule, the start and the calibrations. In
