@@ -15,3 +15,4 @@ mod WiredRows
 mod WiredTold
 mod WiredCycles
 mod RoundRows
+mod RoundNumbers

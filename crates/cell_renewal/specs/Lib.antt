@@ -9,4 +9,5 @@ pub mod RenewedRecords
 pub mod RenewalExamples
 pub mod WiredExamples
 pub mod RoundExamples
+pub mod RoundsByNumber
 pub mod Wearing

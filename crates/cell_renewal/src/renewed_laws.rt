@@ -3,6 +3,8 @@
 ghost use Rattle.cell_renewal.specs.RenewalExamples.{RenewalIsTold};
 ghost use Rattle.cell_renewal.specs.RenewedRecords.{NoneIsRefusedThrough, NoneIsWornThrough};
 ghost use Rattle.cell_renewal.specs.RoundExamples.{RoundsAreTold};
+ghost use Rattle.cell_renewal.specs.RoundsByNumber.{RoundsByNumber};
+ghost use Rattle.std.specs.Prelude.{ℕ};
 
 use crate::going_worker::GoingWorker;
 use crate::rounds::RoundSink;
@@ -65,4 +67,11 @@ pub fn renewal_is_told()
 #[tactic(auto, using(crate::proofs::RoundRows::rounds_are_told))]
 pub fn rounds_are_told()
     ensures { RoundsAreTold }
+{}
+
+/// Rounds of six workers and a watch, whatever the tries, the turns and the mark are: each is told
+/// them, what each gave back is left, the next interlock opens with a stamp up to the mark, and each
+/// round but the last leaves all six fine.
+pub fn rounds_by_number()
+    ensures { (tries limit mark : ℕ) → RoundsByNumber tries limit mark }
 {}
