@@ -2,9 +2,13 @@
    plans beside. A call first tests whether the word is a state's, then looks into the plan's tables, of which masks and
    lists are made once. Beside it, for the plan of the cell, stands bindings/tests/plain.h, which knows that plan alone.
 
-   It reads what proved/plan reads (see there): 1 makes the calls by the plan, 2 by plain.h, and 0 makes none. */
+   It reads what proved/plan reads (see there): 1 makes the calls by the plan, 2 by plain.h, and 0 makes none. Compiled
+   with -DLIBRARY it makes them by the library for C instead. */
 #include "../../bindings/tests/plain.h"
 #include <stdio.h>
+#ifdef LIBRARY
+#include <bagunjoki_plan.h>
+#endif
 
 enum { CLOSED, MOVING, OPEN_IN, OPEN_OUT };
 enum { CLAIM = 1, GIVE, YIELD, TAKE, RELEASE, SET_POSE, INQUIRE = 8, STOP, RESUME, WATCH = 15, NOBODY = 255 };
@@ -229,6 +233,15 @@ static __attribute__((noinline)) bagunjoki_reply cell_step(uint64_t word, uint8_
     return plain_tested_step(word, machine, verb, object);
 }
 
+#ifdef LIBRARY
+static struct reply library_step(const bagunjoki_plan_opened *plan, uint64_t word, uint8_t machine, uint8_t verb,
+                                 uint8_t object) {
+    bagunjoki_plan_reply reply = bagunjoki_plan_step(plan, word, machine, verb, object);
+    return refuse(reply.next, reply.answer);
+}
+#define step library_step
+#endif
+
 static uint64_t number(const uint8_t *bytes, unsigned count) {
     return count ? bytes[0] | number(bytes + 1, count - 1) << 8 : 0;
 }
@@ -238,7 +251,11 @@ int main(void) {
     if (fread(input, 1, sizeof input, stdin) != sizeof input) return 1;
     uint8_t way = input[0], machine = input[1], verb = input[2], object = input[3], stamp_bit = input[4];
     uint64_t word = number(input + 8, 8), calls = number(input + 16, 4), sum = 0, finished = 0;
+#ifdef LIBRARY
+    bagunjoki_plan_opened plan = bagunjoki_plan_open(input + HEAD, input[6] | input[7] << 8);
+#else
     struct plan plan = plan_of(input + HEAD);
+#endif
     for (uint64_t stamp = 0; stamp < calls; stamp++) {
         uint64_t at = word | (stamp & 0x7FFFF) << stamp_bit;
         if (way == 0) {
