@@ -1,15 +1,17 @@
 /* The interlock of any plant, by its plan, for C and C++.
 
-   `plan header` prints a plan's bytes, and the numbers of its machines, zones, poses and places, from 0. The state of
-   the plant is one 64-bit word. bagunjoki_plan_step answers a call on such a word, and gives the word after it.
-   bagunjoki_plan_ask makes a call on a word that threads or processes share; bagunjoki_plan_settle asks until it is
-   answered. BAGUNJOKI_PLAN_MAY_RUN tells of a word that was loaded whether a motor may run.
+   `plan header` prints a plan's bytes, and the numbers of its machines, zones, poses and places, from 0.
+   bagunjoki_plan_open reads them once, and all others take what it gives. The state of the plant is one 64-bit word.
+   bagunjoki_plan_step answers a call on such a word, and gives the word after it. bagunjoki_plan_ask makes a call on a
+   word that threads or processes share; bagunjoki_plan_settle asks until it is answered. BAGUNJOKI_PLAN_MAY_RUN tells of
+   a word that was loaded whether a motor may run. Nothing takes memory by malloc, or a lock.
 
-   What is proved (crates/plan_c): what the five functions of the library return. What isn't: the loops of
+   What is proved (crates/plan_c): what the six functions of the library return. What isn't: the loops of
    bagunjoki_plan_ask, bagunjoki_plan_settle and bagunjoki_plan_renew, which your compiler translates. They are right if
      - nothing but these three writes the word after it was set to a start's,
-     - no two callers call as the same machine, and
-     - all callers pass the same plan.
+     - no two callers call as the same machine,
+     - all callers pass the same plan, and
+     - nothing but bagunjoki_plan_open makes a bagunjoki_plan_opened, or writes to it. A copy is as good.
    This header can't keep you from any of it. docs/FROM_C.md has the whole list of duties. */
 #ifndef BAGUNJOKI_PLAN_H
 #define BAGUNJOKI_PLAN_H
@@ -76,8 +78,7 @@ enum bagunjoki_plan_answer {
     BAGUNJOKI_PLAN_NO_CALL = 64,  /* verb and object name no call; a machine past the plan's may inquire */
     BAGUNJOKI_PLAN_NO_STATE = 65, /* the word is no state's: something else has written it */
     BAGUNJOKI_PLAN_BUSY = 66,     /* bagunjoki_plan_ask alone: others made a change before each of its tries */
-    BAGUNJOKI_PLAN_NO_PLAN = 67,  /* the bytes are no plan's */
-    BAGUNJOKI_PLAN_NO_MEMORY = 68 /* memory ran out: nothing has changed, and the call may be made again */
+    BAGUNJOKI_PLAN_NO_PLAN = 67   /* the bytes that were opened are no plan's */
 };
 
 /* Instead of a word, and of a stamp. */
@@ -97,30 +98,37 @@ typedef struct bagunjoki_plan_reply {
     bool plate;
 } bagunjoki_plan_reply;
 
-/* The proved functions. They read nothing but their arguments, and keep nothing: each reads the plan anew, takes memory
-   by malloc, and frees it before it returns. Any thread may call them, but no signal handler, and no child that was
-   forked from several threads. `plan` points to `length` bytes, `digits` to `count` of them; neither may be null. */
+/* A plan that was opened. Its size never changes; what is in it is the library's alone. */
+typedef struct bagunjoki_plan_opened {
+    bool is_plan; /* whether the bytes were a plan's */
+    uint8_t kept[868];
+} bagunjoki_plan_opened;
+
+/* The proved functions. They read nothing but their arguments, keep nothing, and take no memory and no lock. Any thread
+   may call them, and a signal handler too. `bytes` points to `length` bytes, `digits` to `count` of them; neither may be
+   null. */
+
+/* Opens a plan. If the bytes are no plan's, `is_plan` is false, and all calls by it are NO_PLAN. */
+bagunjoki_plan_opened bagunjoki_plan_open(const uint8_t *bytes, size_t length);
 
 /* A call on a word. It changes no shared word. */
-bagunjoki_plan_reply bagunjoki_plan_step(const uint8_t *plan, size_t length, uint64_t word, uint8_t machine,
+bagunjoki_plan_reply bagunjoki_plan_step(const bagunjoki_plan_opened *plan, uint64_t word, uint8_t machine,
                                          uint8_t verb, uint8_t object);
 
 /* The word of a start: `count` digits 0 or 1, as text, one for each place of the plan, and the first stamp, mostly 0.
-   All zones are free and closed. NO_WORD if there is no such plan or start, or no memory. */
-uint64_t bagunjoki_plan_start(const uint8_t *plan, size_t length, const uint8_t *digits, size_t count,
-                              uint32_t stamp);
+   All zones are free and closed. NO_WORD if there is no such plan or start. */
+uint64_t bagunjoki_plan_start(const bagunjoki_plan_opened *plan, const uint8_t *digits, size_t count, uint32_t stamp);
 
-/* The word of the same state with another stamp. NO_WORD if there is no such plan, the word is no state's, the stamp is
-   past the last, or if there is no memory. */
-uint64_t bagunjoki_plan_restamp(const uint8_t *plan, size_t length, uint64_t word, uint32_t stamp);
+/* The word of the same state with another stamp. NO_WORD if there is no plan, the word is no state's, or the stamp is
+   past the last. */
+uint64_t bagunjoki_plan_restamp(const bagunjoki_plan_opened *plan, uint64_t word, uint32_t stamp);
 
 /* The stamp of a state's word: how many calls were DONE, after the first stamp or that of the last renewal. NO_STAMP if
-   there is no such plan, the word is no state's, or if there is no memory. */
-uint32_t bagunjoki_plan_stamp(const uint8_t *plan, size_t length, uint64_t word);
+   there is no plan, or the word is no state's. */
+uint32_t bagunjoki_plan_stamp(const bagunjoki_plan_opened *plan, uint64_t word);
 
 /* Whether the state of a word permits a motor, or a part to stand somewhere: by the motor's mask and pattern, which
-   `plan header` prints. It reads no plan and takes no memory, so a signal handler may call it too. Of a word that is no
-   state's it says nothing.
+   `plan header` prints. It needs no plan. Of a word that is no state's it says nothing.
    The motor is then permitted until a call of its own machine loses the permission, whatever others do. Your duty:
    before its machine's next call that loses the permission the motor is off and at rest, and the part is out. */
 bool bagunjoki_plan_may_run(uint64_t word, uint64_t mask, uint64_t pattern);
@@ -143,7 +151,7 @@ typedef _Atomic uint64_t bagunjoki_plan_word;
 #endif
 
 /* Makes a word that threads or processes share the word of a start. Before the first call, and by one thread. */
-static inline void bagunjoki_plan_open(bagunjoki_plan_word *shared, uint64_t start) {
+static inline void bagunjoki_plan_begin(bagunjoki_plan_word *shared, uint64_t start) {
     BAGUNJOKI_PLAN_ATOMIC(store)(shared, start);
 }
 
@@ -153,12 +161,12 @@ static inline uint64_t bagunjoki_plan_load(bagunjoki_plan_word *shared) { return
 /* A call on a shared word, as bagunjoki_ask of bagunjoki.h: one load, and at most `tries` exchanges, all sequentially
    consistent. The reply's `next` is the word that the call left, if it is DONE, and otherwise the word in which it was
    answered. With no try left, a call that would be DONE is BUSY, and has changed nothing. */
-static inline bagunjoki_plan_reply bagunjoki_plan_ask(const uint8_t *plan, size_t length, bagunjoki_plan_word *shared,
+static inline bagunjoki_plan_reply bagunjoki_plan_ask(const bagunjoki_plan_opened *plan, bagunjoki_plan_word *shared,
                                                       uint8_t machine, uint8_t verb, uint8_t object,
                                                       unsigned tries) {
     uint64_t word = BAGUNJOKI_PLAN_ATOMIC(load)(shared);
     for (;;) {
-        bagunjoki_plan_reply reply = bagunjoki_plan_step(plan, length, word, machine, verb, object);
+        bagunjoki_plan_reply reply = bagunjoki_plan_step(plan, word, machine, verb, object);
         if (reply.answer != BAGUNJOKI_PLAN_DONE) return reply;
         if (tries == 0) {
             reply.answer = BAGUNJOKI_PLAN_BUSY;
@@ -171,26 +179,25 @@ static inline bagunjoki_plan_reply bagunjoki_plan_ask(const uint8_t *plan, size_
     }
 }
 
-/* Asks until it is answered, as bagunjoki_settle of bagunjoki.h, with the same bound: never BUSY. WORN is an answer, and
-   so is NO_MEMORY. */
-static inline bagunjoki_plan_reply bagunjoki_plan_settle(const uint8_t *plan, size_t length,
+/* Asks until it is answered, as bagunjoki_settle of bagunjoki.h, with the same bound: never BUSY. WORN is an answer. */
+static inline bagunjoki_plan_reply bagunjoki_plan_settle(const bagunjoki_plan_opened *plan,
                                                          bagunjoki_plan_word *shared, uint8_t machine, uint8_t verb,
                                                          uint8_t object) {
     bagunjoki_plan_reply reply;
     do {
-        reply = bagunjoki_plan_ask(plan, length, shared, machine, verb, object, BAGUNJOKI_PLAN_LAST_STAMP);
+        reply = bagunjoki_plan_ask(plan, shared, machine, verb, object, BAGUNJOKI_PLAN_LAST_STAMP);
     } while (reply.answer == BAGUNJOKI_PLAN_BUSY); /* only if it was renewed meanwhile */
     return reply;
 }
 
 /* Keeps a shared word from wearing out, as bagunjoki_renew: if its stamp is `from` or later, gives it the stamp `to`,
    and changes nothing else of the state. Any thread may do this at any moment, in each turn:
-   bagunjoki_plan_renew(PLAN_BYTES, sizeof PLAN_BYTES, &word, 1000000, 0, 8). False if it is still to be done. */
-static inline bool bagunjoki_plan_renew(const uint8_t *plan, size_t length, bagunjoki_plan_word *shared, uint32_t from,
+   bagunjoki_plan_renew(&plan, &word, 1000000, 0, 8). False if it is still to be done. */
+static inline bool bagunjoki_plan_renew(const bagunjoki_plan_opened *plan, bagunjoki_plan_word *shared, uint32_t from,
                                         uint32_t to, unsigned tries) {
     uint64_t word = BAGUNJOKI_PLAN_ATOMIC(load)(shared);
-    while (bagunjoki_plan_stamp(plan, length, word) >= from) {
-        uint64_t next = bagunjoki_plan_restamp(plan, length, word, to);
+    while (bagunjoki_plan_stamp(plan, word) >= from) {
+        uint64_t next = bagunjoki_plan_restamp(plan, word, to);
         if (next == BAGUNJOKI_PLAN_NO_WORD || tries == 0) return false;
         if (BAGUNJOKI_PLAN_ATOMIC(compare_exchange_strong)(shared, &word, next)) return true;
         tries--;

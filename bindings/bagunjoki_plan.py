@@ -29,14 +29,24 @@ WATCH, NOTHING = 15, 255
 # Bits of a zone and of the stamp.
 ZONE_BITS, STAMP_BITS = 5, 20
 # The answers of the header for C that the cell's library doesn't give.
-NO_PLAN, NO_MEMORY = 67, 68
+NO_PLAN = 67
 
 WORD, BYTE, STAMP, TEXT, SIZE = ctypes.c_uint64, ctypes.c_uint8, ctypes.c_uint32, ctypes.c_char_p, ctypes.c_size_t
+
+
+class RawOpened(ctypes.Structure):
+    """A plan that was opened, as C has it."""
+
+    _fields_ = [("is_plan", ctypes.c_bool), ("kept", BYTE * 868)]
+
+
+OPENED = ctypes.POINTER(RawOpened)
 FUNCTIONS = {
-    "step": (RawReply, [TEXT, SIZE, WORD, BYTE, BYTE, BYTE]),
-    "start": (WORD, [TEXT, SIZE, TEXT, SIZE, STAMP]),
-    "restamp": (WORD, [TEXT, SIZE, WORD, STAMP]),
-    "stamp": (STAMP, [TEXT, SIZE, WORD]),
+    "open": (RawOpened, [TEXT, SIZE]),
+    "step": (RawReply, [OPENED, WORD, BYTE, BYTE, BYTE]),
+    "start": (WORD, [OPENED, TEXT, SIZE, STAMP]),
+    "restamp": (WORD, [OPENED, WORD, STAMP]),
+    "stamp": (STAMP, [OPENED, WORD]),
     "may_run": (ctypes.c_bool, [WORD, WORD, WORD]),
 }
 
@@ -125,19 +135,20 @@ class PlanLibrary:
     """The library for one plan: the functions that the cell's library has, so that a word may call either."""
 
     def __init__(self, plant, library):
-        self.library, self.plan, self.zones, self.places = library, plant.plan, len(plant.zones), len(plant.places)
+        self.library, self.zones, self.places = library, len(plant.zones), len(plant.places)
+        self.plan = library.bagunjoki_plan_open(plant.plan, len(plant.plan))
 
     def bagunjoki_step(self, word, machine, verb, about):
-        return self.library.bagunjoki_plan_step(self.plan, len(self.plan), word, machine, verb, about)
+        return self.library.bagunjoki_plan_step(self.plan, word, machine, verb, about)
 
     def bagunjoki_start(self, digits, length, stamp):
-        return self.library.bagunjoki_plan_start(self.plan, len(self.plan), digits, length, stamp)
+        return self.library.bagunjoki_plan_start(self.plan, digits, length, stamp)
 
     def bagunjoki_restamp(self, word, stamp):
-        return self.library.bagunjoki_plan_restamp(self.plan, len(self.plan), word, stamp)
+        return self.library.bagunjoki_plan_restamp(self.plan, word, stamp)
 
     def bagunjoki_stamp(self, word):
-        return self.library.bagunjoki_plan_stamp(self.plan, len(self.plan), word)
+        return self.library.bagunjoki_plan_stamp(self.plan, word)
 
     def place_bit(self, place):
         """The bit of a place; past the last one, the first bit of the stamp."""

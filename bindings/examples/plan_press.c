@@ -80,12 +80,13 @@ struct machine {
     uint8_t stopped_by;
 };
 
+static bagunjoki_plan_opened plan;
 static bagunjoki_plan_word plant;
 
 /* What a machine waits for: the other one has the zone, nobody has it, or others were quicker. */
 static bool waits(bagunjoki_plan_reply reply) {
     return reply.answer == BAGUNJOKI_PLAN_HELD || reply.answer == BAGUNJOKI_PLAN_NOT_OWNER ||
-           reply.answer == BAGUNJOKI_PLAN_BUSY || reply.answer == BAGUNJOKI_PLAN_NO_MEMORY;
+           reply.answer == BAGUNJOKI_PLAN_BUSY;
 }
 
 static void *run(void *given) {
@@ -98,9 +99,9 @@ static void *run(void *given) {
             continue;
         }
         /* here the motor runs, until it is off and at rest */
-        bagunjoki_plan_renew(PLAN_BYTES, sizeof PLAN_BYTES, &plant, 5000, 0, 8);
-        bagunjoki_plan_reply reply = bagunjoki_plan_ask(PLAN_BYTES, sizeof PLAN_BYTES, &plant, machine->number,
-                                                        step->verb, step->object, 8);
+        bagunjoki_plan_renew(&plan, &plant, 5000, 0, 8);
+        bagunjoki_plan_reply reply =
+            bagunjoki_plan_ask(&plan, &plant, machine->number, step->verb, step->object, 8);
         if (reply.answer != BAGUNJOKI_PLAN_DONE) {
             if (waits(reply)) {
                 sched_yield();
@@ -127,9 +128,10 @@ int main(void) {
     };
     pthread_t threads[2];
     /* a plate on the loader's hand, none in the press */
-    uint64_t start = bagunjoki_plan_start(PLAN_BYTES, sizeof PLAN_BYTES, (const uint8_t *)"10", 2, 0);
+    plan = bagunjoki_plan_open(PLAN_BYTES, sizeof PLAN_BYTES);
+    uint64_t start = bagunjoki_plan_start(&plan, (const uint8_t *)"10", 2, 0);
     if (start == BAGUNJOKI_PLAN_NO_WORD) return 1;
-    bagunjoki_plan_open(&plant, start);
+    bagunjoki_plan_begin(&plant, start);
     for (int k = 0; k < 2; k++)
         if (pthread_create(&threads[k], NULL, run, &machines[k])) return 1;
     for (int k = 0; k < 2; k++) pthread_join(threads[k], NULL);

@@ -39,15 +39,15 @@ static bool motors_are_kept_apart(uint64_t word) {
 
 static uint64_t mix(uint64_t sum, uint64_t value) { return (sum ^ value) * 1099511628211u; }
 
-static uint64_t walk(void) {
+static uint64_t walk(const bagunjoki_plan_opened *lift) {
     static const uint8_t callers[] = {0, 1, 2, BAGUNJOKI_PLAN_WATCH};
-    uint64_t word = bagunjoki_plan_start(PLAN_BYTES, sizeof PLAN_BYTES, (const uint8_t *)"010", 3, 0);
+    uint64_t word = bagunjoki_plan_start(lift, (const uint8_t *)"010", 3, 0);
     uint64_t seed = 1, sum = 14695981039346656037u;
     for (int k = 0; k < CALLS; k++) {
         seed = seed * 6364136223846793005u + 1442695040888963407u;
         uint64_t drawn = seed >> 33;
         uint8_t machine = callers[drawn % 4], verb = drawn / 4 % 11, object = drawn / 64 % 6;
-        bagunjoki_plan_reply reply = bagunjoki_plan_step(PLAN_BYTES, sizeof PLAN_BYTES, word, machine, verb, object);
+        bagunjoki_plan_reply reply = bagunjoki_plan_step(lift, word, machine, verb, object);
         word = reply.next;
         if (!motors_are_kept_apart(word)) return 0;
         sum = mix(mix(mix(sum, reply.next), reply.answer), reply.owner);
@@ -59,17 +59,17 @@ static uint64_t walk(void) {
 /* Eight zones and three places: the stamp ends at bit 62, and the stop is bit 63. The test
    words_of_all_bits_are_answered of plan_c makes these calls, and more. */
 static bool words_of_all_bits_are_answered(void) {
-    uint8_t plan[4 + 8 * 8 + 3] = {2, 8, 0, 3};
-    size_t length = sizeof plan;
-    for (int zone = 0; zone < 8; zone++) plan[4 + 8 * zone + 1] = 1;
-    plan[length - 1] = 1;
-    uint64_t start = bagunjoki_plan_start(plan, length, (const uint8_t *)"101", 3, 1048574);
+    uint8_t bytes[4 + 8 * 8 + 3] = {2, 8, 0, 3};
+    for (int zone = 0; zone < 8; zone++) bytes[4 + 8 * zone + 1] = 1;
+    bytes[sizeof bytes - 1] = 1;
+    bagunjoki_plan_opened plan = bagunjoki_plan_open(bytes, sizeof bytes);
+    uint64_t start = bagunjoki_plan_start(&plan, (const uint8_t *)"101", 3, 1048574);
     bagunjoki_plan_reply stop =
-        bagunjoki_plan_step(plan, length, start, BAGUNJOKI_PLAN_WATCH, BAGUNJOKI_PLAN_STOP, 0);
-    uint64_t early = bagunjoki_plan_restamp(plan, length, stop.next, 7);
+        bagunjoki_plan_step(&plan, start, BAGUNJOKI_PLAN_WATCH, BAGUNJOKI_PLAN_STOP, 0);
+    uint64_t early = bagunjoki_plan_restamp(&plan, stop.next, 7);
     return start == 0x7FFFF50000000000u && stop.answer == BAGUNJOKI_PLAN_DONE && stop.next == 0xFFFFFD0000000000u
-           && bagunjoki_plan_stamp(plan, length, stop.next) == 1048575 && early == 0x80003D0000000000u
-           && bagunjoki_plan_step(plan, length, early, 0, BAGUNJOKI_PLAN_CLAIM, 7).answer == BAGUNJOKI_PLAN_STOPPED;
+           && bagunjoki_plan_stamp(&plan, stop.next) == 1048575 && early == 0x80003D0000000000u
+           && bagunjoki_plan_step(&plan, early, 0, BAGUNJOKI_PLAN_CLAIM, 7).answer == BAGUNJOKI_PLAN_STOPPED;
 }
 
 int main(int argc, char **argv) {
@@ -77,14 +77,15 @@ int main(int argc, char **argv) {
         puts("a word of 64 bits isn't answered by its plan");
         return 1;
     }
-    uint64_t sum = walk();
+    bagunjoki_plan_opened lift = bagunjoki_plan_open(PLAN_BYTES, sizeof PLAN_BYTES);
+    uint64_t sum = walk(&lift);
     printf("0x%016llx\n", (unsigned long long)sum);
     if (argc > 1) {
         clock_t begun = clock();
         int rounds = atoi(argv[1]);
         for (int k = 0; k < rounds; k++)
-            if (walk() != sum) return 1;
-        printf("%.2f us a call\n", 1e6 * (double)(clock() - begun) / CLOCKS_PER_SEC / rounds / CALLS);
+            if (walk(&lift) != sum) return 1;
+        printf("%.3f us a call\n", 1e6 * (double)(clock() - begun) / CLOCKS_PER_SEC / rounds / CALLS);
     }
     return 0;
 }

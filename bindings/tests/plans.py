@@ -17,7 +17,8 @@ EXPORTS = "crates/plan_c/src/exports.rt"
 TESTS = "crates/plan_c/src/tests.rt"
 HEADER = "bindings/bagunjoki_plan.h"
 BUSY = 66
-TYPES = compare.TYPES | {"bagunjoki_plan_reply": "Reply"}
+TYPES = compare.TYPES | {"bagunjoki_plan_reply": "Reply", "bagunjoki_plan_opened": "Opened"}
+SLICE = compare.SLICE | {"&Opened": ["*Opened"]}
 # The plans that programs here carry, by the byte examples of plan_types.
 PLANS = [("press", "bindings/examples/plan_press.c")]
 PLANS += [("lift", f"bindings/tests/plan_{it}.c") for it in ("walk", "memory")]
@@ -31,7 +32,7 @@ def of_crates(root):
     """Numbers, limits and fields as the crates have them."""
     numbers, replies = text_of(f"{root}/{NUMBERS}"), text_of(f"{root}/{REPLIES}")
     answers = table(replies, "refusal_number") | table(replies, "answer_number")
-    answers |= {it.upper(): value(replies, it) for it in ("no_call", "no_state", "no_plan", "no_memory")}
+    answers |= {it.upper(): value(replies, it) for it in ("no_call", "no_state", "no_plan")}
     found = {it: table(numbers, f"{it}_number") for it in ("posture", "verb")} | {"answer": answers | {"BUSY": BUSY}}
     limits = {it.upper(): value(replies, it) for it in ("nothing", "no_word", "no_stamp")}
     limits["LAST_STAMP"] = value(text_of(f"{root}/{STAMPS}"), "last_stamp")
@@ -53,12 +54,12 @@ def of_header(root):
 
 
 def functions_of_crate(root):
-    """The exported functions: what each gives, and its arguments. An allocator takes no bytes."""
+    """The exported functions: what each gives, and its arguments."""
     found = {}
     text = text_of(f"{root}/{EXPORTS}")
     for name, arguments, gives in re.findall(r'^pub extern "C" fn (\w+)\((.*?)\) -> (\w+)$', text, re.M | re.S):
-        kinds = [it for it in re.findall(r"\w+: ([^,\s]+)", arguments) if it != "Global"]
-        found[name] = [gives] + [it for kind in kinds for it in compare.SLICE.get(kind, [kind])]
+        kinds = re.findall(r"\w+: ([^,\s]+)", arguments)
+        found[name] = [gives] + [it for kind in kinds for it in SLICE.get(kind, [kind])]
     return found
 
 
@@ -108,7 +109,7 @@ def walk(trials, compiler, *flags):
 
 
 def memory(trials, compiler, *flags):
-    """Each allocation of a call fails in turn, and nothing is lost."""
+    """No call takes memory: each allocation fails."""
     wrapped = ["-Wl,--wrap=malloc", "-Wl,--wrap=realloc"]
     program = trials.compile(compiler, "tests/plan_memory.c", *wrapped, *flags, library="bagunjoki_plan")
     return trials.run([program]).strip()

@@ -23,7 +23,10 @@ static const uint8_t PLAN_BYTES[] = {
 };
 #define OF(name) bagunjoki_plan_##name
 #define NAME(name) BAGUNJOKI_PLAN_##name
-#define AT PLAN_BYTES, sizeof PLAN_BYTES,
+static bagunjoki_plan_opened plan;
+#define AT &plan,
+#define OPENS plan = bagunjoki_plan_open(PLAN_BYTES, sizeof PLAN_BYTES)
+#define BEGINS bagunjoki_plan_begin
 #define PLACES (const uint8_t *)"00", 2
 enum { OTHER = 1, ZONE = 0 };
 #else
@@ -31,6 +34,8 @@ enum { OTHER = 1, ZONE = 0 };
 #define OF(name) bagunjoki_##name
 #define NAME(name) BAGUNJOKI_##name
 #define AT
+#define OPENS (void)0
+#define BEGINS bagunjoki_open
 #define PLACES (const uint8_t *)"0000000000", 10
 enum { OTHER = BAGUNJOKI_PRESS, ZONE = BAGUNJOKI_Z3 };
 #endif
@@ -56,7 +61,7 @@ static bool exchange(_Atomic uint64_t *word, uint64_t *old, uint64_t next) {
 }
 
 static void begin(uint32_t stamp, uint32_t changes, bool with_renewals) {
-    OF(open)(&shared, OF(start)(AT PLACES, stamp));
+    BEGINS(&shared, OF(start)(AT PLACES, stamp));
     left = changes, lost = 0, renews = with_renewals;
 }
 
@@ -76,6 +81,7 @@ static void ask_again(uint32_t stamp) {
 }
 
 int main(void) {
+    OPENS;
     settle("left alone", 0, 0, false);
     settle("overtaken by 1000", 0, 1000, false);
     settle("overtaken by all", 0, UINT32_MAX, false);

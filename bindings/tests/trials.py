@@ -369,7 +369,7 @@ def at_other_plants(trials, compilers):
             if can_sanitize(compiler, which):
                 flags = ["-g", f"-fsanitize={which}", "-fno-sanitize-recover=all"]
                 trials.attempt(f"plan_press.c, {which} sanitizer, {compiler}", plans.press, trials, compiler, *flags)
-                trials.attempt(f"too little memory, {which}, {compiler}", plans.memory, trials, compiler, *flags)
+                trials.attempt(f"no memory, {which}, {compiler}", plans.memory, trials, compiler, *flags)
     for compiler in trials.there("g++", "clang++"):
         trials.attempt(f"calls at a lift, {compiler}", plans.walk, trials, compiler, "-x", "c++")
 

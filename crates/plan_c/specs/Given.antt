@@ -1,21 +1,18 @@
--- What C gives: the bytes of a plan, the word of a state, and the mask and the pattern of a motor.
-use Rattle.std.specs.Prelude.{◌≡◌, ℕ, List}
-use Rattle.plan_types.specs.Table.{PlanTable}
-use Rattle.plan_types.specs.Plan.{IsPlan}
+-- What C gives: a plan that it has opened, the word of a state, and the mask and the pattern of a motor.
+use Rattle.std.specs.Prelude.{◌≡◌, ℕ, true, false, []}
+use Rattle.plan_types.specs.Table.{PlanTable, plan_table}
 use Rattle.plan_rules.specs.declared.state.State.{State}
 use Rattle.plan_word.specs.OfPlan.{IsOfPlan}
 use Rattle.plan_word.specs.Packed.{packed}
-use Rattle.plan_types.specs.Bytes.{bytes_of, HasWholeRows}
 use Rattle.plan_motors.specs.declared.mask.MotorMask.{MotorMask}
+use Rattle.plan_c.specs.declared.opened.Opened.{Opened}
 
--- the bytes are those of a plan
-pub record IsPlanOf (bytes : List ℕ) (t : PlanTable) : Type 0 where
-  pub bytes_are : bytes_of t ≡ bytes
-  pub rows : HasWholeRows t
-  pub plan : IsPlan t
+-- what C keeps of a plan that was opened, and of bytes that are no plan's
+abbrev pub opened : PlanTable → Opened
+opened t = record { is_plan = true; plan = t }
 
-abbrev pub NoPlan : List ℕ → Type 0
-NoPlan bytes = (t : PlanTable) → ¬ IsPlanOf bytes t
+abbrev pub not_opened : Opened
+not_opened = record { is_plan = false; plan = plan_table 0 [] [] [] }
 
 -- the word is that of this state of the plan
 pub record IsWordOf (t : PlanTable) (word : ℕ) (s : State) : Type 0 where

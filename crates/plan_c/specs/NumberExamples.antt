@@ -7,17 +7,17 @@ use Rattle.plan_types.specs.declared.answer.Answer.TheVariants.{Done, Shown, Ref
 use Rattle.plan_types.specs.declared.answer.Refusal.TheVariants.{NotParty, Held, AlreadyMine, Shut, NotOwner}
 use Rattle.plan_types.specs.declared.answer.Refusal.TheVariants.{PlateInZone, NoPlate, PlaceFull, WrongWay, Jump}
 use Rattle.plan_types.specs.declared.answer.Refusal.TheVariants.{NoPose, Worn, Stopped, NotStopped}
-use Rattle.plan_types.specs.Bytes.{bytes_of, HasWholeRows}
+use Rattle.plan_types.specs.Bytes.{bytes_of, HasWholeRows, IsPlanOf, NoPlan}
 use Rattle.plan_types.specs.Plan.{IsPlan}
 use Rattle.plan_types.specs.Table.{PlanTable}
 use Rattle.plan_rules.specs.declared.state.State.{State}
 use Rattle.plan_word.specs.OfPlan.{IsOfPlan}
 use Rattle.plan_word.specs.Packed.{packed}
 use Rattle.plan_c.specs.declared.reply.Reply.{Reply}
-use Rattle.plan_c.specs.Given.{IsPlanOf, IsWordOf, NoPlan, NoState}
+use Rattle.plan_c.specs.Given.{IsWordOf, NoState}
 use Rattle.plan_c.specs.Laws.{NoStateHasNoWord}
 use Rattle.plan_c.specs.Numbers.{posture_number, verb_number, object_number, IsCall, NoCall}
-use Rattle.plan_c.specs.Replies.{bare_reply, nothing, no_call, no_memory, no_plan, no_stamp, no_state, no_word}
+use Rattle.plan_c.specs.Replies.{bare_reply, nothing, no_call, no_plan, no_stamp, no_state, no_word}
 use Rattle.plan_c.specs.Replies.{refusal_number, reply_of}
 
 abbrev pub reply : ℕ → ℕ → ℕ → ℕ → ℕ → Bool → Reply
@@ -36,8 +36,8 @@ pub record NumbersAreMet : Type 0 where
       (NotParty ∷ Held 7 ∷ AlreadyMine ∷ Shut OpenIn ∷ NotOwner (Some 7) ∷ PlateInZone 7 ∷ NoPlate ∷ PlaceFull
       ∷ WrongWay ∷ Jump ∷ NoPose ∷ Worn ∷ Stopped ∷ NotStopped ∷ [])
       ≡ 1 ∷ 2 ∷ 3 ∷ 4 ∷ 5 ∷ 6 ∷ 7 ∷ 8 ∷ 9 ∷ 10 ∷ 12 ∷ 13 ∷ 14 ∷ 15 ∷ []
-  pub others : no_call ∷ no_state ∷ no_plan ∷ no_memory ∷ nothing ∷ no_stamp ∷ no_word ∷ []
-      ≡ 64 ∷ 65 ∷ 67 ∷ 68 ∷ 255 ∷ 4294967295 ∷ 18446744073709551615 ∷ []
+  pub others : no_call ∷ no_state ∷ no_plan ∷ nothing ∷ no_stamp ∷ no_word ∷ []
+      ≡ 64 ∷ 65 ∷ 67 ∷ 255 ∷ 4294967295 ∷ 18446744073709551615 ∷ []
 
 -- the two numbers of a call, and numbers of none: the cell's Advance, a stop of a zone, and verbs before and past all
 pub record CallsAreMet : Type 0 where
@@ -88,8 +88,8 @@ pub record RepliesAreMet : Type 0 where
       ≡ map (λ n. reply 85 32 0 255 n false) (0 ∷ 1 ∷ 2 ∷ 3 ∷ [])
   pub showing_plate : map (λ plate. reply_of (Shown None plate Closed) 86) (false ∷ true ∷ [])
       ≡ map (reply 86 32 255 255 0) (false ∷ true ∷ [])
-  pub bare_ones : map (λ n. bare_reply n 87) (64 ∷ 65 ∷ 67 ∷ 68 ∷ [])
-      ≡ map (λ n. reply 87 n 255 255 255 false) (64 ∷ 65 ∷ 67 ∷ 68 ∷ [])
+  pub bare_ones : map (λ n. bare_reply n 87) (64 ∷ 65 ∷ 67 ∷ [])
+      ≡ map (λ n. reply 87 n 255 255 255 false) (64 ∷ 65 ∷ 67 ∷ [])
   pub bare : bare_reply 67 79 ≡ reply 79 67 255 255 255 false
 
 -- nothing else is asked of a plan's bytes and of a state's word, and nothing less

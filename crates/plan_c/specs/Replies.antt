@@ -84,7 +84,7 @@ bare_reply answer next = record {
   plate = false;
 }
 
--- the answers where numbers name no call, where a word is no state's, where bytes are no plan, and where memory ran out
+-- the answers where numbers name no call, where a word is no state's, and where bytes are no plan
 abbrev pub no_call : ℕ
 no_call = 64
 
@@ -93,9 +93,6 @@ no_state = 65
 
 abbrev pub no_plan : ℕ
 no_plan = 67
-
-abbrev pub no_memory : ℕ
-no_memory = 68
 
 -- no word and no stamp: all bits are set
 abbrev pub no_word : ℕ

@@ -1,9 +1,8 @@
-//! What each function answers once the plan was read. Nothing here takes memory, so each says exactly what it answers.
-ghost use Rattle.std.specs.Prelude.{◌≡◌, ◌≢◌, ◌≤◌, ◌<◌};
+//! What each function answers by a plan.
+ghost use Rattle.std.specs.Prelude.{◌≡◌, ◌≤◌, ◌<◌};
 ghost use Rattle.plan_rules.specs.declared.state.State.{State as PlanState};
 ghost use Rattle.plan_rules.specs.State.{last_stamp, start_state};
 ghost use Rattle.plan_rules.specs.Reply as rules;
-ghost use Rattle.plan_word.specs.Layout.{counts_of};
 ghost use Rattle.plan_word.specs.Packed.{packed};
 ghost use Rattle.plan_c.specs.Given.{IsWordOf, NoState};
 ghost use Rattle.plan_c.specs.Starts.{IsStartText, places_in};
@@ -21,57 +20,56 @@ pub(crate) const NO_WORD: u64 = u64::MAX;
 /// No stamp.
 pub(crate) const NO_STAMP: u32 = u32::MAX;
 
-/// The reply to a call on a word. It never says that memory ran out.
-pub(crate) fn reply_by(plan: &Plan, layout: &Layout, word: u64, machine: u8, call: Call) -> Reply
-    requires layout { layout.now ≡ counts_of plan.now }
+/// The reply to a call on a word.
+pub(crate) fn reply_by(plan: &Plan, word: u64, machine: u8, call: Call) -> Reply
     ensures answered { (state : PlanState) → IsWordOf plan.now word state
         → result ≡ replies.reply_of (rules.reply plan.now state machine call)
         (packed plan.now (rules.next plan.now state machine call)) }
     ensures no_state { NoState plan.now word
         → result ≡ replies.bare_reply replies.no_state word }
-    ensures has_memory { result.answer ≢ replies.no_memory }
 {
-    match step_word(plan, layout, word, machine, call) {
+    let layout = Layout::of(plan);
+    match step_word(plan, &layout, word, machine, call) {
         Some((answer, next)) => reply_of(answer, next),
         None => bare_reply(NO_STATE, word),
     }
 }
 
 /// The word of a start, if there is one.
-pub(crate) fn start_by(plan: &Plan, layout: &Layout, digits: &[u8], stamp: u32) -> u64
-    requires layout { layout.now ≡ counts_of plan.now }
+pub(crate) fn start_by(plan: &Plan, digits: &[u8], stamp: u32) -> u64
     ensures start { IsStartText plan.now digits.now stamp
         → result ≡ packed plan.now (start_state (places_in digits.now) stamp) }
     ensures no_start { ¬ IsStartText plan.now digits.now stamp → result ≡ replies.no_word }
 {
     if is_start(plan, digits, stamp) {
-        pack(plan, layout, &State::start(places_of(digits), stamp))
+        let layout = Layout::of(plan);
+        pack(plan, &layout, &State::start(places_of(digits), stamp))
     } else {
         NO_WORD
     }
 }
 
 /// The word of a word's state with another stamp, if it has a state and the stamp isn't past the last.
-pub(crate) fn restamp_by(plan: &Plan, layout: &Layout, word: u64, stamp: u32) -> u64
-    requires layout { layout.now ≡ counts_of plan.now }
+pub(crate) fn restamp_by(plan: &Plan, word: u64, stamp: u32) -> u64
     ensures restamped { (state : PlanState) → IsWordOf plan.now word state → stamp ≤ last_stamp
         → result ≡ packed plan.now (record state { stamp = stamp }) }
     ensures past_last { last_stamp < stamp → result ≡ replies.no_word }
     ensures no_state { NoState plan.now word → result ≡ replies.no_word }
 {
-    match unpack(plan, layout, word) {
-        Some(state) if stamp <= LAST_STAMP => pack(plan, layout, &State { stamp, ..state }),
+    let layout = Layout::of(plan);
+    match unpack(plan, &layout, word) {
+        Some(state) if stamp <= LAST_STAMP => pack(plan, &layout, &State { stamp, ..state }),
         _ => NO_WORD,
     }
 }
 
 /// The stamp of a word's state, if it has one.
-pub(crate) fn stamp_by(plan: &Plan, layout: &Layout, word: u64) -> u32
-    requires layout { layout.now ≡ counts_of plan.now }
+pub(crate) fn stamp_by(plan: &Plan, word: u64) -> u32
     ensures stamp { (state : PlanState) → IsWordOf plan.now word state → result ≡ state.stamp }
     ensures no_state { NoState plan.now word → result ≡ replies.no_stamp }
 {
-    match unpack(plan, layout, word) {
+    let layout = Layout::of(plan);
+    match unpack(plan, &layout, word) {
         Some(state) => state.stamp,
         None => NO_STAMP,
     }

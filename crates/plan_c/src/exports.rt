@@ -1,8 +1,8 @@
-//! The functions that C calls. Each checks whatever it is passed, and frees what it takes before it returns. Each reads
-//! the plan, which alone takes memory, and then answers by it.
-ghost use Rattle.std.specs.Prelude.{◌≡◌, ◌≢◌, ◌↔◌, ◌≤◌, ◌<◌, List, IsTrue};
+//! The functions that C calls. A plan is opened once, and all others answer by it. None takes memory.
+ghost use Rattle.std.specs.Prelude.{◌≡◌, ◌↔◌, ◌≤◌, ◌<◌, List, IsTrue};
 ghost use Rattle.plan_types.specs.Table.{PlanTable};
 ghost use Rattle.plan_types.specs.Plan.{IsPlan};
+ghost use Rattle.plan_types.specs.Bytes.{IsPlanOf, NoPlan};
 ghost use Rattle.plan_types.specs.declared.call.Call.{Call};
 ghost use Rattle.plan_types.specs.declared.answer.Event.{Event};
 ghost use Rattle.plan_rules.specs.declared.state.State.{State as PlanState};
@@ -15,112 +15,121 @@ ghost use Rattle.plan_motors.specs.Motor.{Permits};
 ghost use Rattle.plan_motors.specs.Mask.{IsMaskOf, allows};
 ghost use Rattle.plan_motors.specs.OfPlan.{IsMotorOf};
 ghost use Rattle.plan_motors.specs.Laws.{KeepsPermission};
-ghost use Rattle.plan_c.specs.Given.{IsPlanOf, NoPlan, IsWordOf, NoState, motor_mask};
+ghost use Rattle.plan_c.specs.Given.{opened, not_opened, IsWordOf, NoState, motor_mask};
 ghost use Rattle.plan_c.specs.Numbers.{IsCall, NoCall};
 ghost use Rattle.plan_c.specs.Starts.{IsStartText, places_in};
 ghost use Rattle.plan_c.specs.Replies as replies;
 
 use crate::by_plan::{NO_STAMP, NO_WORD, reply_by, restamp_by, stamp_by, start_by};
 use crate::calls::call_with;
-use crate::reading::read_plan;
-use crate::reply::{NO_CALL, NO_MEMORY, NO_PLAN, Reply, bare_reply};
+use crate::opened::Opened;
+use crate::reply::{NO_CALL, NO_PLAN, Reply, bare_reply};
 use plan_motors::MotorMask;
 use plan_rules::laws::lawful_histories;
+use plan_types::{Plan, read_plan};
 use plan_word::laws::words_are_laid_out;
-use std::alloc::{AllocError, Global};
 
-/// Makes a call on a word, by a plan. If the bytes are a plan, the numbers name a call, and the word is
-/// a state's, the reply is the interlock's, with the word of the state after it. Otherwise, and if
-/// memory runs out, it has the word that was given.
+/// Opens a plan, by its bytes. Each of the functions below takes what this gives.
+#[unsafe(no_mangle)]
+pub extern "C" fn bagunjoki_plan_open(bytes: &[u8]) -> Opened
+    ensures plan { (t : PlanTable) → IsPlanOf bytes.now t → result ≡ opened t }
+    ensures no_plan { NoPlan bytes.now → result ≡ not_opened }
+{
+    match read_plan(bytes) {
+        Some(plan) => Opened {
+            is_plan: true,
+            plan,
+        },
+        None => Opened {
+            is_plan: false,
+            plan: Plan::empty(),
+        },
+    }
+}
+
+/// Makes a call on a word, by a plan. If the plan was opened, the numbers name a call, and the word is
+/// a state's, the reply is the interlock's, with the word of the state after it. Otherwise it has the
+/// word that was given.
 #[unsafe(no_mangle)]
 pub extern "C" fn bagunjoki_plan_step(
-    alloc: Global,
-    plan: &[u8],
+    plan: &Opened,
     word: u64,
     machine: u8,
     verb: u8,
     object: u8,
 ) -> Reply
     ensures answered { (t : PlanTable) (state : PlanState) (call : Call)
-        → IsPlanOf plan.now t → IsWordOf t word state → IsCall verb object call
-        → result.answer ≢ replies.no_memory
+        → plan.now ≡ opened t → IsWordOf t word state → IsCall verb object call
         → result ≡ replies.reply_of (rules.reply t state machine call)
         (packed t (rules.next t state machine call)) }
     ensures no_call { NoCall verb object → result ≡ replies.bare_reply replies.no_call word }
-    ensures no_plan { (call : Call) → IsCall verb object call → NoPlan plan.now
-        → result.answer ≢ replies.no_memory
+    ensures no_plan { (call : Call) → IsCall verb object call → plan.now ≡ not_opened
         → result ≡ replies.bare_reply replies.no_plan word }
     ensures no_state { (t : PlanTable) (call : Call)
-        → IsPlanOf plan.now t → NoState t word → IsCall verb object call
-        → result.answer ≢ replies.no_memory
+        → plan.now ≡ opened t → NoState t word → IsCall verb object call
         → result ≡ replies.bare_reply replies.no_state word }
-    ensures no_memory { result.answer ≡ replies.no_memory
-        → result ≡ replies.bare_reply replies.no_memory word }
 {
-    let Some(call) = call_with(verb, object) else {
-        return bare_reply(NO_CALL, word);
-    };
-    match read_plan(alloc, plan) {
-        Ok(Some((plan, layout))) => reply_by(&plan, &layout, word, machine, call),
-        Ok(None) => bare_reply(NO_PLAN, word),
-        Err(AllocError) => bare_reply(NO_MEMORY, word),
+    match call_with(verb, object) {
+        None => bare_reply(NO_CALL, word),
+        Some(_) if !plan.is_plan => bare_reply(NO_PLAN, word),
+        Some(call) => reply_by(&plan.plan, word, machine, call),
     }
 }
 
 /// The word of a start: a digit 0 or 1 for each place of the plan, and a stamp. All bits are set
-/// if there is no such plan or no such start, or if memory runs out.
+/// if no plan was opened, or there is no such start.
 #[unsafe(no_mangle)]
-pub extern "C" fn bagunjoki_plan_start(alloc: Global, plan: &[u8], digits: &[u8], stamp: u32) -> u64
-    ensures start { (t : PlanTable) → IsPlanOf plan.now t → IsStartText t digits.now stamp
-        → result ≢ replies.no_word
+pub extern "C" fn bagunjoki_plan_start(plan: &Opened, digits: &[u8], stamp: u32) -> u64
+    ensures start { (t : PlanTable) → plan.now ≡ opened t → IsStartText t digits.now stamp
         → result ≡ packed t (start_state (places_in digits.now) stamp) }
-    ensures no_start { (t : PlanTable) → IsPlanOf plan.now t → ¬ IsStartText t digits.now stamp
+    ensures no_start { (t : PlanTable) → plan.now ≡ opened t → ¬ IsStartText t digits.now stamp
         → result ≡ replies.no_word }
-    ensures no_plan { NoPlan plan.now → result ≡ replies.no_word }
+    ensures no_plan { plan.now ≡ not_opened → result ≡ replies.no_word }
 {
-    match read_plan(alloc, plan) {
-        Ok(Some((plan, layout))) => start_by(&plan, &layout, digits, stamp),
-        Ok(None) | Err(AllocError) => NO_WORD,
+    if plan.is_plan {
+        start_by(&plan.plan, digits, stamp)
+    } else {
+        NO_WORD
     }
 }
 
 /// The word of the same state with another stamp, for an exchange before the stamps end. All bits
-/// are set if there is no such plan, the word is no state's, the stamp is past the last, or if
-/// memory runs out.
+/// are set if no plan was opened, the word is no state's, or the stamp is past the last.
 #[unsafe(no_mangle)]
-pub extern "C" fn bagunjoki_plan_restamp(alloc: Global, plan: &[u8], word: u64, stamp: u32) -> u64
+pub extern "C" fn bagunjoki_plan_restamp(plan: &Opened, word: u64, stamp: u32) -> u64
     ensures restamped { (t : PlanTable) (state : PlanState)
-        → IsPlanOf plan.now t → IsWordOf t word state → stamp ≤ last_stamp
-        → result ≢ replies.no_word → result ≡ packed t (record state { stamp = stamp }) }
+        → plan.now ≡ opened t → IsWordOf t word state → stamp ≤ last_stamp
+        → result ≡ packed t (record state { stamp = stamp }) }
     ensures past_last { last_stamp < stamp → result ≡ replies.no_word }
-    ensures no_state { (t : PlanTable) → IsPlanOf plan.now t → NoState t word
+    ensures no_state { (t : PlanTable) → plan.now ≡ opened t → NoState t word
         → result ≡ replies.no_word }
-    ensures no_plan { NoPlan plan.now → result ≡ replies.no_word }
+    ensures no_plan { plan.now ≡ not_opened → result ≡ replies.no_word }
 {
-    match read_plan(alloc, plan) {
-        Ok(Some((plan, layout))) => restamp_by(&plan, &layout, word, stamp),
-        Ok(None) | Err(AllocError) => NO_WORD,
+    if plan.is_plan {
+        restamp_by(&plan.plan, word, stamp)
+    } else {
+        NO_WORD
     }
 }
 
-/// The stamp of a state's word. All bits are set if there is no such plan, the word is no state's,
-/// or if memory runs out.
+/// The stamp of a state's word. All bits are set if no plan was opened, or the word is no state's.
 #[unsafe(no_mangle)]
-pub extern "C" fn bagunjoki_plan_stamp(alloc: Global, plan: &[u8], word: u64) -> u32
-    ensures stamp { (t : PlanTable) (state : PlanState) → IsPlanOf plan.now t → IsWordOf t word state
-        → result ≢ replies.no_stamp → result ≡ state.stamp }
-    ensures no_state { (t : PlanTable) → IsPlanOf plan.now t → NoState t word
+pub extern "C" fn bagunjoki_plan_stamp(plan: &Opened, word: u64) -> u32
+    ensures stamp { (t : PlanTable) (state : PlanState)
+        → plan.now ≡ opened t → IsWordOf t word state → result ≡ state.stamp }
+    ensures no_state { (t : PlanTable) → plan.now ≡ opened t → NoState t word
         → result ≡ replies.no_stamp }
-    ensures no_plan { NoPlan plan.now → result ≡ replies.no_stamp }
+    ensures no_plan { plan.now ≡ not_opened → result ≡ replies.no_stamp }
 {
-    match read_plan(alloc, plan) {
-        Ok(Some((plan, layout))) => stamp_by(&plan, &layout, word),
-        Ok(None) | Err(AllocError) => NO_STAMP,
+    if plan.is_plan {
+        stamp_by(&plan.plan, word)
+    } else {
+        NO_STAMP
     }
 }
 
 /// Whether a motor may run, by the bits of a word that it looks at (`mask`) and what they have to be (`pattern`). It
-/// reads no plan, and takes no memory.
+/// needs no plan.
 ///
 /// If the word is a state's, and mask and pattern are those of a motor of the plan, the state permits the motor exactly
 /// if it may run (`permitted`); and it stays permitted, whatever calls others make, until a call of its own machine loses

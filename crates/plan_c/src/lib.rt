@@ -1,4 +1,4 @@
-//! The interlock of any plan for programs in C: calls on the word of a state, by the bytes of the plan.
+//! The interlock of any plan for programs in C: calls on the word of a state, by a plan that was opened once.
 //! `bindings/bagunjoki_plan.h` declares the functions, and has the loop over a shared word.
 #![tactic(auto)]
 
@@ -6,8 +6,8 @@ mod by_plan;
 mod calls;
 mod exports;
 pub mod laws;
+mod opened;
 mod places;
-mod reading;
 mod reply;
 #[cfg(test)]
 mod tests;

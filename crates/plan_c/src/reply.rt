@@ -21,9 +21,6 @@ pub(crate) const NO_STATE: u8 = 65;
 /// The answer where bytes are no plan.
 pub(crate) const NO_PLAN: u8 = 67;
 
-/// The answer where memory ran out.
-pub(crate) const NO_MEMORY: u8 = 68;
-
 /// Where an answer names nothing, or nobody.
 const NOTHING: u8 = 255;
 

@@ -2,12 +2,12 @@
 
 use crate::calls::call_with;
 use crate::exports::{
-    bagunjoki_plan_may_run, bagunjoki_plan_restamp, bagunjoki_plan_stamp, bagunjoki_plan_start,
-    bagunjoki_plan_step,
+    bagunjoki_plan_may_run, bagunjoki_plan_open, bagunjoki_plan_restamp, bagunjoki_plan_stamp,
+    bagunjoki_plan_start, bagunjoki_plan_step,
 };
 use crate::reply::{NO_CALL, Reply, bare_reply, reply_of};
 use plan_rules::{LAST_STAMP, State, apply};
-use plan_types::{Plan, examples, write_tables};
+use plan_types::{Plan, examples, write_plan};
 use plan_word::{Layout, pack};
 use std::test::Fail;
 
@@ -42,27 +42,27 @@ const ROWS: &[([u8; 3], [u8; 4], u32)] = &[
 
 #[test]
 fn is_answered_in_numbers(rt: HostRuntime) -> Result<(), Fail> {
-    let press = examples::press(rt.alloc())?;
-    assert!(rt; press.fault().is_none());
-    let plan = write_tables(rt.alloc(), &press)?;
-    let mut word = bagunjoki_plan_start(rt.alloc(), &plan, b"10", 0);
+    let press = Plan::new(examples::press(rt.alloc())?).expect(&rt, "a plan");
+    let bytes = write_plan(rt.alloc(), &press)?;
+    let plan = bagunjoki_plan_open(&bytes);
+    let mut word = bagunjoki_plan_start(&plan, b"10", 0);
     assert!(rt; word == 0x20);
     for (call, wanted, stamp) in ROWS {
-        let reply = bagunjoki_plan_step(rt.alloc(), &plan, word, call[0], call[1], call[2]);
+        let reply = bagunjoki_plan_step(&plan, word, call[0], call[1], call[2]);
         let told = [reply.answer, reply.owner, reply.zone, reply.posture];
         assert!(rt; told == *wanted);
         word = reply.next;
-        assert!(rt; bagunjoki_plan_stamp(rt.alloc(), &plan, word) == *stamp);
+        assert!(rt; bagunjoki_plan_stamp(&plan, word) == *stamp);
     }
-    let worn = bagunjoki_plan_restamp(rt.alloc(), &plan, word, 1_048_575);
-    assert!(rt; bagunjoki_plan_stamp(rt.alloc(), &plan, worn) == 1_048_575);
-    assert!(rt; bagunjoki_plan_step(rt.alloc(), &plan, worn, 15, 9, 0).answer == 13);
-    assert!(rt; bagunjoki_plan_restamp(rt.alloc(), &plan, worn, 8) == word);
-    assert!(rt; bagunjoki_plan_restamp(rt.alloc(), &plan, word, 1_048_576) == u64::MAX);
-    assert!(rt; bagunjoki_plan_step(rt.alloc(), &plan, u64::MAX, 1, 1, 0).answer == 65);
-    assert!(rt; bagunjoki_plan_stamp(rt.alloc(), &plan, u64::MAX) == u32::MAX);
-    assert!(rt; bagunjoki_plan_start(rt.alloc(), &plan, b"1", 0) == u64::MAX);
-    assert!(rt; bagunjoki_plan_step(rt.alloc(), &[], word, 1, 1, 0).answer == 67);
+    let worn = bagunjoki_plan_restamp(&plan, word, 1_048_575);
+    assert!(rt; bagunjoki_plan_stamp(&plan, worn) == 1_048_575);
+    assert!(rt; bagunjoki_plan_step(&plan, worn, 15, 9, 0).answer == 13);
+    assert!(rt; bagunjoki_plan_restamp(&plan, worn, 8) == word);
+    assert!(rt; bagunjoki_plan_restamp(&plan, word, 1_048_576) == u64::MAX);
+    assert!(rt; bagunjoki_plan_step(&plan, u64::MAX, 1, 1, 0).answer == 65);
+    assert!(rt; bagunjoki_plan_stamp(&plan, u64::MAX) == u32::MAX);
+    assert!(rt; bagunjoki_plan_start(&plan, b"1", 0) == u64::MAX);
+    assert!(rt; bagunjoki_plan_step(&bagunjoki_plan_open(&[]), word, 1, 1, 0).answer == 67);
     Ok(())
 }
 
@@ -86,12 +86,12 @@ const MOTORS: &[([u8; 3], bool, bool)] = &[
 
 #[test]
 fn motors_run_while_they_may(rt: HostRuntime) -> Result<(), Fail> {
-    let press = examples::press(rt.alloc())?;
-    assert!(rt; press.fault().is_none());
-    let plan = write_tables(rt.alloc(), &press)?;
-    let mut word = bagunjoki_plan_start(rt.alloc(), &plan, b"10", 0);
+    let press = Plan::new(examples::press(rt.alloc())?).expect(&rt, "a plan");
+    let bytes = write_plan(rt.alloc(), &press)?;
+    let plan = bagunjoki_plan_open(&bytes);
+    let mut word = bagunjoki_plan_start(&plan, b"10", 0);
     for (call, ram, arm) in MOTORS {
-        word = bagunjoki_plan_step(rt.alloc(), &plan, word, call[0], call[1], call[2]).next;
+        word = bagunjoki_plan_step(&plan, word, call[0], call[1], call[2]).next;
         assert!(rt; bagunjoki_plan_may_run(word, RAM.0, RAM.1) == *ram);
         assert!(rt; bagunjoki_plan_may_run(word, ARM.0, ARM.1) == *arm);
     }
@@ -105,77 +105,80 @@ fn bare_zone(guest: u8) -> [u8; 12] {
 
 #[test]
 fn tells_what_is_no_plan(rt: HostRuntime) -> Result<(), Fail> {
-    let plan = bare_zone(0);
-    assert!(rt; bagunjoki_plan_step(rt.alloc(), &plan, 0, 0, 1, 0).answer == 67);
-    assert!(rt; bagunjoki_plan_start(rt.alloc(), &plan, b"", 0) == u64::MAX);
-    assert!(rt; bagunjoki_plan_restamp(rt.alloc(), &plan, 0, 0) == u64::MAX);
-    assert!(rt; bagunjoki_plan_stamp(rt.alloc(), &plan, 0) == u32::MAX);
+    let plan = bagunjoki_plan_open(&bare_zone(0));
+    assert!(rt; !plan.is_plan);
+    assert!(rt; bagunjoki_plan_step(&plan, 0, 0, 1, 0).answer == 67);
+    assert!(rt; bagunjoki_plan_start(&plan, b"", 0) == u64::MAX);
+    assert!(rt; bagunjoki_plan_restamp(&plan, 0, 0) == u64::MAX);
+    assert!(rt; bagunjoki_plan_stamp(&plan, 0) == u32::MAX);
     Ok(())
 }
 
 // The most machines, and the most poses, none of which gives a posture.
 #[test]
 fn the_largest_counts_are_a_plan(rt: HostRuntime) -> Result<(), Fail> {
-    let mut plan = bare_zone(1).to_vec(rt.alloc())?;
-    plan[0] = 15;
-    plan[2] = 64;
+    let mut bytes = bare_zone(1).to_vec(rt.alloc())?;
+    bytes[0] = 15;
+    bytes[2] = 64;
     for _ in 0..64 {
-        plan.extend_from_slice(&[0; 12])?;
+        bytes.extend_from_slice(&[0; 12])?;
     }
-    let start = bagunjoki_plan_start(rt.alloc(), &plan, b"", 0);
+    let plan = bagunjoki_plan_open(&bytes);
+    let start = bagunjoki_plan_start(&plan, b"", 0);
     assert!(rt; start == 0);
-    let reply = bagunjoki_plan_step(rt.alloc(), &plan, start, 0, 6, 63);
+    let reply = bagunjoki_plan_step(&plan, start, 0, 6, 63);
     assert!(rt; reply.answer == 0);
-    assert!(rt; bagunjoki_plan_stamp(rt.alloc(), &plan, reply.next) == 1);
-    assert!(rt; bagunjoki_plan_step(rt.alloc(), &plan, start, 0, 6, 64).answer == 12);
+    assert!(rt; bagunjoki_plan_stamp(&plan, reply.next) == 1);
+    assert!(rt; bagunjoki_plan_step(&plan, start, 0, 6, 64).answer == 12);
     Ok(())
 }
 
 // No pose opens the zone, so no start comes to this word. It is a state's all the same.
 #[test]
 fn an_open_free_zone_is_a_state(rt: HostRuntime) -> Result<(), Fail> {
-    let plan = bare_zone(1);
-    let start = bagunjoki_plan_start(rt.alloc(), &plan, b"", 0);
+    let plan = bagunjoki_plan_open(&bare_zone(1));
+    let start = bagunjoki_plan_start(&plan, b"", 0);
     assert!(rt; start == 0);
-    assert!(rt; bagunjoki_plan_step(rt.alloc(), &plan, start, 1, 1, 0).answer == 4);
-    let reply = bagunjoki_plan_step(rt.alloc(), &plan, 24, 1, 1, 0);
+    assert!(rt; bagunjoki_plan_step(&plan, start, 1, 1, 0).answer == 4);
+    let reply = bagunjoki_plan_step(&plan, 24, 1, 1, 0);
     assert!(rt; reply.answer == 0);
     assert!(rt; reply.next == 58);
     Ok(())
 }
 
 // Eight zones and three places: the word has 64 bits, the stamp from bit 43 up, and the stop in bit 63. Whatever the
-// highest bits, each function answers by the plan, and memory doesn't run out.
+// highest bits, each function answers by the plan.
 #[test]
 fn words_of_all_bits_are_answered(rt: HostRuntime) -> Result<(), Fail> {
-    let mut plan = [2, 8, 0, 3].to_vec(rt.alloc())?;
+    let mut bytes = [2, 8, 0, 3].to_vec(rt.alloc())?;
     for _ in 0..8 {
-        plan.extend_from_slice(&[0, 1, 0, 0, 0, 0, 0, 0])?;
+        bytes.extend_from_slice(&[0, 1, 0, 0, 0, 0, 0, 0])?;
     }
-    plan.extend_from_slice(&[0, 0, 1])?;
-    let start = bagunjoki_plan_start(rt.alloc(), &plan, b"101", 1_048_574);
+    bytes.extend_from_slice(&[0, 0, 1])?;
+    let plan = bagunjoki_plan_open(&bytes);
+    let start = bagunjoki_plan_start(&plan, b"101", 1_048_574);
     assert!(rt; start == 0x7FFF_F500_0000_0000);
-    assert!(rt; bagunjoki_plan_stamp(rt.alloc(), &plan, start) == 1_048_574);
-    let claimed = bagunjoki_plan_step(rt.alloc(), &plan, start, 0, 1, 7);
+    assert!(rt; bagunjoki_plan_stamp(&plan, start) == 1_048_574);
+    let claimed = bagunjoki_plan_step(&plan, start, 0, 1, 7);
     assert!(rt; claimed.answer == 0);
     assert!(rt; claimed.next == 0x7FFF_FD08_0000_0000);
-    let stop = bagunjoki_plan_step(rt.alloc(), &plan, start, 15, 9, 0);
+    let stop = bagunjoki_plan_step(&plan, start, 15, 9, 0);
     assert!(rt; stop.answer == 0);
     assert!(rt; stop.next == 0xFFFF_FD00_0000_0000);
-    assert!(rt; bagunjoki_plan_stamp(rt.alloc(), &plan, stop.next) == 1_048_575);
-    assert!(rt; bagunjoki_plan_step(rt.alloc(), &plan, stop.next, 15, 10, 0).answer == 13);
-    let shown = bagunjoki_plan_step(rt.alloc(), &plan, stop.next, 15, 8, 7);
+    assert!(rt; bagunjoki_plan_stamp(&plan, stop.next) == 1_048_575);
+    assert!(rt; bagunjoki_plan_step(&plan, stop.next, 15, 10, 0).answer == 13);
+    let shown = bagunjoki_plan_step(&plan, stop.next, 15, 8, 7);
     assert!(rt; [shown.answer, shown.owner, shown.posture] == [32, 255, 0]);
     assert!(rt; shown.next == stop.next);
-    let early = bagunjoki_plan_restamp(rt.alloc(), &plan, stop.next, 7);
+    let early = bagunjoki_plan_restamp(&plan, stop.next, 7);
     assert!(rt; early == 0x8000_3D00_0000_0000);
-    assert!(rt; bagunjoki_plan_step(rt.alloc(), &plan, early, 0, 1, 7).answer == 14);
-    assert!(rt; bagunjoki_plan_step(rt.alloc(), &plan, early, 15, 10, 0).next == 0x4500_0000_0000);
-    assert!(rt; bagunjoki_plan_restamp(rt.alloc(), &plan, early, 1_048_575) == stop.next);
+    assert!(rt; bagunjoki_plan_step(&plan, early, 0, 1, 7).answer == 14);
+    assert!(rt; bagunjoki_plan_step(&plan, early, 15, 10, 0).next == 0x4500_0000_0000);
+    assert!(rt; bagunjoki_plan_restamp(&plan, early, 1_048_575) == stop.next);
     // no machine has the number 3 of an owner: the word of no state
     let stateless = 0xFFFF_FD18_0000_0000;
-    assert!(rt; bagunjoki_plan_step(rt.alloc(), &plan, stateless, 0, 1, 7).answer == 65);
-    assert!(rt; bagunjoki_plan_stamp(rt.alloc(), &plan, stateless) == u32::MAX);
+    assert!(rt; bagunjoki_plan_step(&plan, stateless, 0, 1, 7).answer == 65);
+    assert!(rt; bagunjoki_plan_stamp(&plan, stateless) == u32::MAX);
     Ok(())
 }
 

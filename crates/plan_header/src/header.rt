@@ -1,7 +1,6 @@
 //! What `plan header` prints: a plan's names, the layout of its word, its motors' masks and its bytes, for C and C++.
 ghost use Rattle.std.specs.Prelude.{◌≡◌, ◌<◌, ◌++◌, IfOk, OnOk, flat_map, length, string_bytes};
 ghost use Rattle.std.specs.List.{range_with_len};
-ghost use Rattle.plan_types.specs.Table.{keeper_of};
 ghost use Rattle.plan_types.specs.Bytes.{bytes_of};
 ghost use Rattle.plan_word.specs.Layout.{counts_of};
 ghost use Rattle.plan_header.specs.Headers as spec;
@@ -10,7 +9,7 @@ ghost use Rattle.plan_header.specs.Words as words;
 use crate::motors::push_motors_part;
 use plan_document::ProgrammedPlan;
 use plan_text::{NamedPlan, Names};
-use plan_types::{Plan, write_tables};
+use plan_types::{Plan, write_plan};
 use plan_word::{Field, Layout};
 use std::alloc::{AllocError, Global};
 
@@ -313,7 +312,7 @@ fn push_keeper(
 ) -> Result<(), AllocError>
     ensures { OnOk result (string_bytes text.new ≡ string_bytes text.old ++ spec.keeper_line named.now place) }
 {
-    let keeper = keeper(named.plan(), place);
+    let keeper = named.plan().keeper(place);
     push_party(
         alloc,
         text,
@@ -322,16 +321,6 @@ fn push_keeper(
         named.places().name(place),
         keeper,
     )
-}
-
-/// The machine that keeps a place.
-fn keeper(plan: &Plan, place: u8) -> u8
-    ensures { result ≡ keeper_of plan.now place }
-{
-    match plan.tables().places.as_slice().get(usize::from(place)) {
-        Some(machine) => *machine,
-        None => 0,
-    }
 }
 
 /// Adds who a machine is to a zone or to a place.
@@ -511,7 +500,7 @@ fn push_bytes_part(alloc: Global, text: &mut String, named: &NamedPlan) -> Resul
 pub(crate) fn bytes_in(alloc: Global, plan: &Plan) -> Result<Vec<u8>, AllocError>
     ensures { IfOk result (λ bytes. bytes.items ≡ bytes_of plan.now) }
 {
-    write_tables(alloc, plan.tables())
+    write_plan(alloc, plan)
 }
 
 /// Adds a table of these bytes.

@@ -67,9 +67,7 @@ pub(crate) fn is_hosted(plan: &Plan, zone: u8, machine: u8) -> bool
 fn is_place_of(plan: &Plan, place: u8, machine: u8) -> bool
     ensures { result ≡ table.is_place_of plan.now place machine }
 {
-    let keepers = &plan.tables().places;
-    let place = usize::from(place);
-    place < keepers.len() && keepers[place] == machine
+    place < plan.place_count() && plan.keeper(place) == machine
 }
 
 fn need_fault(plan: &Plan, motor: &Motor, number: usize, zone: u8) -> Option<MotorFault>

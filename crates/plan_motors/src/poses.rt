@@ -162,13 +162,6 @@ fn lead_on(
     true
 }
 
-fn pose_count(plan: &Plan) -> u8
-    ensures { result ≡ pose_count plan.now }
-{
-    let _ = plan.machines();
-    plan.tables().poses.len() as u8
-}
-
 /// Whether a machine's pose that may be taken at any time gives only postures that lead on, and one of them to a zone
 /// that matters.
 fn leads_further(
@@ -204,7 +197,7 @@ fn next_pose(
     ensures none { IsNone result → (p : ℕ) → p < pose_count plan.now
         → ¬ LeadsFurther plan.now first.now second.now host any.now moving p }
 {
-    for pose in 0..pose_count(plan) {
+    for pose in 0..plan.pose_count() {
         if leads_further(plan, first, second, host, any, moving, pose) {
             return Some(pose);
         }
@@ -266,7 +259,7 @@ fn pose_by_moving(
     ensures none { IsNone result → (p : ℕ) → p < pose_count plan.now
         → ¬ LeadsByMoving plan.now first.now second.now host any.now p }
 {
-    for pose in 0..pose_count(plan) {
+    for pose in 0..plan.pose_count() {
         if leads_by_moving(plan, first, second, host, any, pose) {
             return Some(pose);
         }

@@ -1,7 +1,7 @@
 //! The programs of the READMEs.
 
 use plan_rules::{State, apply};
-use plan_types::{Answer, Call, Plan, PlanFault, Refusal, examples, read_tables, write_tables};
+use plan_types::{Answer, Call, Plan, PlanFault, Refusal, examples, read_plan, write_plan};
 use plan_word::{Layout, pack, stamp_of, step_word, unpack};
 use std::test::Fail;
 
@@ -54,15 +54,20 @@ fn a_press_claims_on_a_word(rt: HostRuntime) {
 fn plans_read_back(rt: HostRuntime) -> Result<(), Fail> {
     let press = examples::press(rt.alloc())?;
     assert!(rt; press.fault().is_none());
-    let bytes = write_tables(rt.alloc(), &press)?;
+    let plan = Plan::new(press).expect(&rt, "a plan");
+    let bytes = write_plan(rt.alloc(), &plan)?;
     assert_eq!(rt; bytes.len(), 62);
-    let again = read_tables(rt.alloc(), &bytes)?.ok_or("no tables")?;
-    assert_eq!(rt; again.machines, 2);
-    assert_eq!(rt; again.zones.as_slice(), press.zones.as_slice());
-    assert_eq!(rt; again.poses.as_slice(), press.poses.as_slice());
-    assert_eq!(rt; again.places.as_slice(), press.places.as_slice());
+    let again = read_plan(&bytes).ok_or("no plan")?;
+    assert_eq!(rt; again.machines(), 2);
+    assert_eq!(rt; again.zone(0), plan.zone(0));
+    assert_eq!(rt; again.pose(3), plan.pose(3));
+    assert_eq!(rt; again.keeper(1), 1);
+    assert_eq!(rt;
+        write_plan(rt.alloc(), &again)?.as_slice(),
+        bytes.as_slice()
+    );
     for length in 0..bytes.len() {
-        assert!(rt; read_tables(rt.alloc(), &bytes[..length])?.is_none());
+        assert!(rt; read_plan(&bytes[..length]).is_none());
     }
     Ok(())
 }

@@ -3,7 +3,7 @@
 ghost use Rattle.std.specs.Prelude.{◌≡◌};
 
 use plan_rules::{State, answer};
-use plan_types::{Call, MAX_PLACES, Plan, read_tables};
+use plan_types::{Call, MAX_PLACES, Plan, read_plan};
 use plan_word::{Layout, answer_word, pack, step_word, unpack};
 
 // The plans of `examples/plans`, as bytes.
@@ -115,10 +115,9 @@ fn same_answers(plan: &Plan, calls: u64) -> u64 {
 fn words_are_answered_as_their_states(rt: HostRuntime) {
     let tables: [&[u8]; 5] = [&PRESS, &LIFT, &JUNCTION, &TWO_PRESSES, &CELL];
     for bytes in tables {
-        let Ok(Some(tables)) = read_tables(rt.alloc(), bytes) else {
-            panic!(rt; "no tables");
+        let Some(plan) = read_plan(bytes) else {
+            panic!(rt; "no plan");
         };
-        let plan = Plan::new(tables).expect(&rt, "a plan");
         assert!(rt; same_answers(&plan, 3000) == 3000);
     }
 }

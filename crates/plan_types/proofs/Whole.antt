@@ -1,10 +1,11 @@
 -- The bytes of all tables, cut into the rows of each.
-use Rattle.std.proofs.Common.{◌≡◌, ℕ, ◌+◌, ◌*◌, List, [], ◌∷◌, ◌++◌, length, get_or, take, drop, All, flat_map}
+use Rattle.std.proofs.Common.{◌≡◌, ℕ, ◌+◌, ◌*◌, ◌≤◌, List, [], ◌∷◌, ◌++◌, length, get_or, take, drop, All, flat_map}
 use Rattle.std.proofs.Common.{refl, sym, ◌∙◌, ap, arith, append_assoc, length-append}
 use Rattle.std.proofs.lemmas.List.{take_at, drop_at, take-append-drop, length-take, length-drop, drop-drop}
 use Rattle.plan_types.specs.declared.table.PlanZone.{PlanZone}
 use Rattle.plan_types.specs.declared.table.PlanPose.{PlanPose}
-use Rattle.plan_types.specs.Table.{PlanTable}
+use Rattle.plan_types.specs.Table.{PlanTable, plan_table}
+use Rattle.plan_types.specs.Plan.{IsPlan}
 use Rattle.plan_types.specs.Bytes.{bytes_of, zone_bytes, pose_bytes, HasWholeRows, IsForTenZones}
 use Rattle.plan_types.specs.declared.read.Parts.{Parts}
 use Rattle.plan_types.specs.Parts.{IsPartsOf}
@@ -101,3 +102,31 @@ one_table parts t u whole_t whole_u is_t is_u =
     whole_u whole_t (is_t.poses ∙ sym is_u.poses) in
     let places : t.places ≡ u.places = is_t.places ∙ sym is_u.places in
     grind arith
+
+-- a plan's rows have no more bytes than a sheet has room for
+pub parts_fit : (parts : Parts) (t : PlanTable) → IsPlan t → HasWholeRows t → IsPartsOf parts t
+    → (length parts.zones.now ≤ 80) × (length parts.poses.now ≤ 768) × (length parts.places.now ≤ 16)
+parts_fit parts t plan whole is =
+    let zones : length parts.zones.now ≡ 8 * length t.zones = sym (ap length is.zones) ∙ zones_length t.zones in
+    let poses : length parts.poses.now ≡ 12 * length t.poses = sym (ap length is.poses) ∙ poses_length t.poses whole in
+    let places : length t.places ≡ length parts.places.now = ap length is.places in
+    let zones_few : length t.zones ≤ 10 = plan.zones_at_most in
+    let poses_few : length t.poses ≤ 64 = plan.poses_at_most in
+    let places_few : length t.places ≤ 16 = plan.places_at_most in
+    (omega (arith, zones, zones_few), omega (arith, poses, poses_few), omega (arith, places, places_few))
+
+-- a sheet that was filled from parts has the rows of these parts
+pub parts_read : (parts : Parts) (start first second last : PlanTable) → start ≡ plan_table parts.machines [] [] []
+    → first ≡ plan_table start.machines first.zones start.poses start.places
+    → flat_map zone_bytes first.zones ≡ parts.zones.now
+    → second ≡ plan_table first.machines first.zones second.poses first.places
+    → flat_map pose_bytes second.poses ≡ parts.poses.now
+    → last ≡ plan_table second.machines second.zones second.poses parts.places.now → IsPartsOf parts last
+parts_read parts start first second last s f zones g poses l = record {
+  machines = ap (λ (t : PlanTable). t.machines) l ∙ ap (λ (t : PlanTable). t.machines) g
+      ∙ ap (λ (t : PlanTable). t.machines) f ∙ ap (λ (t : PlanTable). t.machines) s;
+  zones = ap (λ (t : PlanTable). flat_map zone_bytes t.zones) l
+      ∙ ap (λ (t : PlanTable). flat_map zone_bytes t.zones) g ∙ zones;
+  poses = ap (λ (t : PlanTable). flat_map pose_bytes t.poses) l ∙ poses;
+  places = ap (λ (t : PlanTable). t.places) l;
+}

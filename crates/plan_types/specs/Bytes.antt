@@ -8,6 +8,7 @@ use Rattle.plan_types.specs.declared.table.Way.{Way}
 use Rattle.plan_types.specs.declared.table.PlanZone.{PlanZone}
 use Rattle.plan_types.specs.declared.table.PlanPose.{PlanPose}
 use Rattle.plan_types.specs.Table.{PlanTable, zone_count, pose_count, place_count}
+use Rattle.plan_types.specs.Plan.{IsPlan}
 
 -- a way is 1, from, to; no way is 0, 0, 0
 abbrev pub way_byte : Option Way → ℕ
@@ -54,3 +55,12 @@ IsForTenZones p = length p.gives ≡ 10
 -- tables as the program has them: each pose has a row for ten zones
 abbrev pub HasWholeRows : PlanTable → Type 0
 HasWholeRows t = All IsForTenZones t.poses
+
+-- the bytes are those of a plan
+pub record IsPlanOf (bytes : List ℕ) (t : PlanTable) : Type 0 where
+  pub bytes_are : bytes_of t ≡ bytes
+  pub rows : HasWholeRows t
+  pub plan : IsPlan t
+
+abbrev pub NoPlan : List ℕ → Type 0
+NoPlan bytes = (t : PlanTable) → ¬ IsPlanOf bytes t

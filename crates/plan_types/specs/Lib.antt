@@ -6,6 +6,7 @@ pub mod Plan
 pub mod Examples
 pub mod Readings
 pub mod Bytes
+pub mod Kept
 pub mod Parts
 pub mod ByteExamples
 pub mod TableLaws

@@ -1,28 +1,15 @@
 //! The faults of a plan's tables.
-ghost use Rattle.std.specs.Prelude.{◌≡◌, ◌<◌, ◌≤◌, ◌↔◌, IsNone};
+ghost use Rattle.std.specs.Prelude.{◌≡◌, ◌<◌, ◌↔◌, Some, IfErr, IfOk, IsErr, IsNone};
 ghost use Rattle.plan_types.specs.Below.{first_below};
 ghost use Rattle.plan_types.specs.Table as table;
 ghost use Rattle.plan_types.specs.Plan as plan;
 ghost use Rattle.plan_types.specs.Plan.{IsPlan};
 ghost use Rattle.plan_types.specs.Faults as faults;
+ghost use Rattle.plan_types.specs.Kept.{FitsSheet};
 
 use crate::fault::PlanFault;
-use crate::table::{
-    MAX_MACHINES, MAX_PLACES, MAX_POSES, MAX_ZONES, PlanPose, PlanZone, Tables, Way,
-};
-
-const NO_ZONE: PlanZone = PlanZone {
-    host: 0,
-    guest: 0,
-    inward: None,
-    outward: None,
-};
-
-const NO_POSE: PlanPose = PlanPose {
-    machine: 0,
-    after_moving: false,
-    gives: [None; MAX_ZONES],
-};
+use crate::sheet::{Sheet, sheet_of};
+use crate::table::{MAX_MACHINES, MAX_PLACES, MAX_POSES, MAX_ZONES, Tables, Way};
 
 fn unless(holds: bool, fault: PlanFault) -> Option<PlanFault>
     ensures { result ≡ faults.unless holds fault }
@@ -31,51 +18,55 @@ fn unless(holds: bool, fault: PlanFault) -> Option<PlanFault>
 }
 
 impl Tables {
-    /// The row of a zone, or one that says nothing.
-    pub(crate) fn zone(&self, zone: usize) -> PlanZone
-        ensures { result ≡ table.zone_row self.now zone }
+    fn count_fault(&self) -> Option<PlanFault>
+        ensures fault { result ≡ faults.count_fault self.now }
+        ensures fits { IsNone result → FitsSheet self.now }
     {
-        if zone < self.zones.len() {
-            self.zones[zone]
-        } else {
-            NO_ZONE
+        unless(self.machines <= MAX_MACHINES, PlanFault::TooManyMachines)
+            .or(unless(self.zones.len() <= MAX_ZONES, PlanFault::TooManyZones))
+            .or(unless(self.poses.len() <= MAX_POSES, PlanFault::TooManyPoses))
+            .or(unless(self.places.len() <= MAX_PLACES, PlanFault::TooManyPlaces))
+    }
+
+    #[tactic(auto, using(crate::proofs::lemmas::Checked::count_fault_first, crate::proofs::lemmas::Checked::no_plan_with_fault))]
+    /// These tables as a sheet, or their first fault if they have more rows than a plan may have.
+    pub(crate) fn sheet(&self) -> Result<Sheet, PlanFault>
+        ensures sheet { IfOk result (λ sheet. sheet ≡ self.now) }
+        ensures fault { IfErr result (λ fault. faults.plan_fault self.now ≡ Some fault) }
+        ensures no_plan { IsErr result → ¬ IsPlan self.now }
+    {
+        match self.count_fault() {
+            Some(fault) => Err(fault),
+            None => Ok(sheet_of(self)),
         }
     }
 
-    /// The row of a pose, or one that says nothing.
-    pub(crate) fn pose(&self, pose: usize) -> PlanPose
-        ensures { result ≡ table.pose_row self.now pose }
+    #[tactic(auto, using(crate::proofs::lemmas::Checked::no_plan_with_fault))]
+    /// The first fault of the tables, or `None` if they are a plan.
+    pub fn fault(&self) -> Option<PlanFault>
+        ensures first { result ≡ faults.plan_fault self.now }
+        ensures none { IsNone result ↔ IsPlan self.now }
     {
-        if pose < self.poses.len() {
-            self.poses[pose]
-        } else {
-            NO_POSE
+        match self.sheet() {
+            Ok(sheet) => sheet.fault(),
+            Err(fault) => Some(fault),
         }
     }
+}
 
-    /// The machine that keeps a place; the first where there is no such place.
-    pub(crate) fn keeper(&self, place: usize) -> u8
-        ensures { result ≡ table.keeper_of self.now place }
-    {
-        if place < self.places.len() {
-            self.places[place]
-        } else {
-            0
-        }
-    }
-
+impl Sheet {
     /// Whether a machine hosts a zone of these.
     pub(crate) fn is_hosted(&self, zone: usize, machine: u8) -> bool
         ensures { result ≡ table.is_hosted self.now zone machine }
     {
-        zone < self.zones.len() && self.zone(zone).host == machine
+        zone < usize::from(self.zone_count()) && self.zone(zone).host == machine
     }
 
     fn is_place_of(&self, place: u8, machine: u8) -> bool
         ensures { result ≡ table.is_place_of self.now place machine }
     {
         let place = usize::from(place);
-        place < self.places.len() && self.keeper(place) == machine
+        place < usize::from(self.place_count()) && self.keeper(place) == machine
     }
 
     fn leads(&self, giver: u8, receiver: u8, way: Option<Way>) -> bool
@@ -88,22 +79,15 @@ impl Tables {
     }
 
     fn count_fault(&self) -> Option<PlanFault>
-        ensures fault { result ≡ faults.count_fault self.now }
-        ensures zones { IsNone result → table.zone_count self.now ≤ 10 }
-        ensures places { IsNone result → table.place_count self.now ≤ 16 }
+        ensures { result ≡ faults.count_fault self.now }
     {
-        unless(self.machines <= MAX_MACHINES, PlanFault::TooManyMachines)
-            .or(unless(self.zones.len() <= MAX_ZONES, PlanFault::TooManyZones))
-            .or(unless(self.poses.len() <= MAX_POSES, PlanFault::TooManyPoses))
-            .or(unless(self.places.len() <= MAX_PLACES, PlanFault::TooManyPlaces))
+        unless(self.machines() <= MAX_MACHINES, PlanFault::TooManyMachines)
     }
 
     fn width_fault(&self) -> Option<PlanFault>
-        requires zones { table.zone_count self.now ≤ 10 }
-        requires places { table.place_count self.now ≤ 16 }
         ensures { result ≡ faults.width_fault self.now }
     {
-        let width = 5 * self.zones.len() as u8 + self.places.len() as u8 + 21;
+        let width = 5 * self.zone_count() + self.place_count() + 21;
         if width <= 64 {
             None
         } else {
@@ -118,8 +102,8 @@ impl Tables {
         ensures { result ≡ first_below (faults.keeper_fault self.now) (table.place_count self.now) }
     {
         let mut first = None;
-        for place in 0..self.places.len() {
-            let known = self.keeper(place) < self.machines;
+        for place in 0..usize::from(self.place_count()) {
+            let known = self.keeper(place) < self.machines();
             first = first.or(unless(known, PlanFault::NoSuchKeeper { place }));
         }
         first
@@ -131,8 +115,8 @@ impl Tables {
         let row = self.zone(zone);
         let inward = self.leads(row.guest, row.host, row.inward);
         let outward = self.leads(row.host, row.guest, row.outward);
-        unless(row.host < self.machines, PlanFault::NoSuchHost { zone })
-            .or(unless(row.guest < self.machines, PlanFault::NoSuchGuest { zone }))
+        unless(row.host < self.machines(), PlanFault::NoSuchHost { zone })
+            .or(unless(row.guest < self.machines(), PlanFault::NoSuchGuest { zone }))
             .or(unless(row.host != row.guest, PlanFault::HostIsGuest { zone }))
             .or(unless(inward, PlanFault::InwardAstray { zone }))
             .or(unless(outward, PlanFault::OutwardAstray { zone }))
@@ -143,7 +127,7 @@ impl Tables {
         ensures { result ≡ first_below (faults.zone_fault self.now) (table.zone_count self.now) }
     {
         let mut first = None;
-        for zone in 0..self.zones.len() {
+        for zone in 0..usize::from(self.zone_count()) {
             first = first.or(self.zone_fault(zone));
         }
         first
@@ -172,7 +156,7 @@ impl Tables {
     fn pose_fault(&self, pose: usize) -> Option<PlanFault>
         ensures { result ≡ faults.pose_fault self.now pose }
     {
-        let known = self.pose(pose).machine < self.machines;
+        let known = self.pose(pose).machine < self.machines();
         unless(known, PlanFault::NoSuchMachine { pose }).or(self.foreign_zone_fault(pose))
     }
 
@@ -181,21 +165,19 @@ impl Tables {
         ensures { result ≡ first_below (faults.pose_fault self.now) (table.pose_count self.now) }
     {
         let mut first = None;
-        for pose in 0..self.poses.len() {
+        for pose in 0..usize::from(self.pose_count()) {
             first = first.or(self.pose_fault(pose));
         }
         first
     }
 
     /// The first fault of the tables, or `None` if they are a plan.
-    pub fn fault(&self) -> Option<PlanFault>
+    pub(crate) fn fault(&self) -> Option<PlanFault>
         ensures first { result ≡ faults.plan_fault self.now }
         ensures none { IsNone result ↔ IsPlan self.now }
     {
-        if let Some(fault) = self.count_fault() {
-            return Some(fault);
-        }
-        self.width_fault()
+        self.count_fault()
+            .or(self.width_fault())
             .or(self.keepers_fault())
             .or(self.zones_fault())
             .or(self.poses_fault())

@@ -13,6 +13,7 @@ pub mod plan;
 pub mod posture;
 mod read;
 mod rows;
+mod sheet;
 pub mod table;
 mod write;
 
@@ -21,9 +22,9 @@ pub use call::Call;
 pub use fault::PlanFault;
 pub use plan::Plan;
 pub use posture::Posture;
-pub use read::read_tables;
+pub use read::read_plan;
 pub use table::{
     MAX_MACHINES, MAX_PLACES, MAX_POSES, MAX_ZONES, PlanPose, PlanZone, Tables, Transfer, WATCH,
     Way,
 };
-pub use write::write_tables;
+pub use write::write_plan;

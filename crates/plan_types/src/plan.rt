@@ -1,18 +1,23 @@
 //! A plan: tables that were checked.
-ghost use Rattle.std.specs.Prelude.{◌≡◌, ◌≤◌, ◌↔◌, Some, IsOk, IfOk, IfErr};
+ghost use Rattle.std.specs.Prelude.{◌≡◌, ◌≤◌, ◌↔◌, [], Some, IsOk, IfOk, IfErr};
 ghost use Rattle.plan_types.specs.Table as table;
+ghost use Rattle.plan_types.specs.Table.{plan_table};
 ghost use Rattle.plan_types.specs.Plan.{IsPlan};
 ghost use Rattle.plan_types.specs.Faults.{plan_fault};
 
 use crate::fault::PlanFault;
 use crate::posture::Posture;
+use crate::sheet::Sheet;
 use crate::table::{MAX_ZONES, PlanPose, PlanZone, Tables, Transfer, Way};
 use std::marker::Model;
 
 /// A plan of a plant. Each plan is one that [`Plan::new`] has accepted.
+///
+/// It takes no memory beyond itself, and C can keep it, if only these functions make it.
+#[repr(C)]
 #[derive(Debug, Drop)]
 pub struct Plan {
-    tables: Tables,
+    sheet: Sheet,
 }
 
 impl Model for Plan {
@@ -21,9 +26,11 @@ impl Model for Plan {
 
     ghost Value = { PlanTable };
 
-    ghost view = { λ a. a.tables };
+    ghost view = { λ a. a.sheet };
 
-    ghost invariant = { λ a. IsPlan a.tables };
+    ghost invariant = { λ a. IsPlan a.sheet };
+
+    ghost inverse = { λ t. record { sheet = t } };
 }
 
 impl Plan {
@@ -33,18 +40,32 @@ impl Plan {
         ensures plan { IfOk result (λ plan. plan ≡ tables) }
         ensures fault { IfErr result (λ fault. plan_fault tables ≡ Some fault) }
     {
-        match tables.fault() {
-            Some(fault) => Err(fault),
-            None => Ok(Plan { tables }),
+        match tables.sheet() {
+            Ok(sheet) => Plan::of(sheet),
+            Err(fault) => Err(fault),
         }
     }
 
-    /// The tables.
-    pub fn tables(&self) -> &Tables
-        ensures tables { result.now ≡ self.now }
-        ensures plan { IsPlan self.now }
+    /// The plan that a sheet keeps, or its first fault.
+    pub(crate) fn of(sheet: Sheet) -> Result<Plan, PlanFault>
+        ensures ok { IsOk result ↔ IsPlan sheet }
+        ensures plan { IfOk result (λ plan. plan ≡ sheet) }
+        ensures fault { IfErr result (λ fault. plan_fault sheet ≡ Some fault) }
     {
-        &self.tables
+        match sheet.fault() {
+            Some(fault) => Err(fault),
+            None => Ok(Plan { sheet }),
+        }
+    }
+
+    /// The plan without any row.
+    #[tactic(auto, using(crate::proofs::lemmas::Checked::empty_is_plan))]
+    pub fn empty() -> Plan
+        ensures { result ≡ plan_table 0 [] [] [] }
+    {
+        Plan {
+            sheet: Sheet::new(0),
+        }
     }
 
     /// How many machines there are.
@@ -53,7 +74,7 @@ impl Plan {
         ensures few { result ≤ 15 }
         ensures plan { IsPlan self.now }
     {
-        self.tables.machines
+        self.sheet.machines()
     }
 
     /// How many zones there are.
@@ -61,7 +82,15 @@ impl Plan {
         ensures count { result ≡ table.zone_count self.now }
         ensures few { result ≤ 10 }
     {
-        self.tables.zones.len() as u8
+        self.sheet.zone_count()
+    }
+
+    /// How many poses there are, those of all machines together.
+    pub fn pose_count(&self) -> u8
+        ensures count { result ≡ table.pose_count self.now }
+        ensures few { result ≤ 64 }
+    {
+        self.sheet.pose_count()
     }
 
     /// How many places there are.
@@ -70,21 +99,28 @@ impl Plan {
         ensures few { result ≤ 16 }
         ensures fits { table.word_width self.now ≤ 64 }
     {
-        self.tables.places.len() as u8
+        self.sheet.place_count()
     }
 
     /// The row of a zone, or one that says nothing if there is no such zone.
     pub fn zone(&self, zone: u8) -> PlanZone
         ensures { result ≡ table.zone_row self.now zone }
     {
-        self.tables.zone(usize::from(zone))
+        self.sheet.zone(usize::from(zone))
     }
 
     /// The row of a pose, or one that says nothing if there is no such pose.
     pub fn pose(&self, pose: u8) -> PlanPose
         ensures { result ≡ table.pose_row self.now pose }
     {
-        self.tables.pose(usize::from(pose))
+        self.sheet.pose(usize::from(pose))
+    }
+
+    /// The machine that keeps a place; the first where there is no such place.
+    pub fn keeper(&self, place: u8) -> u8
+        ensures { result ≡ table.keeper_of self.now place }
+    {
+        self.sheet.keeper(usize::from(place))
     }
 
     /// Whether a machine is the host or the guest of a zone of the plan.
@@ -99,7 +135,7 @@ impl Plan {
     pub fn has_pose(&self, machine: u8, pose: u8) -> bool
         ensures { result ≡ table.has_pose self.now machine pose }
     {
-        usize::from(pose) < self.tables.poses.len() && self.pose(pose).machine == machine
+        pose < self.pose_count() && self.pose(pose).machine == machine
     }
 
     /// The posture that a pose gives a zone, if it gives it one.

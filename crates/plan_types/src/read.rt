@@ -1,58 +1,56 @@
-//! Bytes to tables.
-ghost use Rattle.std.specs.Prelude.{◌≡◌, ◌≢◌, ◌↔◌, Some, None, List, All, IfOk, IfSome, IsNone, flat_map};
+//! Bytes to plans.
+ghost use Rattle.std.specs.Prelude.{◌≡◌, ◌≢◌, ◌≤◌, ◌↔◌, [], Some, List, All, IfSome, IsNone, flat_map, length};
 ghost use Rattle.plan_types.specs.declared.table.PlanZone.{PlanZone};
 ghost use Rattle.plan_types.specs.declared.table.PlanPose.{PlanPose};
-ghost use Rattle.plan_types.specs.Table.{PlanTable};
-ghost use Rattle.plan_types.specs.Bytes.{bytes_of, zone_bytes, pose_bytes, HasWholeRows, IsForTenZones};
+ghost use Rattle.plan_types.specs.Table.{PlanTable, plan_table};
+ghost use Rattle.plan_types.specs.Bytes.{bytes_of, zone_bytes, pose_bytes, HasWholeRows, IsForTenZones, IsPlanOf};
 ghost use Rattle.plan_types.specs.Parts.{IsPartsOf};
 
+use crate::plan::Plan;
 use crate::rows::{POSE_BYTES, ZONE_BYTES, pose_with, zone_with};
-use crate::{PlanPose, PlanZone, Tables};
-use std::alloc::{AllocError, Global};
+use crate::sheet::{Sheet, push_places};
+use crate::table::{MAX_PLACES, MAX_POSES, MAX_ZONES};
 
-fn read_zones(alloc: Global, bytes: &[u8]) -> Result<Option<Vec<PlanZone>>, AllocError>
-    ensures some { IfOk result (λ found. IfSome found (λ zones.
-        flat_map zone_bytes zones.items ≡ bytes.now)) }
-    ensures none { IfOk result (λ found. IsNone found →
-        (zones : List PlanZone) → flat_map zone_bytes zones ≢ bytes.now) }
+fn read_zones(start: Sheet, bytes: &[u8]) -> Option<Sheet>
+    requires empty { start.zones ≡ [] }
+    requires few { length bytes.now ≤ 80 }
+    ensures zones { IfSome result (λ read.
+        (read ≡ plan_table start.machines read.zones start.poses start.places)
+        × (flat_map zone_bytes read.zones ≡ bytes.now)) }
+    ensures none { IsNone result → (zones : List PlanZone) → flat_map zone_bytes zones ≢ bytes.now }
 {
-    let mut zones = Vec::new(alloc);
+    let mut sheet = start;
     let mut rest = bytes;
     while let Some((row, after)) = rest.split_first_chunk::<ZONE_BYTES>() {
         let Some(zone) = zone_with(row) else {
-            return Ok(None);
+            return None;
         };
-        zones.push(zone)?;
+        sheet.push_zone(zone);
         rest = after;
     }
-    if rest.is_empty() {
-        Ok(Some(zones))
-    } else {
-        Ok(None)
-    }
+    if rest.is_empty() { Some(sheet) } else { None }
 }
 
-fn read_poses(alloc: Global, bytes: &[u8]) -> Result<Option<Vec<PlanPose>>, AllocError>
-    ensures some { IfOk result (λ found. IfSome found (λ poses.
-        flat_map pose_bytes poses.items ≡ bytes.now)) }
-    ensures whole { IfOk result (λ found. IfSome found (λ poses. All IsForTenZones poses.items)) }
-    ensures none { IfOk result (λ found. IsNone found →
-        (poses : List PlanPose) → All IsForTenZones poses → flat_map pose_bytes poses ≢ bytes.now) }
+fn read_poses(start: Sheet, bytes: &[u8]) -> Option<Sheet>
+    requires empty { start.poses ≡ [] }
+    requires few { length bytes.now ≤ 768 }
+    ensures poses { IfSome result (λ read.
+        (read ≡ plan_table start.machines start.zones read.poses start.places)
+        × (flat_map pose_bytes read.poses ≡ bytes.now)) }
+    ensures whole { IfSome result HasWholeRows }
+    ensures none { IsNone result →
+        (poses : List PlanPose) → All IsForTenZones poses → flat_map pose_bytes poses ≢ bytes.now }
 {
-    let mut poses = Vec::new(alloc);
+    let mut sheet = start;
     let mut rest = bytes;
     while let Some((row, after)) = rest.split_first_chunk::<POSE_BYTES>() {
         let Some(pose) = pose_with(row) else {
-            return Ok(None);
+            return None;
         };
-        poses.push(pose)?;
+        sheet.push_pose(pose);
         rest = after;
     }
-    if rest.is_empty() {
-        Ok(Some(poses))
-    } else {
-        Ok(None)
-    }
+    if rest.is_empty() { Some(sheet) } else { None }
 }
 
 /// The rows of each table.
@@ -86,26 +84,28 @@ fn parts_of(bytes: &[u8]) -> Option<Parts>
     })
 }
 
-/// The tables with these bytes, plan or not; `None` if no tables have them. Fails only if memory runs out.
-pub fn read_tables(alloc: Global, bytes: &[u8]) -> Result<Option<Tables>, AllocError>
-    ensures tables { IfOk result (λ found. (tables : PlanTable) → HasWholeRows tables →
-        (found ≡ Some tables) ↔ (bytes_of tables ≡ bytes.now)) }
-    ensures whole { IfOk result (λ found. IfSome found HasWholeRows) }
+/// The tables with these bytes, if they are no more than a sheet has room for.
+fn read_sheet(bytes: &[u8]) -> Option<Sheet>
+    ensures bytes { IfSome result (λ t. bytes_of t ≡ bytes.now) }
+    ensures whole { IfSome result HasWholeRows }
+    ensures found { (t : PlanTable) → IsPlanOf bytes.now t → result ≡ Some t }
 {
-    let Some(parts) = parts_of(bytes) else {
-        return Ok(None);
-    };
-    let Some(zones) = read_zones(alloc, parts.zones)? else {
-        return Ok(None);
-    };
-    let Some(poses) = read_poses(alloc, parts.poses)? else {
-        return Ok(None);
-    };
-    let places = parts.places.to_vec(alloc)?;
-    Ok(Some(Tables {
-        machines: parts.machines,
-        zones,
-        poses,
-        places,
-    }))
+    let parts = parts_of(bytes)?;
+    if parts.zones.len() > ZONE_BYTES * MAX_ZONES
+        || parts.poses.len() > POSE_BYTES * MAX_POSES
+        || parts.places.len() > MAX_PLACES
+    {
+        return None;
+    }
+    let sheet = read_zones(Sheet::new(parts.machines), parts.zones)?;
+    let mut sheet = read_poses(sheet, parts.poses)?;
+    push_places(&mut sheet, parts.places);
+    Some(sheet)
+}
+
+/// The plan with these bytes; `None` if they are no plan's. It takes no memory.
+pub fn read_plan(bytes: &[u8]) -> Option<Plan>
+    ensures { (t : PlanTable) → (result ≡ Some t) ↔ IsPlanOf bytes.now t }
+{
+    Plan::of(read_sheet(bytes)?).ok()
 }

@@ -6,6 +6,7 @@ ghost use Rattle.plan_types.specs.declared.table.Way.{Way};
 ghost use Rattle.plan_types.specs.declared.table.PlanZone.{PlanZone};
 ghost use Rattle.plan_types.specs.declared.table.PlanPose.{PlanPose};
 ghost use Rattle.plan_types.specs.Bytes as bytes;
+ghost use Rattle.plan_types.specs.Kept as kept;
 
 use crate::{MAX_ZONES, PlanPose, PlanZone, Posture, Way};
 
@@ -32,6 +33,28 @@ fn way_with(row: [u8; 3]) -> Option<Option<Way>>
         [0, 0, 0] => Some(None),
         [1, from, to] => Some(Some(Way { from, to })),
         _ => None,
+    }
+}
+
+/// A way's three bytes, told.
+fn way_told(mark: u8, from: u8, to: u8) -> Option<Way>
+    ensures { result ≡ kept.way_told mark from to }
+{
+    match mark {
+        0 => None,
+        _ => Some(Way { from, to }),
+    }
+}
+
+/// The zone that a row tells, whatever its bytes are.
+pub(crate) fn zone_told(row: [u8; ZONE_BYTES]) -> PlanZone
+    ensures { result ≡ kept.zone_told row }
+{
+    PlanZone {
+        host: row[0],
+        guest: row[1],
+        inward: way_told(row[2], row[3], row[4]),
+        outward: way_told(row[5], row[6], row[7]),
     }
 }
 
@@ -92,6 +115,41 @@ fn posture_with(byte: u8) -> Option<Option<Posture>>
         3 => Some(Some(Posture::OpenIn)),
         4 => Some(Some(Posture::OpenOut)),
         _ => None,
+    }
+}
+
+fn posture_told(byte: u8) -> Option<Posture>
+    ensures { result ≡ kept.posture_told byte }
+{
+    match byte {
+        0 => None,
+        1 => Some(Posture::Closed),
+        2 => Some(Posture::Moving),
+        3 => Some(Posture::OpenIn),
+        _ => Some(Posture::OpenOut),
+    }
+}
+
+/// The pose that a row tells, whatever its bytes are.
+pub(crate) fn pose_told(row: [u8; POSE_BYTES]) -> PlanPose
+    ensures { result ≡ kept.pose_told row }
+{
+    let [machine, moving, a, b, c, d, e, f, g, h, i, j] = row;
+    PlanPose {
+        machine,
+        after_moving: moving != 0,
+        gives: [
+            posture_told(a),
+            posture_told(b),
+            posture_told(c),
+            posture_told(d),
+            posture_told(e),
+            posture_told(f),
+            posture_told(g),
+            posture_told(h),
+            posture_told(i),
+            posture_told(j),
+        ],
     }
 }
 

@@ -1,43 +1,53 @@
-//! Tables to bytes.
+//! Plans to bytes.
 ghost use Rattle.std.specs.Prelude.{◌≡◌, IfOk, OnOk, flat_map, ◌++◌};
-ghost use Rattle.plan_types.specs.Plan.{IsPlan};
 ghost use Rattle.plan_types.specs.Bytes.{bytes_of, zone_bytes, pose_bytes};
 
+use crate::plan::Plan;
 use crate::rows::{pose_row, zone_row};
-use crate::{PlanPose, PlanZone, Tables};
 use std::alloc::{AllocError, Global};
 
-fn write_zones(out: &mut Vec<u8>, zones: &[PlanZone]) -> Result<(), AllocError>
-    ensures { OnOk result (out.new.items ≡ out.old.items ++ flat_map zone_bytes zones.now) }
+#[tactic(auto, using(crate::proofs::Writing::zones_more))]
+fn write_zones(out: &mut Vec<u8>, plan: &Plan) -> Result<(), AllocError>
+    ensures { OnOk result (out.new.items ≡ out.old.items ++ flat_map zone_bytes plan.now.zones) }
 {
-    for zone in zones {
-        out.extend_from_slice(&zone_row(*zone))?;
+    for zone in 0..plan.zone_count() {
+        out.extend_from_slice(&zone_row(plan.zone(zone)))?;
     }
     Ok(())
 }
 
-fn write_poses(out: &mut Vec<u8>, poses: &[PlanPose]) -> Result<(), AllocError>
-    ensures { OnOk result (out.new.items ≡ out.old.items ++ flat_map pose_bytes poses.now) }
+#[tactic(auto, using(crate::proofs::Writing::poses_more))]
+fn write_poses(out: &mut Vec<u8>, plan: &Plan) -> Result<(), AllocError>
+    ensures { OnOk result (out.new.items ≡ out.old.items ++ flat_map pose_bytes plan.now.poses) }
 {
-    for pose in poses {
-        out.extend_from_slice(&pose_row(*pose))?;
+    for pose in 0..plan.pose_count() {
+        out.extend_from_slice(&pose_row(plan.pose(pose)))?;
     }
     Ok(())
 }
 
-/// The bytes of a plan's tables. Fails only if memory runs out.
-pub fn write_tables(alloc: Global, tables: &Tables) -> Result<Vec<u8>, AllocError>
-    requires { IsPlan tables.now }
-    ensures { IfOk result (λ bytes. bytes.items ≡ bytes_of tables.now) }
+#[tactic(auto, using(crate::proofs::Writing::places_more))]
+fn write_places(out: &mut Vec<u8>, plan: &Plan) -> Result<(), AllocError>
+    ensures { OnOk result (out.new.items ≡ out.old.items ++ plan.now.places) }
+{
+    for place in 0..plan.place_count() {
+        out.push(plan.keeper(place))?;
+    }
+    Ok(())
+}
+
+/// The bytes of a plan. Fails only if memory runs out.
+pub fn write_plan(alloc: Global, plan: &Plan) -> Result<Vec<u8>, AllocError>
+    ensures { IfOk result (λ bytes. bytes.items ≡ bytes_of plan.now) }
 {
     let mut bytes = vec![in alloc;
-        tables.machines,
-        tables.zones.len() as u8,
-        tables.poses.len() as u8,
-        tables.places.len() as u8,
+        plan.machines(),
+        plan.zone_count(),
+        plan.pose_count(),
+        plan.place_count(),
     ]?;
-    write_zones(&mut bytes, &tables.zones)?;
-    write_poses(&mut bytes, &tables.poses)?;
-    bytes.extend_from_slice(&tables.places)?;
+    write_zones(&mut bytes, plan)?;
+    write_poses(&mut bytes, plan)?;
+    write_places(&mut bytes, plan)?;
     Ok(bytes)
 }

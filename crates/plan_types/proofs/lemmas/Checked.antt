@@ -1,14 +1,15 @@
 -- Tables have no fault exactly if they are a plan.
-use Rattle.std.proofs.Common.{◌≡◌, ◌≢◌, ℕ, ◌-◌, ◌<◌, ◌≤◌, Bool, true, false, ◌&&◌, not, nat_eq, nat_lt, nat_le, Option, Some, None, refl, ap, is_some, ltb-true, eq-eqb, IsTrue}
+use Rattle.std.proofs.Common.{◌≡◌, ◌≢◌, ℕ, ◌-◌, ◌<◌, ◌≤◌, Bool, true, false, ◌&&◌, not, nat_eq, nat_lt, nat_le, Option, Some, None, refl, ap, is_some, ltb-true, eq-eqb, IsTrue, sym, ◌∙◌, []}
 use Rattle.std.specs.Bool.{then_some}
 use Rattle.std.proofs.lemmas.Bool.{eqb-true, leb-true, lt-ltb, le-leb, false_from_ne_true}
 use Rattle.plan_types.specs.declared.posture.Posture.{Posture}
 use Rattle.plan_types.specs.declared.fault.PlanFault.{PlanFault}
 use Rattle.plan_types.specs.declared.fault.PlanFault.TheVariants.{TooManyMachines, TooManyZones, TooManyPoses, TooManyPlaces, TooWide, NoSuchKeeper, NoSuchHost, NoSuchGuest, HostIsGuest, InwardAstray, OutwardAstray, NoSuchMachine, ForeignZone}
-use Rattle.plan_types.specs.Table.{PlanTable, zone_count, pose_count, place_count, word_width, host_of, guest_of, machine_of, posture_of, is_hosted, zone_row}
+use Rattle.plan_types.specs.Table.{PlanTable, plan_table, zone_count, pose_count, place_count, word_width, host_of, guest_of, machine_of, posture_of, is_hosted, zone_row}
 use Rattle.plan_types.specs.Below.{first_below}
 use Rattle.plan_types.specs.Plan.{IsPlan, leads}
 use Rattle.plan_types.specs.Faults.{◌or◌, unless, count_fault, width_fault, keeper_fault, zone_fault, pose_fault, foreign_fault, plan_fault}
+use Rattle.plan_types.specs.Kept.{FitsSheet}
 use Rattle.plan_types.proofs.lemmas.Below.{first_below_none, first_below_all}
 
 both : (a b : Option PlanFault) → (a or b) ≡ None → (a ≡ None) × (b ≡ None)
@@ -162,3 +163,28 @@ no_fault_of_plan t k =
     let poses = first_below_all (pose_fault t) (pose_count t) (λ p l. both_none _ _ (no_fault _ (NoSuchMachine p) (lt-ltb _ _ (k.pose_of_machine p l)))
     (first_below_all (foreign_fault t p) 10 (foreign p l))) in
     both_none _ _ (both_none _ _ (both_none _ _ (both_none _ _ few wide) keepers) zones) poses
+
+-- what is the first fault of the counts is the first fault
+pub count_fault_first : (t : PlanTable) (f : PlanFault) → count_fault t ≡ Some f → plan_fault t ≡ Some f
+count_fault_first t f e = rw e refl
+
+pub no_plan_with_fault : (t : PlanTable) (f : PlanFault) → plan_fault t ≡ Some f → IsPlan t → ⊥
+no_plan_with_fault t f e plan = let clash : None ≡ Some f = sym (no_fault_of_plan t plan) ∙ e in cc
+
+-- where the rows fit, only the machines may be too many
+or_none : (a : Option PlanFault) → (a or None) ≡ a
+or_none None = refl
+or_none (Some f) = refl
+
+few_rows : (first : Option PlanFault) (zones poses places : Bool) → zones ≡ true → poses ≡ true → places ≡ true
+    → first ≡ (first or unless zones TooManyZones or unless poses TooManyPoses or unless places TooManyPlaces)
+few_rows first zones poses places z p k =
+    rw (z, p, k) (sym (or_none (first or None or None) ∙ or_none (first or None) ∙ or_none first))
+
+pub count_fault_of_sheet : (t : PlanTable) → FitsSheet t → unless (nat_le t.machines 15) TooManyMachines ≡ count_fault t
+count_fault_of_sheet t fits =
+    few_rows (unless (nat_le t.machines 15) TooManyMachines) _ _ _ (le-leb _ _ fits.zones) (le-leb _ _ fits.poses)
+    (le-leb _ _ fits.places)
+
+pub empty_is_plan : IsPlan (plan_table 0 [] [] [])
+empty_is_plan = is_plan (plan_table 0 [] [] []) refl

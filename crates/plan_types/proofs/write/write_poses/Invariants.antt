@@ -3,4 +3,4 @@ use Rattle.plan_types.specs.Bytes.{pose_bytes}
 use Rattle.plan_types.proofs.write.write_poses.Given as goal
 
 abbrev pub invariant-loop-pose : goal.invariant-loop-pose
-invariant-loop-pose l = l.out.items ≡ l.fn.out.items ++ flat_map pose_bytes (take l.pose-index l.poses)
+invariant-loop-pose l = l.out.items ≡ l.fn.out.items ++ flat_map pose_bytes (take l.pose l.plan.poses)

@@ -1,7 +1,7 @@
 use Rattle.std.proofs.Common.{◌≡◌}
 use Rattle.plan_types.specs.Below.{first_below}
 use Rattle.plan_types.specs.Faults as faults
-use Rattle.plan_types.proofs.table.Tables.keepers_fault.Given as goal
+use Rattle.plan_types.proofs.sheet.Sheet.keepers_fault.Given as goal
 
 abbrev pub invariant-loop-place : goal.invariant-loop-place
 invariant-loop-place l = l.first ≡ first_below (faults.keeper_fault l.self) l.place

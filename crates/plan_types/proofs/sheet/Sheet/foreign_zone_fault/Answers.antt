@@ -1,7 +1,7 @@
 use Rattle.std.proofs.Common.{◌≡◌, ◌∙◌, ap, arith}
 use Rattle.plan_types.specs.Below.{first_below}
 use Rattle.plan_types.specs.Faults as faults
-use Rattle.plan_types.proofs.table.Tables.foreign_zone_fault.Goals as goal
+use Rattle.plan_types.proofs.sheet.Sheet.foreign_zone_fault.Goals as goal
 
 pub returns : goal.returns
 returns c =

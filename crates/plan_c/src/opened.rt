@@ -1,0 +1,13 @@
+//! What C keeps of a plan.
+
+use plan_types::Plan;
+
+/// A plan that was opened, or what says that the bytes were none. Nothing but `bagunjoki_plan_open` makes one.
+#[repr(C)]
+#[derive(Debug, Drop)]
+pub struct Opened {
+    /// Whether the bytes were a plan's.
+    pub is_plan: bool,
+    /// The plan. If they weren't, the one without any row.
+    pub plan: Plan,
+}

@@ -1,0 +1,206 @@
+//! The tables of a plan in memory of a fixed size: each row as its bytes, and blank rows after the last.
+ghost use Rattle.std.specs.Prelude.{◌≡◌, ◌≤◌, ◌<◌, ◌∷◌, ◌++◌, [], length};
+ghost use Rattle.plan_types.specs.Table as table;
+ghost use Rattle.plan_types.specs.Table.{plan_table};
+ghost use Rattle.plan_types.specs.Kept as kept;
+
+use crate::rows::{POSE_BYTES, ZONE_BYTES, pose_row, pose_told, zone_row, zone_told};
+use crate::table::{MAX_PLACES, MAX_POSES, MAX_ZONES, PlanPose, PlanZone, Tables};
+use std::marker::Model;
+
+const NO_ZONE: PlanZone = PlanZone {
+    host: 0,
+    guest: 0,
+    inward: None,
+    outward: None,
+};
+
+const NO_POSE: PlanPose = PlanPose {
+    machine: 0,
+    after_moving: false,
+    gives: [None; MAX_ZONES],
+};
+
+/// Tables, plan or not. It takes no memory beyond itself, and C can keep it.
+#[repr(C)]
+#[derive(Clone, Copy, Debug)]
+pub struct Sheet {
+    machines: u8,
+    zone_count: u8,
+    pose_count: u8,
+    place_count: u8,
+    zones: [[u8; ZONE_BYTES]; MAX_ZONES],
+    poses: [[u8; POSE_BYTES]; MAX_POSES],
+    places: [u8; MAX_PLACES],
+}
+
+impl Model for Sheet {
+    ghost use Rattle.plan_types.specs.Table.{PlanTable};
+
+    ghost Value = { PlanTable };
+
+    ghost use Rattle.plan_types.specs.Kept.{table_in, kept, kept_back, IsKept};
+
+    ghost view = { table_in };
+
+    ghost invariant = { IsKept };
+
+    ghost inverse = { kept };
+
+    ghost inverse_ok = { kept_back };
+}
+
+impl Sheet {
+    /// No rows yet.
+    pub(crate) fn new(machines: u8) -> Sheet
+        ensures { result ≡ plan_table machines [] [] [] }
+    {
+        Sheet {
+            machines,
+            zone_count: 0,
+            pose_count: 0,
+            place_count: 0,
+            zones: [[0; ZONE_BYTES]; MAX_ZONES],
+            poses: [[0; POSE_BYTES]; MAX_POSES],
+            places: [0; MAX_PLACES],
+        }
+    }
+
+    /// Appends a zone.
+    pub(crate) fn push_zone(&mut self, zone: PlanZone)
+        requires { table.zone_count self.old < 10 }
+        ensures { self.new ≡ plan_table self.old.machines (self.old.zones ++ zone ∷ []) self.old.poses
+            self.old.places }
+    {
+        self.zones[usize::from(self.zone_count)] = zone_row(zone);
+        self.zone_count += 1;
+    }
+
+    /// Appends a pose.
+    pub(crate) fn push_pose(&mut self, pose: PlanPose)
+        requires { table.pose_count self.old < 64 }
+        ensures { self.new ≡ plan_table self.old.machines self.old.zones (self.old.poses ++ pose ∷ [])
+            self.old.places }
+    {
+        self.poses[usize::from(self.pose_count)] = pose_row(pose);
+        self.pose_count += 1;
+    }
+
+    /// Appends a place.
+    pub(crate) fn push_place(&mut self, keeper: u8)
+        requires { table.place_count self.old < 16 }
+        ensures { self.new ≡ plan_table self.old.machines self.old.zones self.old.poses
+            (self.old.places ++ keeper ∷ []) }
+    {
+        self.places[usize::from(self.place_count)] = keeper;
+        self.place_count += 1;
+    }
+
+    /// How many machines there are. There are no more rows than a plan may have.
+    pub(crate) fn machines(&self) -> u8
+        ensures machines { result ≡ self.now.machines }
+        ensures fits { kept.FitsSheet self.now }
+    {
+        self.machines
+    }
+
+    /// How many zones there are.
+    pub(crate) fn zone_count(&self) -> u8
+        ensures count { result ≡ table.zone_count self.now }
+        ensures few { result ≤ 10 }
+    {
+        self.zone_count
+    }
+
+    /// How many poses there are.
+    pub(crate) fn pose_count(&self) -> u8
+        ensures count { result ≡ table.pose_count self.now }
+        ensures few { result ≤ 64 }
+    {
+        self.pose_count
+    }
+
+    /// How many places there are.
+    pub(crate) fn place_count(&self) -> u8
+        ensures count { result ≡ table.place_count self.now }
+        ensures few { result ≤ 16 }
+    {
+        self.place_count
+    }
+
+    /// The row of a zone, or one that says nothing.
+    pub(crate) fn zone(&self, zone: usize) -> PlanZone
+        ensures { result ≡ table.zone_row self.now zone }
+    {
+        if zone < usize::from(self.zone_count) {
+            zone_told(self.zones[zone])
+        } else {
+            NO_ZONE
+        }
+    }
+
+    /// The row of a pose, or one that says nothing.
+    pub(crate) fn pose(&self, pose: usize) -> PlanPose
+        ensures { result ≡ table.pose_row self.now pose }
+    {
+        if pose < usize::from(self.pose_count) {
+            pose_told(self.poses[pose])
+        } else {
+            NO_POSE
+        }
+    }
+
+    /// The machine that keeps a place; the first where there is no such place.
+    pub(crate) fn keeper(&self, place: usize) -> u8
+        ensures { result ≡ table.keeper_of self.now place }
+    {
+        if place < usize::from(self.place_count) {
+            self.places[place]
+        } else {
+            0
+        }
+    }
+}
+
+fn push_zones(sheet: &mut Sheet, zones: &[PlanZone])
+    requires empty { sheet.old.zones ≡ [] }
+    requires few { length zones.now ≤ 10 }
+    ensures { sheet.new ≡ plan_table sheet.old.machines zones.now sheet.old.poses sheet.old.places }
+{
+    for zone in zones {
+        sheet.push_zone(*zone);
+    }
+}
+
+fn push_poses(sheet: &mut Sheet, poses: &[PlanPose])
+    requires empty { sheet.old.poses ≡ [] }
+    requires few { length poses.now ≤ 64 }
+    ensures { sheet.new ≡ plan_table sheet.old.machines sheet.old.zones poses.now sheet.old.places }
+{
+    for pose in poses {
+        sheet.push_pose(*pose);
+    }
+}
+
+/// Appends places to none.
+pub(crate) fn push_places(sheet: &mut Sheet, places: &[u8])
+    requires empty { sheet.old.places ≡ [] }
+    requires few { length places.now ≤ 16 }
+    ensures { sheet.new ≡ plan_table sheet.old.machines sheet.old.zones sheet.old.poses places.now }
+{
+    for keeper in places {
+        sheet.push_place(*keeper);
+    }
+}
+
+/// The sheet that keeps some tables.
+pub(crate) fn sheet_of(tables: &Tables) -> Sheet
+    requires { kept.FitsSheet tables.now }
+    ensures { result ≡ tables.now }
+{
+    let mut sheet = Sheet::new(tables.machines);
+    push_zones(&mut sheet, &tables.zones);
+    push_poses(&mut sheet, &tables.poses);
+    push_places(&mut sheet, &tables.places);
+    sheet
+}
