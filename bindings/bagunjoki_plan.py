@@ -28,9 +28,6 @@ __version__ = "1.0.0"
 WATCH, NOTHING = 15, 255
 # Bits of a zone and of the stamp.
 ZONE_BITS, STAMP_BITS = 5, 20
-# The answers of the header for C that the cell's library doesn't give.
-NO_PLAN = 67
-
 WORD, BYTE, STAMP, TEXT, SIZE = ctypes.c_uint64, ctypes.c_uint8, ctypes.c_uint32, ctypes.c_char_p, ctypes.c_size_t
 
 
@@ -137,6 +134,8 @@ class PlanLibrary:
     def __init__(self, plant, library):
         self.library, self.zones, self.places = library, len(plant.zones), len(plant.places)
         self.plan = library.bagunjoki_plan_open(plant.plan, len(plant.plan))
+        if not self.plan.is_plan:
+            raise ValueError("these bytes are no plan's")
 
     def bagunjoki_step(self, word, machine, verb, about):
         return self.library.bagunjoki_plan_step(self.plan, word, machine, verb, about)

@@ -13,6 +13,9 @@ fn main() {
     let kind = if env::var_os("BAGUNJOKI_STATIC").is_some() { "static" } else { "dylib" };
     println!("cargo::rustc-link-search=native={folder}");
     println!("cargo::rustc-link-lib={kind}=bagunjoki");
+    if env::var_os("CARGO_FEATURE_PLAN").is_some() {
+        println!("cargo::rustc-link-lib={kind}=bagunjoki_plan");
+    }
 }
 
 fn by_pkg_config() -> String {

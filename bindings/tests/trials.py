@@ -144,18 +144,28 @@ def example_by_pkg_config(trials):
 
 def example_in_rust(trials):
     """The crate for cargo, by rustc alone: a machine may have no cargo."""
-    to, words = f"{trials.room}/in_rust", ["rustc", "-O", "--edition", "2021", "-L", f"{trials.prefix}/lib", "-L", trials.room]
-    crate = ["--crate-name", "bagunjoki", "--crate-type", "rlib", f"{trials.here}/rust/src/lib.rs", "-l", "static=bagunjoki"]
+    shared = {"LD_LIBRARY_PATH": f"{trials.prefix}/lib"}
+    wants(trials.run([by_rustc(trials, "interior", "bagunjoki")], **shared), INTERIOR)
+    return wants(trials.run([by_rustc(trials, "plan_press", "bagunjoki", "bagunjoki_plan")], **shared), plans.PRESS)
+
+
+def by_rustc(trials, example, *libraries):
+    """An example over the crate, which is compiled for these libraries."""
+    to, words = f"{trials.room}/{example}_in_rust", ["rustc", "-O", "--edition", "2021", "-L", f"{trials.prefix}/lib", "-L", trials.room]
+    crate = ["--crate-name", "bagunjoki", "--crate-type", "rlib", f"{trials.here}/rust/src/lib.rs"]
+    crate += ["--cfg", 'feature="plan"'] if "bagunjoki_plan" in libraries else []
     trials.run([*words, *crate, "-o", f"{trials.room}/libbagunjoki.rlib"])
-    trials.run([*words, f"{trials.here}/examples/interior.rs", "--extern", "bagunjoki", "-o", to])
-    return wants(trials.run([to]), INTERIOR)
+    links = [f"-ldylib={it}" for it in libraries]
+    trials.run([*words, f"{trials.here}/examples/{example}.rs", "--extern", "bagunjoki", *links, "-o", to])
+    return to
 
 
 def example_by_cargo(trials):
     words = ["cargo", "run", "--quiet", "--offline", "--manifest-path", f"{trials.here}/rust/Cargo.toml", "--example", "interior"]
     where = {"BAGUNJOKI_PREFIX": trials.prefix, "CARGO_TARGET_DIR": f"{trials.room}/cargo", "LD_LIBRARY_PATH": f"{trials.prefix}/lib"}
     wants(trials.run(words, **where), INTERIOR)
-    return wants(trials.run(words, **where, BAGUNJOKI_STATIC="1"), INTERIOR)
+    wants(trials.run(words, **where, BAGUNJOKI_STATIC="1"), INTERIOR)
+    return wants(trials.run([*words[:-2], "--features", "plan", "--example", "plan_press"], **where), plans.PRESS)
 
 
 def example_by_wheel(trials):

@@ -1,4 +1,5 @@
-//! The interlock of the production cell, over its library for C.
+//! The interlock of the production cell, over its library for C; with the feature `plan`, also that of any plant
+//! (`plan`), over another library.
 //!
 //! ```no_run
 //! use bagunjoki::{Answer, Interlock, Machine, Verb, Zone};
@@ -11,6 +12,9 @@
 //! The library's functions are proved. The loops here do what those of `bagunjoki.h` do, and no proof says so. Only they
 //! write the word, which is private: safe Rust can't spoil it. One caller a machine is your duty, as `docs/FROM_C.md` says.
 use std::sync::atomic::{AtomicU64, Ordering::SeqCst};
+
+#[cfg(feature = "plan")]
+pub mod plan;
 
 /// Who calls. `Nobody` is an owner, and makes no calls.
 #[repr(u8)]
@@ -131,27 +135,25 @@ pub fn stamp_of(word: u64) -> u32 {
     bagunjoki_stamp(word)
 }
 
-/// A word that threads share by a reference.
-pub struct Interlock(AtomicU64);
+/// What answers a call on a word: the cell's library, or an opened plan.
+trait Rules {
+    fn step(&self, word: u64, machine: u8, verb: u8, object: u8) -> Reply;
+    fn stamp(&self, word: u64) -> u32;
+    fn restamp(&self, word: u64, stamp: u32) -> u64;
+}
 
-impl Interlock {
-    /// A cell with plates at these places, ten digits 0 or 1, and this stamp. `None` if there is no such start.
-    pub fn new(places: &str, stamp: u32) -> Option<Interlock> {
-        // the library reads these bytes and no others
-        let start = unsafe { bagunjoki_start(places.as_ptr(), places.len(), stamp) };
-        (start != u64::MAX).then(|| Interlock(AtomicU64::new(start)))
-    }
+/// A word that threads share, with the loops of the headers.
+struct Shared(AtomicU64);
 
-    /// The word now.
-    pub fn word(&self) -> u64 {
+impl Shared {
+    fn word(&self) -> u64 {
         self.0.load(SeqCst)
     }
 
-    /// A call, with at most this number of exchanges; what `bagunjoki_ask` of the header does.
-    pub fn ask(&self, machine: Machine, verb: Verb, object: u8, tries: u32) -> Reply {
+    fn ask(&self, rules: &impl Rules, machine: u8, verb: Verb, object: u8, tries: u32) -> Reply {
         let mut word = self.word();
         for _ in 0..tries {
-            let reply = bagunjoki_step(word, machine as u8, verb as u8, object);
+            let reply = rules.step(word, machine, verb as u8, object);
             if reply.answer != Answer::DONE {
                 return reply;
             }
@@ -160,29 +162,27 @@ impl Interlock {
                 Err(found) => word = found,
             }
         }
-        let reply = bagunjoki_step(word, machine as u8, verb as u8, object);
+        let reply = rules.step(word, machine, verb as u8, object);
         match reply.answer {
             Answer::DONE => Reply { answer: Answer::BUSY, next: word, ..reply },
             _ => reply,
         }
     }
 
-    /// Asks until it is answered; what `bagunjoki_settle` of the header does.
-    pub fn settle(&self, machine: Machine, verb: Verb, object: u8) -> Reply {
+    fn settle(&self, rules: &impl Rules, machine: u8, verb: Verb, object: u8) -> Reply {
         loop {
-            let reply = self.ask(machine, verb, object, LAST_STAMP);
+            let reply = self.ask(rules, machine, verb, object, LAST_STAMP);
             if reply.answer != Answer::BUSY {
                 return reply;
             }
         }
     }
 
-    /// If the stamp is `from` or later, makes it `to`; what `bagunjoki_renew` of the header does. Whether nothing is left to do.
-    pub fn renew(&self, from: u32, to: u32, tries: u32) -> bool {
+    fn renew(&self, rules: &impl Rules, from: u32, to: u32, tries: u32) -> bool {
         let mut word = self.word();
         for _ in 0..tries {
-            let next = bagunjoki_restamp(word, to);
-            if bagunjoki_stamp(word) < from || next == u64::MAX {
+            let next = rules.restamp(word, to);
+            if rules.stamp(word) < from || next == u64::MAX {
                 break;
             }
             match self.0.compare_exchange(word, next, SeqCst, SeqCst) {
@@ -190,6 +190,55 @@ impl Interlock {
                 Err(found) => word = found,
             }
         }
-        bagunjoki_stamp(word) < from
+        rules.stamp(word) < from
+    }
+}
+
+/// The rules of the cell.
+struct Cell;
+
+impl Rules for Cell {
+    fn step(&self, word: u64, machine: u8, verb: u8, object: u8) -> Reply {
+        bagunjoki_step(word, machine, verb, object)
+    }
+
+    fn stamp(&self, word: u64) -> u32 {
+        bagunjoki_stamp(word)
+    }
+
+    fn restamp(&self, word: u64, stamp: u32) -> u64 {
+        bagunjoki_restamp(word, stamp)
+    }
+}
+
+/// A word that threads share by a reference.
+pub struct Interlock(Shared);
+
+impl Interlock {
+    /// A cell with plates at these places, ten digits 0 or 1, and this stamp. `None` if there is no such start.
+    pub fn new(places: &str, stamp: u32) -> Option<Interlock> {
+        // the library reads these bytes and no others
+        let start = unsafe { bagunjoki_start(places.as_ptr(), places.len(), stamp) };
+        (start != u64::MAX).then(|| Interlock(Shared(AtomicU64::new(start))))
+    }
+
+    /// The word now.
+    pub fn word(&self) -> u64 {
+        self.0.word()
+    }
+
+    /// A call, with at most this number of exchanges; what `bagunjoki_ask` of the header does.
+    pub fn ask(&self, machine: Machine, verb: Verb, object: u8, tries: u32) -> Reply {
+        self.0.ask(&Cell, machine as u8, verb, object, tries)
+    }
+
+    /// Asks until it is answered; what `bagunjoki_settle` of the header does.
+    pub fn settle(&self, machine: Machine, verb: Verb, object: u8) -> Reply {
+        self.0.settle(&Cell, machine as u8, verb, object)
+    }
+
+    /// If the stamp is `from` or later, makes it `to`; what `bagunjoki_renew` of the header does. Whether nothing is left to do.
+    pub fn renew(&self, from: u32, to: u32, tries: u32) -> bool {
+        self.0.renew(&Cell, from, to, tries)
     }
 }
