@@ -89,6 +89,14 @@ fn reads_forty_words(rt: HostRuntime) {
 }
 
 #[test]
+fn reads_long_words_whole(rt: HostRuntime) {
+    let long = "ab ".repeat(rt.alloc(), 2_000).expect(&rt, "memory");
+    let arguments: &[&[u8]] = &[b"cell", long.as_bytes(), b" a\t"];
+    let words = words_of(rt.alloc(), &Given { arguments }).expect(&rt, "words");
+    assert!(rt; are_words(words.as_slice(), &["cell", long.as_str(), " a\t"]));
+}
+
+#[test]
 fn writes_a_long_fault_whole(rt: HostRuntime) {
     let fault = "long ".repeat(rt.alloc(), 1_000).expect(&rt, "memory");
     let mut wanted = String::from_str(rt.alloc(), "fault ").expect(&rt, "memory");
