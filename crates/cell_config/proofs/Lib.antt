@@ -12,3 +12,4 @@ mod ConfigRows
 mod PartRows
 mod SectionRows
 mod Refusals
+mod AllRead

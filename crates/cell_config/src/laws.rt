@@ -6,6 +6,7 @@ ghost use Rattle.cell_sensors.specs.Names.{Pair, Scale};
 ghost use Rattle.cell_sensors.specs.declared.curve.CurveFault.{CurveFault};
 ghost use Rattle.cell_config.specs.ConfigExamples.{ConfigsAreMet};
 ghost use Rattle.cell_config.specs.ConfigLaws.{AreCalibrated, LetterLimits, TextLimits};
+ghost use Rattle.cell_config.specs.ConfigLaws as laws;
 ghost use Rattle.cell_config.specs.PartExamples.{PartsAreMet};
 ghost use Rattle.cell_config.specs.RefusalLaws as refusals;
 ghost use Rattle.cell_config.specs.SectionExamples.{SectionsAreMet};
@@ -19,6 +20,15 @@ use cell_sensors::laws::one_first_fault;
 pub fn limits_come_first()
     ensures bytes { (bytes : List ℕ) → TextLimits bytes }
     ensures letters { (text : List ℕ) → LetterLimits text }
+{}
+
+/// The letters of a schedule's turns are those of its text. All keys are looked at, and a number is taken just if it is
+/// within its limits.
+pub fn all_is_read()
+    ensures schedules { laws.SchedulesAreRead }
+    ensures keys { (key : List ℕ) (value : Data) (others : Members)
+        → laws.KeysAreLookedAt key value others }
+    ensures numbers { (least most n : ℕ) → laws.NumbersAreWithin least most n }
 {}
 
 /// A configuration that is taken gives five scales that fit their axes, and of each its line or a
