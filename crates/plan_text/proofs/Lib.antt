@@ -2,4 +2,5 @@ mod Told
 mod Answering
 mod OwnPoses
 mod ScriptRows
+mod ScriptLaws
 mod RequestRows

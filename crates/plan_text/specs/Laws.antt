@@ -1,7 +1,7 @@
 -- Laws of words: a word is read as what it is told for, words of scripts are taken, and own poses come first.
 use Rattle.std.specs.Prelude.{◌≡◌, ◌≢◌, ℕ, suc, ◌<◌, true, false, List, [], ◌∷◌, ◌++◌, codes, length, map, Some, None}
 use Rattle.std.specs.Prelude.{is_some, IsTrue}
-use Rattle.plan_types.specs.Table.{machine_of}
+use Rattle.plan_types.specs.Table.{machine_of, watch}
 use Rattle.plan_types.specs.declared.call.Call.{Call}
 use Rattle.plan_types.specs.declared.call.Call.TheVariants.{SetPose}
 use Rattle.plan_types.specs.declared.call.Call.TheVariants as call
@@ -14,7 +14,7 @@ use Rattle.plan_types.specs.declared.answer.Refusal.TheVariants.{NoPose, Worn, S
 use Rattle.plan_text.specs.Names.{Text, is_reserved, name_in, number_in}
 use Rattle.plan_text.specs.Named.{Named}
 use Rattle.plan_text.specs.Answers.{answer_text, posture_of, posture_word}
-use Rattle.plan_text.specs.Calls.{call_of, call_text, own_pose, verb_of, verb_word, words}
+use Rattle.plan_text.specs.Calls.{call_of, call_text, caller_of, own_pose, verb_of, verb_word, words}
 use Rattle.plan_text.specs.declared.calls.Verb.{Verb}
 use Rattle.plan_text.specs.declared.calls.Verb.TheVariants.{Claim, Give, Yield, Take, Release, Inquire, Pose}
 
@@ -74,6 +74,13 @@ pub record OwnPosesComeFirst : Type 0 where
   pub found : (n : Named) (machine pose : ℕ) → pose < length n.poses → machine_of n.plan pose ≡ machine
       → IsTrue (is_some (own_pose n machine (name_in n.poses pose)))
 
+-- whom a name means, and which pose where the machine has none of that name
+pub record OthersHaveNames (n : Named) (machine pose : ℕ) (name : Text) : Type 0 where
+  pub watch_calls : caller_of n (codes "watch") ≡ Some watch
+  pub machine_calls : name ≢ codes "watch" → caller_of n name ≡ number_in n.machines name
+  pub other_pose : own_pose n machine name ≡ None → number_in n.poses name ≡ Some pose
+      → call_of n machine Pose name ≡ Some (SetPose pose)
+
 -- what these two laws say of a machine 4, of any plan and any names
 pub record LawsOfWords (n : Named) (name : Text) (c : Call) : Type 0 where
   pub claim : CallsAreToldAsRead → call_of n 4 Claim name ≡ Some c → call_text n c ≡ codes "claim " ++ name
@@ -93,6 +100,11 @@ pub record NamesAreInOrder (name : Text) (names : List Text) (number : ℕ) : Ty
   pub first : name_in (name ∷ names) 0 ≡ name
   pub next : name_in (name ∷ names) (suc number) ≡ name_in names number
   pub past : name_in [] number ≡ []
+
+-- a number that a name has is the number of this name, and each name has one
+pub record NamesHaveNumbers (names : List Text) (name : Text) (number : ℕ) : Type 0 where
+  pub of_it : number_in names name ≡ Some number → name_in names number ≡ name
+  pub found : number < length names → IsTrue (is_some (number_in names (name_in names number)))
 
 -- the text of a call about a zone or a pose with some number, and of what it is read
 pub record CallsByNumber (n : Named) (number : ℕ) : Type 0 where

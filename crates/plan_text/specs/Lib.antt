@@ -10,3 +10,4 @@ pub mod Script
 pub mod Examples
 pub mod WordExamples
 pub mod ScriptExamples
+pub mod ScriptLaws

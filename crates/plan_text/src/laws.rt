@@ -7,6 +7,12 @@ ghost use Rattle.plan_text.specs.Laws as laws;
 ghost use Rattle.plan_text.specs.Named.{Named};
 ghost use Rattle.plan_text.specs.Names.{Text};
 ghost use Rattle.plan_text.specs.ScriptExamples as scripts;
+ghost use Rattle.plan_text.specs.ScriptLaws as script_laws;
+ghost use Rattle.plan_text.specs.declared.calls.Verb.{Verb};
+ghost use Rattle.plan_text.specs.declared.request.Request.{Request};
+ghost use Rattle.plan_rules.specs.declared.state.State.{State};
+ghost use Rattle.csv_rows.specs.Rows.{Row};
+ghost use Rattle.csv_rows.specs.declared.script_end.ScriptFault.{ScriptFault};
 ghost use Rattle.plan_text.specs.WordExamples as words;
 
 /// These words tell the verbs, and the verbs are read of them.
@@ -29,10 +35,13 @@ pub fn words_are_taken()
     ensures { laws.WordsAreTaken }
 {}
 
-/// A machine that has a pose of some name means that one, also where another machine's pose has the name. And what this
-/// law and the one before the last say of one machine.
+/// A machine that has a pose of some name means that one, also where another machine's pose has the name; one that has
+/// none means another's. A name is that of the watch or of a machine. And what this law and the one before the last say
+/// of one machine.
 pub fn own_poses_come_first()
     ensures first { laws.OwnPosesComeFirst }
+    ensures others { (n : Named) (machine pose : ℕ) (name : Text)
+        → laws.OthersHaveNames n machine pose name }
     ensures of_one { (n : Named) (name : Text) (c : Call) → laws.LawsOfWords n name c }
 {}
 
@@ -40,8 +49,23 @@ pub fn own_poses_come_first()
 /// numbers.
 pub fn texts_are_by_number()
     ensures names { (name : Text) (names : List Text) (number : ℕ) → laws.NamesAreInOrder name names number }
+    ensures numbers { (names : List Text) (name : Text) (number : ℕ)
+        → laws.NamesHaveNumbers names name number }
     ensures calls { (n : Named) (number : ℕ) → laws.CallsByNumber n number }
     ensures answers { (n : Named) (number : ℕ) (posture : Posture) → laws.AnswersByNumber n number posture }
+{}
+
+/// The call in any record, the start in record 0, and the answers to any records, in the state that those before them have left, whatever their
+/// numbers; a script's answers are those to its records.
+pub fn records_are_answered()
+    ensures read { (n : Named) (machine : ℕ) (who word name : Text) (verb : Verb) (call : Call) (rest : Row)
+        → script_laws.RecordsAreRead n machine who word name verb call rest }
+    ensures answered { (n : Named) (done : ℕ) (s : State) (row : Row) (rows : List Row) (r : Request)
+        → script_laws.RecordsAreAnswered n done s row rows r }
+    ensures starts { (count : ℕ) (digits field : Text) (stamp : ℕ)
+        → script_laws.StartsAreOfDigits count digits field stamp }
+    ensures scripts { (n : Named) (s : State) (row : Row) (rows : List Row) (fault : ScriptFault)
+        (script : Text) → script_laws.ScriptsAreOfRecords n s row rows fault script }
 {}
 
 /// Examples: the whole text of each answer.

@@ -1,10 +1,13 @@
 use Rattle.std.proofs.Common.{◌≡◌, true, false, is_some, sym, ap, ◌∙◌}
 use Rattle.plan_text.specs.declared.calls.Verb.TheVariants.{Claim, Give, Yield, Take, Release, Inquire, Pose}
-use Rattle.plan_text.proofs.OwnPoses.{comes_first, is_found, is_own}
+use Rattle.plan_text.proofs.OwnPoses.{comes_first, is_found, is_own, others_named}
 use Rattle.plan_text.proofs.laws.own_poses_come_first.Goals as goal
 
 pub returns-clause-first : goal.returns-clause-first
 returns-clause-first c = record { first = comes_first; own = is_own; found = is_found }
+
+pub returns-clause-others : goal.returns-clause-others
+returns-clause-others c = others_named
 
 pub returns-clause-of_one : goal.returns-clause-of_one
 returns-clause-of_one c = λ n name call. record {

@@ -1,9 +1,13 @@
 use Rattle.std.proofs.Common.{ℕ, [], ◌∷◌, Option, option_map, refl, ap}
 use Rattle.plan_types.specs.declared.call.Call.TheVariants as call
+use Rattle.plan_text.proofs.OwnPoses.{names_numbered}
 use Rattle.plan_text.proofs.laws.texts_are_by_number.Goals as goal
 
 pub returns-clause-names : goal.returns-clause-names
 returns-clause-names c = λ name names number. record { first = refl; next = refl; past = refl }
+
+pub returns-clause-numbers : goal.returns-clause-numbers
+returns-clause-numbers c = names_numbered
 
 pub returns-clause-calls : goal.returns-clause-calls
 returns-clause-calls c = λ n number. record {
