@@ -47,9 +47,9 @@ pub fn runs_are_one<F1: Gauge, F2: Gauge, F3: Gauge, F4: Gauge, F5: Gauge>(
     ensures { RunsAreOne (cell_scales _cell.now) (cell_gauges _cell.now) }
 {}
 
-/// Each field of a record is told by the run's last state, whatever the schedule. A machine that hasn't
-/// stopped has had all the turns that the schedule gives it, and none has had more. The last state is
-/// safe. Another turn adds a step to a run, its events, its count and its frame.
+/// A run's last state tells each field of its record, whatever the schedule. A machine that hasn't
+/// stopped has had all the turns that the schedule gives it, and none has had more. Another turn adds
+/// a step to a run, its events, its count and its frame. Wherever a run has come, it is safe.
 pub fn runs_are_told<F1: Gauge, F2: Gauge, F3: Gauge, F4: Gauge, F5: Gauge>(
     _cell: &Cell<F1, F2, F3, F4, F5>,
 )
