@@ -4,3 +4,6 @@ pub mod After
 pub mod Rights
 pub mod Steps
 pub mod StateTold
+pub mod Doing
+pub mod Walking
+pub mod Completing

@@ -1,9 +1,9 @@
 -- What a row says of a word, field by field; and a word that is known by its fields.
-use Rattle.std.proofs.Common.{◌≡◌, ℕ, zero, suc, ◌+◌, ◌*◌, ◌/◌, ◌%◌, ◌<◌, ◌^◌, true, IsTrue, refl, sym, ap, ◌∙◌, subst, arith, eq-eqb, mod-eq_of_lt}
+use Rattle.std.proofs.Common.{◌≡◌, ℕ, zero, suc, ◌+◌, ◌-◌, ◌*◌, ◌/◌, ◌%◌, ◌<◌, ◌≤◌, ◌^◌, true, nat_eq, IsTrue, refl, sym, ap, ◌∙◌, subst, arith, eq-eqb, mod-eq_of_lt}
 use Rattle.std.specs.Prelude.{bit_and, bit_or}
 use Rattle.std.proofs.Math.Nat.{add-mul}
 use Rattle.std.proofs.lemmas.Bool.{eqb-true, lt-ltb}
-use Rattle.std.proofs.lemmas.Nat.{and_shr, and_mod, or_shr, or_mod, mod-pow-add, div-add-mod', mod_below, pow_pos}
+use Rattle.std.proofs.lemmas.Nat.{and_shr, and_mod, or_shr, or_mod, shr-shr, mod-pow-add, div-add-mod', mod_below, pow_pos}
 use Rattle.plan_types.specs.Table.{PlanTable, zone_count, place_count}
 use Rattle.plan_rules.specs.declared.state.State.{State}
 use Rattle.plan_rules.specs.State.{one_if}
@@ -16,7 +16,7 @@ use Rattle.plan_word.proofs.lemmas.Fields.{row}
 use Rattle.plan_compiled.specs.declared.part.Part.{Part}
 use Rattle.plan_compiled.specs.Rows.{matches, written, part_in}
 
-told_and : (c : Counts) (a b : ℕ) (f : Field) → told c (bit_and a b) f ≡ bit_and (told c a f) (told c b f)
+pub told_and : (c : Counts) (a b : ℕ) (f : Field) → told c (bit_and a b) f ≡ bit_and (told c a f) (told c b f)
 told_and c a b f = ap (λ m. m % 2 ^ bits_of f) (and_shr a b (start_of c f)) ∙ and_mod (a / 2 ^ start_of c f) (b / 2 ^ start_of c f) (bits_of f)
 
 told_or : (c : Counts) (a b : ℕ) (f : Field) → told c (bit_or a b) f ≡ bit_or (told c a f) (told c b f)
@@ -36,6 +36,14 @@ none_above n k e =
     let none : n / 2 ^ k * 2 ^ k ≡ 0 * 2 ^ k = ap (λ q. q * 2 ^ k) e in
     let rest = mod_below n (2 ^ k) (pow_pos k) in
     omega (arith, parts, none, rest)
+
+-- no bit is set above a width
+pub within_width : (n r width : ℕ) → r ≡ width → 21 ≤ width → nat_eq (n / 2 ^ (r - 1) / 2) 0 ≡ true → n < 2 ^ width
+within_width n r width is wide e =
+    let all : r - 1 + 1 ≡ width = omega arith in
+    let none : n / 2 ^ (r - 1) / 2 ^ 1 ≡ 0 = eqb-true (n / 2 ^ (r - 1) / 2) 0 e in
+    let none_of : n / 2 ^ (r - 1 + 1) ≡ 0 = sym (shr-shr n (r - 1) 1) ∙ none in
+    subst (λ k. n < 2 ^ k) all (none_above n (r - 1 + 1) none_of)
 
 -- the fields of a row are what a word has below the next one
 row_rest : (value start : ℕ → ℕ) (k w n : ℕ) → ((i : ℕ) → start (suc i) ≡ k + start i) → ((i : ℕ) → i < n → w / 2 ^ start i % 2 ^ k ≡ value i)

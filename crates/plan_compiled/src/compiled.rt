@@ -1,5 +1,5 @@
 //! A compiled plan: its rows, and calls by them.
-ghost use Rattle.std.specs.Prelude.{◌≡◌, ◌≢◌, ◌+◌, ◌≤◌, ◌↔◌, Some, IsNone, IsTrue, IfSome, IfOk};
+ghost use Rattle.std.specs.Prelude.{◌≡◌, ◌≢◌, ◌+◌, ◌<◌, ◌≤◌, ◌↔◌, Some, IsNone, IsSome, IsTrue, IfSome, IfOk};
 ghost use Rattle.std.specs.List.{All};
 ghost use Rattle.plan_types.specs.declared.answer.Answer.TheVariants.{Done};
 ghost use Rattle.plan_rules.specs.declared.state.State.{State};
@@ -10,9 +10,12 @@ ghost use Rattle.plan_word.specs.OfPlan.{IsOfPlan};
 ghost use Rattle.plan_word.specs.Packed.{packed};
 ghost use Rattle.plan_word.specs.Layout.{start_of};
 ghost use Rattle.plan_word.specs.declared.layout.Field.TheVariants.{Stamp};
+ghost use Rattle.plan_compiled.specs.Complete.{HasRow, IsComplete};
 ghost use Rattle.plan_compiled.specs.Rows.{IsRight};
 
 use crate::drafts::draft;
+use crate::every_row::has_every_row;
+use crate::finding::{SLOTS_OF_ALL, row_for, slot};
 use crate::needs::may_ask;
 use crate::right::{Asked, row_of};
 use crate::row::Row;
@@ -26,33 +29,8 @@ use std::marker::Model;
 /// The calls about a zone, in the order of their rows.
 const ZONE_CALLS: u8 = 5;
 
-/// How many slots a machine has: 16 for each call about a zone, 64 for poses, and one for a stop and for a resume.
-const SLOTS: usize = 146;
-
 /// How many machines have slots, with the watch.
 const CALLERS: u8 = 16;
-
-/// How many slots there are.
-pub const SLOTS_OF_ALL: usize = SLOTS * 16;
-
-/// The most rows of a call.
-const MOST_ROWS: u8 = 16;
-
-/// Where `starts` says where a call's rows begin.
-#[inline(always)]
-pub fn slot(machine: u8, call: Call) -> usize {
-    let own = match call {
-        Call::Claim(zone) => usize::from(zone),
-        Call::Give(zone) => 16 + usize::from(zone),
-        Call::Yield(zone) => 32 + usize::from(zone),
-        Call::Take(zone) => 48 + usize::from(zone),
-        Call::Release(zone) => 64 + usize::from(zone),
-        Call::SetPose(pose) => 80 + usize::from(pose),
-        Call::Stop => 144,
-        Call::Resume | Call::Inquire(_) => 145,
-    };
-    SLOTS * usize::from(machine) + own
-}
 
 /// A call about a zone by its number in `ZONE_CALLS`.
 fn zone_call(number: u8, zone: u8) -> Call {
@@ -338,38 +316,43 @@ impl Compiled {
     /// The word after a call that is done, found by the call's rows: `None` if none of them is as the word needs it.
     #[inline(always)]
     fn done_word(&self, word: u64, machine: u8, call: Call) -> Option<u64>
-        ensures { (state : State) → IsOfPlan self.now.table state → packed self.now.table state ≡ word
+        ensures done { (state : State) → IsOfPlan self.now.table state
+            → packed self.now.table state ≡ word
             → IfSome result (λ new. (reply self.now.table state machine call ≡ Done)
             × (new ≡ packed self.now.table (next self.now.table state machine call))) }
+        ensures found { (state : State) → IsOfPlan self.now.table state
+            → packed self.now.table state ≡ word → state.stamp < last_stamp
+            → HasRow self.now.rows self.now.starts word machine call → IsSome result }
     {
         let stamp = (word >> self.stamp_bit) % (1 << 20);
-        let at = slot(machine, call);
-        if stamp >= u64::from(LAST_STAMP) || at >= self.starts.len() {
+        if stamp >= u64::from(LAST_STAMP) {
             return None;
         }
-        let first = usize::from(self.starts[at]);
-        for tried in 0..MOST_ROWS {
-            let index = first + usize::from(tried);
-            if index >= self.rows.len() {
-                return None;
-            }
-            let row = &self.rows[index];
-            if !row.is_for(machine, call) {
-                return None;
-            }
-            if row.part.matches(word) {
-                return Some(row.part.written(word).wrapping_add(1 << self.stamp_bit));
-            }
-        }
-        None
+        let Some(index) = row_for(&self.rows, &self.starts, word, machine, call) else {
+            return None;
+        };
+        let part = self.rows[index].part;
+        Some(part.written(word).wrapping_add(1 << self.stamp_bit))
     }
 
     /// Whether a row answers a call on a word, so that it is done at once.
     pub fn has_row(&self, word: u64, machine: u8, call: Call) -> bool
-        ensures { (state : State) → IsOfPlan self.now.table state → packed self.now.table state ≡ word
+        ensures done { (state : State) → IsOfPlan self.now.table state
+            → packed self.now.table state ≡ word
             → IsTrue result → reply self.now.table state machine call ≡ Done }
+        ensures found { (state : State) → IsOfPlan self.now.table state
+            → packed self.now.table state ≡ word → state.stamp < last_stamp
+            → HasRow self.now.rows self.now.starts word machine call → IsTrue result }
     {
         self.done_word(word, machine, call).is_some()
+    }
+
+    /// Whether each call that is done, in each state of the plan with a stamp left, has its row. Says no also if a pose
+    /// opens two zones inward.
+    pub fn is_complete(&self) -> bool
+        ensures { IsTrue result → IsComplete self.now.table self.now.rows self.now.starts }
+    {
+        has_every_row(&self.plan, &self.layout, &self.rows, &self.starts)
     }
 
     #[inline(never)]

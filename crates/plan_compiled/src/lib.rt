@@ -2,13 +2,19 @@
 #![tactic(auto)]
 
 mod compiled;
+mod covering;
 mod drafts;
+mod every_row;
+mod finding;
 mod needs;
 mod part;
 mod right;
 mod row;
+#[cfg(test)]
+mod tests;
 mod told;
 
-pub use compiled::{Compiled, SLOTS_OF_ALL, slot};
+pub use compiled::Compiled;
+pub use finding::{SLOTS_OF_ALL, slot};
 pub use part::Part;
 pub use row::Row;

@@ -1,6 +1,6 @@
 //! Rows of a compiled plan.
 
-ghost use Rattle.std.specs.Prelude.{◌≡◌, IsTrue};
+ghost use Rattle.std.specs.Prelude.{◌≡◌, ◌↔◌, IsTrue};
 
 use crate::part::Part;
 use plan_types::Call;
@@ -18,7 +18,7 @@ pub struct Row {
 
 #[inline(always)]
 fn is_same(one: Call, other: Call) -> bool
-    ensures { IsTrue result → one ≡ other }
+    ensures { IsTrue result ↔ one ≡ other }
 {
     match (one, other) {
         (Call::Claim(one), Call::Claim(other))
@@ -26,7 +26,8 @@ fn is_same(one: Call, other: Call) -> bool
         | (Call::Yield(one), Call::Yield(other))
         | (Call::Take(one), Call::Take(other))
         | (Call::Release(one), Call::Release(other))
-        | (Call::SetPose(one), Call::SetPose(other)) => one == other,
+        | (Call::SetPose(one), Call::SetPose(other))
+        | (Call::Inquire(one), Call::Inquire(other)) => one == other,
         (Call::Stop, Call::Stop) | (Call::Resume, Call::Resume) => true,
         _ => false,
     }
@@ -36,7 +37,7 @@ impl Row {
     /// Whether this is a row of a machine's call.
     #[inline(always)]
     pub(crate) fn is_for(&self, machine: u8, call: Call) -> bool
-        ensures { IsTrue result → (self.now.machine ≡ machine) × (self.now.call ≡ call) }
+        ensures { IsTrue result ↔ ((self.now.machine ≡ machine) × (self.now.call ≡ call)) }
     {
         self.machine == machine && is_same(self.call, call)
     }

@@ -1,21 +1,31 @@
-use Rattle.std.proofs.Common.{◌≡◌, ℕ, ◌+◌, ◌*◌, ◌/◌, ◌%◌, ◌<◌, ◌^◌, sym, ◌∙◌, subst, arith, ap}
+use Rattle.std.proofs.Common.{◌≡◌, ℕ, ◌+◌, ◌*◌, ◌/◌, ◌%◌, ◌<◌, ◌≤◌, ◌^◌, Option, None, ap, subst, arith}
+use Rattle.std.specs.Prelude.{IsSome}
 use Rattle.plan_types.specs.Table.{PlanTable}
 use Rattle.plan_rules.specs.declared.state.State.{State}
 use Rattle.plan_word.specs.OfPlan.{IsOfPlan}
 use Rattle.plan_word.specs.Packed.{packed}
-use Rattle.plan_compiled.specs.Rows.{CompiledPlan, IsRight}
-use Rattle.plan_compiled.proofs.Steps.{Stepped, stepped}
+use Rattle.plan_compiled.specs.Rows.{CompiledPlan}
+use Rattle.plan_compiled.specs.Complete.{HasRow}
+use Rattle.plan_compiled.proofs.Steps.{Stepped, stepped, stamp_told, row_found}
 use Rattle.plan_compiled.proofs.compiled.Compiled.done_word.Goals as goal
 
-pub returns-then-matches : goal.returns-then-matches
-returns-then-matches c =
-    let row = c.index-row.result.now in
+pub returns-then-stamp-from-clause-found : goal.returns-then-stamp-from-clause-found
+returns-then-stamp-from-clause-found c =
     let inside = c.self.inside in
     let w = c.args.word in
-    let right = subst (IsRight inside.plan) (sym c.index-row.ensures) (c.self.invariant.rows_are_right _ row (omega arith)) in
+    let nothing : Option ℕ = None in
+    let high : 1048575 ≤ w / 2 ^ inside.stamp_bit % 2 ^ 20 = omega (arith, c.if-stamp-from.true, c.from.ensures) in
+    subst (λ (k : CompiledPlan). (s : State) → IsOfPlan k.table s → packed k.table s ≡ w → s.stamp < 1048575 → HasRow k.rows k.starts w c.args.machine c.args.call → IsSome nothing) c.self.view_is
+    (λ s o e l h. let is = stamp_told inside.plan s inside.stamp_bit w o e c.self.invariant.stamp_bit_is in absurd (omega (arith, is, high, l)))
+
+pub returns-clause-done : goal.returns-clause-done
+returns-clause-done c =
+    let inside = c.self.inside in
+    let w = c.args.word in
+    let row = c.index.result.now in
+    let found = row_found inside.plan inside.rows.items c.deref.result.now c.in-Some.index c.args.machine c.args.call w row c.deref.ensures.value c.self.invariant.rows_are_right c.in-Some.ensures.own c.in-Some.ensures.is_met c.index.ensures in
     let fresh : w / 2 ^ inside.stamp_bit % 2 ^ 20 < 1048575 = omega (arith, c.if-stamp-from.false, c.from.ensures) in
-    let is = c.is_for.ensures c.if-not-is_for.false in
     let x : ℕ = (c.written.result + (1 * 2 ^ inside.stamp_bit) % 2 ^ 64) % 2 ^ 64 in
     subst (λ (t : PlanTable). (s : State) → IsOfPlan t s → packed t s ≡ w → Stepped t s c.args.machine c.args.call x) (ap (λ (k : CompiledPlan). k.table) c.self.view_is)
-    (λ s o e. stepped inside.plan row c.args.machine c.args.call inside.stamp_bit w c.written.result s c.self.invariant.plan right is.0 is.1 o e
-    (sym c.matches.ensures ∙ c.if-matches.true) c.self.invariant.stamp_bit_is c.self.invariant.stamp_in_word fresh c.written.ensures)
+    (λ s o e. stepped inside.plan row c.args.machine c.args.call inside.stamp_bit w c.written.result s c.self.invariant.plan found.right found.machine found.call_is o e found.is_met
+    c.self.invariant.stamp_bit_is c.self.invariant.stamp_in_word fresh c.written.ensures)

@@ -1,0 +1,18 @@
+use Rattle.std.proofs.Common.{◌<◌, subst, arith}
+use Rattle.plan_types.specs.Table.{zone_count}
+use Rattle.plan_word.specs.declared.layout.Field.TheVariants.{Zone}
+use Rattle.plan_word.specs.Layout.{Counts}
+use Rattle.plan_compiled.specs.Complete.{Steps}
+use Rattle.plan_compiled.proofs.Walking.{leave_zone}
+use Rattle.plan_compiled.proofs.covering.after_zones.Goals as goal
+
+pub loop-zone-preserved : goal.loop-zone-preserved
+loop-zone-preserved c =
+    let t = c.args.plan.now in
+    let a = c.args.asked in
+    let rows = c.args.rows.now in
+    let span = c.args.span in
+    let n = c.loop-zone.zone in
+    let there : n < zone_count t = omega (arith, c.loop-zone-test.true, c.zone_count-zone-end.ensures.count) in
+    leave_zone t a rows span c.loop-zone.sets c.after_field.new.sets c.loop-zone.zone 0 c.loop-zone.invariant there
+    (subst (λ (k : Counts). Steps t a k rows span (Zone n) c.loop-zone.sets c.after_field.new.sets) c.requires.layout c.after_field.ensures)

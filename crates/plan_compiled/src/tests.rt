@@ -1,0 +1,193 @@
+//! Random calls on words, by rows and by unpacking.
+
+use crate::{Compiled, SLOTS_OF_ALL, slot};
+use plan_rules::State;
+use plan_types::{Answer, Call, Plan, Tables, WATCH, examples, read_tables};
+use plan_word::{pack, step_word};
+use std::alloc::Global;
+
+/// A junction: three machines, two zones and no places.
+const JUNCTION: [u8; 56] = [
+    3, 2, 3, 0, 0, 1, 0, 0, 0, 0, 0, 0, 0, 2, 0, 0, 0, 0, 0, 0, 0, 0, 2, 2, 0, 0, 0, 0, 0, 0, 0, 0,
+    0, 1, 3, 1, 0, 0, 0, 0, 0, 0, 0, 0, 0, 1, 1, 3, 0, 0, 0, 0, 0, 0, 0, 0,
+];
+
+/// Two presses with one rack.
+const TWO_PRESSES: [u8; 140] = [
+    4, 3, 9, 4, 0, 1, 0, 0, 0, 0, 0, 0, 2, 0, 1, 0, 2, 1, 2, 0, 3, 1, 1, 1, 3, 1, 3, 1, 0, 0, 3, 0,
+    0, 0, 0, 0, 0, 0, 0, 0, 2, 0, 0, 2, 0, 0, 0, 0, 0, 0, 0, 0, 2, 1, 0, 3, 0, 0, 0, 0, 0, 0, 0, 0,
+    2, 1, 0, 1, 0, 0, 0, 0, 0, 0, 0, 0, 2, 1, 0, 4, 0, 0, 0, 0, 0, 0, 0, 0, 3, 0, 0, 0, 2, 0, 0, 0,
+    0, 0, 0, 0, 3, 1, 0, 0, 3, 0, 0, 0, 0, 0, 0, 0, 3, 1, 0, 0, 1, 0, 0, 0, 0, 0, 0, 0, 3, 1, 0, 0,
+    4, 0, 0, 0, 0, 0, 0, 0, 0, 1, 2, 3,
+];
+
+/// The cell: six machines, six zones and seven places.
+const CELL: [u8; 239] = [
+    6, 6, 15, 7, 1, 0, 1, 0, 1, 0, 0, 0, 1, 2, 0, 0, 0, 1, 1, 2, 3, 2, 1, 2, 4, 1, 4, 3, 4, 2, 1,
+    3, 5, 0, 0, 0, 4, 5, 0, 0, 0, 1, 5, 6, 0, 5, 1, 6, 0, 0, 0, 0, 0, 0, 0, 0, 0, 0, 0, 2, 0, 0, 0,
+    0, 0, 0, 0, 0, 0, 0, 0, 3, 0, 0, 0, 0, 0, 0, 0, 0, 0, 0, 0, 1, 0, 0, 0, 0, 1, 0, 2, 2, 0, 0, 0,
+    0, 0, 0, 0, 0, 1, 1, 3, 1, 0, 0, 0, 0, 0, 0, 0, 0, 1, 1, 1, 4, 0, 0, 0, 0, 0, 0, 0, 0, 3, 0, 0,
+    0, 2, 0, 0, 0, 0, 0, 0, 0, 3, 1, 0, 0, 3, 0, 0, 0, 0, 0, 0, 0, 3, 1, 0, 0, 4, 0, 0, 0, 0, 0, 0,
+    0, 3, 1, 0, 0, 1, 0, 0, 0, 0, 0, 0, 0, 4, 0, 0, 0, 0, 2, 2, 0, 0, 0, 0, 0, 4, 0, 0, 0, 0, 3, 1,
+    0, 0, 0, 0, 0, 4, 0, 0, 0, 0, 1, 4, 0, 0, 0, 0, 0, 4, 0, 0, 0, 0, 3, 4, 0, 0, 0, 0, 0, 4, 0, 0,
+    0, 0, 1, 1, 0, 0, 0, 0, 0, 0, 1, 2, 2, 3, 4, 5,
+];
+
+/// How many random calls are made by each plan.
+const CALLS: u32 = 3_000;
+
+/// What a walk of random calls has found.
+#[derive(Clone, Copy, Debug, PartialEq, Eq)]
+struct Found {
+    done: u32,
+    by_rows: u32,
+    wrong: u32,
+}
+
+/// The next number of a row of random ones.
+fn next(seed: u64) -> u64 {
+    let seed = seed ^ seed << 13;
+    let seed = seed ^ seed >> 7;
+    seed ^ seed << 17
+}
+
+fn start_of(plan: &Compiled, seed: u64) -> u64 {
+    let mut full = [false; 16];
+    for place in 0..plan.plan().place_count() {
+        full[usize::from(place & 15)] = seed >> (20 + u32::from(place & 15)) & 1 == 1;
+    }
+    pack(plan.plan(), plan.layout(), &State::start(full, 7))
+}
+
+fn call_of(number: u64, zone: u8, pose: u8) -> Call {
+    match number % 9 {
+        0 => Call::Claim(zone),
+        1 => Call::Give(zone),
+        2 => Call::Yield(zone),
+        3 => Call::Take(zone),
+        4 => Call::Release(zone),
+        5 | 6 => Call::SetPose(pose),
+        7 if number & 0x700 == 0 => Call::Stop,
+        7 => Call::Resume,
+        _ => Call::Inquire(zone),
+    }
+}
+
+/// A machine of the plan, or the watch, and its call.
+fn asked_of(plan: &Plan, seed: u64) -> (u8, Call) {
+    let number = (seed >> 8) % (u64::from(plan.machines()) + 1);
+    let machine = if number == u64::from(plan.machines()) {
+        WATCH
+    } else {
+        number as u8
+    };
+    let zone = ((seed >> 16) % (u64::from(plan.zone_count()) + 1)) as u8;
+    (
+        machine,
+        call_of(seed >> 32, zone, ((seed >> 24) % 16) as u8),
+    )
+}
+
+/// Makes random calls, one of 64 on a word with a bit turned over, by rows and by unpacking.
+fn walk(plan: &Compiled) -> Found {
+    let mut found = Found {
+        done: 0,
+        by_rows: 0,
+        wrong: 0,
+    };
+    let mut seed = 88_172_645_463_325_252;
+    let mut word = 0;
+    for turn in 0..CALLS {
+        seed = next(seed);
+        if turn % 500 == 0 {
+            word = start_of(plan, seed);
+        }
+        let (machine, call) = asked_of(plan.plan(), seed);
+        let turned = if seed >> 50 & 63 == 0 {
+            1 << (seed >> 56 & 63)
+        } else {
+            0
+        };
+        let asked = word ^ turned;
+        let stepped = plan.step_word(asked, machine, call);
+        if stepped != step_word(plan.plan(), plan.layout(), asked, machine, call) {
+            found.wrong = found.wrong.wrapping_add(1);
+        }
+        if let Some((Answer::Done, new)) = stepped {
+            found.done = found.done.wrapping_add(1);
+            if plan.has_row(asked, machine, call) {
+                found.by_rows = found.by_rows.wrapping_add(1);
+            }
+            if turned == 0 {
+                word = new;
+            }
+        }
+    }
+    found
+}
+
+/// Whether rows and unpacking answer alike on random words, and each call that is done has its row.
+fn is_walked(plan: &Compiled) -> bool {
+    let found = walk(plan);
+    found.wrong == 0 && found.done > 50 && found.by_rows == found.done
+}
+
+fn compiled(alloc: Global, tables: Tables) -> Option<Compiled> {
+    Compiled::new(alloc, Plan::new(tables).ok()?).ok()
+}
+
+fn of_bytes(alloc: Global, bytes: &[u8]) -> Option<Compiled> {
+    compiled(alloc, read_tables(alloc, bytes).ok()??)
+}
+
+#[test]
+fn a_press_claims_by_a_row(rt: HostRuntime) {
+    let tables = examples::press(rt.alloc()).expect(&rt, "memory");
+    let plan = Plan::new(tables).expect(&rt, "a plan");
+    let compiled = Compiled::new(rt.alloc(), plan).expect(&rt, "memory");
+    assert!(rt; compiled.is_complete());
+    let mut full = [false; 16];
+    full[0] = true;
+    let word = pack(compiled.plan(), compiled.layout(), &State::start(full, 0));
+    assert!(rt; compiled.has_row(word, 1, Call::Claim(0)));
+    assert!(rt; compiled.step_word(word, 1, Call::Claim(0)) == Some((Answer::Done, 0xA1)));
+}
+
+#[test]
+fn a_press_is_complete(rt: HostRuntime) {
+    let tables = examples::press(rt.alloc()).expect(&rt, "memory");
+    let plan = compiled(rt.alloc(), tables).expect(&rt, "a plan");
+    assert!(rt; plan.is_complete(), "complete");
+    assert!(rt; is_walked(&plan), "walked");
+    assert!(rt; plan.starts().len() == SLOTS_OF_ALL);
+    assert!(rt; plan.rows().len() > usize::from(plan.starts()[slot(1, Call::SetPose(3))]));
+}
+
+#[test]
+fn a_lift_is_complete(rt: HostRuntime) {
+    let tables = examples::lift(rt.alloc()).expect(&rt, "memory");
+    let plan = compiled(rt.alloc(), tables).expect(&rt, "a plan");
+    assert!(rt; plan.is_complete(), "complete");
+    assert!(rt; is_walked(&plan), "walked");
+}
+
+#[test]
+fn a_junction_is_complete(rt: HostRuntime) {
+    let plan = of_bytes(rt.alloc(), &JUNCTION).expect(&rt, "a plan");
+    assert!(rt; plan.is_complete(), "complete");
+    assert!(rt; is_walked(&plan), "walked");
+}
+
+#[test]
+fn two_presses_are_complete(rt: HostRuntime) {
+    let plan = of_bytes(rt.alloc(), &TWO_PRESSES).expect(&rt, "a plan");
+    assert!(rt; plan.is_complete(), "complete");
+    assert!(rt; is_walked(&plan), "walked");
+}
+
+#[test]
+fn the_cell_is_complete(rt: HostRuntime) {
+    let plan = of_bytes(rt.alloc(), &CELL).expect(&rt, "a plan");
+    assert!(rt; plan.is_complete(), "complete");
+    assert!(rt; is_walked(&plan), "walked");
+}
