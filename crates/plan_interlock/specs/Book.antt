@@ -16,7 +16,7 @@ use Rattle.plan_interlock.specs.declared.rules.PlanRules.{PlanRules}
 
 -- the plan of some rules
 abbrev pub plan_of : PlanRules → PlanTable
-plan_of rules = rules.plan
+plan_of rules = rules.plan.table
 
 -- the machines of a plan, which has at most 15, and the watch
 abbrev pub callers_of : PlanTable → List ℕ

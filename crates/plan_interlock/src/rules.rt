@@ -1,36 +1,35 @@
 //! The rules of a plant.
-ghost use Rattle.std.specs.Prelude.{◌≡◌};
-ghost use Rattle.plan_word.specs.Layout.{counts_of};
+ghost use Rattle.std.specs.Prelude.{◌≡◌, IfOk};
 
+use plan_compiled::Compiled;
 use plan_rules::State;
 use plan_types::{Answer, Call, Event, Plan};
-use plan_word::{Layout, pack, stamp_of, step_word, unpack};
+use plan_word::{pack, stamp_of, unpack};
+use std::alloc::{AllocError, Global};
 use word_interlock::Rules;
 
-/// The rules of a plant: its plan, and the layout of the plan's word.
+/// The rules of a plant: its plan, compiled.
 #[derive(Drop)]
 pub struct PlanRules {
-    plan: Plan,
-    layout: Layout,
-    ghost own: { layout ≡ counts_of plan },
+    plan: Compiled,
 }
 
 impl PlanRules {
     ghost use Rattle.plan_interlock.specs.Book.{plan_of};
 
     /// The rules by a plan.
-    pub fn new(plan: Plan) -> PlanRules
-        ensures { plan_of result ≡ plan }
+    pub fn new(alloc: Global, plan: Plan) -> Result<PlanRules, AllocError>
+        ensures { IfOk result (λ rules. plan_of rules ≡ plan) }
     {
-        let layout = Layout::of(&plan);
-        PlanRules { plan, layout }
+        let plan = Compiled::new(alloc, plan)?;
+        Ok(PlanRules { plan })
     }
 
     /// The plan.
     pub fn plan(&self) -> &Plan
         ensures { result.now ≡ plan_of self.now }
     {
-        &self.plan
+        self.plan.plan()
     }
 }
 
@@ -48,13 +47,10 @@ impl Rules for PlanRules {
 
     type Event = Event;
 
-    ghost book = { λ rules. plan_book rules.plan };
+    ghost book = { λ rules. plan_book rules.plan.table };
 
     fn step(&self, word: u64, actor: u8, call: Call) -> (Answer, u64) {
-        let Some(stepped) = step_word(&self.plan, &self.layout, word, actor, call) else {
-            unreachable!()
-        };
-        stepped
+        self.plan.step_sound(word, actor, call)
     }
 
     fn is_done(&self, answer: Answer) -> bool {
@@ -62,19 +58,19 @@ impl Rules for PlanRules {
     }
 
     fn stamp_of(&self, word: u64) -> u32 {
-        stamp_of(&self.layout, word)
+        stamp_of(self.plan.layout(), word)
     }
 
     fn pack(&self, state: &State) -> u64 {
-        pack(&self.plan, &self.layout, state)
+        pack(self.plan.plan(), self.plan.layout(), state)
     }
 
     fn unpack(&self, word: u64) -> State {
-        let Some(state) = unpack(&self.plan, &self.layout, word) else {
+        let Some(state) = unpack(self.plan.plan(), self.plan.layout(), word) else {
             unreachable!()
         };
         state
     }
 
-    ghost lawful = { λ rules. plan_is_rule_book rules.plan };
+    ghost lawful = { λ rules. plan_is_rule_book rules.plan.table };
 }
