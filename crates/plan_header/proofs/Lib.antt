@@ -1,3 +1,4 @@
 pub mod lemmas
 mod HeaderRows
+mod HeadersTold
 mod ModuleRows

@@ -1,5 +1,6 @@
 pub mod Words
 pub mod Headers
+pub mod HeaderLaws
 pub mod Modules
 pub mod HeaderExamples
 pub mod ModuleExamples

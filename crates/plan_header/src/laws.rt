@@ -1,12 +1,19 @@
 //! Laws of what is printed, each the contract of a function that does nothing.
 
 ghost use Rattle.plan_header.specs.HeaderExamples.{CapitalsAreMade, HeaderLines, MaskLines, PartyLines, WholeHeaders};
+ghost use Rattle.plan_header.specs.HeaderLaws.{HeadersTell};
 ghost use Rattle.plan_header.specs.ModuleExamples.{ModuleLines, WholeModules};
 
 /// Examples: lines of the header of a lift, whole; and names in capitals.
 pub fn header_lines_are_met()
     ensures lines { HeaderLines }
     ensures capitals { CapitalsAreMade }
+{}
+
+/// Each line of a header, for all names, numbers and bytes: the numbers of names, the machines of zones, places and
+/// poses, the bits of fields, and the bytes, eight in a line.
+pub fn headers_tell()
+    ensures { HeadersTell }
 {}
 
 /// Examples: lines of headers where hosts, keepers and the machines of poses differ.

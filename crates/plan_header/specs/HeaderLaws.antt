@@ -1,0 +1,81 @@
+-- What each line of a header says, for all names, numbers and bytes: in the plan's own words.
+use Rattle.std.specs.Prelude.{◌≡◌, ◌<◌, ℕ, ◌+◌, ◌*◌, List, ◌++◌, codes, flat_map, get_or, length}
+use Rattle.std.specs.Fmt.{decimal}
+use Rattle.std.specs.List.{range_with_len}
+use Rattle.plan_types.specs.Table.{guest_of, host_of, keeper_of, machine_of, place_count, zone_count}
+use Rattle.plan_types.specs.Bytes.{bytes_of}
+use Rattle.plan_text.specs.Names.{Text, name_in}
+use Rattle.plan_text.specs.Named.{Named}
+use Rattle.plan_header.specs.Headers as header
+use Rattle.plan_header.specs.Words.{capitals}
+
+-- a name in capitals, and what stands for it
+abbrev pub stands : Text → Text → Text
+stands name meaning = codes "#define PLAN_" ++ (capitals name ++ (codes " " ++ (meaning ++ codes "\n")))
+
+-- a machine, by its number
+abbrev pub machine : Named → ℕ → Text
+machine n number = codes "PLAN_MACHINE_" ++ capitals (name_in n.machines number)
+
+-- a text for each number below a limit, one after another
+abbrev pub for_each : ℕ → (ℕ → Text) → Text
+for_each limit text_of = flat_map text_of (range_with_len 0 limit)
+
+-- the numbers of names, and the machines of zones, places and poses
+pub record NumbersAreTold : Type 0 where
+  pub one : (kind : Text) (names : List Text) (k : ℕ)
+      → header.number_line kind names k ≡ stands (kind ++ (codes "_" ++ name_in names k)) (decimal k)
+  pub all : (kind : Text) (names : List Text)
+      → header.number_lines kind names
+      ≡ for_each (length names) (λ k. stands (kind ++ (codes "_" ++ name_in names k)) (decimal k))
+      ++ stands (kind ++ codes "s") (decimal (length names))
+  pub pose : (n : Named) (k : ℕ)
+      → header.pose_line n k
+      ≡ stands (codes "pose_" ++ (name_in n.machines (machine_of n.plan k) ++ (codes "_" ++ name_in n.poses k)))
+      (decimal k)
+  pub poses : (n : Named)
+      → header.pose_lines n
+      ≡ for_each (length n.poses) (header.pose_line n) ++ stands (codes "poses") (decimal (length n.poses))
+  pub host_and_guest : (n : Named) (k : ℕ)
+      → header.zone_parties n k
+      ≡ stands (codes "host_of_" ++ name_in n.zones k) (machine n (host_of n.plan k))
+      ++ stands (codes "guest_of_" ++ name_in n.zones k) (machine n (guest_of n.plan k))
+  pub keeper : (n : Named) (k : ℕ)
+      → header.keeper_line n k
+      ≡ stands (codes "keeper_of_" ++ name_in n.places k) (machine n (keeper_of n.plan k))
+  pub parties : (n : Named)
+      → header.party_lines n
+      ≡ for_each (length n.zones) (header.zone_parties n) ++ for_each (length n.places) (header.keeper_line n)
+
+-- the lowest bits: five for each zone, one for each place, twenty for the stamp, and one for the stop
+pub record BitsAreTold : Type 0 where
+  pub zone : (n : Named) (k : ℕ) → k < zone_count n.plan
+      → header.zone_bit n k ≡ stands (codes "bit_zone_" ++ name_in n.zones k) (decimal (5 * k))
+  pub place : (n : Named) (k : ℕ) → k < place_count n.plan
+      → header.place_bit n k
+      ≡ stands (codes "bit_place_" ++ name_in n.places k) (decimal (5 * zone_count n.plan + k))
+  pub last : (n : Named)
+      → header.last_bits n
+      ≡ stands (codes "bit_stamp") (decimal (5 * zone_count n.plan + place_count n.plan))
+      ++ stands (codes "bit_stop") (decimal (5 * zone_count n.plan + place_count n.plan + 20))
+  pub all : (n : Named)
+      → header.bit_lines n
+      ≡ for_each (length n.zones) (header.zone_bit n)
+      ++ (for_each (length n.places) (header.place_bit n) ++ header.last_bits n)
+  pub width : (n : Named)
+      → header.width_line n ≡ stands (codes "bits") (decimal (5 * zone_count n.plan + place_count n.plan + 21))
+
+-- the plan's bytes: a line feed before the first of each eight, a blank before each other one
+pub record BytesAreTold : Type 0 where
+  pub line_feed : (bytes : List ℕ) (line : ℕ)
+      → header.byte_word bytes (8 * line) ≡ codes "\n    " ++ (decimal (get_or bytes (8 * line) 0) ++ codes ",")
+  pub blank : (bytes : List ℕ) (line k : ℕ) → k < 7
+      → header.byte_word bytes (8 * line + k + 1)
+      ≡ codes " " ++ (decimal (get_or bytes (8 * line + k + 1) 0) ++ codes ",")
+  pub all : (bytes : List ℕ) → header.byte_words bytes ≡ for_each (length bytes) (header.byte_word bytes)
+  pub of_plan : (n : Named) → header.bytes_part n ≡ header.table_text (bytes_of n.plan)
+
+pub record HeadersTell : Type 0 where
+  pub numbers : NumbersAreTold
+  pub bits : BitsAreTold
+  pub bytes : BytesAreTold
