@@ -22,7 +22,7 @@ use crate::row::Row;
 use crate::told::{Ends, are_sound, table_of};
 use plan_rules::LAST_STAMP;
 use plan_types::{Answer, Call, Plan, Posture, WATCH};
-use plan_word::{Layout, step_word};
+use plan_word::{Layout, step_sound, step_word};
 use std::alloc::{AllocError, Global};
 use std::marker::Model;
 
@@ -364,10 +364,7 @@ impl Compiled {
               packed self.now.table (next self.now.table state machine call),
             ) }
     {
-        let Some(stepped) = step_word(&self.plan, &self.layout, word, machine, call) else {
-            unreachable!()
-        };
-        stepped
+        step_sound(&self.plan, &self.layout, word, machine, call)
     }
 
     /// Makes a call on the word of a state of the plan. Returns the interlock's answer and the word of the state after
