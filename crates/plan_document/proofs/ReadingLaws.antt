@@ -2,11 +2,10 @@
 use Rattle.std.proofs.Common.{◌≡◌, ◌∙◌, ◌∷◌, Bool, Some, List, ap, refl, subst, sym}
 use Rattle.std.proofs.lemmas.Slice.Zip.{AllZip-long}
 use Rattle.std.specs.List.{AllZip}
-use Rattle.toml.specs.Data.{Data, Items, Members}
-use Rattle.plan_text.specs.Names.{Text}
+use Rattle.toml.specs.Data.{Data, Items}
 use Rattle.plan_document.specs.declared.document.PostureRow.{PostureRow}
 use Rattle.plan_document.specs.declared.document.WayRow.{WayRow}
-use Rattle.plan_document.specs.Reading.{HasRows, items_at, list_of}
+use Rattle.plan_document.specs.Reading.{list_of}
 use Rattle.plan_document.specs.ReadingLaws.{ItemsAreRows, ListsHaveItems, PosturesAreWritten, ValuesAreWritten}
 use Rattle.plan_document.proofs.PlanLaws.{zipped}
 

@@ -1,14 +1,12 @@
 -- How many rows a plan has, which names they have, and which calls its programs have.
-use Rattle.std.proofs.Common.{◌≡◌, ◌∙◌, ◌+◌, ◌<◌, ◌++◌, ◌∷◌, [], ℕ, Bool, true, false, ◌&&◌, not, List, codes, length, map, get_or, replicate, sum, refl, sym, ap, subst, arith, string_bytes}
+use Rattle.std.proofs.Common.{◌≡◌, ◌∙◌, ◌+◌, ◌<◌, ◌++◌, ◌∷◌, [], ℕ, Bool, true, false, not, List, length, map, get_or, replicate, sum, refl, sym, ap, subst, arith, string_bytes}
 use Rattle.std.proofs.Common.{Option, Some, None, is_some, option_map}
-use Rattle.std.proofs.lemmas.List.{get_or_append_left, length-append, length-map, length-replicate, map-append}
+use Rattle.std.proofs.lemmas.List.{length-append, length-map, length-replicate, map-append}
 use Rattle.std.proofs.lemmas.List.Folds.{list_all_at}
 use Rattle.std.proofs.lemmas.List.FromFn.{length-enumerate_from}
 use Rattle.std.proofs.lemmas.List.Sums.{sum-map, sum_by-cons}
 use Rattle.std.proofs.lemmas.Slice.Zip.{AllZip-long}
 use Rattle.std.specs.List.{AllZip, enumerate_from, flat_map, list_all, sum_by}
-use Rattle.std.specs.Prelude.{String}
-use Rattle.std.specs.declared.alloc.Global.{Global}
 use Rattle.plan_types.specs.declared.call.Call.{Call}
 use Rattle.plan_types.specs.declared.call.Call.TheVariants.{SetPose}
 use Rattle.plan_text.specs.Calls.{call_text, own_pose, words}
@@ -27,9 +25,9 @@ use Rattle.plan_document.specs.declared.resolving.ProgrammedPlan.{ProgrammedPlan
 use Rattle.plan_document.specs.Motors.{IsHazardOf, IsMotorOf}
 use Rattle.plan_document.specs.Names.{AreDistinct, all_poses, identifier, identifiers, identifiers_in, is_title, names_in, numbered, numbered_poses, place_names, places_in, pose_names}
 use Rattle.plan_document.specs.PlanLaws.{StandsAt}
-use Rattle.plan_document.specs.Saying.{AreCallsOf, IsCallOf, IsNamedPlanOf, IsPlanOf, IsPoseOf, IsProgramOf, IsZoneOf, is_free, keepers, may_be_done, own_call}
-use Rattle.plan_document.specs.TableLaws.{NamesAreSpelled, NamesAreTwo, NamesHaveCounts, PlansHaveCounts, PlansHaveNames, PosesAreTwoForC, ProgramHasLines, ProgramsHaveLines, RowsAreNamed, TablesHaveCounts}
-use Rattle.plan_document.proofs.PlanLaws.{all_at, as_many, flat_seam, own_number, own_place, seam, zipped}
+use Rattle.plan_document.specs.Saying.{AreCallsOf, IsCallOf, IsPlanOf, IsPoseOf, IsProgramOf, IsZoneOf, is_free, keepers, own_call}
+use Rattle.plan_document.specs.TableLaws.{NamesAreSpelled, PlansHaveCounts, PlansHaveNames, PosesAreTwoForC, ProgramsHaveLines, RowsAreNamed, TablesHaveCounts}
+use Rattle.plan_document.proofs.PlanLaws.{as_many, flat_seam, own_number, own_place, seam, zipped}
 use Rattle.plan_document.proofs.PlanRows.{are_apart, impossible}
 
 -- ---- counts
