@@ -3,8 +3,8 @@
    `plan header` prints a plan's bytes, and the numbers of its machines, zones, poses and places, from 0.
    bagunjoki_plan_open reads them once, and all others take what it gives. The state of the plant is one 64-bit word.
    bagunjoki_plan_step answers a call on such a word, and gives the word after it. bagunjoki_plan_ask makes a call on a
-   word that threads or processes share; bagunjoki_plan_settle asks until it is answered. BAGUNJOKI_PLAN_MAY_RUN tells of
-   a word that was loaded whether a motor may run. Nothing takes memory by malloc, or a lock.
+   word that threads or processes share; bagunjoki_plan_settle asks until it is answered. BAGUNJOKI_PLAN_MAY_RUN tells
+   of a word that was loaded whether a motor may run. Nothing takes memory by malloc, or a lock.
 
    What is proved (crates/plan_c): what the six functions of the library return. What isn't: the loops of
    bagunjoki_plan_ask, bagunjoki_plan_settle and bagunjoki_plan_renew, which your compiler translates. They are right if
@@ -105,8 +105,8 @@ typedef struct bagunjoki_plan_opened {
 } bagunjoki_plan_opened;
 
 /* The proved functions. They read nothing but their arguments, keep nothing, and take no memory and no lock. Any thread
-   may call them, and a signal handler too. `bytes` points to `length` bytes, `digits` to `count` of them; neither may be
-   null. */
+   may call them, and a signal handler too. `bytes` points to `length` bytes, `digits` to `count` of them; neither may
+   be null. */
 
 /* Opens a plan. If the bytes are no plan's, `is_plan` is false, and all calls by it are NO_PLAN. */
 bagunjoki_plan_opened bagunjoki_plan_open(const uint8_t *bytes, size_t length);
