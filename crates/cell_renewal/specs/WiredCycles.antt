@@ -1,5 +1,5 @@
--- A cycle of a worker with devices of your own, whichever its program: what it asks, what its devices hear, and what is
--- left of it.
+-- A cycle of a worker with devices of your own, whichever its program: what it asks, what its devices are told, and what
+-- is left of it.
 use Rattle.std.specs.Prelude.{◌≡◌, ◌≢◌, ◌+◌, ◌⊎◌, ℕ, true, Option, Some, None, Result, Err, IsSomeAnd, ⊤}
 use Rattle.cell_rules.specs.Types.{Call, Reply}
 use Rattle.cell_rules.specs.declared.heard.LineFault.{LineFault}
@@ -13,7 +13,7 @@ use Rattle.cell_threads.specs.Workers.{GateOf}
 use Rattle.cell_renewal.specs.WiredWorkers.{TakesCycle, TakesWiredTurn, WiredMoment}
 
 -- Stopped, a machine goes through no cycle, nor if its gate refuses; each cycle is counted once, as a turn or as one
--- without a reading. If its devices can show nothing, they hear to rest, without a fault, and all else stays. If its
+-- without a reading. If its devices can show nothing, they are told to rest, without a fault, and all else stays. If its
 -- sensors can't be used, whatever they show, that stops it. A step that asks nothing leaves the pass; one that asks
 -- makes its call, once, or none.
 pub record WiredCycles {S Sense Reading Act D : Type 0} (t : Steps S Sense Reading Act)

@@ -33,7 +33,7 @@ shut_gate turn answer = answer ≡ false
 abbrev pub any_gate : GateOf
 any_gate turn answer = ⊤
 
--- a press may go through three cycles, and its devices heard this last: after N cycles it ends with this status
+-- a press may go through three cycles, and its devices were told this last: after N cycles it ends with this status
 abbrev pub PressEnds : GateOf → Commands PressAct → ℕ → Status → Type 0
 PressEnds gate last cycles status =
     WiredWorkerEnds press_steps (λ (before : Unit {0}) told now. told ≡ last) gate 3 cycles status tt
