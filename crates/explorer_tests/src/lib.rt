@@ -6,3 +6,5 @@ mod explore;
 pub mod graphs;
 #[cfg(test)]
 mod liveness;
+#[cfg(test)]
+mod plans;

@@ -100,6 +100,26 @@ fn takes_turns(rt: HostRuntime) -> Result<(), Fail> {
     Ok(())
 }
 
+// Rounds of all machines, many times over: the watch never asks, and someone still does in the last round.
+#[test]
+fn takes_many_turns(rt: HostRuntime) -> Result<(), Fail> {
+    let start = State::start(ONE_PLATE, 0)?;
+    let mut way = Vec::new(rt.alloc());
+    for _ in 0..500 {
+        for machine in &Machine::ALL {
+            way.push(*machine)?;
+        }
+    }
+    let walk = take_turns(rt.alloc(), &start, way.as_slice())?;
+    assert!(rt; walk.asks.len() == way.len());
+    for (asked, machine) in walk.asks.iter().zip(&way) {
+        assert!(rt; !*asked || *machine != Machine::Watch);
+    }
+    let before_last = way.len().saturating_sub(Machine::ALL.len());
+    assert!(rt; walk.asks.iter().skip(before_last).any(|asked| *asked));
+    Ok(())
+}
+
 #[test]
 fn numbers_machines(rt: HostRuntime) {
     for (number, machine) in Machine::ALL.iter().enumerate() {

@@ -9,6 +9,11 @@ const ONE: [bool; 10] = [
     true, false, false, false, false, false, false, false, false, false,
 ];
 
+/// Four plates: on the feed belt, on the table, in the press and on the deposit belt.
+const FOUR: [bool; 10] = [
+    true, false, true, false, true, false, false, true, false, false,
+];
+
 // The bound that an answer tells.
 fn bound_of(answer: &Progress) -> Option<(usize, usize)> {
     match answer {
@@ -56,4 +61,15 @@ fn one_question_alone_is_answered_the_same(rt: HostRuntime) {
         &rt, "memory",
     );
     assert!(rt; bound_of(&answer) == Some((26, 2)), "{answer:?}");
+}
+
+// From more plates each machine has a bound too.
+#[test]
+fn each_machine_moves_four_plates(rt: HostRuntime) {
+    let start = State::start(FOUR, 0).expect(&rt, "a start");
+    let plates = explore_machines(rt.alloc(), &start, Some(Machine::Press)).expect(&rt, "memory");
+    assert!(rt;
+        bounds_of(&plates).iter().all(|bound| bound.is_some()),
+        "{plates:?}"
+    );
 }

@@ -1,0 +1,3 @@
+//! Plans with as many machines as there may be, and long ways.
+
+mod relay;
