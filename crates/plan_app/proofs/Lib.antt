@@ -5,6 +5,7 @@ mod WordRows
 mod StarvingRows
 mod SizeRows
 mod LineRows
+mod ReportsTold
 mod GoingRows
 mod InputRows
 mod ScreenRows

@@ -4,6 +4,7 @@ ghost use Rattle.plan_app.specs.GoingExamples.{EventLines, MachinesAreTold, Walk
 ghost use Rattle.plan_app.specs.HazardExamples.{AreKept, HazardLines, KeptMotorsAreNeverBoth, LeadLines};
 ghost use Rattle.plan_app.specs.InputExamples.{InputsAreSplit, RequestsAreRead, WordsAreMade};
 ghost use Rattle.plan_app.specs.LineExamples.{ReportLines, WholeReports};
+ghost use Rattle.plan_app.specs.ReportLaws.{ReportsTell};
 ghost use Rattle.plan_app.specs.ScreenExamples.{AnswersAreMeant, KindsOfScreens, ScreensAreMeant};
 ghost use Rattle.plan_app.specs.ScreenExamples.{ServedIsMeant, StandstillLines};
 ghost use Rattle.plan_app.specs.SizeExamples.{SizesAreCounted};
@@ -40,6 +41,11 @@ pub fn kept_motors_are_never_both()
 /// Examples: lines of reports, whole.
 pub fn report_lines_are_met()
     ensures { ReportLines }
+{}
+
+/// Each line of a report, for all names, zones and places.
+pub fn reports_tell()
+    ensures { ReportsTell }
 {}
 
 /// Examples: the report of a plan, whole.

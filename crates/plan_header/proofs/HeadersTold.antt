@@ -7,7 +7,7 @@ use Rattle.std.specs.Fmt.{decimal}
 use Rattle.plan_types.specs.Table.{place_count, zone_count}
 use Rattle.plan_text.specs.Names.{name_in}
 use Rattle.plan_header.specs.Headers as header
-use Rattle.plan_header.specs.HeaderLaws.{BitsAreTold, BytesAreTold, HeadersTell, NumbersAreTold, stands}
+use Rattle.plan_header.specs.HeaderLaws.{BitsAreTold, BytesAreTold, HeadersTell, MasksAreTold, ModulesAreTold, NumbersAreTold, stands}
 
 numbers-told : NumbersAreTold
 numbers-told = record {
@@ -67,5 +67,28 @@ bytes-told = record {
   of_plan = λ n. refl;
 }
 
+masks-told : MasksAreTold
+masks-told = record {
+  motor = λ n names motors k. refl;
+  all = λ n names motors. refl;
+}
+
+modules-told : ModulesAreTold
+modules-told = record {
+  name = λ title names. refl;
+  pose = λ n k. refl;
+  motor = λ n names motors k. refl;
+  poses = λ n. refl;
+  motors = λ n names motors. refl;
+  kinds = λ n. refl;
+  bytes = λ n. refl;
+}
+
 pub headers-tell : HeadersTell
-headers-tell = record { numbers = numbers-told; bits = bits-told; bytes = bytes-told }
+headers-tell = record {
+  numbers = numbers-told;
+  bits = bits-told;
+  bytes = bytes-told;
+  masks = masks-told;
+  modules = modules-told;
+}

@@ -1,12 +1,18 @@
--- What each line of a header says, for all names, numbers and bytes: in the plan's own words.
+-- What each line of a header or a module says, for all names, numbers, motors and bytes: in the plan's own words.
 use Rattle.std.specs.Prelude.{◌≡◌, ◌<◌, ℕ, ◌+◌, ◌*◌, List, ◌++◌, codes, flat_map, get_or, length}
 use Rattle.std.specs.Fmt.{decimal}
 use Rattle.std.specs.List.{range_with_len}
 use Rattle.plan_types.specs.Table.{guest_of, host_of, keeper_of, machine_of, place_count, zone_count}
 use Rattle.plan_types.specs.Bytes.{bytes_of}
+use Rattle.plan_motors.specs.declared.motor.Motor.{Motor}
+use Rattle.plan_motors.specs.Mask.{mask_of, pattern_of}
+use Rattle.plan_motors.specs.OfPlan.{motor_at}
 use Rattle.plan_text.specs.Names.{Text, name_in}
 use Rattle.plan_text.specs.Named.{Named}
 use Rattle.plan_header.specs.Headers as header
+use Rattle.plan_header.specs.Modules as python
+use Rattle.plan_header.specs.declared.motors.TheConstants.{MOTORS}
+use Rattle.plan_header.specs.declared.python.TheConstants.{MODULE, PLANT}
 use Rattle.plan_header.specs.Words.{capitals}
 
 -- a name in capitals, and what stands for it
@@ -75,7 +81,58 @@ pub record BytesAreTold : Type 0 where
   pub all : (bytes : List ℕ) → header.byte_words bytes ≡ for_each (length bytes) (header.byte_word bytes)
   pub of_plan : (n : Named) → header.bytes_part n ≡ header.table_text (bytes_of n.plan)
 
+-- a name in capitals, and bits of a word
+abbrev pub stands_for_bits : Text → ℕ → Text
+stands_for_bits name bits =
+    codes "#define PLAN_" ++ (capitals name ++ (codes " UINT64_C(" ++ (decimal bits ++ codes ")\n")))
+
+-- the masks and the patterns of motors, in the order of their numbers
+pub record MasksAreTold : Type 0 where
+  pub motor : (n : Named) (names : List Text) (motors : List Motor) (k : ℕ)
+      → header.mask_lines n names motors k
+      ≡ stands_for_bits (codes "mask_" ++ name_in names k) (mask_of n.plan (motor_at motors k))
+      ++ stands_for_bits (codes "pattern_" ++ name_in names k) (pattern_of n.plan (motor_at motors k))
+  pub all : (n : Named) (names : List Text) (motors : List Motor)
+      → header.some_motors n names motors ≡ MOTORS.now ++ for_each (length names) (header.mask_lines n names motors)
+
+-- a line of a list of the module for Python, and a text in quotes
+abbrev pub line : Text → Text
+line item = codes "        " ++ (item ++ codes ",\n")
+
+abbrev pub in_quotes : Text → Text
+in_quotes text = codes "\"" ++ (text ++ codes "\"")
+
+-- the module: the bytes, and each name in the order of the numbers
+pub record ModulesAreTold : Type 0 where
+  pub name : (title : Text) (names : List Text)
+      → python.names_listed title names
+      ≡ (codes "    " ++ (title ++ codes "=(\n"))
+      ++ (for_each (length names) (λ k. line (in_quotes (name_in names k))) ++ codes "    ),\n")
+  pub pose : (n : Named) (k : ℕ)
+      → python.pose_item n k
+      ≡ line (codes "(" ++ (in_quotes (name_in n.machines (machine_of n.plan k))
+      ++ (codes ", " ++ (in_quotes (name_in n.poses k) ++ codes ")"))))
+  pub motor : (n : Named) (names : List Text) (motors : List Motor) (k : ℕ)
+      → python.motor_item n names motors k
+      ≡ line (codes "(" ++ (in_quotes (name_in names k)
+      ++ (codes ", " ++ (decimal (mask_of n.plan (motor_at motors k))
+      ++ (codes ", " ++ (decimal (pattern_of n.plan (motor_at motors k)) ++ codes ")"))))))
+  pub poses : (n : Named)
+      → python.poses_listed n
+      ≡ codes "    poses=(\n" ++ (for_each (length n.poses) (python.pose_item n) ++ codes "    ),\n")
+  pub motors : (n : Named) (names : List Text) (motors : List Motor)
+      → python.motors_listed n names motors
+      ≡ codes "    motors=(\n" ++ (for_each (length names) (python.motor_item n names motors) ++ codes "    ),\n")
+  pub kinds : (n : Named)
+      → python.names_of_kinds n
+      ≡ python.names_listed (codes "machines") n.machines
+      ++ (python.names_listed (codes "zones") n.zones ++ python.names_listed (codes "places") n.places)
+  pub bytes : (n : Named)
+      → python.bytes_listed n ≡ MODULE.now ++ (header.byte_words (bytes_of n.plan) ++ PLANT.now)
+
 pub record HeadersTell : Type 0 where
   pub numbers : NumbersAreTold
   pub bits : BitsAreTold
   pub bytes : BytesAreTold
+  pub masks : MasksAreTold
+  pub modules : ModulesAreTold

@@ -1,0 +1,29 @@
+-- The laws of `reports_tell`.
+use Rattle.std.proofs.Common.{◌+◌, ◌*◌, ◌++◌, [], codes, refl, ap}
+use Rattle.std.proofs.Common.{if◌then◌else◌}
+use Rattle.std.proofs.lemmas.Bool.{lt-ltb}
+use Rattle.plan_types.specs.Table.{place_count, zone_count}
+use Rattle.plan_text.specs.Names.{name_in}
+use Rattle.plan_app.specs.ReportLaws.{ReportsTell, has_bits}
+use Rattle.plan_app.specs.Words.{counted}
+
+pub reports-tell : ReportsTell
+reports-tell = record {
+  zone = λ n k there.
+      ap
+      (λ has. if has
+      then has_bits (5 * k) (counted 5 (codes "bit")) (codes "zone " ++ name_in n.zones k)
+      else [])
+      (lt-ltb k (zone_count n.plan) there);
+  place = λ n k there.
+      ap
+      (λ has. if has
+      then has_bits (5 * zone_count n.plan + k) (counted 1 (codes "bit")) (codes "place " ++ name_in n.places k)
+      else [])
+      (lt-ltb k (place_count n.plan) there);
+  stamp = λ n. refl;
+  stop = λ n. refl;
+  width = λ n. refl;
+  names = λ kind names. refl;
+  fields = λ n. refl;
+}

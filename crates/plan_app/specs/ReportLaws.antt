@@ -1,0 +1,43 @@
+-- What each line of a report says, for all names, zones and places: in the plan's own words.
+use Rattle.std.specs.Prelude.{◌≡◌, ◌<◌, ℕ, ◌+◌, ◌*◌, List, ◌++◌, codes, flat_map, length}
+use Rattle.std.specs.Fmt.{decimal}
+use Rattle.std.specs.List.{range_with_len}
+use Rattle.plan_types.specs.Table.{place_count, zone_count}
+use Rattle.plan_word.specs.Layout.{counts_of}
+use Rattle.plan_word.specs.declared.layout.Field.TheVariants.{Stamp, Stop}
+use Rattle.plan_text.specs.Names.{Text, name_in}
+use Rattle.plan_text.specs.Named.{Named}
+use Rattle.plan_app.specs.Reports as report
+use Rattle.plan_app.specs.Words.{counted}
+
+-- a field by its lowest bit, how many bits it has, and what it is
+abbrev pub has_bits : ℕ → Text → Text → Text
+has_bits first many what =
+    codes "bit " ++ (decimal first ++ (codes ", " ++ (many ++ (codes ": " ++ (what ++ codes "\n")))))
+
+-- five bits for each zone, one for each place, twenty for the stamp, and one for the stop
+pub record ReportsTell : Type 0 where
+  pub zone : (n : Named) (k : ℕ) → k < zone_count n.plan
+      → report.zone_line n k ≡ has_bits (5 * k) (counted 5 (codes "bit")) (codes "zone " ++ name_in n.zones k)
+  pub place : (n : Named) (k : ℕ) → k < place_count n.plan
+      → report.place_line n k
+      ≡ has_bits (5 * zone_count n.plan + k) (counted 1 (codes "bit")) (codes "place " ++ name_in n.places k)
+  pub stamp : (n : Named)
+      → report.field_line (counts_of n.plan) Stamp (codes "stamp")
+      ≡ has_bits (5 * zone_count n.plan + place_count n.plan) (counted 20 (codes "bit")) (codes "stamp")
+  pub stop : (n : Named)
+      → report.field_line (counts_of n.plan) Stop (codes "stop")
+      ≡ has_bits (5 * zone_count n.plan + place_count n.plan + 20) (counted 1 (codes "bit")) (codes "stop")
+  pub width : (n : Named)
+      → report.width_line (counts_of n.plan)
+      ≡ codes "a word of " ++ (decimal (5 * zone_count n.plan + place_count n.plan + 21) ++ codes " bits\n")
+  -- all names of a kind, and the lines of all zones and places
+  pub names : (kind : Text) (names : List Text)
+      → report.names_line kind names
+      ≡ counted (length names) kind ++ (flat_map (report.listed names) (range_with_len 0 (length names)) ++ codes "\n")
+  pub fields : (n : Named)
+      → report.field_lines n
+      ≡ flat_map (report.zone_line n) (range_with_len 0 (length n.zones))
+      ++ (flat_map (report.place_line n) (range_with_len 0 (length n.places))
+      ++ (report.field_line (counts_of n.plan) Stamp (codes "stamp")
+      ++ report.field_line (counts_of n.plan) Stop (codes "stop")))
