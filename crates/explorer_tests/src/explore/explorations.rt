@@ -37,6 +37,20 @@ fn explores_starts(rt: HostRuntime) -> Result<(), Fail> {
     Ok(())
 }
 
+// A search finds its memory with each number of plates that a start has.
+#[test]
+fn explores_starts_with_more_plates(rt: HostRuntime) -> Result<(), Fail> {
+    for plates in 2..6 {
+        let mut places = [false; 10];
+        for place in 0..plates {
+            places[place] = true;
+        }
+        let found = found_from(rt.alloc(), places)?;
+        assert!(rt; !matches!(found, Found::Refusal(_)), "{found:?}");
+    }
+    Ok(())
+}
+
 /// What each machine asks at the standstill of an empty cell.
 const STANDSTILL: &[(Machine, Call)] = &[
     (Machine::Feed, Call::Take(Zone::Z6)),

@@ -138,6 +138,24 @@ fn fifteen_machines_stand_still_after_many_turns(rt: HostRuntime) -> Result<(), 
     Ok(())
 }
 
+// In a stopped plant the first machine may not claim its zone, and all wait at once.
+#[test]
+fn stopped_machines_stand_still(rt: HostRuntime) -> Result<(), Fail> {
+    let alloc = rt.alloc();
+    let (plan, start) = plant(alloc)?;
+    let opening = State {
+        stopped: true,
+        ..start
+    };
+    let programs = programs(alloc, 3, &[Call::Release(0)])?;
+    let found = explore(alloc, &plan, &opening, &programs)?;
+    assert!(rt;
+        matches!(&found, Explored::Standstill(turns) if turns.is_empty()),
+        "{found:?}"
+    );
+    Ok(())
+}
+
 // The last machine goes on for ever, at each moment and at the end. No other machine does, and the plate rests there.
 #[test]
 fn one_of_fifteen_machines_goes_on(rt: HostRuntime) -> Result<(), Fail> {
