@@ -161,7 +161,11 @@ fn a_press_is_complete(rt: HostRuntime) {
     assert!(rt; is_walked(&plan), "walked");
     let at = slot(1, Call::SetPose(3));
     assert!(rt; plan.starts().len() == SLOTS_OF_ALL && at < SLOTS_OF_ALL);
-    assert!(rt; plan.starts().get(at).is_some_and(|first| usize::from(*first) < plan.rows().len()));
+    assert!(rt;
+        plan.starts()
+            .get(at)
+            .is_some_and(|first| usize::from(*first) < plan.rows().len())
+    );
 }
 
 #[test]

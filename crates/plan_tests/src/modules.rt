@@ -60,6 +60,11 @@ fn prints_a_module(rt: HostRuntime) {
     let plan = format!(in rt.alloc(); "{PRESS}{RAM}").expect(&rt, "memory");
     let mut written = Vec::new(rt.alloc());
     let words: &[&[u8]] = &[b"./plan", b"header", b"--python"];
-    let status = run(rt.alloc(), words, &mut plan.as_str().as_bytes(), &mut written);
+    let status = run(
+        rt.alloc(),
+        words,
+        &mut plan.as_str().as_bytes(),
+        &mut written,
+    );
     assert!(rt; status == 0 && written.as_slice() == MODULE.as_bytes());
 }
