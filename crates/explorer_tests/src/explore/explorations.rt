@@ -37,15 +37,27 @@ fn explores_starts(rt: HostRuntime) -> Result<(), Fail> {
     Ok(())
 }
 
+/// Starts with two, three, four and five plates.
+const MORE_PLATES: [[bool; 10]; 4] = [
+    [
+        true, true, false, false, false, false, false, false, false, false,
+    ],
+    [
+        true, true, true, false, false, false, false, false, false, false,
+    ],
+    [
+        true, true, true, true, false, false, false, false, false, false,
+    ],
+    [
+        true, true, true, true, true, false, false, false, false, false,
+    ],
+];
+
 // A search finds its memory with each number of plates that a start has.
 #[test]
 fn explores_starts_with_more_plates(rt: HostRuntime) -> Result<(), Fail> {
-    for plates in 2..6 {
-        let mut places = [false; 10];
-        for place in 0..plates {
-            places[place] = true;
-        }
-        let found = found_from(rt.alloc(), places)?;
+    for places in &MORE_PLATES {
+        let found = found_from(rt.alloc(), *places)?;
         assert!(rt; !matches!(found, Found::Refusal(_)), "{found:?}");
     }
     Ok(())
