@@ -2,7 +2,7 @@
 
 use crate::{Compiled, SLOTS_OF_ALL, slot};
 use plan_rules::State;
-use plan_types::{Answer, Call, Plan, Tables, WATCH, examples, read_tables};
+use plan_types::{Answer, Call, Plan, Tables, WATCH, examples, read_plan};
 use plan_word::{pack, step_word};
 use std::alloc::Global;
 
@@ -137,7 +137,7 @@ fn compiled(alloc: Global, tables: Tables) -> Option<Compiled> {
 }
 
 fn of_bytes(alloc: Global, bytes: &[u8]) -> Option<Compiled> {
-    compiled(alloc, read_tables(alloc, bytes).ok()??)
+    Compiled::new(alloc, read_plan(bytes)?).ok()
 }
 
 #[test]
