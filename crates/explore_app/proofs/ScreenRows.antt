@@ -1,5 +1,6 @@
 -- The examples of screens, and what screens and lines say.
-use Rattle.std.proofs.Common.{◌≡◌, ◌∙◌, ◌⊎◌, ℕ, ◌+◌, true, false, List, [], ◌∷◌, ◌++◌, Some, Ok, Err, String, Global, codes, length, string_bytes, inl, inr, refl, sym, ap, subst}
+use Rattle.std.proofs.Common.{◌≡◌, ◌∙◌, ◌⊎◌, ◌||◌, ℕ, ◌+◌, true, false, List, [], ◌∷◌, ◌++◌, Some, Ok, Err, String, Global, codes, length, string_bytes, inl, inr, refl, sym, ap, subst}
+use Rattle.std.proofs.Math.Bool.{or-true}
 use Rattle.std.proofs.Math.Seq.{take-length}
 use Rattle.text_io.specs.Output.{WrotePrefix}
 use Rattle.cell_config.specs.Configured.{Says}
@@ -14,7 +15,7 @@ use Rattle.cell_explorer.specs.Walks.{next_turn}
 use Rattle.cell_notes.specs.ByMachine.{values_of}
 use Rattle.explore_app.specs.declared.tally.Tally.{Tally}
 use Rattle.explore_app.specs.Bounds.{Text, bound_words}
-use Rattle.explore_app.specs.Liveness.{going_line, going_lines, machines_line}
+use Rattle.explore_app.specs.Liveness.{going_line, going_lines, liveness_of, liveness_of_each, machines_line, may_starve}
 use Rattle.explore_app.specs.Rings.{asked_words, ending_words, going_on_line, name_words, refused_line, waiting_line}
 use Rattle.explore_app.specs.ScreenExamples.{EachIsMet, RequestsAreMet, ScreensAreMet}
 use Rattle.explore_app.specs.declared.screen.Screen.TheVariants.{Free, Warning}
@@ -49,7 +50,7 @@ ends_after turns refused = record no_tally { starts = 1; refused = refused; fewe
 
 pub each-met : EachIsMet
 unfolding digits bound_words found_words free_words going_words refused_words situations_words standing_words starving_words tally_line unknown_words within_words tallies.turns_words
-each-met = record { slowest = refl; unknown = λ reason. refl; starve = λ reason stem cycle. refl; starving_plates_warn = λ stem cycle. refl; starving_machine_warns = λ reason stem cycle. refl; unknown_warns_not = λ reason. refl; going_warns_not = refl; zones = refl; parties = refl; owner_awaited = refl; stuck = λ way e. ap (λ n. tally_line 0 (ends_after n 0)) e; stopped = λ way e. ap (λ n. tally_line 4 (ends_after n 1)) e; bounded = refl; fewest = refl; both = refl; counted = refl }
+each-met = record { slowest = refl; unknown = λ reason. refl; starve = λ reason stem cycle. refl; starving_plates_warn = λ stem cycle. refl; starving_machine_warns = λ reason stem cycle. refl; each_warns = λ p e. ap (λ l. may_starve (liveness_of p.any) || may_starve l) e ∙ or-true (may_starve (liveness_of p.any)); any_warns = λ p e. ap (λ l. may_starve l || may_starve (liveness_of_each p)) e; unknown_warns_not = λ reason. refl; going_warns_not = refl; zones = refl; parties = refl; owner_awaited = refl; stuck = λ way e. ap (λ n. tally_line 0 (ends_after n 0)) e; stopped = λ way e. ap (λ n. tally_line 4 (ends_after n 1)) e; bounded = refl; fewest = refl; both = refl; counted = refl }
 
 pub requests-met : RequestsAreMet
 requests-met = record {

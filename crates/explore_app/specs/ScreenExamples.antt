@@ -19,7 +19,7 @@ use Rattle.explore_app.specs.declared.liveness.Liveness.TheVariants as liveness
 use Rattle.explore_app.specs.declared.request.Request.{Request}
 use Rattle.explore_app.specs.declared.request.Request.TheVariants as request
 use Rattle.explore_app.specs.declared.step.Step.{Step}
-use Rattle.explore_app.specs.Liveness.{any_starves, liveness_of_each}
+use Rattle.explore_app.specs.Liveness.{any_starves, liveness_of, liveness_of_each}
 use Rattle.explore_app.specs.LineExamples.{bound, none, other_bound, two_plates}
 use Rattle.explore_app.specs.Requests.{request_of}
 use Rattle.explore_app.specs.Rings.{party_awaited, zone_of}
@@ -135,6 +135,8 @@ pub record EachIsMet : Type 0 where
       → any_starves (record each_moves { any = Starves stem cycle }) ≡ true
   pub starving_machine_warns : (reason : _) (stem cycle : Vec Machine)
       → any_starves (record each_moves { any = Unknown reason; table = Starves stem cycle }) ≡ true
+  pub each_warns : (p : Plates) → liveness_of_each p ≡ liveness.Starves → any_starves p ≡ true
+  pub any_warns : (p : Plates) → liveness_of p.any ≡ liveness.Starves → any_starves p ≡ true
   pub unknown_warns_not : (reason : _)
       → any_starves (record each_moves { any = Unknown reason; robot = Unknown reason }) ≡ false
   pub going_warns_not : any_starves each_moves ≡ false

@@ -2,8 +2,8 @@
 //! apart from the proved program.
 
 use cell_explorer::{Explored, NextTurn, Prospect, Walk, explore_start, machine_at, take_turns};
-use cell_rules::State;
-use cell_types::{Call, Machine, Pose, Zone};
+use cell_rules::{State, apply};
+use cell_types::{Answer, Call, Machine, Pose, Zone};
 use std::alloc::Global;
 use std::test::Fail;
 
@@ -60,6 +60,24 @@ fn explores_starts_with_more_plates(rt: HostRuntime) -> Result<(), Fail> {
         let found = found_from(rt.alloc(), *places)?;
         assert!(rt; !matches!(found, Found::Refusal(_)), "{found:?}");
     }
+    Ok(())
+}
+
+// Where the belt's zone is the belt's already, its first claim is refused as no program expects. So it is told, and in a
+// stopped cell all machines wait sooner or later.
+#[test]
+fn explores_from_other_states(rt: HostRuntime) -> Result<(), Fail> {
+    let mut claimed = State::start([false; 10], 0)?;
+    let mut stopped = State::start(ONE_PLATE, 0)?;
+    assert!(rt; apply(&mut claimed, Machine::Feed, Call::Claim(Zone::Z6)) == Answer::Done);
+    assert!(rt; apply(&mut stopped, Machine::Watch, Call::Stop) == Answer::Done);
+    let refused = explore_start(rt.alloc(), &claimed)?;
+    assert!(rt;
+        matches!(&refused, Explored::Refusal(way) if way.is_empty()),
+        "{refused:?}"
+    );
+    let still = explore_start(rt.alloc(), &stopped)?;
+    assert!(rt; matches!(&still, Explored::Standstill(_)), "{still:?}");
     Ok(())
 }
 
