@@ -1,5 +1,5 @@
-//! A chain of eight machines that hand a plate on, each after a long program, beside seven that only wait. One machine at
-//! most can go on, so the turns and the situations are counted by hand.
+//! A chain of eight machines that hand a plate on, each after a long program, beside seven that only wait. At most one
+//! machine can go on, so the turns and the situations are counted by hand.
 
 use plan_explorer::{Explored, Programs, explore, take_turns};
 use plan_liveness::{Liveness, Progress, explore_machines, explore_plates};
