@@ -56,10 +56,11 @@ answers-meant = record {
 
 pub served-meant : ServedIsMeant
 served-meant = record {
-  report = λ old new (plan, is, (text, tells, wrote)). (plan, is, text, tells, wrote);
-  header = λ old new said. said;
-  answers = λ old new (plan, is, (clean, wrote)). (plan, is, clean, wrote);
-  free = λ old new (plan, is, (opening, at, (text, tells, wrote))). (plan, is, opening, at, text, tells, wrote);
+  report = λ bytes old new (plan, is, (text, tells, wrote)). (plan, is, text, tells, wrote);
+  header = λ bytes old new said. said;
+  python = λ bytes old new said. said;
+  answers = λ bytes old new (plan, is, (clean, wrote)). (plan, is, clean, wrote);
+  free = λ bytes old new (plan, is, (opening, at, (text, tells, wrote))). (plan, is, opening, at, text, tells, wrote);
   silent = λ n ps s (text, tells, all). let e = tells.told in absurd (cc);
   other = λ n ps s (text, tells, all). let e = tells.told in absurd (cc);
   unknown = λ n ps s (text, tells, all). absurd all;
