@@ -33,8 +33,11 @@ extern "C" {
 /* The watch's number as a machine: it inquires, stops and resumes. */
 #define BAGUNJOKI_PLAN_WATCH 15
 
-/* Where a reply names no machine (as owner: nobody), no zone or no posture. */
+/* Where a reply names no machine, no zone or no posture. */
 #define BAGUNJOKI_PLAN_NOTHING 255
+
+/* As the owner in a reply, as NOBODY of bagunjoki.h. */
+#define BAGUNJOKI_PLAN_NOBODY BAGUNJOKI_PLAN_NOTHING
 
 /* Postures of zones. */
 enum bagunjoki_plan_posture {
@@ -64,7 +67,7 @@ enum bagunjoki_plan_answer {
     BAGUNJOKI_PLAN_HELD = 2,      /* by the reply's owner */
     BAGUNJOKI_PLAN_ALREADY_MINE = 3,
     BAGUNJOKI_PLAN_SHUT = 4,          /* the zone has the reply's posture */
-    BAGUNJOKI_PLAN_NOT_OWNER = 5,     /* the reply's owner owns a zone that the call needs, or nobody */
+    BAGUNJOKI_PLAN_NOT_OWNER = 5,     /* the reply's owner owns a zone that the call needs, or NOBODY */
     BAGUNJOKI_PLAN_PLATE_IN_ZONE = 6, /* in the reply's zone */
     BAGUNJOKI_PLAN_NO_PLATE = 7,
     BAGUNJOKI_PLAN_PLACE_FULL = 8,
@@ -92,7 +95,7 @@ enum bagunjoki_plan_answer {
 typedef struct bagunjoki_plan_reply {
     uint64_t next;   /* the word after the call. Unless the answer is DONE, the one before it */
     uint8_t answer;
-    uint8_t owner;   /* what the answer names, or NOTHING */
+    uint8_t owner;   /* what the answer names, or NOBODY; so zone and posture, or NOTHING */
     uint8_t zone;
     uint8_t posture;
     bool plate;

@@ -18,8 +18,11 @@ use std::sync::atomic::AtomicU64;
 /// The watch's number as a machine: it inquires, stops and resumes.
 pub const WATCH: u8 = 15;
 
-/// Where a reply names no machine (as owner: nobody), no zone or no posture.
+/// Where a reply names no machine, no zone or no posture.
 pub const NOTHING: u8 = 255;
+
+/// As the owner in a reply: no machine owns the zone.
+pub const NOBODY: u8 = NOTHING;
 
 /// What `bagunjoki_plan_open` gives. Only the library makes one, so its fields are private.
 #[repr(C)]
