@@ -19,7 +19,7 @@ pub enum Liveness {
 }
 
 impl Liveness {
-    /// What an answer tells of it.
+    /// What an answer says about it.
     pub fn of(answer: &Progress) -> Liveness
         ensures { result ≡ spec.liveness_of answer.now }
     {

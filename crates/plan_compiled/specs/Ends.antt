@@ -1,4 +1,4 @@
--- What a table tells of each code of a zone.
+-- What a table says about each code of a zone.
 use Rattle.std.specs.Prelude.{◌≡◌, ◌≢◌, ℕ, ◌+◌, ◌/◌, ◌%◌, ◌<◌, ◌^◌, List, length, get_or}
 use Rattle.plan_types.specs.Below.{sum_below}
 use Rattle.plan_types.specs.Table.{PlanTable, place_count}

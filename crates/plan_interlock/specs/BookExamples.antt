@@ -44,7 +44,7 @@ pub record BookExamples : Type 0 where
   pub actor : press_book.actor_of (event 2 (Inquire 1) Done) ≡ 2
   pub call : press_book.call_of (event 2 (Inquire 1) Done) ≡ Inquire 1
   pub answer : press_book.answer_of shut ≡ Refused (Shut Closed)
-  -- no word tells of a plate past the plan's places; and no state is sound by tables with a fault
+  -- no word has a plate past the plan's places; and no state is sound by tables with a fault
   pub third_place : ¬ press_book.is_sound (start_state (false ∷ false ∷ true ∷ replicate 13 false) 0)
   pub no_plan : ¬ (plan_book (plan_table 2 (zone 1 1 None None ∷ []) [] [])).is_sound press_start
   -- the machines of the largest plan, and the watch

@@ -1,4 +1,4 @@
--- What literal tables tell of a pose, a zone, a machine and a plate's way.
+-- What literal tables say about a pose, a zone, a machine and a plate's way.
 use Rattle.std.specs.Prelude.{◌≡◌, ℕ, ◌+◌, ◌*◌, true, false, nat_eq, nat_lt, List, [], ◌∷◌, ◌++◌, map, replicate}
 use Rattle.std.specs.Prelude.{Option, Some, None}
 use Rattle.std.specs.Bool.{then_some}

@@ -30,7 +30,7 @@ zone_of_code t z n = record {
   posture = posture_of_code (n / 8);
 }
 
--- no field tells of a zone or a place past the end of the plan's tables
+-- no field is about a zone or a place past the end of the plan's tables
 abbrev pub zone_in_word : PlanTable → ℕ → ℕ → ZoneState
 zone_in_word t w z = if nat_lt z (zone_count t) then zone_of_code t z (told (counts_of t) w (Zone z)) else free_zone
 

@@ -44,7 +44,7 @@ pub fn pack(plan: &Plan, layout: &Layout, state: &State) -> u64
     layout.with(word, Field::Stop, u64::from(state.stopped))
 }
 
-/// What a word tells of a zone: a free one past the end of the plan's table.
+/// What a word says about a zone: a free one past the end of the plan's table.
 pub(crate) fn zone_in_word(plan: &Plan, layout: &Layout, word: u64, zone: u8) -> ZoneState
     requires { layout.now ≡ counts_of plan.now }
     ensures bits { result ≡ reading.zone_in_word plan.now word zone }
@@ -57,7 +57,7 @@ pub(crate) fn zone_in_word(plan: &Plan, layout: &Layout, word: u64, zone: u8) ->
     }
 }
 
-/// Whether a word tells of a plate at a place.
+/// Whether a word has a plate at a place.
 pub(crate) fn is_full_in(plan: &Plan, layout: &Layout, word: u64, place: u8) -> bool
     requires { layout.now ≡ counts_of plan.now }
     ensures bit { result ≡ reading.place_told plan.now word place }
