@@ -65,24 +65,23 @@ fn reads_the_words_after_the_name(rt: HostRuntime) {
     }
 }
 
-/// Forty words of one letter each.
-const LETTERS: &[u8] = b"0123456789abcdefghijklmnopqrstuvwxyzABCD";
-
 #[test]
-fn reads_forty_words(rt: HostRuntime) {
+fn reads_a_thousand_words(rt: HostRuntime) {
+    let letters = "abcdefghij".repeat(rt.alloc(), 100).expect(&rt, "memory");
+    let letters = letters.as_bytes();
     let mut arguments: Vec<&[u8]> = Vec::new(rt.alloc());
     arguments.push(b"cell").expect(&rt, "memory");
-    for at in 0..LETTERS.len() {
-        arguments.push(&LETTERS[at..at + 1]).expect(&rt, "memory");
+    for at in 0..letters.len() {
+        arguments.push(&letters[at..at + 1]).expect(&rt, "memory");
     }
     let env = Given {
         arguments: arguments.as_slice(),
     };
     let words = words_of(rt.alloc(), &env).expect(&rt, "words");
-    assert_eq!(rt; words.len(), 41);
-    for at in 0..LETTERS.len() {
+    assert_eq!(rt; words.len(), 1_001);
+    for at in 0..letters.len() {
         assert!(rt;
-            words[at + 1].as_bytes() == &LETTERS[at..at + 1],
+            words[at + 1].as_bytes() == &letters[at..at + 1],
             "word {at}"
         );
     }
