@@ -3,7 +3,7 @@
 use super::reports::{EMPTY, PRESS, PRESS_REPORT, SIX_WORKERS};
 use super::served::{SCRIPT, TEXT};
 use cell_app::start::start;
-use program_shell::{Exit, fail, words_of};
+use program_shell::{Exit, fail, words_of, words_or_exit};
 use std::alloc::Global;
 use std::sync::Wait;
 use std::thread::Threads;
@@ -19,6 +19,19 @@ const WORDS: &[(&[&[u8]], &[&str])] = &[
     (&[b"\xff"], &["cell"]),
     (&[], &["cell"]),
     (&[b"cell", b"", b"\xc3\xa9"], &["cell", "", "\u{e9}"]),
+    // no word is left out or changed, whatever it is to `clap`
+    (&[b"cell", b"--"], &["cell", "--"]),
+    (&[b"cell", b"-"], &["cell", "-"]),
+    (&[b"cell", b""], &["cell", ""]),
+    (&[b"cell", b" \t  "], &["cell", " \t  "]),
+    (
+        &[
+            b"cell", b"--", b"run", b"-", b"--turns=3", b"", b"--", b"   ", b"\n", b"--",
+        ],
+        &[
+            "cell", "--", "run", "-", "--turns=3", "", "--", "   ", "\n", "--",
+        ],
+    ),
     (
         &[
             b"cell", b"run", b"--turns", b"3", b"--tries", b"64", b"a", b"b", b"c",
@@ -93,6 +106,30 @@ fn reads_long_words_whole(rt: HostRuntime) {
     let arguments: &[&[u8]] = &[b"cell", long.as_bytes(), b" a\t"];
     let words = words_of(rt.alloc(), &Given { arguments }).expect(&rt, "words");
     assert!(rt; are_words(words.as_slice(), &["cell", long.as_str(), " a\t"]));
+}
+
+/// Arguments that ask for memory, and the words that they are.
+const ASKING: (&[&[u8]], &[&str]) = (
+    &[b"./cell", b"run", b"--turns=3", b"", b"--"],
+    &["cell", "run", "--turns=3", "", "--"],
+);
+
+// Whichever allocation fails, the words are read whole and nothing is printed, or the program fails, and
+// says that memory ran out.
+#[test]
+fn reads_words_without_memory(rt: HostRuntime) {
+    let (arguments, wanted) = ASKING;
+    let mut room = [0u8; 100];
+    let mut writer = &mut room[..];
+    let read = words_or_exit(rt.alloc(), &Given { arguments }, &mut writer);
+    let left = writer.len();
+    let written = &room[..100usize.saturating_sub(left)];
+    match read {
+        Ok(words) => {
+            assert!(rt; are_words(words.as_slice(), wanted) && written.is_empty());
+        }
+        Err(exit) => assert!(rt; exit == Exit::Failed && written == b"fault memory\n".as_slice()),
+    }
 }
 
 #[test]

@@ -98,6 +98,46 @@ fn serves_other_words(rt: HostRuntime) {
     }
 }
 
+// Words that are refused, and the whole text, as `clap` writes it of any program: an unknown option, a
+// number out of range, a number that is none, a second script, and an unknown command.
+const REFUSED: &[(&[&str], &str)] = &[
+    (
+        &["cell", "--nope"],
+        "error: unexpected argument '--nope' found\n\nUsage: cell [COMMAND]\n\n\
+        For more information, try '--help'.\n",
+    ),
+    (
+        &["cell", "run", "--turns", "0"],
+        "error: invalid value '0' for '--turns <N>': 0 is not in 1..=100000\n\n\
+        For more information, try '--help'.\n",
+    ),
+    (
+        &["cell", "run", "--tries=x"],
+        "error: invalid value 'x' for '--tries <N>': invalid digit found in string\n\n\
+        For more information, try '--help'.\n",
+    ),
+    (
+        &["cell", "replay", "other.csv"],
+        "error: unexpected argument 'other.csv' found\n\nUsage: cell replay\n\n\
+        For more information, try '--help'.\n",
+    ),
+    (
+        &["cell", "go"],
+        "error: unrecognized subcommand 'go'\n\nUsage: cell [COMMAND]\n\n\
+        For more information, try '--help'.\n",
+    ),
+];
+
+#[test]
+fn says_which_words_are_refused(rt: HostRuntime) {
+    for (words, text) in REFUSED {
+        assert!(rt;
+            is_served(&rt, rt.alloc(), words, SCRIPT, 2, text),
+            "{words:?}"
+        );
+    }
+}
+
 const RUN_BY_DEFAULT: Option<Mode> = Some(Mode::Run {
     turns: 1000,
     tries: 8,
