@@ -6,5 +6,6 @@ mod lines;
 mod played;
 mod receipts;
 mod steps;
+mod stopped;
 mod threads;
 mod waiting;
