@@ -1,6 +1,7 @@
 //! Runs by a schedule, and by six workers.
 
 mod ends;
+mod gates;
 mod rounds;
 mod simulated_cells;
 mod wired_workers;

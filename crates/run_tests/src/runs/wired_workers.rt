@@ -1,7 +1,9 @@
-//! Runs of six workers with devices of their own. In some the press's switches clash, or don't answer.
+//! Runs of six workers with devices of their own, and a gate that counts. In some the press's switches clash, or don't
+//! answer; in others the gate refuses machines.
 ghost use Rattle.std.specs.Prelude.{◌≡◌};
 ghost use Rattle.cell_rules.specs.Start.{IsStartState};
 
+use super::gates::CountingGate;
 use cell_belts_crane::{CraneProgram, DepositProgram, FeedProgram};
 use cell_control::{Commands, CtlFault, Program};
 use cell_devices::{CraneAct, DepositAct, FeedAct, Motor, PressAct, RobotAct, TableAct};
@@ -14,7 +16,7 @@ use cell_sensors::{
     SensorFault, TableSense, position_on_line,
 };
 use cell_table_press::{PressProgram, TableProgram};
-use cell_threads::{OpenGate, RunFault, SixOf, SixRecord, run_workers};
+use cell_threads::{Gate, RunFault, SixOf, SixRecord, run_workers};
 use std::alloc::Global;
 use std::sync::Wait;
 use std::test::Fail;
@@ -107,7 +109,7 @@ struct AxisPoints {
 }
 
 // Six workers at the start; only the press's sensors change.
-fn run_by<R, F1, F2, F3, F4, F5>(
+fn run_by<R, F1, F2, F3, F4, F5, G>(
     rt: &R,
     alloc: Global,
     opening: State,
@@ -115,6 +117,7 @@ fn run_by<R, F1, F2, F3, F4, F5>(
     points: AxisPoints,
     press: Recorder<PressSense, PressAct>,
     turns: u32,
+    gate: &G,
 ) -> Result<SixOutputs, RunFault>
 where
     R: Threads + Wait + Sync,
@@ -123,6 +126,7 @@ where
     F3: Gauge + Send,
     F4: Gauge + Send,
     F5: Gauge + Send,
+    G: Gate + Sync,
     requires start { IsStartState opening }
     requires arm1 { F1.keeps gauges.0 points.arm }
     requires arm2 { F2.keeps gauges.1 points.arm }
@@ -150,7 +154,7 @@ where
         deposit: still(DepositProgram, opening, DepositSense { barrier: false }),
         crane: still(crane, opening, AT_DEPOSIT),
     };
-    run_workers(rt, alloc, workers, opening, 64, turns, &OpenGate)
+    run_workers(rt, alloc, workers, opening, 64, turns, gate)
 }
 
 const AT_BOTTOM: TableSense = TableSense {
@@ -190,6 +194,7 @@ fn run_until<R: Threads + Wait + Sync>(
     good: u32,
     then: Option<PressSense>,
     turns: u32,
+    gate: &CountingGate,
 ) -> Result<Result<SixOutputs, RunFault>, Fail> {
     let opening = State::start([false; 10], 0)?;
     let points = AxisPoints {
@@ -205,7 +210,7 @@ fn run_until<R: Threads + Wait + Sync>(
         move |raw: u16| position_on_line(&points.arm, raw),
     );
     let press = Recorder::new(AT_TOP, good, then);
-    Ok(run_by(rt, alloc, opening, gauges, points, press, turns))
+    Ok(run_by(rt, alloc, opening, gauges, points, press, turns, gate))
 }
 
 /// How many turns the press has before its switches show what comes next, and the greatest number of
@@ -252,12 +257,17 @@ const ROWS: &[Row] = &[
     (3, None, 6, (3, 3, Status::Fine, Motor::Off, None)),
 ];
 
-// Whether a machine has had all its turns, in each of which its devices were read and set once, and
-// is fine.
-fn has_gone_on<S, A>(output: &WiredOutput<Recorder<S, A>>, turns: u32) -> bool {
+// Whether a machine has had these turns, in each of which its devices were read and set once, and has
+// ended so.
+fn has_had<S, A>(output: &WiredOutput<Recorder<S, A>>, turns: u32, status: Status) -> bool {
     let devices = &output.devices;
     (output.turns, output.missed, devices.reads, devices.sets) == (turns, 0, turns, turns)
-        && output.status == Status::Fine
+        && output.status == status
+}
+
+// Whether a machine has had all its turns, and is fine.
+fn has_gone_on<S, A>(output: &WiredOutput<Recorder<S, A>>, turns: u32) -> bool {
+    has_had(output, turns, Status::Fine)
 }
 
 // Whether the machines other than the press have gone on.
@@ -271,10 +281,11 @@ fn have_others_gone_on(run: &SixOutputs, turns: u32) -> bool {
 }
 
 // Whether the press ends so, and its devices were neither read nor set after its last cycle. The
-// others go on.
+// others go on. Each machine has asked its gate once for each cycle, and not again.
 fn ends_so<R: Threads + Wait + Sync>(rt: &R, alloc: Global, row: &Row) -> Result<bool, Fail> {
     let (good, then, limit, (turns, missed, status, motor, fault)) = *row;
-    let run = run_until(rt, alloc, good, then, limit)??;
+    let gate = CountingGate::new([99; 6]);
+    let run = run_until(rt, alloc, good, then, limit, &gate)??;
     let cycles = turns.saturating_add(missed);
     let press = &run.outputs.press;
     let devices = &press.devices;
@@ -287,7 +298,8 @@ fn ends_so<R: Threads + Wait + Sync>(rt: &R, alloc: Global, row: &Row) -> Result
             && (press.turns, press.missed, devices.reads, devices.sets)
                 == (turns, missed, cycles, cycles)
             && press.status == status
-            && have_others_gone_on(&run, limit),
+            && have_others_gone_on(&run, limit)
+            && gate.was_asked([limit, limit, limit, cycles, limit, limit]),
     )
 }
 
@@ -295,6 +307,81 @@ fn ends_so<R: Threads + Wait + Sync>(rt: &R, alloc: Global, row: &Row) -> Result
 fn is_told_to_rest_without_good_sensors(rt: HostRuntime) -> Result<(), Fail> {
     for row in ROWS {
         assert!(rt; ends_so(&rt, rt.alloc(), row)?, "{row:?}");
+    }
+    Ok(())
+}
+
+/// The greatest number of cycles of each machine.
+const CYCLES: u32 = 6;
+
+/// How many turns the press has before its switches show what comes next, and how often the gate lets each machine in.
+/// Then how the press ends: its turns, its cycles without a reading, its status, and how often it has asked.
+type GatedRow = (
+    u32,
+    Option<PressSense>,
+    [u32; 6],
+    (u32, u32, Status, u32),
+);
+
+const GATED: &[GatedRow] = &[
+    // none is refused; all are; each is at another cycle
+    (9, None, [CYCLES; 6], (6, 0, Status::Fine, 6)),
+    (9, None, [0; 6], (0, 0, Status::GateLimit, 1)),
+    (9, None, [5, 4, 3, 2, 1, 0], (2, 0, Status::GateLimit, 3)),
+    // the gate lets the press begin cycles in which its switches don't answer
+    (1, None, [6, 0, 6, 4, 6, 5], (1, 3, Status::GateLimit, 5)),
+    // the press's switches clash before the gate refuses it, or in the last cycle that it lets begin
+    (0, Some(BOTH_ON), [1, 6, 6, 5, 6, 6], (1, 0, Status::Sensor, 1)),
+    (1, Some(BOTH_ON), [6, 6, 2, 2, 6, 3], (2, 0, Status::Sensor, 2)),
+];
+
+// Whether a machine with good sensors has had the turns that its gate lets begin.
+fn was_let_in<S, A>(output: &WiredOutput<Recorder<S, A>>, lets: u32) -> bool {
+    let status = if lets < CYCLES {
+        Status::GateLimit
+    } else {
+        Status::Fine
+    };
+    has_had(output, lets, status)
+}
+
+// How often such a machine asks.
+fn asks_of(lets: u32) -> u32 {
+    lets.saturating_add(1).min(CYCLES)
+}
+
+// Whether the machines other than the press have had the turns that their gate lets begin.
+fn were_others_let_in(run: &SixOutputs, lets: [u32; 6]) -> bool {
+    let six = &run.outputs;
+    was_let_in(&six.feed, lets[0])
+        && was_let_in(&six.table, lets[1])
+        && was_let_in(&six.robot, lets[2])
+        && was_let_in(&six.deposit, lets[4])
+        && was_let_in(&six.crane, lets[5])
+}
+
+// Whether the machines end so, and each has asked its gate exactly so often.
+fn are_gated<R: Threads + Wait + Sync>(rt: &R, alloc: Global, row: &GatedRow) -> Result<bool, Fail> {
+    let (good, then, lets, (turns, missed, status, asks)) = *row;
+    let gate = CountingGate::new(lets);
+    let run = run_until(rt, alloc, good, then, CYCLES, &gate)??;
+    let cycles = turns.saturating_add(missed);
+    let press = &run.outputs.press;
+    let devices = &press.devices;
+    let mut asked = lets.map(asks_of);
+    asked[3] = asks;
+    Ok(
+        (press.turns, press.missed, devices.reads, devices.sets) == (turns, missed, cycles, cycles)
+            && press.status == status
+            && were_others_let_in(&run, lets)
+            && gate.was_asked(asked),
+    )
+}
+
+#[test]
+fn gates_are_asked_once_for_each_cycle(rt: HostRuntime) -> Result<(), Fail> {
+    for row in GATED {
+        assert!(rt; are_gated(&rt, rt.alloc(), row)?, "{row:?}");
     }
     Ok(())
 }
