@@ -2,6 +2,7 @@ mod Names
 mod Flags
 mod DemandsMet
 mod TeamTested
+mod FirstTold
 mod Taking
 mod StaysInStep
 mod GoesOn

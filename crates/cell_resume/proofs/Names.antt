@@ -10,7 +10,7 @@ pub use Rattle.cell_belts_crane.specs.declared.deposit.DepositStep.{DepositStep}
 pub use Rattle.cell_belts_crane.specs.declared.feed.FeedProgress.{FeedProgress}
 pub use Rattle.cell_belts_crane.specs.declared.feed.FeedStep.{FeedStep}
 pub use Rattle.cell_resume.proofs.Flags.{one_flag, own_flag}
-pub use Rattle.cell_resume.specs.Checkpoints.{AreNumbersOf, IsCheckpointOf, IsWrong, NamesNoStep, NamesStepAstray}
+pub use Rattle.cell_resume.specs.Checkpoints.{AreNumbersOf, IsCheckpointOf, IsFirst, IsWrong, NamesNoStep, NamesStepAstray, place_of, place_of_fault}
 pub use Rattle.cell_resume.specs.Resuming.{IsResumable, resumed_steps}
 pub use Rattle.cell_resume.specs.TeamTest.{team_in, then_test}
 pub use Rattle.cell_resume.specs.Teams.{AreInStep, Stood, stood}
@@ -32,4 +32,4 @@ pub use Rattle.cell_table_press.specs.declared.press.PressStep.{PressStep}
 pub use Rattle.cell_table_press.specs.declared.table.TableProgress.{TableProgress}
 pub use Rattle.cell_table_press.specs.declared.table.TableStep.{TableStep}
 pub use Rattle.cell_team.proofs.lemmas.Reaching.{AreYieldless, KnowingMore, OwnYieldless, own_yieldless, reached_both, yieldless}
-pub use Rattle.std.proofs.Common.{Bool, Err, List, None, Ok, Option, Result, Some, ap, arith, eq-eqb, eqb-true, false, if◌then◌else◌, nat_eq, option_map, pos, refl, slice_get, subst, sym, true, ℕ, ℤ, ◌*◌, ◌+◌, ◌<◌, ◌↔◌, ◌∙◌, ◌≡◌, ◌≢◌}
+pub use Rattle.std.proofs.Common.{Bool, Err, List, None, Ok, Option, Result, Some, ap, arith, eq-eqb, eqb-true, false, if◌then◌else◌, nat_eq, option_map, pos, refl, slice_get, subst, sym, true, ℕ, ℤ, ◌*◌, ◌/◌, ◌+◌, ◌<◌, ◌≤◌, ◌↔◌, ◌∙◌, ◌≡◌, ◌≢◌}

@@ -1,5 +1,5 @@
 -- The number of a step of the press leads back to the step, with its notes.
-use Rattle.cell_resume.proofs.Names.{◌≡◌, Bool, true, Some, refl, ap, ◌∙◌, ℕ, ◌+◌, ◌*◌, ◌<◌, nat_eq, if◌then◌else◌, arith, option_map, slice_get, Press, PressIn, PressOut, ModelState, is_full, same_flag, and_left, and_right, PressStep, PressProgress, one_flag}
+use Rattle.cell_resume.proofs.Names.{◌≡◌, Bool, true, Some, refl, ap, ◌∙◌, ℕ, ◌+◌, ◌*◌, ◌<◌, ◌/◌, nat_eq, if◌then◌else◌, arith, option_map, slice_get, Press, PressIn, PressOut, ModelState, is_full, same_flag, and_left, and_right, PressStep, PressProgress, one_flag}
 use Rattle.std.proofs.lemmas.Nat.{div-mul-add, mod-mul-add}
 use Rattle.cell_control.specs.Keeping.{are_kept}
 use Rattle.cell_devices.specs.declared.motor.Direction.{Direction}
@@ -19,8 +19,11 @@ bit_tells : (d : Direction) → (if nat_eq (bit_of d) 1 then Upward else Downwar
 bit_tells Upward = refl
 bit_tells Downward = refl
 
-direction_back : (n : ℕ) (d : Direction) → direction_of (n * 2 + bit_of d) ≡ d
+pub direction_back : (n : ℕ) (d : Direction) → direction_of (n * 2 + bit_of d) ≡ d
 direction_back n d = ap (λ x. if nat_eq x 1 then Upward else Downward) (mod-mul-add n 2 (bit_of d) (bit_small d)) ∙ bit_tells d
+
+pub step_back : (step : PressStep) (d : Direction) → slice_get steps ((number_at step * 2 + bit_of d) / 2) ≡ Some step
+step_back step d = ap (slice_get steps) (div-mul-add (number_at step) 2 (bit_of d) (bit_small d)) ∙ press_found step
 
 pub leads_back : (p : PressProgress) (z : ModelState) → in_step p z ≡ true → progress_at (number_at p.step * 2 + bit_of p.direction) z ≡ Some p
 leads_back p z e =

@@ -1,7 +1,8 @@
 -- What it means to take a checkpoint back.
-use Rattle.cell_resume.proofs.Names.{◌≡◌, ◌≢◌, ◌↔◌, Some, Result, Ok, Err, refl, sym, ap, ◌∙◌, subst, ModelState, IsSound, Team, Checkpoint, ResumeFault, NoState, Stood, stood, IsCheckpointOf, IsWrong, team_in}
+use Rattle.cell_resume.proofs.Names.{◌≡◌, ◌≢◌, ◌↔◌, Some, Result, Ok, Err, refl, sym, ap, ◌∙◌, subst, ModelState, IsSound, Team, Checkpoint, ResumeFault, NoState, Stood, stood, IsCheckpointOf, IsFirst, IsWrong, team_in}
 use Rattle.cell_word.specs.Layout.{packed}
 use Rattle.cell_resume.proofs.TeamTested.{team_tested, tested_team, tested_wrong}
+use Rattle.cell_resume.proofs.FirstTold.{tested_first}
 
 one_state : (a b : ModelState) → Some a ≡ Some b → a ≡ b
 one_state a b e = cc
@@ -33,6 +34,11 @@ module _ (c : Checkpoint) (z : ModelState) (alone : (s : ModelState) → (Some z
   refused x t s sound word =
       let same : z ≡ s = one_state z s ((alone s).1 (sound, word)) in
       subst (λ y. IsWrong c y x) same (tested_wrong c z x t)
+
+  pub first_refused : (x : ResumeFault) → team_in c z ≡ Err x → (s : ModelState) → IsSound s → packed s ≡ c.word → IsFirst c s x
+  first_refused x t s sound word =
+      let same : z ≡ s = one_state z s ((alone s).1 (sound, word)) in
+      subst (λ y. IsFirst c y x) same (tested_first c z x t)
 
   pub is_state : (x : ResumeFault) → team_in c z ≡ Err x → x ≡ NoState → ⊥
   is_state x t e = subst (λ y. IsWrong c z y) e (tested_wrong c z x t)

@@ -58,8 +58,8 @@ module _ {P Q : Type 0} where
   goes : (r : Result P ResumeFault) (p : P) (f : P → Result Q ResumeFault) (w : Result Q ResumeFault) → r ≡ Ok p → f p ≡ w → then_test r f ≡ w
   goes r p f w e k = ap (λ x. then_test x f) e ∙ k
 
-  failed : (r : Result P ResumeFault) (f : P → Result Q ResumeFault) (x : ResumeFault) (W : Type 0) → (r ≡ Err x → W) → ((p : P) → f p ≡ Err x → W) → then_test r f ≡ Err x → W
-  failed (Ok p) f x W one others e = others p e
+  pub failed : (r : Result P ResumeFault) (f : P → Result Q ResumeFault) (x : ResumeFault) (W : Type 0) → (r ≡ Err x → W) → ((p : P) → r ≡ Ok p → f p ≡ Err x → W) → then_test r f ≡ Err x → W
+  failed (Ok p) f x W one others e = others p refl e
   failed (Err y) f x W one others e = one (ap (λ z. Err z) (fault_same y x e))
 
 ok_same : (a b : Team) → ◌≡◌ {A = Result Team ResumeFault} (Ok a) (Ok b) → a ≡ b
@@ -98,9 +98,9 @@ tested_team c s team n i =
 
 pub tested_wrong : (c : Checkpoint) (s : ModelState) (x : ResumeFault) → team_in c s ≡ Err x → IsWrong c s x
 tested_wrong c s x =
-    failed _ _ x (IsWrong c s x) (wrong_by machine.Feed _ c s _ x (λ k. k) (λ k. k)) (λ f.
-    failed _ _ x (IsWrong c s x) (wrong_by machine.Table _ c s _ x (λ k. k) (λ k. k)) (λ t.
-    failed _ _ x (IsWrong c s x) (wrong_by machine.Robot _ c s _ x (λ k. k) (λ k. k)) (λ r.
-    failed _ _ x (IsWrong c s x) (wrong_by machine.Press _ c s _ x (λ k. k) (λ k. k)) (λ p.
-    failed _ _ x (IsWrong c s x) (wrong_by machine.Deposit _ c s _ x (λ k. k) (λ k. k)) (λ d.
-    failed _ _ x (IsWrong c s x) (wrong_by machine.Crane _ c s _ x (λ k. k) (λ k. k)) (λ h e. cc))))))
+    failed _ _ x (IsWrong c s x) (wrong_by machine.Feed _ c s _ x (λ k. k) (λ k. k)) (λ f ok.
+    failed _ _ x (IsWrong c s x) (wrong_by machine.Table _ c s _ x (λ k. k) (λ k. k)) (λ t ok.
+    failed _ _ x (IsWrong c s x) (wrong_by machine.Robot _ c s _ x (λ k. k) (λ k. k)) (λ r ok.
+    failed _ _ x (IsWrong c s x) (wrong_by machine.Press _ c s _ x (λ k. k) (λ k. k)) (λ p ok.
+    failed _ _ x (IsWrong c s x) (wrong_by machine.Deposit _ c s _ x (λ k. k) (λ k. k)) (λ d ok.
+    failed _ _ x (IsWrong c s x) (wrong_by machine.Crane _ c s _ x (λ k. k) (λ k. k)) (λ h ok e. cc))))))

@@ -1,5 +1,5 @@
 -- What is handed out after a turn, and taken back.
-use Rattle.std.specs.Prelude.{◌≡◌, ℕ, false, List, take, get_or, Some, None}
+use Rattle.std.specs.Prelude.{◌≡◌, ◌≤◌, ℕ, ◌/◌, false, List, take, get_or, slice_get, Some, None}
 use Rattle.std.specs.Int.{w64, from_le_bytes}
 use Rattle.cell_types.specs.declared.machine.Machine.{Machine}
 use Rattle.cell_types.specs.declared.machine.Machine.TheVariants as machine
@@ -20,8 +20,19 @@ use Rattle.cell_resume.specs.FeedKeeps as feed
 use Rattle.cell_resume.specs.TableKeeps as table
 use Rattle.cell_resume.specs.RobotKeeps as robot
 use Rattle.cell_resume.specs.PressKeeps as press
+use Rattle.cell_resume.specs.PressKeeps.{direction_of}
 use Rattle.cell_resume.specs.DepositKeeps as deposit
 use Rattle.cell_resume.specs.CraneKeeps as crane
+
+-- whatever the state is, each number names the step of its machine, and the press's tells its last direction too
+pub record AreNumbersOfSteps (c : Checkpoint) (team : Team) : Type 0 where
+  pub feed : slice_get feed.steps c.feed ≡ Some team.feed.step
+  pub table : slice_get table.steps c.table ≡ Some team.table.step
+  pub robot : slice_get robot.steps c.robot ≡ Some team.robot.step
+  pub press : slice_get press.steps (c.press / 2) ≡ Some team.press.step
+  pub direction : direction_of c.press ≡ team.press.direction
+  pub deposit : slice_get deposit.steps c.deposit ≡ Some team.deposit.step
+  pub crane : slice_get crane.steps c.crane ≡ Some team.crane.step
 
 -- the numbers are those of the team's steps, with their notes by the state
 pub record AreNumbersOf (c : Checkpoint) (s : ModelState) (team : Team) : Type 0 where
@@ -70,6 +81,25 @@ abbrev pub IsWrong : Checkpoint → ModelState → ResumeFault → Type 0
 IsWrong c s NoState = ⊥
 IsWrong c s (NoStep m) = NamesNoStep c s m
 IsWrong c s (NotInStep m) = NamesStepAstray c s m
+
+-- the place of a machine in the order of the tests, and that of the machine that a fault names
+abbrev pub place_of : Machine → ℕ
+place_of machine.Feed = 0
+place_of machine.Table = 1
+place_of machine.Robot = 2
+place_of machine.Press = 3
+place_of machine.Deposit = 4
+place_of machine.Crane = 5
+place_of machine.Watch = 6
+
+abbrev pub place_of_fault : ResumeFault → ℕ
+place_of_fault NoState = 0
+place_of_fault (NoStep m) = place_of m
+place_of_fault (NotInStep m) = place_of m
+
+-- nothing is wrong with a machine before that of this fault
+abbrev pub IsFirst : Checkpoint → ModelState → ResumeFault → Type 0
+IsFirst c s fault = (other : ResumeFault) → IsWrong c s other → place_of_fault fault ≤ place_of_fault other
 
 -- fourteen bytes: the word's, the lowest first, and the six numbers
 abbrev pub checkpoint_in : List ℕ → Checkpoint

@@ -6,7 +6,7 @@ use Rattle.cell_types.specs.declared.posture.Posture.{Posture}
 use Rattle.cell_rules.specs.Types.{Closed, Moving, OpenIn, OpenOut}
 use Rattle.cell_rules.specs.Names.{ModelState}
 use Rattle.cell_rules.specs.ModelState.{model_state}
-use Rattle.cell_rules.specs.PlaceSet.{PlaceSet, place_set}
+use Rattle.cell_rules.specs.PlaceSet.{place_set}
 use Rattle.cell_rules.specs.ZoneMap.{ZoneMap, zone_map}
 use Rattle.cell_rules.specs.declared.zones.ZoneState.{ZoneState}
 use Rattle.cell_devices.specs.declared.motor.Direction.{Direction}

@@ -2,7 +2,8 @@
 
 ghost use Rattle.std.specs.Prelude.{◌≡◌};
 ghost use Rattle.cell_resume.specs.Teams.{AreInStep};
-ghost use Rattle.cell_resume.specs.Checkpoints.{IsCheckpointOf, checkpoint_in};
+ghost use Rattle.cell_word.specs.Layout.{packed};
+ghost use Rattle.cell_resume.specs.Checkpoints.{AreNumbersOfSteps, IsCheckpointOf, checkpoint_in};
 
 use crate::{crane, deposit, feed, press, robot, table};
 use cell_rules::State;
@@ -33,9 +34,13 @@ pub struct Checkpoint {
 }
 
 impl Checkpoint {
-    /// The checkpoint of machines that stand at these steps in a state.
+    /// The checkpoint of machines that stand at these steps in a state. The numbers are those of the
+    /// steps, whether they are in step with the state or not.
     pub fn of(state: &State, team: &Team) -> Checkpoint
-        ensures { AreInStep team.now state.now → IsCheckpointOf result state.now team.now }
+        ensures word { result.word ≡ packed state.now }
+        ensures steps { AreNumbersOfSteps result team.now }
+        ensures in_step { AreInStep team.now state.now
+            → IsCheckpointOf result state.now team.now }
     {
         states_are_sound(state);
         Checkpoint {

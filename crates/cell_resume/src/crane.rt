@@ -36,7 +36,8 @@ pub fn is_in_step(progress: CraneProgress, state: &State) -> bool
 
 /// The number of a step. Its note follows from the step, where it is in step with a state.
 pub fn number(progress: CraneProgress) -> u8
-    ensures { (s : ModelState) → keeps.in_step progress s ≡ true
+    ensures step { slice_get keeps.steps result ≡ Some progress.step }
+    ensures in_step { (s : ModelState) → keeps.in_step progress s ≡ true
         → keeps.progress_at result ≡ Some progress }
 {
     progress.step.number()

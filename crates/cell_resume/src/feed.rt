@@ -1,6 +1,6 @@
 //! The feed belt: the test of its step, and the step that a number names.
 
-ghost use Rattle.std.specs.Prelude.{◌≡◌, true, Some};
+ghost use Rattle.std.specs.Prelude.{◌≡◌, true, Some, slice_get};
 ghost use Rattle.cell_types.specs.declared.machine.Machine.TheVariants as machine;
 ghost use Rattle.cell_rules.specs.ModelState.{ModelState};
 ghost use Rattle.cell_resume.specs.Testing.{tested};
@@ -35,7 +35,8 @@ pub fn is_in_step(progress: FeedProgress, state: &State) -> bool
 
 /// The number of a step. Its notes are told by a state that is in step with it.
 pub fn number(progress: FeedProgress) -> u8
-    ensures { (s : ModelState) → keeps.in_step progress s ≡ true
+    ensures step { slice_get keeps.steps result ≡ Some progress.step }
+    ensures in_step { (s : ModelState) → keeps.in_step progress s ≡ true
         → keeps.progress_at result s ≡ Some progress }
 {
     progress.step.number()

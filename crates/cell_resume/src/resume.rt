@@ -8,7 +8,7 @@ ghost use Rattle.cell_team.specs.Team.{Team};
 ghost use Rattle.cell_resume.specs.declared.fault.ResumeFault.{ResumeFault};
 ghost use Rattle.cell_resume.specs.declared.fault.ResumeFault.TheVariants.{NoState};
 ghost use Rattle.cell_resume.specs.Teams.{stood};
-ghost use Rattle.cell_resume.specs.Checkpoints.{IsCheckpointOf, IsWrong, checkpoint_in};
+ghost use Rattle.cell_resume.specs.Checkpoints.{IsCheckpointOf, IsFirst, IsWrong, checkpoint_in};
 
 use crate::checkpoint::{Checkpoint, CheckpointBytes};
 use crate::fault::ResumeFault;
@@ -19,7 +19,8 @@ use crate::resuming::ResumedCell;
 ///
 /// Bytes that were handed out by machines in step with their state are always taken back, and mean
 /// that state and these steps. `NoState`, `NoStep` and `NotInStep` say what is wrong with others,
-/// and with which machine.
+/// and with which machine: of several machines with the first, in the order feed belt, table, robot,
+/// press, deposit belt, crane.
 pub fn resume_at(bytes: CheckpointBytes) -> Result<ResumedCell, ResumeFault>
     ensures ok { (s : ModelState) (team : Team)
         → (result ≡ Ok (stood s team)) ↔ IsCheckpointOf (checkpoint_in bytes) s team }
@@ -28,6 +29,9 @@ pub fn resume_at(bytes: CheckpointBytes) -> Result<ResumedCell, ResumeFault>
     ensures wrong { (s : ModelState) (fault : ResumeFault) → IsSound s
         → packed s ≡ (checkpoint_in bytes).word → result ≡ Err fault
         → IsWrong (checkpoint_in bytes) s fault }
+    ensures first { (s : ModelState) (fault : ResumeFault) → IsSound s
+        → packed s ≡ (checkpoint_in bytes).word → result ≡ Err fault
+        → IsFirst (checkpoint_in bytes) s fault }
 {
     Checkpoint::from_bytes(bytes).resume()
 }

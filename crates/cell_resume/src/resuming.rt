@@ -146,7 +146,7 @@ impl ResumedCell {
 impl Checkpoint {
     ghost use Rattle.cell_team.specs.Team.{Team};
     ghost use Rattle.cell_resume.specs.Teams.{stood};
-    ghost use Rattle.cell_resume.specs.Checkpoints.{IsCheckpointOf, IsWrong};
+    ghost use Rattle.cell_resume.specs.Checkpoints.{IsCheckpointOf, IsFirst, IsWrong};
     ghost use Rattle.cell_resume.specs.TeamTest.{team_in};
 
     /// The cell that may go on from this checkpoint. Errors are those of [`resume_at`].
@@ -157,6 +157,8 @@ impl Checkpoint {
             ↔ ((s : ModelState) → IsSound s → packed s ≢ self.now.word) }
         ensures wrong { (s : ModelState) (fault : ResumeFault) → IsSound s
             → packed s ≡ self.now.word → result ≡ Err fault → IsWrong self.now s fault }
+        ensures first { (s : ModelState) (fault : ResumeFault) → IsSound s
+            → packed s ≡ self.now.word → result ≡ Err fault → IsFirst self.now s fault }
     {
         match unpack(self.word) {
             Some(state) => match self.team_in(&state) {

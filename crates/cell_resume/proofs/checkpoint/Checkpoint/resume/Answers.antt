@@ -1,6 +1,6 @@
-use Rattle.cell_resume.proofs.Names.{sym, ap, ◌∙◌, subst, Ok, IsWrong, stood}
+use Rattle.cell_resume.proofs.Names.{sym, ap, ◌∙◌, subst, Ok, IsFirst, IsWrong, stood}
 use Rattle.cell_resume.proofs.TeamTested.{team_tested}
-use Rattle.cell_resume.proofs.Taking.{one_fault, one_cell, taken, given, refused, is_state, has_state}
+use Rattle.cell_resume.proofs.Taking.{one_fault, first_refused, one_cell, taken, given, refused, is_state, has_state}
 use Rattle.cell_resume.proofs.checkpoint.Checkpoint.resume.Goals as goal
 
 pub of-requires : goal.of-requires
@@ -22,3 +22,7 @@ returns-in-Err-clause-no_state c = (
 pub returns-in-Err-clause-wrong : goal.returns-in-Err-clause-wrong
 returns-in-Err-clause-wrong c = λ s fault sound word e.
     subst (λ x. IsWrong c.args.self.now s x) (one_fault _ _ e) (refused c.args.self.now c.in-Some.state c.in-Some.ensures.some c.in-Err.fault (sym c.team_in.ensures ∙ c.in-Err.is) s sound word)
+
+pub returns-in-Err-clause-first : goal.returns-in-Err-clause-first
+returns-in-Err-clause-first c = λ s fault sound word e.
+    subst (λ x. IsFirst c.args.self.now s x) (one_fault _ _ e) (first_refused c.args.self.now c.in-Some.state c.in-Some.ensures.some c.in-Err.fault (sym c.team_in.ensures ∙ c.in-Err.is) s sound word)
