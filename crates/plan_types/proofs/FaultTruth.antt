@@ -21,11 +21,11 @@ both_say : (P : PlanFault → Type 0) (a b : Option PlanFault) → ((f : PlanFau
 both_say P None b here there f e = there f e
 both_say P (Some g) b here there f e = here f e
 
-some_says : (P : PlanFault → Type 0) (b : Bool) (g : PlanFault) → (b ≡ true → P g) → (f : PlanFault) → then_some b g ≡ Some f → P f
+pub some_says : (P : PlanFault → Type 0) (b : Bool) (g : PlanFault) → (b ≡ true → P g) → (f : PlanFault) → then_some b g ≡ Some f → P f
 some_says P true g says f e = let same : g ≡ f = cc in subst P same (says refl)
 some_says P false g says f e = cc
 
-one_says : (P : PlanFault → Type 0) (b : Bool) (g : PlanFault) → (b ≡ false → P g) → (f : PlanFault) → unless b g ≡ Some f → P f
+pub one_says : (P : PlanFault → Type 0) (b : Bool) (g : PlanFault) → (b ≡ false → P g) → (f : PlanFault) → unless b g ≡ Some f → P f
 one_says P true g says f e = cc
 one_says P false g says f e = let same : g ≡ f = cc in subst P same (says refl)
 

@@ -20,7 +20,7 @@ keeps t m p e =
 pub is_kept : (t : PlanTable) (m p : ℕ) → Keeps t m p → is_place_of t p m ≡ true
 is_kept t m p k = rw (lt-ltb _ _ k.0, eq-eqb _ _ k.1) refl
 
-between : (t : PlanTable) (giver receiver : ℕ) (given : Option Way) → IsTrue (leads t giver receiver given)
+pub between : (t : PlanTable) (giver receiver : ℕ) (given : Option Way) → IsTrue (leads t giver receiver given)
     → GoesBetween t giver receiver given
 between t giver receiver None e w is = cc
 between t giver receiver (Some v) e w is =

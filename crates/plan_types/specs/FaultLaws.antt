@@ -1,5 +1,5 @@
--- What each fault says, on the rows themselves: a fault that is found in tables is there.
-use Rattle.std.specs.Prelude.{◌≡◌, ℕ, ◌+◌, ◌*◌, ◌<◌, ◌≤◌, length, get_or, Some, None}
+-- What each fault says, on the rows themselves: a fault that is found in tables is there, and none comes before it.
+use Rattle.std.specs.Prelude.{◌≡◌, ◌⊎◌, ℕ, suc, ◌+◌, ◌*◌, ◌<◌, ◌≤◌, length, get_or, Some, None}
 use Rattle.plan_types.specs.declared.posture.Posture.{Posture}
 use Rattle.plan_types.specs.declared.fault.PlanFault.{PlanFault}
 use Rattle.plan_types.specs.declared.fault.PlanFault.TheVariants.{TooManyMachines, TooManyZones, TooManyPoses}
@@ -43,3 +43,53 @@ Says t (ForeignZone p z) = OfPose t p (GivesForeign t z)
 
 abbrev pub FaultsAreTrue : Type 0
 FaultsAreTrue = (t : PlanTable) (fault : PlanFault) → plan_fault t ≡ Some fault → Says t fault
+
+-- the order of faults: first the counts and the width, then the places, the zones and the poses
+abbrev pub part_of : PlanFault → ℕ
+part_of TooManyMachines = 0
+part_of TooManyZones = 1
+part_of TooManyPoses = 2
+part_of TooManyPlaces = 3
+part_of (TooWide missing) = 4
+part_of (NoSuchKeeper p) = 5
+part_of (NoSuchHost z) = 6
+part_of (NoSuchGuest z) = 6
+part_of (HostIsGuest z) = 6
+part_of (InwardAstray z) = 6
+part_of (OutwardAstray z) = 6
+part_of (NoSuchMachine p) = 7
+part_of (ForeignZone p z) = 7
+
+-- in a table the first row comes first
+abbrev pub row_of : PlanFault → ℕ
+row_of (NoSuchKeeper p) = p
+row_of (NoSuchHost z) = z
+row_of (NoSuchGuest z) = z
+row_of (HostIsGuest z) = z
+row_of (InwardAstray z) = z
+row_of (OutwardAstray z) = z
+row_of (NoSuchMachine p) = p
+row_of (ForeignZone p z) = p
+row_of _ = 0
+
+-- of a zone's row the host, the guest, both, and the ways inward and outward; of a pose's row its machine, and then the
+-- zones from the first on
+abbrev pub rank_of : PlanFault → ℕ
+rank_of (NoSuchGuest z) = 1
+rank_of (HostIsGuest z) = 2
+rank_of (InwardAstray z) = 3
+rank_of (OutwardAstray z) = 4
+rank_of (ForeignZone p z) = suc z
+rank_of _ = 0
+
+abbrev pub ComesBefore : PlanFault → PlanFault → Type 0
+ComesBefore a b =
+    (part_of a < part_of b)
+    ⊎ (((part_of a ≡ part_of b) × (row_of a < row_of b))
+    ⊎ ((part_of a ≡ part_of b) × (row_of a ≡ row_of b) × (rank_of a < rank_of b)))
+
+-- no fault that comes before the one that is found is there
+abbrev pub FirstFaultsAreTold : Type 0
+FirstFaultsAreTold =
+    (t : PlanTable) (fault earlier : PlanFault) → plan_fault t ≡ Some fault → ComesBefore earlier fault
+    → ¬ Says t earlier

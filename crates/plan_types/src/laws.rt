@@ -1,6 +1,6 @@
 //! Laws of all tables, each the contract of a function that does nothing.
 ghost use Rattle.std.specs.Prelude.{ℕ};
-ghost use Rattle.plan_types.specs.FaultLaws.{FaultsAreTrue};
+ghost use Rattle.plan_types.specs.FaultLaws.{FaultsAreTrue, FirstFaultsAreTold};
 ghost use Rattle.plan_types.specs.Table.{PlanTable};
 ghost use Rattle.plan_types.specs.TableLaws.{RowsByNumber, TransfersByRow, PosesByZone, PlansKeepRules, RightsByRow};
 
@@ -28,6 +28,12 @@ pub fn rights_by_row()
 /// A fault that is found in tables is there, at the place, zone or pose that it names.
 pub fn faults_are_true()
     ensures { FaultsAreTrue }
+{}
+
+/// No fault that comes before the one that is found is in the tables. First come the counts and the width, then the
+/// places, the zones and the poses, each by their numbers; of a pose first its machine, then the zones by their numbers.
+pub fn first_faults_are_told()
+    ensures { FirstFaultsAreTold }
 {}
 
 /// Plans are the tables that keep the rules, said again on the rows themselves, and no others.

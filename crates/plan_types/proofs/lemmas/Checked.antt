@@ -12,25 +12,25 @@ use Rattle.plan_types.specs.Faults.{◌or◌, unless, count_fault, width_fault, 
 use Rattle.plan_types.specs.Kept.{FitsSheet}
 use Rattle.plan_types.proofs.lemmas.Below.{first_below_none, first_below_all}
 
-both : (a b : Option PlanFault) → (a or b) ≡ None → (a ≡ None) × (b ≡ None)
+pub both : (a b : Option PlanFault) → (a or b) ≡ None → (a ≡ None) × (b ≡ None)
 both None b e = (refl, e)
 both (Some f) b e = cc
 
 both_none : (a b : Option PlanFault) → a ≡ None → b ≡ None → (a or b) ≡ None
 both_none a b e f = rw (e, f) refl
 
-holds : (b : Bool) (f : PlanFault) → unless b f ≡ None → b ≡ true
+pub holds : (b : Bool) (f : PlanFault) → unless b f ≡ None → b ≡ true
 holds true f e = refl
 holds false f e = cc
 
 no_fault : (b : Bool) (f : PlanFault) → b ≡ true → unless b f ≡ None
 no_fault b f e = rw e refl
 
-both_true : (a b : Bool) → (a && b) ≡ true → (a ≡ true) × (b ≡ true)
+pub both_true : (a b : Bool) → (a && b) ≡ true → (a ≡ true) × (b ≡ true)
 both_true true b e = (refl, e)
 both_true false b e = cc
 
-apart : (a b : ℕ) → not (nat_eq a b) ≡ true → a ≢ b
+pub apart : (a b : ℕ) → not (nat_eq a b) ≡ true → a ≢ b
 apart a b e same = let t = eq-eqb a b same in cc
 
 test_apart : (a b : ℕ) → a ≢ b → not (nat_eq a b) ≡ true
@@ -95,7 +95,7 @@ no_zone_fault t z k =
     (no_fault _ (InwardAstray z) k.inward))
     (no_fault _ (OutwardAstray z) k.outward)
 
-hosted : (o : Option Posture) (h : Bool) (f : PlanFault) (q : Posture) → then_some (is_some o && not h) f ≡ None → o ≡ Some q → h ≡ true
+pub hosted : (o : Option Posture) (h : Bool) (f : PlanFault) (q : Posture) → then_some (is_some o && not h) f ≡ None → o ≡ Some q → h ≡ true
 hosted None h f q e s = cc
 hosted (Some x) true f q e s = refl
 hosted (Some x) false f q e s = cc
