@@ -3,4 +3,6 @@ mod Answering
 mod OwnPoses
 mod ScriptRows
 mod ScriptLaws
+mod TextLaws
+mod RecordLaws
 mod RequestRows

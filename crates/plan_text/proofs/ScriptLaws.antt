@@ -85,5 +85,7 @@ scripts_of_records n s row rows fault script = record {
   start = refl;
   first = refl;
   from_start = λ e. let h = ap (λ start. answers_from n start rows) e in record { text = ap (λ (a : Answers). a.text) h; outcome = ap (λ (a : Answers). a.outcome) h };
+  no_record = record { text = refl; outcome = refl };
+  no_first = refl;
   no_start = λ e. let h = ap (λ start. answers_from n start rows) e in record { text = ap (λ (a : Answers). a.text) h; outcome = ap (λ (a : Answers). a.outcome) h };
 }

@@ -11,3 +11,5 @@ pub mod Examples
 pub mod WordExamples
 pub mod ScriptExamples
 pub mod ScriptLaws
+pub mod TextLaws
+pub mod RecordLaws

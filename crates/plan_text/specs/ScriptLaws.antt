@@ -8,7 +8,7 @@ use Rattle.csv_rows.specs.Numbers.{number_in}
 use Rattle.csv_rows.specs.Rows.{Row}
 use Rattle.csv_rows.specs.ScriptEnd.{end_text}
 use Rattle.csv_rows.specs.declared.script_end.ScriptFault.{ScriptFault}
-use Rattle.csv_rows.specs.declared.script_end.ScriptFault.TheVariants.{BadRow, BadStart, Long}
+use Rattle.csv_rows.specs.declared.script_end.ScriptFault.TheVariants.{BadRow, BadStart, Long, NoStart}
 use Rattle.csv_rows.specs.declared.script_end.Outcome.{Outcome}
 use Rattle.csv_rows.specs.declared.script_end.Outcome.TheVariants.{Clean, Refused}
 use Rattle.plan_types.specs.Table.{place_count}
@@ -98,5 +98,7 @@ pub record ScriptsAreOfRecords (n : Named) (s : State) (row : Row) (rows : List 
       → Continue (rows_answers n (row ∷ rows))
       (codes "0 " ++ decimal s.stamp ++ codes " start " ++ decimal (count_by (λ full. full) s.full) ++ codes "\n")
       (answers_of n 0 s rows)
+  pub no_record : EndWith (rows_answers n []) (end_text (Refused NoStart)) (Refused NoStart)
+  pub no_first : rows_start n [] ≡ Err NoStart
   pub no_start : rows_start n (row ∷ rows) ≡ Err fault
       → EndWith (rows_answers n (row ∷ rows)) (end_text (Refused fault)) (Refused fault)

@@ -6,8 +6,10 @@ ghost use Rattle.plan_text.specs.Examples as examples;
 ghost use Rattle.plan_text.specs.Laws as laws;
 ghost use Rattle.plan_text.specs.Named.{Named};
 ghost use Rattle.plan_text.specs.Names.{Text};
+ghost use Rattle.plan_text.specs.RecordLaws as record_laws;
 ghost use Rattle.plan_text.specs.ScriptExamples as scripts;
 ghost use Rattle.plan_text.specs.ScriptLaws as script_laws;
+ghost use Rattle.plan_text.specs.TextLaws as text_laws;
 ghost use Rattle.plan_text.specs.declared.calls.Verb.{Verb};
 ghost use Rattle.plan_text.specs.declared.request.Request.{Request};
 ghost use Rattle.plan_rules.specs.declared.state.State.{State};
@@ -66,6 +68,34 @@ pub fn records_are_answered()
         → script_laws.StartsAreOfDigits count digits field stamp }
     ensures scripts { (n : Named) (s : State) (row : Row) (rows : List Row) (fault : ScriptFault)
         (script : Text) → script_laws.ScriptsAreOfRecords n s row rows fault script }
+{}
+
+/// Which texts are names, and which are taken: of any text, whatever its bytes and its length. A text is read as a verb
+/// or a posture only if it is its word.
+pub fn texts_are_judged()
+    ensures names { (first : ℕ) (rest : Text) → text_laws.TextsAreNames first rest }
+    ensures taken { (name : Text) (verb : Verb) → text_laws.TextsAreTaken name verb }
+    ensures of_one { (word : Text) (verb : Verb) (posture : Posture)
+        → text_laws.WordsAreOfOne word verb posture }
+{}
+
+/// The first of the same names has the number, and of a machine's own poses the first counts: of any names.
+pub fn first_names_count()
+    ensures numbers { (names : List Text) (name : Text) (number : ℕ)
+        → text_laws.FirstsHaveNumbers names name number }
+    ensures poses { (n : Named) (machine pose : ℕ) (name : Text)
+        → text_laws.FirstOwnPosesCount n machine pose name }
+{}
+
+/// Which records are calls, and which are starts: of any record, whatever its length and its fields. And what is told of
+/// a record that is no call.
+pub fn any_records_are_read()
+    ensures calls { (n : Named) (row rest : Row) (who word name : Text) (r : Request)
+        → record_laws.RecordsAreCalls n row rest who word name r }
+    ensures starts { (count : ℕ) (rest : Row) (word digits field : Text) (s : State)
+        → record_laws.RecordsAreStarts count rest word digits field s }
+    ensures reasons { (n : Named) (row rest : Row) (who word name : Text) (machine : ℕ) (verb : Verb)
+        → record_laws.ReasonsAreOfFields n row rest who word name machine verb }
 {}
 
 /// Examples: the whole text of each answer.

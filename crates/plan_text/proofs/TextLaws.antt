@@ -1,0 +1,221 @@
+-- Which texts are names and words, of all.
+use Rattle.std.proofs.Common.{◌≡◌, ◌≢◌, ◌∙◌, ◌⊎◌, inl, inr, ℕ, zero, suc, ◌<◌, ◌≤◌, Bool, true, false, ◌&&◌, ◌||◌, cond, List, [], ◌∷◌, ◌++◌, codes, length, nat_eq, nat_le, Option, Some, None, All, Contains, IsTrue, refl, sym, ap, arith}
+use Rattle.std.specs.Prelude.{slice_index}
+use Rattle.std.specs.Bool.{then_some}
+use Rattle.std.specs.Char.{is_ascii_digit, is_ascii_lowercase}
+use Rattle.std.specs.List.{find, list_all, list_any}
+use Rattle.std.specs.Option.{option_or}
+use Rattle.std.specs.Str.{bytes_eq}
+use Rattle.std.proofs.lemmas.Bool.{and_from, and_parts, and_right, cases_Bool, eq-eqb, eqb-true, false_from_ne_true, le-leb, leb-true, lt-leb, or_cases, or_left, or_right}
+use Rattle.std.proofs.lemmas.List.Elements.{All-weaker}
+use Rattle.std.proofs.lemmas.List.Folds.{list_all-append}
+use Rattle.std.proofs.lemmas.List.Sums.{list_all-from_AllPass}
+use Rattle.std.proofs.lemmas.Option.{same_Some}
+use Rattle.std.proofs.lemmas.Slice.Eq.{bytes_eq-Decides}
+use Rattle.plan_types.specs.Below.{first_below}
+use Rattle.plan_types.specs.Table.{machine_of}
+use Rattle.plan_types.specs.declared.posture.Posture.{Posture}
+use Rattle.plan_types.specs.declared.posture.Posture.TheVariants as posture
+use Rattle.plan_types.proofs.lemmas.Below.{first_below_none}
+use Rattle.plan_text.specs.Answers.{all_postures, posture_of, posture_word}
+use Rattle.plan_text.specs.Calls.{all_verbs, own_pose, pose_if, verb_of, verb_word}
+use Rattle.plan_text.specs.Named.{Named}
+use Rattle.plan_text.specs.Names.{Text, is_name, is_name_byte, is_reserved, name_in, number_if, number_in}
+use Rattle.plan_text.specs.TextLaws.{FirstOwnPosesCount, FirstsHaveNumbers, IsLetter, IsOfNames, IsTaken, TextsAreNames, TextsAreTaken, WordsAreOfOne}
+use Rattle.plan_text.specs.declared.calls.Verb.{Verb}
+use Rattle.plan_text.specs.declared.calls.Verb.TheVariants.{Claim, Give, Yield, Take, Release, Inquire, Pose}
+use Rattle.plan_text.proofs.Told.{passed}
+
+-- ---- names
+
+first_false : (a b c : Bool) → a ≡ false → (a && b && c) ≡ false
+first_false a b c e = rw e refl
+
+middle_false : (a b c : Bool) → b ≡ false → (a && b && c) ≡ false
+middle_false true b c e = rw e refl
+middle_false false b c e = refl
+
+last_false : (a b c : Bool) → c ≡ false → (a && b && c) ≡ false
+last_false true true c e = e
+last_false true false c e = refl
+last_false false b c e = refl
+
+all_true : (a b c : Bool) → a ≡ true → b ≡ true → c ≡ true → (a && b && c) ≡ true
+all_true a b c e f g = rw (e, f, g) refl
+
+letter : (byte : ℕ) → is_ascii_lowercase byte ≡ true → IsLetter byte
+letter byte e =
+    let h = and_parts (nat_le 97 byte) (nat_le byte 122) e in
+    (leb-true 97 byte h.0, leb-true byte 122 h.1)
+
+is_letter : (byte : ℕ) → IsLetter byte → is_ascii_lowercase byte ≡ true
+is_letter byte h = and_from (nat_le 97 byte) (nat_le byte 122) (le-leb 97 byte h.0) (le-leb byte 122 h.1)
+
+of_names : (byte : ℕ) → is_name_byte byte ≡ true → IsOfNames byte
+of_names byte e = elim (or_cases (is_ascii_lowercase byte || is_ascii_digit byte) (nat_eq byte 95) e) [
+  | inl h ↦ elim (or_cases (is_ascii_lowercase byte) (is_ascii_digit byte) h) [
+    | inl k ↦ inl (letter byte k)
+    | inr k ↦ (let d = and_parts (nat_le 48 byte) (nat_le byte 57) k in inr (inl (leb-true 48 byte d.0, leb-true byte 57 d.1)))
+  ]
+  | inr h ↦ inr (inr (eqb-true byte 95 h))
+]
+
+is_of_names : (byte : ℕ) → IsOfNames byte → is_name_byte byte ≡ true
+is_of_names byte (inl h) = or_left (is_ascii_lowercase byte || is_ascii_digit byte) (nat_eq byte 95) (or_left (is_ascii_lowercase byte) (is_ascii_digit byte) (is_letter byte h))
+is_of_names byte (inr (inl h)) =
+    or_left (is_ascii_lowercase byte || is_ascii_digit byte) (nat_eq byte 95)
+    (or_right (is_ascii_lowercase byte) (is_ascii_digit byte) (and_from (nat_le 48 byte) (nat_le byte 57) (le-leb 48 byte h.0) (le-leb byte 57 h.1)))
+is_of_names byte (inr (inr h)) = or_right (is_ascii_lowercase byte || is_ascii_digit byte) (nat_eq byte 95) (eq-eqb byte 95 h)
+
+other_in : (before : Text) (byte : ℕ) (after : Text) → ¬ IsOfNames byte → list_all is_name_byte (before ++ byte ∷ after) ≡ false
+other_in before byte after other =
+    let no : is_name_byte byte ≡ false = false_from_ne_true (is_name_byte byte) (λ e. other (of_names byte e)) in
+    list_all-append is_name_byte before (byte ∷ after)
+    ∙ and_right (list_all is_name_byte before) (is_name_byte byte && list_all is_name_byte after) (rw no refl)
+
+pub texts_are_names : (first : ℕ) (rest : Text) → TextsAreNames first rest
+texts_are_names first rest = record {
+  longer = λ l. middle_false _ _ _ (lt-leb (length (first ∷ rest)) 32 l);
+  other_first = λ other. first_false _ _ _ (false_from_ne_true (is_ascii_lowercase first) (λ e. other (letter first e)));
+  other_byte = λ before byte after other. last_false (is_ascii_lowercase (slice_index (before ++ byte ∷ after) 0)) (nat_le (length (before ++ byte ∷ after)) 32) _ (other_in before byte after other);
+  others = λ h all few.
+      all_true _ _ _ (is_letter first h) (le-leb (length (first ∷ rest)) 32 few)
+      (and_from (is_name_byte first) (list_all is_name_byte rest) (is_of_names first (inl h))
+      (list_all-from_AllPass is_name_byte rest (All-weaker IsOfNames (λ byte. is_name_byte byte ≡ true) is_of_names rest all)));
+}
+
+-- ---- taken texts
+
+one_of : (word name : Text) (others : Bool) (P : Type 0) → (bytes_eq word name || others) ≡ true → (name ≡ word → P) → (others ≡ true → P) → P
+one_of word name others P e is isnt = elim (or_cases (bytes_eq word name) others e) [
+  | inl h ↦ is (sym ((bytes_eq-Decides word name).0 h))
+  | inr h ↦ isnt h
+]
+
+pub texts_are_taken : (name : Text) (verb : Verb) → TextsAreTaken name verb
+texts_are_taken name verb = record {
+  taken = λ e. one_of (codes "watch") name _ (IsTaken name) e (λ is. inr (0, omega arith, sym is)) (λ e.
+      one_of (codes "free") name _ (IsTaken name) e (λ is. inr (1, omega arith, sym is)) (λ e.
+      one_of (codes "start") name _ (IsTaken name) e (λ is. inr (2, omega arith, sym is)) (λ e.
+      one_of (codes "claim") name _ (IsTaken name) e (λ is. inl (Claim, is)) (λ e.
+      one_of (codes "give") name _ (IsTaken name) e (λ is. inl (Give, is)) (λ e.
+      one_of (codes "yield") name _ (IsTaken name) e (λ is. inl (Yield, is)) (λ e.
+      one_of (codes "take") name _ (IsTaken name) e (λ is. inl (Take, is)) (λ e.
+      one_of (codes "release") name _ (IsTaken name) e (λ is. inl (Release, is)) (λ e.
+      one_of (codes "inquire") name _ (IsTaken name) e (λ is. inl (Inquire, is)) (λ e.
+      one_of (codes "pose") name _ (IsTaken name) e (λ is. inl (Pose, is)) (λ e.
+      one_of (codes "stop") name _ (IsTaken name) e (λ is. inr (3, omega arith, sym is)) (λ e.
+      one_of (codes "resume") name _ (IsTaken name) e (λ is. inr (4, omega arith, sym is)) (λ e.
+      absurd (let lie : false ≡ true = e in cc)))))))))))));
+  verbs = by verb;
+}
+  where
+    by : (v : Verb) → is_reserved (verb_word v) ≡ true
+    by Claim = refl
+    by Give = refl
+    by Yield = refl
+    by Take = refl
+    by Release = refl
+    by Inquire = refl
+    by Pose = refl
+
+-- ---- words
+
+-- what is found passes the test
+found_passes : {X : Type 0} (test : X → Bool) (xs : List X) (x : X) → find test xs ≡ Some x → test x ≡ true
+found_passes test [] x e = absurd (cc)
+found_passes test (y ∷ ys) x e = elim (cases_Bool (test y)) [
+  | inl h ↦ (let is : Some y ≡ Some x = sym (ap (λ b. cond b (Some y) (find test ys)) h) ∙ e in ap test (sym (same_Some y x is)) ∙ h)
+  | inr h ↦ found_passes test ys x (sym (ap (λ b. cond b (Some y) (find test ys)) h) ∙ e)
+]
+
+pub of_verb : (word : Text) (verb : Verb) → verb_of word ≡ Some verb → word ≡ verb_word verb
+of_verb word verb e = (bytes_eq-Decides word (verb_word verb)).0 (found_passes (λ v. bytes_eq word (verb_word v)) all_verbs verb e)
+
+of_posture : (word : Text) (posture : Posture) → posture_of word ≡ Some posture → word ≡ posture_word posture
+of_posture word posture e = (bytes_eq-Decides word (posture_word posture)).0 (found_passes (λ p. bytes_eq word (posture_word p)) all_postures posture e)
+
+verb_told : (verb : Verb) → verb_of (verb_word verb) ≡ Some verb
+verb_told Claim = refl
+verb_told Give = refl
+verb_told Yield = refl
+verb_told Take = refl
+verb_told Release = refl
+verb_told Inquire = refl
+verb_told Pose = refl
+
+posture_told : (p : Posture) → posture_of (posture_word p) ≡ Some p
+posture_told posture.Closed = refl
+posture_told posture.Moving = refl
+posture_told posture.OpenIn = refl
+posture_told posture.OpenOut = refl
+
+pub words_are_of_one : (word : Text) (verb : Verb) (posture : Posture) → WordsAreOfOne word verb posture
+words_are_of_one word verb posture = record {
+  of_verb = of_verb word verb;
+  verb_told = verb_told verb;
+  of_posture = of_posture word posture;
+  posture_told = posture_told posture;
+}
+
+-- ---- numbers
+
+-- what is found below a number is that of the first number that has any
+record IsFirst (f : ℕ → Option ℕ) (n v : ℕ) : Type 0 where
+  at : ℕ
+  below : at < n
+  has : f at ≡ Some v
+  none : (i : ℕ) → i < at → f i ≡ None
+
+first_in_either : (f : ℕ → Option ℕ) (n v : ℕ) (o : Option ℕ) → first_below f n ≡ o → option_or o (f n) ≡ Some v → (first_below f n ≡ Some v → IsFirst f n v) → IsFirst f (suc n) v
+first_in_either f n v None none is below = record { at = n; below = omega arith; has = is; none = first_below_none f n none }
+first_in_either f n v (Some w) some is below =
+    let h = below (some ∙ is) in
+    let l = h.below in
+    record { at = h.at; below = omega arith; has = h.has; none = h.none }
+
+first_of : (f : ℕ → Option ℕ) (n v : ℕ) → first_below f n ≡ Some v → IsFirst f n v
+first_of f zero v e = absurd (cc)
+first_of f (suc n) v e = first_in_either f n v (first_below f n) refl e (first_of f n v)
+
+failed : (test : Bool) (k : ℕ) → then_some test k ≡ None → test ≡ false
+failed true k e = absurd (cc)
+failed false k e = refl
+
+pub firsts_have_numbers : (names : List Text) (name : Text) (number : ℕ) → FirstsHaveNumbers names name number
+firsts_have_numbers names name number = record {
+  within = λ e.
+      let h = first_of (number_if names name) (length names) number e in
+      let l = h.below in
+      let is = (passed _ h.at number h.has).1 in
+      omega arith;
+  first = λ earlier e l same.
+      let h = first_of (number_if names name) (length names) number e in
+      let is = (passed _ h.at number h.has).1 in
+      let no = failed _ earlier (h.none earlier (omega arith)) in
+      let yes : bytes_eq (name_in names earlier) name ≡ true = (bytes_eq-Decides (name_in names earlier) name).1 same in
+      let lie : true ≡ false = sym yes ∙ no in
+      cc;
+}
+
+pub first_own_poses_count : (n : Named) (machine pose : ℕ) (name : Text) → FirstOwnPosesCount n machine pose name
+first_own_poses_count n machine pose name = record {
+  within = λ e.
+      let h = first_of (pose_if n machine name) (length n.poses) pose e in
+      let l = h.below in
+      let is = (passed _ h.at pose h.has).1 in
+      omega arith;
+  named = λ e.
+      let h = first_of (pose_if n machine name) (length n.poses) pose e in
+      let p = passed _ h.at pose h.has in
+      let same = (and_parts (nat_eq (machine_of n.plan h.at) machine) (bytes_eq (name_in n.poses h.at) name) p.0).1 in
+      ap (name_in n.poses) (sym p.1) ∙ (bytes_eq-Decides (name_in n.poses h.at) name).0 same;
+  first = λ earlier e l own same.
+      let h = first_of (pose_if n machine name) (length n.poses) pose e in
+      let is = (passed _ h.at pose h.has).1 in
+      let no = failed _ earlier (h.none earlier (omega arith)) in
+      let yes : (nat_eq (machine_of n.plan earlier) machine && bytes_eq (name_in n.poses earlier) name) ≡ true
+      = and_from _ _ (eq-eqb (machine_of n.plan earlier) machine own) ((bytes_eq-Decides (name_in n.poses earlier) name).1 same) in
+      let lie : true ≡ false = sym yes ∙ no in
+      cc;
+}
