@@ -72,7 +72,7 @@ too_short n (who ∷ word ∷ rest) few = absurd (omega arith)
 of_caller : (n : Named) (who : Text) (rest : Row) (r : Request) → request_of n (who ∷ rest) ≡ Some r → caller_of n who ≡ Some r.machine
 unfolding field_at
 of_caller n who rest r e =
-    let h = comes_of (request_by n (who ∷ rest)) (caller_of n who) r (otherwise (nat_lt 3 (length (who ∷ rest))) _ r e) in
+    let h = comes_of (request_by n (who ∷ rest)) (caller_of n who) r (otherwise _ _ r e) in
     let w = comes_of (λ word. option_map (request h.0) (call_in n h.0 word (field_at (who ∷ rest) 2))) (field_at (who ∷ rest) 1) r h.2 in
     h.1 ∙ ap Some (asked h.0 _ r w.2).0
 
@@ -125,7 +125,7 @@ started : (count : ℕ) (digits : Text) (rest : Row) (s : State) → start_in co
 unfolding field_at
 started count digits rest s e =
     made count digits (stamp_in (field_at (codes "start" ∷ digits ∷ rest) 2)) s
-    (otherwise (nat_lt 3 (length (codes "start" ∷ digits ∷ rest))) _ s (given (start_fields count (codes "start" ∷ digits ∷ rest)) BadStart s e))
+    (otherwise _ _ s (given (start_fields count (codes "start" ∷ digits ∷ rest)) BadStart s e))
 
 zero_or_one : (digit : ℕ) → is_flag digit ≡ true → IsZeroOrOne digit
 zero_or_one digit e = elim (or_cases (nat_eq digit 48) (nat_eq digit 49) e) [
