@@ -1,10 +1,10 @@
 -- Which records are calls and starts, of all; and why one is no call.
-use Rattle.std.proofs.Common.{◌≡◌, ◌≢◌, ◌∙◌, ◌⊎◌, inl, inr, ℕ, zero, suc, ◌<◌, ◌≤◌, Bool, true, false, ◌&&◌, List, [], ◌∷◌, ◌++◌, codes, length, nat_eq, nat_le, Option, Some, None, Result, Ok, Err, All, refl, sym, ap, subst, arith}
+use Rattle.std.proofs.Common.{◌≡◌, ◌≢◌, ◌∙◌, inl, inr, ℕ, ◌<◌, Bool, true, false, ◌&&◌, [], ◌∷◌, codes, length, nat_eq, nat_le, Option, Some, None, Ok, Err, refl, sym, ap, subst, arith}
 use Rattle.std.specs.Prelude.{nat_lt, if◌then◌else◌}
 use Rattle.std.specs.List.{list_all}
 use Rattle.std.specs.Option.{ok_or, option_and_then, option_map}
 use Rattle.std.specs.Str.{bytes_eq}
-use Rattle.std.proofs.lemmas.Bool.{and_parts, cases_Bool, eqb-true, false_from_ne_true, le-ltb, leb-true, lt-ltb, or_cases}
+use Rattle.std.proofs.lemmas.Bool.{and_parts, eqb-true, false_from_ne_true, le-ltb, leb-true, lt-ltb, or_cases}
 use Rattle.std.proofs.lemmas.List.Elements.{All-weaker}
 use Rattle.std.proofs.lemmas.List.Sums.{AllPass-from_list_all}
 use Rattle.std.proofs.lemmas.Option.{same_Some}
@@ -12,7 +12,6 @@ use Rattle.std.proofs.lemmas.Slice.Eq.{bytes_eq-Decides}
 use Rattle.csv.specs.Records.{field_at}
 use Rattle.csv_rows.specs.Numbers.{number_in}
 use Rattle.csv_rows.specs.Rows.{Row}
-use Rattle.csv_rows.specs.declared.script_end.ScriptFault.{ScriptFault}
 use Rattle.csv_rows.specs.declared.script_end.ScriptFault.TheVariants.{BadStart, NoStart}
 use Rattle.plan_types.specs.declared.call.Call.{Call}
 use Rattle.plan_types.specs.declared.call.Call.TheVariants.{Stop, Resume}
@@ -21,7 +20,7 @@ use Rattle.plan_rules.specs.State.{last_stamp, start_state}
 use Rattle.plan_text.specs.Calls.{call_of, caller_of, verb_of}
 use Rattle.plan_text.specs.Named.{Named}
 use Rattle.plan_text.specs.Names.{Text}
-use Rattle.plan_text.specs.Reasons.{no_object, why_no_call, wrong_caller}
+use Rattle.plan_text.specs.Reasons.{no_object, why_no_call}
 use Rattle.plan_text.specs.RecordLaws.{IsCallAbout, IsCallAlone, IsZeroOrOne, ReasonsAreOfFields, RecordsAreCalls, RecordsAreStarts}
 use Rattle.plan_text.specs.Requests.{call_in, request, request_by, request_of, stop_by}
 use Rattle.plan_text.specs.Starts.{are_places, full_places, is_flag, stamp_in, start_fields, start_in, start_of}

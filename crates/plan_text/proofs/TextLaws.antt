@@ -1,9 +1,9 @@
 -- Which texts are names and words, of all.
-use Rattle.std.proofs.Common.{◌≡◌, ◌≢◌, ◌∙◌, ◌⊎◌, inl, inr, ℕ, zero, suc, ◌<◌, ◌≤◌, Bool, true, false, ◌&&◌, ◌||◌, cond, List, [], ◌∷◌, ◌++◌, codes, length, nat_eq, nat_le, Option, Some, None, All, Contains, IsTrue, refl, sym, ap, arith}
+use Rattle.std.proofs.Common.{◌≡◌, ◌≢◌, ◌∙◌, inl, inr, ℕ, zero, suc, ◌<◌, Bool, true, false, ◌&&◌, ◌||◌, cond, List, [], ◌∷◌, ◌++◌, codes, length, nat_eq, nat_le, Option, Some, None, option_map, refl, sym, ap, arith}
 use Rattle.std.specs.Prelude.{slice_index}
 use Rattle.std.specs.Bool.{then_some}
 use Rattle.std.specs.Char.{is_ascii_digit, is_ascii_lowercase}
-use Rattle.std.specs.List.{find, list_all, list_any}
+use Rattle.std.specs.List.{find, list_all}
 use Rattle.std.specs.Option.{option_or}
 use Rattle.std.specs.Str.{bytes_eq}
 use Rattle.std.proofs.lemmas.Bool.{and_from, and_parts, and_right, cases_Bool, eq-eqb, eqb-true, false_from_ne_true, le-leb, leb-true, lt-leb, or_cases, or_left, or_right}
@@ -14,14 +14,15 @@ use Rattle.std.proofs.lemmas.Option.{same_Some}
 use Rattle.std.proofs.lemmas.Slice.Eq.{bytes_eq-Decides}
 use Rattle.plan_types.specs.Below.{first_below}
 use Rattle.plan_types.specs.Table.{machine_of}
+use Rattle.plan_types.specs.declared.call.Call.TheVariants as call
 use Rattle.plan_types.specs.declared.posture.Posture.{Posture}
 use Rattle.plan_types.specs.declared.posture.Posture.TheVariants as posture
 use Rattle.plan_types.proofs.lemmas.Below.{first_below_none}
 use Rattle.plan_text.specs.Answers.{all_postures, posture_of, posture_word}
-use Rattle.plan_text.specs.Calls.{all_verbs, own_pose, pose_if, verb_of, verb_word}
+use Rattle.plan_text.specs.Calls.{all_verbs, call_of, pose_if, verb_of, verb_word}
 use Rattle.plan_text.specs.Named.{Named}
-use Rattle.plan_text.specs.Names.{Text, is_name, is_name_byte, is_reserved, name_in, number_if, number_in}
-use Rattle.plan_text.specs.TextLaws.{FirstOwnPosesCount, FirstsHaveNumbers, IsLetter, IsOfNames, IsTaken, TextsAreNames, TextsAreTaken, WordsAreOfOne}
+use Rattle.plan_text.specs.Names.{Text, is_name_byte, is_reserved, name_in, number_if, number_in}
+use Rattle.plan_text.specs.TextLaws.{FirstOwnPosesCount, FirstsHaveNumbers, IsLetter, IsOfNames, IsTaken, TextsAreNames, TextsAreTaken, UnknownNamesCallNothing, WordsAreOfOne}
 use Rattle.plan_text.specs.declared.calls.Verb.{Verb}
 use Rattle.plan_text.specs.declared.calls.Verb.TheVariants.{Claim, Give, Yield, Take, Release, Inquire, Pose}
 use Rattle.plan_text.proofs.Told.{passed}
@@ -218,4 +219,19 @@ first_own_poses_count n machine pose name = record {
       = and_from _ _ (eq-eqb (machine_of n.plan earlier) machine own) ((bytes_eq-Decides (name_in n.poses earlier) name).1 same) in
       let lie : true ≡ false = sym yes ∙ no in
       cc;
+}
+
+no_zone : (n : Named) (machine : ℕ) (verb : Verb) (name : Text) → verb ≢ Pose → number_in n.zones name ≡ None → call_of n machine verb name ≡ None
+no_zone n machine Claim name other none = ap (option_map call.Claim) none
+no_zone n machine Give name other none = ap (option_map call.Give) none
+no_zone n machine Yield name other none = ap (option_map call.Yield) none
+no_zone n machine Take name other none = ap (option_map call.Take) none
+no_zone n machine Release name other none = ap (option_map call.Release) none
+no_zone n machine Inquire name other none = ap (option_map call.Inquire) none
+no_zone n machine Pose name other none = absurd (other refl)
+
+pub unknown_names_call_nothing : (n : Named) (machine : ℕ) (verb : Verb) (name : Text) → UnknownNamesCallNothing n machine verb name
+unknown_names_call_nothing n machine verb name = record {
+  no_zone = no_zone n machine verb name;
+  no_pose = λ own none. ap (λ o. option_map call.SetPose (option_or o (number_in n.poses name))) own ∙ ap (option_map call.SetPose) none;
 }

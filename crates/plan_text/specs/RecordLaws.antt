@@ -27,7 +27,8 @@ abbrev pub IsCallAbout : Named → ℕ → Text → Text → Call → Type 0
 IsCallAbout n machine word name call =
     (verb : Verb) × (word ≡ verb_word verb) × (call_of n machine verb name ≡ Some call)
 
--- no record of more than three fields is a call, whatever its fields, nor one of fewer than two; what the others call
+-- no record of more than three fields is a call, whatever its fields, nor one of fewer than two; of the others, who
+-- calls, and what
 pub record RecordsAreCalls (n : Named) (row rest : Row) (who word name : Text) (r : Request) : Type 0 where
   pub longer : 3 < length row → request_of n row ≡ None
   pub shorter : length row < 2 → request_of n row ≡ None
@@ -40,8 +41,8 @@ pub record RecordsAreCalls (n : Named) (row rest : Row) (who word name : Text) (
 abbrev pub IsZeroOrOne : ℕ → Type 0
 IsZeroOrOne digit = (digit ≡ 48) ⊎ (digit ≡ 49)
 
--- no record of more than three fields is a start, nor one of another first word; of the others each digit counts, and
--- the stamp
+-- no record of more than three fields is a start, nor one of another first word; a start has a digit 0 or 1 for each
+-- place, and a stamp up to the last
 pub record RecordsAreStarts (count : ℕ) (rest : Row) (word digits field : Text) (s : State) : Type 0 where
   pub other_word : word ≢ codes "start" → start_in count (word ∷ rest) ≡ Err NoStart
   pub longer : 2 < length rest → start_in count (codes "start" ∷ rest) ≡ Err BadStart

@@ -1,4 +1,5 @@
--- Laws of scripts: each record is answered in the state that those before it have left, of any plan, whatever its number.
+-- Laws of scripts: each record is answered in the state that those before it have left, of any plan, whatever its
+-- number.
 use Rattle.std.specs.Prelude.{◌≡◌, ◌≢◌, ℕ, ◌+◌, ◌<◌, ◌≤◌, false, List, [], ◌∷◌, ◌++◌, codes, count_by, get_or, length}
 use Rattle.std.specs.Prelude.{nat_eq, IsTrue, Some, None, Ok, Err}
 use Rattle.std.specs.List.{list_all}

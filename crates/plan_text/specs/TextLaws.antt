@@ -1,13 +1,14 @@
--- Laws of any text: which texts are names, which are taken, whose words they are; and the first of the same names counts.
+-- Laws of any text: which texts are names, which are taken, and whose words they are; which name has the number.
 use Rattle.std.specs.Prelude.{◌≡◌, ◌≢◌, ◌⊎◌, ℕ, ◌<◌, ◌≤◌, false, List, [], ◌∷◌, ◌++◌, codes, length, All, Contains}
-use Rattle.std.specs.Prelude.{IsTrue, Some}
+use Rattle.std.specs.Prelude.{IsTrue, Some, None}
 use Rattle.plan_types.specs.Table.{machine_of}
 use Rattle.plan_types.specs.declared.posture.Posture.{Posture}
 use Rattle.plan_text.specs.Answers.{posture_of, posture_word}
-use Rattle.plan_text.specs.Calls.{own_pose, verb_of, verb_word}
+use Rattle.plan_text.specs.Calls.{call_of, own_pose, verb_of, verb_word}
 use Rattle.plan_text.specs.Named.{Named}
 use Rattle.plan_text.specs.Names.{Text, is_name, is_reserved, name_in, number_in}
 use Rattle.plan_text.specs.declared.calls.Verb.{Verb}
+use Rattle.plan_text.specs.declared.calls.Verb.TheVariants.{Pose}
 
 -- ---- names
 
@@ -58,3 +59,8 @@ pub record FirstOwnPosesCount (n : Named) (machine pose : ℕ) (name : Text) : T
   pub named : own_pose n machine name ≡ Some pose → name_in n.poses pose ≡ name
   pub first : (earlier : ℕ) → own_pose n machine name ≡ Some pose → earlier < pose
       → machine_of n.plan earlier ≡ machine → name_in n.poses earlier ≢ name
+
+-- no verb about a name that nothing has is a call, whatever the name: nor about the empty one
+pub record UnknownNamesCallNothing (n : Named) (machine : ℕ) (verb : Verb) (name : Text) : Type 0 where
+  pub no_zone : verb ≢ Pose → number_in n.zones name ≡ None → call_of n machine verb name ≡ None
+  pub no_pose : own_pose n machine name ≡ None → number_in n.poses name ≡ None → call_of n machine Pose name ≡ None

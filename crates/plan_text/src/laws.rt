@@ -57,8 +57,8 @@ pub fn texts_are_by_number()
     ensures answers { (n : Named) (number : ℕ) (posture : Posture) → laws.AnswersByNumber n number posture }
 {}
 
-/// The call in any record, the start in record 0, and the answers to any records, in the state that those before them have left, whatever their
-/// numbers; a script's answers are those to its records.
+/// The call in any record, the start in record 0, and the answers to any records, in the state that those before them
+/// have left, whatever their numbers; a script's answers are those to its records.
 pub fn records_are_answered()
     ensures read { (n : Named) (machine : ℕ) (who word name : Text) (verb : Verb) (call : Call) (rest : Row)
         → script_laws.RecordsAreRead n machine who word name verb call rest }
@@ -79,23 +79,26 @@ pub fn texts_are_judged()
         → text_laws.WordsAreOfOne word verb posture }
 {}
 
-/// The first of the same names has the number, and of a machine's own poses the first counts: of any names.
+/// The first of the same names has the number, and of a machine's own poses the first counts; a name that nothing has
+/// calls nothing: of any names.
 pub fn first_names_count()
     ensures numbers { (names : List Text) (name : Text) (number : ℕ)
         → text_laws.FirstsHaveNumbers names name number }
     ensures poses { (n : Named) (machine pose : ℕ) (name : Text)
         → text_laws.FirstOwnPosesCount n machine pose name }
+    ensures unknown { (n : Named) (machine : ℕ) (verb : Verb) (name : Text)
+        → text_laws.UnknownNamesCallNothing n machine verb name }
 {}
 
-/// Which records are calls, and which are starts: of any record, whatever its length and its fields. And what is told of
-/// a record that is no call.
+/// Which records are calls, and which are starts: of any record, whatever its length and its fields. And what is told
+/// of a record that is no call.
 pub fn any_records_are_read()
     ensures calls { (n : Named) (row rest : Row) (who word name : Text) (r : Request)
         → record_laws.RecordsAreCalls n row rest who word name r }
     ensures starts { (count : ℕ) (rest : Row) (word digits field : Text) (s : State)
         → record_laws.RecordsAreStarts count rest word digits field s }
-    ensures reasons { (n : Named) (row rest : Row) (who word name : Text) (machine : ℕ) (verb : Verb)
-        → record_laws.ReasonsAreOfFields n row rest who word name machine verb }
+    ensures reasons { (n : Named) (row rest : Row) (who word name : Text) (machine : ℕ)
+        (verb : Verb) → record_laws.ReasonsAreOfFields n row rest who word name machine verb }
 {}
 
 /// Examples: the whole text of each answer.
