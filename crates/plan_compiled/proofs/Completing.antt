@@ -11,7 +11,7 @@ use Rattle.plan_rules.proofs.lemmas.Soundness.{done_none, never_done}
 use Rattle.plan_word.specs.OfPlan.{IsOfPlan}
 use Rattle.plan_word.specs.Packed.{packed}
 use Rattle.plan_compiled.specs.declared.covering.Span.{Span}
-use Rattle.plan_compiled.specs.declared.row.Row.{Row}
+use Rattle.plan_compiled.specs.Row.{Row}
 use Rattle.plan_compiled.specs.Needs.{may_ask, Fits}
 use Rattle.plan_compiled.specs.Rows.{matches}
 use Rattle.plan_compiled.specs.Complete.{row_at, IsRowOf, HasRow, HasRows, HasMachineRows, IsComplete, AreOwnRows, OpensOneAtMost, Covers}

@@ -1,7 +1,7 @@
 -- A row that passes all tests is right.
-use Rattle.std.proofs.Common.{◌≡◌, ℕ, ◌+◌, ◌-◌, ◌<◌, ◌^◌, Bool, true, IsTrue, refl, sym, ap, ap₂, ◌∙◌, subst, ltb-true, arith}
+use Rattle.std.proofs.Common.{◌≡◌, ℕ, ◌+◌, ◌-◌, ◌%◌, ◌<◌, ◌^◌, Bool, true, IsTrue, refl, sym, ap, ap₂, ◌∙◌, subst, ltb-true, arith}
 use Rattle.std.specs.Prelude.{bit_and, bit_or}
-use Rattle.std.proofs.lemmas.Bool.{lt-ltb}
+use Rattle.std.proofs.lemmas.Bool.{eqb-true, lt-ltb}
 use Rattle.std.proofs.lemmas.Nat.{and_le_l, and_mask, or_comm, or_lt}
 use Rattle.std.proofs.Common.{mod-eq_of_lt}
 use Rattle.plan_types.specs.declared.answer.Answer.{Answer}
@@ -21,7 +21,7 @@ use Rattle.plan_word.proofs.lemmas.LaidOut.{zone_fits, held_back, laid_out}
 use Rattle.plan_word.proofs.lemmas.RoundTrip.{zone_code_back}
 use Rattle.plan_compiled.specs.declared.part.Part.{Part}
 use Rattle.plan_compiled.specs.declared.right.Asked.{Asked}
-use Rattle.plan_compiled.specs.declared.row.Row.{Row}
+use Rattle.plan_compiled.specs.Row.{Row, no_row}
 use Rattle.plan_compiled.specs.Needs as needs
 use Rattle.plan_compiled.specs.Needs.{Fits}
 use Rattle.plan_compiled.specs.Rows.{matches, written, part_in, IsRight}
@@ -121,3 +121,16 @@ rights t a p r k q is = subst (IsRight t) (sym is) (record {
       ∙ stamp_up t (changed t s a.machine a.call) s.stamp
       ∙ ap (λ n. n + 2 ^ start_of (counts_of t) Stamp) same;
 })
+
+-- ---- a row that no word matches
+no_match : (n : ℕ) → matches no_row.part n ≡ true → ⊥
+no_match n e =
+    let is : bit_and n 0 ≡ 1 = eqb-true (bit_and n 0) 1 e in
+    let none : bit_and n 0 ≡ n % 1 = and_mask n 0 in
+    omega (arith, is, none)
+
+pub no_row_right : (t : PlanTable) → IsRight t no_row
+no_row_right t = record {
+  done = λ s o e l. absurd (no_match (packed t s) e);
+  next = λ s o e l. absurd (no_match (packed t s) e);
+}

@@ -1,10 +1,10 @@
 -- A word whose zones and places are lawful is that of the state that it tells.
-use Rattle.std.proofs.Common.{◌≡◌, ◌≢◌, ℕ, zero, suc, ◌+◌, ◌*◌, ◌/◌, ◌%◌, ◌-◌, ◌<◌, ◌≤◌, ◌^◌, inl, inr, List, [], ◌∷◌, ◌++◌, length, get_or, true, false, ◌&&◌, nat_eq, Some, if◌then◌else◌, IsTrue, refl, sym, ap, ap₂, ◌∙◌, subst, below_more, ltb-true, arith}
+use Rattle.std.proofs.Common.{◌≡◌, ◌≢◌, ℕ, zero, suc, ◌+◌, ◌*◌, ◌/◌, ◌%◌, ◌-◌, ◌<◌, ◌≤◌, ◌^◌, inl, inr, List, length, get_or, set, true, false, ◌&&◌, nat_eq, Some, if◌then◌else◌, IsTrue, refl, sym, ap, ap₂, ◌∙◌, subst, below_more, ltb-true, arith}
 use Rattle.std.specs.Prelude.{bit_and, bit_or}
 use Rattle.std.proofs.Math.Nat.{div-eq_of_lt}
 use Rattle.std.proofs.lemmas.Bool.{lt-ltb, cases_lt}
 use Rattle.std.proofs.lemmas.Nat.{and_shr, and_mod, or_shr, or_mod, or_comm, or_disjoint, mod_below, mod-pow-add, field_of, pow_below, pow-add, shl-shr, shr-shr}
-use Rattle.std.proofs.lemmas.List.{length-append, get_or_append_left, get_or_push}
+use Rattle.std.proofs.lemmas.List.{get_or-set_same, get_or-set_other}
 use Rattle.std.proofs.lemmas.List.FromFn.{get_or-map-range_with_len}
 use Rattle.plan_types.specs.declared.table.Transfer.{Transfer}
 use Rattle.plan_types.specs.Below.{sum_below}
@@ -25,7 +25,7 @@ use Rattle.plan_word.specs.Reading.{told, owner_of_code, posture_of_code, zone_o
 use Rattle.plan_word.proofs.lemmas.RoundTrip.{told_is_of_plan}
 use Rattle.plan_word.proofs.lemmas.Soundness.{sound_by}
 use Rattle.plan_compiled.specs.declared.told.Ends.{Ends}
-use Rattle.plan_compiled.specs.Ends.{IsEnd, AreEnds, IsTable, TakenBelow, code_at}
+use Rattle.plan_compiled.specs.Ends.{IsEnd, AreEnds, TakenBelow, code_at}
 use Rattle.plan_compiled.proofs.Words.{whole, none_above}
 
 -- ---- one zone more
@@ -125,15 +125,15 @@ end_at t z n to e way law ne flag is to_is e_is = record {
           | inr ne ↦ pow_at i q ne ∙ sym (ap one_if (nat_eq-apart i q ne))
         ]
 
-pub table_more : (t : PlanTable) (n : ℕ) (xs : List Ends) (x : Ends) → IsTable t n xs → AreEnds t n x.ends → IsTable t (n + 1) (xs ++ x ∷ [])
-table_more t n xs x k h = record {
-  zones = let all = k.zones in let sum = length-append xs (x ∷ []) in omega (arith, all, sum);
-  ends = λ z d l.
-      let all = k.zones in
-      below_more (λ y. AreEnds t y (get_or (xs ++ x ∷ []) y d).ends) n
-      (λ y m. let there : y < length xs = omega arith in subst (λ (e : Ends). AreEnds t y e.ends) (sym (get_or_append_left xs (x ∷ []) d y there)) (k.ends y d m))
-      (subst (λ (e : Ends). AreEnds t n e.ends) (sym (get_or_push xs x d n all)) h) z l;
-}
+abbrev pub AreEndsBelow : PlanTable → ℕ → List Ends → Type 0
+AreEndsBelow t n xs = (z : ℕ) (d : Ends) → z < n → AreEnds t z (get_or xs z d).ends
+
+pub table_with : (t : PlanTable) (n k : ℕ) (xs : List Ends) (x : Ends) → k ≡ n → n < length xs → AreEndsBelow t n xs → AreEnds t n x.ends → AreEndsBelow t (n + 1) (set xs k x)
+table_with t n k xs x is there below h =
+    subst (λ i. AreEndsBelow t (n + 1) (set xs i x)) (sym is)
+    (λ z d l. below_more (λ y. AreEnds t y (get_or (set xs n x) y d).ends) n
+    (λ y m. let ne : y ≢ n = omega arith in subst (λ (e : Ends). AreEnds t y e.ends) (sym (get_or-set_other xs n y x d ne)) (below y d m))
+    (subst (λ (e : Ends). AreEnds t n e.ends) (sym (get_or-set_same xs n x d there)) h) z l)
 
 -- ---- codes
 owner_back : (t : PlanTable) (z o : ℕ) → host_of t z ≢ guest_of t z → o < 4 → o ≢ 3 → owner_code t z (owner_of_code t z o) ≡ o

@@ -1,5 +1,5 @@
 -- A call by a row.
-use Rattle.std.proofs.Common.{IsTrue, List, length, get_or, ◌≡◌, ℕ, ◌+◌, ◌*◌, ◌/◌, ◌%◌, ◌<◌, ◌≤◌, ◌^◌, true, refl, sym, ap, ap₂, ◌∙◌, subst, arith, mod-eq_of_lt}
+use Rattle.std.proofs.Common.{IsTrue, List, get_or, ◌≡◌, ℕ, ◌+◌, ◌*◌, ◌/◌, ◌%◌, ◌<◌, ◌≤◌, ◌^◌, true, refl, sym, ap, ap₂, ◌∙◌, subst, arith, mod-eq_of_lt}
 use Rattle.std.proofs.Math.Nat.{pow-le-pow_right}
 use Rattle.std.proofs.lemmas.Nat.{one_shl}
 use Rattle.std.proofs.lemmas.List.{get_or_read}
@@ -16,8 +16,8 @@ use Rattle.plan_word.specs.OfPlan.{IsOfPlan}
 use Rattle.plan_word.specs.Packed.{packed}
 use Rattle.plan_word.proofs.lemmas.LaidOut.{held_back, laid_out}
 use Rattle.plan_word.proofs.lemmas.Staying.{next_stays}
-use Rattle.plan_compiled.specs.declared.row.Row.{Row}
-use Rattle.plan_compiled.specs.Complete.{no_row, row_at, IsRowOf}
+use Rattle.plan_compiled.specs.Row.{Row, no_row}
+use Rattle.plan_compiled.specs.Complete.{row_at, IsRowOf}
 use Rattle.plan_compiled.specs.Rows.{matches, written, IsRight}
 
 fits_word : (t : PlanTable) (s : State) → IsPlan t → IsOfPlan t s → packed t s < 2 ^ 64
@@ -58,14 +58,12 @@ pub record RowIs (t : PlanTable) (row : Row) (m : ℕ) (c : Call) (w : ℕ) : Ty
   pub call_is : row.call ≡ c
   pub is_met : matches row.part w ≡ true
 
-pub row_found : (t : PlanTable) (xs ys : List Row) (i m : ℕ) (c : Call) (w : ℕ) (row : Row) → ys ≡ xs → All (IsRight t) xs → IsRowOf ys m c i → IsTrue (matches (row_at ys i).part w) → row ≡ get_or xs i row
+pub row_found : (t : PlanTable) (xs : List Row) (i m : ℕ) (c : Call) (w : ℕ) (row : Row) → All (IsRight t) xs → IsRowOf xs m c i → IsTrue (matches (row_at xs i).part w) → row ≡ get_or xs i row
     → RowIs t row m c w
-row_found t xs ys i m c w row e all own met is =
-    let there : i < length xs = subst (λ (zs : List Row). i < length zs) e own.there in
-    let same : row ≡ row_at xs i = get_or_read xs i row there is no_row in
-    let back : row_at ys i ≡ row = ap (λ (zs : List Row). row_at zs i) e ∙ sym same in
+row_found t xs i m c w row all own met is =
+    let back : row_at xs i ≡ row = sym (get_or_read xs i row own.there is no_row) in
     record {
-      right = subst (IsRight t) (sym same) (all i no_row there);
+      right = subst (IsRight t) back (all i no_row own.there);
       machine = ap (λ (r : Row). r.machine) (sym back) ∙ own.machine;
       call_is = ap (λ (r : Row). r.call) (sym back) ∙ own.call_is;
       is_met = subst (λ (r : Row). IsTrue (matches r.part w)) back met;

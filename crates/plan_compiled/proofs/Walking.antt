@@ -19,7 +19,7 @@ use Rattle.plan_word.proofs.lemmas.RoundTrip.{zone_code_back}
 use Rattle.plan_compiled.specs.declared.covering.Span.{Span}
 use Rattle.plan_compiled.specs.declared.part.Part.{Part}
 use Rattle.plan_compiled.specs.declared.right.Asked.{Asked}
-use Rattle.plan_compiled.specs.declared.row.Row.{Row}
+use Rattle.plan_compiled.specs.Row.{Row}
 use Rattle.plan_compiled.specs.Needs as needs
 use Rattle.plan_compiled.specs.Needs.{Fits}
 use Rattle.plan_compiled.specs.Rows.{matches, part_in}

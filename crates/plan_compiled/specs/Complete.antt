@@ -22,7 +22,7 @@ use Rattle.plan_word.specs.Reading.{told, zone_of_code}
 use Rattle.plan_compiled.specs.declared.covering.Span.{Span}
 use Rattle.plan_compiled.specs.declared.part.Part.{Part}
 use Rattle.plan_compiled.specs.declared.right.Asked.{Asked}
-use Rattle.plan_compiled.specs.declared.row.Row.{Row}
+use Rattle.plan_compiled.specs.Row.{Row, no_row}
 use Rattle.plan_compiled.specs.Needs.{Fits, zone_fits, place_fits, stop_fits}
 use Rattle.plan_compiled.specs.Rows.{matches, part_in}
 
@@ -40,9 +40,6 @@ own_slot Resume = 145
 
 abbrev pub slot : ℕ → Call → ℕ
 slot m call = 146 * m + own_slot call
-
-abbrev pub no_row : Row
-no_row = record { machine = 0; call = Stop; part = record { mask = 0; wanted = 0; keep = 0; set = 0 } }
 
 abbrev pub row_at : List Row → ℕ → Row
 row_at rows i = get_or rows i no_row

@@ -1,5 +1,5 @@
 -- What a table says about each code of a zone.
-use Rattle.std.specs.Prelude.{◌≡◌, ◌≢◌, ℕ, ◌+◌, ◌/◌, ◌%◌, ◌<◌, ◌^◌, List, length, get_or}
+use Rattle.std.specs.Prelude.{◌≡◌, ◌≢◌, ℕ, ◌+◌, ◌/◌, ◌%◌, ◌<◌, ◌≤◌, ◌^◌, List, length, get_or}
 use Rattle.plan_types.specs.Below.{sum_below}
 use Rattle.plan_types.specs.Table.{PlanTable, place_count}
 use Rattle.plan_rules.specs.State.{one_if, is_coming}
@@ -19,7 +19,7 @@ abbrev pub AreEnds : PlanTable → ℕ → List ℕ → Type 0
 AreEnds t z ends = (n : ℕ) → n < 32 → IsEnd t z n (get_or ends n 0)
 
 pub record IsTable (t : PlanTable) (n : ℕ) (table : List Ends) : Type 0 where
-  pub zones : length table ≡ n
+  pub zones : n ≤ length table
   pub ends : (z : ℕ) (d : Ends) → z < n → AreEnds t z (get_or table z d).ends
 
 -- the code of a zone in a word

@@ -1,9 +1,7 @@
 -- Rows: some bits of a word that a call needs, and what it writes. Rows of whole words, and of the fields of a word.
-use Rattle.std.specs.Prelude.{◌≡◌, ℕ, ◌+◌, ◌*◌, ◌<◌, ◌≤◌, ◌^◌, Bool, nat_eq, bit_and, bit_or, List, IsTrue}
-use Rattle.std.specs.List.{All}
+use Rattle.std.specs.Prelude.{◌≡◌, ℕ, ◌+◌, ◌<◌, ◌^◌, Bool, nat_eq, bit_and, bit_or, IsTrue}
 use Rattle.plan_types.specs.declared.answer.Answer.TheVariants.{Done}
-use Rattle.plan_types.specs.Table.{PlanTable, zone_count}
-use Rattle.plan_types.specs.Plan.{IsPlan}
+use Rattle.plan_types.specs.Table.{PlanTable}
 use Rattle.plan_rules.specs.declared.state.State.{State}
 use Rattle.plan_rules.specs.State.{last_stamp}
 use Rattle.plan_rules.specs.Reply.{reply, next}
@@ -14,9 +12,7 @@ use Rattle.plan_word.specs.OfPlan.{IsOfPlan}
 use Rattle.plan_word.specs.Packed.{packed}
 use Rattle.plan_word.specs.Reading.{told}
 use Rattle.plan_compiled.specs.declared.part.Part.{Part}
-use Rattle.plan_compiled.specs.declared.row.Row.{Row}
-use Rattle.plan_compiled.specs.declared.told.Ends.{Ends}
-use Rattle.plan_compiled.specs.Ends.{IsTable}
+use Rattle.plan_compiled.specs.Row.{Row}
 
 -- the bits under the mask are the wanted ones
 abbrev pub matches : Part → ℕ → Bool
@@ -42,20 +38,3 @@ pub record IsRight (t : PlanTable) (r : Row) : Type 0 where
       → reply t s r.machine r.call ≡ Done
   pub next : (s : State) → IsOfPlan t s → IsTrue (matches r.part (packed t s)) → s.stamp < last_stamp
       → packed t (next t s r.machine r.call) ≡ written r.part (packed t s) + 2 ^ start_of (counts_of t) Stamp
-
--- a compiled plan: its tables, its rows, and where the rows of each call begin, by the call's slot
-pub record CompiledPlan : Type 0 where
-  pub table : PlanTable
-  pub rows : List Row
-  pub starts : List ℕ
-
--- what holds of its parts
-pub record IsCompiled (t : PlanTable) (layout : Counts) (stamp_bit place_bit : ℕ) (table : List Ends) (rows : List Row)
-    : Type 0 where
-  pub plan : IsPlan t
-  pub layout_is : layout ≡ counts_of t
-  pub stamp_bit_is : stamp_bit ≡ start_of (counts_of t) Stamp
-  pub stamp_in_word : stamp_bit + 20 ≤ 64
-  pub place_bit_is : place_bit ≡ 5 * zone_count t
-  pub table_is : IsTable t (zone_count t) table
-  pub rows_are_right : All (IsRight t) rows

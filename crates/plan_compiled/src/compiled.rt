@@ -1,5 +1,5 @@
 //! A compiled plan: its rows, and calls by them.
-ghost use Rattle.std.specs.Prelude.{◌≡◌, ◌≢◌, ◌+◌, ◌<◌, ◌≤◌, ◌↔◌, Some, IsNone, IsSome, IsTrue, IfSome, IfOk};
+ghost use Rattle.std.specs.Prelude.{◌≡◌, ◌≢◌, ◌+◌, ◌<◌, ◌≤◌, ◌↔◌, Some, IsNone, IsSome, IsTrue, IfSome};
 ghost use Rattle.std.specs.List.{All};
 ghost use Rattle.plan_types.specs.declared.answer.Answer.TheVariants.{Done};
 ghost use Rattle.plan_rules.specs.declared.state.State.{State};
@@ -13,219 +13,15 @@ ghost use Rattle.plan_word.specs.declared.layout.Field.TheVariants.{Stamp};
 ghost use Rattle.plan_compiled.specs.Complete.{HasRow, IsComplete};
 ghost use Rattle.plan_compiled.specs.Rows.{IsRight};
 
-use crate::drafts::draft;
 use crate::every_row::has_every_row;
-use crate::finding::{SLOTS_OF_ALL, row_for, slot};
-use crate::needs::may_ask;
-use crate::right::{Asked, row_of};
+use crate::finding::{SLOTS_OF_ALL, row_for};
+use crate::index::{Index, ROWS_OF_ALL, index_of};
 use crate::row::Row;
 use crate::told::{Ends, are_sound, table_of};
 use plan_rules::LAST_STAMP;
-use plan_types::{Answer, Call, Plan, Posture, WATCH};
+use plan_types::{Answer, Call, MAX_ZONES, Plan};
 use plan_word::{Layout, step_sound, step_word};
-use std::alloc::{AllocError, Global};
 use std::marker::Model;
-
-/// The calls about a zone, in the order of their rows.
-const ZONE_CALLS: u8 = 5;
-
-/// How many machines have slots, with the watch.
-const CALLERS: u8 = 16;
-
-/// A call about a zone by its number in `ZONE_CALLS`.
-fn zone_call(number: u8, zone: u8) -> Call {
-    match number {
-        0 => Call::Claim(zone),
-        1 => Call::Give(zone),
-        2 => Call::Yield(zone),
-        3 => Call::Take(zone),
-        _ => Call::Release(zone),
-    }
-}
-
-/// Whether a pose opens a zone inward.
-fn opens_ways(plan: &Plan, call: Call) -> bool {
-    match call {
-        Call::SetPose(pose) => plan
-            .pose(pose)
-            .gives
-            .iter()
-            .any(|posture| *posture == Some(Posture::OpenIn)),
-        _ => false,
-    }
-}
-
-/// Appends the row of a draft, if it is right.
-fn push_row(
-    plan: &Plan,
-    layout: &Layout,
-    rows: &mut Vec<Row>,
-    asked: Asked,
-    picks: u8,
-) -> Result<(), AllocError>
-    requires layout { layout.now ≡ counts_of plan.now }
-    requires right { All (IsRight plan.now) rows.old.items }
-    ensures { All (IsRight plan.now) rows.new.items }
-{
-    let Some(part) = draft(plan, layout, asked, picks) else {
-        return Ok(());
-    };
-    let Some(row) = row_of(plan, layout, asked, part) else {
-        return Ok(());
-    };
-    rows.push(row)?;
-    Ok(())
-}
-
-fn push_halves(
-    plan: &Plan,
-    layout: &Layout,
-    rows: &mut Vec<Row>,
-    asked: Asked,
-) -> Result<(), AllocError>
-    requires layout { layout.now ≡ counts_of plan.now }
-    requires right { All (IsRight plan.now) rows.old.items }
-    ensures { All (IsRight plan.now) rows.new.items }
-{
-    for picks in 0..8 {
-        push_row(plan, layout, rows, asked, picks)?;
-    }
-    Ok(())
-}
-
-/// Appends the rows of a call.
-fn push_rows(
-    plan: &Plan,
-    layout: &Layout,
-    rows: &mut Vec<Row>,
-    machine: u8,
-    call: Call,
-) -> Result<(), AllocError>
-    requires layout { layout.now ≡ counts_of plan.now }
-    requires right { All (IsRight plan.now) rows.old.items }
-    ensures { All (IsRight plan.now) rows.new.items }
-{
-    if !may_ask(plan, machine, call) {
-        return Ok(());
-    }
-    let room = Asked {
-        machine,
-        call,
-        room: true,
-    };
-    push_halves(plan, layout, rows, room)?;
-    if opens_ways(plan, call) {
-        let shut = Asked {
-            machine,
-            call,
-            room: false,
-        };
-        push_halves(plan, layout, rows, shut)?;
-    }
-    Ok(())
-}
-
-/// Appends the rows of a call, and says where they begin.
-fn index_call(
-    plan: &Plan,
-    layout: &Layout,
-    rows: &mut Vec<Row>,
-    starts: &mut Vec<u16>,
-    machine: u8,
-    call: Call,
-) -> Result<(), AllocError>
-    requires layout { layout.now ≡ counts_of plan.now }
-    requires right { All (IsRight plan.now) rows.old.items }
-    ensures { All (IsRight plan.now) rows.new.items }
-{
-    let at = slot(machine, call);
-    if at < starts.len() {
-        starts[at] = u16::try_from(rows.len()).unwrap_or(u16::MAX);
-    }
-    push_rows(plan, layout, rows, machine, call)
-}
-
-fn index_zone(
-    plan: &Plan,
-    layout: &Layout,
-    rows: &mut Vec<Row>,
-    starts: &mut Vec<u16>,
-    machine: u8,
-    zone: u8,
-) -> Result<(), AllocError>
-    requires layout { layout.now ≡ counts_of plan.now }
-    requires right { All (IsRight plan.now) rows.old.items }
-    ensures { All (IsRight plan.now) rows.new.items }
-{
-    for number in 0..ZONE_CALLS {
-        index_call(plan, layout, rows, starts, machine, zone_call(number, zone))?;
-    }
-    Ok(())
-}
-
-fn index_zones(
-    plan: &Plan,
-    layout: &Layout,
-    rows: &mut Vec<Row>,
-    starts: &mut Vec<u16>,
-    machine: u8,
-) -> Result<(), AllocError>
-    requires layout { layout.now ≡ counts_of plan.now }
-    requires right { All (IsRight plan.now) rows.old.items }
-    ensures { All (IsRight plan.now) rows.new.items }
-{
-    for zone in 0..plan.zone_count() {
-        index_zone(plan, layout, rows, starts, machine, zone)?;
-    }
-    Ok(())
-}
-
-fn index_poses(
-    plan: &Plan,
-    layout: &Layout,
-    rows: &mut Vec<Row>,
-    starts: &mut Vec<u16>,
-    machine: u8,
-) -> Result<(), AllocError>
-    requires layout { layout.now ≡ counts_of plan.now }
-    requires right { All (IsRight plan.now) rows.old.items }
-    ensures { All (IsRight plan.now) rows.new.items }
-{
-    for pose in 0..64 {
-        index_call(plan, layout, rows, starts, machine, Call::SetPose(pose))?;
-    }
-    Ok(())
-}
-
-fn index_machine(
-    plan: &Plan,
-    layout: &Layout,
-    rows: &mut Vec<Row>,
-    starts: &mut Vec<u16>,
-    machine: u8,
-) -> Result<(), AllocError>
-    requires layout { layout.now ≡ counts_of plan.now }
-    requires right { All (IsRight plan.now) rows.old.items }
-    ensures { All (IsRight plan.now) rows.new.items }
-{
-    index_zones(plan, layout, rows, starts, machine)?;
-    index_poses(plan, layout, rows, starts, machine)?;
-    index_call(plan, layout, rows, starts, machine, Call::Stop)?;
-    index_call(plan, layout, rows, starts, machine, Call::Resume)
-}
-
-/// All rows of a plan, and where those of each call begin.
-fn index(alloc: Global, plan: &Plan, layout: &Layout) -> Result<(Vec<u16>, Vec<Row>), AllocError>
-    requires layout { layout.now ≡ counts_of plan.now }
-    ensures { IfOk result (λ made. All (IsRight plan.now) made.1.items) }
-{
-    let mut starts = vec![in alloc; u16::MAX; SLOTS_OF_ALL]?;
-    let mut rows = Vec::new(alloc);
-    for machine in 0..CALLERS {
-        index_machine(plan, layout, &mut rows, &mut starts, machine)?;
-    }
-    Ok((starts, rows))
-}
 
 /// The lowest bit of the stamp.
 fn stamp_bit_of(layout: &Layout) -> u32
@@ -235,53 +31,54 @@ fn stamp_bit_of(layout: &Layout) -> u32
     u32::from(layout.width()) - 21
 }
 
-/// A plan, compiled.
-#[derive(Drop)]
+/// A plan, compiled. It takes no memory beyond itself, and C can keep it, if only [`Compiled::new`] makes it.
+///
+/// Where a plan has more than [`ROWS_OF_ALL`] rows, those that find no room are left out. A call that lacks its row is
+/// answered as rightly, but not as fast, and [`Compiled::is_complete`] says no.
+#[repr(C)]
+#[derive(Debug, Drop)]
 pub struct Compiled {
     plan: Plan,
-    layout: Layout,
     stamp_bit: u32,
     place_bit: u32,
-    ends: Vec<Ends>,
-    starts: Vec<u16>,
-    rows: Vec<Row>,
+    ends: [Ends; MAX_ZONES],
+    starts: [u16; SLOTS_OF_ALL],
+    rows: [Row; ROWS_OF_ALL],
 }
 
 impl Model for Compiled {
-    ghost use Rattle.plan_compiled.specs.Rows.{CompiledPlan, IsCompiled};
+    ghost use Rattle.plan_compiled.specs.Compiled.{CompiledPlan, plan_in, kept, kept_back, IsCompiled};
 
     ghost Value = { CompiledPlan };
 
-    ghost view = { λ a. record {
-      table = a.plan;
-      rows = a.rows.items;
-      starts = a.starts.items;
-    } };
+    ghost view = { plan_in };
 
-    ghost invariant = { λ a.
-        IsCompiled a.plan a.layout a.stamp_bit a.place_bit a.ends.items a.rows.items };
+    ghost invariant = { IsCompiled };
+
+    ghost inverse = { kept };
+
+    ghost inverse_ok = { kept_back };
 }
 
 impl Compiled {
     /// Compiles a plan.
-    pub fn new(alloc: Global, plan: Plan) -> Result<Compiled, AllocError>
-        ensures { IfOk result (λ compiled. compiled.table ≡ plan) }
+    pub fn new(plan: Plan) -> Compiled
+        ensures { result.table ≡ plan }
     {
         let layout = Layout::of(&plan);
         let _ = plan.machines();
-        let (starts, rows) = index(alloc, &plan, &layout)?;
-        let ends = table_of(alloc, &plan)?;
+        let Index { starts, rows, .. } = index_of(&plan, &layout);
+        let ends = table_of(&plan);
         let stamp_bit = stamp_bit_of(&layout);
         let place_bit = 5 * u32::from(plan.zone_count());
-        Ok(Compiled {
+        Compiled {
             plan,
-            layout,
             stamp_bit,
             place_bit,
             ends,
             starts,
             rows,
-        })
+        }
     }
 
     /// The plan.
@@ -292,13 +89,13 @@ impl Compiled {
     }
 
     /// The layout of the plan's word.
-    pub fn layout(&self) -> &Layout
-        ensures { result.now ≡ counts_of self.now.table }
+    pub fn layout(&self) -> Layout
+        ensures { result ≡ counts_of self.now.table }
     {
-        &self.layout
+        Layout::of(&self.plan)
     }
 
-    /// The rows.
+    /// The rows, and after the last one rows that no word matches.
     pub fn rows(&self) -> &[Row]
         ensures rows { result.now ≡ self.now.rows }
         ensures right { All (IsRight self.now.table) result.now }
@@ -331,7 +128,7 @@ impl Compiled {
         let Some(index) = row_for(&self.rows, &self.starts, word, machine, call) else {
             return None;
         };
-        let part = self.rows[index].part;
+        let part = self.rows[index].part();
         Some(part.written(word).wrapping_add(1 << self.stamp_bit))
     }
 
@@ -352,7 +149,7 @@ impl Compiled {
     pub fn is_complete(&self) -> bool
         ensures { IsTrue result → IsComplete self.now.table self.now.rows self.now.starts }
     {
-        has_every_row(&self.plan, &self.layout, &self.rows, &self.starts)
+        has_every_row(&self.plan, &self.layout(), &self.rows, &self.starts)
     }
 
     #[inline(never)]
@@ -364,7 +161,7 @@ impl Compiled {
               packed self.now.table (next self.now.table state machine call),
             ) }
     {
-        step_sound(&self.plan, &self.layout, word, machine, call)
+        step_sound(&self.plan, &self.layout(), word, machine, call)
     }
 
     /// Makes a call on the word of a state of the plan. Returns the interlock's answer and the word of the state after
@@ -408,7 +205,7 @@ impl Compiled {
         ensures none { IsNone result
             ↔ ((state : State) → IsOfPlan self.now.table state → packed self.now.table state ≢ word) }
     {
-        step_word(&self.plan, &self.layout, word, machine, call)
+        step_word(&self.plan, &self.layout(), word, machine, call)
     }
 
     /// Makes a call on a word. Returns the interlock's answer and the word of the state after it: the same word unless

@@ -56,7 +56,7 @@ fn is_met(layout: &Layout, rows: &[Row], span: Span, field: Field, number: u64, 
 {
     at < span.count
         && rows[span.first + at]
-            .part
+            .part()
             .of_field(layout, field)
             .matches(number)
 }
@@ -184,7 +184,7 @@ fn look_at_fields(layout: &Layout, rows: &[Row], span: Span) -> bool
     ensures { IsTrue result → complete.LookAtFields layout.now rows.now span.first span.count }
 {
     for at in 0..span.count {
-        if !looks_at_fields(layout, &rows[span.first + at].part) {
+        if !looks_at_fields(layout, rows[span.first + at].part()) {
             return false;
         }
     }

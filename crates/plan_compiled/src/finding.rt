@@ -61,7 +61,7 @@ pub(crate) fn row_for(
         if !rows[index].is_for(machine, call) {
             return None;
         }
-        if rows[index].part.matches(word) {
+        if rows[index].part().matches(word) {
             return Some(index);
         }
     }

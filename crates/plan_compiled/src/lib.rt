@@ -6,6 +6,7 @@ mod covering;
 mod drafts;
 mod every_row;
 mod finding;
+mod index;
 mod needs;
 mod part;
 mod right;
@@ -16,5 +17,6 @@ mod told;
 
 pub use compiled::Compiled;
 pub use finding::{SLOTS_OF_ALL, slot};
+pub use index::ROWS_OF_ALL;
 pub use part::Part;
 pub use row::Row;

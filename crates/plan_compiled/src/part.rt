@@ -6,6 +6,7 @@ ghost use Rattle.plan_compiled.specs.Rows as rows;
 use plan_word::{Field, Layout};
 
 /// The bits of a number that are wanted, and what is written over them.
+#[repr(C)]
 #[derive(Clone, Copy, Debug, PartialEq, Eq)]
 pub struct Part {
     /// The bits that are looked at.

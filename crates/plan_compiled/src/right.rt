@@ -143,11 +143,7 @@ pub(crate) fn row_of(plan: &Plan, layout: &Layout, asked: Asked, part: Part) -> 
         && are_right_places(plan, layout, asked, &part)
         && are_right_zones(plan, layout, asked, &part)
     {
-        Some(Row {
-            machine: asked.machine,
-            call: asked.call,
-            part,
-        })
+        Some(Row::new(asked.machine, asked.call, part))
     } else {
         None
     }

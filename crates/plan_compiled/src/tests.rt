@@ -4,7 +4,6 @@ use crate::{Compiled, SLOTS_OF_ALL, slot};
 use plan_rules::State;
 use plan_types::{Answer, Call, Plan, Tables, WATCH, examples, read_plan};
 use plan_word::{pack, step_word};
-use std::alloc::Global;
 
 /// A junction: three machines, two zones and no places.
 const JUNCTION: [u8; 56] = [
@@ -56,7 +55,7 @@ fn start_of(plan: &Compiled, seed: u64) -> u64 {
     for place in 0..plan.plan().place_count() {
         full[usize::from(place & 15)] = seed >> (20 + u32::from(place & 15)) & 1 == 1;
     }
-    pack(plan.plan(), plan.layout(), &State::start(full, 7))
+    pack(plan.plan(), &plan.layout(), &State::start(full, 7))
 }
 
 fn call_of(number: u64, zone: u8, pose: u8) -> Call {
@@ -110,7 +109,7 @@ fn walk(plan: &Compiled) -> Found {
         };
         let asked = word ^ turned;
         let stepped = plan.step_word(asked, machine, call);
-        if stepped != step_word(plan.plan(), plan.layout(), asked, machine, call) {
+        if stepped != step_word(plan.plan(), &plan.layout(), asked, machine, call) {
             found.wrong = found.wrong.wrapping_add(1);
         }
         if let Some((Answer::Done, new)) = stepped {
@@ -132,23 +131,23 @@ fn is_walked(plan: &Compiled) -> bool {
     found.wrong == 0 && found.done > 50 && found.by_rows == found.done
 }
 
-fn compiled(alloc: Global, tables: Tables) -> Option<Compiled> {
-    Compiled::new(alloc, Plan::new(tables).ok()?).ok()
+fn compiled(tables: Tables) -> Option<Compiled> {
+    Some(Compiled::new(Plan::new(tables).ok()?))
 }
 
-fn of_bytes(alloc: Global, bytes: &[u8]) -> Option<Compiled> {
-    Compiled::new(alloc, read_plan(bytes)?).ok()
+fn of_bytes(bytes: &[u8]) -> Option<Compiled> {
+    Some(Compiled::new(read_plan(bytes)?))
 }
 
 #[test]
 fn a_press_claims_by_a_row(rt: HostRuntime) {
     let tables = examples::press(rt.alloc()).expect(&rt, "memory");
     let plan = Plan::new(tables).expect(&rt, "a plan");
-    let compiled = Compiled::new(rt.alloc(), plan).expect(&rt, "memory");
+    let compiled = Compiled::new(plan);
     assert!(rt; compiled.is_complete());
     let mut full = [false; 16];
     full[0] = true;
-    let word = pack(compiled.plan(), compiled.layout(), &State::start(full, 0));
+    let word = pack(compiled.plan(), &compiled.layout(), &State::start(full, 0));
     assert!(rt; compiled.has_row(word, 1, Call::Claim(0)));
     assert!(rt; compiled.step_word(word, 1, Call::Claim(0)) == Some((Answer::Done, 0xA1)));
 }
@@ -156,7 +155,7 @@ fn a_press_claims_by_a_row(rt: HostRuntime) {
 #[test]
 fn a_press_is_complete(rt: HostRuntime) {
     let tables = examples::press(rt.alloc()).expect(&rt, "memory");
-    let plan = compiled(rt.alloc(), tables).expect(&rt, "a plan");
+    let plan = compiled(tables).expect(&rt, "a plan");
     assert!(rt; plan.is_complete(), "complete");
     assert!(rt; is_walked(&plan), "walked");
     let at = slot(1, Call::SetPose(3));
@@ -171,28 +170,28 @@ fn a_press_is_complete(rt: HostRuntime) {
 #[test]
 fn a_lift_is_complete(rt: HostRuntime) {
     let tables = examples::lift(rt.alloc()).expect(&rt, "memory");
-    let plan = compiled(rt.alloc(), tables).expect(&rt, "a plan");
+    let plan = compiled(tables).expect(&rt, "a plan");
     assert!(rt; plan.is_complete(), "complete");
     assert!(rt; is_walked(&plan), "walked");
 }
 
 #[test]
 fn a_junction_is_complete(rt: HostRuntime) {
-    let plan = of_bytes(rt.alloc(), &JUNCTION).expect(&rt, "a plan");
+    let plan = of_bytes(&JUNCTION).expect(&rt, "a plan");
     assert!(rt; plan.is_complete(), "complete");
     assert!(rt; is_walked(&plan), "walked");
 }
 
 #[test]
 fn two_presses_are_complete(rt: HostRuntime) {
-    let plan = of_bytes(rt.alloc(), &TWO_PRESSES).expect(&rt, "a plan");
+    let plan = of_bytes(&TWO_PRESSES).expect(&rt, "a plan");
     assert!(rt; plan.is_complete(), "complete");
     assert!(rt; is_walked(&plan), "walked");
 }
 
 #[test]
 fn the_cell_is_complete(rt: HostRuntime) {
-    let plan = of_bytes(rt.alloc(), &CELL).expect(&rt, "a plan");
+    let plan = of_bytes(&CELL).expect(&rt, "a plan");
     assert!(rt; plan.is_complete(), "complete");
     assert!(rt; is_walked(&plan), "walked");
 }

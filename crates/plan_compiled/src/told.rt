@@ -1,21 +1,22 @@
 //! Whether a word is that of a state of the plan, found by a table of what each zone's bits tell.
-ghost use Rattle.std.specs.Prelude.{◌≡◌, ◌/◌, ◌%◌, ◌<◌, ◌^◌, ℕ, IsTrue, IfOk};
+ghost use Rattle.std.specs.Prelude.{◌≡◌, ◌/◌, ◌%◌, ◌<◌, ◌^◌, ℕ, IsTrue};
 ghost use Rattle.plan_types.specs.Table.{zone_count, place_count};
 ghost use Rattle.plan_types.specs.Plan.{IsPlan};
 ghost use Rattle.plan_rules.specs.State.{one_if};
 ghost use Rattle.plan_word.specs.Reading.{place_told};
 ghost use Rattle.plan_compiled.specs.Ends.{IsEnd, AreEnds, IsTable, TakenBelow};
 
-use plan_types::Plan;
+use plan_types::{MAX_ZONES, Plan};
 use plan_word::{is_lawful_zone, zone_of_code};
-use std::alloc::{AllocError, Global};
 
 /// A zone may not have the code.
 const BARRED: u32 = 1 << 31;
 
 /// Of each code of a zone: the place that a plate in the zone comes to, as a set bit, if there is one; or `BARRED`.
-#[derive(Clone, Copy)]
-pub(crate) struct Ends {
+#[repr(C)]
+#[derive(Clone, Copy, Debug)]
+pub struct Ends {
+    /// Of each code.
     pub ends: [u32; 32],
 }
 
@@ -43,14 +44,14 @@ fn ends_of(plan: &Plan, zone: u8) -> Ends
 }
 
 /// The ends of all zones.
-pub(crate) fn table_of(alloc: Global, plan: &Plan) -> Result<Vec<Ends>, AllocError>
-    ensures { IfOk result (λ table. IsTable plan.now (zone_count plan.now) table.items) }
+pub(crate) fn table_of(plan: &Plan) -> [Ends; MAX_ZONES]
+    ensures { IsTable plan.now (zone_count plan.now) result }
 {
-    let mut table = Vec::new(alloc);
+    let mut table = [Ends { ends: [BARRED; 32] }; MAX_ZONES];
     for zone in 0..plan.zone_count() {
-        table.push(ends_of(plan, zone))?;
+        table[usize::from(zone)] = ends_of(plan, zone);
     }
-    Ok(table)
+    table
 }
 
 /// Whether the zones and places of a word are those of a state of the plan.
@@ -65,8 +66,8 @@ pub(crate) fn are_sound(plan: &Plan, table: &[Ends], word: u64, places: u64) -> 
 {
     let mut taken = places as u32 | BARRED;
     let mut rest = word;
-    for zone in table {
-        let end = zone.ends[(rest % 32) as usize];
+    for zone in 0..usize::from(plan.zone_count()) {
+        let end = table[zone].ends[(rest % 32) as usize];
         if taken & end != 0 {
             return false;
         }

@@ -16,11 +16,10 @@ pub loop-zone-preserved : goal.loop-zone-preserved
 loop-zone-preserved c =
     let t = c.args.plan.now in
     let w = c.args.word in
-    let n = c.loop-zone.zone-index in
+    let n = c.loop-zone.zone in
     let rest = c.loop-zone.rest in
     let rest_is = c.loop-zone.invariant.rest in
-    let all = c.requires.table.zones in
-    let there : n < zone_count t = omega (arith, all, c.loop-zone-test.true) in
+    let there : n < zone_count t = omega (arith, c.loop-zone-test.true, c.from-zone-end.ensures, c.zone_count.ensures.count) in
     let code : code_at t w n ≡ rest % 32 = ap (λ x. x % 32) (sym rest_is) in
     let fits : rest % 32 < 32 = omega arith in
     let none : Ends = record { ends = [] } in

@@ -4,6 +4,6 @@ use Rattle.plan_compiled.proofs.told.are_sound.Given as goal
 
 abbrev pub invariant-loop-zone : goal.invariant-loop-zone
 invariant-loop-zone l = record {
-  rest : l.rest ≡ l.word / 2 ^ (5 * l.zone-index);
-  taken : TakenBelow l.plan l.word l.zone-index l.taken;
+  rest : l.rest ≡ l.word / 2 ^ (5 * l.zone);
+  taken : TakenBelow l.plan l.word l.zone l.taken;
 }

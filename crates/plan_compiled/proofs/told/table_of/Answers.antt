@@ -1,10 +1,29 @@
-use Rattle.std.proofs.Common.{◌+◌, sym, subst}
-use Rattle.plan_compiled.specs.Ends.{IsTable}
-use Rattle.plan_compiled.proofs.StateTold.{table_more}
+use Rattle.std.proofs.Common.{◌≡◌, ◌<◌, length, ◌∙◌, arith}
+use Rattle.std.proofs.lemmas.List.{length-set}
+use Rattle.plan_types.specs.Table.{zone_count}
+use Rattle.plan_compiled.proofs.StateTold.{table_with}
 use Rattle.plan_compiled.proofs.told.table_of.Goals as goal
 
 pub loop-zone-preserved : goal.loop-zone-preserved
 loop-zone-preserved c =
-    let t = c.args.plan.now in
     let n = c.loop-zone.zone in
-    subst (IsTable t (n + 1)) (sym c.in_ok-push.ensures.items) (table_more t n c.loop-zone.table.items c.ends_of.result c.loop-zone.invariant c.ends_of.ensures)
+    let xs = c.loop-zone.table in
+    let all = c.loop-zone.invariant.all in
+    let few = c.zone_count-zone-end.ensures.few in
+    let there : n < length xs = omega (arith, all, few, c.loop-zone-test.true) in
+    record {
+      all = length-set xs c.from.result c.ends_of.result ∙ all;
+      ends = table_with c.args.plan.now n c.from.result xs c.ends_of.result c.from.ensures there c.loop-zone.invariant.ends c.ends_of.ensures;
+    }
+
+pub returns : goal.returns
+returns c =
+    let t = c.args.plan.now in
+    let all = c.loop-zone.invariant.all in
+    let few = c.zone_count-zone-end.ensures.few in
+    let count = c.zone_count-zone-end.ensures.count in
+    let end : c.loop-zone.zone ≡ zone_count t = omega (arith, count) in
+    record {
+      zones = omega (arith, all, few, count);
+      ends = λ z d l. c.loop-zone.invariant.ends z d (omega (arith, l, end));
+    }

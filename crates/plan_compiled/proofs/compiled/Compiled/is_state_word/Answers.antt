@@ -3,7 +3,7 @@ use Rattle.plan_types.specs.Table.{PlanTable}
 use Rattle.plan_rules.specs.declared.state.State.{State}
 use Rattle.plan_word.specs.OfPlan.{IsOfPlan}
 use Rattle.plan_word.specs.Packed.{packed}
-use Rattle.plan_compiled.specs.Rows.{CompiledPlan}
+use Rattle.plan_compiled.specs.Compiled.{CompiledPlan}
 use Rattle.plan_compiled.proofs.StateTold.{place_bits, told_by}
 use Rattle.plan_compiled.proofs.compiled.Compiled.is_state_word.Goals as goal
 
