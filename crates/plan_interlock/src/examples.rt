@@ -36,9 +36,7 @@ pub fn press(alloc: Global) -> Option<(PlanInterlock, PlanPass, PlanPass)>
     let Ok(plan) = Plan::new(tables) else {
         return None;
     };
-    let Ok(rules) = PlanRules::new(alloc, plan) else {
-        return None;
-    };
+    let rules = PlanRules::new(plan);
     let mut full = [false; 16];
     full[0] = true;
     let opening = State::start(full, 0);

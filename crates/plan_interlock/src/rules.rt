@@ -1,11 +1,10 @@
 //! The rules of a plant.
-ghost use Rattle.std.specs.Prelude.{◌≡◌, IfOk};
+ghost use Rattle.std.specs.Prelude.{◌≡◌};
 
 use plan_compiled::Compiled;
 use plan_rules::State;
 use plan_types::{Answer, Call, Event, Plan};
 use plan_word::{pack, stamp_of, unpack};
-use std::alloc::{AllocError, Global};
 use word_interlock::Rules;
 
 /// The rules of a plant: its plan, compiled.
@@ -18,11 +17,11 @@ impl PlanRules {
     ghost use Rattle.plan_interlock.specs.Book.{plan_of};
 
     /// The rules by a plan.
-    pub fn new(alloc: Global, plan: Plan) -> Result<PlanRules, AllocError>
-        ensures { IfOk result (λ rules. plan_of rules ≡ plan) }
+    pub fn new(plan: Plan) -> PlanRules
+        ensures { plan_of result ≡ plan }
     {
-        let plan = Compiled::new(alloc, plan)?;
-        Ok(PlanRules { plan })
+        let plan = Compiled::new(plan);
+        PlanRules { plan }
     }
 
     /// The plan.
@@ -58,15 +57,15 @@ impl Rules for PlanRules {
     }
 
     fn stamp_of(&self, word: u64) -> u32 {
-        stamp_of(self.plan.layout(), word)
+        stamp_of(&self.plan.layout(), word)
     }
 
     fn pack(&self, state: &State) -> u64 {
-        pack(self.plan.plan(), self.plan.layout(), state)
+        pack(self.plan.plan(), &self.plan.layout(), state)
     }
 
     fn unpack(&self, word: u64) -> State {
-        let Some(state) = unpack(self.plan.plan(), self.plan.layout(), word) else {
+        let Some(state) = unpack(self.plan.plan(), &self.plan.layout(), word) else {
             unreachable!()
         };
         state

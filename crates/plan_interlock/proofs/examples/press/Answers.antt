@@ -22,24 +22,24 @@ first_of v (p ∷ rest) = p
 
 pub take_pass-loader-requires-clause-next : goal.take_pass-loader-requires-clause-next
 take_pass-loader-requires-clause-next c =
-    let i = c.in-Ok-new-3.interlock in
-    let plan_is = c.in-Ok-new-2.ensures ∙ (c.in-Ok-new.ensures.plan ∙ c.in-Ok.ensures) in
-    let are = ap (λ p. p.actors) c.in-Ok-new-3.ensures.passes ∙ ap (λ (t : PlanTable). map (new_view i.rules i.opening) (callers_of t)) plan_is in
+    let i = c.in-Ok-new-2.interlock in
+    let plan_is = c.new-rules.ensures ∙ (c.in-Ok-new.ensures.plan ∙ c.in-Ok.ensures) in
+    let are = ap (λ p. p.actors) c.in-Ok-new-2.ensures.passes ∙ ap (λ (t : PlanTable). map (new_view i.rules i.opening) (callers_of t)) plan_is in
     subst (λ (ps : Views). IsNext 0 ps) (sym are) refl
 
 pub take_pass-press-requires-clause-next : goal.take_pass-press-requires-clause-next
 take_pass-press-requires-clause-next c =
-    let i = c.in-Ok-new-3.interlock in
-    let plan_is = c.in-Ok-new-2.ensures ∙ (c.in-Ok-new.ensures.plan ∙ c.in-Ok.ensures) in
-    let are = ap (λ p. p.actors) c.in-Ok-new-3.ensures.passes ∙ ap (λ (t : PlanTable). map (new_view i.rules i.opening) (callers_of t)) plan_is in
+    let i = c.in-Ok-new-2.interlock in
+    let plan_is = c.new-rules.ensures ∙ (c.in-Ok-new.ensures.plan ∙ c.in-Ok.ensures) in
+    let are = ap (λ p. p.actors) c.in-Ok-new-2.ensures.passes ∙ ap (λ (t : PlanTable). map (new_view i.rules i.opening) (callers_of t)) plan_is in
     let left = sym (ap (λ (ps : Views). but_first ps) c.take_pass-loader.ensures.taken) ∙ ap (λ (ps : Views). but_first ps) are in
     subst (λ (ps : Views). IsNext 1 ps) (sym left) refl
 
 pub returns-clause-callers : goal.returns-clause-callers
 returns-clause-callers c =
-    let i = c.in-Ok-new-3.interlock in
-    let plan_is = c.in-Ok-new-2.ensures ∙ (c.in-Ok-new.ensures.plan ∙ c.in-Ok.ensures) in
-    let are = ap (λ p. p.actors) c.in-Ok-new-3.ensures.passes ∙ ap (λ (t : PlanTable). map (new_view i.rules i.opening) (callers_of t)) plan_is in
+    let i = c.in-Ok-new-2.interlock in
+    let plan_is = c.new-rules.ensures ∙ (c.in-Ok-new.ensures.plan ∙ c.in-Ok.ensures) in
+    let are = ap (λ p. p.actors) c.in-Ok-new-2.ensures.passes ∙ ap (λ (t : PlanTable). map (new_view i.rules i.opening) (callers_of t)) plan_is in
     let left = sym (ap (λ (ps : Views). but_first ps) c.take_pass-loader.ensures.taken) ∙ ap (λ (ps : Views). but_first ps) are in
     let first = sym c.take_pass-loader.ensures.taken ∙ are in let second = sym c.take_pass-press.ensures.taken ∙ left in (
       ap (λ (ps : Views). (first_of (new_view i.rules i.opening 0) ps).actor) first,
@@ -48,9 +48,9 @@ returns-clause-callers c =
 
 pub returns-clause-starts : goal.returns-clause-starts
 returns-clause-starts c =
-    let i = c.in-Ok-new-3.interlock in
-    let plan_is = c.in-Ok-new-2.ensures ∙ (c.in-Ok-new.ensures.plan ∙ c.in-Ok.ensures) in
-    let are = ap (λ p. p.actors) c.in-Ok-new-3.ensures.passes ∙ ap (λ (t : PlanTable). map (new_view i.rules i.opening) (callers_of t)) plan_is in
+    let i = c.in-Ok-new-2.interlock in
+    let plan_is = c.new-rules.ensures ∙ (c.in-Ok-new.ensures.plan ∙ c.in-Ok.ensures) in
+    let are = ap (λ p. p.actors) c.in-Ok-new-2.ensures.passes ∙ ap (λ (t : PlanTable). map (new_view i.rules i.opening) (callers_of t)) plan_is in
     let left = sym (ap (λ (ps : Views). but_first ps) c.take_pass-loader.ensures.taken) ∙ ap (λ (ps : Views). but_first ps) are in
     let first = sym c.take_pass-loader.ensures.taken ∙ are in let second = sym c.take_pass-press.ensures.taken ∙ left in (
       ap (λ (ps : Views). (first_of (new_view i.rules i.opening 0) ps).opening) first,
@@ -59,9 +59,9 @@ returns-clause-starts c =
 
 pub returns-clause-unused : goal.returns-clause-unused
 returns-clause-unused c =
-    let i = c.in-Ok-new-3.interlock in
-    let plan_is = c.in-Ok-new-2.ensures ∙ (c.in-Ok-new.ensures.plan ∙ c.in-Ok.ensures) in
-    let are = ap (λ p. p.actors) c.in-Ok-new-3.ensures.passes ∙ ap (λ (t : PlanTable). map (new_view i.rules i.opening) (callers_of t)) plan_is in
+    let i = c.in-Ok-new-2.interlock in
+    let plan_is = c.new-rules.ensures ∙ (c.in-Ok-new.ensures.plan ∙ c.in-Ok.ensures) in
+    let are = ap (λ p. p.actors) c.in-Ok-new-2.ensures.passes ∙ ap (λ (t : PlanTable). map (new_view i.rules i.opening) (callers_of t)) plan_is in
     let left = sym (ap (λ (ps : Views). but_first ps) c.take_pass-loader.ensures.taken) ∙ ap (λ (ps : Views). but_first ps) are in
     let first = sym c.take_pass-loader.ensures.taken ∙ are in let second = sym c.take_pass-press.ensures.taken ∙ left in (
       ap (λ (ps : Views). (first_of (new_view i.rules i.opening 0) ps).seen) first,
