@@ -101,10 +101,10 @@ typedef struct bagunjoki_plan_reply {
     bool plate;
 } bagunjoki_plan_reply;
 
-/* A plan that was opened. Its size never changes; what is in it is the library's alone. */
+/* A plan that was opened, compiled. Its size never changes; what is in it is the library's alone. */
 typedef struct bagunjoki_plan_opened {
     bool is_plan; /* whether the bytes were a plan's */
-    uint8_t kept[868];
+    uint64_t kept[3414];
 } bagunjoki_plan_opened;
 
 /* The proved functions. They read nothing but their arguments, keep nothing, and take no memory and no lock. Any thread

@@ -29,7 +29,7 @@ pub const NOBODY: u8 = NOTHING;
 #[derive(Clone)]
 struct Opened {
     is_plan: bool,
-    kept: [u8; 868],
+    kept: [u64; 3414],
 }
 
 unsafe extern "C" {

@@ -8,11 +8,13 @@ use Rattle.plan_motors.specs.declared.mask.MotorMask.{MotorMask}
 use Rattle.plan_c.specs.declared.opened.Opened.{Opened}
 
 -- what C keeps of a plan that was opened, and of bytes that are no plan's
-abbrev pub opened : PlanTable → Opened
-opened t = record { is_plan = true; plan = t }
+pub record IsOpened (t : PlanTable) (o : Opened) : Type 0 where
+  pub is_plan : o.is_plan ≡ true
+  pub table : o.compiled.table ≡ t
 
-abbrev pub not_opened : Opened
-not_opened = record { is_plan = false; plan = plan_table 0 [] [] [] }
+pub record IsNotOpened (o : Opened) : Type 0 where
+  pub is_no_plan : o.is_plan ≡ false
+  pub table : o.compiled.table ≡ plan_table 0 [] [] []
 
 -- the word is that of this state of the plan
 pub record IsWordOf (t : PlanTable) (word : ℕ) (s : State) : Type 0 where

@@ -10,9 +10,10 @@ ghost use Rattle.plan_c.specs.Replies as replies;
 
 use crate::places::{is_start, places_of};
 use crate::reply::{NO_STATE, Reply, bare_reply, reply_of};
+use plan_compiled::Compiled;
 use plan_rules::{LAST_STAMP, State};
-use plan_types::{Call, Plan};
-use plan_word::{Layout, pack, step_word, unpack};
+use plan_types::Call;
+use plan_word::{pack, unpack};
 
 /// No word.
 pub(crate) const NO_WORD: u64 = u64::MAX;
@@ -21,55 +22,54 @@ pub(crate) const NO_WORD: u64 = u64::MAX;
 pub(crate) const NO_STAMP: u32 = u32::MAX;
 
 /// The reply to a call on a word.
-pub(crate) fn reply_by(plan: &Plan, word: u64, machine: u8, call: Call) -> Reply
-    ensures answered { (state : PlanState) → IsWordOf plan.now word state
-        → result ≡ replies.reply_of (rules.reply plan.now state machine call)
-        (packed plan.now (rules.next plan.now state machine call)) }
-    ensures no_state { NoState plan.now word
+pub(crate) fn reply_by(plan: &Compiled, word: u64, machine: u8, call: Call) -> Reply
+    ensures answered { (state : PlanState) → IsWordOf plan.now.table word state
+        → result ≡ replies.reply_of (rules.reply plan.now.table state machine call)
+        (packed plan.now.table (rules.next plan.now.table state machine call)) }
+    ensures no_state { NoState plan.now.table word
         → result ≡ replies.bare_reply replies.no_state word }
 {
-    let layout = Layout::of(plan);
-    match step_word(plan, &layout, word, machine, call) {
+    match plan.step_word(word, machine, call) {
         Some((answer, next)) => reply_of(answer, next),
         None => bare_reply(NO_STATE, word),
     }
 }
 
 /// The word of a start, if there is one.
-pub(crate) fn start_by(plan: &Plan, digits: &[u8], stamp: u32) -> u64
-    ensures start { IsStartText plan.now digits.now stamp
-        → result ≡ packed plan.now (start_state (places_in digits.now) stamp) }
-    ensures no_start { ¬ IsStartText plan.now digits.now stamp → result ≡ replies.no_word }
+pub(crate) fn start_by(plan: &Compiled, digits: &[u8], stamp: u32) -> u64
+    ensures start { IsStartText plan.now.table digits.now stamp
+        → result ≡ packed plan.now.table (start_state (places_in digits.now) stamp) }
+    ensures no_start { ¬ IsStartText plan.now.table digits.now stamp → result ≡ replies.no_word }
 {
-    if is_start(plan, digits, stamp) {
-        let layout = Layout::of(plan);
-        pack(plan, &layout, &State::start(places_of(digits), stamp))
+    if is_start(plan.plan(), digits, stamp) {
+        let layout = plan.layout();
+        pack(plan.plan(), &layout, &State::start(places_of(digits), stamp))
     } else {
         NO_WORD
     }
 }
 
 /// The word of a word's state with another stamp, if it has a state and the stamp isn't past the last.
-pub(crate) fn restamp_by(plan: &Plan, word: u64, stamp: u32) -> u64
-    ensures restamped { (state : PlanState) → IsWordOf plan.now word state → stamp ≤ last_stamp
-        → result ≡ packed plan.now (record state { stamp = stamp }) }
+pub(crate) fn restamp_by(plan: &Compiled, word: u64, stamp: u32) -> u64
+    ensures restamped { (state : PlanState) → IsWordOf plan.now.table word state → stamp ≤ last_stamp
+        → result ≡ packed plan.now.table (record state { stamp = stamp }) }
     ensures past_last { last_stamp < stamp → result ≡ replies.no_word }
-    ensures no_state { NoState plan.now word → result ≡ replies.no_word }
+    ensures no_state { NoState plan.now.table word → result ≡ replies.no_word }
 {
-    let layout = Layout::of(plan);
-    match unpack(plan, &layout, word) {
-        Some(state) if stamp <= LAST_STAMP => pack(plan, &layout, &State { stamp, ..state }),
+    let layout = plan.layout();
+    match unpack(plan.plan(), &layout, word) {
+        Some(state) if stamp <= LAST_STAMP => pack(plan.plan(), &layout, &State { stamp, ..state }),
         _ => NO_WORD,
     }
 }
 
 /// The stamp of a word's state, if it has one.
-pub(crate) fn stamp_by(plan: &Plan, word: u64) -> u32
-    ensures stamp { (state : PlanState) → IsWordOf plan.now word state → result ≡ state.stamp }
-    ensures no_state { NoState plan.now word → result ≡ replies.no_stamp }
+pub(crate) fn stamp_by(plan: &Compiled, word: u64) -> u32
+    ensures stamp { (state : PlanState) → IsWordOf plan.now.table word state → result ≡ state.stamp }
+    ensures no_state { NoState plan.now.table word → result ≡ replies.no_stamp }
 {
-    let layout = Layout::of(plan);
-    match unpack(plan, &layout, word) {
+    let layout = plan.layout();
+    match unpack(plan.plan(), &layout, word) {
         Some(state) => state.stamp,
         None => NO_STAMP,
     }

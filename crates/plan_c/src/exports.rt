@@ -15,7 +15,7 @@ ghost use Rattle.plan_motors.specs.Motor.{Permits};
 ghost use Rattle.plan_motors.specs.Mask.{IsMaskOf, allows};
 ghost use Rattle.plan_motors.specs.OfPlan.{IsMotorOf};
 ghost use Rattle.plan_motors.specs.Laws.{KeepsPermission};
-ghost use Rattle.plan_c.specs.Given.{opened, not_opened, IsWordOf, NoState, motor_mask};
+ghost use Rattle.plan_c.specs.Given.{IsOpened, IsNotOpened, IsWordOf, NoState, motor_mask};
 ghost use Rattle.plan_c.specs.Numbers.{IsCall, NoCall};
 ghost use Rattle.plan_c.specs.Starts.{IsStartText, places_in};
 ghost use Rattle.plan_c.specs.Replies as replies;
@@ -24,6 +24,7 @@ use crate::by_plan::{NO_STAMP, NO_WORD, reply_by, restamp_by, stamp_by, start_by
 use crate::calls::call_with;
 use crate::opened::Opened;
 use crate::reply::{NO_CALL, NO_PLAN, Reply, bare_reply};
+use plan_compiled::Compiled;
 use plan_motors::MotorMask;
 use plan_rules::laws::lawful_histories;
 use plan_types::{Plan, read_plan};
@@ -32,17 +33,17 @@ use plan_word::laws::words_are_laid_out;
 /// Opens a plan, by its bytes. Each of the functions below takes what this gives.
 #[unsafe(no_mangle)]
 pub extern "C" fn bagunjoki_plan_open(bytes: &[u8]) -> Opened
-    ensures plan { (t : PlanTable) → IsPlanOf bytes.now t → result ≡ opened t }
-    ensures no_plan { NoPlan bytes.now → result ≡ not_opened }
+    ensures plan { (t : PlanTable) → IsPlanOf bytes.now t → IsOpened t result }
+    ensures no_plan { NoPlan bytes.now → IsNotOpened result }
 {
     match read_plan(bytes) {
         Some(plan) => Opened {
             is_plan: true,
-            plan,
+            compiled: Compiled::new(plan),
         },
         None => Opened {
             is_plan: false,
-            plan: Plan::empty(),
+            compiled: Compiled::new(Plan::empty()),
         },
     }
 }
@@ -59,20 +60,20 @@ pub extern "C" fn bagunjoki_plan_step(
     object: u8,
 ) -> Reply
     ensures answered { (t : PlanTable) (state : PlanState) (call : Call)
-        → plan.now ≡ opened t → IsWordOf t word state → IsCall verb object call
+        → IsOpened t plan.now → IsWordOf t word state → IsCall verb object call
         → result ≡ replies.reply_of (rules.reply t state machine call)
         (packed t (rules.next t state machine call)) }
     ensures no_call { NoCall verb object → result ≡ replies.bare_reply replies.no_call word }
-    ensures no_plan { (call : Call) → IsCall verb object call → plan.now ≡ not_opened
+    ensures no_plan { (call : Call) → IsCall verb object call → IsNotOpened plan.now
         → result ≡ replies.bare_reply replies.no_plan word }
     ensures no_state { (t : PlanTable) (call : Call)
-        → plan.now ≡ opened t → NoState t word → IsCall verb object call
+        → IsOpened t plan.now → NoState t word → IsCall verb object call
         → result ≡ replies.bare_reply replies.no_state word }
 {
     match call_with(verb, object) {
         None => bare_reply(NO_CALL, word),
         Some(_) if !plan.is_plan => bare_reply(NO_PLAN, word),
-        Some(call) => reply_by(&plan.plan, word, machine, call),
+        Some(call) => reply_by(&plan.compiled, word, machine, call),
     }
 }
 
@@ -80,14 +81,14 @@ pub extern "C" fn bagunjoki_plan_step(
 /// if no plan was opened, or there is no such start.
 #[unsafe(no_mangle)]
 pub extern "C" fn bagunjoki_plan_start(plan: &Opened, digits: &[u8], stamp: u32) -> u64
-    ensures start { (t : PlanTable) → plan.now ≡ opened t → IsStartText t digits.now stamp
+    ensures start { (t : PlanTable) → IsOpened t plan.now → IsStartText t digits.now stamp
         → result ≡ packed t (start_state (places_in digits.now) stamp) }
-    ensures no_start { (t : PlanTable) → plan.now ≡ opened t → ¬ IsStartText t digits.now stamp
+    ensures no_start { (t : PlanTable) → IsOpened t plan.now → ¬ IsStartText t digits.now stamp
         → result ≡ replies.no_word }
-    ensures no_plan { plan.now ≡ not_opened → result ≡ replies.no_word }
+    ensures no_plan { IsNotOpened plan.now → result ≡ replies.no_word }
 {
     if plan.is_plan {
-        start_by(&plan.plan, digits, stamp)
+        start_by(&plan.compiled, digits, stamp)
     } else {
         NO_WORD
     }
@@ -98,15 +99,15 @@ pub extern "C" fn bagunjoki_plan_start(plan: &Opened, digits: &[u8], stamp: u32)
 #[unsafe(no_mangle)]
 pub extern "C" fn bagunjoki_plan_restamp(plan: &Opened, word: u64, stamp: u32) -> u64
     ensures restamped { (t : PlanTable) (state : PlanState)
-        → plan.now ≡ opened t → IsWordOf t word state → stamp ≤ last_stamp
+        → IsOpened t plan.now → IsWordOf t word state → stamp ≤ last_stamp
         → result ≡ packed t (record state { stamp = stamp }) }
     ensures past_last { last_stamp < stamp → result ≡ replies.no_word }
-    ensures no_state { (t : PlanTable) → plan.now ≡ opened t → NoState t word
+    ensures no_state { (t : PlanTable) → IsOpened t plan.now → NoState t word
         → result ≡ replies.no_word }
-    ensures no_plan { plan.now ≡ not_opened → result ≡ replies.no_word }
+    ensures no_plan { IsNotOpened plan.now → result ≡ replies.no_word }
 {
     if plan.is_plan {
-        restamp_by(&plan.plan, word, stamp)
+        restamp_by(&plan.compiled, word, stamp)
     } else {
         NO_WORD
     }
@@ -116,13 +117,13 @@ pub extern "C" fn bagunjoki_plan_restamp(plan: &Opened, word: u64, stamp: u32) -
 #[unsafe(no_mangle)]
 pub extern "C" fn bagunjoki_plan_stamp(plan: &Opened, word: u64) -> u32
     ensures stamp { (t : PlanTable) (state : PlanState)
-        → plan.now ≡ opened t → IsWordOf t word state → result ≡ state.stamp }
-    ensures no_state { (t : PlanTable) → plan.now ≡ opened t → NoState t word
+        → IsOpened t plan.now → IsWordOf t word state → result ≡ state.stamp }
+    ensures no_state { (t : PlanTable) → IsOpened t plan.now → NoState t word
         → result ≡ replies.no_stamp }
-    ensures no_plan { plan.now ≡ not_opened → result ≡ replies.no_stamp }
+    ensures no_plan { IsNotOpened plan.now → result ≡ replies.no_stamp }
 {
     if plan.is_plan {
-        stamp_by(&plan.plan, word)
+        stamp_by(&plan.compiled, word)
     } else {
         NO_STAMP
     }
