@@ -111,7 +111,8 @@ typedef struct bagunjoki_plan_opened {
    may call them, and a signal handler too. `bytes` points to `length` bytes, `digits` to `count` of them; neither may
    be null. */
 
-/* Opens a plan. If the bytes are no plan's, `is_plan` is false, and all calls by it are NO_PLAN. */
+/* Opens a plan. If the bytes are no plan's, `is_plan` is false, and all calls by it are NO_PLAN. It takes some 210 KB of
+   stack, and some milliseconds; the others take half a KB. */
 bagunjoki_plan_opened bagunjoki_plan_open(const uint8_t *bytes, size_t length);
 
 /* A call on a word. It changes no shared word. */

@@ -42,8 +42,8 @@ pub(crate) fn start_by(plan: &Compiled, digits: &[u8], stamp: u32) -> u64
     ensures no_start { ¬ IsStartText plan.now.table digits.now stamp → result ≡ replies.no_word }
 {
     if is_start(plan.plan(), digits, stamp) {
-        let layout = plan.layout();
-        pack(plan.plan(), &layout, &State::start(places_of(digits), stamp))
+        let start = State::start(places_of(digits), stamp);
+        pack(plan.plan(), &plan.layout(), &start)
     } else {
         NO_WORD
     }

@@ -24,7 +24,6 @@ use crate::by_plan::{NO_STAMP, NO_WORD, reply_by, restamp_by, stamp_by, start_by
 use crate::calls::call_with;
 use crate::opened::Opened;
 use crate::reply::{NO_CALL, NO_PLAN, Reply, bare_reply};
-use plan_compiled::Compiled;
 use plan_motors::MotorMask;
 use plan_rules::laws::lawful_histories;
 use plan_types::{Plan, read_plan};
@@ -37,14 +36,8 @@ pub extern "C" fn bagunjoki_plan_open(bytes: &[u8]) -> Opened
     ensures no_plan { NoPlan bytes.now → IsNotOpened result }
 {
     match read_plan(bytes) {
-        Some(plan) => Opened {
-            is_plan: true,
-            compiled: Compiled::new(plan),
-        },
-        None => Opened {
-            is_plan: false,
-            compiled: Compiled::new(Plan::empty()),
-        },
+        Some(plan) => Opened::of(true, plan),
+        None => Opened::of(false, Plan::empty()),
     }
 }
 
