@@ -3,6 +3,7 @@ mod Counted
 mod Items
 mod LineRows
 mod Numbers
+mod Played
 mod Screens
 mod Starved
 mod Tallied

@@ -13,6 +13,11 @@ use Rattle.cell_explorer.specs.Columns.{cell_columns}
 use Rattle.cell_explorer.specs.Situations.{prospect_of}
 use Rattle.cell_explorer.specs.Walks.{next_turn}
 use Rattle.cell_notes.specs.ByMachine.{values_of}
+use Rattle.cell_notes.specs.declared.schedule.Turn.{Turn}
+use Rattle.cell_plant.specs.declared.frame.MachineSteps.{MachineSteps}
+use Rattle.cell_explorer.specs.declared.situation.Situation.{Situation}
+use Rattle.explore_app.specs.Schedules.{LeadsTo}
+use Rattle.explore_app.proofs.Played.{some_turn}
 use Rattle.explore_app.specs.declared.tally.Tally.{Tally}
 use Rattle.explore_app.specs.Bounds.{Text, bound_words}
 use Rattle.explore_app.specs.Liveness.{going_line, going_lines, liveness_of, liveness_of_each, machines_line, may_starve}
@@ -26,7 +31,7 @@ use Rattle.explore_app.specs.Starving.{IsStarvingScreenOf, TellsBound, TellsRoun
 use Rattle.explore_app.specs.Starts.{starts_with}
 use Rattle.explore_app.specs.Tallies as tallies
 use Rattle.explore_app.specs.Tallies.{AreLines, Finding, IsTally, more_lines, no_lines, of_both, of_none, of_one, both_tallies, found_words, free_words, going_words, no_tally, refused_words, situations_words, standing_words, starving_words, tally_line, tally_of, unknown_words, within_words}
-use Rattle.explore_app.specs.Tellings.{AnswersTell, FindingsTell, ScreensTell, StarvingTells, TellingsAreWhole, TextsTell}
+use Rattle.explore_app.specs.Tellings.{AnswersTell, EndingsTell, FindingsTell, IsPlayed, ScreensTell, StarvingTells, TellingsAreWhole, TextsTell}
 
 -- ---- the examples
 
@@ -69,20 +74,20 @@ requests-met = record {
 
 -- ---- what is said
 
-one_screen : (s : ModelState) (text : String Global) → IsScreenOf s (Warning text) → (¬ TellsGoing s true (string_bytes text)) → (¬ TellsStandstill s (string_bytes text)) → (¬ TellsRefusal s (string_bytes text)) → ⊥
-one_screen s text (inl k) a b c = a k
-one_screen s text (inr (inl k)) a b c = b k
-one_screen s text (inr (inr k)) a b c = c k
+one_screen : (given : Settings) (text : String Global) → IsScreenOf given (Warning text) → (¬ TellsGoing given.start true (string_bytes text)) → (¬ TellsStandstill given (string_bytes text)) → (¬ TellsRefusal given (string_bytes text)) → ⊥
+one_screen given text (inl k) a b c = a k
+one_screen given text (inr (inl k)) a b c = b k
+one_screen given text (inr (inr k)) a b c = c k
 
-one_starving : (s : ModelState) (text : String Global) → IsStarvingScreenOf s (Warning text) → (¬ TellsStill s (string_bytes text)) → (¬ TellsRound s (string_bytes text)) → ⊥
-one_starving s text (inl k) a b = a k
-one_starving s text (inr k) a b = b k
+one_starving : (given : Settings) (text : String Global) → IsStarvingScreenOf given (Warning text) → (¬ TellsStill given (string_bytes text)) → (¬ TellsRound given (string_bytes text)) → ⊥
+one_starving given text (inl k) a b = a k
+one_starving given text (inr k) a b = b k
 
-screens : (s : ModelState) (text : String Global) → ScreensTell s text
-screens s text = record {
+screens : (given : Settings) (text : String Global) → ScreensTell given text
+screens given text = record {
   free_tells_freedom = λ k. k;
   freedom_is_no_warning = λ k. k;
-  warning_tells_one_of_three = one_screen s text;
+  warning_tells_one_of_three = one_screen given text;
   starving_warns = λ k. inl k;
   standstill_warns = λ k. inr (inl k);
   refusal_warns = λ k. inr (inr k);
@@ -97,10 +102,7 @@ screens s text = record {
 texts : (s : ModelState) (text : Text) → TextsTell s text
 texts s text = record {
   freedom_is_found = λ starve k. (k.situations, k.free, k.counted, k.shown);
-  standstill_is_found = λ k. (k.way, k.leads, k.shortest, k.shown);
-  refusal_is_found = λ k. (k.way, k.leads, k.shortest, k.shown);
   freedom_is_shown = λ situations starve k. (k.plates, k.go_on, k.starving, k.starve_so, k.shown);
-  ending_is_shown = λ e way k. (k.walk, k.comes_to, k.schedule, k.shown);
   walk_is_taken = λ way walk k. (k.asks, k.end, k.next ∙ ap (λ at. values_of (next_turn cell_columns at)) k.end);
   someone_moves = λ plates k. k.any;
   each_moves = λ plates k. (k.feed, k.table, k.robot, k.press, k.deposit, k.crane);
@@ -108,19 +110,38 @@ texts s text = record {
   each_starves = λ plates k. (k.feed, k.table, k.robot, k.press, k.deposit, k.crane);
 }
 
-starving : (s : ModelState) (text : String Global) → StarvingTells s text
-starving s text = record {
+-- the steps that a frame shows
+played : (given : Settings) (at : Situation) (schedule : List Turn) (led : LeadsTo given at schedule) → IsPlayed given at schedule
+played given at schedule led =
+    let p = led.played in
+    let there = led.there.steps in
+    (p.scales, p.fits, p.steps, p.run, p.before, led.last, p.ends, ap (λ (s : MachineSteps). s.feed) there, ap (λ (s : MachineSteps). s.table) there, ap (λ (s : MachineSteps). s.robot) there, ap (λ (s : MachineSteps). s.press) there,
+    ap (λ (s : MachineSteps). s.deposit) there, ap (λ (s : MachineSteps). s.crane) there, led.there.state)
+
+endings : (given : Settings) (text : Text) → EndingsTell given text
+endings given text = record {
+  standstill_is_found = λ k. (k.way, k.leads, k.shortest, k.shown);
+  refusal_is_found = λ k. (k.way, k.leads, k.shortest, k.shown);
+  ending_is_shown = λ e way k. (k.walk, k.comes_to, k.schedule, k.leads, k.shown);
+  schedule_leads = λ e walk schedule k. record { last = k.last; played = k.asked.played; there = k.there };
+  schedule_is_played = played given;
+  no_empty_schedule = some_turn given;
+  machine_asks = λ e walk schedule k. (k.asked.machine, k.asked.call, k.asked.answered.0, k.asked.asks, k.asked.about, k.asked.answered.1);
+}
+
+starving : (given : Settings) (text : String Global) → StarvingTells given text
+starving given text = record {
   free_tells_bound = λ k. (k.bound, k.go_on, k.shown);
   bound_is_no_warning = λ k. k;
-  warning_tells_one_of_two = one_starving s text;
+  warning_tells_one_of_two = one_starving given text;
   still_warns = λ k. inl k;
   round_warns = λ k. inr k;
   circle = λ turns still k. (k.stem, k.cycle, k.leads, k.long, k.walk, k.comes_to, k.idle);
   still = λ k. (k.turns, k.starves, k.screen, k.is_screen, k.shown);
   round = λ k. (k.turns, k.starves, k.shown);
-  circle_is_a_warning = λ stem cycle k. k;
-  circle_is_shown = λ stem cycle k. k;
-  shown = λ stem cycle k. (k.round, k.is_round.turns, k.is_round.whole, k.schedule, k.shown);
+  circle_is_a_warning = λ stem cycle walk k. k;
+  circle_is_shown = λ stem cycle walk k. k;
+  shown = λ stem cycle walk k. (k.round, k.is_round.turns, k.is_round.whole, k.schedule, k.leads, k.shown);
   turn = λ step k. (k.way, k.comes_to, subst (λ at. call_of cell_columns step.machine at ≡ Some step.call) k.comes_to.end k.asks, subst (λ at. is_of_round step.goes_on (prospect_of cell_columns step.machine at) ≡ true) k.comes_to.end k.is_of);
 }
 
@@ -148,7 +169,7 @@ a_text _ _ (more_lines n t text k l) = inr (n, t, text, refl, k, l, refl)
 
 other_text : (bytes text : Text) → AnswerFails Standstill bytes (Some []) (Some text) → (¬ ((fault : ConfigFault) × Says bytes (Err fault))) → (¬ WrotePrefix (Some []) (Some text) (codes "fault memory\n"))
     → (¬ WrotePrefix (Some []) (Some text) (codes "fault the simulated cell doesn't come to it\n"))
-    → (settings : Settings) × (settings_of bytes ≡ Ok settings) × (whole : Text) × (TellsTrouble settings.start whole ⊎ TellsGoing settings.start false whole) × WrotePrefix (Some []) (Some text) whole
+    → (settings : Settings) × (settings_of bytes ≡ Ok settings) × (whole : Text) × (TellsTrouble settings whole ⊎ TellsGoing settings.start false whole) × WrotePrefix (Some []) (Some text) whole
 other_text bytes text (inl k) a b c = absurd (a (k.0, k.1.0))
 other_text bytes text (inr (inl k)) a b c = absurd (b k)
 other_text bytes text (inr (inr (inl k))) a b c = absurd (c k)
@@ -177,6 +198,7 @@ pub tellings-whole : TellingsAreWhole
 tellings-whole = record {
   screens = screens;
   texts = texts;
+  endings = endings;
   starving = starving;
   findings = findings;
   tallies = record { finding = λ plates f. (f.is_start, f.has, f.was_found, f.moves, f.unasked); tally = a_tally; lines = a_text };

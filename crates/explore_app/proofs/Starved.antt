@@ -5,6 +5,7 @@ use Rattle.std.proofs.lemmas.List.{take_more}
 use Rattle.std.proofs.lemmas.List.Elements.{All-append, All-cons, All-nil}
 use Rattle.cell_rules.specs.Types.{Machine, Feed, Table, Robot, Press, Deposit, Crane, Watch, Call}
 use Rattle.cell_rules.specs.ModelState.{ModelState}
+use Rattle.cell_config.specs.Settings.{Settings}
 use Rattle.cell_notes.specs.ByMachine.{at_machine, values_of}
 use Rattle.cell_notes.specs.declared.by_machine.ByMachine.{ByMachine}
 use Rattle.cell_explorer.specs.Calls.{call_of}
@@ -18,6 +19,7 @@ use Rattle.cell_notes.specs.declared.schedule.Turn.{Turn}
 use Rattle.cell_liveness.specs.GoingOn.{PlatesGoOn}
 use Rattle.explore_app.specs.declared.screen.Screen.{Screen}
 use Rattle.explore_app.specs.declared.screen.Screen.TheVariants.{Free, Warning}
+use Rattle.explore_app.specs.Schedules.{LeadsTo}
 use Rattle.explore_app.specs.Screens.{ComesTo, IsScreenOf, warning_of}
 use Rattle.explore_app.specs.declared.step.Step.{Step}
 use Rattle.explore_app.specs.Starving.{Asking, IsRound, IsRoundTurn, IsStarvingScreenOf, ShowsCircle, ShowsRound, Starves, TellsBound, asking, asking_after, asking_if, going_after, going_step, going_turn, going_turns, is_idle, is_of_round, round_screen, weak_screen}
@@ -77,26 +79,27 @@ way_more stem cycle way new i d h here is =
 
 -- ---- what a screen of how plates starve tells
 
-module _ (s : ModelState) (stem cycle : List Machine) (walk : Walk) (leads : IsStarving s None None stem cycle) (come : ComesTo s stem walk) where
-  starves : (still : Bool) → is_idle walk cycle ≡ still → Starves s (length stem) still
+module _ (given : Settings) (stem cycle : List Machine) (walk : Walk) (leads : IsStarving given.start None None stem cycle) (come : ComesTo given.start stem walk) where
+  starves : (still : Bool) → is_idle walk cycle ≡ still → Starves given.start (length stem) still
   starves still idle = record { stem = stem; cycle = cycle; leads = leads; long = refl; walk = walk; comes_to = come; idle = idle }
 
-  pub tells_still : is_idle walk cycle ≡ true → (found : Screen) → IsScreenOf s found → IsStarvingScreenOf s (warning_of found)
+  pub tells_still : is_idle walk cycle ≡ true → (found : Screen) → IsScreenOf given found → IsStarvingScreenOf given (warning_of found)
   tells_still idle (Free text) is = inl (record { turns = length stem; starves = starves true idle; screen = Free text; is_screen = is; shown = refl })
   tells_still idle (Warning text) is = inl (record { turns = length stem; starves = starves true idle; screen = Warning text; is_screen = is; shown = refl })
 
-  tells_circle : is_idle walk cycle ≡ false → (found : Screen) → ShowsCircle s stem cycle found → IsStarvingScreenOf s found
+  tells_circle : is_idle walk cycle ≡ false → (found : Screen) → ShowsCircle given stem cycle walk found → IsStarvingScreenOf given found
   unfolding starves
   tells_circle idle (Free text) shown = absurd shown
   tells_circle idle (Warning text) shown = inr (record { turns = length stem; starves = starves false idle; shown = shown })
 
-  pub tells_round : {E : Type 0} (r : Result Screen E) → is_idle walk cycle ≡ false → IfOk r (ShowsCircle s stem cycle) → IfOk r (IsStarvingScreenOf s)
+  pub tells_round : {E : Type 0} (r : Result Screen E) → is_idle walk cycle ≡ false → IfOk r (ShowsCircle given stem cycle walk) → IfOk r (IsStarvingScreenOf given)
   tells_round (Ok found) idle k = tells_circle idle found k
   tells_round (Err e) idle k = tt
 
 -- a circle is shown by a text
-pub shows_circle : (s : ModelState) (stem cycle : List Machine) (round : List Step) (schedule : List Turn) (text : Text) → IsRound s stem cycle round → text ≡ round_screen s (length stem) round schedule → ShowsRound s stem cycle text
-shows_circle s stem cycle round schedule text is shown = record { round = round; is_round = is; schedule = schedule; shown = shown }
+pub shows_circle : (given : Settings) (stem cycle : List Machine) (walk : Walk) (round : List Step) (schedule : List Turn) (text : Text) → IsRound given.start stem cycle round → LeadsTo given walk.end schedule
+    → text ≡ round_screen given.start (length stem) round schedule → ShowsRound given stem cycle walk text
+shows_circle given stem cycle walk round schedule text is leads shown = record { round = round; is_round = is; schedule = schedule; leads = leads; shown = shown }
 
 -- where no circle is known
 pub shows_bound : (s : ModelState) (plain helped : ℕ) (text : Text) → PlatesGoOn s None None plain helped → text ≡ weak_screen s (Some (record { plain = plain; helped = helped })) → TellsBound s text

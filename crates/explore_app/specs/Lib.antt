@@ -3,6 +3,7 @@ pub mod LineExamples
 pub mod Liveness
 pub mod Requests
 pub mod Rings
+pub mod Schedules
 pub mod Screens
 pub mod Served
 pub mod Starts

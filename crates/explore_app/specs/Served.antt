@@ -4,7 +4,6 @@ use Rattle.std.specs.Io.KnownBytes.{Appends}
 use Rattle.text_io.specs.Output.{WrotePrefix}
 use Rattle.program_shell.specs.Faults.{fault_line}
 use Rattle.program_shell.specs.Served.{Served}
-use Rattle.cell_rules.specs.ModelState.{ModelState}
 use Rattle.cell_config.specs.Configured.{Says}
 use Rattle.cell_config.specs.ConfigWords.{config_fault_text}
 use Rattle.cell_config.specs.Settings.{Settings, max_bytes_read, settings_of}
@@ -18,10 +17,10 @@ use Rattle.explore_app.specs.Screens.{IsScreenOf, TellsFreedom, TellsTrouble}
 use Rattle.explore_app.specs.Starving.{IsStarvingScreenOf, TellsBound, TellsRound, TellsStill}
 use Rattle.explore_app.specs.Tallies.{AreLines}
 
--- a screen answers a question of a start
-abbrev pub IsAnswerTo : Question → ModelState → Screen → Type 0
-IsAnswerTo Standstill s screen = IsScreenOf s screen
-IsAnswerTo Starving s screen = IsStarvingScreenOf s screen
+-- a screen answers a question of a configuration's start
+abbrev pub IsAnswerTo : Question → Settings → Screen → Type 0
+IsAnswerTo Standstill given screen = IsScreenOf given screen
+IsAnswerTo Starving given screen = IsStarvingScreenOf given screen
 
 -- a screen that is no warning was written
 abbrev pub WroteFree : Screen → Option Text → Option Text → Type 0
@@ -29,19 +28,19 @@ WroteFree (Free text) old new = Appends old new (string_bytes text)
 WroteFree (Warning text) old new = ⊥
 
 -- a text says that nothing stands still or starves from a start, by what explorations answer; or that something does
-abbrev pub TellsWell : Question → ModelState → Text → Type 0
-TellsWell Standstill s text = TellsFreedom s text
-TellsWell Starving s text = TellsBound s text
+abbrev pub TellsWell : Question → Settings → Text → Type 0
+TellsWell Standstill given text = TellsFreedom given.start text
+TellsWell Starving given text = TellsBound given.start text
 
-abbrev pub Warns : Question → ModelState → Text → Type 0
-Warns Standstill s text = TellsTrouble s text
-Warns Starving s text = TellsStill s text ⊎ TellsRound s text
+abbrev pub Warns : Question → Settings → Text → Type 0
+Warns Standstill given text = TellsTrouble given text
+Warns Starving given text = TellsStill given text ⊎ TellsRound given text
 
 -- a text does so of the start of the configuration that the bytes give
-pub record IsAnswerFor (Tells : ModelState → Text → Type 0) (bytes text : Text) : Type 0 where
+pub record IsAnswerFor (Tells : Settings → Text → Type 0) (bytes text : Text) : Type 0 where
   pub settings : Settings
   pub said : settings_of bytes ≡ Ok settings
-  pub tells : Tells settings.start text
+  pub tells : Tells settings text
 
 -- the answer that nothing does was written
 abbrev pub WasAnswered : Question → Option Text → Option Text → Option Text → Type 0

@@ -8,6 +8,7 @@ use Rattle.cell_rules.specs.Types.{Call, Machine}
 use Rattle.cell_rules.specs.Names.{ModelState, reply}
 use Rattle.cell_notes.specs.declared.schedule.Turn.{Turn}
 use Rattle.cell_notes.specs.Names.{at_machine}
+use Rattle.cell_config.specs.Settings.{Settings}
 use Rattle.cell_explorer.specs.declared.turning.Prospect.{Prospect}
 use Rattle.cell_explorer.specs.declared.turning.Prospect.TheVariants.{Acts, Waits, Stops}
 use Rattle.cell_explorer.specs.Columns.{cell_columns}
@@ -24,6 +25,7 @@ use Rattle.explore_app.specs.declared.screen.Screen.{Screen}
 use Rattle.explore_app.specs.declared.screen.Screen.TheVariants.{Free, Warning}
 use Rattle.explore_app.specs.Bounds.{Text, bound_words}
 use Rattle.explore_app.specs.Rings.{going_on_line, waiting_line}
+use Rattle.explore_app.specs.Schedules.{LeadsTo}
 use Rattle.explore_app.specs.Screens.{ComesTo, IsScreenOf, plates_line, schedule_key, screen_text, start_key}
 
 -- ---- lines
@@ -109,12 +111,13 @@ pub record IsRound (s : ModelState) (stem cycle : List Machine) (round : List St
   pub turns : All (IsRoundTurn s) round
   pub whole : going_turns round ≡ asking s stem cycle
 
--- a text shows a round of a circle
-pub record ShowsRound (s : ModelState) (stem cycle : List Machine) (text : Text) : Type 0 where
+-- a text shows a round of a circle to which a walk leads, and a schedule that ends where the walk does
+pub record ShowsRound (given : Settings) (stem cycle : List Machine) (walk : Walk) (text : Text) : Type 0 where
   pub round : List Step
-  pub is_round : IsRound s stem cycle round
+  pub is_round : IsRound given.start stem cycle round
   pub schedule : List Turn
-  pub shown : text ≡ round_screen s (length stem) round schedule
+  pub leads : LeadsTo given walk.end schedule
+  pub shown : text ≡ round_screen given.start (length stem) round schedule
 
 -- a machine's next turn changes something
 abbrev pub acts : Prospect → Bool
@@ -138,23 +141,23 @@ pub record Starves (s : ModelState) (turns : ℕ) (still : Bool) : Type 0 where
   pub idle : is_idle walk cycle ≡ still
 
 -- a screen shows a round, as a warning
-abbrev pub ShowsCircle : ModelState → List Machine → List Machine → Screen → Type 0
-ShowsCircle s stem cycle (Free text) = ⊥
-ShowsCircle s stem cycle (Warning text) = ShowsRound s stem cycle (string_bytes text)
+abbrev pub ShowsCircle : Settings → List Machine → List Machine → Walk → Screen → Type 0
+ShowsCircle given stem cycle walk (Free text) = ⊥
+ShowsCircle given stem cycle walk (Warning text) = ShowsRound given stem cycle walk (string_bytes text)
 
 -- they lead to a standstill, and a text is that of the start's screen
-pub record TellsStill (s : ModelState) (text : Text) : Type 0 where
+pub record TellsStill (given : Settings) (text : Text) : Type 0 where
   pub turns : ℕ
-  pub starves : Starves s turns true
+  pub starves : Starves given.start turns true
   pub screen : Screen
-  pub is_screen : IsScreenOf s screen
+  pub is_screen : IsScreenOf given screen
   pub shown : text ≡ screen_text screen
 
 -- they lead to none, and a text shows the round
-pub record TellsRound (s : ModelState) (text : Text) : Type 0 where
+pub record TellsRound (given : Settings) (text : Text) : Type 0 where
   pub turns : ℕ
-  pub starves : Starves s turns false
-  pub shown : ShowsRound s starves.stem starves.cycle text
+  pub starves : Starves given.start turns false
+  pub shown : ShowsRound given starves.stem starves.cycle starves.walk text
 
 -- a text shows within how many steps a plate moves, or that this isn't known
 pub record TellsBound (s : ModelState) (text : Text) : Type 0 where
@@ -163,6 +166,6 @@ pub record TellsBound (s : ModelState) (text : Text) : Type 0 where
   pub shown : text ≡ weak_screen s bound
 
 -- a screen is that of how plates starve: it is a warning where they do
-abbrev pub IsStarvingScreenOf : ModelState → Screen → Type 0
-IsStarvingScreenOf s (Free text) = TellsBound s (string_bytes text)
-IsStarvingScreenOf s (Warning text) = TellsStill s (string_bytes text) ⊎ TellsRound s (string_bytes text)
+abbrev pub IsStarvingScreenOf : Settings → Screen → Type 0
+IsStarvingScreenOf given (Free text) = TellsBound given.start (string_bytes text)
+IsStarvingScreenOf given (Warning text) = TellsStill given (string_bytes text) ⊎ TellsRound given (string_bytes text)

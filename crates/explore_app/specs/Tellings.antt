@@ -4,11 +4,14 @@ use Rattle.std.specs.Prelude.{Ok, Err, IfSome, String, codes, string_bytes}
 use Rattle.std.specs.declared.alloc.Global.{Global}
 use Rattle.text_io.specs.Input.{TakesAtMost}
 use Rattle.text_io.specs.Output.{WrotePrefix}
-use Rattle.cell_rules.specs.Types.{Machine, Feed, Table, Robot, Press, Deposit, Crane}
-use Rattle.cell_rules.specs.Names.{ModelState, IsStartState, plates_of}
-use Rattle.cell_notes.specs.ByMachine.{values_of}
+use Rattle.cell_rules.specs.Types.{Call, Machine, Feed, Table, Robot, Press, Deposit, Crane, Settled}
+use Rattle.cell_rules.specs.Names.{ModelState, IsStartState, plates_of, reply}
+use Rattle.cell_notes.specs.ByMachine.{at_machine, values_of}
 use Rattle.cell_notes.specs.declared.schedule.Turn.{Turn}
-use Rattle.cell_config.specs.Configured.{Says}
+use Rattle.cell_parts.specs.Axes.{CellScales}
+use Rattle.cell_plant.specs.Names.{IsRunBy, Step as RunStep, cell_at_start, frames_of, on_curves}
+use Rattle.cell_plant.specs.declared.frame.Frame.{Frame}
+use Rattle.cell_config.specs.Configured.{Says, in_order}
 use Rattle.cell_config.specs.Settings.{Settings, max_bytes_read, settings_of}
 use Rattle.cell_config.specs.declared.fault.ConfigFault.{ConfigFault}
 use Rattle.cell_explorer.specs.Calls.{call_of}
@@ -18,6 +21,7 @@ use Rattle.cell_explorer.specs.Explored.{IfEnd, IfFree}
 use Rattle.cell_explorer.specs.Situations.{prospect_of}
 use Rattle.cell_explorer.specs.Walks.{asks_on, end_of, next_turn}
 use Rattle.cell_explorer.specs.declared.exploring.Explored.TheVariants as explored
+use Rattle.cell_explorer.specs.declared.situation.Situation.{Situation}
 use Rattle.cell_explorer.specs.declared.walk.Walk.{Walk}
 use Rattle.cell_liveness.specs.Answers.{IfStarves, IfWithin}
 use Rattle.cell_liveness.specs.GoingOn.{PlatesGoOn}
@@ -36,6 +40,8 @@ use Rattle.explore_app.specs.declared.step.Step.{Step}
 use Rattle.explore_app.specs.declared.tally.Tally.{Tally}
 use Rattle.explore_app.specs.Bounds.{Text}
 use Rattle.explore_app.specs.Liveness.{any_starves, liveness_of_each}
+use Rattle.explore_app.specs.Rings.{is_about}
+use Rattle.explore_app.specs.Schedules.{LeadsTo, LeadsToEnding}
 use Rattle.explore_app.specs.Screens.{ComesTo, GoOnWithin, IsScreenOf, MayStarve, Shows, ShowsEnding, ShowsFree}
 use Rattle.explore_app.specs.Screens.{TellsGoing, TellsRefusal, TellsStandstill, TellsTrouble}
 use Rattle.explore_app.specs.Screens.{ending_screen, free_screen, screen_text}
@@ -48,41 +54,34 @@ use Rattle.explore_app.specs.Tallies.{AreLines, Finding, IsLivenessFrom, IsTally
 use Rattle.explore_app.specs.Tallies.{tally_line, tally_of}
 
 -- a start, its turns and what they come to
-pub record ScreensTell (s : ModelState) (text : String Global) : Type 0 where
+pub record ScreensTell (given : Settings) (text : String Global) : Type 0 where
   -- a screen that is no warning tells that nothing stands still or starves; a warning, one of three things that do
-  pub free_tells_freedom : IsScreenOf s (Free text) → TellsGoing s false (string_bytes text)
-  pub freedom_is_no_warning : TellsGoing s false (string_bytes text) → IsScreenOf s (Free text)
-  pub warning_tells_one_of_three : IsScreenOf s (Warning text)
-      → (¬ TellsGoing s true (string_bytes text)) → (¬ TellsStandstill s (string_bytes text))
-      → (¬ TellsRefusal s (string_bytes text)) → ⊥
-  pub starving_warns : TellsGoing s true (string_bytes text) → IsScreenOf s (Warning text)
-  pub standstill_warns : TellsStandstill s (string_bytes text) → IsScreenOf s (Warning text)
-  pub refusal_warns : TellsRefusal s (string_bytes text) → IsScreenOf s (Warning text)
-  pub free : (situations : ℕ) → Shows s (explored.Free situations) (Free text)
-      → ShowsFree s situations false (string_bytes text)
-  pub starving : (situations : ℕ) → Shows s (explored.Free situations) (Warning text)
-      → ShowsFree s situations true (string_bytes text)
-  pub standstill : (way : _) → Shows s (explored.Standstill way) (Warning text)
-      → ShowsEnding s ending.Standstill way.items (string_bytes text)
-  pub standstill_is_a_warning : (way : _) → ¬ Shows s (explored.Standstill way) (Free text)
-  pub refusal : (way : _) → Shows s (explored.Refusal way) (Warning text)
-      → ShowsEnding s ending.Refusal way.items (string_bytes text)
-  pub refusal_is_a_warning : (way : _) → ¬ Shows s (explored.Refusal way) (Free text)
+  pub free_tells_freedom : IsScreenOf given (Free text) → TellsGoing given.start false (string_bytes text)
+  pub freedom_is_no_warning : TellsGoing given.start false (string_bytes text) → IsScreenOf given (Free text)
+  pub warning_tells_one_of_three : IsScreenOf given (Warning text)
+      → (¬ TellsGoing given.start true (string_bytes text)) → (¬ TellsStandstill given (string_bytes text))
+      → (¬ TellsRefusal given (string_bytes text)) → ⊥
+  pub starving_warns : TellsGoing given.start true (string_bytes text) → IsScreenOf given (Warning text)
+  pub standstill_warns : TellsStandstill given (string_bytes text) → IsScreenOf given (Warning text)
+  pub refusal_warns : TellsRefusal given (string_bytes text) → IsScreenOf given (Warning text)
+  pub free : (situations : ℕ) → Shows given (explored.Free situations) (Free text)
+      → ShowsFree given.start situations false (string_bytes text)
+  pub starving : (situations : ℕ) → Shows given (explored.Free situations) (Warning text)
+      → ShowsFree given.start situations true (string_bytes text)
+  pub standstill : (way : _) → Shows given (explored.Standstill way) (Warning text)
+      → ShowsEnding given ending.Standstill way.items (string_bytes text)
+  pub standstill_is_a_warning : (way : _) → ¬ Shows given (explored.Standstill way) (Free text)
+  pub refusal : (way : _) → Shows given (explored.Refusal way) (Warning text)
+      → ShowsEnding given ending.Refusal way.items (string_bytes text)
+  pub refusal_is_a_warning : (way : _) → ¬ Shows given (explored.Refusal way) (Free text)
 
 -- what is told of a start, and shown of it
 pub record TextsTell (s : ModelState) (text : Text) : Type 0 where
   pub freedom_is_found : (starve : Bool) → TellsGoing s starve text
       → (situations : ℕ) × NoneEnds s × ComeTo s situations × ShowsFree s situations starve text
-  pub standstill_is_found : TellsStandstill s text
-      → (way : List Machine) × LeadsToStandstill s way × IsShortest s way × ShowsEnding s ending.Standstill way text
-  pub refusal_is_found : TellsRefusal s text
-      → (way : List Machine) × LeadsToRefusal s way × IsShortest s way × ShowsEnding s ending.Refusal way text
   pub freedom_is_shown : (situations : ℕ) (starve : Bool) → ShowsFree s situations starve text
       → (plates : Plates) × GoOnWithin s plates × MayStarve s plates × (any_starves plates ≡ starve)
       × (text ≡ free_screen s situations plates)
-  pub ending_is_shown : (e : Ending) (way : List Machine) → ShowsEnding s e way text
-      → (walk : Walk) × ComesTo s way walk × (schedule : List Turn)
-      × (text ≡ ending_screen s e (length way) walk schedule)
   pub walk_is_taken : (way : List Machine) (walk : Walk) → ComesTo s way walk
       → (walk.asks.items ≡ asks_on s way) × (walk.end ≡ end_of s way)
       × (walk.next ≡ values_of (next_turn cell_columns (end_of s way)))
@@ -105,35 +104,69 @@ pub record TextsTell (s : ModelState) (text : Text) : Type 0 where
       × IfStarves plates.deposit (IsStarving s (Some Deposit) (Some Press))
       × IfStarves plates.crane (IsStarving s (Some Crane) (Some Press))
 
+-- a run of a schedule's turns in a configuration's cell, from its start, whose last frame shows a situation
+abbrev pub IsPlayed : Settings → Situation → List Turn → Type 0
+IsPlayed given at schedule =
+    (c : CellScales) × (given.points ≡ in_order c) × (steps : List RunStep)
+    × IsRunBy c (on_curves given.curves) (cell_at_start given.start) schedule steps × (before : List Frame)
+    × (last : Frame) × (frames_of given.start schedule steps ≡ before ++ last ∷ [])
+    × (last.steps.feed ≡ at.feed.step) × (last.steps.table ≡ at.table.step) × (last.steps.robot ≡ at.robot.step)
+    × (last.steps.press ≡ at.press.step) × (last.steps.deposit ≡ at.deposit.step)
+    × (last.steps.crane ≡ at.crane.step) × (record (last.state) { stamp = 0 } ≡ at.state)
+
+-- what is told of the turns to an ending, and shown of a schedule that leads there
+pub record EndingsTell (given : Settings) (text : Text) : Type 0 where
+  pub standstill_is_found : TellsStandstill given text
+      → (way : List Machine) × LeadsToStandstill given.start way × IsShortest given.start way
+      × ShowsEnding given ending.Standstill way text
+  pub refusal_is_found : TellsRefusal given text
+      → (way : List Machine) × LeadsToRefusal given.start way × IsShortest given.start way
+      × ShowsEnding given ending.Refusal way text
+  pub ending_is_shown : (e : Ending) (way : List Machine) → ShowsEnding given e way text
+      → (walk : Walk) × ComesTo given.start way walk × (schedule : List Turn) × LeadsToEnding given e walk schedule
+      × (text ≡ ending_screen given.start e (length way) walk schedule)
+  -- the schedule leads there: played in this cell from this start, it ends in the walk's end
+  pub schedule_leads : (e : Ending) (walk : Walk) (schedule : List Turn) → LeadsToEnding given e walk schedule
+      → LeadsTo given walk.end schedule
+  pub schedule_is_played : (at : Situation) (schedule : List Turn) → LeadsTo given at schedule
+      → IsPlayed given at schedule
+  -- its last turn is one in which a machine asks, so it has one
+  pub no_empty_schedule : (e : Ending) (walk : Walk) → ¬ LeadsToEnding given e walk []
+  pub machine_asks : (e : Ending) (walk : Walk) (schedule : List Turn) (led : LeadsToEnding given e walk schedule)
+      → (m : Machine) × (call : Call) × (stamp : ℕ) × ((at_machine walk.next m).call ≡ Some call)
+      × (is_about e (at_machine walk.next m).prospect ≡ true)
+      × (led.last.asked ≡ Some (call, Ok (Settled (reply walk.end.state m call) stamp)))
+
 -- how plates starve
-pub record StarvingTells (s : ModelState) (text : String Global) : Type 0 where
-  pub free_tells_bound : IsStarvingScreenOf s (Free text)
-      → (bound : Option Bound) × IfSome bound (λ b. PlatesGoOn s None None b.plain b.helped)
-      × (string_bytes text ≡ weak_screen s bound)
-  pub bound_is_no_warning : TellsBound s (string_bytes text) → IsStarvingScreenOf s (Free text)
-  pub warning_tells_one_of_two : IsStarvingScreenOf s (Warning text)
-      → (¬ TellsStill s (string_bytes text)) → (¬ TellsRound s (string_bytes text)) → ⊥
-  pub still_warns : TellsStill s (string_bytes text) → IsStarvingScreenOf s (Warning text)
-  pub round_warns : TellsRound s (string_bytes text) → IsStarvingScreenOf s (Warning text)
-  pub circle : (turns : ℕ) (still : _) → Starves s turns still
-      → (stem : List Machine) × (cycle : List Machine) × IsStarving s None None stem cycle × (length stem ≡ turns)
-      × (walk : Walk) × ComesTo s stem walk × (is_idle walk cycle ≡ still)
-  pub still : TellsStill s (string_bytes text)
-      → (turns : ℕ) × Starves s turns true × (screen : Screen) × IsScreenOf s screen
+pub record StarvingTells (given : Settings) (text : String Global) : Type 0 where
+  pub free_tells_bound : IsStarvingScreenOf given (Free text)
+      → (bound : Option Bound) × IfSome bound (λ b. PlatesGoOn given.start None None b.plain b.helped)
+      × (string_bytes text ≡ weak_screen given.start bound)
+  pub bound_is_no_warning : TellsBound given.start (string_bytes text) → IsStarvingScreenOf given (Free text)
+  pub warning_tells_one_of_two : IsStarvingScreenOf given (Warning text)
+      → (¬ TellsStill given (string_bytes text)) → (¬ TellsRound given (string_bytes text)) → ⊥
+  pub still_warns : TellsStill given (string_bytes text) → IsStarvingScreenOf given (Warning text)
+  pub round_warns : TellsRound given (string_bytes text) → IsStarvingScreenOf given (Warning text)
+  pub circle : (turns : ℕ) (still : _) → Starves given.start turns still
+      → (stem : List Machine) × (cycle : List Machine) × IsStarving given.start None None stem cycle × (length stem ≡ turns)
+      × (walk : Walk) × ComesTo given.start stem walk × (is_idle walk cycle ≡ still)
+  pub still : TellsStill given (string_bytes text)
+      → (turns : ℕ) × Starves given.start turns true × (screen : Screen) × IsScreenOf given screen
       × (string_bytes text ≡ screen_text screen)
-  pub round : TellsRound s (string_bytes text)
-      → (turns : ℕ) × (starves : Starves s turns false)
-      × ShowsRound s starves.stem starves.cycle (string_bytes text)
-  pub circle_is_a_warning : (stem cycle : List Machine) → ¬ ShowsCircle s stem cycle (Free text)
-  pub circle_is_shown : (stem cycle : List Machine) → ShowsCircle s stem cycle (Warning text)
-      → ShowsRound s stem cycle (string_bytes text)
-  pub shown : (stem cycle : List Machine) → ShowsRound s stem cycle (string_bytes text)
-      → (round : List Step) × All (IsRoundTurn s) round × (going_turns round ≡ asking s stem cycle)
-      × (schedule : List Turn) × (string_bytes text ≡ round_screen s (length stem) round schedule)
-  pub turn : (step : Step) → IsRoundTurn s step
-      → (way : List Machine) × ComesTo s way step.walk
-      × (call_of cell_columns step.machine (end_of s way) ≡ Some step.call)
-      × (is_of_round step.goes_on (prospect_of cell_columns step.machine (end_of s way)) ≡ true)
+  pub round : TellsRound given (string_bytes text)
+      → (turns : ℕ) × (starves : Starves given.start turns false)
+      × ShowsRound given starves.stem starves.cycle starves.walk (string_bytes text)
+  pub circle_is_a_warning : (stem cycle : List Machine) (walk : Walk) → ¬ ShowsCircle given stem cycle walk (Free text)
+  pub circle_is_shown : (stem cycle : List Machine) (walk : Walk) → ShowsCircle given stem cycle walk (Warning text)
+      → ShowsRound given stem cycle walk (string_bytes text)
+  pub shown : (stem cycle : List Machine) (walk : Walk) → ShowsRound given stem cycle walk (string_bytes text)
+      → (round : List Step) × All (IsRoundTurn given.start) round × (going_turns round ≡ asking given.start stem cycle)
+      × (schedule : List Turn) × LeadsTo given walk.end schedule
+      × (string_bytes text ≡ round_screen given.start (length stem) round schedule)
+  pub turn : (step : Step) → IsRoundTurn given.start step
+      → (way : List Machine) × ComesTo given.start way step.walk
+      × (call_of cell_columns step.machine (end_of given.start way) ≡ Some step.call)
+      × (is_of_round step.goes_on (prospect_of cell_columns step.machine (end_of given.start way)) ≡ true)
 
 -- what was found from a start
 pub record FindingsTell (s : ModelState) : Type 0 where
@@ -174,24 +207,25 @@ pub record AnswersTell (bytes text : Text) : Type 0 where
       → AnswerFails question bytes (Some []) (Some text)
   pub reads : (question : Question) (exit : ℕ) (rest new : Option Text)
       → Answers question exit (Some bytes) rest (Some []) new → TakesAtMost (Some bytes) rest max_bytes_read
-  pub warns : (settings : Settings) → settings_of bytes ≡ Ok settings → TellsTrouble settings.start text
+  pub warns : (settings : Settings) → settings_of bytes ≡ Ok settings → TellsTrouble settings text
       → AnswerFails Standstill bytes (Some []) (Some text)
-  pub warns_of_round : (settings : Settings) → settings_of bytes ≡ Ok settings → TellsRound settings.start text
+  pub warns_of_round : (settings : Settings) → settings_of bytes ≡ Ok settings → TellsRound settings text
       → AnswerFails Starving bytes (Some []) (Some text)
-  pub warns_of_still : (settings : Settings) → settings_of bytes ≡ Ok settings → TellsStill settings.start text
+  pub warns_of_still : (settings : Settings) → settings_of bytes ≡ Ok settings → TellsStill settings text
       → AnswerFails Starving bytes (Some []) (Some text)
   pub other : AnswerFails Standstill bytes (Some []) (Some text)
       → (¬ ((fault : ConfigFault) × Says bytes (Err fault)))
       → (¬ WrotePrefix (Some []) (Some text) (codes "fault memory\n"))
       → (¬ WrotePrefix (Some []) (Some text) (codes "fault the simulated cell doesn't come to it\n"))
       → (settings : Settings) × (settings_of bytes ≡ Ok settings) × (whole : Text)
-      × (TellsTrouble settings.start whole ⊎ TellsGoing settings.start false whole)
+      × (TellsTrouble settings whole ⊎ TellsGoing settings.start false whole)
       × WrotePrefix (Some []) (Some text) whole
 
 pub record TellingsAreWhole : Type 0 where
-  pub screens : (s : ModelState) (text : String Global) → ScreensTell s text
+  pub screens : (given : Settings) (text : String Global) → ScreensTell given text
   pub texts : (s : ModelState) (text : Text) → TextsTell s text
-  pub starving : (s : ModelState) (text : String Global) → StarvingTells s text
+  pub endings : (given : Settings) (text : Text) → EndingsTell given text
+  pub starving : (given : Settings) (text : String Global) → StarvingTells given text
   pub findings : (s : ModelState) → FindingsTell s
   pub tallies : TalliesTell
   pub answers : (bytes text : Text) → AnswersTell bytes text

@@ -1,8 +1,10 @@
 //! The schedule that leads a simulated cell into a standstill, or to a refusal: the turns that were found, with those
 //! in which drives end.
 
+ghost use Rattle.std.specs.Prelude.{◌≡◌, true, Some, IfOk, OnOk};
 ghost use Rattle.cell_rules.specs.Start.{IsStartState};
-ghost use Rattle.cell_config.specs.Configured.{AreAxisScales, AreCurvesOf};
+ghost use Rattle.cell_config.specs.Configured.{AreAxisScales, AreCurvesOf, shown};
+ghost use Rattle.explore_app.specs.Schedules.{EndsWith, IsAt, LeadsToEnding, NotesFrame, WasAsked};
 
 use crate::ending::Ending;
 use cell_config::Config;
@@ -31,44 +33,90 @@ impl From<AllocError> for ScheduleFault {
     }
 }
 
-// That a machine has asked.
+// Why a seeker stops.
 #[derive(Clone, Copy)]
-struct Asked;
+enum SeekEnd {
+    // A machine has asked.
+    Asked,
+    // Out of memory.
+    Memory,
+}
 
-// Passes over a number of frames, and then looks for the first with a call. It keeps the last that it saw.
-#[derive(Clone, Copy)]
+// Passes over a number of frames, and then looks for the first with a call. It keeps the turns that it has seen, and the
+// last frame.
+#[derive(Drop)]
 struct AskSeeker {
     skip: usize,
-    turns: usize,
+    turns: Vec<Turn>,
     last: Option<Frame>,
 }
 
-impl Observer for AskSeeker {
-    ghost use Rattle.std.specs.Prelude.{true, ⊤};
+impl AskSeeker {
+    // Keeps a frame.
+    fn keep(&mut self, frame: &Frame) -> Result<(), AllocError>
+        ensures { OnOk result
+            (NotesFrame self.old.turns.items frame.now self.new.turns.items self.new.last) }
+    {
+        self.last = Some(*frame);
+        match frame.turn {
+            Some(turn) => self.turns.push(turn),
+            None => Ok(()),
+        }
+    }
 
-    type Fault = Asked;
+    // Its turns, which a cell has played, with the last frame.
+    fn played(self) -> Result<Played, ScheduleFault>
+        ensures turns { IfOk result (λ played. played.turns ≡ self.turns) }
+        ensures last { IfOk result (λ played. self.last ≡ Some played.last) }
+    {
+        match self.last {
+            Some(last) => Ok(Played {
+                turns: self.turns,
+                last,
+            }),
+            None => Err(ScheduleFault::Apart),
+        }
+    }
+}
+
+impl Observer for AskSeeker {
+    ghost use Rattle.std.specs.Prelude.{true};
+    ghost use Rattle.std.proofs.Common.{sym};
+    ghost use Rattle.std.proofs.lemmas.Bool.{false≢true};
+    ghost use Rattle.explore_app.specs.Schedules.{IfNoted, NotesFrame};
+
+    type Fault = SeekEnd;
 
     ghost LOOKS = { true };
 
     const LOOKS: bool = true;
 
-    ghost sees = { λ _ _ _ _. ⊤ };
+    ghost sees = { λ old frame result new.
+        IfNoted result (NotesFrame old.turns.items frame new.turns.items new.last) };
 
-    ghost blind = { λ _ _ _. tt };
+    ghost blind = { λ _ _ looks. absurd (false≢true (sym looks)) };
 
-    fn see(&mut self, frame: &Frame) -> Result<(), Asked> {
-        self.last = Some(*frame);
+    fn see(&mut self, frame: &Frame) -> Result<(), SeekEnd> {
+        let Ok(()) = self.keep(frame) else {
+            return Err(SeekEnd::Memory);
+        };
         if self.skip > 0 {
             self.skip -= 1;
             return Ok(());
         }
-        self.turns = self.turns.saturating_add(1);
         if frame.asked.is_some() {
-            Err(Asked)
+            Err(SeekEnd::Asked)
         } else {
             Ok(())
         }
     }
+}
+
+// Turns that a cell has played, and what is seen after the last.
+#[derive(Drop)]
+struct Played {
+    turns: Vec<Turn>,
+    last: Frame,
 }
 
 /// The turns that lead a simulated cell to the end of a walk. Each machine has turns until it asks,
@@ -86,23 +134,25 @@ pub fn schedule_into(
     requires start { IsStartState config.now.start }
     requires points { AreAxisScales config.now.points }
     requires curves { AreCurvesOf config.now.points config.now.curves }
+    ensures { IfOk result (λ schedule.
+        LeadsToEnding (shown config.now) ending walk.now schedule.items) }
 {
     let mut schedule = way_into(alloc, config, way, walk)?;
     let mut end = None;
-    for machine in Machine::ALL {
-        let next = walk.next.at(machine);
+    'machines: for machine in Machine::ALL {
+        let next = *walk.next.at(machine);
         if let Some(call) = next.call
             && ending.is_about(next.prospect)
         {
-            let frame = push_until_asked(alloc, config, &mut schedule, machine)?;
-            if !is_answered(&frame, machine, call, walk) {
+            let last = push_until_asked(alloc, config, &mut schedule, machine)?;
+            if !is_answered(&last, machine, call, walk) {
                 return Err(ScheduleFault::Apart);
             }
-            end = Some(frame);
+            end = Some(last);
         }
     }
     match end {
-        Some(frame) if is_at(&frame, walk) => Ok(schedule),
+        Some(last) if is_at(&last, walk) => Ok(schedule),
         _ => Err(ScheduleFault::Apart),
     }
 }
@@ -137,6 +187,7 @@ pub(crate) fn push_until_asked(
     requires start { IsStartState config.now.start }
     requires points { AreAxisScales config.now.points }
     requires curves { AreCurvesOf config.now.points config.now.curves }
+    ensures { IfOk result (λ last. EndsWith (shown config.now) schedule.new.items last) }
 {
     let turn = Turn {
         machine,
@@ -144,18 +195,35 @@ pub(crate) fn push_until_asked(
     };
     let trial = longer(alloc, schedule.as_slice(), turn)?;
     // the first frame shows the start
+    let skip = schedule.len().saturating_add(1);
+    let played = play_until_asked(alloc, config, trial.as_slice(), skip)?;
+    *schedule = played.turns;
+    Ok(played.last)
+}
+
+// Plays turns up to the first in which a machine asks, of those that are seen after a number of frames.
+fn play_until_asked(
+    alloc: Global,
+    config: &Config,
+    trial: &[Turn],
+    skip: usize,
+) -> Result<Played, ScheduleFault>
+    requires start { IsStartState config.now.start }
+    requires points { AreAxisScales config.now.points }
+    requires curves { AreCurvesOf config.now.points config.now.curves }
+    ensures { IfOk result (λ played. EndsWith (shown config.now) played.turns.items played.last) }
+{
     let mut seeker = AskSeeker {
-        skip: schedule.len().saturating_add(1),
-        turns: 0,
+        skip,
+        turns: Vec::new(alloc),
         last: None,
     };
-    match simulate_configured_observed(alloc, config, trial.as_slice(), &mut seeker) {
-        Ok(_) => return Err(ScheduleFault::Apart),
-        Err(SeenFault::Memory) => return Err(ScheduleFault::Memory),
-        Err(SeenFault::Observer(Asked)) => (),
+    match simulate_configured_observed(alloc, config, trial, &mut seeker) {
+        Ok(_) => Err(ScheduleFault::Apart),
+        Err(SeenFault::Observer(SeekEnd::Asked)) => seeker.played(),
+        Err(SeenFault::Observer(SeekEnd::Memory)) => Err(ScheduleFault::Memory),
+        Err(SeenFault::Memory) => Err(ScheduleFault::Memory),
     }
-    push_turns(schedule, turn, seeker.turns)?;
-    seeker.last.ok_or(ScheduleFault::Apart)
 }
 
 // A schedule with as many further turns as one drive may take.
@@ -177,7 +245,9 @@ fn push_turns(schedule: &mut Vec<Turn>, turn: Turn, count: usize) -> Result<(), 
 }
 
 // Whether a simulated machine has asked this, and was answered as at the end of a walk.
-pub(crate) fn is_answered(frame: &Frame, machine: Machine, call: Call, walk: &Walk) -> bool {
+pub(crate) fn is_answered(frame: &Frame, machine: Machine, call: Call, walk: &Walk) -> bool
+    ensures { result ≡ true → WasAsked frame.now machine call walk.now.end }
+{
     match frame.asked {
         Some((asked, Ok(Reply::Settled(given, _)))) => {
             asked == call && given == answer(&walk.end.state, machine, call)
@@ -187,7 +257,9 @@ pub(crate) fn is_answered(frame: &Frame, machine: Machine, call: Call, walk: &Wa
 }
 
 // Whether a simulated cell is at the end of a walk: its interlock and its machines' steps are so there.
-pub(crate) fn is_at(frame: &Frame, walk: &Walk) -> bool {
+pub(crate) fn is_at(frame: &Frame, walk: &Walk) -> bool
+    ensures { result ≡ true → IsAt frame.now walk.now.end }
+{
     let end = &walk.end;
     let steps = MachineSteps {
         feed: end.feed.step,

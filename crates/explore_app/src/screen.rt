@@ -3,7 +3,8 @@
 ghost use Rattle.std.specs.Prelude.{◌≡◌, ◌++◌, List, length, OnOk, IfOk, string_bytes};
 ghost use Rattle.cell_rules.specs.Start.{IsStartState};
 ghost use Rattle.cell_notes.specs.declared.schedule.Turn.{Turn};
-ghost use Rattle.cell_config.specs.Configured.{AreAxisScales, AreCurvesOf};
+ghost use Rattle.cell_config.specs.Configured.{AreAxisScales, AreCurvesOf, shown};
+ghost use Rattle.explore_app.specs.Schedules.{LeadsToEnding};
 ghost use Rattle.explore_app.specs.Screens as screens;
 
 use crate::bound::push_text;
@@ -56,7 +57,7 @@ pub fn screen_of(alloc: Global, config: &Config) -> Result<Screen, ScheduleFault
     requires start { IsStartState config.now.start }
     requires points { AreAxisScales config.now.points }
     requires curves { AreCurvesOf config.now.points config.now.curves }
-    ensures { IfOk result (screens.IsScreenOf config.now.start) }
+    ensures { IfOk result (screens.IsScreenOf (shown config.now)) }
 {
     let found = explore_start(alloc, &config.start)?;
     screen_by(alloc, config, &found)
@@ -67,7 +68,7 @@ pub fn screen_by(alloc: Global, config: &Config, found: &Explored) -> Result<Scr
     requires start { IsStartState config.now.start }
     requires points { AreAxisScales config.now.points }
     requires curves { AreCurvesOf config.now.points config.now.curves }
-    ensures { IfOk result (screens.Shows config.now.start found.now) }
+    ensures { IfOk result (screens.Shows (shown config.now) found.now) }
 {
     match found {
         Explored::Free(situations) => Ok(free_screen(alloc, &config.start, *situations)?),
@@ -125,7 +126,7 @@ fn ending_screen(
     requires start { IsStartState config.now.start }
     requires points { AreAxisScales config.now.points }
     requires curves { AreCurvesOf config.now.points config.now.curves }
-    ensures { IfOk result (screens.ShowsEnd config.now.start ending way.now) }
+    ensures { IfOk result (screens.ShowsEnd (shown config.now) ending way.now) }
 {
     let walk = take_turns(alloc, &config.start, way)?;
     let text = walk_screen(alloc, config, ending, way, &walk)?;
@@ -145,8 +146,9 @@ pub fn walk_screen(
     requires start { IsStartState config.now.start }
     requires points { AreAxisScales config.now.points }
     requires curves { AreCurvesOf config.now.points config.now.curves }
-    ensures { IfOk result (λ screen. (schedule : List Turn) × (string_bytes screen
-        ≡ screens.ending_screen config.now.start ending (length way.now) walk.now schedule)) }
+    ensures { IfOk result (λ screen. (schedule : List Turn)
+        × (LeadsToEnding (shown config.now) ending walk.now schedule × (string_bytes screen
+        ≡ screens.ending_screen config.now.start ending (length way.now) walk.now schedule))) }
 {
     let schedule = schedule_into(alloc, config, ending, way, walk)?;
     let mut text = String::new(alloc);

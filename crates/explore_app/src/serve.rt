@@ -8,7 +8,7 @@ ghost use Rattle.text_io.specs.Output.{WrotePrefix};
 ghost use Rattle.program_shell.specs.Printed.{Prints};
 ghost use Rattle.program_shell.specs.Versions.{version_line};
 ghost use Rattle.program_shell.specs.Words.{texts_of};
-ghost use Rattle.cell_config.specs.Configured.{AreAxisScales, AreCurvesOf};
+ghost use Rattle.cell_config.specs.Configured.{AreAxisScales, AreCurvesOf, shown};
 ghost use Rattle.cell_config.specs.Settings.{max_bytes_read};
 ghost use Rattle.explore_app.specs.Requests.{request_of};
 ghost use Rattle.explore_app.specs.Screens.{screen_text};
@@ -113,7 +113,7 @@ fn screen_for(alloc: Global, question: Question, config: &Config) -> Result<Scre
     requires start { IsStartState config.now.start }
     requires points { AreAxisScales config.now.points }
     requires curves { AreCurvesOf config.now.points config.now.curves }
-    ensures { IfOk result (IsAnswerTo question config.now.start) }
+    ensures { IfOk result (IsAnswerTo question (shown config.now)) }
 {
     match question {
         Question::Standstill => screen_of(alloc, config),

@@ -3,7 +3,8 @@
 
 ghost use Rattle.std.specs.Prelude.{◌≡◌, ◌++◌, All, IfOk, IfSome, OnOk, string_bytes};
 ghost use Rattle.cell_rules.specs.Start.{IsStartState};
-ghost use Rattle.cell_config.specs.Configured.{AreAxisScales, AreCurvesOf};
+ghost use Rattle.cell_config.specs.Configured.{AreAxisScales, AreCurvesOf, shown};
+ghost use Rattle.explore_app.specs.Schedules.{LeadsTo};
 ghost use Rattle.explore_app.specs.Starving as starving;
 
 use crate::bound::{Bound, push_text};
@@ -33,7 +34,7 @@ pub fn starving_screen(alloc: Global, config: &Config) -> Result<Screen, Schedul
     requires start { IsStartState config.now.start }
     requires points { AreAxisScales config.now.points }
     requires curves { AreCurvesOf config.now.points config.now.curves }
-    ensures { IfOk result (starving.IsStarvingScreenOf config.now.start) }
+    ensures { IfOk result (starving.IsStarvingScreenOf (shown config.now)) }
 {
     match explore_progress(alloc, &config.start, None, None)? {
         Progress::Starves { stem, cycle } => {
@@ -102,7 +103,8 @@ fn round_screen(
     requires start { IsStartState config.now.start }
     requires points { AreAxisScales config.now.points }
     requires curves { AreCurvesOf config.now.points config.now.curves }
-    ensures { IfOk result (starving.ShowsCircle config.now.start stem.now cycle.now) }
+    ensures { IfOk result
+        (starving.ShowsCircle (shown config.now) stem.now cycle.now walk.now) }
 {
     let round = round_of(alloc, &config.start, stem, cycle)?;
     let schedule = rounds_into(alloc, config, stem, walk, round.as_slice())?;
@@ -275,20 +277,21 @@ fn rounds_into(
     requires start { IsStartState config.now.start }
     requires points { AreAxisScales config.now.points }
     requires curves { AreCurvesOf config.now.points config.now.curves }
+    ensures { IfOk result (λ schedule. LeadsTo (shown config.now) walk.now.end schedule.items) }
 {
     let mut schedule = way_into(alloc, config, stem, walk)?;
     let mut end: Option<Frame> = None;
-    for _ in 0..ROUNDS {
-        for step in round {
-            let frame = push_until_asked(alloc, config, &mut schedule, step.machine)?;
-            if !is_answered(&frame, step.machine, step.call, &step.walk) {
+    'rounds: for _ in 0..ROUNDS {
+        'steps: for step in round {
+            let last = push_until_asked(alloc, config, &mut schedule, step.machine)?;
+            if !is_answered(&last, step.machine, step.call, &step.walk) {
                 return Err(ScheduleFault::Apart);
             }
-            end = Some(frame);
+            end = Some(last);
         }
     }
     match end {
-        Some(frame) if is_at(&frame, walk) => Ok(schedule),
+        Some(last) if is_at(&last, walk) => Ok(schedule),
         _ => Err(ScheduleFault::Apart),
     }
 }
