@@ -6,5 +6,7 @@ mod Numbers
 mod Played
 mod Screens
 mod Starved
+mod States
+mod Steps
 mod Tallied
 mod ScreenRows

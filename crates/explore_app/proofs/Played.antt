@@ -1,21 +1,27 @@
 -- What a seeker has kept of the run that it was shown, and what a schedule's last turn is.
-use Rattle.std.proofs.Common.{◌≡◌, ◌∙◌, List, [], ◌∷◌, ◌++◌, append-nil, append_assoc, Some, None, Result, Ok, Err, unwrap_or, get_or, refl, sym, ap, subst}
+use Rattle.std.proofs.Common.{◌≡◌, ◌∙◌, true, Option, IfSome, List, [], ◌∷◌, ◌++◌, append-nil, append_assoc, Some, None, Result, Ok, Err, IfOk, unwrap_or, get_or, refl, sym, ap, subst}
 use Rattle.std.specs.Option.{option_to_list}
 use Rattle.std.specs.List.{flat_map}
+use Rattle.cell_rules.specs.Types.{Call, Machine}
 use Rattle.cell_rules.specs.Names.{ModelState}
+use Rattle.cell_notes.specs.Names.{at_machine}
 use Rattle.cell_notes.specs.declared.schedule.Turn.{Turn}
 use Rattle.cell_parts.specs.Axes.{CellScales}
 use Rattle.cell_plant.specs.Names.{CellGauges, CellState, IsRunBy, IsShown, SeesBeginning, Step, cell_at_start, frames_after, frames_of, on_curves}
 use Rattle.cell_plant.specs.declared.frame.Frame.{Frame}
+use Rattle.cell_plant.specs.declared.observer.SeenFault.{SeenFault}
 use Rattle.cell_plant.specs.declared.observer.SeenFault.TheVariants.{Observer}
 use Rattle.cell_config.specs.Configured.{in_order}
 use Rattle.cell_config.specs.Settings.{Settings}
+use Rattle.cell_explorer.specs.declared.walk.NextTurn.{NextTurn}
 use Rattle.cell_explorer.specs.declared.walk.Walk.{Walk}
 use Rattle.explore_app.specs.declared.ending.Ending.{Ending}
 use Rattle.explore_app.specs.declared.schedule.AskSeeker.{AskSeeker}
+use Rattle.explore_app.specs.declared.schedule.Played.{Played}
 use Rattle.explore_app.specs.declared.schedule.SeekEnd.{SeekEnd}
 use Rattle.explore_app.specs.declared.schedule.SeekEnd.TheVariants.{Asked}
-use Rattle.explore_app.specs.Schedules.{EndsWith, IfNoted, LeadsToEnding, NotesFrame}
+use Rattle.explore_app.specs.Rings.{is_about}
+use Rattle.explore_app.specs.Schedules.{EndsAsking, EndsWith, IfNoted, LeadsToEnding, NotesFrame, WasAsked}
 
 -- as the seeker says it of one frame
 abbrev pub Sees : AskSeeker → Frame → Result (Unit {0}) SeekEnd → AskSeeker → Type 0
@@ -70,6 +76,33 @@ ends_with given trial w v turns last begins same there k =
       before = kept.before;
       ends = subst (λ ts. frames_of given.start ts seen.steps ≡ kept.before ++ last ∷ []) taken (kept.ends ∙ ap (λ f. kept.before ++ f ∷ []) is_last);
     }
+
+pub if_played : {E : Type 0} (given : Settings) (trial : List Turn) (w v : AskSeeker) (fault : SeenFault SeekEnd) (r : Result Played E) → fault ≡ Observer Asked → w.turns.items ≡ [] → IfOk r (λ p. p.turns ≡ v.turns) → IfOk r (λ p. v.last ≡ Some p.last)
+    → ((c : CellScales) × ((given.points ≡ in_order c) × SeesBeginning Sees c (on_curves given.curves) given.start trial w v fault)) → IfOk r (λ p. EndsWith given p.turns.items p.last)
+if_played given trial w v fault (Ok p) is begins same there k =
+    ends_with given trial w v p.turns.items p.last begins (ap (λ t. t.items) same) there
+    (subst (λ f. (c : CellScales) × ((given.points ≡ in_order c) × SeesBeginning Sees c (on_curves given.curves) given.start trial w v f)) is k)
+if_played given trial w v fault (Err e) is begins same there k = tt
+
+-- ---- a machine that asks in the last turn
+
+-- it is one that the ending is about
+pub ends_asking : (given : Settings) (e : Ending) (walk : Walk) (ts new : List Turn) (end : Option Frame) (last : Frame) (m : Machine) (next : NextTurn) (call : Call) → new ≡ ts → end ≡ Some last → EndsWith given ts last → next ≡ at_machine walk.next m
+    → next.call ≡ Some call → is_about e next.prospect ≡ true → WasAsked last m call walk.end → IfSome end (EndsAsking given e walk new)
+ends_asking given e walk ts new end last m next call same is played at asks about answered =
+    let asking : EndsAsking given e walk ts last =
+    record {
+      played = played;
+      machine = m;
+      about = ap (λ (n : NextTurn). is_about e n.prospect) (sym at) ∙ about;
+      call = call;
+      asks = ap (λ (n : NextTurn). n.call) (sym at) ∙ asks;
+      answered = answered;
+    } in
+    subst (λ o. IfSome o (EndsAsking given e walk new)) (sym is) (subst (λ l. EndsAsking given e walk l last) (sym same) asking)
+
+pub still_asking : (given : Settings) (e : Ending) (walk : Walk) (ts new : List Turn) (before end : Option Frame) → new ≡ ts → end ≡ before → IfSome before (EndsAsking given e walk ts) → IfSome end (EndsAsking given e walk new)
+still_asking given e walk ts new before end same is asking = subst (λ o. IfSome o (EndsAsking given e walk new)) (sym is) (subst (λ l. IfSome before (EndsAsking given e walk l)) (sym same) asking)
 
 -- ---- no turns
 

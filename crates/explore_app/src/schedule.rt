@@ -1,18 +1,18 @@
 //! The schedule that leads a simulated cell into a standstill, or to a refusal: the turns that were found, with those
 //! in which drives end.
 
-ghost use Rattle.std.specs.Prelude.{◌≡◌, true, Some, IfOk, OnOk};
-ghost use Rattle.cell_rules.specs.Start.{IsStartState};
+ghost use Rattle.std.specs.Prelude.{◌≡◌, ◌↔◌, true, Some, IfOk, IsTrue, OnOk};
+ghost use Rattle.cell_rules.specs.Names.{IsStartState, restamped};
 ghost use Rattle.cell_config.specs.Configured.{AreAxisScales, AreCurvesOf, shown};
-ghost use Rattle.explore_app.specs.Schedules.{EndsWith, IsAt, LeadsToEnding, NotesFrame, WasAsked};
+ghost use Rattle.explore_app.specs.Schedules.{EndsWith, IsAt, LeadsToEnding, NotesFrame, WasAsked, steps_of};
 
 use crate::ending::Ending;
 use cell_config::Config;
 use cell_configured::simulate_configured_observed;
-use cell_explorer::Walk;
+use cell_explorer::{Situation, Walk};
 use cell_plant::{Frame, MachineSteps, Observer, SeenFault, Turn};
 use cell_rules::{State, answer};
-use cell_types::{Call, Machine, Reply};
+use cell_types::{Answer, Call, Machine, Refusal, Reply};
 use std::alloc::{AllocError, Global};
 
 /// The most turns that one drive takes here.
@@ -58,10 +58,10 @@ impl AskSeeker {
             (NotesFrame self.old.turns.items frame.now self.new.turns.items self.new.last) }
     {
         self.last = Some(*frame);
-        match frame.turn {
-            Some(turn) => self.turns.push(turn),
-            None => Ok(()),
+        if let Some(turn) = frame.turn {
+            self.turns.push(turn)?;
         }
+        Ok(())
     }
 
     // Its turns, which a cell has played, with the last frame.
@@ -69,11 +69,9 @@ impl AskSeeker {
         ensures turns { IfOk result (λ played. played.turns ≡ self.turns) }
         ensures last { IfOk result (λ played. self.last ≡ Some played.last) }
     {
-        match self.last {
-            Some(last) => Ok(Played {
-                turns: self.turns,
-                last,
-            }),
+        let AskSeeker { turns, last, .. } = self;
+        match last {
+            Some(last) => Ok(Played { turns, last }),
             None => Err(ScheduleFault::Apart),
         }
     }
@@ -250,25 +248,65 @@ pub(crate) fn is_answered(frame: &Frame, machine: Machine, call: Call, walk: &Wa
 {
     match frame.asked {
         Some((asked, Ok(Reply::Settled(given, _)))) => {
-            asked == call && given == answer(&walk.end.state, machine, call)
+            is_same_call(asked, call)
+                && is_same_answer(&given, &answer(&walk.end.state, machine, call))
         }
         _ => false,
     }
+}
+
+fn is_same_call(a: Call, b: Call) -> bool
+    ensures { result ≡ true → a ≡ b }
+{
+    a == b
+}
+
+fn is_same_refusal(a: &Refusal, b: &Refusal) -> bool
+    ensures { IsTrue result ↔ (a.now ≡ b.now) }
+{
+    *a == *b
+}
+
+fn is_same_answer(a: &Answer, b: &Answer) -> bool
+    ensures { IsTrue result ↔ (a.now ≡ b.now) }
+{
+    match (a, b) {
+        (Answer::Refused(a), Answer::Refused(b)) => is_same_refusal(a, b),
+        _ => *a == *b,
+    }
+}
+
+fn is_same_state(a: &State, b: &State) -> bool
+    ensures { result ≡ true → a.now ≡ b.now }
+{
+    a == b
 }
 
 // Whether a simulated cell is at the end of a walk: its interlock and its machines' steps are so there.
 pub(crate) fn is_at(frame: &Frame, walk: &Walk) -> bool
     ensures { result ≡ true → IsAt frame.now walk.now.end }
 {
-    let end = &walk.end;
-    let steps = MachineSteps {
-        feed: end.feed.step,
-        table: end.table.step,
-        robot: end.robot.step,
-        press: end.press.step,
-        deposit: end.deposit.step,
-        crane: end.crane.step,
-    };
-    let state: State = frame.state;
-    frame.steps == steps && state.restamped(0) == end.state
+    has_steps(frame, &walk.end) && has_state(frame, &walk.end)
+}
+
+// Whether the machines are at their steps of a situation.
+fn has_steps(frame: &Frame, at: &Situation) -> bool
+    ensures { result ≡ true → frame.now.steps ≡ steps_of at.now }
+{
+    frame.steps
+        == MachineSteps {
+            feed: at.feed.step,
+            table: at.table.step,
+            robot: at.robot.step,
+            press: at.press.step,
+            deposit: at.deposit.step,
+            crane: at.crane.step,
+        }
+}
+
+// Whether the interlock is that of a situation, but for its stamp.
+fn has_state(frame: &Frame, at: &Situation) -> bool
+    ensures { result ≡ true → restamped frame.now.state 0 ≡ at.now.state }
+{
+    is_same_state(&frame.state.restamped(0), &at.state)
 }
