@@ -114,9 +114,22 @@ texts s text = record {
 played : (given : Settings) (at : Situation) (schedule : List Turn) (led : LeadsTo given at schedule) → IsPlayed given at schedule
 played given at schedule led =
     let p = led.played in
-    let there = led.there.steps in
-    (p.scales, p.fits, p.steps, p.run, p.before, led.last, p.ends, ap (λ (s : MachineSteps). s.feed) there, ap (λ (s : MachineSteps). s.table) there, ap (λ (s : MachineSteps). s.robot) there, ap (λ (s : MachineSteps). s.press) there,
-    ap (λ (s : MachineSteps). s.deposit) there, ap (λ (s : MachineSteps). s.crane) there, led.there.state)
+    let there = led.there.steps in (
+      p.scales,
+      p.fits,
+      p.steps,
+      p.run,
+      p.before,
+      led.last,
+      p.ends,
+      ap (λ (s : MachineSteps). s.feed) there,
+      ap (λ (s : MachineSteps). s.table) there,
+      ap (λ (s : MachineSteps). s.robot) there,
+      ap (λ (s : MachineSteps). s.press) there,
+      ap (λ (s : MachineSteps). s.deposit) there,
+      ap (λ (s : MachineSteps). s.crane) there,
+      led.there.state,
+    )
 
 endings : (given : Settings) (text : Text) → EndingsTell given text
 endings given text = record {

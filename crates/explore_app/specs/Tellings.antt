@@ -148,8 +148,8 @@ pub record StarvingTells (given : Settings) (text : String Global) : Type 0 wher
   pub still_warns : TellsStill given (string_bytes text) → IsStarvingScreenOf given (Warning text)
   pub round_warns : TellsRound given (string_bytes text) → IsStarvingScreenOf given (Warning text)
   pub circle : (turns : ℕ) (still : _) → Starves given.start turns still
-      → (stem : List Machine) × (cycle : List Machine) × IsStarving given.start None None stem cycle × (length stem ≡ turns)
-      × (walk : Walk) × ComesTo given.start stem walk × (is_idle walk cycle ≡ still)
+      → (stem : List Machine) × (cycle : List Machine) × IsStarving given.start None None stem cycle
+      × (length stem ≡ turns) × (walk : Walk) × ComesTo given.start stem walk × (is_idle walk cycle ≡ still)
   pub still : TellsStill given (string_bytes text)
       → (turns : ℕ) × Starves given.start turns true × (screen : Screen) × IsScreenOf given screen
       × (string_bytes text ≡ screen_text screen)

@@ -4,7 +4,8 @@
 ghost use Rattle.std.specs.Prelude.{◌≡◌, ◌↔◌, true, Some, IfOk, IsTrue, OnOk};
 ghost use Rattle.cell_rules.specs.Names.{IsStartState, restamped};
 ghost use Rattle.cell_config.specs.Configured.{AreAxisScales, AreCurvesOf, shown};
-ghost use Rattle.explore_app.specs.Schedules.{EndsWith, IsAt, LeadsToEnding, NotesFrame, WasAsked, steps_of};
+ghost use Rattle.explore_app.specs.Schedules.{EndsWith, IsAt, LeadsToEnding, NotesFrame};
+ghost use Rattle.explore_app.specs.Schedules.{WasAsked, steps_of};
 
 use crate::ending::Ending;
 use cell_config::Config;
