@@ -45,7 +45,7 @@ pub record IsAt (f : Frame) (at : Situation) : Type 0 where
   pub steps : f.steps ≡ steps_of at
   pub state : restamped f.state 0 ≡ at.state
 
--- in the turn of a frame this was asked, and answered as a machine is in a situation
+-- in the turn of a frame this was asked, and answered as this machine is answered in a situation
 abbrev pub WasAsked : Frame → Machine → Call → Situation → Type 0
 WasAsked f m call at = (stamp : ℕ) × (f.asked ≡ Some (call, Ok (Settled (reply at.state m call) stamp)))
 
