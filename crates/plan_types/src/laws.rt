@@ -31,7 +31,7 @@ pub fn faults_are_true()
 {}
 
 /// No fault that comes before the one that is found is in the tables. First come the counts and the width, then the
-/// places, the zones and the poses, each by their numbers; of a pose first its machine, then the zones by their numbers.
+/// places, the zones and the poses by their numbers; of a pose first its machine, then the zones by their numbers.
 pub fn first_faults_are_told()
     ensures { FirstFaultsAreTold }
 {}

@@ -316,12 +316,7 @@ const CYCLES: u32 = 6;
 
 /// How many turns the press has before its switches show what comes next, and how often the gate lets each machine in.
 /// Then how the press ends: its turns, its cycles without a reading, its status, and how often it has asked.
-type GatedRow = (
-    u32,
-    Option<PressSense>,
-    [u32; 6],
-    (u32, u32, Status, u32),
-);
+type GatedRow = (u32, Option<PressSense>, [u32; 6], (u32, u32, Status, u32));
 
 const GATED: &[GatedRow] = &[
     // none is refused; all are; each is at another cycle
@@ -331,8 +326,18 @@ const GATED: &[GatedRow] = &[
     // the gate lets the press begin cycles in which its switches don't answer
     (1, None, [6, 0, 6, 4, 6, 5], (1, 3, Status::GateLimit, 5)),
     // the press's switches clash before the gate refuses it, or in the last cycle that it lets begin
-    (0, Some(BOTH_ON), [1, 6, 6, 5, 6, 6], (1, 0, Status::Sensor, 1)),
-    (1, Some(BOTH_ON), [6, 6, 2, 2, 6, 3], (2, 0, Status::Sensor, 2)),
+    (
+        0,
+        Some(BOTH_ON),
+        [1, 6, 6, 5, 6, 6],
+        (1, 0, Status::Sensor, 1),
+    ),
+    (
+        1,
+        Some(BOTH_ON),
+        [6, 6, 2, 2, 6, 3],
+        (2, 0, Status::Sensor, 2),
+    ),
 ];
 
 // Whether a machine with good sensors has had the turns that its gate lets begin.
@@ -361,7 +366,11 @@ fn were_others_let_in(run: &SixOutputs, lets: [u32; 6]) -> bool {
 }
 
 // Whether the machines end so, and each has asked its gate exactly so often.
-fn are_gated<R: Threads + Wait + Sync>(rt: &R, alloc: Global, row: &GatedRow) -> Result<bool, Fail> {
+fn are_gated<R: Threads + Wait + Sync>(
+    rt: &R,
+    alloc: Global,
+    row: &GatedRow,
+) -> Result<bool, Fail> {
     let (good, then, lets, (turns, missed, status, asks)) = *row;
     let gate = CountingGate::new(lets);
     let run = run_until(rt, alloc, good, then, CYCLES, &gate)??;
