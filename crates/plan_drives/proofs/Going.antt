@@ -1,0 +1,286 @@
+-- A machine that has gone through lines knows what they tell, and is permitted what it runs.
+use Rattle.std.proofs.Common.{All, get_or, replicate, zero, suc, true, false, ◌≡◌, ℕ, Bool, ◌&&◌, Option, Some, None, List, [], ◌∷◌, ◌++◌, take, refl, sym, ap, ◌∙◌, subst, IsTrue}
+use Rattle.std.proofs.lemmas.Bool.{and_parts, false_from_ne_true, eq-eqb}
+use Rattle.std.proofs.lemmas.List.{append_assoc}
+use Rattle.std.proofs.lemmas.List.Elements.{All-nil, All-cons, All-head, All-tail}
+use Rattle.std.specs.Option.{option_eq}
+use Rattle.plan_types.specs.declared.posture.Posture.{Posture}
+use Rattle.plan_types.specs.declared.posture.Posture.TheVariants.{Closed}
+use Rattle.plan_types.specs.declared.call.Call.{Call}
+use Rattle.plan_types.specs.declared.call.Call.TheVariants.{Claim, Inquire}
+use Rattle.plan_types.specs.declared.answer.Refusal.{Refusal}
+use Rattle.plan_types.specs.declared.answer.Answer.{Answer}
+use Rattle.plan_types.specs.declared.answer.Answer.TheVariants.{Done, Shown, Refused}
+use Rattle.plan_types.specs.declared.answer.Event.{Event}
+use Rattle.plan_types.specs.Same.{same_posture, one_posture}
+use Rattle.plan_types.specs.Table.{PlanTable}
+use Rattle.plan_types.specs.Plan.{IsPlan}
+use Rattle.plan_rules.specs.declared.state.ZoneState.{ZoneState}
+use Rattle.plan_rules.specs.declared.state.State.{State}
+use Rattle.plan_rules.specs.State.{zone_at, posture_at, is_full, owner_of, free_zone}
+use Rattle.plan_rules.specs.Sound.{IsSound, IsStart, implies, is_owned_by, is_open}
+use Rattle.plan_rules.specs.Refusals.{owns, inquire_refusal}
+use Rattle.plan_rules.specs.Reply.{reply, answer_by, next}
+use Rattle.plan_rules.specs.History.{after, IsLegal}
+use Rattle.plan_rules.specs.Laws.{done, EveryLegalHistoryIsLawful}
+use Rattle.plan_rules.proofs.lemmas.Puts.{nat_eq-self}
+use Rattle.plan_rules.proofs.lemmas.Starts.{start_is_sound}
+use Rattle.plan_motors.specs.declared.motor.ZoneNeed.{ZoneNeed}
+use Rattle.plan_motors.specs.declared.motor.Motor.{Motor}
+use Rattle.plan_motors.specs.Motor.{need_of, place_need, has_posture, meets, meets_place, Permits}
+use Rattle.plan_motors.specs.OfPlan.{motor_at}
+use Rattle.plan_motors.specs.MotorPlan.{MotorTables}
+use Rattle.plan_motors.specs.Decided.{NeverBoth}
+use Rattle.plan_motors.specs.Poses.{NeverFrom}
+use Rattle.plan_motors.proofs.lemmas.Lasting.{never_after}
+use Rattle.plan_drives.specs.declared.line.Line.{Line}
+use Rattle.plan_drives.specs.declared.line.Line.TheVariants.{Do, Await, Run}
+use Rattle.plan_drives.specs.Facts.{no_facts, facts_after, facts_along, facts_at, OpensByPoses}
+use Rattle.plan_drives.specs.Program.{posture_follows, zone_follows, is_known_as, place_follows, Backs, Runs, IsDriven}
+use Rattle.plan_drives.specs.Course.{is_done_by, Stays, DoesNext, ComesToOwn, GoesThrough, IsAt, rounds_of, HasCome, IsRunning}
+use Rattle.plan_drives.proofs.Learning.{Knows, knows_nothing, finds}
+use Rattle.plan_drives.proofs.Lasting.{leaves, tells, Live, live_next, live_after}
+
+-- ---- parts of histories
+
+legal_left : (t : PlanTable) (s : State) (a b : List Event) → IsLegal t s (a ++ b) → IsLegal t s a
+legal_left t s [] b l = tt
+legal_left t s (e ∷ a) b l = (l.0, legal_left t (next t s e.machine e.call) a b l.1)
+
+legal_right : (t : PlanTable) (s : State) (a b : List Event) → IsLegal t s (a ++ b) → IsLegal t (after t s a) b
+legal_right t s [] b l = l
+legal_right t s (e ∷ a) b l = legal_right t (next t s e.machine e.call) a b l.1
+
+after_append : (t : PlanTable) (s : State) (a b : List Event) → after t s (a ++ b) ≡ after t (after t s a) b
+after_append t s [] b = refl
+after_append t s (e ∷ a) b = after_append t (next t s e.machine e.call) a b
+
+ends_at : (t : PlanTable) (s : State) (h a b : List Event) → h ≡ a ++ b → after t (after t s a) b ≡ after t s h
+ends_at t s h a b split = sym (after_append t s a b) ∙ sym (ap (after t s) split)
+
+-- ---- while a machine stays where it is, it knows what it knew
+
+stays_knowing : EveryLegalHistoryIsLawful → (t : PlanTable) (s : State) (h : List Event) (f : Motor) → IsPlan t → Live t s → IsLegal t s h → Stays h f.machine → Knows t s f → Knows t (after t s h) f
+stays_knowing laws t s [] f p k legal stays known = known
+stays_knowing laws t s (e ∷ h) f p k legal stays known =
+    let Not : Event → Type 0 = λ x. ¬ IsTrue (is_done_by f.machine x) in
+    let none = false_from_ne_true (is_done_by f.machine e) (All-head Not e h stays) in
+    stays_knowing laws t (next t s e.machine e.call) h f p (live_next laws t s e p k legal.0) legal.1 (All-tail Not e h stays)
+    (leaves laws t s f e p k.sound known legal.0 none)
+
+-- ---- through lines
+
+pub knows_through : EveryLegalHistoryIsLawful → (t : PlanTable) (s : State) (h : List Event) (f : Motor) (lines : List Line) → IsPlan t → Live t s → IsLegal t s h
+    → GoesThrough t s h f.machine lines → Knows t s f → Knows t (after t s h) (facts_along t f lines)
+knows_through laws t s h f [] p k legal goes known = stays_knowing laws t s h f p k legal goes known
+knows_through laws t s h f (Do c ∷ lines) p k legal goes known =
+    let x = goes.0 in
+    let m = f.machine in
+    let e = done m c in
+    let whole = subst (IsLegal t s) x.split legal in
+    let at = after t s x.before in
+    let first = legal_left t s x.before (e ∷ x.since) whole in
+    let rest = legal_right t s x.before (e ∷ x.since) whole in
+    let live = live_after laws t s x.before p k first in
+    let known_then = stays_knowing laws t s x.before f p k first x.stays known in
+    let told = tells t at f c p live.sound live.opens known_then rest.0 in
+    let there : after t s (x.before ++ e ∷ []) ≡ next t at m c = after_append t s x.before (e ∷ []) in
+    let goes_on = subst (λ y. GoesThrough t y x.since m lines) there goes.1 in
+    let end = knows_through laws t (next t at m c) x.since (facts_after t f c) lines p (live_next laws t at e p live rest.0) rest.1 goes_on told in
+    subst (λ y. Knows t y (facts_along t (facts_after t f c) lines)) (ends_at t s h x.before (e ∷ x.since) x.split) end
+knows_through laws t s h f (Await z ∷ lines) p k legal goes known =
+    let x = goes.0 in
+    let whole = subst (IsLegal t s) x.split legal in
+    let at = after t s x.before in
+    let first = legal_left t s x.before x.since whole in
+    let live = live_after laws t s x.before p k first in
+    let known_then = stays_knowing laws t s x.before f p k first x.stays known in
+    let told = finds t at f z p live.sound live.opens known_then x.owned in
+    let end = knows_through laws t at x.since (facts_after t f (Claim z)) lines p live (legal_right t s x.before x.since whole) goes.1 told in
+    subst (λ y. Knows t y (facts_along t (facts_after t f (Claim z)) lines)) (ends_at t s h x.before x.since x.split) end
+knows_through laws t s h f (Run motors ∷ lines) p k legal goes known = knows_through laws t s h f lines p k legal goes known
+
+knows_at : EveryLegalHistoryIsLawful → (t : PlanTable) (s : State) (h : List Event) (m : ℕ) (program : List Line) (k : ℕ) → IsPlan t → Live t s → IsLegal t s h
+    → IsAt t s h m program k → Knows t (after t s h) (facts_at t m program k)
+knows_at laws t s h m program k p live legal at =
+    let whole = subst (IsLegal t s) at.split legal in
+    let begun = after t s at.before in
+    let since = live_after laws t s at.before p live (legal_left t s at.before at.round whole) in
+    let known = knows_through laws t begun at.round (no_facts m) (take k program) p since (legal_right t s at.before at.round whole) at.goes (knows_nothing t begun m p) in
+    subst (λ x. Knows t x (facts_at t m program k)) (ends_at t s h at.before at.round at.split) known
+
+-- ---- what follows from what is known is so
+
+known_posture : (known : Option Posture) (needed q : Posture) → option_eq same_posture known (Some needed) ≡ true → has_posture known q ≡ true → same_posture q needed ≡ true
+known_posture None needed q e h = cc
+known_posture (Some r) needed q e h = subst (λ x. same_posture q x ≡ true) (one_posture r needed e) h
+
+posture_is : (known needed : Option Posture) (q : Posture) → posture_follows known needed ≡ true → has_posture known q ≡ true → has_posture needed q ≡ true
+posture_is known None q e h = refl
+posture_is known (Some needed) q e h = known_posture known needed q e h
+
+holds_follows : (known needed own : Bool) → implies needed known ≡ true → implies known own ≡ true → implies needed own ≡ true
+holds_follows true true own e h = h
+holds_follows false true own e h = cc
+holds_follows known false own e h = refl
+
+both : (a b : Bool) → a ≡ true → b ≡ true → (a && b) ≡ true
+both true true e f = refl
+both true false e f = cc
+both false b e f = cc
+
+zone_backed : (m : ℕ) (known need : ZoneNeed) (v : ZoneState) → zone_follows known need ≡ true → meets m known v ≡ true → meets m need v ≡ true
+zone_backed m known need v e h =
+    let follows = and_parts (implies need.holds known.holds) (posture_follows known.posture need.posture) e in
+    let is = and_parts (implies known.holds (is_owned_by v.owner m)) (has_posture known.posture v.posture) h in
+    both (implies need.holds (is_owned_by v.owner m)) (has_posture need.posture v.posture)
+    (holds_follows known.holds need.holds (is_owned_by v.owner m) follows.0 is.0)
+    (posture_is known.posture need.posture v.posture follows.1 is.1)
+
+known_place : (known : Option Bool) (needed full : Bool) → is_known_as known needed ≡ true → meets_place known full ≡ true → meets_place (Some needed) full ≡ true
+known_place None needed full e h = cc
+known_place (Some true) true full e h = h
+known_place (Some true) false full e h = cc
+known_place (Some false) true full e h = cc
+known_place (Some false) false full e h = h
+
+place_backed : (known need : Option Bool) (full : Bool) → place_follows known need ≡ true → meets_place known full ≡ true → meets_place need full ≡ true
+place_backed known None full e h = refl
+place_backed known (Some needed) full e h = known_place known needed full e h
+
+backed : (t : PlanTable) (s : State) (known motor : Motor) → Backs t known motor → Knows t s known → Permits t s motor
+backed t s known motor b k = record {
+  zones = λ z l. subst (λ m. IsTrue (meets m (need_of motor z) (zone_at s z))) (sym b.machine) (zone_backed known.machine (need_of known z) (need_of motor z) (zone_at s z) (b.zones z l) (k.zones z l));
+  places = λ p l. place_backed (place_need known p) (place_need motor p) (is_full s p) (b.places p l) (k.places p l);
+}
+
+machine_along : (t : PlanTable) (f : Motor) (lines : List Line) → (facts_along t f lines).machine ≡ f.machine
+machine_along t f [] = refl
+machine_along t f (Do c ∷ lines) = machine_along t (facts_after t f c) lines
+machine_along t f (Await z ∷ lines) = machine_along t (facts_after t f (Claim z)) lines
+machine_along t f (Run motors ∷ lines) = machine_along t f lines
+
+pub permitted_at : EveryLegalHistoryIsLawful → (plan : MotorTables) (s : State) (h : List Event) (m : ℕ) (program : List Line) (k i : ℕ) → IsPlan plan.plan → Live plan.plan s
+    → IsLegal plan.plan s h → IsDriven plan m program → IsAt plan.plan s h m program k → Runs program k i → Permits plan.plan (after plan.plan s h) (motor_at plan.motors i)
+permitted_at laws plan s h m program k i p live legal driven at runs =
+    backed plan.plan (after plan.plan s h) (facts_at plan.plan m program k) (motor_at plan.motors i) (driven k i runs).1 (knows_at laws plan.plan s h m program k p live legal at)
+
+pub permitted_running : EveryLegalHistoryIsLawful → (plan : MotorTables) (s : State) (h : List Event) (m : ℕ) (program : List Line) (i : ℕ) → IsPlan plan.plan → Live plan.plan s
+    → IsLegal plan.plan s h → IsDriven plan m program → IsRunning plan.plan s h m program i → Permits plan.plan (after plan.plan s h) (motor_at plan.motors i)
+permitted_running laws plan s h m program i p live legal driven x = permitted_at laws plan s h m program x.line i p live legal driven x.at x.runs
+
+-- ---- from the opening
+
+-- a history that goes through lines and then through others has a moment between
+record Parted (t : PlanTable) (s : State) (h : List Event) (m : ℕ) (lines : List Line) : Type 0 where
+  before : List Event
+  since : List Event
+  split : h ≡ before ++ since
+  goes : GoesThrough t (after t s before) since m lines
+
+-- a part of what came since is a part of the whole
+join : (t : PlanTable) (s : State) (h first since : List Event) (m : ℕ) (lines : List Line) → h ≡ first ++ since → Parted t (after t s first) since m lines → Parted t s h m lines
+join t s h first since m lines split x = record {
+  before = first ++ x.before;
+  since = x.since;
+  split = split ∙ ap (λ l. first ++ l) x.split ∙ sym (append_assoc first x.before x.since);
+  goes = subst (λ y. GoesThrough t y x.since m lines) (sym (after_append t s first x.before)) x.goes;
+}
+
+part : (t : PlanTable) (s : State) (h : List Event) (m : ℕ) (a b : List Line) → GoesThrough t s h m (a ++ b) → Parted t s h m b
+part t s h m [] b goes = record { before = []; since = h; split = refl; goes = goes }
+part t s h m (Do c ∷ a) b goes =
+    let x = goes.0 in
+    let first = x.before ++ done m c ∷ [] in
+    join t s h first x.since m b (x.split ∙ sym (append_assoc x.before (done m c ∷ []) x.since)) (part t (after t s first) x.since m a b goes.1)
+part t s h m (Await z ∷ a) b goes =
+    let x = goes.0 in
+    join t s h x.before x.since m b x.split (part t (after t s x.before) x.since m a b goes.1)
+part t s h m (Run motors ∷ a) b goes = part t s h m a b goes
+
+pub is_at : (t : PlanTable) (s : State) (h : List Event) (m : ℕ) (program : List Line) (k : ℕ) → HasCome t s h m program k → IsAt t s h m program k
+is_at t s h m program k come =
+    let x = part t s h m (rounds_of come.rounds program) (take k program) come.goes in
+    record { before = x.before; round = x.since; split = x.split; goes = x.goes }
+
+-- ---- while it stays there
+
+all_both : (P : Event → Type 0) (a b : List Event) → All P a → All P b → All P (a ++ b)
+all_both P [] b x y = y
+all_both P (e ∷ a) b x y = All-cons P e (a ++ b) (All-head P e a x) (all_both P a b (All-tail P e a x) y)
+
+goes_longer : (t : PlanTable) (s : State) (h more : List Event) (m : ℕ) (lines : List Line) → Stays more m → GoesThrough t s h m lines → GoesThrough t s (h ++ more) m lines
+goes_longer t s h more m [] stays goes = all_both (λ e. ¬ IsTrue (is_done_by m e)) h more goes stays
+goes_longer t s h more m (Do c ∷ lines) stays goes =
+    let x = goes.0 in
+    let longer : DoesNext (h ++ more) m c = record {
+      before = x.before;
+      since = x.since ++ more;
+      split = ap (λ l. l ++ more) x.split ∙ append_assoc x.before (done m c ∷ x.since) more;
+      stays = x.stays;
+    } in
+    (longer, goes_longer t (after t s (x.before ++ done m c ∷ [])) x.since more m lines stays goes.1)
+goes_longer t s h more m (Await z ∷ lines) stays goes =
+    let x = goes.0 in
+    let longer : ComesToOwn t s (h ++ more) m z = record {
+      before = x.before;
+      since = x.since ++ more;
+      split = ap (λ l. l ++ more) x.split ∙ append_assoc x.before x.since more;
+      stays = x.stays;
+      owned = x.owned;
+    } in
+    (longer, goes_longer t (after t s x.before) x.since more m lines stays goes.1)
+goes_longer t s h more m (Run motors ∷ lines) stays goes = goes_longer t s h more m lines stays goes
+
+pub stays_at : (t : PlanTable) (s : State) (h more : List Event) (m : ℕ) (program : List Line) (k : ℕ) → Stays more m → IsAt t s h m program k → IsAt t s (h ++ more) m program k
+stays_at t s h more m program k stays at = record {
+  before = at.before;
+  round = at.round ++ more;
+  split = ap (λ l. l ++ more) at.split ∙ append_assoc at.before at.round more;
+  goes = goes_longer t (after t s at.before) at.round more m (take k program) stays at.goes;
+}
+
+-- ---- an inquiry that shows the owner
+
+shown_owner : (r : Option Refusal) (o o' : Option ℕ) (f f' : Bool) (q q' : Posture) → answer_by r (Shown o f q) ≡ Shown o' f' q' → o ≡ o'
+shown_owner None o o' f f' q q' e = ap (λ (a : Answer). elim a as (λ _. Option ℕ) [ Done ↦ o | Shown x y z ↦ x | Refused r ↦ o ]) e
+shown_owner (Some r) o o' f f' q q' e = cc
+
+pub shown_owns : (t : PlanTable) (s : State) (before : List Event) (e : Event) (m z : ℕ) (f : Bool) (q : Posture) → IsLegal t s (before ++ e ∷ []) → e.call ≡ Inquire z → e.answer ≡ Shown (Some m) f q
+    → owns (after t s before) m z ≡ true
+shown_owns t s before e m z f q legal call answer =
+    let at = after t s before in
+    let is : reply t at e.machine (Inquire z) ≡ Shown (Some m) f q = ap (reply t at e.machine) (sym call) ∙ sym (legal_right t s before (e ∷ []) legal).0 ∙ answer in
+    let owner : owner_of at z ≡ Some m = shown_owner (inquire_refusal t z) (owner_of at z) (Some m) (zone_at at z).flag f (posture_at at z) q is in
+    ap (λ o. is_owned_by o m) owner ∙ nat_eq-self m
+
+-- ---- two machines
+
+-- at a start no zone is open
+free_somewhere : (n z : ℕ) → get_or (replicate n free_zone) z free_zone ≡ free_zone
+free_somewhere zero z = refl
+free_somewhere (suc n) zero = refl
+free_somewhere (suc n) (suc z) = free_somewhere n z
+
+pub start_opens : (t : PlanTable) (s : State) → IsStart s → OpensByPoses t s
+start_opens t s start = λ z l open_now.
+    let closed : posture_at s z ≡ Closed = ap (λ (x : State). posture_at x z) start.same ∙ ap (λ (v : ZoneState). v.posture) (free_somewhere 10 z) in
+    let no : false ≡ true = sym (ap is_open closed) ∙ open_now in
+    absurd (false_true no)
+  where
+    false_true : false ≡ true → ⊥
+    false_true e = cc
+
+pub never_both : EveryLegalHistoryIsLawful → (plan : MotorTables) (s : State) (h : List Event) (m n : ℕ) (program other : List Line) (i j : ℕ) → IsPlan plan.plan → Live plan.plan s
+    → IsLegal plan.plan s h → IsDriven plan m program → IsDriven plan n other → NeverBoth plan.plan (motor_at plan.motors i) (motor_at plan.motors j)
+    → IsRunning plan.plan s h m program i → IsRunning plan.plan s h n other j → ⊥
+never_both laws plan s h m n program other i j p live legal driven drives never x y =
+    never_after plan.plan (motor_at plan.motors i) (motor_at plan.motors j) s h p never live.sound
+    (permitted_running laws plan s h m program i p live legal driven x) (permitted_running laws plan s h n other j p live legal drives y)
+
+pub never_both_from_start : EveryLegalHistoryIsLawful → (plan : MotorTables) (s : State) (h : List Event) (m n : ℕ) (program other : List Line) (i j : ℕ) → IsPlan plan.plan → IsStart s
+    → IsLegal plan.plan s h → IsDriven plan m program → IsDriven plan n other → NeverFrom plan.plan s (motor_at plan.motors i) (motor_at plan.motors j)
+    → IsRunning plan.plan s h m program i → IsRunning plan.plan s h n other j → ⊥
+never_both_from_start laws plan s h m n program other i j p start legal driven drives never x y =
+    let live : Live plan.plan s = record { sound = start_is_sound plan.plan s p start; opens = start_opens plan.plan s start } in
+    never h legal (permitted_running laws plan s h m program i p live legal driven x) (permitted_running laws plan s h n other j p live legal drives y)

@@ -1,0 +1,398 @@
+-- What a machine knows by its own done calls, and by owning a zone, is so.
+use Rattle.std.proofs.Common.{◌≡◌, ◌≢◌, ℕ, ◌<◌, Bool, true, false, ◌&&◌, ◌||◌, not, nat_eq, if◌then◌else◌, Option, Some, None, is_some, length, get_or, set, refl, sym, ap, ◌∙◌, subst, arith, IsTrue, unwrap_or}
+use Rattle.std.proofs.lemmas.Bool.{eqb-true, eq-eqb, lt-ltb, and_parts}
+use Rattle.std.specs.Option.{option_or, option_eq}
+use Rattle.std.proofs.lemmas.List.{get_or-replicate}
+use Rattle.std.proofs.lemmas.List.FromFn.{get_or-map-range_with_len}
+use Rattle.plan_types.specs.declared.posture.Posture.{Posture}
+use Rattle.plan_types.specs.declared.posture.Posture.TheVariants.{Closed, Moving, OpenIn, OpenOut}
+use Rattle.plan_types.specs.declared.table.Way.{Way}
+use Rattle.plan_types.specs.declared.table.Transfer.{Transfer}
+use Rattle.plan_types.specs.declared.call.Call.{Call}
+use Rattle.plan_types.specs.declared.call.Call.TheVariants.{Claim, Give, Yield, Take, Release, SetPose, Inquire, Stop, Resume}
+use Rattle.plan_types.specs.declared.answer.Answer.TheVariants.{Done}
+use Rattle.plan_types.specs.Same.{same_posture}
+use Rattle.plan_types.specs.Table.{guest_of, PlanTable, zone_count, place_count, host_of, keeper_of, zone_row, posture_of, is_hosted, is_place_of, is_moving_pose, transfer_of, transfer_by}
+use Rattle.plan_types.specs.Plan.{IsPlan}
+use Rattle.plan_rules.specs.declared.state.ZoneState.{ZoneState}
+use Rattle.plan_rules.specs.declared.state.State.{State}
+use Rattle.plan_rules.specs.State.{zone_at, posture_at, is_full, free_zone}
+use Rattle.plan_rules.specs.Sound.{IsSound, is_owned_by, is_open}
+use Rattle.plan_rules.specs.Refusals.{owns}
+use Rattle.plan_rules.specs.Reply.{reply, changed, other_party, emptied, filled}
+use Rattle.plan_rules.proofs.lemmas.Puts.{put_cases, nat_eq-self, nat_eq-apart}
+use Rattle.plan_rules.proofs.lemmas.Zones.{some_is, gives_way, implied}
+use Rattle.plan_rules.proofs.lemmas.DoneCalls.{claim_done, give_done, yield_done, take_done, release_done, pose_done}
+use Rattle.plan_rules.proofs.lemmas.Ways.{way_leads}
+use Rattle.plan_rules.proofs.lemmas.Soundness.{done_none, never_done, in_ten, in_sixteen, plate_comes, zone_after_pose}
+use Rattle.plan_motors.specs.declared.motor.ZoneNeed.{ZoneNeed}
+use Rattle.plan_motors.specs.declared.motor.Motor.{Motor}
+use Rattle.plan_motors.specs.Motor.{no_need, need_of, place_need, has_posture, meets, meets_place}
+use Rattle.plan_drives.specs.Facts.{OpensByPoses, some_gives, one_way, posture_owned, no_facts, way_given, way_taken, posture_taken, zone_owned, zone_left, zone_given, zone_taken, zone_posed, zone_facts, begins_at, ends_at, place_facts, facts_after}
+
+-- a zone whose posture is known is held or hosted
+abbrev IsKept : PlanTable → ℕ → ZoneNeed → ℕ → Type 0
+IsKept t m need z = is_some need.posture ≡ true → (need.holds || is_hosted t z m) ≡ true
+
+-- a machine knows this: it is so, and no other machine can change it
+pub record Knows (t : PlanTable) (s : State) (f : Motor) : Type 0 where
+  pub zones : (z : ℕ) → z < zone_count t → IsTrue (meets f.machine (need_of f z) (zone_at s z))
+  pub places : (p : ℕ) → p < place_count t → IsTrue (meets_place (place_need f p) (is_full s p))
+  pub kept : (z : ℕ) → z < zone_count t → IsKept t f.machine (need_of f z) z
+  pub own : (p : ℕ) → p < place_count t → is_some (place_need f p) ≡ true → is_place_of t p f.machine ≡ true
+
+ten : (t : PlanTable) (z : ℕ) → IsPlan t → z < zone_count t → z < 10
+ten t z p l = let few = p.zones_at_most in omega (arith, few, l)
+
+sixteen : (t : PlanTable) (q : ℕ) → IsPlan t → q < place_count t → q < 16
+sixteen t q p l = let few = p.places_at_most in omega (arith, few, l)
+
+-- ---- at first nothing is known
+
+pub knows_nothing : (t : PlanTable) (s : State) (m : ℕ) → IsPlan t → Knows t s (no_facts m)
+knows_nothing t s m p =
+    let zone : (z : ℕ) → z < zone_count t → no_need ≡ need_of (no_facts m) z = λ z l. sym (get_or-replicate 10 z no_need no_need (ten t z p l)) in
+    let place : (q : ℕ) → q < place_count t → None ≡ place_need (no_facts m) q = λ q l. sym (get_or-replicate 16 q None None (sixteen t q p l)) in
+    record {
+      zones = λ z l. subst (λ n. IsTrue (meets m n (zone_at s z))) (zone z l) refl;
+      places = λ q l. subst (λ n. IsTrue (meets_place n (is_full s q))) (place q l) refl;
+      kept = λ z l. subst (λ n. IsKept t m n z) (zone z l) (λ e. cc);
+      own = λ q l. subst (λ n. is_some n ≡ true → is_place_of t q m ≡ true) (place q l) (λ e. cc);
+    }
+
+-- ---- what the machine's own call tells it of zones
+
+same_self : (q : Posture) → same_posture q q ≡ true
+same_self Closed = refl
+same_self Moving = refl
+same_self OpenIn = refl
+same_self OpenOut = refl
+
+posture_part : (m : ℕ) (n : ZoneNeed) (v : ZoneState) → meets m n v ≡ true → has_posture n.posture v.posture ≡ true
+posture_part m n v e = (and_parts _ _ e).1
+
+told_or_known : (known told : Option Posture) (q : Posture) → has_posture known q ≡ true → has_posture told q ≡ true → has_posture (option_or known told) q ≡ true
+told_or_known None told q e f = f
+told_or_known (Some r) told q e f = e
+
+meets_owned : (m : ℕ) (told : Option Posture) (n : ZoneNeed) (v : ZoneState) → is_owned_by v.owner m ≡ true → has_posture n.posture v.posture ≡ true → has_posture told v.posture ≡ true → meets m (zone_owned told n) v ≡ true
+meets_owned m told n v o e f = rw (o, told_or_known n.posture told v.posture e f) refl
+
+-- an open zone is open the one way in which the poses open it
+way_is : (inward outward : Bool) (q : Posture) → is_open q ≡ true → (q ≡ OpenIn → inward ≡ true) → (q ≡ OpenOut → outward ≡ true) → has_posture (one_way inward outward) q ≡ true
+way_is true true q e a b = refl
+way_is false false q e a b = refl
+way_is true false OpenIn e a b = refl
+way_is true false OpenOut e a b = let no = b refl in cc
+way_is true false Closed e a b = cc
+way_is true false Moving e a b = cc
+way_is false true OpenOut e a b = refl
+way_is false true OpenIn e a b = let no = a refl in cc
+way_is false true Closed e a b = cc
+way_is false true Moving e a b = cc
+
+opens_if : (a b : Bool) → (a && not b) ≡ false → a ≡ true → b ≡ true
+opens_if true true e f = refl
+opens_if true false e f = cc
+opens_if false b e f = cc
+
+owner_tells : (t : PlanTable) (s : State) (m z : ℕ) → OpensByPoses t s → z < zone_count t → (nat_eq m (guest_of t z) && not (is_open (posture_at s z))) ≡ false → has_posture (posture_owned t m z) (posture_at s z) ≡ true
+owner_tells t s m z opens l e = by (nat_eq m (guest_of t z)) refl
+  where
+    by : (b : Bool) → nat_eq m (guest_of t z) ≡ b → has_posture (if b then one_way (some_gives t z OpenIn) (some_gives t z OpenOut) else None) (posture_at s z) ≡ true
+    by false is = refl
+    by true is =
+        let open_now = opens_if (nat_eq m (guest_of t z)) (is_open (posture_at s z)) e is in
+        let given = opens z l open_now in
+        way_is (some_gives t z OpenIn) (some_gives t z OpenOut) (posture_at s z) open_now
+        (λ q. subst (λ x. some_gives t z x ≡ true) q given) (λ q. subst (λ x. some_gives t z x ≡ true) q given)
+
+meets_left : (m : ℕ) (hosted : Bool) (n : ZoneNeed) (v : ZoneState) (o : Option ℕ) (b : Bool) → meets m n v ≡ true → meets m (zone_left hosted n) (record v { owner = o; flag = b }) ≡ true
+meets_left m true n v o b e = posture_part m n v e
+meets_left m false n v o b e = refl
+
+meets_given : (m : ℕ) (hosted : Bool) (v : ZoneState) (o : Option ℕ) → (hosted ≡ true → v.posture ≡ OpenOut) → meets m (zone_given hosted) (record v { owner = o; flag = true }) ≡ true
+meets_given m true v o is = ap (λ q. same_posture q OpenOut) (is refl)
+meets_given m false v o is = refl
+
+meets_taken : (m : ℕ) (q : Posture) (v : ZoneState) → is_owned_by v.owner m ≡ true → v.posture ≡ q → meets m (zone_taken q) (record v { flag = false }) ≡ true
+meets_taken m q v o e = rw (o, e, same_self q) refl
+
+meets_posed : (m : ℕ) (owned holds : Bool) (given known : Option Posture) (v : ZoneState) → (owned ≡ true → is_owned_by v.owner m ≡ true)
+    → meets m (record { holds = holds; posture = known }) v ≡ true
+    → meets m (zone_posed owned given (record { holds = holds; posture = known })) (record v { posture = unwrap_or given v.posture }) ≡ true
+meets_posed m true holds (Some q) known v o e = rw (o refl, same_self q) refl
+meets_posed m true holds None known v o e = rw (o refl, posture_part m (record { holds = holds; posture = known }) v e) refl
+meets_posed m false true (Some q) known v o e =
+    let mine : is_owned_by v.owner m ≡ true = (and_parts (is_owned_by v.owner m) (has_posture known v.posture) e).0 in
+    rw (mine, same_self q) refl
+meets_posed m false false (Some q) known v o e = same_self q
+meets_posed m false holds None known v o e = e
+
+-- one zone is set, and what is known of it changes
+put_known : (t : PlanTable) (s : State) (f : Motor) (y : ℕ) (v : ZoneState) (n : ℕ → ZoneNeed) → y < length s.zones → IsTrue (meets f.machine (n y) v)
+    → ((z : ℕ) → z < zone_count t → IsTrue (meets f.machine (need_of f z) (zone_at s z)))
+    → (z : ℕ) → z < zone_count t → IsTrue (meets f.machine (if nat_eq y z then n z else need_of f z) (get_or (set s.zones y v) z free_zone))
+put_known t s f y v n l here others =
+    put_cases (λ z u. z < zone_count t → IsTrue (meets f.machine (if nat_eq y z then n z else need_of f z) u)) s.zones v free_zone y l
+    (λ _. subst (λ b. IsTrue (meets f.machine (if b then n y else need_of f y) v)) (sym (nat_eq-self y)) here)
+    (λ z ne m. subst (λ b. IsTrue (meets f.machine (if b then n z else need_of f z) (zone_at s z))) (sym (nat_eq-apart y z (λ e. ne (sym e)))) (others z m))
+
+-- a pose that moves is taken by the owner of all zones that it hosts
+owned_by_pose : (a b c d : Bool) → ((a && (b || c)) && not d) ≡ false → a ≡ true → b ≡ true → d ≡ true
+owned_by_pose true true c true e f g = refl
+owned_by_pose true true c false e f g = cc
+owned_by_pose false b c d e f g = cc
+owned_by_pose true false c d e f g = cc
+
+-- the posture of a zone from which a plate was taken
+taken_way : (g r : ℕ) (w : Option Way) (way : Transfer) → transfer_by g r w ≡ Some way → (way.giver ≡ g) × (way.receiver ≡ r) × ((p : ℕ) → begins_at w p ≡ nat_eq way.from p) × ((p : ℕ) → ends_at w p ≡ nat_eq way.to p)
+taken_way g r None way e = cc
+taken_way g r (Some w) way e =
+    let x : Transfer = record { giver = g; receiver = r; from = w.from; to = w.to } in
+    let same : x ≡ way = some_is x way e in
+    (sym (ap (λ (y : Transfer). y.giver) same), sym (ap (λ (y : Transfer). y.receiver) same), λ p. ap (λ (y : Transfer). nat_eq y.from p) same, λ p. ap (λ (y : Transfer). nat_eq y.to p) same)
+
+pub record Taken (t : PlanTable) (m z : ℕ) (q : Posture) (way : Transfer) : Type 0 where
+  posture : q ≡ posture_taken t m z
+  ends : (p : ℕ) → ends_at (way_taken t m z) p ≡ nat_eq way.to p
+
+when : {A : Type 0} (b c : Bool) (x y : A) → b ≡ c → (if c then x else y) ≡ (if b then x else y)
+when b c x y e = ap (λ d. if d then x else y) (sym e)
+
+takes_way : (t : PlanTable) (m z : ℕ) (q : Posture) (way : Transfer) → host_of t z ≢ guest_of t z → transfer_of t z q ≡ Some way → way.receiver ≡ m → Taken t m z q way
+takes_way t m z Closed way two e r = cc
+takes_way t m z Moving way two e r = cc
+takes_way t m z OpenIn way two e r =
+    let w = taken_way (guest_of t z) (host_of t z) (zone_row t z).inward way e in
+    let is : nat_eq m (host_of t z) ≡ true = eq-eqb m (host_of t z) (sym r ∙ w.1) in
+    record {
+      posture = ap (λ b. if b then OpenIn else OpenOut) (sym is);
+      ends = λ p. ap (λ b. ends_at (if b then (zone_row t z).inward else (zone_row t z).outward) p) is ∙ w.3 p;
+    }
+takes_way t m z OpenOut way two e r =
+    let w = taken_way (host_of t z) (guest_of t z) (zone_row t z).outward way e in
+    let isnt : nat_eq m (host_of t z) ≡ false = nat_eq-apart m (host_of t z) (λ x. two (sym x ∙ sym r ∙ w.1)) in
+    record {
+      posture = ap (λ b. if b then OpenIn else OpenOut) (sym isnt);
+      ends = λ p. ap (λ b. ends_at (if b then (zone_row t z).inward else (zone_row t z).outward) p) isnt ∙ w.3 p;
+    }
+
+given_begins : (t : PlanTable) (m z : ℕ) (q : Posture) (way : Transfer) → host_of t z ≢ guest_of t z → transfer_of t z q ≡ Some way → way.giver ≡ m → (p : ℕ) → begins_at (way_given t m z) p ≡ nat_eq way.from p
+given_begins t m z Closed way two e r p = cc
+given_begins t m z Moving way two e r p = cc
+given_begins t m z OpenIn way two e r p =
+    let w = taken_way (guest_of t z) (host_of t z) (zone_row t z).inward way e in
+    let isnt : nat_eq m (host_of t z) ≡ false = nat_eq-apart m (host_of t z) (λ x. two (sym x ∙ sym r ∙ w.0)) in
+    ap (λ b. begins_at (if b then (zone_row t z).outward else (zone_row t z).inward) p) isnt ∙ w.2 p
+given_begins t m z OpenOut way two e r p =
+    let w = taken_way (host_of t z) (guest_of t z) (zone_row t z).outward way e in
+    let is : nat_eq m (host_of t z) ≡ true = eq-eqb m (host_of t z) (sym r ∙ w.0) in
+    ap (λ b. begins_at (if b then (zone_row t z).outward else (zone_row t z).inward) p) is ∙ w.2 p
+
+-- a host gives only outward
+gives_outward : (t : PlanTable) (m z : ℕ) (q : Posture) (way : Transfer) → host_of t z ≢ guest_of t z → transfer_of t z q ≡ Some way → way.giver ≡ m → host_of t z ≡ m → q ≡ OpenOut
+gives_outward t m z Closed way two e r h = cc
+gives_outward t m z Moving way two e r h = cc
+gives_outward t m z OpenOut way two e r h = refl
+gives_outward t m z OpenIn way two e r h =
+    let w = taken_way (guest_of t z) (host_of t z) (zone_row t z).inward way e in
+    absurd (two (h ∙ sym r ∙ w.0))
+
+-- after a done call each zone is as the machine has learned
+zones_learned : (t : PlanTable) (s : State) (f : Motor) (c : Call) → IsPlan t → IsSound t s → OpensByPoses t s → Knows t s f → reply t s f.machine c ≡ Done
+    → (z : ℕ) → z < zone_count t → IsTrue (meets f.machine (zone_facts t f c z) (zone_at (changed t s f.machine c) z))
+zones_learned t s f (Claim y) p k opens known e =
+    let d = claim_done t s f.machine y (done_none _ _ e) in
+    let there = d.caller.there in
+    put_known t s f y (record (zone_at s y) { owner = Some f.machine }) (λ z. zone_owned (posture_owned t f.machine z) (need_of f z)) (in_ten t s y p k there)
+    (meets_owned f.machine (posture_owned t f.machine y) (need_of f y) (record (zone_at s y) { owner = Some f.machine }) (nat_eq-self f.machine) (posture_part f.machine (need_of f y) (zone_at s y) (known.zones y there)) (owner_tells t s f.machine y opens there d.opens)) known.zones
+zones_learned t s f (Give y) p k opens known e =
+    let d = give_done t s f.machine y (done_none _ _ e) in
+    let there = d.holder.caller.there in
+    let g = gives_way t f.machine y (posture_at s y) d.way (p.host_is_not_guest y there) d.is in
+    let outward = gives_outward t f.machine y (posture_at s y) d.way (p.host_is_not_guest y there) g.is g.giver in
+    put_known t s f y (record (zone_at s y) { owner = Some (other_party t f.machine y); flag = true }) (λ z. zone_given (is_hosted t z f.machine)) (in_ten t s y p k there)
+    (meets_given f.machine (is_hosted t y f.machine) (zone_at s y) (Some (other_party t f.machine y)) (λ h. outward (eqb-true _ _ (and_parts _ _ h).1))) known.zones
+zones_learned t s f (Yield y) p k opens known e =
+    let there = (yield_done t s f.machine y (done_none _ _ e)).holder.caller.there in
+    put_known t s f y (record (zone_at s y) { owner = Some (other_party t f.machine y) }) (λ z. zone_left (is_hosted t z f.machine) (need_of f z)) (in_ten t s y p k there)
+    (meets_left f.machine (is_hosted t y f.machine) (need_of f y) (zone_at s y) (Some (other_party t f.machine y)) (zone_at s y).flag (known.zones y there)) known.zones
+zones_learned t s f (Take y) p k opens known e =
+    let d = take_done t s f.machine y (done_none _ _ e) in
+    let there = d.holder.caller.there in
+    let comes = plate_comes t s y k there d.plate in
+    let mine : comes.way.receiver ≡ f.machine = ap (λ o. unwrap_or o f.machine) (sym comes.receiver ∙ d.holder.owner) in
+    let way = takes_way t f.machine y (posture_at s y) comes.way (p.host_is_not_guest y there) comes.is mine in
+    put_known t s f y (record (zone_at s y) { flag = false }) (λ z. zone_taken (posture_taken t f.machine z)) (in_ten t s y p k there)
+    (meets_taken f.machine (posture_taken t f.machine y) (zone_at s y) d.holder.owns way.posture) known.zones
+zones_learned t s f (Release y) p k opens known e =
+    let there = (release_done t s f.machine y (done_none _ _ e)).holder.caller.there in
+    put_known t s f y (record (zone_at s y) { owner = None }) (λ z. zone_left (is_hosted t z f.machine) (need_of f z)) (in_ten t s y p k there)
+    (meets_left f.machine (is_hosted t y f.machine) (need_of f y) (zone_at s y) None (zone_at s y).flag (known.zones y there)) known.zones
+zones_learned t s f (SetPose q) p k opens known e = λ z l.
+    let d = pose_done t s f.machine q (done_none _ _ e) in
+    let owned : (is_moving_pose t q && is_hosted t z f.machine) ≡ true → owns s f.machine z ≡ true = λ h.
+    let parts = and_parts (is_moving_pose t q) (is_hosted t z f.machine) h in
+    owned_by_pose (nat_eq (host_of t z) f.machine) (is_moving_pose t q) _ (owns s f.machine z) (d.owned z l) (and_parts _ _ parts.1).1 parts.0 in
+    subst (λ v. IsTrue (meets f.machine (zone_facts t f (SetPose q) z) v)) (sym (zone_after_pose t s q z p l))
+    (meets_posed f.machine (is_moving_pose t q && is_hosted t z f.machine) (need_of f z).holds (posture_of t q z) (need_of f z).posture (zone_at s z) owned (known.zones z l))
+zones_learned t s f (Inquire y) p k opens known e = never_done t s f.machine y e
+zones_learned t s f Stop p k opens known e = known.zones
+zones_learned t s f Resume p k opens known e = known.zones
+
+-- ---- and of places
+
+place_set : (t : PlanTable) (s : State) (f : Motor) (y : ℕ) (b : Bool) (tells : ℕ → Bool) → ((q : ℕ) → tells q ≡ nat_eq y q) → y < length s.full
+    → ((q : ℕ) → q < place_count t → IsTrue (meets_place (place_need f q) (is_full s q)))
+    → (q : ℕ) → q < place_count t → IsTrue (meets_place (if tells q then Some b else place_need f q) (get_or (set s.full y b) q false))
+place_set t s f y b tells same l others q m =
+    subst (λ x. IsTrue (meets_place (if x then Some b else place_need f q) (get_or (set s.full y b) q false))) (sym (same q))
+    (put_cases (λ z u. z < place_count t → IsTrue (meets_place (if nat_eq y z then Some b else place_need f z) u)) s.full b false y l
+    (λ _. subst (λ x. IsTrue (meets_place (if x then Some b else place_need f y) b)) (sym (nat_eq-self y)) (meets_itself b))
+    (λ z ne n. subst (λ x. IsTrue (meets_place (if x then Some b else place_need f z) (is_full s z))) (sym (nat_eq-apart y z (λ e. ne (sym e)))) (others z n))
+    q m)
+  where
+    meets_itself : (c : Bool) → IsTrue (meets_place (Some c) c)
+    meets_itself true = refl
+    meets_itself false = refl
+
+places_learned : (t : PlanTable) (s : State) (f : Motor) (c : Call) → IsPlan t → IsSound t s → Knows t s f → reply t s f.machine c ≡ Done
+    → (q : ℕ) → q < place_count t → IsTrue (meets_place (place_facts t f c q) (is_full (changed t s f.machine c) q))
+places_learned t s f (Give y) p k known e = λ q m.
+    let d = give_done t s f.machine y (done_none _ _ e) in
+    let l = d.holder.caller.there in
+    let g = gives_way t f.machine y (posture_at s y) d.way (p.host_is_not_guest y l) d.is in
+    let leads = way_leads t p y (posture_at s y) d.way l g.is in
+    let begins = given_begins t f.machine y (posture_at s y) d.way (p.host_is_not_guest y l) g.is g.giver in
+    subst (λ o. IsTrue (meets_place (place_facts t f (Give y) q) (get_or (emptied s.full o) q false))) (sym d.is)
+    (place_set t s f d.way.from false (begins_at (way_given t f.machine y)) begins (in_sixteen t s d.way.from p k leads.from) known.places q m)
+places_learned t s f (Take y) p k known e = λ q m.
+    let d = take_done t s f.machine y (done_none _ _ e) in
+    let l = d.holder.caller.there in
+    let comes = plate_comes t s y k l d.plate in
+    let leads = way_leads t p y (posture_at s y) comes.way l comes.is in
+    let mine : comes.way.receiver ≡ f.machine = ap (λ o. unwrap_or o f.machine) (sym comes.receiver ∙ d.holder.owner) in
+    let way = takes_way t f.machine y (posture_at s y) comes.way (p.host_is_not_guest y l) comes.is mine in
+    subst (λ o. IsTrue (meets_place (place_facts t f (Take y) q) (get_or (filled s.full o) q false))) (sym comes.is)
+    (place_set t s f comes.way.to true (ends_at (way_taken t f.machine y)) way.ends (in_sixteen t s comes.way.to p k leads.to) known.places q m)
+places_learned t s f (Inquire y) p k known e = never_done t s f.machine y e
+places_learned t s f _ p k known e = known.places
+
+-- ---- what is learned no other machine can change
+
+kept_left : (t : PlanTable) (m : ℕ) (n : ZoneNeed) (z : ℕ) → (b : Bool) → is_hosted t z m ≡ b → IsKept t m (zone_left b n) z
+kept_left t m n z true h some = h
+kept_left t m n z false h some = cc
+
+kept_given : (t : PlanTable) (m z : ℕ) → (b : Bool) → is_hosted t z m ≡ b → IsKept t m (zone_given b) z
+kept_given t m z true h some = h
+kept_given t m z false h some = cc
+
+kept_if : (t : PlanTable) (m : ℕ) (a b : ZoneNeed) (z : ℕ) (test : Bool) → IsKept t m a z → IsKept t m b z → IsKept t m (if test then a else b) z
+kept_if t m a b z true x y = x
+kept_if t m a b z false x y = y
+
+kept_posed : (t : PlanTable) (m : ℕ) (owned holds : Bool) (given known : Option Posture) (z : ℕ) → (is_some given ≡ true → is_hosted t z m ≡ true)
+    → IsKept t m (record { holds = holds; posture = known }) z → IsKept t m (zone_posed owned given (record { holds = holds; posture = known })) z
+kept_posed t m true holds given known z host k some = refl
+kept_posed t m false holds None known z host k some = k some
+kept_posed t m false true (Some q) known z host k some = refl
+kept_posed t m false false (Some q) known z host k some = host refl
+
+given_posture : (o : Option Posture) → is_some o ≡ true → (q : Posture) × (o ≡ Some q)
+given_posture None e = cc
+given_posture (Some q) e = (q, refl)
+
+zones_kept : (t : PlanTable) (s : State) (f : Motor) (c : Call) → IsPlan t → Knows t s f → reply t s f.machine c ≡ Done → (z : ℕ) → z < zone_count t → IsKept t f.machine (zone_facts t f c z) z
+zones_kept t s f (Claim y) p known e = λ z l. kept_if t f.machine (zone_owned (posture_owned t f.machine z) (need_of f z)) (need_of f z) z (nat_eq y z) (λ _. refl) (known.kept z l)
+zones_kept t s f (Give y) p known e = λ z l. kept_if t f.machine (zone_given (is_hosted t z f.machine)) (need_of f z) z (nat_eq y z) (kept_given t f.machine z _ refl) (known.kept z l)
+zones_kept t s f (Yield y) p known e = λ z l. kept_if t f.machine (zone_left (is_hosted t z f.machine) (need_of f z)) (need_of f z) z (nat_eq y z) (kept_left t f.machine (need_of f z) z _ refl) (known.kept z l)
+zones_kept t s f (Take y) p known e = λ z l. kept_if t f.machine (zone_taken (posture_taken t f.machine z)) (need_of f z) z (nat_eq y z) (λ _. refl) (known.kept z l)
+zones_kept t s f (Release y) p known e = λ z l. kept_if t f.machine (zone_left (is_hosted t z f.machine) (need_of f z)) (need_of f z) z (nat_eq y z) (kept_left t f.machine (need_of f z) z _ refl) (known.kept z l)
+zones_kept t s f (SetPose q) p known e = λ z l.
+    let d = pose_done t s f.machine q (done_none _ _ e) in
+    let host : is_some (posture_of t q z) ≡ true → is_hosted t z f.machine ≡ true = λ some.
+    let given = given_posture (posture_of t q z) some in
+    let fits = p.pose_of_host q z given.0 d.there (ten t z p l) given.1 in
+    rw (lt-ltb z (zone_count t) l, eq-eqb (host_of t z) f.machine (fits.1 ∙ d.machine)) refl in
+    kept_posed t f.machine (is_moving_pose t q && is_hosted t z f.machine) (need_of f z).holds (posture_of t q z) (need_of f z).posture z host (known.kept z l)
+zones_kept t s f (Inquire y) p known e = known.kept
+zones_kept t s f Stop p known e = known.kept
+zones_kept t s f Resume p known e = known.kept
+
+place_kept : (t : PlanTable) (f : Motor) (y : ℕ) (b : Bool) (tells : Bool) (q : ℕ) → tells ≡ nat_eq y q → y < place_count t → keeper_of t y ≡ f.machine
+    → (is_some (place_need f q) ≡ true → is_place_of t q f.machine ≡ true) → is_some (if tells then Some b else place_need f q) ≡ true → is_place_of t q f.machine ≡ true
+place_kept t f y b true q same l mine old some =
+    let is : y ≡ q = eqb-true y q (sym same) in
+    subst (λ x. is_place_of t x f.machine ≡ true) is (rw (lt-ltb y (place_count t) l, eq-eqb (keeper_of t y) f.machine mine) refl)
+place_kept t f y b false q same l mine old some = old some
+
+places_own : (t : PlanTable) (s : State) (f : Motor) (c : Call) → IsPlan t → IsSound t s → Knows t s f → reply t s f.machine c ≡ Done
+    → (q : ℕ) → q < place_count t → is_some (place_facts t f c q) ≡ true → is_place_of t q f.machine ≡ true
+places_own t s f (Give y) p k known e = λ q m.
+    let d = give_done t s f.machine y (done_none _ _ e) in
+    let l = d.holder.caller.there in
+    let g = gives_way t f.machine y (posture_at s y) d.way (p.host_is_not_guest y l) d.is in
+    let leads = way_leads t p y (posture_at s y) d.way l g.is in
+    let begins = given_begins t f.machine y (posture_at s y) d.way (p.host_is_not_guest y l) g.is g.giver in
+    place_kept t f d.way.from false (begins_at (way_given t f.machine y) q) q (begins q) leads.from (leads.from_giver ∙ g.giver) (known.own q m)
+places_own t s f (Take y) p k known e = λ q m.
+    let d = take_done t s f.machine y (done_none _ _ e) in
+    let l = d.holder.caller.there in
+    let comes = plate_comes t s y k l d.plate in
+    let leads = way_leads t p y (posture_at s y) comes.way l comes.is in
+    let mine : comes.way.receiver ≡ f.machine = ap (λ o. unwrap_or o f.machine) (sym comes.receiver ∙ d.holder.owner) in
+    let way = takes_way t f.machine y (posture_at s y) comes.way (p.host_is_not_guest y l) comes.is mine in
+    place_kept t f comes.way.to true (ends_at (way_taken t f.machine y) q) q (way.ends q) leads.to (leads.to_receiver ∙ mine) (known.own q m)
+places_own t s f _ p k known e = known.own
+
+-- ---- after a done call of its own the machine knows what it has learned
+
+-- what is so of each zone and place is what is known
+learned : (t : PlanTable) (s : State) (f : Motor) (c : Call) → IsPlan t
+    → ((z : ℕ) → z < zone_count t → IsTrue (meets f.machine (zone_facts t f c z) (zone_at s z)))
+    → ((q : ℕ) → q < place_count t → IsTrue (meets_place (place_facts t f c q) (is_full s q)))
+    → ((z : ℕ) → z < zone_count t → IsKept t f.machine (zone_facts t f c z) z)
+    → ((q : ℕ) → q < place_count t → is_some (place_facts t f c q) ≡ true → is_place_of t q f.machine ≡ true)
+    → Knows t s (facts_after t f c)
+learned t s f c p zones places kept own =
+    let zone : (z : ℕ) → z < zone_count t → zone_facts t f c z ≡ need_of (facts_after t f c) z = λ z l. sym (get_or-map-range_with_len (zone_facts t f c) 0 10 z z no_need (ten t z p l) (omega arith)) in
+    let place : (q : ℕ) → q < place_count t → place_facts t f c q ≡ place_need (facts_after t f c) q = λ q l. sym (get_or-map-range_with_len (place_facts t f c) 0 16 q q None (sixteen t q p l) (omega arith)) in
+    record {
+      zones = λ z l. subst (λ n. IsTrue (meets f.machine n (zone_at s z))) (zone z l) (zones z l);
+      places = λ q l. subst (λ n. IsTrue (meets_place n (is_full s q))) (place q l) (places q l);
+      kept = λ z l. subst (λ n. IsKept t f.machine n z) (zone z l) (kept z l);
+      own = λ q l. subst (λ n. is_some n ≡ true → is_place_of t q f.machine ≡ true) (place q l) (own q l);
+    }
+
+pub learns : (t : PlanTable) (s : State) (f : Motor) (c : Call) → IsPlan t → IsSound t s → OpensByPoses t s → Knows t s f → reply t s f.machine c ≡ Done → Knows t (changed t s f.machine c) (facts_after t f c)
+learns t s f c p k opens known e =
+    learned t (changed t s f.machine c) f c p (zones_learned t s f c p k opens known e) (places_learned t s f c p k known e) (zones_kept t s f c p known e) (places_own t s f c p k known e)
+
+-- ---- a zone that it owns, as it has found out
+
+-- a guest owns only an open zone
+not_shut : (guest open owned : Bool) → (guest ≡ true → owned ≡ true) → (owned ≡ true → open ≡ true) → (guest && not open) ≡ false
+not_shut false open owned o l = refl
+not_shut true open owned o l = ap not (l (o refl))
+
+pub finds : (t : PlanTable) (s : State) (f : Motor) (y : ℕ) → IsPlan t → IsSound t s → OpensByPoses t s → Knows t s f → owns s f.machine y ≡ true → Knows t s (facts_after t f (Claim y))
+finds t s f y p k opens known mine =
+    let m = f.machine in
+    let shut : (z : ℕ) → z < zone_count t → owns s m z ≡ true → (nat_eq m (guest_of t z) && not (is_open (posture_at s z))) ≡ false = λ z l o.
+    not_shut (nat_eq m (guest_of t z)) (is_open (posture_at s z)) (owns s (guest_of t z) z)
+    (λ g. subst (λ x. owns s x z ≡ true) (eqb-true m (guest_of t z) g) o)
+    (implied (owns s (guest_of t z) z) (is_open (posture_at s z)) (k.zone_is_lawful z l).guest_only_while_open) in
+    let here : (z : ℕ) → z < zone_count t → nat_eq y z ≡ true → meets m (zone_owned (posture_owned t m z) (need_of f z)) (zone_at s z) ≡ true = λ z l e.
+    let o : owns s m z ≡ true = subst (λ x. owns s m x ≡ true) (eqb-true y z e) mine in
+    meets_owned m (posture_owned t m z) (need_of f z) (zone_at s z) o (posture_part m (need_of f z) (zone_at s z) (known.zones z l)) (owner_tells t s m z opens l (shut z l o)) in
+    learned t s f (Claim y) p
+    (λ z l. either m (zone_owned (posture_owned t m z) (need_of f z)) (need_of f z) (zone_at s z) (nat_eq y z) (here z l) (known.zones z l))
+    known.places
+    (λ z l. kept_if t m (zone_owned (posture_owned t m z) (need_of f z)) (need_of f z) z (nat_eq y z) (λ _. refl) (known.kept z l))
+    known.own
+  where
+    either : (m : ℕ) (a b : ZoneNeed) (v : ZoneState) (test : Bool) → (test ≡ true → meets m a v ≡ true) → meets m b v ≡ true → meets m (if test then a else b) v ≡ true
+    either m a b v true x y = x refl
+    either m a b v false x y = y

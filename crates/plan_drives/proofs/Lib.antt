@@ -1,0 +1,4 @@
+mod Learning
+mod Lasting
+mod Going
+mod Lacking

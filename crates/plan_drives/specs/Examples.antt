@@ -1,0 +1,1 @@
+-- Literal facts and programs.

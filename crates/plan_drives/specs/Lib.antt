@@ -1,0 +1,5 @@
+pub mod Facts
+pub mod Program
+pub mod Course
+pub mod Lacking
+pub mod Examples

@@ -1,0 +1,181 @@
+//! Laws of programs with drives, each the contract of a function that does nothing. A history is the list of the events
+//! since the opening, oldest first. `plan.plan().machines()` reads the plan, so the prover knows that it is one.
+ghost use Rattle.std.specs.Prelude.{◌≡◌, [], ◌∷◌, ◌++◌, IsTrue, Some};
+ghost use Rattle.plan_types.specs.declared.call.Call.TheVariants.{Inquire};
+ghost use Rattle.plan_types.specs.declared.answer.Answer.TheVariants.{Shown};
+ghost use Rattle.plan_rules.specs.Refusals.{owns};
+ghost use Rattle.plan_rules.specs.Sound.{IsSound, IsStart};
+ghost use Rattle.plan_rules.specs.History.{IsLegal, after};
+ghost use Rattle.plan_motors.specs.Motor.{Permits};
+ghost use Rattle.plan_motors.specs.OfPlan.{motor_at};
+ghost use Rattle.plan_motors.specs.Decided.{NeverBoth};
+ghost use Rattle.plan_motors.specs.Poses.{NeverFrom};
+ghost use Rattle.plan_drives.specs.Facts.{OpensByPoses};
+ghost use Rattle.plan_drives.specs.Program.{Runs, IsBackedAt, IsDriven};
+ghost use Rattle.plan_drives.specs.Course.{Stays, IsAt, HasCome, IsRunning};
+ghost use Rattle.plan_drives.specs.Lacking.{IsUndriven};
+
+use crate::line::Line;
+use crate::undriven::Undriven;
+use plan_motors::MotorPlan;
+use plan_rules::State;
+use plan_rules::laws::lawful_histories;
+use plan_types::{Event, Plan, Posture};
+
+/// A machine that is at a line of its program is permitted each motor that the line runs, whatever the others have
+/// done.
+pub fn drives_are_permitted(
+    plan: &MotorPlan,
+    machine: u8,
+    program: &[Line],
+    motor: usize,
+    opening: &State,
+    history: &[Event],
+)
+    requires driven { IsDriven plan.now machine program.now }
+    requires sound { IsSound plan.now.plan opening.now }
+    requires opens { OpensByPoses plan.now.plan opening.now }
+    requires legal { IsLegal plan.now.plan opening.now history.now }
+    requires runs { IsRunning plan.now.plan opening.now history.now machine program.now motor }
+    ensures { Permits plan.now.plan (after plan.now.plan opening.now history.now)
+        (motor_at plan.now.motors motor) }
+{
+    let _ = plan.plan().machines();
+    lawful_histories();
+}
+
+/// So is one that has gone through whole rounds of its program since the opening, and then up to the line.
+pub fn drives_are_permitted_in_each_round(
+    plan: &MotorPlan,
+    machine: u8,
+    program: &[Line],
+    line: usize,
+    motor: usize,
+    opening: &State,
+    history: &[Event],
+)
+    requires driven { IsDriven plan.now machine program.now }
+    requires sound { IsSound plan.now.plan opening.now }
+    requires opens { OpensByPoses plan.now.plan opening.now }
+    requires legal { IsLegal plan.now.plan opening.now history.now }
+    requires come { HasCome plan.now.plan opening.now history.now machine program.now line }
+    requires runs { Runs program.now line motor }
+    ensures { Permits plan.now.plan (after plan.now.plan opening.now history.now)
+        (motor_at plan.now.motors motor) }
+{
+    let _ = plan.plan().machines();
+    lawful_histories();
+}
+
+/// Who has come to a line by its program is at it.
+pub fn who_has_come_is_there(
+    plan: &Plan,
+    machine: u8,
+    program: &[Line],
+    line: usize,
+    opening: &State,
+    history: &[Event],
+)
+    requires { HasCome plan.now opening.now history.now machine program.now line }
+    ensures { IsAt plan.now opening.now history.now machine program.now line }
+{}
+
+/// Events that move a machine no further leave it at its line: those of others, and its own that aren't done.
+pub fn who_stays_is_there(
+    plan: &Plan,
+    machine: u8,
+    program: &[Line],
+    line: usize,
+    opening: &State,
+    history: &[Event],
+    more: &[Event],
+)
+    requires at { IsAt plan.now opening.now history.now machine program.now line }
+    requires stays { Stays more.now machine }
+    ensures { IsAt plan.now opening.now (history.now ++ more.now) machine program.now line }
+{}
+
+/// A machine that an inquiry shows as a zone's owner owns it: so it may go past a line that awaits the zone.
+pub fn who_is_shown_owns(
+    plan: &Plan,
+    machine: u8,
+    zone: u8,
+    flag: bool,
+    posture: Posture,
+    opening: &State,
+    before: &[Event],
+    inquiry: Event,
+)
+    requires legal { IsLegal plan.now opening.now (before.now ++ inquiry ∷ []) }
+    requires call { inquiry.call ≡ Inquire zone }
+    requires answer { inquiry.answer ≡ Shown (Some machine) flag posture }
+    ensures { IsTrue (owns (after plan.now opening.now before.now) machine zone) }
+{}
+
+/// Two machines never both run motors that exclude each other.
+pub fn hazards_are_never_driven(
+    plan: &MotorPlan,
+    machine: u8,
+    program: &[Line],
+    motor: usize,
+    other: u8,
+    other_program: &[Line],
+    other_motor: usize,
+    opening: &State,
+    history: &[Event],
+)
+    requires driven { IsDriven plan.now machine program.now }
+    requires other_driven { IsDriven plan.now other other_program.now }
+    requires excluded { NeverBoth plan.now.plan (motor_at plan.now.motors motor)
+        (motor_at plan.now.motors other_motor) }
+    requires sound { IsSound plan.now.plan opening.now }
+    requires opens { OpensByPoses plan.now.plan opening.now }
+    requires legal { IsLegal plan.now.plan opening.now history.now }
+    requires runs { IsRunning plan.now.plan opening.now history.now machine program.now motor }
+    ensures { ¬ IsRunning plan.now.plan opening.now history.now other other_program.now other_motor }
+{
+    let _ = plan.plan().machines();
+    lawful_histories();
+}
+
+/// The same from a start, also where only the poses of the plan keep the two motors apart.
+pub fn hazards_are_never_driven_from_start(
+    plan: &MotorPlan,
+    machine: u8,
+    program: &[Line],
+    motor: usize,
+    other: u8,
+    other_program: &[Line],
+    other_motor: usize,
+    start: &State,
+    history: &[Event],
+)
+    requires driven { IsDriven plan.now machine program.now }
+    requires other_driven { IsDriven plan.now other other_program.now }
+    requires excluded { NeverFrom plan.now.plan start.now (motor_at plan.now.motors motor)
+        (motor_at plan.now.motors other_motor) }
+    requires start { IsStart start.now }
+    requires legal { IsLegal plan.now.plan start.now history.now }
+    requires runs { IsRunning plan.now.plan start.now history.now machine program.now motor }
+    ensures { ¬ IsRunning plan.now.plan start.now history.now other other_program.now other_motor }
+{
+    let _ = plan.plan().machines();
+    lawful_histories();
+}
+
+/// At a start each open zone is open as a pose gives: none is open.
+pub fn starts_open_by_poses(plan: &Plan, start: &State)
+    requires { IsStart start.now }
+    ensures { OpensByPoses plan.now start.now }
+{}
+
+/// A line that runs a motor which lacks something isn't backed.
+pub fn undriven_lines_are_not_backed(
+    plan: &MotorPlan,
+    machine: u8,
+    program: &[Line],
+    found: &Undriven,
+)
+    requires { IsUndriven plan.now machine program.now found.now }
+    ensures { ¬ IsBackedAt plan.now machine program.now found.now.line }
+{}

@@ -1,0 +1,13 @@
+//! Programs with drives: which motors a machine may run at a line of its program, by its own done calls alone.
+#![tactic(auto)]
+
+mod check;
+pub mod examples;
+pub mod facts;
+pub mod laws;
+pub mod line;
+pub mod undriven;
+
+pub use check::first_undriven;
+pub use line::Line;
+pub use undriven::{Lack, Undriven};
