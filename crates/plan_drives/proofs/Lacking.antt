@@ -353,6 +353,7 @@ none_at plan m program k backed = by (slice_get program k) refl
 pub at_some : (plan : MotorTables) (m : ℕ) (program : List Line) (k : ℕ) (u : Undriven) → undriven_at plan m program k ≡ Some u → (u.line ≡ k) × IsUndriven plan m program u
 at_some plan m program k u e = by (slice_get program k) refl e
   where
+    known : Motor
     known = facts_at plan.plan m program k
     by : (o : Option Line) → slice_get program k ≡ o → undriven_of plan known k o ≡ Some u → (u.line ≡ k) × IsUndriven plan m program u
     by None is e = cc

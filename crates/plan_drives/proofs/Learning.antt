@@ -373,9 +373,9 @@ learns t s f c p k opens known e =
 -- ---- a zone that it owns, as it has found out
 
 -- a guest owns only an open zone
-not_shut : (guest open owned : Bool) → (guest ≡ true → owned ≡ true) → (owned ≡ true → open ≡ true) → (guest && not open) ≡ false
-not_shut false open owned o l = refl
-not_shut true open owned o l = ap not (l (o refl))
+not_shut : (guest opens owned : Bool) → (guest ≡ true → owned ≡ true) → (owned ≡ true → opens ≡ true) → (guest && not opens) ≡ false
+not_shut false opens owned o l = refl
+not_shut true opens owned o l = ap not (l (o refl))
 
 pub finds : (t : PlanTable) (s : State) (f : Motor) (y : ℕ) → IsPlan t → IsSound t s → OpensByPoses t s → Knows t s f → owns s f.machine y ≡ true → Knows t s (facts_after t f (Claim y))
 finds t s f y p k opens known mine =

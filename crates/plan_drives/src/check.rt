@@ -168,9 +168,8 @@ pub fn first_undriven(plan: &MotorPlan, machine: u8, program: &[Line]) -> Option
 {
     let mut known = no_facts(machine);
     for line in 0..program.len() {
-        let found = undriven_line(plan, &known, line, program[line]);
-        if found.is_some() {
-            return found;
+        if let Some(found) = undriven_line(plan, &known, line, program[line]) {
+            return Some(found);
         }
         known = facts_after_line(plan.plan(), &known, program[line]);
     }
