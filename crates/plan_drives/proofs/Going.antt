@@ -1,9 +1,10 @@
 -- A machine that has gone through lines knows what they tell, and is permitted what it runs.
-use Rattle.std.proofs.Common.{All, get_or, replicate, zero, suc, true, false, ◌≡◌, ℕ, Bool, ◌&&◌, Option, Some, None, List, [], ◌∷◌, ◌++◌, take, refl, sym, ap, ◌∙◌, subst, IsTrue}
+use Rattle.std.proofs.Common.{All, get_or, replicate, zero, suc, ◌+◌, true, false, ◌≡◌, ℕ, Bool, ◌&&◌, Option, Some, None, List, [], ◌∷◌, ◌++◌, take, refl, sym, ap, ◌∙◌, subst, arith, IsTrue}
 use Rattle.std.proofs.lemmas.Bool.{and_parts, false_from_ne_true, eq-eqb}
-use Rattle.std.proofs.lemmas.List.{append_assoc}
+use Rattle.std.proofs.lemmas.List.{append_assoc, append-nil}
 use Rattle.std.proofs.lemmas.List.Elements.{All-nil, All-cons, All-head, All-tail}
 use Rattle.std.specs.Option.{option_eq}
+use Rattle.std.specs.Prelude.{slice_get}
 use Rattle.plan_types.specs.declared.posture.Posture.{Posture}
 use Rattle.plan_types.specs.declared.posture.Posture.TheVariants.{Closed}
 use Rattle.plan_types.specs.declared.call.Call.{Call}
@@ -37,7 +38,7 @@ use Rattle.plan_drives.specs.declared.line.Line.{Line}
 use Rattle.plan_drives.specs.declared.line.Line.TheVariants.{Do, Await, Run}
 use Rattle.plan_drives.specs.Facts.{no_facts, facts_after, facts_along, facts_at, OpensByPoses}
 use Rattle.plan_drives.specs.Program.{posture_follows, zone_follows, is_known_as, place_follows, Backs, Runs, IsDriven}
-use Rattle.plan_drives.specs.Course.{is_done_by, Stays, DoesNext, ComesToOwn, GoesThrough, IsAt, rounds_of, HasCome, IsRunning}
+use Rattle.plan_drives.specs.Course.{is_done_by, Stays, DoesNext, ComesToOwn, GoesThrough, IsAt, rounds_of, HasCome, IsRunning, CoursesGoOn}
 use Rattle.plan_drives.proofs.Learning.{Knows, knows_nothing, finds}
 use Rattle.plan_drives.proofs.Lasting.{leaves, tells, Live, live_next, live_after}
 
@@ -209,18 +210,23 @@ all_both : (P : Event → Type 0) (a b : List Event) → All P a → All P b →
 all_both P [] b x y = y
 all_both P (e ∷ a) b x y = All-cons P e (a ++ b) (All-head P e a x) (all_both P a b (All-tail P e a x) y)
 
-goes_longer : (t : PlanTable) (s : State) (h more : List Event) (m : ℕ) (lines : List Line) → Stays more m → GoesThrough t s h m lines → GoesThrough t s (h ++ more) m lines
-goes_longer t s h more m [] stays goes = all_both (λ e. ¬ IsTrue (is_done_by m e)) h more goes stays
-goes_longer t s h more m (Do c ∷ lines) stays goes =
+-- a history goes on, and with it the lines
+goes_on : (t : PlanTable) (m : ℕ) (end : State) (more : List Event) (tail : List Line)
+    → ((s : State) (h : List Event) → after t s h ≡ end → Stays h m → GoesThrough t s (h ++ more) m tail)
+    → (s : State) (h : List Event) (lines : List Line) → after t s h ≡ end → GoesThrough t s h m lines → GoesThrough t s (h ++ more) m (lines ++ tail)
+goes_on t m end more tail last s h [] is goes = last s h is goes
+goes_on t m end more tail last s h (Do c ∷ lines) is goes =
     let x = goes.0 in
+    let first = x.before ++ done m c ∷ [] in
     let longer : DoesNext (h ++ more) m c = record {
       before = x.before;
       since = x.since ++ more;
       split = ap (λ l. l ++ more) x.split ∙ append_assoc x.before (done m c ∷ x.since) more;
       stays = x.stays;
     } in
-    (longer, goes_longer t (after t s (x.before ++ done m c ∷ [])) x.since more m lines stays goes.1)
-goes_longer t s h more m (Await z ∷ lines) stays goes =
+    let there = ends_at t s h first x.since (x.split ∙ sym (append_assoc x.before (done m c ∷ []) x.since)) ∙ is in
+    (longer, goes_on t m end more tail last (after t s first) x.since lines there goes.1)
+goes_on t m end more tail last s h (Await z ∷ lines) is goes =
     let x = goes.0 in
     let longer : ComesToOwn t s (h ++ more) m z = record {
       before = x.before;
@@ -229,16 +235,49 @@ goes_longer t s h more m (Await z ∷ lines) stays goes =
       stays = x.stays;
       owned = x.owned;
     } in
-    (longer, goes_longer t (after t s x.before) x.since more m lines stays goes.1)
-goes_longer t s h more m (Run motors ∷ lines) stays goes = goes_longer t s h more m lines stays goes
+    (longer, goes_on t m end more tail last (after t s x.before) x.since lines (ends_at t s h x.before x.since x.split ∙ is) goes.1)
+goes_on t m end more tail last s h (Run motors ∷ lines) is goes = goes_on t m end more tail last s h lines is goes
 
-pub stays_at : (t : PlanTable) (s : State) (h more : List Event) (m : ℕ) (program : List Line) (k : ℕ) → Stays more m → IsAt t s h m program k → IsAt t s (h ++ more) m program k
-stays_at t s h more m program k stays at = record {
+at_longer : (t : PlanTable) (s : State) (h more : List Event) (m : ℕ) (program : List Line) (k n : ℕ) (tail : List Line)
+    → ((s' : State) (h' : List Event) → after t s' h' ≡ after t s h → Stays h' m → GoesThrough t s' (h' ++ more) m tail)
+    → take n program ≡ take k program ++ tail → IsAt t s h m program k → IsAt t s (h ++ more) m program n
+at_longer t s h more m program k n tail last lines at = record {
   before = at.before;
   round = at.round ++ more;
   split = ap (λ l. l ++ more) at.split ∙ append_assoc at.before at.round more;
-  goes = goes_longer t (after t s at.before) at.round more m (take k program) stays at.goes;
+  goes = subst (GoesThrough t (after t s at.before) (at.round ++ more) m) (sym lines) (goes_on t m (after t s h) more tail last (after t s at.before) at.round (take k program) (ends_at t s h at.before at.round at.split) at.goes);
 }
+
+line_more : (program : List Line) (k : ℕ) (line : Line) → slice_get program k ≡ Some line → take (suc k) program ≡ take k program ++ line ∷ []
+line_more [] k line e = cc
+line_more (x ∷ xs) zero line e = ap (λ (o : Option Line). elim o as (λ _. List Line) [ None ↦ [] | Some y ↦ y ∷ [] ]) e
+line_more (x ∷ xs) (suc k) line e = ap (λ l. x ∷ l) (line_more xs k line e)
+
+next_line : (program : List Line) (k : ℕ) (line : Line) → slice_get program k ≡ Some line → take (k + 1) program ≡ take k program ++ line ∷ []
+next_line program k line e = let one : k + 1 ≡ suc k = omega arith in ap (λ n. take n program) one ∙ line_more program k line e
+
+unlengthened : (t : PlanTable) (s : State) (h : List Event) (m : ℕ) (program : List Line) (k : ℕ) → IsAt t s (h ++ []) m program k → IsAt t s h m program k
+unlengthened t s h m program k = subst (λ l. IsAt t s l m program k) (append-nil h)
+
+pub courses_go_on : (t : PlanTable) (s : State) (h : List Event) (m : ℕ) (program : List Line) → CoursesGoOn t s h m program
+courses_go_on t s h m program =
+    let Not : Event → Type 0 = λ e. ¬ IsTrue (is_done_by m e) in
+    record {
+      begins = record { before = h; round = []; split = sym (append-nil h); goes = All-nil Not };
+      stays = λ k more at stays.
+          at_longer t s h more m program k k [] (λ s' h' is still. all_both Not h' more still stays) (sym (append-nil (take k program))) at;
+      does = λ k c at there.
+          at_longer t s h (done m c ∷ []) m program k (k + 1) (Do c ∷ [])
+          (λ s' h' is still. (record { before = h'; since = []; split = refl; stays = still }, All-nil Not)) (next_line program k (Do c) there) at;
+      awaits = λ k z at there owned.
+          unlengthened t s h m program (k + 1)
+          (at_longer t s h [] m program k (k + 1) (Await z ∷ [])
+          (λ s' h' is still. (record { before = h'; since = []; split = refl; stays = still; owned = subst (λ x. IsTrue (owns x m z)) (sym is) owned }, All-nil Not)) (next_line program k (Await z) there) at);
+      runs = λ k motors at there.
+          unlengthened t s h m program (k + 1)
+          (at_longer t s h [] m program k (k + 1) (Run motors ∷ [])
+          (λ s' h' is still. subst (λ l. Stays l m) (sym (append-nil h')) still) (next_line program k (Run motors) there) at);
+    }
 
 -- ---- an inquiry that shows the owner
 

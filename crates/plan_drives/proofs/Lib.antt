@@ -2,3 +2,4 @@ mod Learning
 mod Lasting
 mod Going
 mod Lacking
+mod Rows

@@ -1,5 +1,5 @@
 -- How far a machine has come in its program by a history.
-use Rattle.std.specs.Prelude.{◌≡◌, ℕ, zero, suc, Bool, ◌&&◌, nat_eq, List, [], ◌∷◌, ◌++◌, take, All, IsTrue}
+use Rattle.std.specs.Prelude.{◌≡◌, ℕ, zero, suc, ◌+◌, Bool, ◌&&◌, nat_eq, List, [], ◌∷◌, ◌++◌, take, slice_get, All, Some, IsTrue}
 use Rattle.plan_types.specs.declared.call.Call.{Call}
 use Rattle.plan_types.specs.declared.answer.Event.{Event}
 use Rattle.plan_types.specs.Table.{PlanTable}
@@ -69,3 +69,15 @@ pub record IsRunning (t : PlanTable) (s : State) (history : List Event) (m : ℕ
   pub line : ℕ
   pub at : IsAt t s history m program line
   pub runs : Runs program line i
+
+-- how a machine goes on: at any moment a round may begin; it stays at its line while none of its calls is done; and it
+-- comes to the next line once its call is done, while it owns the zone that it awaits, or after it has run its motors
+pub record CoursesGoOn (t : PlanTable) (s : State) (h : List Event) (m : ℕ) (program : List Line) : Type 0 where
+  pub begins : IsAt t s h m program 0
+  pub stays : (k : ℕ) (more : List Event) → IsAt t s h m program k → Stays more m → IsAt t s (h ++ more) m program k
+  pub does : (k : ℕ) (c : Call) → IsAt t s h m program k → slice_get program k ≡ Some (Do c)
+      → IsAt t s (h ++ done m c ∷ []) m program (k + 1)
+  pub awaits : (k z : ℕ) → IsAt t s h m program k → slice_get program k ≡ Some (Await z)
+      → IsTrue (owns (after t s h) m z) → IsAt t s h m program (k + 1)
+  pub runs : (k motors : ℕ) → IsAt t s h m program k → slice_get program k ≡ Some (Run motors)
+      → IsAt t s h m program (k + 1)

@@ -12,7 +12,7 @@ ghost use Rattle.plan_motors.specs.Decided.{NeverBoth};
 ghost use Rattle.plan_motors.specs.Poses.{NeverFrom};
 ghost use Rattle.plan_drives.specs.Facts.{OpensByPoses};
 ghost use Rattle.plan_drives.specs.Program.{Runs, IsBackedAt, IsDriven};
-ghost use Rattle.plan_drives.specs.Course.{Stays, IsAt, HasCome, IsRunning};
+ghost use Rattle.plan_drives.specs.Course.{IsAt, HasCome, IsRunning, CoursesGoOn};
 ghost use Rattle.plan_drives.specs.Lacking.{IsUndriven};
 
 use crate::line::Line;
@@ -80,19 +80,15 @@ pub fn who_has_come_is_there(
     ensures { IsAt plan.now opening.now history.now machine program.now line }
 {}
 
-/// Events that move a machine no further leave it at its line: those of others, and its own that aren't done.
-pub fn who_stays_is_there(
+/// How a machine goes on in its program, event by event: what takes it to the next line, and what leaves it where it is.
+pub fn courses_go_on(
     plan: &Plan,
     machine: u8,
     program: &[Line],
-    line: usize,
     opening: &State,
     history: &[Event],
-    more: &[Event],
 )
-    requires at { IsAt plan.now opening.now history.now machine program.now line }
-    requires stays { Stays more.now machine }
-    ensures { IsAt plan.now opening.now (history.now ++ more.now) machine program.now line }
+    ensures { CoursesGoOn plan.now opening.now history.now machine program.now }
 {}
 
 /// A machine that an inquiry shows as a zone's owner owns it: so it may go past a line that awaits the zone.
