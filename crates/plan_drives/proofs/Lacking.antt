@@ -1,5 +1,5 @@
 -- A line runs a motor that lacks something exactly if the line isn't backed.
-use Rattle.std.proofs.Common.{◌≡◌, ◌≢◌, ℕ, ◌+◌, ◌<◌, ◌≤◌, ◌⊎◌, inl, inr, zero, suc, Bool, true, false, ◌&&◌, not, nat_eq, nat_lt, if◌then◌else◌, Option, Some, None, List, [], ◌∷◌, length, get_or, take, refl, sym, ap, ◌∙◌, subst, arith, IsTrue}
+use Rattle.std.proofs.Common.{◌≡◌, ◌≢◌, ℕ, ◌+◌, ◌<◌, ◌≤◌, ◌⊎◌, inl, inr, zero, suc, Bool, true, false, ◌&&◌, not, nat_eq, nat_lt, if◌then◌else◌, Option, Some, None, List, [], ◌∷◌, length, get_or, take, refl, sym, ap, ◌∙◌, subst, arith}
 use Rattle.std.specs.Prelude.{slice_get, option_map}
 use Rattle.std.specs.Option.{option_or, option_eq}
 use Rattle.std.specs.Bool.{then_some}
@@ -11,7 +11,7 @@ use Rattle.plan_types.specs.declared.call.Call.TheVariants.{Claim}
 use Rattle.plan_types.specs.Same.{same_posture}
 use Rattle.plan_types.specs.Below.{first_below}
 use Rattle.plan_types.specs.Table.{PlanTable, zone_count, place_count}
-use Rattle.plan_types.proofs.lemmas.Below.{below_next, first_below_none, first_below_all}
+use Rattle.plan_types.proofs.lemmas.Below.{first_below_none, first_below_all}
 use Rattle.plan_rules.specs.Sound.{implies}
 use Rattle.plan_motors.specs.declared.motor.ZoneNeed.{ZoneNeed}
 use Rattle.plan_motors.specs.declared.motor.Motor.{Motor}

@@ -1,5 +1,5 @@
 -- What a machine knows stays so: only its own done calls change it, and these it knows.
-use Rattle.std.proofs.Common.{◌≡◌, ℕ, ◌<◌, ◌⊎◌, inl, inr, Bool, true, false, ◌&&◌, ◌||◌, nat_eq, if◌then◌else◌, Option, Some, None, is_some, List, [], ◌∷◌, ◌++◌, refl, sym, ap, ◌∙◌, subst, IsTrue, unwrap_or}
+use Rattle.std.proofs.Common.{◌≡◌, ℕ, ◌<◌, ◌⊎◌, inl, inr, Bool, true, false, ◌&&◌, ◌||◌, nat_eq, if◌then◌else◌, Option, Some, None, is_some, List, [], ◌∷◌, refl, sym, ap, ◌∙◌, subst, IsTrue, unwrap_or}
 use Rattle.std.proofs.lemmas.Bool.{eqb-true, and_parts}
 use Rattle.std.specs.Option.{option_eq}
 use Rattle.plan_types.specs.declared.posture.Posture.{Posture}
@@ -17,7 +17,7 @@ use Rattle.plan_rules.specs.declared.state.ZoneState.{ZoneState}
 use Rattle.plan_rules.specs.declared.state.State.{State}
 use Rattle.plan_rules.specs.State.{zone_at, posture_at, is_full}
 use Rattle.plan_rules.specs.Sound.{IsSound, is_owned_by, is_open}
-use Rattle.plan_rules.specs.Reply.{reply, next, next_by, changed}
+use Rattle.plan_rules.specs.Reply.{reply, next, next_by}
 use Rattle.plan_rules.specs.History.{after, IsLegal, is_done, is_done_answer, own_events, posture_given}
 use Rattle.plan_rules.specs.Laws.{EveryLegalHistoryIsLawful}
 use Rattle.plan_rules.proofs.lemmas.Below.{any_below_none}

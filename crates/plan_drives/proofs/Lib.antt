@@ -1,5 +1,5 @@
 mod Learning
 mod Lasting
-mod Going
+pub mod lemmas
 mod Lacking
 mod Rows

@@ -3,7 +3,7 @@ use Rattle.std.proofs.Common.{◌≡◌, ℕ, Bool, true, false, List, [], ◌�
 use Rattle.std.proofs.lemmas.List.Elements.{All-nil, All-cons, All-head, All-tail}
 use Rattle.plan_types.specs.declared.posture.Posture.TheVariants.{Closed, Moving}
 use Rattle.plan_types.specs.declared.call.Call.{Call}
-use Rattle.plan_types.specs.declared.call.Call.TheVariants.{Claim, Give, Yield, Take, Release, SetPose, Inquire}
+use Rattle.plan_types.specs.declared.call.Call.TheVariants.{Claim, Give, Yield, Take, SetPose, Inquire}
 use Rattle.plan_types.specs.declared.answer.Refusal.TheVariants.{Held, Shut}
 use Rattle.plan_types.specs.declared.answer.Answer.TheVariants.{Shown}
 use Rattle.plan_types.specs.declared.answer.Event.{Event}
@@ -12,7 +12,7 @@ use Rattle.plan_rules.specs.Examples.{event, did, refused, press_start}
 use Rattle.plan_rules.specs.Refusals.{owns}
 use Rattle.plan_rules.specs.History.{after}
 use Rattle.plan_rules.specs.Laws.{done}
-use Rattle.plan_drives.specs.declared.line.Line.TheVariants.{Do, Await, Run}
+use Rattle.plan_drives.specs.declared.line.Line.TheVariants.{Do, Run}
 use Rattle.plan_drives.specs.declared.undriven.Lack.TheVariants.{NoSuchMotor, OtherMachine, NotHeld, NotInPosture, NotFilled}
 use Rattle.plan_drives.specs.Course.{is_done_by, Stays, DoesNext, ComesToOwn}
 use Rattle.plan_drives.specs.Examples.{FactsAreRight, ProgramsAreRight, CoursesAreRight, press_plan, pressing, loading, opening}

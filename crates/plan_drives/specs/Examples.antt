@@ -18,7 +18,6 @@ use Rattle.plan_drives.specs.declared.line.Line.TheVariants.{Do, Await, Run}
 use Rattle.plan_drives.specs.declared.undriven.Lack.{Lack}
 use Rattle.plan_drives.specs.declared.undriven.Lack.TheVariants.{NoSuchMotor, OtherMachine, NotHeld, NotInPosture}
 use Rattle.plan_drives.specs.declared.undriven.Lack.TheVariants.{NotFilled}
-use Rattle.plan_drives.specs.declared.undriven.Undriven.{Undriven}
 use Rattle.plan_drives.specs.Facts.{no_facts, zone_facts, place_facts, facts_along}
 use Rattle.plan_drives.specs.Program.{IsDriven}
 use Rattle.plan_drives.specs.Course.{Stays, GoesThrough, IsRunning, HasCome}

@@ -1,6 +1,6 @@
-use Rattle.std.proofs.Common.{◌≡◌, ◌∙◌, ◌<◌, ℕ, None, Some, true, false, refl, sym, subst, below_more, arith}
+use Rattle.std.proofs.Common.{◌≡◌, ◌∙◌, ◌<◌, None, true, false, refl, sym, subst, below_more, arith}
 use Rattle.plan_drives.specs.Lacking.{undriven_at}
-use Rattle.plan_drives.proofs.Lacking.{at_none, at_some, none_at, all_driven, facts_there, undriven_here, undriven_not_backed}
+use Rattle.plan_drives.proofs.Lacking.{at_none, at_some, all_driven, facts_there, undriven_here, undriven_not_backed}
 use Rattle.plan_drives.proofs.check.first_undriven.Goals as goal
 
 true_false : true ≡ false → ⊥

@@ -1,4 +1,4 @@
-use Rattle.plan_drives.proofs.Going as going
+use Rattle.plan_drives.proofs.lemmas.Going as going
 use Rattle.plan_drives.proofs.laws.courses_go_on.Goals as goal
 
 pub returns : goal.returns

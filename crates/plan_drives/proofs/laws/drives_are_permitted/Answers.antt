@@ -1,7 +1,6 @@
 use Rattle.std.proofs.Common.{subst}
 use Rattle.plan_types.specs.Plan.{IsPlan}
-use Rattle.plan_drives.proofs.Lasting.{Live}
-use Rattle.plan_drives.proofs.Going.{permitted_running}
+use Rattle.plan_drives.proofs.lemmas.Going.{permitted_running}
 use Rattle.plan_drives.proofs.laws.drives_are_permitted.Goals as goal
 
 pub returns : goal.returns
@@ -9,5 +8,4 @@ returns c =
     let a = c.args in
     let r = c.requires in
     let p = subst IsPlan c.plan.ensures.plan c.machines.ensures.plan in
-    let live : Live a.plan.now.plan a.opening.now = record { sound = r.sound; opens = r.opens } in
-    permitted_running c.lawful_histories.ensures a.plan.now a.opening.now a.history.now a.machine a.program.now a.motor p live r.legal r.driven r.runs
+    permitted_running c.lawful_histories.ensures a.plan.now a.opening.now a.history.now a.machine a.program.now a.motor p r.sound r.opens r.legal r.driven r.runs

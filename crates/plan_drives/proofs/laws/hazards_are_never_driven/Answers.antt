@@ -1,7 +1,6 @@
 use Rattle.std.proofs.Common.{subst}
 use Rattle.plan_types.specs.Plan.{IsPlan}
-use Rattle.plan_drives.proofs.Lasting.{Live}
-use Rattle.plan_drives.proofs.Going.{never_both}
+use Rattle.plan_drives.proofs.lemmas.Going.{never_both}
 use Rattle.plan_drives.proofs.laws.hazards_are_never_driven.Goals as goal
 
 pub returns : goal.returns
@@ -9,6 +8,5 @@ returns c =
     let a = c.args in
     let r = c.requires in
     let p = subst IsPlan c.plan.ensures.plan c.machines.ensures.plan in
-    let live : Live a.plan.now.plan a.opening.now = record { sound = r.sound; opens = r.opens } in
     λ other.
-    never_both c.lawful_histories.ensures a.plan.now a.opening.now a.history.now a.machine a.other a.program.now a.other_program.now a.motor a.other_motor p live r.legal r.driven r.other_driven r.excluded r.runs other
+    never_both c.lawful_histories.ensures a.plan.now a.opening.now a.history.now a.machine a.other a.program.now a.other_program.now a.motor a.other_motor p r.sound r.opens r.legal r.driven r.other_driven r.excluded r.runs other

@@ -1,6 +1,6 @@
 use Rattle.std.proofs.Common.{subst}
 use Rattle.plan_types.specs.Plan.{IsPlan}
-use Rattle.plan_drives.proofs.Going.{never_both_from_start}
+use Rattle.plan_drives.proofs.lemmas.Going.{never_both_from_start}
 use Rattle.plan_drives.proofs.laws.hazards_are_never_driven_from_start.Goals as goal
 
 pub returns : goal.returns

@@ -1,4 +1,4 @@
-use Rattle.plan_drives.proofs.Going.{start_opens}
+use Rattle.plan_drives.proofs.lemmas.Going.{start_opens}
 use Rattle.plan_drives.proofs.laws.starts_open_by_poses.Goals as goal
 
 pub returns : goal.returns

@@ -1,4 +1,4 @@
-use Rattle.plan_drives.proofs.Going.{is_at}
+use Rattle.plan_drives.proofs.lemmas.Going.{is_at}
 use Rattle.plan_drives.proofs.laws.who_has_come_is_there.Goals as goal
 
 pub returns : goal.returns

@@ -1,4 +1,4 @@
-use Rattle.plan_drives.proofs.Going.{shown_owns}
+use Rattle.plan_drives.proofs.lemmas.Going.{shown_owns}
 use Rattle.plan_drives.proofs.laws.who_is_shown_owns.Goals as goal
 
 pub returns : goal.returns

@@ -1,13 +1,12 @@
 -- A machine that has gone through lines knows what they tell, and is permitted what it runs.
 use Rattle.std.proofs.Common.{All, get_or, replicate, zero, suc, ◌+◌, true, false, ◌≡◌, ℕ, Bool, ◌&&◌, Option, Some, None, List, [], ◌∷◌, ◌++◌, take, refl, sym, ap, ◌∙◌, subst, arith, IsTrue}
-use Rattle.std.proofs.lemmas.Bool.{and_parts, false_from_ne_true, eq-eqb}
+use Rattle.std.proofs.lemmas.Bool.{and_parts, false_from_ne_true}
 use Rattle.std.proofs.lemmas.List.{append_assoc, append-nil}
 use Rattle.std.proofs.lemmas.List.Elements.{All-nil, All-cons, All-head, All-tail}
 use Rattle.std.specs.Option.{option_eq}
 use Rattle.std.specs.Prelude.{slice_get}
 use Rattle.plan_types.specs.declared.posture.Posture.{Posture}
 use Rattle.plan_types.specs.declared.posture.Posture.TheVariants.{Closed}
-use Rattle.plan_types.specs.declared.call.Call.{Call}
 use Rattle.plan_types.specs.declared.call.Call.TheVariants.{Claim, Inquire}
 use Rattle.plan_types.specs.declared.answer.Refusal.{Refusal}
 use Rattle.plan_types.specs.declared.answer.Answer.{Answer}
@@ -71,7 +70,7 @@ stays_knowing laws t s (e ∷ h) f p k legal stays known =
 
 -- ---- through lines
 
-pub knows_through : EveryLegalHistoryIsLawful → (t : PlanTable) (s : State) (h : List Event) (f : Motor) (lines : List Line) → IsPlan t → Live t s → IsLegal t s h
+knows_through : EveryLegalHistoryIsLawful → (t : PlanTable) (s : State) (h : List Event) (f : Motor) (lines : List Line) → IsPlan t → Live t s → IsLegal t s h
     → GoesThrough t s h f.machine lines → Knows t s f → Knows t (after t s h) (facts_along t f lines)
 knows_through laws t s h f [] p k legal goes known = stays_knowing laws t s h f p k legal goes known
 knows_through laws t s h f (Do c ∷ lines) p k legal goes known =
@@ -161,14 +160,15 @@ machine_along t f (Do c ∷ lines) = machine_along t (facts_after t f c) lines
 machine_along t f (Await z ∷ lines) = machine_along t (facts_after t f (Claim z)) lines
 machine_along t f (Run motors ∷ lines) = machine_along t f lines
 
-pub permitted_at : EveryLegalHistoryIsLawful → (plan : MotorTables) (s : State) (h : List Event) (m : ℕ) (program : List Line) (k i : ℕ) → IsPlan plan.plan → Live plan.plan s
+pub permitted_at : EveryLegalHistoryIsLawful → (plan : MotorTables) (s : State) (h : List Event) (m : ℕ) (program : List Line) (k i : ℕ) → IsPlan plan.plan → IsSound plan.plan s → OpensByPoses plan.plan s
     → IsLegal plan.plan s h → IsDriven plan m program → IsAt plan.plan s h m program k → Runs program k i → Permits plan.plan (after plan.plan s h) (motor_at plan.motors i)
-permitted_at laws plan s h m program k i p live legal driven at runs =
+permitted_at laws plan s h m program k i p sound opens legal driven at runs =
+    let live : Live plan.plan s = record { sound = sound; opens = opens } in
     backed plan.plan (after plan.plan s h) (facts_at plan.plan m program k) (motor_at plan.motors i) (driven k i runs).1 (knows_at laws plan.plan s h m program k p live legal at)
 
-pub permitted_running : EveryLegalHistoryIsLawful → (plan : MotorTables) (s : State) (h : List Event) (m : ℕ) (program : List Line) (i : ℕ) → IsPlan plan.plan → Live plan.plan s
+pub permitted_running : EveryLegalHistoryIsLawful → (plan : MotorTables) (s : State) (h : List Event) (m : ℕ) (program : List Line) (i : ℕ) → IsPlan plan.plan → IsSound plan.plan s → OpensByPoses plan.plan s
     → IsLegal plan.plan s h → IsDriven plan m program → IsRunning plan.plan s h m program i → Permits plan.plan (after plan.plan s h) (motor_at plan.motors i)
-permitted_running laws plan s h m program i p live legal driven x = permitted_at laws plan s h m program x.line i p live legal driven x.at x.runs
+permitted_running laws plan s h m program i p sound opens legal driven x = permitted_at laws plan s h m program x.line i p sound opens legal driven x.at x.runs
 
 -- ---- from the opening
 
@@ -310,16 +310,17 @@ start_opens t s start = λ z l open_now.
     false_true : false ≡ true → ⊥
     false_true e = cc
 
-pub never_both : EveryLegalHistoryIsLawful → (plan : MotorTables) (s : State) (h : List Event) (m n : ℕ) (program other : List Line) (i j : ℕ) → IsPlan plan.plan → Live plan.plan s
+pub never_both : EveryLegalHistoryIsLawful → (plan : MotorTables) (s : State) (h : List Event) (m n : ℕ) (program other : List Line) (i j : ℕ) → IsPlan plan.plan → IsSound plan.plan s → OpensByPoses plan.plan s
     → IsLegal plan.plan s h → IsDriven plan m program → IsDriven plan n other → NeverBoth plan.plan (motor_at plan.motors i) (motor_at plan.motors j)
     → IsRunning plan.plan s h m program i → IsRunning plan.plan s h n other j → ⊥
-never_both laws plan s h m n program other i j p live legal driven drives never x y =
-    never_after plan.plan (motor_at plan.motors i) (motor_at plan.motors j) s h p never live.sound
-    (permitted_running laws plan s h m program i p live legal driven x) (permitted_running laws plan s h n other j p live legal drives y)
+never_both laws plan s h m n program other i j p sound opens legal driven drives never x y =
+    never_after plan.plan (motor_at plan.motors i) (motor_at plan.motors j) s h p never sound
+    (permitted_running laws plan s h m program i p sound opens legal driven x) (permitted_running laws plan s h n other j p sound opens legal drives y)
 
 pub never_both_from_start : EveryLegalHistoryIsLawful → (plan : MotorTables) (s : State) (h : List Event) (m n : ℕ) (program other : List Line) (i j : ℕ) → IsPlan plan.plan → IsStart s
     → IsLegal plan.plan s h → IsDriven plan m program → IsDriven plan n other → NeverFrom plan.plan s (motor_at plan.motors i) (motor_at plan.motors j)
     → IsRunning plan.plan s h m program i → IsRunning plan.plan s h n other j → ⊥
 never_both_from_start laws plan s h m n program other i j p start legal driven drives never x y =
-    let live : Live plan.plan s = record { sound = start_is_sound plan.plan s p start; opens = start_opens plan.plan s start } in
-    never h legal (permitted_running laws plan s h m program i p live legal driven x) (permitted_running laws plan s h n other j p live legal drives y)
+    let sound = start_is_sound plan.plan s p start in
+    let opens = start_opens plan.plan s start in
+    never h legal (permitted_running laws plan s h m program i p sound opens legal driven x) (permitted_running laws plan s h n other j p sound opens legal drives y)
