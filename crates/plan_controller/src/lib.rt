@@ -1,0 +1,12 @@
+//! The controller of any machine of a plan: it goes through the machine's program, a step a turn.
+#![tactic(auto)]
+
+pub mod controller;
+pub mod line;
+pub mod outcome;
+pub mod step;
+
+pub use controller::{PlanController, TakenTurn};
+pub use line::PlanLine;
+pub use outcome::Outcome;
+pub use step::{Step, lines_of};
