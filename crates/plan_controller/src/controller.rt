@@ -146,6 +146,35 @@ impl PlanController {
         }
     }
 
+    /// A turn, but that motors are permitted.
+    fn take_turn<L: PlanLine>(&mut self, line: &mut L, sensors: Option<u32>) -> TakenTurn
+        requires own { L.machine line.old ≡ self.old.machine }
+        requires at { IsAtPlace L.table L.opening L.seen line.old self.old self.old.place }
+        ensures turn { Turns self.old ((line.new ≡ line.old) × (result.asked ≡ None))
+            (λ call answer. L.asks line.old call answer line.new × (result.asked ≡ Some (call, answer)))
+            sensors result.motors self.new }
+        ensures stopped { result.stopped_by ≡ self.new.stopped }
+        ensures own { L.machine line.new ≡ L.machine line.old }
+        ensures table { L.table line.new ≡ L.table line.old }
+        ensures opening { L.opening line.new ≡ L.opening line.old }
+        ensures at { IsAtPlace L.table L.opening L.seen line.new self.new self.new.place }
+    {
+        let performed = match (sensors, self.stopped) {
+            (Some(sensors), None) => self.perform(line, sensors),
+            _ => Performed {
+                asked: None,
+                motors: 0,
+                outcome: Outcome::Stays,
+            },
+        };
+        self.advance(performed.outcome);
+        TakenTurn {
+            asked: performed.asked,
+            motors: performed.motors,
+            stopped_by: self.stopped,
+        }
+    }
+
     /// One turn, by what the sensors show now: a bit for each; `None` if they couldn't be read. It performs one step: a
     /// call that its line is asked once, with all motors off, or a run of motors.
     ///
@@ -165,19 +194,6 @@ impl PlanController {
             self.new result.motors }
     {
         lawful_histories();
-        let performed = match (sensors, self.stopped) {
-            (Some(sensors), None) => self.perform(line, sensors),
-            _ => Performed {
-                asked: None,
-                motors: 0,
-                outcome: Outcome::Stays,
-            },
-        };
-        self.advance(performed.outcome);
-        TakenTurn {
-            asked: performed.asked,
-            motors: performed.motors,
-            stopped_by: self.stopped,
-        }
+        self.take_turn(line, sensors)
     }
 }

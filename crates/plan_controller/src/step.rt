@@ -37,10 +37,10 @@ impl Step {
 }
 
 /// The lines of a program, for `first_undriven`.
-pub fn lines_of(alloc: Global, steps: &[Step]) -> Result<Vec<Line>, AllocError>
-    ensures { IfOk result (λ lines. lines.items ≡ map steps.line_of steps.now) }
+pub fn lines_of(alloc: Global, program: &[Step]) -> Result<Vec<Line>, AllocError>
+    ensures { IfOk result (λ lines. lines.items ≡ map steps.line_of program.now) }
 {
-    steps.iter().map(|step| step.line()).collect(alloc)
+    program.iter().map(|step| step.line()).collect(alloc)
 }
 
 /// Whether a sensor shows, of 32.

@@ -1,0 +1,9 @@
+use Rattle.plan_controller.proofs.Permitting.{permitted}
+use Rattle.plan_controller.proofs.controller.PlanController.turn.Goals as goal
+
+pub returns-clause-permitted : goal.returns-clause-permitted
+returns-clause-permitted g c =
+    let l = g.L.PlanLine in
+    let line = c.take_turn.new.line in
+    permitted c.lawful_histories.ensures (l.table line) (l.opening line) (l.seen line) c.args.self.now c.take_turn.new.self _ _ c.args.sensors c.take_turn.result.motors
+    (g.met.L.PlanLine.plan line) (g.met.L.PlanLine.sound line) c.take_turn.ensures.turn c.take_turn.ensures.at
