@@ -1,2 +1,4 @@
 mod Leading
 mod Permitting
+mod Caring
+mod Rows

@@ -1,3 +1,4 @@
 pub mod Steps
 pub mod Seen
 pub mod Turns
+pub mod Examples

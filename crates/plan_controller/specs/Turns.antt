@@ -1,6 +1,6 @@
 -- A controller, what a turn does, and what holds of the motors that it turns on.
-use Rattle.std.specs.Prelude.{◌≡◌, ℕ, ◌+◌, ◌<◌, nat_lt, List, length, map, slice_get, ◌++◌, Option, Some, None, IsTrue}
-use Rattle.std.specs.Prelude.{if◌then◌else◌}
+use Rattle.std.specs.Prelude.{◌≡◌, ◌≢◌, ℕ, ◌+◌, nat_lt, List, length, map, slice_get, ◌++◌, ◌⊎◌, Option, Some, None, IsTrue}
+use Rattle.std.specs.Prelude.{false, if◌then◌else◌}
 use Rattle.plan_types.specs.declared.call.Call.{Call}
 use Rattle.plan_types.specs.declared.call.Call.TheVariants.{Inquire}
 use Rattle.plan_types.specs.declared.answer.Answer.{Answer}
@@ -84,6 +84,29 @@ TurnsBy (Some r) c same asks sensors motors now = Rests c same motors now
 -- One turn. A controller that has stopped rests, and so does one whose sensors weren't read; else it performs its step
 abbrev pub Turns : Control → Type 0 → (Call → Option Answer → Type 0) → Option ℕ → ℕ → Control → Type 0
 Turns c same asks sensors motors now = TurnsBy c.stopped c same asks sensors motors now
+
+-- ---- what follows of it
+
+-- these motors are on, at a step that runs them until a sensor shows: it was read, and doesn't show yet
+pub record RunsHere (c : Control) (sensors : Option ℕ) (motors : ℕ) (now : Control) : Type 0 where
+  pub running : c.stopped ≡ None
+  pub until : ℕ
+  pub step : step_in c ≡ Some (Run motors until)
+  pub read : ℕ
+  pub sensed : sensors ≡ Some read
+  pub not_yet : shows read until ≡ false
+  pub stays : now.place ≡ c.place
+
+-- motors are on only at such a step; a controller that has stopped stays as it is, and so does one whose sensors weren't
+-- read, with all motors off; a turn that stops the controller has none on; and a turn makes one step at most
+pub record IsCareful (c : Control) (sensors : Option ℕ) (motors : ℕ) (now : Control) : Type 0 where
+  pub runs : motors ≢ 0 → RunsHere c sensors motors now
+  pub stopped : (r : Refusal) → c.stopped ≡ Some r → (motors ≡ 0) × (now ≡ c)
+  pub unread : sensors ≡ None → (motors ≡ 0) × (now ≡ c)
+  pub stops : (r : Refusal) → now.stopped ≡ Some r → motors ≡ 0
+  pub one_step : (now.place ≡ c.place) ⊎ (now.place ≡ next_place c)
+  pub machine : now.machine ≡ c.machine
+  pub program : now.steps ≡ c.steps
 
 -- ---- along the history
 

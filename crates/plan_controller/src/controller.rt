@@ -1,7 +1,7 @@
 //! The controller that goes through any machine's program, a step a turn.
 ghost use Rattle.std.specs.Prelude.{◌≡◌, None, Some, zero};
 ghost use Rattle.plan_controller.specs.Turns as turns;
-ghost use Rattle.plan_controller.specs.Turns.{Performs, Turns, IsAtPlace, ArePermitted};
+ghost use Rattle.plan_controller.specs.Turns.{Performs, Turns, IsCareful, IsAtPlace, ArePermitted};
 
 use crate::line::PlanLine;
 use crate::outcome::{Outcome, after_call, after_inquiry};
@@ -185,6 +185,7 @@ impl PlanController {
         ensures turn { Turns self.old ((line.new ≡ line.old) × (result.asked ≡ None))
             (λ call answer. L.asks line.old call answer line.new × (result.asked ≡ Some (call, answer)))
             sensors result.motors self.new }
+        ensures careful { IsCareful self.old sensors result.motors self.new }
         ensures stopped { result.stopped_by ≡ self.new.stopped }
         ensures own { L.machine line.new ≡ L.machine line.old }
         ensures table { L.table line.new ≡ L.table line.old }

@@ -2,6 +2,7 @@
 #![tactic(auto)]
 
 pub mod controller;
+pub mod examples;
 pub mod line;
 pub mod outcome;
 pub mod step;

@@ -1,3 +1,4 @@
+use Rattle.plan_controller.proofs.Caring.{careful}
 use Rattle.plan_controller.proofs.Permitting.{permitted}
 use Rattle.plan_controller.proofs.controller.PlanController.turn.Goals as goal
 
@@ -7,3 +8,7 @@ returns-clause-permitted g c =
     let line = c.take_turn.new.line in
     permitted c.lawful_histories.ensures (l.table line) (l.opening line) (l.seen line) c.args.self.now c.take_turn.new.self _ _ c.args.sensors c.take_turn.result.motors
     (g.met.L.PlanLine.plan line) (g.met.L.PlanLine.sound line) c.take_turn.ensures.turn c.take_turn.ensures.at
+
+pub returns-clause-careful : goal.returns-clause-careful
+returns-clause-careful g c =
+    careful c.args.self.now c.take_turn.new.self _ _ c.args.sensors c.take_turn.result.motors c.take_turn.ensures.turn

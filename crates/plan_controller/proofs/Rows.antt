@@ -1,0 +1,42 @@
+-- Literal outcomes and turns.
+use Rattle.std.proofs.Common.{◌≡◌, ℕ, Option, Some, None, refl}
+use Rattle.plan_types.specs.declared.posture.Posture.TheVariants.{OpenIn}
+use Rattle.plan_types.specs.declared.call.Call.TheVariants.{Claim, Yield}
+use Rattle.plan_types.specs.declared.answer.Answer.TheVariants.{Done, Shown, Refused}
+use Rattle.plan_types.specs.declared.answer.Refusal.TheVariants.{Held, Worn}
+use Rattle.plan_controller.specs.declared.outcome.Outcome.TheVariants.{Stays, GoesOn, Stops}
+use Rattle.plan_controller.specs.Examples.{OutcomesAreRight, TurnsAreRight}
+
+pub outcomes_are_right : OutcomesAreRight
+outcomes_are_right = record { done = refl; not_made = refl; shown = refl; mine = refl; with_plate = refl; others = refl; nobodys = refl; not_asked = refl; held = (refl, refl); shut = (refl, refl); not_owner = (refl, refl); plate_in_zone = (refl, refl); no_plate = (refl, refl); place_full = (refl, refl); wrong_way = (refl, refl); stopped = (refl, refl); not_party = (refl, refl); already_mine = (refl, refl); jump = (refl, refl); no_pose = (refl, refl); worn = (refl, refl); not_stopped = (refl, refl); first = refl; second_alone = refl; second = refl; last = refl; none = refl; past_the_last = refl }
+
+one_zero : 1 ≡ 0 → ⊥
+one_zero e = cc
+
+zero_one : 0 ≡ 1 → ⊥
+zero_one e = cc
+
+claim_yield : Claim 0 ≡ Yield 0 → ⊥
+claim_yield e = cc
+
+pub turns_are_right : TurnsAreRight
+turns_are_right = record {
+  claims = (GoesOn, (Some Done, (refl, refl), refl, refl), refl);
+  refused = (Stays, (Some (Refused (Held 0)), (refl, refl), refl, refl), refl);
+  stops = (Stops Worn, (Some (Refused Worn), (refl, refl), refl, refl), refl);
+  busy = (Stays, (None, (refl, refl), refl, refl), refl);
+  runs = (Stays, (tt, refl, refl), refl);
+  other_sensor = (Stays, (tt, refl, refl), refl);
+  ends = (GoesOn, (tt, refl, refl), refl);
+  waits = (Stays, (Some (Shown (Some 0) false OpenIn), (refl, refl), refl, refl), refl);
+  owns = (GoesOn, (Some (Shown (Some 1) false OpenIn), (refl, refl), refl, refl), refl);
+  unread = (tt, refl, refl);
+  stopped = (tt, refl, refl);
+  no_program = (Stays, (tt, refl, refl), refl);
+  not_on = λ x. one_zero x.1.1;
+  not_off = λ x. zero_one x.1.1;
+  not_asked = λ call answer x. absurd x.1.0;
+  not_silent = λ x. absurd x.1.1;
+  other_call = λ x. claim_yield x.1.1.0;
+  lines = refl;
+}
