@@ -28,7 +28,7 @@ use Rattle.plan_controller.specs.declared.outcome.Outcome.{Outcome}
 use Rattle.plan_controller.specs.declared.outcome.Outcome.TheVariants as outcome
 use Rattle.plan_controller.specs.Steps.{line_of, may_mend, after_refusal, after_call, after_inquiry}
 use Rattle.plan_controller.specs.Seen.{event, SeesOthers, SeesAnswer, SeenAfter}
-use Rattle.plan_controller.specs.Turns.{Control, step_in, program_in, next_place, place_after}
+use Rattle.plan_controller.specs.Turns.{Control, step_in, program_in, next_place, place_after, RoundsBeginAnywhere}
 
 -- ---- what leaves a machine where it is
 
@@ -87,6 +87,9 @@ refused_at t s h c r at = by (may_mend r)
     by : (b : Bool) → At t s h c (place_after c (if b then outcome.Stays else outcome.Stops r))
     by true = at
     by false = at
+
+pub begins_anywhere : RoundsBeginAnywhere
+begins_anywhere t s h c first = subst (At t s h c) (sym first) (courses_go_on t s h c.machine (program_in c)).begins
 
 -- ---- a call, an inquiry, a run
 

@@ -1,5 +1,5 @@
 -- Literal outcomes and turns.
-use Rattle.std.proofs.Common.{◌≡◌, ℕ, Option, Some, None, refl}
+use Rattle.std.proofs.Common.{◌≡◌, ℕ, false, Option, Some, None, refl}
 use Rattle.plan_types.specs.declared.posture.Posture.TheVariants.{OpenIn}
 use Rattle.plan_types.specs.declared.call.Call.TheVariants.{Claim, Yield}
 use Rattle.plan_types.specs.declared.answer.Answer.TheVariants.{Done, Shown, Refused}
@@ -10,10 +10,10 @@ use Rattle.plan_controller.specs.Examples.{OutcomesAreRight, TurnsAreRight}
 pub outcomes_are_right : OutcomesAreRight
 outcomes_are_right = record { done = refl; not_made = refl; shown = refl; mine = refl; with_plate = refl; others = refl; nobodys = refl; not_asked = refl; held = (refl, refl); shut = (refl, refl); not_owner = (refl, refl); plate_in_zone = (refl, refl); no_plate = (refl, refl); place_full = (refl, refl); wrong_way = (refl, refl); stopped = (refl, refl); not_party = (refl, refl); already_mine = (refl, refl); jump = (refl, refl); no_pose = (refl, refl); worn = (refl, refl); not_stopped = (refl, refl); first = refl; second_alone = refl; second = refl; last = refl; none = refl; past_the_last = refl }
 
-one_zero : 1 ≡ 0 → ⊥
+one_zero : ◌≡◌ {A = ℕ} 1 0 → ⊥
 one_zero e = cc
 
-zero_one : 0 ≡ 1 → ⊥
+zero_one : ◌≡◌ {A = ℕ} 0 1 → ⊥
 zero_one e = cc
 
 claim_yield : Claim 0 ≡ Yield 0 → ⊥

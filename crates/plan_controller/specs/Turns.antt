@@ -1,6 +1,6 @@
 -- A controller, what a turn does, and what holds of the motors that it turns on.
-use Rattle.std.specs.Prelude.{◌≡◌, ◌≢◌, ℕ, ◌+◌, nat_lt, List, length, map, slice_get, ◌++◌, ◌⊎◌, Option, Some, None, IsTrue}
-use Rattle.std.specs.Prelude.{false, if◌then◌else◌}
+use Rattle.std.specs.Prelude.{◌≡◌, ◌≢◌, ℕ, ◌+◌, nat_lt, List, length, map, slice_get, ◌++◌, ◌⊎◌, Option, Some, None}
+use Rattle.std.specs.Prelude.{IsTrue, false, if◌then◌else◌}
 use Rattle.plan_types.specs.declared.call.Call.{Call}
 use Rattle.plan_types.specs.declared.call.Call.TheVariants.{Inquire}
 use Rattle.plan_types.specs.declared.answer.Answer.{Answer}
@@ -57,8 +57,8 @@ advanced c o = record c { place = place_after c o; stopped = stopped_after c o }
 
 -- ---- a turn
 
--- A step is performed, with these motors on, and leads to this. `same` says that the line stays as it is, `asks` that it
--- was asked this call once, and what came back. A call is made with all motors off.
+-- A step is performed, with these motors on, and leads to this. `same` says that the line stays as it is, `asks` that
+-- it was asked this call once, and what came back. A call is made with all motors off.
 abbrev pub Performs : Control → Type 0 → (Call → Option Answer → Type 0) → ℕ → Option Step → ℕ → Outcome → Type 0
 Performs c same asks sensors None motors o = same × (motors ≡ 0) × (o ≡ outcome.Stays)
 Performs c same asks sensors (Some (Do call)) motors o =
@@ -97,8 +97,8 @@ pub record RunsHere (c : Control) (sensors : Option ℕ) (motors : ℕ) (now : C
   pub not_yet : shows read until ≡ false
   pub stays : now.place ≡ c.place
 
--- motors are on only at such a step; a controller that has stopped stays as it is, and so does one whose sensors weren't
--- read, with all motors off; a turn that stops the controller has none on; and a turn makes one step at most
+-- motors are on only at such a step; a controller that has stopped stays as it is, and so does one whose sensors
+-- weren't read, with all motors off; a turn that stops the controller has none on; and a turn makes one step at most
 pub record IsCareful (c : Control) (sensors : Option ℕ) (motors : ℕ) (now : Control) : Type 0 where
   pub runs : motors ≢ 0 → RunsHere c sensors motors now
   pub stopped : (r : Refusal) → c.stopped ≡ Some r → (motors ≡ 0) × (now ≡ c)
@@ -122,3 +122,9 @@ ArePermitted t opening seen c motors =
     (plan : MotorTables) → plan.plan ≡ t → IsDriven plan c.machine (program_in c) → OpensByPoses t opening
     → (more : List Event) → IsLegal t opening (seen ++ more) → Stays more c.machine
     → (i : ℕ) → IsTrue (has_bit motors i) → Permits t (after t opening (seen ++ more)) (motor_at plan.motors i)
+
+-- a round may begin at any moment: who is at the first step is in place, whatever was seen
+abbrev pub RoundsBeginAnywhere : Type 0
+RoundsBeginAnywhere =
+    (t : PlanTable) (opening : State) (seen : List Event) (c : Control) → c.place ≡ 0
+    → IsAt t opening seen c.machine (program_in c) c.place

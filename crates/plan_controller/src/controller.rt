@@ -94,7 +94,8 @@ impl PlanController {
         requires own { L.machine line.old ≡ self.now.machine }
         requires at { IsAtPlace L.table L.opening L.seen line.old self.now self.now.place }
         ensures performs { Performs self.now ((line.new ≡ line.old) × (result.asked ≡ None))
-            (λ call answer. L.asks line.old call answer line.new × (result.asked ≡ Some (call, answer)))
+            (λ call answer. L.asks line.old call answer line.new
+            × (result.asked ≡ Some (call, answer)))
             sensors (turns.step_in self.now) result.motors result.outcome }
         ensures own { L.machine line.new ≡ L.machine line.old }
         ensures table { L.table line.new ≡ L.table line.old }
@@ -151,7 +152,8 @@ impl PlanController {
         requires own { L.machine line.old ≡ self.old.machine }
         requires at { IsAtPlace L.table L.opening L.seen line.old self.old self.old.place }
         ensures turn { Turns self.old ((line.new ≡ line.old) × (result.asked ≡ None))
-            (λ call answer. L.asks line.old call answer line.new × (result.asked ≡ Some (call, answer)))
+            (λ call answer. L.asks line.old call answer line.new
+            × (result.asked ≡ Some (call, answer)))
             sensors result.motors self.new }
         ensures stopped { result.stopped_by ≡ self.new.stopped }
         ensures own { L.machine line.new ≡ L.machine line.old }
@@ -183,7 +185,8 @@ impl PlanController {
         requires own { L.machine line.old ≡ self.old.machine }
         requires at { IsAtPlace L.table L.opening L.seen line.old self.old self.old.place }
         ensures turn { Turns self.old ((line.new ≡ line.old) × (result.asked ≡ None))
-            (λ call answer. L.asks line.old call answer line.new × (result.asked ≡ Some (call, answer)))
+            (λ call answer. L.asks line.old call answer line.new
+            × (result.asked ≡ Some (call, answer)))
             sensors result.motors self.new }
         ensures careful { IsCareful self.old sensors result.motors self.new }
         ensures stopped { result.stopped_by ≡ self.new.stopped }

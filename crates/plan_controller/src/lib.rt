@@ -3,6 +3,7 @@
 
 pub mod controller;
 pub mod examples;
+pub mod laws;
 pub mod line;
 pub mod outcome;
 pub mod step;

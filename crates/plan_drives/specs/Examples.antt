@@ -1,5 +1,5 @@
--- Literal calls at the press and at the lift, and what they tell; programs that run only what they may; and others, with
--- what their first motor lacks that may not run.
+-- Literal calls at the press and at the lift, and what they tell; programs that run only what they may; and others,
+-- with what their first motor lacks that may not run.
 use Rattle.std.specs.Prelude.{◌≡◌, ℕ, true, false, List, [], ◌∷◌, ◌++◌, Some, None}
 use Rattle.plan_types.specs.declared.posture.Posture.TheVariants.{Closed, Moving, OpenIn, OpenOut}
 use Rattle.plan_types.specs.declared.call.Call.TheVariants.{Claim, Give, Yield, Take, Release, SetPose, Inquire, Stop}

@@ -1,7 +1,7 @@
 -- What a machine knows by its own done calls, and by owning what it waited for, whatever the others do. It is written
 -- as a motor: what this motor needs is so.
-use Rattle.std.specs.Prelude.{ℕ, ◌<◌, IsTrue, Bool, true, false, ◌&&◌, ◌||◌, nat_eq, map, replicate, List, [], ◌∷◌, take}
-use Rattle.std.specs.Prelude.{Option, Some, None, if◌then◌else◌}
+use Rattle.std.specs.Prelude.{ℕ, ◌<◌, IsTrue, Bool, true, false, ◌&&◌, ◌||◌, nat_eq, map, replicate, List, [], ◌∷◌}
+use Rattle.std.specs.Prelude.{take, Option, Some, None, if◌then◌else◌}
 use Rattle.std.specs.Option.{option_or, option_eq}
 use Rattle.std.specs.List.{range_with_len}
 use Rattle.plan_types.specs.declared.posture.Posture.{Posture}
@@ -11,8 +11,8 @@ use Rattle.plan_types.specs.Same.{same_posture}
 use Rattle.plan_types.specs.Below.{any_below}
 use Rattle.plan_types.specs.declared.call.Call.{Call}
 use Rattle.plan_types.specs.declared.call.Call.TheVariants.{Claim, Give, Yield, Take, Release, SetPose}
-use Rattle.plan_types.specs.Table.{PlanTable, zone_count, pose_count, zone_row, host_of, guest_of, posture_of, is_hosted}
-use Rattle.plan_types.specs.Table.{is_moving_pose}
+use Rattle.plan_types.specs.Table.{PlanTable, zone_count, pose_count, zone_row, host_of, guest_of, posture_of}
+use Rattle.plan_types.specs.Table.{is_hosted, is_moving_pose}
 use Rattle.plan_rules.specs.declared.state.State.{State}
 use Rattle.plan_rules.specs.State.{posture_at}
 use Rattle.plan_rules.specs.Sound.{is_open}

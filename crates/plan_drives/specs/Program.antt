@@ -1,6 +1,6 @@
 -- Programs with drives, and which of them run only what they may.
-use Rattle.std.specs.Prelude.{◌≡◌, ℕ, ◌<◌, ◌/◌, ◌%◌, ◌^◌, Bool, true, false, ◌&&◌, not, nat_eq, nat_lt, List, length, slice_get}
-use Rattle.std.specs.Prelude.{Option, Some, None, IsTrue}
+use Rattle.std.specs.Prelude.{◌≡◌, ℕ, ◌<◌, ◌/◌, ◌%◌, ◌^◌, Bool, true, false, ◌&&◌, not, nat_eq, nat_lt, List, length}
+use Rattle.std.specs.Prelude.{slice_get, Option, Some, None, IsTrue}
 use Rattle.std.specs.Option.{option_eq}
 use Rattle.plan_types.specs.declared.posture.Posture.{Posture}
 use Rattle.plan_types.specs.Table.{PlanTable, zone_count, place_count}

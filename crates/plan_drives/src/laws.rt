@@ -80,7 +80,8 @@ pub fn who_has_come_is_there(
     ensures { IsAt plan.now opening.now history.now machine program.now line }
 {}
 
-/// How a machine goes on in its program, event by event: what takes it to the next line, and what leaves it where it is.
+/// How a machine goes on in its program, event by event: what takes it to the next line, and what leaves it where it
+/// is.
 pub fn courses_go_on(
     plan: &Plan,
     machine: u8,
@@ -128,7 +129,8 @@ pub fn hazards_are_never_driven(
     requires opens { OpensByPoses plan.now.plan opening.now }
     requires legal { IsLegal plan.now.plan opening.now history.now }
     requires runs { IsRunning plan.now.plan opening.now history.now machine program.now motor }
-    ensures { ¬ IsRunning plan.now.plan opening.now history.now other other_program.now other_motor }
+    ensures { ¬ IsRunning plan.now.plan opening.now history.now other other_program.now
+        other_motor }
 {
     let _ = plan.plan().machines();
     lawful_histories();
