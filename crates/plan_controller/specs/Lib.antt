@@ -1,4 +1,5 @@
 pub mod Steps
 pub mod Seen
 pub mod Turns
+pub mod Wiring
 pub mod Examples

@@ -7,8 +7,10 @@ pub mod laws;
 pub mod line;
 pub mod outcome;
 pub mod step;
+pub mod wired;
 
 pub use controller::{PlanController, TakenTurn};
 pub use line::PlanLine;
 pub use outcome::Outcome;
 pub use step::{Step, lines_of};
+pub use wired::PlanWired;

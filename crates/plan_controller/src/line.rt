@@ -33,6 +33,10 @@ pub trait PlanLine {
     // What else holds of a call: the line before it, the call, what came back, the line after it.
     ghost asks: { Self → Call → Option Answer → Self → Type 0 };
 
+    /// The machine that calls.
+    fn machine(&self) -> u8
+        ensures { result ≡ machine self.now };
+
     /// Makes one call. `None` if it wasn't made, as by an interlock that is busy.
     fn ask(&mut self, call: Call) -> Option<Answer>
         ensures asks { asks self.old call result self.new }
