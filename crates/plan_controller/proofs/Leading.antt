@@ -1,5 +1,5 @@
 -- Where a turn leads, by what the line has seen.
-use Rattle.std.proofs.Common.{◌≡◌, ℕ, ◌+◌, ◌<◌, Bool, true, false, ◌&&◌, nat_eq, nat_lt, cond, if◌then◌else◌, Option, Some, None, List, [], ◌∷◌, ◌++◌, map, length, zero, suc, refl, sym, ap, ◌∙◌, subst, IsTrue}
+use Rattle.std.proofs.Common.{◌≡◌, ℕ, ◌+◌, Bool, true, false, ◌&&◌, nat_eq, nat_lt, cond, if◌then◌else◌, Option, Some, None, List, [], ◌∷◌, ◌++◌, map, length, zero, suc, refl, sym, ap, subst, IsTrue}
 use Rattle.std.specs.Prelude.{slice_get}
 use Rattle.std.proofs.lemmas.List.Elements.{All-nil, All-cons}
 use Rattle.plan_types.specs.declared.posture.Posture.{Posture}
@@ -11,11 +11,9 @@ use Rattle.plan_types.specs.declared.answer.Refusal.{Refusal}
 use Rattle.plan_types.specs.declared.answer.Event.{Event}
 use Rattle.plan_types.specs.Table.{PlanTable}
 use Rattle.plan_rules.specs.declared.state.State.{State}
-use Rattle.plan_rules.specs.Refusals.{owns}
 use Rattle.plan_rules.specs.Reply.{reply, next}
 use Rattle.plan_rules.specs.Sound.{is_owned_by}
 use Rattle.plan_rules.specs.History.{after, IsLegal, is_done, is_done_answer, own_events}
-use Rattle.plan_rules.specs.Laws.{done}
 use Rattle.plan_rules.proofs.lemmas.Zones.{owner_is}
 use Rattle.plan_rules.proofs.lemmas.Soundness.{never_done}
 use Rattle.plan_drives.specs.declared.line.Line.{Line}
@@ -24,7 +22,6 @@ use Rattle.plan_drives.specs.Course.{is_done_by, Stays, IsAt}
 use Rattle.plan_drives.proofs.lemmas.Going.{courses_go_on, shown_owns}
 use Rattle.plan_controller.specs.declared.step.Step.{Step}
 use Rattle.plan_controller.specs.declared.step.Step.TheVariants.{Do, Await, Run}
-use Rattle.plan_controller.specs.declared.outcome.Outcome.{Outcome}
 use Rattle.plan_controller.specs.declared.outcome.Outcome.TheVariants as outcome
 use Rattle.plan_controller.specs.Steps.{line_of, may_mend, after_refusal, after_call, after_inquiry}
 use Rattle.plan_controller.specs.Seen.{event, SeesOthers, SeesAnswer, SeenAfter}
@@ -116,8 +113,10 @@ shown_at t s before now c z owner flag posture legal is seen at = by (is_owned_b
   where
     there : At t s seen.point c c.place
     there = point_at t s before seen.point c c.place seen.sees at
+
     e : Event
     e = event c.machine (Inquire z) (Shown owner flag posture)
+
     by : (b : Bool) → is_owned_by owner c.machine ≡ b → At t s now c (place_after c (if b then outcome.GoesOn else outcome.Stays))
     by false own = event_at t s seen.point now c c.place (Inquire z) (Shown owner flag posture) refl seen.ends there
     by true own =

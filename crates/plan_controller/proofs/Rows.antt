@@ -1,5 +1,5 @@
 -- Literal outcomes and turns.
-use Rattle.std.proofs.Common.{◌≡◌, ℕ, false, Option, Some, None, refl}
+use Rattle.std.proofs.Common.{◌≡◌, ℕ, false, Some, None, refl}
 use Rattle.plan_types.specs.declared.posture.Posture.TheVariants.{OpenIn}
 use Rattle.plan_types.specs.declared.call.Call.TheVariants.{Claim, Yield}
 use Rattle.plan_types.specs.declared.answer.Answer.TheVariants.{Done, Shown, Refused}

@@ -1,5 +1,5 @@
 -- What literal answers and sensors lead to, and literal turns of a small program of the press.
-use Rattle.std.specs.Prelude.{◌≡◌, ◌≢◌, ⊤, ℕ, true, false, List, [], ◌∷◌, Option, Some, None}
+use Rattle.std.specs.Prelude.{◌≡◌, ⊤, ℕ, true, false, List, [], ◌∷◌, Option, Some, None}
 use Rattle.plan_types.specs.declared.posture.Posture.TheVariants.{Closed, Moving, OpenIn}
 use Rattle.plan_types.specs.declared.call.Call.{Call}
 use Rattle.plan_types.specs.declared.call.Call.TheVariants.{Claim, SetPose, Inquire, Yield}
@@ -14,8 +14,8 @@ use Rattle.plan_controller.specs.declared.step.Step.{Step}
 use Rattle.plan_controller.specs.declared.step.Step.TheVariants.{Do, Await, Run}
 use Rattle.plan_controller.specs.declared.outcome.Outcome.{Outcome}
 use Rattle.plan_controller.specs.declared.outcome.Outcome.TheVariants.{Stays, GoesOn, Stops}
-use Rattle.plan_controller.specs.Steps.{line_of, shows, after_call, after_inquiry}
-use Rattle.plan_controller.specs.Turns.{Control, control, Turns, next_place, program_in}
+use Rattle.plan_controller.specs.Steps.{shows, after_call, after_inquiry}
+use Rattle.plan_controller.specs.Turns.{Control, control, Turns, program_in}
 
 abbrev pub refusal_leads : Refusal → Outcome → Type 0
 refusal_leads r o = (after_call (Some (Refused r)) ≡ o) × (after_inquiry 1 (Some (Refused r)) ≡ o)

@@ -15,7 +15,7 @@ use Rattle.plan_motors.specs.MotorPlan.{MotorTables}
 use Rattle.plan_drives.specs.declared.line.Line.{Line}
 use Rattle.plan_drives.specs.Facts.{OpensByPoses}
 use Rattle.plan_drives.specs.Program.{has_bit, IsDriven}
-use Rattle.plan_drives.specs.Course.{Stays, IsAt}
+use Rattle.plan_drives.specs.Course.{Stays, IsAt, IsRunning}
 use Rattle.plan_controller.specs.declared.step.Step.{Step}
 use Rattle.plan_controller.specs.declared.step.Step.TheVariants.{Do, Await, Run}
 use Rattle.plan_controller.specs.declared.outcome.Outcome.{Outcome}
@@ -114,6 +114,11 @@ pub record IsCareful (c : Control) (sensors : Option ℕ) (motors : ℕ) (now : 
 abbrev pub IsAtPlace : {L : Type 0} → (L → PlanTable) → (L → State) → (L → List Event) → L → Control → ℕ → Type 0
 IsAtPlace table opening seen line c place =
     IsAt (table line) (opening line) (seen line) c.machine (program_in c) place
+
+-- each motor that is on is one that the machine is running, at a line of its program, by all that was seen
+abbrev pub AreRunning : PlanTable → State → List Event → Control → ℕ → Type 0
+AreRunning t opening seen c motors =
+    (i : ℕ) → IsTrue (has_bit motors i) → IsRunning t opening seen c.machine (program_in c) i
 
 -- Where the program runs only what it may, by a plan with its motors, each motor that is on is permitted after all that
 -- was seen, and after whatever then happens until a next call of the machine is done.

@@ -1,7 +1,7 @@
 //! The controller that goes through any machine's program, a step a turn.
 ghost use Rattle.std.specs.Prelude.{◌≡◌, None, Some, zero};
 ghost use Rattle.plan_controller.specs.Turns as turns;
-ghost use Rattle.plan_controller.specs.Turns.{Performs, Turns, IsCareful, IsAtPlace, ArePermitted};
+ghost use Rattle.plan_controller.specs.Turns.{Performs, Turns, IsCareful, IsAtPlace, ArePermitted, AreRunning};
 
 use crate::line::PlanLine;
 use crate::outcome::{Outcome, after_call, after_inquiry};
@@ -131,7 +131,11 @@ impl PlanController {
                 Performed {
                     asked: None,
                     motors: if ends { 0 } else { motors },
-                    outcome: if ends { Outcome::GoesOn } else { Outcome::Stays },
+                    outcome: if ends {
+                        Outcome::GoesOn
+                    } else {
+                        Outcome::Stays
+                    },
                 }
             }
         }
@@ -194,6 +198,8 @@ impl PlanController {
         ensures table { L.table line.new ≡ L.table line.old }
         ensures opening { L.opening line.new ≡ L.opening line.old }
         ensures at { IsAtPlace L.table L.opening L.seen line.new self.new self.new.place }
+        ensures running { AreRunning (L.table line.new) (L.opening line.new) (L.seen line.new)
+            self.new result.motors }
         ensures permitted { ArePermitted (L.table line.new) (L.opening line.new) (L.seen line.new)
             self.new result.motors }
     {

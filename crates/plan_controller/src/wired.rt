@@ -1,7 +1,7 @@
 //! A controller at the end of its line.
 ghost use Rattle.std.specs.Prelude.{◌≡◌, None, Some};
 ghost use Rattle.plan_controller.specs.Turns as turns;
-ghost use Rattle.plan_controller.specs.Turns.{Turns, IsCareful, ArePermitted};
+ghost use Rattle.plan_controller.specs.Turns.{Turns, IsCareful, ArePermitted, AreRunning};
 
 use crate::controller::{PlanController, TakenTurn};
 use crate::laws::rounds_begin_anywhere;
@@ -57,6 +57,8 @@ impl<L: PlanLine> PlanWired<L> {
         ensures own { L.machine self.new.line ≡ L.machine self.old.line }
         ensures table { L.table self.new.line ≡ L.table self.old.line }
         ensures opening { L.opening self.new.line ≡ L.opening self.old.line }
+        ensures running { AreRunning (L.table self.new.line) (L.opening self.new.line)
+            (L.seen self.new.line) self.new.control result.motors }
         ensures permitted { ArePermitted (L.table self.new.line) (L.opening self.new.line)
             (L.seen self.new.line) self.new.control result.motors }
     {

@@ -200,18 +200,18 @@ motor_lacks plan known i lack e =
           let found = first_below_some (λ y. place_lack y (place_need known y) (place_need motor y)) (place_count t) lack h in
           place_lacks plan known i found.0 lack (place_need motor found.0) found.1 refl found.2
       | inl g ↦ elim (some_of (option_or there own) zones lack g) [
+        | inr h ↦
+            let found = first_below_some (λ y. zone_lack y (need_of known y) (need_of motor y)) (zone_count t) lack h in
+            zone_lacks plan known i found.0 lack found.1 found.2
+        | inl f ↦ elim (some_of there own lack f) [
+          | inl h ↦
+              let is = then_is (not (nat_lt i (length plan.motors))) NoSuchMotor lack h in
+              subst (Lacks plan known i) is.1 (ltb-false i (length plan.motors) (not_is (nat_lt i (length plan.motors)) is.0))
           | inr h ↦
-              let found = first_below_some (λ y. zone_lack y (need_of known y) (need_of motor y)) (zone_count t) lack h in
-              zone_lacks plan known i found.0 lack found.1 found.2
-          | inl f ↦ elim (some_of there own lack f) [
-              | inl h ↦
-                  let is = then_is (not (nat_lt i (length plan.motors))) NoSuchMotor lack h in
-                  subst (Lacks plan known i) is.1 (ltb-false i (length plan.motors) (not_is (nat_lt i (length plan.motors)) is.0))
-              | inr h ↦
-                  let is = then_is (not (nat_eq motor.machine known.machine)) (OtherMachine motor.machine) lack h in
-                  subst (Lacks plan known i) is.1 (refl, λ same. not_true (nat_eq motor.machine known.machine) is.0 (eq-eqb motor.machine known.machine same))
-            ]
+              let is = then_is (not (nat_eq motor.machine known.machine)) (OtherMachine motor.machine) lack h in
+              subst (Lacks plan known i) is.1 (refl, λ same. not_true (nat_eq motor.machine known.machine) is.0 (eq-eqb motor.machine known.machine same))
         ]
+      ]
     ]
   where
     not_is : (b : Bool) → not b ≡ true → b ≡ false
@@ -255,6 +255,7 @@ lacks_not_known plan known i (NotInPosture z needed told) x (l, b) =
     same OpenOut Closed e = cc
     same OpenOut Moving e = cc
     same OpenOut OpenIn e = cc
+
     is_needed : (known : Option Posture) (needed : Posture) → option_eq same_posture known (Some needed) ≡ true → known ≡ Some needed
     is_needed None needed e = cc
     is_needed (Some q) needed e = same q needed e
@@ -355,6 +356,7 @@ at_some plan m program k u e = by (slice_get program k) refl e
   where
     known : Motor
     known = facts_at plan.plan m program k
+
     by : (o : Option Line) → slice_get program k ≡ o → undriven_of plan known k o ≡ Some u → (u.line ≡ k) × IsUndriven plan m program u
     by None is e = cc
     by (Some line) is e =

@@ -82,13 +82,7 @@ pub fn who_has_come_is_there(
 
 /// How a machine goes on in its program, event by event: what takes it to the next line, and what leaves it where it
 /// is.
-pub fn courses_go_on(
-    plan: &Plan,
-    machine: u8,
-    program: &[Line],
-    opening: &State,
-    history: &[Event],
-)
+pub fn courses_go_on(plan: &Plan, machine: u8, program: &[Line], opening: &State, history: &[Event])
     ensures { CoursesGoOn plan.now opening.now history.now machine program.now }
 {}
 
