@@ -1,4 +1,5 @@
 mod Inputs
+mod Failures
 mod Sizes
 mod Screens
 mod WordRows
@@ -9,6 +10,7 @@ mod ReportsTold
 mod GoingRows
 mod InputRows
 mod ScreenRows
+mod FailedRows
 mod Verdicts
 mod Found
 mod HazardRows

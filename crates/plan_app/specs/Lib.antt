@@ -10,6 +10,7 @@ pub mod Leads
 pub mod Hazards
 pub mod Screens
 pub mod Served
+pub mod Failed
 pub mod WordExamples
 pub mod StarvingExamples
 pub mod SizeExamples
@@ -18,3 +19,4 @@ pub mod GoingExamples
 pub mod HazardExamples
 pub mod InputExamples
 pub mod ScreenExamples
+pub mod FailedExamples

@@ -1,5 +1,6 @@
 //! Laws of what is printed, each the contract of a function that does nothing.
 
+ghost use Rattle.plan_app.specs.FailedExamples.{FailedIsMeant, FaultLines};
 ghost use Rattle.plan_app.specs.GoingExamples.{EventLines, MachinesAreTold, WalksAreTold};
 ghost use Rattle.plan_app.specs.HazardExamples.{AreKept, HazardLines, KeptMotorsAreNeverBoth, LeadLines};
 ghost use Rattle.plan_app.specs.InputExamples.{InputsAreSplit, RequestsAreRead, WordsAreMade};
@@ -106,6 +107,16 @@ pub fn answers_are_meant()
 /// Of an input with a document and a script: what was written of them.
 pub fn served_is_meant()
     ensures { ServedIsMeant }
+{}
+
+/// Examples: what was written of the line of a fault, and which words are of a document's fault.
+pub fn fault_lines_are_met()
+    ensures { FaultLines }
+{}
+
+/// Of a run that failed: what was written is a fault's line, or what was asked for, by the plan of the input.
+pub fn failed_is_meant()
+    ensures { FailedIsMeant }
 {}
 
 /// Examples: how many situations small programs come to, by what `is_large` ensures.

@@ -1,18 +1,25 @@
 //! What the program `plan` does.
-ghost use Rattle.std.specs.Prelude.{◌≡◌, ◌≢◌, ◌≤◌, ℕ, List, true, Some, None, IfOk, IfSome, codes, length};
+ghost use Rattle.std.specs.Prelude.{◌≡◌, ◌≢◌, ◌<◌, ◌≤◌, ◌⊎◌, ℕ, List, true, Some, None, IfOk};
+ghost use Rattle.std.specs.Prelude.{IfSome, codes, length};
 ghost use Rattle.std.specs.Io.KnownBytes.{Appends};
 ghost use Rattle.text_io.specs.Input.{TakesAtMost};
 ghost use Rattle.text_io.specs.Output.{WrotePrefix};
+ghost use Rattle.csv_rows.specs.ScriptEnd.{fault_text};
 ghost use Rattle.program_shell.specs.Printed.{Prints};
 ghost use Rattle.program_shell.specs.Versions.{version_line};
 ghost use Rattle.program_shell.specs.Words.{texts_of};
 ghost use Rattle.plan_app.specs.Hazards as hazards;
 ghost use Rattle.plan_header.specs.Headers.{header_text};
 ghost use Rattle.plan_header.specs.Modules.{module_text};
+ghost use Rattle.plan_app.specs.Failed.{Fails, FailsBy, FailsIn, WroteAnswers, WroteDocumentFault};
+ghost use Rattle.plan_app.specs.Failed.{WroteEnd, WroteEndFrom, WroteFault, WroteHeader};
+ghost use Rattle.plan_app.specs.Failed.{WroteModule, WroteReport, WroteReportFrom, WroteScreen};
+ghost use Rattle.plan_app.specs.Failed.{WroteUnread};
 ghost use Rattle.plan_app.specs.Input.{byte_limit, max_bytes_read};
 ghost use Rattle.plan_app.specs.Served.{AnswersIn, AnswersInput, AnswersScript, FindsFree};
 ghost use Rattle.plan_app.specs.Served.{FindsFreeIn, FindsInputFree, Reports, ReportsIn};
-ghost use Rattle.plan_app.specs.Served.{WritesFree, WritesHeader, WritesHeaderIn, WritesModule, WritesModuleIn, WritesReport};
+ghost use Rattle.plan_app.specs.Served.{WritesFree, WritesHeader, WritesHeaderIn, WritesModule};
+ghost use Rattle.plan_app.specs.Served.{WritesModuleIn, WritesReport};
 ghost use Rattle.plan_app.specs.Requests.{request_of};
 
 use crate::explore::{Screen, screen_of};
@@ -21,14 +28,13 @@ use crate::input::{MAX_BYTES, plan_length};
 use crate::request;
 use crate::request::Request;
 use crate::size::{MAX_SITUATIONS, is_large};
-use plan_document::{ProgrammedPlan, plan_of};
+use plan_document::{PlanTextFault, ProgrammedPlan, plan_of};
 use plan_header::{header_of, module_of};
 use plan_rules::State;
 use plan_text::{NamedPlan, Outcome, ScriptAnswers, ScriptFault, answer_script, start_of_script};
 use program_shell::{Exit, fail, print, print_version, refuse_words, with_texts};
 use std::alloc::{AllocError, Global};
 use std::env::Env;
-use std::fmt::Display;
 use std::io::{Read, Write};
 use text_io::{InputFault, read_up_to};
 
@@ -64,6 +70,8 @@ const OTHER_WORDS: &str =
 fn read_input<R: Read>(alloc: Global, reader: &mut R) -> Result<Vec<u8>, InputFault>
     ensures whole { IfOk result (λ input. length input.items ≤ byte_limit →
         IfSome (R.remaining reader.old) (λ bytes. input.items ≡ bytes)) }
+    ensures long { IfOk result (λ input. byte_limit < length input.items →
+        IfSome (R.remaining reader.old) (λ bytes. byte_limit < length bytes)) }
     ensures read { TakesAtMost (R.remaining reader.old) (R.remaining reader.new) max_bytes_read }
 {
     read_up_to(alloc, reader, MAX_BYTES + 1)
@@ -71,7 +79,8 @@ fn read_input<R: Read>(alloc: Global, reader: &mut R) -> Result<Vec<u8>, InputFa
 
 /// Prints that the input wasn't read.
 fn fail_to_read<W: Write>(writer: &mut W, fault: InputFault) -> Exit
-    ensures { result ≡ Exit.Failed }
+    ensures status { result ≡ Exit.Failed }
+    ensures line { WroteUnread (W.contents writer.old) (W.contents writer.new) }
 {
     match fault {
         InputFault::Read => fail(writer, "read"),
@@ -79,13 +88,30 @@ fn fail_to_read<W: Write>(writer: &mut W, fault: InputFault) -> Exit
     }
 }
 
-/// Prints the line of a fault that says where it is.
-fn fail_as<W: Write, D: Display + Drop>(alloc: Global, writer: &mut W, fault: D) -> Exit
-    ensures { result ≡ Exit.Failed }
+/// Prints the line of a fault of a script's start.
+fn refuse_start<W: Write>(alloc: Global, writer: &mut W, fault: ScriptFault) -> Exit
+    ensures status { result ≡ Exit.Failed }
+    ensures line { WroteUnread (W.contents writer.old) (W.contents writer.new)
+        ⊎ WroteFault (fault_text fault) (W.contents writer.old) (W.contents writer.new) }
 {
     match format!(in alloc; "{fault}") {
-        Ok(text) => fail(writer, text.as_str()),
+        Ok(words) => fail(writer, words.as_str()),
         Err(AllocError) => fail(writer, "memory"),
+    }
+}
+
+/// What the words of a document's fault begin with.
+const OF_DOCUMENT: &[u8] = b"plan ";
+
+/// Prints the line of a document's fault, which says where it is. What isn't of the document is that memory ran out.
+fn refuse_document<W: Write>(alloc: Global, writer: &mut W, fault: PlanTextFault) -> Exit
+    ensures status { result ≡ Exit.Failed }
+    ensures line { WroteUnread (W.contents writer.old) (W.contents writer.new)
+        ⊎ WroteDocumentFault (W.contents writer.old) (W.contents writer.new) }
+{
+    match format!(in alloc; "{fault}") {
+        Ok(words) if words.as_bytes().starts_with(OF_DOCUMENT) => fail(writer, words.as_str()),
+        _ => fail(writer, "memory"),
     }
 }
 
@@ -108,6 +134,8 @@ fn serve_input<R: Read, W: Write>(
         WritesHeader (R.remaining reader.old) (W.contents writer.old) (W.contents writer.new) }
     ensures python { request ≡ Request.Module → result ≡ Exit.Well →
         WritesModule (R.remaining reader.old) (W.contents writer.old) (W.contents writer.new) }
+    ensures failed { result ≡ Exit.Failed → Fails request
+        (R.remaining reader.old) (W.contents writer.old) (W.contents writer.new) }
     ensures read { TakesAtMost (R.remaining reader.old) (R.remaining reader.new) max_bytes_read }
 {
     match read_input(alloc, reader) {
@@ -119,6 +147,8 @@ fn serve_input<R: Read, W: Write>(
 fn serve_bytes<W: Write>(alloc: Global, request: Request, bytes: &[u8], writer: &mut W) -> Exit
     ensures status { result ≢ Exit.Refused }
     ensures short { result ≡ Exit.Well → length bytes.now ≤ byte_limit }
+    ensures long { byte_limit < length bytes.now →
+        WroteFault (codes "long") (W.contents writer.old) (W.contents writer.new) }
     ensures reported { request ≡ Request.Check → result ≡ Exit.Well →
         ReportsIn bytes.now (W.contents writer.old) (W.contents writer.new) }
     ensures answered { request ≡ Request.Replay → result ≡ Exit.Well →
@@ -129,6 +159,8 @@ fn serve_bytes<W: Write>(alloc: Global, request: Request, bytes: &[u8], writer: 
         WritesHeaderIn bytes.now (W.contents writer.old) (W.contents writer.new) }
     ensures python { request ≡ Request.Module → result ≡ Exit.Well →
         WritesModuleIn bytes.now (W.contents writer.old) (W.contents writer.new) }
+    ensures failed { result ≡ Exit.Failed →
+        FailsIn request bytes.now (W.contents writer.old) (W.contents writer.new) }
 {
     if bytes.len() > MAX_BYTES {
         return fail(writer, "long");
@@ -136,7 +168,7 @@ fn serve_bytes<W: Write>(alloc: Global, request: Request, bytes: &[u8], writer: 
     let (document, script) = bytes.split_at(plan_length(bytes));
     match plan_of(alloc, document) {
         Ok(plan) => serve_plan(alloc, request, plan, script, writer),
-        Err(fault) => fail_as(alloc, writer, fault),
+        Err(fault) => refuse_document(alloc, writer, fault),
     }
 }
 
@@ -161,6 +193,9 @@ fn serve_plan<W: Write>(
     ensures python { request ≡ Request.Module → result ≡ Exit.Well →
         Appends (W.contents writer.old) (W.contents writer.new)
         (module_text plan.named plan.motors.names plan.motors.motors.items) }
+    ensures failed { result ≡ Exit.Failed →
+        WroteUnread (W.contents writer.old) (W.contents writer.new)
+        ⊎ FailsBy request plan script.now (W.contents writer.old) (W.contents writer.new) }
 {
     match request {
         Request::Header => print_header(alloc, &plan, writer),
@@ -181,6 +216,9 @@ fn report_script<W: Write>(
     ensures status { result ≢ Exit.Refused }
     ensures reported { result ≡ Exit.Well →
         WritesReport plan.now script.now (W.contents writer.old) (W.contents writer.new) }
+    ensures failed { result ≡ Exit.Failed →
+        WroteUnread (W.contents writer.old) (W.contents writer.new)
+        ⊎ WroteReport plan.now script.now (W.contents writer.old) (W.contents writer.new) }
 {
     match start_of_script(alloc, &plan.named, script) {
         Ok(start) => print_report(alloc, plan, start_if(&start), writer),
@@ -209,6 +247,9 @@ fn print_report<W: Write>(
     ensures reported { result ≡ Exit.Well → (text : List ℕ)
         × hazards.TellsReport plan.now start true text
         × Appends (W.contents writer.old) (W.contents writer.new) text }
+    ensures failed { result ≡ Exit.Failed →
+        WroteUnread (W.contents writer.old) (W.contents writer.new)
+        ⊎ WroteReportFrom plan.now start (W.contents writer.old) (W.contents writer.new) }
 {
     match report_of(alloc, plan, start) {
         Ok(Report::Kept(text)) => print(writer, text.as_bytes()),
@@ -222,6 +263,9 @@ fn print_header<W: Write>(alloc: Global, plan: &ProgrammedPlan, writer: &mut W) 
     ensures header { result ≡ Exit.Well →
         Appends (W.contents writer.old) (W.contents writer.new)
         (header_text plan.now.named plan.now.motors.names plan.now.motors.motors.items) }
+    ensures failed { result ≡ Exit.Failed →
+        WroteUnread (W.contents writer.old) (W.contents writer.new)
+        ⊎ WroteHeader plan.now (W.contents writer.old) (W.contents writer.new) }
 {
     match header_of(alloc, plan) {
         Ok(text) => print(writer, text.as_bytes()),
@@ -234,6 +278,9 @@ fn print_module<W: Write>(alloc: Global, plan: &ProgrammedPlan, writer: &mut W) 
     ensures python { result ≡ Exit.Well →
         Appends (W.contents writer.old) (W.contents writer.new)
         (module_text plan.now.named plan.now.motors.names plan.now.motors.motors.items) }
+    ensures failed { result ≡ Exit.Failed →
+        WroteUnread (W.contents writer.old) (W.contents writer.new)
+        ⊎ WroteModule plan.now (W.contents writer.old) (W.contents writer.new) }
 {
     match module_of(alloc, plan) {
         Ok(text) => print(writer, text.as_bytes()),
@@ -245,6 +292,9 @@ fn replay_script<W: Write>(alloc: Global, named: &NamedPlan, script: &[u8], writ
     ensures status { result ≢ Exit.Refused }
     ensures answered { result ≡ Exit.Well →
         AnswersScript named.now script.now (W.contents writer.old) (W.contents writer.new) }
+    ensures failed { result ≡ Exit.Failed →
+        WroteUnread (W.contents writer.old) (W.contents writer.new)
+        ⊎ WroteAnswers named.now script.now (W.contents writer.old) (W.contents writer.new) }
 {
     match answer_script(alloc, named, script) {
         Ok(answered) => print_answers(writer, &answered),
@@ -261,10 +311,13 @@ fn explore_script<W: Write>(
     ensures status { result ≢ Exit.Refused }
     ensures free { result ≡ Exit.Well →
         FindsFree plan.now script.now (W.contents writer.old) (W.contents writer.new) }
+    ensures failed { result ≡ Exit.Failed →
+        WroteUnread (W.contents writer.old) (W.contents writer.new)
+        ⊎ WroteEnd plan.now script.now (W.contents writer.old) (W.contents writer.new) }
 {
     match start_of_script(alloc, &plan.named, script) {
         Ok(Ok(opening)) => explore_from(alloc, plan, &opening, writer),
-        Ok(Err(fault)) => fail_as(alloc, writer, fault),
+        Ok(Err(fault)) => refuse_start(alloc, writer, fault),
         Err(fault) => fail_to_read(writer, fault),
     }
 }
@@ -278,6 +331,9 @@ fn explore_from<W: Write>(
     ensures status { result ≢ Exit.Refused }
     ensures free { result ≡ Exit.Well → WritesFree plan.now.named plan.now.programs opening.now
         (W.contents writer.old) (W.contents writer.new) }
+    ensures failed { result ≡ Exit.Failed →
+        WroteUnread (W.contents writer.old) (W.contents writer.new)
+        ⊎ WroteEndFrom plan.now opening.now (W.contents writer.old) (W.contents writer.new) }
 {
     match is_large(
         alloc,
@@ -301,6 +357,9 @@ fn print_screen<W: Write>(
     ensures status { result ≢ Exit.Refused }
     ensures free { result ≡ Exit.Well → WritesFree plan.now.named plan.now.programs opening.now
         (W.contents writer.old) (W.contents writer.new) }
+    ensures failed { result ≡ Exit.Failed →
+        WroteUnread (W.contents writer.old) (W.contents writer.new)
+        ⊎ WroteScreen plan.now opening.now (W.contents writer.old) (W.contents writer.new) }
 {
     match screen_of(alloc, plan, opening) {
         Ok(Screen::Free(text)) => print(writer, text.as_bytes()),
@@ -313,7 +372,8 @@ fn print_screen<W: Write>(
 /// Prints what was found of a standstill, of who starves, or of motors that aren't kept apart. That isn't well, whatever
 /// was written.
 fn print_warning<W: Write>(writer: &mut W, text: &str) -> Exit
-    ensures { result ≡ Exit.Failed }
+    ensures status { result ≡ Exit.Failed }
+    ensures line { WrotePrefix (W.contents writer.old) (W.contents writer.new) text.now }
 {
     let _ = print(writer, text.as_bytes());
     Exit::Failed
@@ -325,6 +385,8 @@ fn print_answers<W: Write>(writer: &mut W, answered: &ScriptAnswers) -> Exit
     ensures clean { result ≡ Exit.Well → answered.now.outcome ≡ Outcome.Clean }
     ensures written { result ≡ Exit.Well →
         Appends (W.contents writer.old) (W.contents writer.new) answered.now.text }
+    ensures failed { result ≡ Exit.Failed →
+        WrotePrefix (W.contents writer.old) (W.contents writer.new) answered.now.text }
 {
     let printed = print(writer, answered.text().as_bytes());
     match answered.outcome() {
@@ -365,6 +427,30 @@ pub fn serve<R: Read, W: Write>(alloc: Global, words: &[&str], reader: &mut R, w
         WritesHeader (R.remaining reader.old) (W.contents writer.old) (W.contents writer.new) }
     ensures python { request_of (texts_of words.now) ≡ Some Request.Module → result ≡ 0 →
         WritesModule (R.remaining reader.old) (W.contents writer.old) (W.contents writer.new) }
+
+    // Status 1 says for each of these what was written, of which the writer may have taken but a prefix: the line of a
+    // fault; or, by the plan of the document in the input, what follows.
+    // With `replay`: the answers to the script.
+    ensures replay_fails { request_of (texts_of words.now) ≡ Some Request.Replay → result ≡ 1 →
+        Fails Request.Replay (R.remaining reader.old)
+        (W.contents writer.old) (W.contents writer.new) }
+
+    // With `explore`: a standstill, which turns from the script's start lead to, or that there is none, and what
+    // explorations answer of machines and plates.
+    ensures explore_fails { request_of (texts_of words.now) ≡ Some Request.Explore → result ≡ 1 →
+        Fails Request.Explore (R.remaining reader.old)
+        (W.contents writer.old) (W.contents writer.new) }
+
+    // With `check`: its report. With `header`: its header, or with `header --python` its module.
+    ensures check_fails { request_of (texts_of words.now) ≡ Some Request.Check → result ≡ 1 →
+        Fails Request.Check (R.remaining reader.old)
+        (W.contents writer.old) (W.contents writer.new) }
+    ensures header_fails { request_of (texts_of words.now) ≡ Some Request.Header → result ≡ 1 →
+        Fails Request.Header (R.remaining reader.old)
+        (W.contents writer.old) (W.contents writer.new) }
+    ensures python_fails { request_of (texts_of words.now) ≡ Some Request.Module → result ≡ 1 →
+        Fails Request.Module (R.remaining reader.old)
+        (W.contents writer.old) (W.contents writer.new) }
 
     // Status 2 comes exactly for other words, of which a line was printed, or a prefix of it.
     ensures refused { result ≡ 2 → request_of (texts_of words.now) ≡ None }

@@ -1,5 +1,6 @@
 use Rattle.plan_document.specs.Reading.{IsPlanIn}
 use Rattle.plan_app.specs.Input.{document_in}
+use Rattle.plan_app.proofs.Failures.{by_plan}
 use Rattle.plan_app.proofs.serve.serve_bytes.Goals as goal
 
 pub returns-in-Ok-clause-reported : goal.returns-in-Ok-clause-reported
@@ -26,3 +27,8 @@ pub returns-in-Ok-clause-python : goal.returns-in-Ok-clause-python
 returns-in-Ok-clause-python g c =
     let is : IsPlanIn (document_in c.args.bytes.now) c.in-Ok.plan = rw (c.split_at.ensures.front, c.plan_length.ensures.length) at c.in-Ok.ensures.plan in
     λ request well. (c.in-Ok.plan, is, c.serve_plan.ensures.python request well)
+
+pub returns-in-Ok-clause-failed : goal.returns-in-Ok-clause-failed
+returns-in-Ok-clause-failed g c =
+    let is : IsPlanIn (document_in c.args.bytes.now) c.in-Ok.plan = rw (c.split_at.ensures.front, c.plan_length.ensures.length) at c.in-Ok.ensures.plan in
+    λ failed. by_plan c.args.request c.args.bytes.now c.in-Ok.plan _ _ is (rw (c.split_at.ensures.back, c.plan_length.ensures.length) at (c.serve_plan.ensures.failed failed))

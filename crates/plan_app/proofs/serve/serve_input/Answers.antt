@@ -1,7 +1,9 @@
 use Rattle.std.proofs.lemmas.Option.{IfSome_then}
-use Rattle.std.proofs.Common.{◌≤◌, length, subst}
+use Rattle.std.proofs.Common.{◌<◌, ◌≤◌, length, subst, sym}
+use Rattle.plan_app.specs.Failed.{FailsIn}
 use Rattle.plan_app.specs.Input.{byte_limit}
 use Rattle.plan_app.specs.Served.{AnswersIn, FindsFreeIn, ReportsIn, WritesHeaderIn, WritesModuleIn}
+use Rattle.plan_app.proofs.Failures.{fails_whole, unread_fails}
 use Rattle.plan_app.proofs.serve.serve_input.Goals as goal
 
 pub returns-in-Ok-clause-reported : goal.returns-in-Ok-clause-reported
@@ -38,3 +40,14 @@ returns-in-Ok-clause-python g c = λ request well.
     IfSome_then (g.R.Read.remaining c.args.reader.now) (c.in-Ok.ensures.whole short)
     (λ read is. subst (λ bytes. WritesModuleIn bytes (g.W.Write.contents c.args.writer.now) (g.W.Write.contents c.serve_bytes.new.writer)) is
     (subst (λ bytes. WritesModuleIn bytes (g.W.Write.contents c.args.writer.now) (g.W.Write.contents c.serve_bytes.new.writer)) c.as_slice.ensures.value (c.serve_bytes.ensures.python request well)))
+
+pub returns-in-Ok-clause-failed : goal.returns-in-Ok-clause-failed
+returns-in-Ok-clause-failed g c = λ failed.
+    let old = g.W.Write.contents c.args.writer.now in
+    let new = g.W.Write.contents c.serve_bytes.new.writer in
+    fails_whole c.args.request c.in-Ok.bytes.items (g.R.Read.remaining c.args.reader.now) old new c.in-Ok.ensures.whole c.in-Ok.ensures.long
+    (λ many. c.serve_bytes.ensures.long (subst (λ bytes. byte_limit < length bytes) (sym c.as_slice.ensures.value) many))
+    (subst (λ bytes. FailsIn c.args.request bytes old new) c.as_slice.ensures.value (c.serve_bytes.ensures.failed failed))
+
+pub returns-in-Err-clause-failed : goal.returns-in-Err-clause-failed
+returns-in-Err-clause-failed g c = λ failed. unread_fails c.args.request _ _ _ c.fail_to_read.ensures.line

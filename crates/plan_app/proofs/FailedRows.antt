@@ -1,0 +1,132 @@
+-- The examples of `fault_lines_are_met`, and the law `failed_is_meant`.
+use Rattle.std.proofs.Common.{◌≡◌, ◌∙◌, ◌<◌, ℕ, Bool, true, false, ◌&&◌, nat_eq, List, [], ◌∷◌, get_or, take, length, codes, Some, Ok, IsTrue, inl, inr, refl, sym, ap, subst, arith}
+use Rattle.std.proofs.lemmas.List.{get_or-take, length-take}
+use Rattle.std.specs.List.{starts_with}
+use Rattle.csv_rows.specs.ScriptEnd.{fault_text}
+use Rattle.csv_rows.specs.declared.script_end.ScriptFault.{ScriptFault}
+use Rattle.csv_rows.specs.declared.script_end.ScriptFault.TheVariants.{NoStart, BadStart, BadRow, Long}
+use Rattle.text_io.specs.Output.{WrotePrefix}
+use Rattle.program_shell.specs.Faults.{fault_line}
+use Rattle.plan_rules.specs.declared.state.State.{State}
+use Rattle.plan_text.specs.Names.{Text}
+use Rattle.plan_text.specs.Script.{script_start}
+use Rattle.plan_document.specs.Reading.{IsPlanIn}
+use Rattle.plan_document.specs.declared.resolving.ProgrammedPlan.{ProgrammedPlan}
+use Rattle.plan_app.specs.Failed.{Fails, FailsBy, IsOfDocument, TellsEnd, WroteEnd, WroteFault, WroteScreen}
+use Rattle.plan_app.specs.FailedExamples.{AreNoFault, FailedIsMeant, FaultLines}
+use Rattle.plan_app.specs.Input.{document_in, script_in}
+use Rattle.plan_app.specs.Sizes.{ComeToMore}
+use Rattle.plan_app.specs.declared.request.Request.{Request}
+use Rattle.plan_app.specs.declared.request.Request.TheVariants.{Explore}
+
+-- a prefix has the bytes of its text
+byte_at : (new text : Text) (k : ℕ) → WrotePrefix (Some []) (Some new) text → k < length new → get_or new k 0 ≡ get_or text k 0
+byte_at new text k (n, is) within =
+    let same : length new ≡ length (take n text) = ap (λ l. length l) is in
+    ap (λ l. get_or l k 0) is ∙ get_or-take n text k 0 (omega (arith, within, same, length-take n text))
+
+-- a line of a fault begins with `f`
+begins : (words new : Text) → AreNoFault new → WroteFault words (Some []) (Some new) → ⊥
+begins words new none wrote =
+    let count = ap (λ l. length l) none.are in
+    let first : get_or new 0 0 ≡ none.first = ap (λ l. get_or l 0 0) none.are in
+    none.other (sym first ∙ byte_at new (fault_line words) 0 wrote (omega (arith, count)))
+
+asked : (request : Request) (bytes new : Text) → AreNoFault new → Fails request (Some bytes) (Some []) (Some new)
+    → (plan : ProgrammedPlan) × IsPlanIn (document_in bytes) plan × FailsBy request plan (script_in bytes) (Some []) (Some new)
+asked request bytes new none (inl wrote) = absurd (begins (codes "long") new none wrote.1)
+asked request bytes new none (inr (inl (inl wrote))) = absurd (begins (codes "read") new none wrote)
+asked request bytes new none (inr (inl (inr wrote))) = absurd (begins (codes "memory") new none wrote)
+asked request bytes new none (inr (inr (inl (words, of, wrote)))) = absurd (begins words new none wrote)
+asked request bytes new none (inr (inr (inr fails))) = fails
+
+explored : (plan : ProgrammedPlan) (script new : Text) → AreNoFault new → WroteEnd plan script (Some []) (Some new)
+    → (opening : State) × (script_start plan.named script ≡ Ok opening) × WroteScreen plan opening (Some []) (Some new)
+explored plan script new none (inl (fault, is, wrote)) = absurd (begins (fault_text fault) new none wrote)
+explored plan script new none (inr (opening, is, inl wrote)) = absurd (begins (codes "large") new none wrote.1)
+explored plan script new none (inr (opening, is, inr wrote)) = (opening, is, wrote)
+
+-- ---- `fault large`
+
+abbrev large : Text
+large = codes "fault large\n"
+
+-- its first byte is `f`, that at 6 is `l`, and that at 7 is `a`
+within : (k : ℕ) → k < 12 → k < length large
+within k few = few
+
+zeroth : (text : Text) → WrotePrefix (Some []) (Some large) text → 102 ≡ get_or text 0 0
+zeroth text wrote = byte_at large text 0 wrote (within 0 (omega arith))
+
+sixth : (text : Text) → WrotePrefix (Some []) (Some large) text → 108 ≡ get_or text 6 0
+sixth text wrote = byte_at large text 6 wrote (within 6 (omega arith))
+
+seventh : (text : Text) → WrotePrefix (Some []) (Some large) text → 97 ≡ get_or text 7 0
+seventh text wrote = byte_at large text 7 wrote (within 7 (omega arith))
+
+both : (a b : Bool) → IsTrue (a && b) → IsTrue a
+both true b k = refl
+both false b k = k
+
+of_document : (words : Text) → IsOfDocument words → WroteFault words (Some []) (Some large) → ⊥
+of_document [] of wrote = let lie : false ≡ true = of in cc
+of_document (w ∷ ws) of wrote =
+    let is : IsTrue (nat_eq 112 w) = both (nat_eq 112 w) (starts_with nat_eq ws (codes "lan ")) of in
+    let e : 108 ≡ w = sixth (fault_line (w ∷ ws)) wrote in
+    let lie : false ≡ true = subst (λ b. IsTrue (nat_eq 112 b)) (sym e) is in cc
+
+of_start : (fault : ScriptFault) → WroteFault (fault_text fault) (Some []) (Some large) → ⊥
+of_start NoStart wrote = let e : 108 ≡ 110 = sixth (fault_line (fault_text NoStart)) wrote in omega (arith, e)
+of_start BadStart wrote = let e : 108 ≡ 98 = sixth (fault_line (fault_text BadStart)) wrote in omega (arith, e)
+of_start (BadRow number) wrote = let e : 108 ≡ 98 = sixth (fault_line (fault_text (BadRow number))) wrote in omega (arith, e)
+of_start Long wrote = let e : 97 ≡ 111 = seventh (fault_line (fault_text Long)) wrote in omega (arith, e)
+
+of_screen : (plan : ProgrammedPlan) (opening : State) (text : Text) → TellsEnd plan opening text → WrotePrefix (Some []) (Some large) text → ⊥
+of_screen plan opening text (inl tells) wrote =
+    let e : 102 ≡ 97 = zeroth text wrote ∙ ap (λ l. get_or l 0 0) tells.told in omega (arith, e)
+of_screen plan opening text (inr (starve, tells)) wrote =
+    let e : 102 ≡ 110 = zeroth text wrote ∙ ap (λ l. get_or l 0 0) tells.told in omega (arith, e)
+
+large_by : (plan : ProgrammedPlan) (script : Text) → WroteEnd plan script (Some []) (Some large)
+    → (opening : State) × (script_start plan.named script ≡ Ok opening) × ComeToMore plan.named.plan plan.programs opening 1000000
+large_by plan script (inl (fault, is, wrote)) = absurd (of_start fault wrote)
+large_by plan script (inr (opening, is, inl wrote)) = (opening, is, wrote.0)
+large_by plan script (inr (opening, is, inr (text, tells, wrote))) = absurd (of_screen plan opening text tells wrote)
+
+is_large : (bytes : Text) → Fails Explore (Some bytes) (Some []) (Some large)
+    → (plan : ProgrammedPlan) × IsPlanIn (document_in bytes) plan
+    × (opening : State) × (script_start plan.named (script_in bytes) ≡ Ok opening)
+    × ComeToMore plan.named.plan plan.programs opening 1000000
+is_large bytes (inl wrote) = let e : 97 ≡ 111 = seventh (fault_line (codes "long")) wrote.1 in absurd (omega (arith, e))
+is_large bytes (inr (inl (inl wrote))) = let e : 108 ≡ 114 = sixth (fault_line (codes "read")) wrote in absurd (omega (arith, e))
+is_large bytes (inr (inl (inr wrote))) = let e : 108 ≡ 109 = sixth (fault_line (codes "memory")) wrote in absurd (omega (arith, e))
+is_large bytes (inr (inr (inl (words, of, wrote)))) = absurd (of_document words of wrote)
+is_large bytes (inr (inr (inr (plan, is, fails)))) =
+    let (opening, begun, more) = large_by plan (script_in bytes) fails in
+    (plan, is, opening, begun, more)
+
+pub failed-meant : FailedIsMeant
+failed-meant = record { asked = asked; explored = explored; large = is_large }
+
+pub fault-lines : FaultLines
+fault-lines = record {
+  whole = (12, refl);
+  in_part = (8, refl);
+  nothing = (0, refl);
+  after = (11, refl);
+  other = λ wrote.
+      let few : 7 < 11 = omega arith in
+      let e : 111 ≡ 97 = byte_at (codes "fault long\n") (fault_line (codes "large")) 7 wrote few in omega (arith, e);
+  bare = λ wrote.
+      let few : 0 < 6 = omega arith in
+      let e : 108 ≡ 102 = byte_at (codes "large\n") (fault_line (codes "large")) 0 wrote few in omega (arith, e);
+  twice = λ wrote.
+      let few : 11 < 22 = omega arith in
+      let e : 102 ≡ 0 = byte_at (codes "fault read\nfault read\n") (fault_line (codes "read")) 11 wrote few in omega (arith, e);
+  of_document = refl;
+  of_input = λ of. let lie : false ≡ true = of in cc;
+  of_start = λ of. let lie : false ≡ true = of in cc;
+  of_size = λ of. let lie : false ≡ true = of in cc;
+  of_planning = λ of. let lie : false ≡ true = of in cc;
+  of_nothing = λ of. let lie : false ≡ true = of in cc;
+}

@@ -1,0 +1,5 @@
+use Rattle.plan_app.proofs.FailedRows.{fault-lines}
+use Rattle.plan_app.proofs.laws.fault_lines_are_met.Goals as goal
+
+pub returns : goal.returns
+returns c = fault-lines

@@ -1,0 +1,114 @@
+-- What the program has written where it ended with status 1, by the plan of the document in its input. Of each text a
+-- prefix was written: as much as the writer took.
+use Rattle.std.specs.Prelude.{◌≡◌, ◌⊎◌, ◌<◌, ℕ, nat_eq, Bool, codes, length, IsTrue, Option, Ok, Err, IfSome}
+use Rattle.std.specs.List.{starts_with}
+use Rattle.text_io.specs.Output.{WrotePrefix}
+use Rattle.program_shell.specs.Faults.{fault_line}
+use Rattle.csv_rows.specs.ScriptEnd.{fault_text}
+use Rattle.csv_rows.specs.declared.script_end.ScriptFault.{ScriptFault}
+use Rattle.plan_rules.specs.declared.state.State.{State}
+use Rattle.plan_text.specs.Names.{Text}
+use Rattle.plan_text.specs.Named.{Named}
+use Rattle.plan_text.specs.Script.{script_answers, script_start}
+use Rattle.plan_document.specs.Reading.{IsPlanIn}
+use Rattle.plan_document.specs.declared.resolving.ProgrammedPlan.{ProgrammedPlan}
+use Rattle.plan_header.specs.Headers.{header_text}
+use Rattle.plan_header.specs.Modules.{module_text}
+use Rattle.plan_app.specs.Hazards.{TellsReport, start_if}
+use Rattle.plan_app.specs.Input.{byte_limit, document_in, script_in}
+use Rattle.plan_app.specs.Screens.{TellsGoing, TellsStandstill}
+use Rattle.plan_app.specs.Sizes.{ComeToMore}
+use Rattle.plan_app.specs.declared.request.Request.{Request}
+use Rattle.plan_app.specs.declared.request.Request.TheVariants.{Explore, Header, Module, Replay}
+
+-- ---- lines of faults
+
+abbrev pub WroteFault : Text → Option Text → Option Text → Type 0
+WroteFault words old new = WrotePrefix old new (fault_line words)
+
+-- reading failed, or memory ran out
+abbrev pub WroteUnread : Option Text → Option Text → Type 0
+WroteUnread old new = WroteFault (codes "read") old new ⊎ WroteFault (codes "memory") old new
+
+-- what the words of a document's fault begin with
+abbrev pub IsOfDocument : Text → Type 0
+IsOfDocument words = IsTrue (starts_with nat_eq words (codes "plan "))
+
+-- the document has a fault
+abbrev pub WroteDocumentFault : Option Text → Option Text → Type 0
+WroteDocumentFault old new = (words : Text) × IsOfDocument words × WroteFault words old new
+
+-- there are more bytes than a plan and a script may have
+abbrev pub WroteLong : Text → Option Text → Option Text → Type 0
+WroteLong bytes old new = (byte_limit < length bytes) × WroteFault (codes "long") old new
+
+-- the script has no start, and why
+abbrev pub WroteStartFault : Named → Text → Option Text → Option Text → Type 0
+WroteStartFault n script old new =
+    (fault : ScriptFault) × (script_start n script ≡ Err fault) × WroteFault (fault_text fault) old new
+
+-- turns lead to more situations than are explored
+abbrev pub WroteLarge : ProgrammedPlan → State → Option Text → Option Text → Type 0
+WroteLarge plan opening old new =
+    ComeToMore plan.named.plan plan.programs opening 1000000 × WroteFault (codes "large") old new
+
+-- ---- by a plan
+
+-- the answers to a script: if it has a fault, they end with its line
+abbrev pub WroteAnswers : Named → Text → Option Text → Option Text → Type 0
+WroteAnswers n script old new = WrotePrefix old new (script_answers n script).text
+
+-- a report, with turns from a start if there is one, and whether the motors of each hazard are kept apart
+abbrev pub WroteReportFrom : ProgrammedPlan → Option State → Option Text → Option Text → Type 0
+WroteReportFrom plan start old new =
+    (kept : Bool) × (text : Text) × TellsReport plan start kept text × WrotePrefix old new text
+
+-- the start is the script's
+abbrev pub WroteReport : ProgrammedPlan → Text → Option Text → Option Text → Type 0
+WroteReport plan script old new = WroteReportFrom plan (start_if (script_start plan.named script)) old new
+
+-- a text shows a standstill, or says that there is none, and whether some machine starves or plates rest
+abbrev pub TellsEnd : ProgrammedPlan → State → Text → Type 0
+TellsEnd plan opening text =
+    TellsStandstill plan.named plan.programs opening text
+    ⊎ ((starve : Bool) × TellsGoing plan.named plan.programs opening starve text)
+
+abbrev pub WroteScreen : ProgrammedPlan → State → Option Text → Option Text → Type 0
+WroteScreen plan opening old new = (text : Text) × TellsEnd plan opening text × WrotePrefix old new text
+
+abbrev pub WroteEndFrom : ProgrammedPlan → State → Option Text → Option Text → Type 0
+WroteEndFrom plan opening old new = WroteLarge plan opening old new ⊎ WroteScreen plan opening old new
+
+-- the start is the script's, if it has one
+abbrev pub WroteEnd : ProgrammedPlan → Text → Option Text → Option Text → Type 0
+WroteEnd plan script old new =
+    WroteStartFault plan.named script old new
+    ⊎ ((opening : State) × (script_start plan.named script ≡ Ok opening) × WroteEndFrom plan opening old new)
+
+abbrev pub WroteHeader : ProgrammedPlan → Option Text → Option Text → Type 0
+WroteHeader plan old new =
+    WrotePrefix old new (header_text plan.named plan.motors.names plan.motors.motors.items)
+
+abbrev pub WroteModule : ProgrammedPlan → Option Text → Option Text → Type 0
+WroteModule plan old new =
+    WrotePrefix old new (module_text plan.named plan.motors.names plan.motors.motors.items)
+
+-- what was asked
+abbrev pub FailsBy : Request → ProgrammedPlan → Text → Option Text → Option Text → Type 0
+FailsBy Replay plan script old new = WroteAnswers plan.named script old new
+FailsBy Explore plan script old new = WroteEnd plan script old new
+FailsBy Header plan script old new = WroteHeader plan old new
+FailsBy Module plan script old new = WroteModule plan old new
+FailsBy _ plan script old new = WroteReport plan script old new
+
+-- ---- by the plan of the document in these bytes
+
+-- there are too many bytes, or reading failed or memory ran out, or the document has a fault; or it has a plan
+abbrev pub FailsIn : Request → Text → Option Text → Option Text → Type 0
+FailsIn request bytes old new =
+    WroteLong bytes old new ⊎ (WroteUnread old new ⊎ (WroteDocumentFault old new
+    ⊎ ((plan : ProgrammedPlan) × IsPlanIn (document_in bytes) plan × FailsBy request plan (script_in bytes) old new)))
+
+-- in the input
+abbrev pub Fails : Request → Option Text → Option Text → Option Text → Type 0
+Fails request input old new = IfSome input (λ bytes. FailsIn request bytes old new)

@@ -1,0 +1,53 @@
+-- What was written where the program failed: the lines of faults, and what a run says of the plan in its input.
+use Rattle.std.specs.Prelude.{◌≡◌, ◌≢◌, ℕ, [], ◌∷◌, codes, Some, Ok}
+use Rattle.plan_rules.specs.declared.state.State.{State}
+use Rattle.plan_text.specs.Names.{Text}
+use Rattle.plan_text.specs.Script.{script_start}
+use Rattle.plan_document.specs.Reading.{IsPlanIn}
+use Rattle.plan_document.specs.declared.resolving.ProgrammedPlan.{ProgrammedPlan}
+use Rattle.plan_app.specs.Failed.{Fails, FailsBy, IsOfDocument, WroteEnd, WroteFault, WroteScreen}
+use Rattle.plan_app.specs.Input.{document_in, script_in}
+use Rattle.plan_app.specs.Sizes.{ComeToMore}
+use Rattle.plan_app.specs.declared.request.Request.{Request}
+use Rattle.plan_app.specs.declared.request.Request.TheVariants.{Explore}
+
+-- these bytes were written of a fault, and nothing before them
+abbrev pub WroteOf : Text → Text → Type 0
+WroteOf words new = WroteFault words (Some []) (Some new)
+
+pub record FaultLines : Type 0 where
+  pub whole : WroteOf (codes "large") (codes "fault large\n")
+  pub in_part : WroteOf (codes "large") (codes "fault la")
+  pub nothing : WroteOf (codes "large") []
+  pub after : WroteFault (codes "read") (Some (codes "a")) (Some (codes "afault read\n"))
+  pub other : ¬ WroteOf (codes "large") (codes "fault long\n")
+  pub bare : ¬ WroteOf (codes "large") (codes "large\n")
+  pub twice : ¬ WroteOf (codes "read") (codes "fault read\nfault read\n")
+  pub of_document : IsOfDocument (codes "plan line 7: machine 2: name: it is missing")
+  pub of_input : ¬ IsOfDocument (codes "read")
+  pub of_start : ¬ IsOfDocument (codes "nostart")
+  pub of_size : ¬ IsOfDocument (codes "large")
+  pub of_planning : ¬ IsOfDocument (codes "planned")
+  pub of_nothing : ¬ IsOfDocument []
+
+-- bytes were written that the line of no fault begins with
+pub record AreNoFault (new : Text) : Type 0 where
+  pub first : ℕ
+  pub rest : Text
+  pub are : new ≡ first ∷ rest
+  pub other : first ≢ 102
+
+pub record FailedIsMeant : Type 0 where
+  -- what is no fault is what was asked for, by the plan of the document in the input
+  pub asked : (request : Request) (bytes new : Text) → AreNoFault new → Fails request (Some bytes) (Some []) (Some new)
+      → (plan : ProgrammedPlan) × IsPlanIn (document_in bytes) plan
+      × FailsBy request plan (script_in bytes) (Some []) (Some new)
+  -- of an exploration it is a screen, from the start of the script
+  pub explored : (plan : ProgrammedPlan) (script new : Text) → AreNoFault new → WroteEnd plan script (Some []) (Some new)
+      → (opening : State) × (script_start plan.named script ≡ Ok opening)
+      × WroteScreen plan opening (Some []) (Some new)
+  -- where `fault large` was written, turns lead to more than 1,000,000 situations
+  pub large : (bytes : Text) → Fails Explore (Some bytes) (Some []) (Some (codes "fault large\n"))
+      → (plan : ProgrammedPlan) × IsPlanIn (document_in bytes) plan
+      × (opening : State) × (script_start plan.named (script_in bytes) ≡ Ok opening)
+      × ComeToMore plan.named.plan plan.programs opening 1000000
