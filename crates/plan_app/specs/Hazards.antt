@@ -26,6 +26,7 @@ use Rattle.plan_document.specs.declared.resolving.ProgrammedPlan.{ProgrammedPlan
 use Rattle.plan_app.specs.Going.{way_text}
 use Rattle.plan_app.specs.Leads.{IsLeadOf, opening_by}
 use Rattle.plan_app.specs.Reports.{names_line, report_text}
+use Rattle.plan_app.specs.Rows.{HasEveryRow, rows_line}
 use Rattle.plan_header.specs.Words.{machine_name, zone_name}
 use Rattle.plan_app.specs.declared.hazards.Finding.{Finding}
 use Rattle.plan_app.specs.declared.hazards.TheConstants.{LARGE, LED, UNKEPT, UNLED, UNSOUGHT}
@@ -168,14 +169,21 @@ motors_text n ps motors titles start findings =
 
 -- ---- the report
 
--- what is shown of each hazard, with turns from the start if there is one, and whether all motors are kept apart that
--- have to be
+-- whether each call that is done has its row, and what is said of each hazard
+abbrev pub whole_report : ProgrammedPlan → Option State → Bool → List Finding → Text
+whole_report plan start every findings =
+    report_text plan.named ++ (rows_line every
+    ++ motors_text plan.named plan.programs plan.motors.names plan.motors.hazard_names start findings)
+
+-- whether each call that is done has its row, as far as that is known; what is shown of each hazard, with turns from
+-- the start if there is one, and whether all motors are kept apart that have to be
 pub record TellsReport (plan : ProgrammedPlan) (start : Option State) (kept : Bool) (text : Text) : Type 0 where
   pub findings : List Finding
   pub are : AreFindings plan start findings
   pub are_kept : are_kept findings ≡ kept
-  pub told : text ≡ report_text plan.named
-      ++ motors_text plan.named plan.programs plan.motors.names plan.motors.hazard_names start findings
+  pub every : Bool
+  pub rows : IsTrue every → HasEveryRow plan.named.plan
+  pub told : text ≡ whole_report plan start every findings
 
 abbrev pub IsReport : ProgrammedPlan → Option State → Report → Type 0
 IsReport plan start (Kept text) = TellsReport plan start true (string_bytes text)

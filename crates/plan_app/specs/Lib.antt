@@ -2,6 +2,7 @@ pub mod Requests
 pub mod Input
 pub mod Words
 pub mod Reports
+pub mod Rows
 pub mod ReportLaws
 pub mod Going
 pub mod Starving

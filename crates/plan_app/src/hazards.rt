@@ -1,14 +1,15 @@
 //! What `plan check` prints of a plan with motors: its report, and what keeps the motors of each hazard apart, or what
 //! leads to a state that permits both.
-ghost use Rattle.std.specs.Prelude.{◌≡◌, ◌++◌, IfOk, OnOk, flat_map, length, string_bytes};
+ghost use Rattle.std.specs.Prelude.{◌≡◌, ◌++◌, IfOk, IsTrue, OnOk, flat_map, length, string_bytes};
 ghost use Rattle.std.specs.List.{range_with_len};
 ghost use Rattle.plan_motors.specs.OfPlan as of_plan;
 ghost use Rattle.plan_app.specs.Hazards as spec;
-ghost use Rattle.plan_app.specs.Reports.{report_text};
+ghost use Rattle.plan_app.specs.Rows.{HasEveryRow};
 
 use crate::going::push_way;
 use crate::leads::{Lead, is_never, lead_of, opening_by};
 use crate::report::{push_names, push_report};
+use crate::rows::{has_every_row, push_rows};
 use plan_document::ProgrammedPlan;
 use plan_header::motor_at;
 use plan_motors::{Cause, Hazard, Verdict, judge};
@@ -51,8 +52,9 @@ pub enum Report {
     Unkept(String),
 }
 
-/// What `plan check` prints of a plan: its report, and if it has motors, their names, and what is said of each hazard.
-/// Turns are sought from the start, if there is one. An error says that memory ran out.
+/// What `plan check` prints of a plan: its report, whether each call that is done has its row, and if it has motors,
+/// their names, and what is said of each hazard. Turns are sought from the start, if there is one. An error says that
+/// memory ran out.
 pub fn report_of(
     alloc: Global,
     plan: &ProgrammedPlan,
@@ -60,8 +62,9 @@ pub fn report_of(
 ) -> Result<Report, AllocError>
     ensures { IfOk result (spec.IsReport plan.now start) }
 {
+    let every = every_row_of(alloc, plan)?;
     let findings = findings_of(alloc, plan, start)?;
-    report_by(alloc, plan, start, findings.as_slice())
+    report_by(alloc, plan, start, every, findings.as_slice())
 }
 
 /// The report of a plan, by what is shown of its hazards.
@@ -69,17 +72,26 @@ fn report_by(
     alloc: Global,
     plan: &ProgrammedPlan,
     start: Option<State>,
+    every: bool,
     findings: &[Finding],
 ) -> Result<Report, AllocError>
-    requires { spec.AreFindings plan.now start findings.now }
+    requires rows { IsTrue every → HasEveryRow plan.now.named.plan }
+    requires findings { spec.AreFindings plan.now start findings.now }
     ensures { IfOk result (spec.IsReport plan.now start) }
 {
-    let text = report_with(alloc, plan, start, findings)?;
+    let text = report_with(alloc, plan, start, every, findings)?;
     if are_kept(findings) {
         Ok(Report::Kept(text))
     } else {
         Ok(Report::Unkept(text))
     }
+}
+
+/// Whether each call that is done has its row.
+fn every_row_of(alloc: Global, plan: &ProgrammedPlan) -> Result<bool, AllocError>
+    ensures { IfOk result (λ every. IsTrue every → HasEveryRow plan.now.named.plan) }
+{
+    has_every_row(alloc, plan.named.plan())
 }
 
 // ---- findings
@@ -187,14 +199,14 @@ fn report_with(
     alloc: Global,
     plan: &ProgrammedPlan,
     start: Option<State>,
+    every: bool,
     findings: &[Finding],
 ) -> Result<String, AllocError>
-    ensures { IfOk result (λ text. string_bytes text ≡ report_text plan.now.named
-        ++ spec.motors_text plan.now.named plan.now.programs plan.now.motors.names plan.now.motors.hazard_names
-        start findings.now) }
+    ensures { IfOk result
+        (λ text. string_bytes text ≡ spec.whole_report plan.now start every findings.now) }
 {
     let mut text = String::new(alloc);
-    push_whole_report(&mut text, plan, start, findings)?;
+    push_whole_report(&mut text, plan, start, every, findings)?;
     Ok(text)
 }
 
@@ -202,13 +214,14 @@ fn push_whole_report(
     text: &mut String,
     plan: &ProgrammedPlan,
     start: Option<State>,
+    every: bool,
     findings: &[Finding],
 ) -> Result<(), AllocError>
-    ensures { OnOk result (string_bytes text.new ≡ string_bytes text.old ++ (report_text plan.now.named
-        ++ spec.motors_text plan.now.named plan.now.programs plan.now.motors.names plan.now.motors.hazard_names
-        start findings.now)) }
+    ensures { OnOk result (string_bytes text.new
+        ≡ string_bytes text.old ++ spec.whole_report plan.now start every findings.now) }
 {
     push_report(text, &plan.named)?;
+    push_rows(text, every)?;
     push_motors(text, plan, start, findings)
 }
 

@@ -4,7 +4,7 @@ ghost use Rattle.plan_app.specs.FailedExamples.{FailedIsMeant, FaultLines};
 ghost use Rattle.plan_app.specs.GoingExamples.{EventLines, MachinesAreTold, WalksAreTold};
 ghost use Rattle.plan_app.specs.HazardExamples.{AreKept, HazardLines, KeptMotorsAreNeverBoth, LeadLines};
 ghost use Rattle.plan_app.specs.InputExamples.{InputsAreSplit, RequestsAreRead, WordsAreMade};
-ghost use Rattle.plan_app.specs.LineExamples.{ReportLines, WholeReports};
+ghost use Rattle.plan_app.specs.LineExamples.{ReportLines, RowsAreTold, WholeReports};
 ghost use Rattle.plan_app.specs.ReportLaws.{ReportsTell};
 ghost use Rattle.plan_app.specs.ScreenExamples.{AnswersAreMeant, KindsOfScreens, ScreensAreMeant};
 ghost use Rattle.plan_app.specs.ScreenExamples.{ServedIsMeant, StandstillLines};
@@ -52,6 +52,11 @@ pub fn reports_tell()
 /// Examples: the report of a plan, whole.
 pub fn reports_are_whole()
     ensures { WholeReports }
+{}
+
+/// Both lines of rows; and that each call that is done has its row is said only of a plan where that is so.
+pub fn rows_are_told()
+    ensures { RowsAreTold }
 {}
 
 /// Examples: the lines of what machines ask, and of why they wait.

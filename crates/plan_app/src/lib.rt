@@ -9,6 +9,7 @@ pub mod laws;
 pub mod leads;
 pub mod report;
 pub mod request;
+mod rows;
 pub mod serve;
 pub mod size;
 mod starving;

@@ -95,6 +95,7 @@ bit 5, 1 bit: place hand
 bit 6, 1 bit: place die
 bit 7, 20 bits: stamp
 bit 27, 1 bit: stop
+rows: each call that is done has its row
 ";
 
 #[test]

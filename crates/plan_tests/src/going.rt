@@ -19,7 +19,7 @@ plates move for ever in each fair order: within k * 6 turns
 ";
 
 /// The example of a junction.
-const JUNCTION: &str = "\
+pub const JUNCTION: &str = "\
 [[machine]]
 name = \"points\"
 poses = [
@@ -183,7 +183,7 @@ plates move for ever in each fair order: within k * 8 turns
 ";
 
 /// The example of two presses, up to the program of the left one.
-const PRESSES_BEGIN: &str = "\
+pub const PRESSES_BEGIN: &str = "\
 [[machine]]
 name = \"left_arm\"
 places = [\"left_hand\"]
@@ -208,14 +208,14 @@ poses = [
 ";
 
 /// The program of the left press.
-const LEFT_PROGRAM: &str = "\
+pub const LEFT_PROGRAM: &str = "\
 program = [\"claim left\", \"pose travelling\", \"pose load\", \"yield left\", \"take left\", \
      \"pose travelling\", \"pose forge\",
   \"pose travelling\", \"pose unload\", \"give left\"]
 ";
 
 /// What comes after it.
-const PRESSES_END: &str = "\
+pub const PRESSES_END: &str = "\
 
 [[machine]]
 name = \"right_press\"
@@ -401,7 +401,7 @@ plates move for ever in each fair order: within k * 16 turns
 ";
 
 /// The example of the production cell.
-const CELL: &str = "\
+pub const CELL: &str = "\
 [[machine]]
 name = \"feed\"
 places = [\"feed_belt\"]

@@ -178,6 +178,7 @@ bit 11, 1 bit: place ground
 bit 12, 1 bit: place gallery
 bit 13, 20 bits: stamp
 bit 33, 1 bit: stop
+rows: each call that is done has its row
 ";
 
 /// A word, a plan, and what is printed of it.

@@ -35,6 +35,8 @@ mod programs;
 #[cfg(test)]
 mod progress;
 #[cfg(test)]
+mod rows;
+#[cfg(test)]
 mod runs;
 #[cfg(test)]
 mod served;
