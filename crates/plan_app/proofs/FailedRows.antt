@@ -1,5 +1,5 @@
 -- The examples of `fault_lines_are_met`, and the law `failed_is_meant`.
-use Rattle.std.proofs.Common.{◌≡◌, ◌∙◌, ◌<◌, ℕ, Bool, true, false, ◌&&◌, nat_eq, List, [], ◌∷◌, get_or, take, length, codes, Some, Ok, IsTrue, inl, inr, refl, sym, ap, subst, arith}
+use Rattle.std.proofs.Common.{◌≡◌, ◌∙◌, ◌<◌, ℕ, Bool, true, false, ◌&&◌, nat_eq, [], ◌∷◌, get_or, take, length, codes, Some, Ok, IsTrue, inl, inr, refl, sym, ap, subst, arith}
 use Rattle.std.proofs.lemmas.List.{get_or-take, length-take}
 use Rattle.std.specs.List.{starts_with}
 use Rattle.csv_rows.specs.ScriptEnd.{fault_text}

@@ -1,6 +1,6 @@
 -- What the program has written where it ended with status 1, by the plan of the document in its input. Of each text a
 -- prefix was written: as much as the writer took.
-use Rattle.std.specs.Prelude.{◌≡◌, ◌⊎◌, ◌<◌, ℕ, nat_eq, Bool, codes, length, IsTrue, Option, Ok, Err, IfSome}
+use Rattle.std.specs.Prelude.{◌≡◌, ◌⊎◌, ◌<◌, nat_eq, Bool, codes, length, IsTrue, Option, Ok, Err, IfSome}
 use Rattle.std.specs.List.{starts_with}
 use Rattle.text_io.specs.Output.{WrotePrefix}
 use Rattle.program_shell.specs.Faults.{fault_line}

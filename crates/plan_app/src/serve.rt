@@ -41,8 +41,9 @@ use text_io::{InputFault, read_up_to};
 /// The help.
 const HELP: &str = "\
 Reads a plan of a plant, in TOML, from standard input.
-  plan check      says what it is, the layout of its word, and what keeps the motors of each
-                  hazard apart, or which calls of its programs permit both; or its first fault
+  plan check      says what it is, the layout of its word, whether each call that is done has a
+                  row of masks, and what keeps the motors of each hazard apart, or which calls of
+                  its programs permit both; or its first fault
   plan replay     answers the script after it, which begins with the line start,..
   plan explore    says whether some order of turns of its programs leads from the start
                   after it, a line start,.., to a standstill; and else whether each machine
