@@ -5,8 +5,8 @@ use Rattle.plan_app.proofs.rows.is_complete.Goals as goal
 
 pub returns : goal.returns
 returns c = λ is. (
-      c.args.compiled.now.rows,
-      c.args.compiled.now.starts,
-      subst (λ rows. All (IsRight c.args.compiled.now.table) rows) c.rows.ensures.rows c.rows.ensures.right,
-      c.is_complete.ensures is,
-    )
+  c.args.compiled.now.rows,
+  c.args.compiled.now.starts,
+  subst (λ rows. All (IsRight c.args.compiled.now.table) rows) c.rows.ensures.rows c.rows.ensures.right,
+  c.is_complete.ensures is,
+)
