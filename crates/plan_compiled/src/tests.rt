@@ -2,8 +2,11 @@
 
 use crate::{Compiled, SLOTS_OF_ALL, slot};
 use plan_rules::State;
-use plan_types::{Answer, Call, Plan, Tables, WATCH, examples, read_plan};
+use plan_types::{
+    Answer, Call, MAX_ZONES, Plan, PlanPose, PlanZone, Posture, Tables, WATCH, examples, read_plan,
+};
 use plan_word::{pack, step_word};
+use std::alloc::{AllocError, Global};
 
 /// A junction: three machines, two zones and no places.
 const JUNCTION: [u8; 56] = [
@@ -139,6 +142,41 @@ fn of_bytes(bytes: &[u8]) -> Option<Compiled> {
     Some(Compiled::new(read_plan(bytes)?))
 }
 
+/// Fifteen machines in a line: every other one hosts a zone for the next one, and has a pose for each posture.
+fn line(alloc: Global) -> Result<Tables, AllocError> {
+    let mut zones = Vec::new(alloc);
+    let mut poses = Vec::new(alloc);
+    for zone in 0..8u8 {
+        let host = 2 * zone;
+        zones.push(PlanZone {
+            host,
+            guest: (host + 1) % 15,
+            inward: None,
+            outward: None,
+        })?;
+        for posture in [
+            Posture::Moving,
+            Posture::Closed,
+            Posture::OpenIn,
+            Posture::OpenOut,
+        ] {
+            let mut gives = [None; MAX_ZONES];
+            gives[usize::from(zone)] = Some(posture);
+            poses.push(PlanPose {
+                machine: host,
+                after_moving: posture != Posture::Moving,
+                gives,
+            })?;
+        }
+    }
+    Ok(Tables {
+        machines: 15,
+        zones,
+        poses,
+        places: Vec::new(alloc),
+    })
+}
+
 #[test]
 fn a_press_claims_by_a_row(rt: HostRuntime) {
     let tables = examples::press(rt.alloc()).expect(&rt, "memory");
@@ -194,4 +232,11 @@ fn the_cell_is_complete(rt: HostRuntime) {
     let plan = of_bytes(&CELL).expect(&rt, "a plan");
     assert!(rt; plan.is_complete(), "complete");
     assert!(rt; is_walked(&plan), "walked");
+}
+
+#[test]
+fn a_line_of_fifteen_is_complete(rt: HostRuntime) {
+    let tables = line(rt.alloc()).expect(&rt, "memory");
+    let plan = compiled(tables).expect(&rt, "a plan");
+    assert!(rt; plan.is_complete(), "complete");
 }
