@@ -1,4 +1,5 @@
 mod Leading
 mod Permitting
 mod Caring
+mod Benching
 mod Rows

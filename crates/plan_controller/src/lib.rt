@@ -1,6 +1,7 @@
 //! The controller of any machine of a plan: it goes through the machine's program, a step a turn.
 #![tactic(auto)]
 
+pub mod bench;
 pub mod controller;
 pub mod examples;
 pub mod laws;
@@ -9,6 +10,7 @@ pub mod outcome;
 pub mod step;
 pub mod wired;
 
+pub use bench::PlanBench;
 pub use controller::{PlanController, TakenTurn};
 pub use line::PlanLine;
 pub use outcome::Outcome;
