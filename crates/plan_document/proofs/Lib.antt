@@ -9,6 +9,9 @@ mod NameWords
 mod PlanRows
 mod ReadingRows
 mod MotorRows
+mod Standing
 mod PlanLaws
+mod PostureLaws
+mod MotorLaws
 mod TableLaws
 mod ReadingLaws

@@ -7,7 +7,7 @@ use Rattle.plan_document.specs.declared.document.PostureRow.{PostureRow}
 use Rattle.plan_document.specs.declared.document.WayRow.{WayRow}
 use Rattle.plan_document.specs.Reading.{list_of}
 use Rattle.plan_document.specs.ReadingLaws.{ItemsAreRows, ListsHaveItems, PosturesAreWritten, ValuesAreWritten}
-use Rattle.plan_document.proofs.PlanLaws.{zipped}
+use Rattle.plan_document.proofs.Standing.{zipped}
 
 same_items : (xs ys : List Data) → Some xs ≡ Some ys → xs ≡ ys
 same_items xs ys e = cc

@@ -27,8 +27,9 @@ use Rattle.plan_document.specs.Names.{AreDistinct, all_poses, identifier, identi
 use Rattle.plan_document.specs.PlanLaws.{StandsAt}
 use Rattle.plan_document.specs.Saying.{AreCallsOf, IsCallOf, IsPlanOf, IsPoseOf, IsProgramOf, IsZoneOf, is_free, keepers, own_call}
 use Rattle.plan_document.specs.TableLaws.{NamesAreSpelled, PlansHaveCounts, PlansHaveNames, PosesAreTwoForC, ProgramsHaveLines, RowsAreNamed, TablesHaveCounts}
-use Rattle.plan_document.proofs.PlanLaws.{as_many, flat_seam, own_number, own_place, seam, zipped}
+use Rattle.plan_document.proofs.PlanLaws.{own_place}
 use Rattle.plan_document.proofs.PlanRows.{are_apart, impossible}
+use Rattle.plan_document.proofs.Standing.{as_many, flat_at, mapped, moved, named_at, numbered_at, own_number, same_number, zipped}
 
 -- ---- counts
 
@@ -51,6 +52,13 @@ keeper_total : (machines : List MachineRow) → length (keepers machines) ≡ le
 keeper_total machines =
     as_many (λ (r : ℕ × MachineRow). replicate (length r.1.places.items) r.0) places_in
     (λ k row. length-replicate (length row.places.items) k ∙ sym (length-map row.places.items string_bytes)) 0 machines
+
+-- as many names for C as names
+c_total : (machines : List MachineRow) → length (identifiers machines) ≡ length (pose_names machines)
+c_total machines =
+    summed (λ (row : MachineRow). identifiers_in (string_bytes row.name) row.poses.items) (λ row. length row.poses.items)
+    (λ row. length-map row.poses.items (λ (p : PoseRow). identifier (string_bytes row.name) (string_bytes p.name))) machines
+    ∙ sym (pose_total machines)
 
 all_pose_total : (machines : List MachineRow) → length (all_poses machines) ≡ length (pose_names machines)
 all_pose_total machines =
@@ -90,16 +98,10 @@ counted d p is = (
 
 -- ---- names
 
--- the name with the number of a row is that of the row
-named_at : {A : Type 0} (f : A → Text) (xs : List A) (names : List Text) (i : ℕ) (x : A) → names ≡ map f xs → StandsAt xs i x → name_in names i ≡ f x
-named_at f xs names i x is here =
-    ap (λ ns. name_in ns i) (is ∙ ap (map f) here.is ∙ map-append f here.before (x ∷ here.after))
-    ∙ seam (map f here.before) (f x) (map f here.after) [] i (length-map here.before f ∙ here.count)
-
 rows_named : (d : Document) (p : ProgrammedPlan) → IsPlanOf d p → RowsAreNamed d p
 rows_named d p is = record {
   machines = λ i row here. named_at (λ (r : MachineRow). string_bytes r.name) d.machines.items p.named.machines i row is.named.named_machines here;
-  places = λ i nth row name here named. ap (λ (o : Option ℕ). is_some o) (own_place p.named d.machines.items is.named.distinct_places is.named.named_places i row here nth name named);
+  places = λ i nth row name here named. ap (λ (o : Option ℕ). is_some o) (own_place p.named.places d.machines.items is.named.distinct_places is.named.named_places i row here nth name named);
   motors = λ i row here. named_at (λ (r : MotorRow). string_bytes r.name) d.motors.items p.motors.names i row is.motors.named_motors here;
   hazards = λ i row here. named_at (λ (r : HazardRow). string_bytes r.name) d.hazards.items p.motors.hazard_names i row is.motors.named_hazards here;
 }
@@ -144,23 +146,11 @@ named d p is = (
 c_number : (machines : List MachineRow) → AreDistinct (identifiers machines) → (i : ℕ) (row : MachineRow) (here : StandsAt machines i row) (k : ℕ) (pose : PoseRow) → StandsAt row.poses.items k pose
     → number_in (identifiers machines) (identifier (string_bytes row.name) (string_bytes pose.name)) ≡ Some (length (pose_names here.before) + k)
 c_number machines distinct i row here k pose nth =
-    own_number (identifiers machines) (flat_map ids here.before ++ identifiers_in (string_bytes row.name) nth.before) _ _ _ distinct
-    (flat_seam (λ (r : MachineRow). r.poses.items) (λ r p. identifier (string_bytes r.name) (string_bytes p.name)) machines i row here k pose nth)
-    (length-append (flat_map ids here.before) (identifiers_in (string_bytes row.name) nth.before) ∙ rw (total, own) refl)
-  where
-    ids : MachineRow → List Text
-    ids r = identifiers_in (string_bytes r.name) r.poses.items
-
-    total : length (flat_map ids here.before) ≡ length (pose_names here.before)
-    total =
-        summed ids (λ r. length r.poses.items) (λ r. length-map r.poses.items (λ (p : PoseRow). identifier (string_bytes r.name) (string_bytes p.name))) here.before
-        ∙ sym (pose_total here.before)
-
-    own : length (identifiers_in (string_bytes row.name) nth.before) ≡ k
-    own = length-map nth.before (λ (p : PoseRow). identifier (string_bytes row.name) (string_bytes p.name)) ∙ nth.count
-
-same_number : (i j : ℕ) → Some i ≡ Some j → i ≡ j
-same_number i j e = cc
+    own_number (identifiers machines) _ _ distinct
+    (moved (identifiers machines) (identifiers machines) _ _ (identifier (string_bytes row.name) (string_bytes pose.name)) refl
+    (ap (λ j. j + k) (c_total here.before))
+    (flat_at (λ (r : MachineRow). identifiers_in (string_bytes r.name) r.poses.items) machines i row here k (identifier (string_bytes row.name) (string_bytes pose.name))
+    (mapped (λ (p : PoseRow). identifier (string_bytes row.name) (string_bytes p.name)) row.poses.items k pose nth)))
 
 pub two_for_c : PosesAreTwoForC
 two_for_c d n is i j a b here there k l p q one other same =
@@ -170,30 +160,6 @@ two_for_c d n is i j a b here there k l p q one other same =
     ∙ c_number d.machines.items is.distinct_poses j b there l q other)
 
 -- ---- programs
-
--- what stands at the place of a row, of rows with their numbers
-zip_numbered : {B : Type 0} (R : ℕ × MachineRow → B → Type 0) (k m : ℕ) (before : List MachineRow) (row : MachineRow) (after : List MachineRow) (ys : List B) (d : B) → k + length before ≡ m → AllZip R (enumerate_from k (before ++ row ∷ after)) ys → R (m, row) (get_or ys (length before) d)
-zip_numbered R k m [] row after [] d e all = absurd all
-zip_numbered R k m [] row after (y ∷ ys) d e all = let same : k ≡ m = omega (arith, e) in subst (λ j. R (j, row) y) same all.0
-zip_numbered R k m (b ∷ bs) row after [] d e all = absurd all
-zip_numbered R k m (b ∷ bs) row after (y ∷ ys) d e all = zip_numbered R (k + 1) m bs row after ys d (omega (arith, e)) all.1
-
-program_of : (n : Named) (machines : List MachineRow) (programs : List (List Call)) (machine : ℕ) (row : MachineRow) (program : List Call) → AllZip (IsProgramOf n) (numbered machines) programs → StandsAt machines machine row → StandsAt programs machine program → AreCallsOf n machine row.program.items program
-program_of n machines programs machine row program all here there =
-    let h : AllZip (IsProgramOf n) (enumerate_from 0 (here.before ++ row ∷ here.after)) programs = subst (λ ms. AllZip (IsProgramOf n) (numbered ms) programs) here.is all in
-    let at : IsProgramOf n (machine, row) (get_or programs (length here.before) program) =
-    zip_numbered (IsProgramOf n) 0 machine here.before row here.after programs program (omega (arith, here.count)) h in
-    let e : get_or programs (length here.before) program ≡ program =
-    ap (λ j. get_or programs j program) here.count ∙ ap (λ ps. get_or ps machine program) there.is ∙ seam there.before program there.after program machine there.count in
-    subst (λ calls. AreCallsOf n machine row.program.items calls) e at
-
-mapped : {A B : Type 0} (f : A → B) (xs : List A) (i : ℕ) (x : A) → StandsAt xs i x → StandsAt (map f xs) i (f x)
-mapped f xs i x here = record {
-  before = map f here.before;
-  after = map f here.after;
-  is = ap (map f) here.is ∙ map-append f here.before (x ∷ here.after);
-  count = length-map here.before f ∙ here.count;
-}
 
 -- the text of a call is the verb and the name that ask for it
 told_by : (reads : CallsAreToldAsRead) (own : OwnPosesComeFirst) (n : Named) (machine : ℕ) (verb : Verb) (name : Text) (c : Call) → own_call n machine verb name ≡ Some c → call_text n c ≡ words verb name
@@ -235,4 +201,4 @@ lined reads own d p is machine row program here there = record {
 }
   where
     calls : AreCallsOf p.named machine row.program.items program
-    calls = program_of p.named d.machines.items p.programs machine row program is.programs here there
+    calls = zipped (IsProgramOf p.named) (numbered d.machines.items) p.programs machine (machine, row) program is.programs (numbered_at d.machines.items machine row here) there

@@ -4,7 +4,7 @@ ghost use Rattle.plan_document.specs.Keys as keys;
 ghost use Rattle.plan_document.specs.Keys.{key_word};
 ghost use Rattle.plan_document.specs.declared.fault.Wrong.TheVariants.{Memory as NoMemory};
 
-use std::alloc::{AllocError, AllocFailed};
+use std::alloc::{AllocError, AllocFailed, Global};
 
 /// What a fault is about: the document, or a row of it. Rows are counted from 0.
 #[derive(Clone, Copy)]
@@ -199,6 +199,56 @@ impl WayEnd {
     }
 }
 
+/// What is wrong with a text.
+#[derive(Clone, Copy)]
+pub enum WrongText {
+    /// It is a key of the row, but isn't known.
+    Unknown,
+    /// It is no name.
+    NoName,
+    /// A machine may not have this name.
+    Reserved,
+    /// The name is defined twice.
+    Twice,
+    /// With its machine's name before it, a pose's name is this, and so is another pose's.
+    SameInC,
+    /// No machine has this name.
+    NoMachine,
+    /// No zone has this name.
+    NoZone,
+    /// No place has this name.
+    NoPlace,
+    /// The machine has no pose with this name.
+    NoPose,
+    /// This line of a program is no call.
+    NoCall,
+    /// This line of a program is never done.
+    Never(Never),
+    /// The machine doesn't host this zone.
+    Foreign,
+    /// It is no name of a hazard.
+    NoTitle,
+    /// No motor has this name.
+    NoMotor,
+    /// The machine is neither host nor guest of this zone.
+    NoParty,
+    /// The machine doesn't keep this place.
+    NotKept,
+    /// This zone, or this place, stands under another key of the motor, too.
+    AlsoIn(Key),
+}
+
+/// What is wrong with two texts that belong together.
+#[derive(Clone, Copy)]
+pub enum WrongPair {
+    /// The first is a zone, and the second, which it is given, is no posture.
+    NoPosture,
+    /// The first is a zone, and the second, which it has to have while it is held, is neither a posture nor `any`.
+    NoHeldPosture,
+    /// The first is the place at this end of a way, and the second the machine that should keep it.
+    Astray(WayEnd),
+}
+
 /// What is wrong with the value of a key.
 #[derive(Drop)]
 pub enum Wrong {
@@ -206,8 +256,6 @@ pub enum Wrong {
     NoMachines,
     /// The key is missing.
     Missing,
-    /// The row has this key, which isn't known.
-    Unknown(String),
     /// The value is no text.
     NoText,
     /// The value is no list of texts.
@@ -222,69 +270,18 @@ pub enum Wrong {
     NoTruth,
     /// The value is no list of two places.
     NoWay,
-    /// A text is no name.
-    NoName(String),
-    /// A machine may not have this name.
-    Reserved(String),
-    /// A name is defined twice.
-    Twice(String),
-    /// With its machine's name before it, a pose's name is this, and so is another pose's.
-    SameInC(String),
+    /// The value is no list of two motors.
+    NoMotors,
+    /// A text is wrong.
+    Text(WrongText, String),
+    /// Two texts are wrong together.
+    Pair(WrongPair, String, String),
     /// A plan has at most this number of them.
     TooMany(usize),
     /// A program has at most this number of lines.
     TooManyLines(usize),
-    /// No machine has this name.
-    NoMachine(String),
-    /// No zone has this name.
-    NoZone(String),
-    /// No place has this name.
-    NoPlace(String),
-    /// The machine has no pose with this name.
-    NoPose(String),
-    /// What a zone is given is no posture.
-    NoPosture {
-        /// The zone's name.
-        zone: String,
-        /// What it is given.
-        word: String,
-    },
-    /// A line of a program is no call.
-    NoCall(String),
-    /// A line of a program is never done.
-    Never(Never, String),
     /// A zone's host is its guest.
     HostIsGuest,
-    /// A way leads from a place that the giver doesn't keep, or to one that the receiver doesn't.
-    Astray {
-        /// The place.
-        place: String,
-        /// Who keeps such a place, and which end of the way it is.
-        end: WayEnd,
-        /// The machine that should keep it.
-        machine: String,
-    },
-    /// The machine doesn't host this zone.
-    Foreign(String),
-    /// The value is no list of two motors.
-    NoMotors,
-    /// A text is no name of a hazard.
-    NoTitle(String),
-    /// No motor has this name.
-    NoMotor(String),
-    /// What a zone has to have while it is held is neither a posture nor `any`.
-    NoHeldPosture {
-        /// The zone's name.
-        zone: String,
-        /// What it has to have.
-        word: String,
-    },
-    /// The machine is neither host nor guest of this zone.
-    NoParty(String),
-    /// The machine doesn't keep this place.
-    NotKept(String),
-    /// This zone, or this place, stands under another key of the motor, too.
-    AlsoIn(Key, String),
     /// No state permits the motor.
     NeverPermitted,
     /// Memory ran out.
@@ -353,6 +350,41 @@ impl Location {
         DocumentFault {
             location: self,
             wrong,
+        }
+    }
+
+    /// The fault that a text is wrong here, or that memory ran out.
+    pub(crate) fn text_fault(self, alloc: Global, why: WrongText, text: &str) -> DocumentFault {
+        match String::from_str(alloc, text) {
+            Ok(text) => self.fault(Wrong::Text(why, text)),
+            Err(AllocError) => self.fault(Wrong::Memory),
+        }
+    }
+
+    /// The fault that two texts are wrong together here, or that memory ran out.
+    pub(crate) fn pair_fault(
+        self,
+        alloc: Global,
+        why: WrongPair,
+        first: &str,
+        second: &str,
+    ) -> DocumentFault {
+        match String::from_str(alloc, first) {
+            Ok(first) => self.second_fault(alloc, why, first, second),
+            Err(AllocError) => self.fault(Wrong::Memory),
+        }
+    }
+
+    fn second_fault(
+        self,
+        alloc: Global,
+        why: WrongPair,
+        first: String,
+        second: &str,
+    ) -> DocumentFault {
+        match String::from_str(alloc, second) {
+            Ok(second) => self.fault(Wrong::Pair(why, first, second)),
+            Err(AllocError) => self.fault(Wrong::Memory),
         }
     }
 }

@@ -1,7 +1,8 @@
 //! The words of faults.
 
 use crate::fault::{
-    DocumentFault, Key, Location, PlanTextFault, RowNames, RowOf, TooWide, WayEnd, Wrong,
+    DocumentFault, Key, Location, PlanTextFault, RowNames, RowOf, TooWide, WayEnd, Wrong, WrongPair,
+    WrongText,
 };
 use crate::reading::MAX_BYTES;
 use std::fmt;
@@ -101,9 +102,10 @@ fn write_fault<W: fmt::Write>(
         write!(f, "{word}: ")?;
     }
     match &fault.wrong {
-        Wrong::Unknown(key) => write_unknown(f, row, key.as_str()),
+        Wrong::Text(why, text) => write_text(f, row, *why, text.as_str()),
+        Wrong::Pair(why, first, second) => write_pair(f, *why, first.as_str(), second.as_str()),
         Wrong::NoTables => f.write_str(no_tables(key)),
-        wrong => write_wrong(wrong, f),
+        wrong => write_plain(wrong, f),
     }
 }
 
@@ -151,39 +153,68 @@ fn write_also_in<W: fmt::Write>(f: &mut fmt::Formatter<W>, key: Key, text: &str)
     write!(f, "{quoted} is in {word}, too")
 }
 
-fn write_wrong<W: fmt::Write>(wrong: &Wrong, f: &mut fmt::Formatter<W>) -> fmt::Result {
-    let (before, text, after) = match wrong {
-        Wrong::NoName(text) => ("", text, NO_NAME),
-        Wrong::Reserved(text) => ("", text, " is a word of scripts, and names no machine"),
-        Wrong::Twice(text) => ("", text, " is defined twice"),
-        Wrong::SameInC(text) => ("for C it is ", text, ", and so is another pose's"),
-        Wrong::NoMachine(text) => ("no machine is named ", text, ""),
-        Wrong::NoZone(text) => ("no zone is named ", text, ""),
-        Wrong::NoPlace(text) => ("no place is named ", text, ""),
-        Wrong::NoPose(text) => ("the machine has no pose ", text, ""),
-        Wrong::NoPosture { word, .. } => ("", word, NO_POSTURE),
-        Wrong::NoCall(text) => ("", text, NO_CALL),
-        Wrong::Never(why, text) => ("", text, why.text()),
-        Wrong::Foreign(text) => ("the machine doesn't host ", text, ""),
-        Wrong::NoTitle(text) => ("", text, NO_TITLE),
-        Wrong::NoMotor(text) => ("no motor is named ", text, ""),
-        Wrong::NoHeldPosture { word, .. } => ("", word, NO_HELD_POSTURE),
-        Wrong::NoParty(text) => ("the machine is neither host nor guest of ", text, ""),
-        Wrong::NotKept(text) => ("the machine doesn't keep ", text, ""),
-        Wrong::AlsoIn(key, text) => return write_also_in(f, *key, text.as_str()),
-        Wrong::Astray {
-            place,
-            end,
-            machine,
-        } => return write_astray(f, place.as_str(), *end, machine.as_str()),
-        other => return write_plain(other, f),
-    };
-    f.write_str(before)?;
-    let quoted = Quoted {
-        text: text.as_str(),
-    };
-    write!(f, "{quoted}")?;
-    f.write_str(after)
+/// Writes what is wrong with a text in a row.
+fn write_text<W: fmt::Write>(
+    f: &mut fmt::Formatter<W>,
+    row: RowOf,
+    why: WrongText,
+    text: &str,
+) -> fmt::Result {
+    match why {
+        WrongText::Unknown => write_unknown(f, row, text),
+        WrongText::AlsoIn(key) => write_also_in(f, key, text),
+        _ => {
+            f.write_str(before_text(why))?;
+            let quoted = Quoted { text };
+            write!(f, "{quoted}")?;
+            f.write_str(after_text(why))
+        }
+    }
+}
+
+/// What is said before a text.
+fn before_text(why: WrongText) -> &'static str {
+    match why {
+        WrongText::SameInC => "for C it is ",
+        WrongText::NoMachine => "no machine is named ",
+        WrongText::NoZone => "no zone is named ",
+        WrongText::NoPlace => "no place is named ",
+        WrongText::NoPose => "the machine has no pose ",
+        WrongText::Foreign => "the machine doesn't host ",
+        WrongText::NoMotor => "no motor is named ",
+        WrongText::NoParty => "the machine is neither host nor guest of ",
+        WrongText::NotKept => "the machine doesn't keep ",
+        _ => "",
+    }
+}
+
+/// What is said after a text.
+fn after_text(why: WrongText) -> &'static str {
+    match why {
+        WrongText::NoName => NO_NAME,
+        WrongText::Reserved => " is a word of scripts, and names no machine",
+        WrongText::Twice => " is defined twice",
+        WrongText::SameInC => ", and so is another pose's",
+        WrongText::NoCall => NO_CALL,
+        WrongText::Never(why) => why.text(),
+        WrongText::NoTitle => NO_TITLE,
+        _ => "",
+    }
+}
+
+/// Writes what is wrong with two texts together.
+fn write_pair<W: fmt::Write>(
+    f: &mut fmt::Formatter<W>,
+    why: WrongPair,
+    first: &str,
+    second: &str,
+) -> fmt::Result {
+    let quoted = Quoted { text: second };
+    match why {
+        WrongPair::NoPosture => write!(f, "{quoted}{NO_POSTURE}"),
+        WrongPair::NoHeldPosture => write!(f, "{quoted}{NO_HELD_POSTURE}"),
+        WrongPair::Astray(end) => write_astray(f, first, end, second),
+    }
 }
 
 fn write_plain<W: fmt::Write>(wrong: &Wrong, f: &mut fmt::Formatter<W>) -> fmt::Result {

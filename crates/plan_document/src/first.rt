@@ -1,6 +1,6 @@
 //! Finds the first of two names that are the same.
 
-use crate::fault::{DocumentFault, Key, Location, RowOf, Wrong};
+use crate::fault::{DocumentFault, Key, Location, RowOf, Wrong, WrongText};
 use crate::row_names::{row_at, text_in};
 use crate::values::value_at;
 use toml::Table;
@@ -8,7 +8,7 @@ use toml::Table;
 /// Where the first of two names stands, if a fault says that a name is defined twice.
 pub fn first_of(table: &Table, fault: &DocumentFault) -> Option<Location> {
     match &fault.wrong {
-        Wrong::Twice(name) => first_named(table, fault.location, name.as_str()),
+        Wrong::Text(WrongText::Twice, name) => first_named(table, fault.location, name.as_str()),
         _ => None,
     }
 }

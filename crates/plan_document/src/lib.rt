@@ -7,11 +7,11 @@ mod fault_words;
 mod first;
 pub mod laws;
 mod locating;
-mod motor_rows;
 mod motors;
 mod programs;
 mod reading;
 mod resolving;
+mod row_kinds;
 mod row_names;
 mod tables;
 mod values;
@@ -21,6 +21,7 @@ pub use document::{
 };
 pub use fault::{
     DocumentFault, Key, Location, PlanTextFault, RowNames, RowOf, TooWide, WayEnd, Wrong,
+    WrongPair, WrongText,
 };
 pub use motors::NamedMotors;
 pub use reading::{MAX_BYTES, plan_of, read_plan};

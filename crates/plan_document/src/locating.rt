@@ -1,6 +1,6 @@
 //! Finds the line of a fault, by the places of the document's keys and items.
 
-use crate::fault::{DocumentFault, Key, Location, RowOf, Wrong};
+use crate::fault::{DocumentFault, Key, Location, RowOf, Wrong, WrongText};
 use std::alloc::{AllocError, Global};
 use std::str;
 use toml_places::{Step, line_number, nearest_place, places_in};
@@ -72,18 +72,13 @@ fn push_location(steps: &mut Vec<Step<'_>>, location: Location) -> Result<(), Al
     Ok(())
 }
 
-/// The key that a fault is about, if it isn't one of `Key`.
+/// The key that a fault is about, if it isn't one of `Key`: an unknown one, or a zone.
 fn key_name_of(fault: &DocumentFault) -> Option<&str> {
     match (fault.location.key, &fault.wrong) {
-        (None, Wrong::Unknown(name))
+        (None, Wrong::Text(WrongText::Unknown, name))
         | (
             Some(Key::Gives | Key::Holds | Key::Stands),
-            Wrong::NoZone(name)
-            | Wrong::Foreign(name)
-            | Wrong::NoParty(name)
-            | Wrong::AlsoIn(_, name)
-            | Wrong::NoPosture { zone: name, .. }
-            | Wrong::NoHeldPosture { zone: name, .. },
+            Wrong::Text(_, name) | Wrong::Pair(_, name, _),
         ) => Some(name.as_str()),
         _ => None,
     }

@@ -11,16 +11,16 @@ ghost use Rattle.plan_document.specs.Names.{AreDistinct, AreNames};
 ghost use Rattle.plan_document.specs.Postures.{AreGiven};
 
 use crate::document::{Document, HazardRow, MotorRow, PostureRow};
-use crate::fault::{DocumentFault, Key, Location, RowOf, Wrong, too_many};
-use crate::tables::{add_name, gives_of, machine_named, place_named, push_name, zone_named};
-use crate::values::copy;
+use crate::fault::{DocumentFault, Key, Location, RowOf, Wrong, WrongPair, WrongText, too_many};
+use crate::tables::{add_name, gives_of, number_named, push_name};
+use crate::values::position_of;
 use plan_motors::{
     Hazard, MAX_MOTORS, Motor, MotorFault, NO_NEED, ZoneNeed, motors_and_hazards_fault,
 };
 use plan_text::words::posture_in;
 use plan_text::{NamedPlan, Names};
 use plan_types::{MAX_PLACES, MAX_ZONES, Posture};
-use std::alloc::{AllocError, Global};
+use std::alloc::Global;
 
 /// The most hazards.
 pub const MAX_HAZARDS: usize = 64;
@@ -119,7 +119,8 @@ fn motor_of(
     ensures { IfOk result (spec.IsMotorOf named.now row.now) }
 {
     let name = row.machine.as_str();
-    let machine = machine_named(alloc, named.machines(), name, at.key(Key::Machine))?;
+    let machine_at = at.key(Key::Machine);
+    let machine = number_named(alloc, named.machines(), name, WrongText::NoMachine, machine_at)?;
     let zones = needs_of(alloc, named.zones(), row, at)?;
     let places = place_needs_of(alloc, named.places(), row, at)?;
     Ok(Motor {
@@ -176,11 +177,13 @@ fn held_by(
     ensures need { IfOk result (λ held.
         spec.held_need (string_bytes row.now.posture) ≡ Some held.1) }
 {
-    let zone = zone_named(alloc, zones, row.zone.as_str(), at)?;
-    let Some(need) = held_need(row.posture.as_str()) else {
-        return Err(at.fault(no_held_posture(alloc, row)?));
-    };
-    Ok((zone, need))
+    let name = row.zone.as_str();
+    let word = row.posture.as_str();
+    let zone = number_named(alloc, zones, name, WrongText::NoZone, at)?;
+    match held_need(word) {
+        Some(need) => Ok((zone, need)),
+        None => Err(at.pair_fault(alloc, WrongPair::NoHeldPosture, name, word)),
+    }
 }
 
 /// What a motor needs of a zone that is held, by the word of a posture or `any`.
@@ -203,14 +206,6 @@ fn held(posture: Option<Posture>) -> ZoneNeed
     }
 }
 
-/// What is wrong with a row whose word is neither a posture nor `any`.
-fn no_held_posture(alloc: Global, row: &PostureRow) -> Result<Wrong, AllocError> {
-    Ok(Wrong::NoHeldPosture {
-        zone: copy(alloc, row.zone.as_str())?,
-        word: copy(alloc, row.posture.as_str())?,
-    })
-}
-
 /// Refuses a zone that is both under `holds` and under `stands`.
 fn check_zones(
     alloc: Global,
@@ -224,8 +219,8 @@ fn check_zones(
 {
     for zone in 0..MAX_ZONES {
         if !is_under_one(holds, stands, zone) {
-            let name = copy(alloc, zones.name(zone as u8))?;
-            return Err(at.fault(Wrong::AlsoIn(Key::Holds, name)));
+            let name = zones.name(zone as u8);
+            return Err(at.text_fault(alloc, WrongText::AlsoIn(Key::Holds), name));
         }
     }
     Ok(())
@@ -311,7 +306,8 @@ fn listed_of(
     let mut listed = [false; MAX_PLACES];
     for item in 0..names.len() {
         let location = at.item(key, item);
-        let place = place_named(alloc, places, names[item].as_str(), location)?;
+        let name = names[item].as_str();
+        let place = number_named(alloc, places, name, WrongText::NoPlace, location)?;
         if usize::from(place) >= MAX_PLACES {
             return Err(location.fault(Wrong::TooMany(MAX_PLACES)));
         }
@@ -333,8 +329,8 @@ fn check_places(
 {
     for place in 0..MAX_PLACES {
         if are_both(full, empty, place) {
-            let name = copy(alloc, places.name(place as u8))?;
-            return Err(at.fault(Wrong::AlsoIn(Key::Full, name)));
+            let name = places.name(place as u8);
+            return Err(at.text_fault(alloc, WrongText::AlsoIn(Key::Full), name));
         }
     }
     Ok(())
@@ -408,29 +404,30 @@ fn add_title(
     ensures spelled { OnOk result (IsTrue (naming.is_title title.now)) }
     ensures distinct { OnOk result (AreDistinct names.old → AreDistinct names.new) }
 {
-    match check_title(alloc, names, title) {
-        Ok(()) => {
-            push_name(alloc, names, title)?;
-            Ok(())
-        }
-        Err(wrong) => Err(at.fault(wrong)),
-    }
+    check_title(alloc, names, title, at)?;
+    push_name(alloc, names, title)?;
+    Ok(())
 }
 
 /// Refuses a hazard's name that is none, that is there already, or for which there is no room.
-fn check_title(alloc: Global, names: &Names, title: &str) -> Result<(), Wrong>
+fn check_title(
+    alloc: Global,
+    names: &Names,
+    title: &str,
+    at: Location,
+) -> Result<(), DocumentFault>
     ensures room { OnOk result (length names.now < 64) }
     ensures spelled { OnOk result (IsTrue (naming.is_title title.now)) }
     ensures other { OnOk result (number_in names.now title.now ≡ None) }
 {
     if names.len() >= MAX_HAZARDS {
-        return Err(Wrong::TooMany(MAX_HAZARDS));
+        return Err(at.fault(Wrong::TooMany(MAX_HAZARDS)));
     }
     if !is_title(title) {
-        return Err(Wrong::NoTitle(copy(alloc, title)?));
+        return Err(at.text_fault(alloc, WrongText::NoTitle, title));
     }
     if names.number_of(title.as_bytes()).is_some() {
-        return Err(Wrong::Twice(copy(alloc, title)?));
+        return Err(at.text_fault(alloc, WrongText::Twice, title));
     }
     Ok(())
 }
@@ -480,18 +477,12 @@ fn hazard_of(
 ) -> Result<Hazard, DocumentFault>
     ensures { IfOk result (spec.IsHazardOf motors.now row.now) }
 {
-    let first = motor_named(alloc, motors, row.first.as_str(), at.item(Key::Motors, 0))?;
-    let second = motor_named(alloc, motors, row.second.as_str(), at.item(Key::Motors, 1))?;
+    let no_motor = WrongText::NoMotor;
+    let first_at = at.item(Key::Motors, 0);
+    let first = number_named(alloc, motors, row.first.as_str(), no_motor, first_at)?;
+    let second_at = at.item(Key::Motors, 1);
+    let second = number_named(alloc, motors, row.second.as_str(), no_motor, second_at)?;
     Ok(Hazard { first, second })
-}
-
-fn motor_named(alloc: Global, motors: &Names, name: &str, at: Location) -> Result<u8, DocumentFault>
-    ensures { IfOk result (λ number. number_in motors.now name.now ≡ Some number) }
-{
-    match motors.number_of(name.as_bytes()) {
-        Some(motor) => Ok(motor),
-        None => Err(at.fault(Wrong::NoMotor(copy(alloc, name)?))),
-    }
 }
 
 // ---- motors and hazards that don't fit the plan
@@ -553,29 +544,25 @@ fn foreign_zone(
 ) -> DocumentFault {
     let name = name_with(named.zones(), zone);
     let key = key_of_zone(document, motor, name);
-    let at = RowOf::Motor(motor).key(key);
-    match copy(alloc, name) {
-        Ok(name) => at.fault(Wrong::NoParty(name)),
-        Err(AllocError) => at.fault(Wrong::Memory),
-    }
+    RowOf::Motor(motor).key(key).text_fault(alloc, WrongText::NoParty, name)
 }
 
 /// The key under which a motor names a zone.
 fn key_of_zone(document: &Document, motor: usize, zone: &str) -> Key {
-    let holds = document.motors.get(motor).is_some_and(|row| row
-        .holds
-        .iter()
-        .any(|held| held.zone.as_str() == zone));
-    if holds { Key::Holds } else { Key::Stands }
+    if let Some(row) = document.motors.get(motor) {
+        for held in &row.holds {
+            if held.zone.as_str() == zone {
+                return Key::Holds;
+            }
+        }
+    }
+    Key::Stands
 }
 
 /// The fault of a motor that needs a posture of a zone that its machine neither hosts nor has to hold.
 fn not_held(alloc: Global, named: &NamedPlan, motor: usize, zone: usize) -> DocumentFault {
-    let at = RowOf::Motor(motor).key(Key::Stands);
-    match copy(alloc, name_with(named.zones(), zone)) {
-        Ok(name) => at.fault(Wrong::Foreign(name)),
-        Err(AllocError) => at.fault(Wrong::Memory),
-    }
+    let name = name_with(named.zones(), zone);
+    RowOf::Motor(motor).key(Key::Stands).text_fault(alloc, WrongText::Foreign, name)
 }
 
 /// The fault of a motor that needs a place which its machine doesn't keep.
@@ -587,11 +574,7 @@ fn foreign_place(
     place: usize,
 ) -> DocumentFault {
     let name = name_with(named.places(), place);
-    let at = location_of_place(document, motor, name);
-    match copy(alloc, name) {
-        Ok(name) => at.fault(Wrong::NotKept(name)),
-        Err(AllocError) => at.fault(Wrong::Memory),
-    }
+    location_of_place(document, motor, name).text_fault(alloc, WrongText::NotKept, name)
 }
 
 /// Where a motor names a place.
@@ -600,12 +583,10 @@ fn location_of_place(document: &Document, motor: usize, place: &str) -> Location
     let Some(row) = document.motors.get(motor) else {
         return at.whole();
     };
-    match row.full.iter().position(|name| name.as_str() == place) {
-        Some(item) => at.item(Key::Full, item),
-        None => match row.empty.iter().position(|name| name.as_str() == place) {
-            Some(item) => at.item(Key::Empty, item),
-            None => at.whole(),
-        },
+    match (position_of(&row.full, place), position_of(&row.empty, place)) {
+        (Some(item), _) => at.item(Key::Full, item),
+        (None, Some(item)) => at.item(Key::Empty, item),
+        (None, None) => at.whole(),
     }
 }
 

@@ -6,14 +6,13 @@ ghost use Rattle.plan_document.specs.Names.{numbered};
 ghost use Rattle.plan_document.specs.Saying as saying;
 
 use crate::document::{Document, MachineRow};
-use crate::fault::{DocumentFault, Key, Location, Never, RowOf, Wrong, too_many};
+use crate::fault::{DocumentFault, Key, Location, Never, RowOf, Wrong, WrongText, too_many};
 use crate::tables::number_of;
-use crate::values::copy;
 use plan_explorer::{MAX_STEPS, ProgramFault, Programs};
 use plan_text::NamedPlan;
 use plan_text::calls::Verb;
 use plan_types::{Call, MAX_MACHINES, Plan, Posture, Transfer};
-use std::alloc::{AllocError, Global};
+use std::alloc::Global;
 
 /// What each machine asks, by a plan's names, or the first fault of the lines.
 pub fn programs_of(
@@ -78,17 +77,17 @@ fn call_in(
     ensures { IfOk result (saying.IsCallOf named.now machine line.now) }
 {
     let Some((verb, name)) = verb_and_name(line) else {
-        return Err(at.fault(Wrong::NoCall(copy(alloc, line)?)));
+        return Err(at.text_fault(alloc, WrongText::NoCall, line));
     };
     if verb == Verb::Inquire {
-        return Err(at.fault(Wrong::NoCall(copy(alloc, line)?)));
+        return Err(at.text_fault(alloc, WrongText::NoCall, line));
     }
     match own_call(named, machine, verb, name) {
         Some(call) => match never(named.plan(), machine, call) {
             None => Ok(call),
-            Some(why) => Err(at.fault(Wrong::Never(why, copy(alloc, line)?))),
+            Some(why) => Err(at.text_fault(alloc, WrongText::Never(why), line)),
         },
-        None => Err(at.fault(unknown(verb, copy(alloc, name)?))),
+        None => Err(at.text_fault(alloc, unknown(verb), name)),
     }
 }
 
@@ -142,11 +141,11 @@ fn is_to(machine: u8, way: Option<Transfer>) -> bool
 }
 
 /// What is wrong with a name that no zone has, or no pose of the machine.
-fn unknown(verb: Verb, name: String) -> Wrong {
+fn unknown(verb: Verb) -> WrongText {
     if verb == Verb::Pose {
-        Wrong::NoPose(name)
+        WrongText::NoPose
     } else {
-        Wrong::NoZone(name)
+        WrongText::NoZone
     }
 }
 
@@ -176,21 +175,17 @@ fn program_fault(alloc: Global, document: &Document, fault: ProgramFault) -> Doc
         ProgramFault::TooLong { machine } => RowOf::Machine(machine)
             .item(Key::Program, MAX_STEPS)
             .fault(Wrong::TooManyLines(MAX_STEPS)),
-        ProgramFault::ForeignCall { machine, step } => RowOf::Machine(machine)
-            .item(Key::Program, step)
-            .fault(foreign_call(alloc, document, machine, step)),
+        ProgramFault::ForeignCall { machine, step } => {
+            let line = line_of(document, machine, step).unwrap_or("");
+            RowOf::Machine(machine)
+                .item(Key::Program, step)
+                .text_fault(alloc, WrongText::NoCall, line)
+        }
     }
 }
 
-/// What is wrong with a line of a program whose call no program makes.
-fn foreign_call(alloc: Global, document: &Document, machine: usize, step: usize) -> Wrong {
-    let line = document
-        .machines
-        .get(machine)
-        .and_then(|row| row.program.get(step))
-        .map_or("", |line| line.as_str());
-    match copy(alloc, line) {
-        Ok(line) => Wrong::NoCall(line),
-        Err(AllocError) => Wrong::Memory,
-    }
+/// A line of a program, by the numbers of its machine and its step.
+fn line_of(document: &Document, machine: usize, step: usize) -> Option<&str> {
+    let line = document.machines.get(machine)?.program.get(step)?;
+    Some(line.as_str())
 }

@@ -1,28 +1,23 @@
 //! Reads a plan's document.
-ghost use Rattle.std.specs.Prelude.{◌≤◌, length, map, IfOk, IfSome, IsOk, IsTrue, OnOk};
-ghost use Rattle.std.specs.List.{AllZip};
-ghost use Rattle.toml.specs.View.{table_view, view};
+ghost use Rattle.std.specs.Prelude.{◌≤◌, length, IfOk, IfSome, IsOk, IsTrue, OnOk};
+ghost use Rattle.toml.specs.View.{table_view};
 ghost use Rattle.text_io.specs.Input.{TakesAtMost};
-ghost use Rattle.plan_document.specs.Keys.{has_only, key_word, top_keys};
+ghost use Rattle.plan_document.specs.Keys.{has_only, top_keys};
 ghost use Rattle.plan_document.specs.Limits.{byte_limit, max_bytes_read};
-ghost use Rattle.plan_document.specs.Reading.{HasRows, IsDocumentIn, IsMachineIn, IsPlanIn, IsPlanOfTable, IsPoseIn};
-ghost use Rattle.plan_document.specs.Reading.{IsZoneIn};
-ghost use Rattle.plan_document.specs.declared.fault.Key.TheVariants.{Machine, Poses, Zone};
+ghost use Rattle.plan_document.specs.Reading.{IsDocumentIn, IsPlanIn, IsPlanOfTable};
 
-use crate::document::{Document, MachineRow, PoseRow, ZoneRow};
+use crate::document::Document;
 use crate::fault::{DocumentFault, Key, PlanTextFault, RowNames, RowOf, Wrong};
 use crate::first::first_of;
 use crate::locating::{line_at, line_of};
-use crate::motor_rows::{hazards_at, motors_at};
 use crate::resolving::{ProgrammedPlan, programmed_plan_of};
+use crate::row_kinds::{Hazards, Machines, Motors, Zones, rows_at};
 use crate::row_names::names_of;
-use crate::values::{
-    check_keys, gives_at, table_in, tables_at, text_at, texts_at, truth_at, value_at, way_at,
-};
+use crate::values::{check_keys, value_at};
 use std::alloc::{AllocError, Global};
 use std::io::Read;
 use text_io::{InputFault, read_up_to};
-use toml::{Table, Value};
+use toml::Table;
 use toml_places::line_number;
 
 /// The most bytes of a document.
@@ -122,10 +117,11 @@ fn document_in(alloc: Global, table: &Table) -> Result<Document, DocumentFault>
     ensures { IfOk result (IsDocumentIn (table_view table.now)) }
 {
     check_top(alloc, table)?;
-    let machines = machines_at(alloc, table)?;
-    let zones = zones_at(alloc, table)?;
-    let motors = motors_at(alloc, table)?;
-    let hazards = hazards_at(alloc, table)?;
+    let top = RowOf::Document;
+    let machines = rows_at(alloc, table, top, Key::Machine, Machines)?;
+    let zones = rows_at(alloc, table, top, Key::Zone, Zones)?;
+    let motors = rows_at(alloc, table, top, Key::Motor, Motors)?;
+    let hazards = rows_at(alloc, table, top, Key::Hazard, Hazards)?;
     Ok(Document {
         machines,
         zones,
@@ -143,120 +139,4 @@ fn check_top(alloc: Global, table: &Table) -> Result<(), DocumentFault>
         Some(_) => Ok(()),
         None => Err(RowOf::Document.whole().fault(Wrong::NoMachines)),
     }
-}
-
-fn machines_at(alloc: Global, table: &Table) -> Result<Vec<MachineRow>, DocumentFault>
-    ensures { IfOk result (λ rows.
-        HasRows IsMachineIn (key_word Machine) (table_view table.now) rows.items) }
-{
-    let values = tables_at(table, RowOf::Document, Key::Machine)?;
-    machines_in(alloc, values)
-}
-
-fn machines_in(alloc: Global, values: &[Value]) -> Result<Vec<MachineRow>, DocumentFault>
-    ensures { IfOk result (λ rows. AllZip IsMachineIn (map view values.now) rows.items) }
-{
-    let mut rows = Vec::new(alloc);
-    'rows: for i in 0..values.len() {
-        let row = machine_in(alloc, &values[i], i)?;
-        rows.push(row)?;
-    }
-    Ok(rows)
-}
-
-fn machine_in(alloc: Global, value: &Value, machine: usize) -> Result<MachineRow, DocumentFault>
-    ensures { IfOk result (IsMachineIn (view value.now)) }
-{
-    let at = RowOf::Machine(machine);
-    let table = table_in(value, RowOf::Document, Key::Machine)?;
-    check_keys(alloc, table, at)?;
-    let name = text_at(alloc, table, at, Key::Name)?;
-    let places = texts_at(alloc, table, at, Key::Places)?;
-    let poses = poses_at(alloc, table, machine)?;
-    let program = texts_at(alloc, table, at, Key::Program)?;
-    Ok(MachineRow {
-        name,
-        places,
-        poses,
-        program,
-    })
-}
-
-fn poses_at(alloc: Global, table: &Table, machine: usize) -> Result<Vec<PoseRow>, DocumentFault>
-    ensures { IfOk result (λ rows.
-        HasRows IsPoseIn (key_word Poses) (table_view table.now) rows.items) }
-{
-    let values = tables_at(table, RowOf::Machine(machine), Key::Poses)?;
-    poses_in(alloc, values, machine)
-}
-
-fn poses_in(alloc: Global, values: &[Value], machine: usize) -> Result<Vec<PoseRow>, DocumentFault>
-    ensures { IfOk result (λ rows. AllZip IsPoseIn (map view values.now) rows.items) }
-{
-    let mut rows = Vec::new(alloc);
-    'rows: for i in 0..values.len() {
-        let row = pose_in(alloc, &values[i], machine, i)?;
-        rows.push(row)?;
-    }
-    Ok(rows)
-}
-
-fn pose_in(
-    alloc: Global,
-    value: &Value,
-    machine: usize,
-    pose: usize,
-) -> Result<PoseRow, DocumentFault>
-    ensures { IfOk result (IsPoseIn (view value.now)) }
-{
-    let at = RowOf::Pose { machine, pose };
-    let table = table_in(value, RowOf::Machine(machine), Key::Poses)?;
-    check_keys(alloc, table, at)?;
-    let name = text_at(alloc, table, at, Key::Name)?;
-    let gives = gives_at(alloc, table, at)?;
-    let after_moving = truth_at(table, at, Key::AfterMoving)?;
-    Ok(PoseRow {
-        name,
-        gives,
-        after_moving,
-    })
-}
-
-fn zones_at(alloc: Global, table: &Table) -> Result<Vec<ZoneRow>, DocumentFault>
-    ensures { IfOk result (λ rows.
-        HasRows IsZoneIn (key_word Zone) (table_view table.now) rows.items) }
-{
-    let values = tables_at(table, RowOf::Document, Key::Zone)?;
-    zones_in(alloc, values)
-}
-
-fn zones_in(alloc: Global, values: &[Value]) -> Result<Vec<ZoneRow>, DocumentFault>
-    ensures { IfOk result (λ rows. AllZip IsZoneIn (map view values.now) rows.items) }
-{
-    let mut rows = Vec::new(alloc);
-    'rows: for i in 0..values.len() {
-        let row = zone_in(alloc, &values[i], i)?;
-        rows.push(row)?;
-    }
-    Ok(rows)
-}
-
-fn zone_in(alloc: Global, value: &Value, zone: usize) -> Result<ZoneRow, DocumentFault>
-    ensures { IfOk result (IsZoneIn (view value.now)) }
-{
-    let at = RowOf::Zone(zone);
-    let table = table_in(value, RowOf::Document, Key::Zone)?;
-    check_keys(alloc, table, at)?;
-    let name = text_at(alloc, table, at, Key::Name)?;
-    let host = text_at(alloc, table, at, Key::Host)?;
-    let guest = text_at(alloc, table, at, Key::Guest)?;
-    let inward = way_at(alloc, table, at, Key::Inward)?;
-    let outward = way_at(alloc, table, at, Key::Outward)?;
-    Ok(ZoneRow {
-        name,
-        host,
-        guest,
-        inward,
-        outward,
-    })
 }

@@ -4,18 +4,18 @@ ghost use Rattle.std.specs.List.{AllZip};
 ghost use Rattle.plan_document.specs.Names.{numbered};
 ghost use Rattle.plan_document.specs.Saying.{IsNamedPlanOf, IsPlanOf, IsProgramOf};
 
-use crate::document::Document;
+use crate::document::{Document, WayRow};
 use crate::fault::{
-    DocumentFault, Key, Location, PlanTextFault, RowOf, TooWide, WayEnd, Wrong, too_many,
+    DocumentFault, Key, PlanTextFault, RowOf, TooWide, WayEnd, Wrong, WrongPair, WrongText, too_many,
 };
 use crate::motors::{NamedMotors, named_motors_of};
 use crate::programs::programs_of;
 use crate::tables::rows_of;
-use crate::values::copy;
+use crate::values::position_of;
 use plan_explorer::Programs;
 use plan_text::NamedPlan;
 use plan_types::{MAX_MACHINES, MAX_PLACES, MAX_POSES, MAX_ZONES, Plan, PlanFault, Tables};
-use std::alloc::{AllocError, Global};
+use std::alloc::Global;
 
 /// What a document says.
 #[derive(Drop)]
@@ -137,77 +137,62 @@ fn too_wide(document: &Document, missing: u8) -> TooWide {
 
 /// The fault of a pose that gives a zone which its machine doesn't host.
 fn foreign_zone(alloc: Global, document: &Document, pose: usize, zone: usize) -> DocumentFault {
-    let at = pose_at(document, pose);
-    let name = document.zones.get(zone).map_or("", |row| row.name.as_str());
-    match copy(alloc, name) {
-        Ok(name) => at.key(Key::Gives).fault(Wrong::Foreign(name)),
-        Err(AllocError) => at.whole().fault(Wrong::Memory),
-    }
+    let name = match document.zones.get(zone) {
+        Some(row) => row.name.as_str(),
+        None => "",
+    };
+    pose_at(document, pose).key(Key::Gives).text_fault(alloc, WrongText::Foreign, name)
 }
 
 /// The fault of a way inward, which has to lead from a place of the guest to one of the host.
 fn inward_astray(alloc: Global, document: &Document, zone: usize) -> DocumentFault {
-    let at = RowOf::Zone(zone);
-    let Some((row, way)) = document
-        .zones
-        .get(zone)
-        .and_then(|row| row.inward.as_ref().map(|way| (row, way)))
-    else {
-        return at.key(Key::Inward).fault(Wrong::NoWay);
+    let Some(row) = document.zones.get(zone) else {
+        return RowOf::Zone(zone).key(Key::Inward).fault(Wrong::NoWay);
     };
-    if keeps(document, row.guest.as_str(), way.from.as_str()) {
-        let to = (way.to.as_str(), WayEnd::ToHost, row.host.as_str());
-        astray(alloc, at.item(Key::Inward, 1), to)
-    } else {
-        let from = (way.from.as_str(), WayEnd::FromGuest, row.guest.as_str());
-        astray(alloc, at.item(Key::Inward, 0), from)
-    }
+    let (host, guest) = (row.host.as_str(), row.guest.as_str());
+    let ends = ((WayEnd::FromGuest, guest), (WayEnd::ToHost, host));
+    way_astray(alloc, document, &row.inward, RowOf::Zone(zone), Key::Inward, ends)
 }
 
 /// The fault of a way outward, which has to lead from a place of the host to one of the guest.
 fn outward_astray(alloc: Global, document: &Document, zone: usize) -> DocumentFault {
-    let at = RowOf::Zone(zone);
-    let Some((row, way)) = document
-        .zones
-        .get(zone)
-        .and_then(|row| row.outward.as_ref().map(|way| (row, way)))
-    else {
-        return at.key(Key::Outward).fault(Wrong::NoWay);
+    let Some(row) = document.zones.get(zone) else {
+        return RowOf::Zone(zone).key(Key::Outward).fault(Wrong::NoWay);
     };
-    if keeps(document, row.host.as_str(), way.from.as_str()) {
-        let to = (way.to.as_str(), WayEnd::ToGuest, row.guest.as_str());
-        astray(alloc, at.item(Key::Outward, 1), to)
-    } else {
-        let from = (way.from.as_str(), WayEnd::FromHost, row.host.as_str());
-        astray(alloc, at.item(Key::Outward, 0), from)
+    let (host, guest) = (row.host.as_str(), row.guest.as_str());
+    let ends = ((WayEnd::FromHost, host), (WayEnd::ToGuest, guest));
+    way_astray(alloc, document, &row.outward, RowOf::Zone(zone), Key::Outward, ends)
+}
+
+/// The fault of a way, by its ends and the machines that have to keep the places there: the first place that isn't
+/// kept by its machine.
+fn way_astray(
+    alloc: Global,
+    document: &Document,
+    way: &Option<WayRow>,
+    at: RowOf,
+    key: Key,
+    ((from, giver), (to, receiver)): ((WayEnd, &str), (WayEnd, &str)),
+) -> DocumentFault {
+    let Some(way) = way else {
+        return at.key(key).fault(Wrong::NoWay);
+    };
+    let place = way.from.as_str();
+    if !keeps(document, giver, place) {
+        return at.item(key, 0).pair_fault(alloc, WrongPair::Astray(from), place, giver);
     }
+    let place = way.to.as_str();
+    at.item(key, 1).pair_fault(alloc, WrongPair::Astray(to), place, receiver)
 }
 
 /// Whether a machine keeps a place, by their names.
 fn keeps(document: &Document, machine: &str, place: &str) -> bool {
-    document.machines.iter().any(|row| {
-        row.name.as_str() == machine && row.places.iter().any(|kept| kept.as_str() == place)
-    })
-}
-
-/// The fault of an end of a way: the place there, which end it is, and the machine that doesn't keep it.
-fn astray(
-    alloc: Global,
-    at: Location,
-    (place, end, machine): (&str, WayEnd, &str),
-) -> DocumentFault {
-    match astray_end(alloc, place, end, machine) {
-        Ok(wrong) => at.fault(wrong),
-        Err(AllocError) => at.fault(Wrong::Memory),
+    for row in &document.machines {
+        if row.name.as_str() == machine && position_of(&row.places, place).is_some() {
+            return true;
+        }
     }
-}
-
-fn astray_end(alloc: Global, place: &str, end: WayEnd, machine: &str) -> Result<Wrong, AllocError> {
-    Ok(Wrong::Astray {
-        place: copy(alloc, place)?,
-        end,
-        machine: copy(alloc, machine)?,
-    })
+    false
 }
 
 /// The row of a pose by its number among those of all machines.

@@ -13,7 +13,7 @@ ghost use Rattle.plan_document.specs.Saying as saying;
 ghost use Rattle.plan_document.specs.declared.document.PoseRow.{PoseRow as Pose};
 
 use crate::document::{Document, MachineRow, PoseRow, PostureRow, WayRow, ZoneRow};
-use crate::fault::{DocumentFault, Key, Location, RowOf, Wrong};
+use crate::fault::{DocumentFault, Key, Location, RowOf, Wrong, WrongPair, WrongText};
 use crate::values::copy;
 use plan_text::names::{is_name, is_reserved};
 use plan_text::words::posture_in;
@@ -105,29 +105,31 @@ pub fn add_name(
     ensures spelled { OnOk result (IsTrue (spec.is_name name.now)) }
     ensures distinct { OnOk result (AreDistinct names.old → AreDistinct names.new) }
 {
-    match check_name(alloc, names, name, most) {
-        Ok(()) => {
-            push_name(alloc, names, name)?;
-            Ok(())
-        }
-        Err(wrong) => Err(at.fault(wrong)),
-    }
+    check_name(alloc, names, name, most, at)?;
+    push_name(alloc, names, name)?;
+    Ok(())
 }
 
 /// Refuses a name that is none, that is there already, or for which there is no room.
-fn check_name(alloc: Global, names: &Names, name: &str, most: usize) -> Result<(), Wrong>
+fn check_name(
+    alloc: Global,
+    names: &Names,
+    name: &str,
+    most: usize,
+    at: Location,
+) -> Result<(), DocumentFault>
     ensures room { OnOk result (length names.now < 64) }
     ensures spelled { OnOk result (IsTrue (spec.is_name name.now)) }
     ensures other { OnOk result (number_in names.now name.now ≡ None) }
 {
     if names.len() >= most || names.len() >= MAX_NAMES {
-        return Err(Wrong::TooMany(most));
+        return Err(at.fault(Wrong::TooMany(most)));
     }
     if !is_name(name) {
-        return Err(Wrong::NoName(copy(alloc, name)?));
+        return Err(at.text_fault(alloc, WrongText::NoName, name));
     }
     if names.number_of(name.as_bytes()).is_some() {
-        return Err(Wrong::Twice(copy(alloc, name)?));
+        return Err(at.text_fault(alloc, WrongText::Twice, name));
     }
     Ok(())
 }
@@ -135,7 +137,9 @@ fn check_name(alloc: Global, names: &Names, name: &str, most: usize) -> Result<(
 /// Adds a name where there is room for it.
 pub fn push_name(alloc: Global, names: &mut Names, name: &str) -> Result<(), DocumentFault>
     requires { length names.old < 64 }
-    ensures { OnOk result (names.new ≡ names.old ++ name.now ∷ []) }
+    ensures name { OnOk result (names.new ≡ names.old ++ name.now ∷ []) }
+    ensures distinct { OnOk result (number_in names.old name.now ≡ None
+        → AreDistinct names.old → AreDistinct names.new) }
 {
     let name = copy(alloc, name)?;
     names.push(name)?;
@@ -168,7 +172,7 @@ fn check_free(alloc: Global, name: &str, at: Location) -> Result<(), DocumentFau
     ensures { OnOk result (IsTrue (saying.is_free name.now)) }
 {
     if is_reserved(name) {
-        return Err(at.fault(Wrong::Reserved(copy(alloc, name)?)));
+        return Err(at.text_fault(alloc, WrongText::Reserved, name));
     }
     Ok(())
 }
@@ -276,8 +280,9 @@ fn zone_of(
 ) -> Result<PlanZone, DocumentFault>
     ensures { IfOk result (saying.IsZoneOf machines.now places.now row.now) }
 {
-    let host = machine_named(alloc, machines, row.host.as_str(), at.key(Key::Host))?;
-    let guest = machine_named(alloc, machines, row.guest.as_str(), at.key(Key::Guest))?;
+    let no_machine = WrongText::NoMachine;
+    let host = number_named(alloc, machines, row.host.as_str(), no_machine, at.key(Key::Host))?;
+    let guest = number_named(alloc, machines, row.guest.as_str(), no_machine, at.key(Key::Guest))?;
     let inward = way_named(alloc, places, &row.inward, at, Key::Inward)?;
     let outward = way_named(alloc, places, &row.outward, at, Key::Outward)?;
     Ok(PlanZone {
@@ -288,33 +293,19 @@ fn zone_of(
     })
 }
 
-/// The machine with a name.
-pub fn machine_named(
+/// The number of a name, which has to be one of these.
+pub fn number_named(
     alloc: Global,
-    machines: &Names,
+    names: &Names,
     name: &str,
+    why: WrongText,
     at: Location,
 ) -> Result<u8, DocumentFault>
-    ensures { IfOk result (λ number. number_in machines.now name.now ≡ Some number) }
+    ensures { IfOk result (λ number. number_in names.now name.now ≡ Some number) }
 {
-    match machines.number_of(name.as_bytes()) {
-        Some(machine) => Ok(machine),
-        None => Err(at.fault(Wrong::NoMachine(copy(alloc, name)?))),
-    }
-}
-
-/// The place with a name.
-pub fn place_named(
-    alloc: Global,
-    places: &Names,
-    name: &str,
-    at: Location,
-) -> Result<u8, DocumentFault>
-    ensures { IfOk result (λ number. number_in places.now name.now ≡ Some number) }
-{
-    match places.number_of(name.as_bytes()) {
-        Some(place) => Ok(place),
-        None => Err(at.fault(Wrong::NoPlace(copy(alloc, name)?))),
+    match names.number_of(name.as_bytes()) {
+        Some(number) => Ok(number),
+        None => Err(at.text_fault(alloc, why, name)),
     }
 }
 
@@ -331,8 +322,9 @@ fn way_named(
     let Some(way) = way else {
         return Ok(None);
     };
-    let from = place_named(alloc, places, way.from.as_str(), at.item(key, 0))?;
-    let to = place_named(alloc, places, way.to.as_str(), at.item(key, 1))?;
+    let no_place = WrongText::NoPlace;
+    let from = number_named(alloc, places, way.from.as_str(), no_place, at.item(key, 0))?;
+    let to = number_named(alloc, places, way.to.as_str(), no_place, at.item(key, 1))?;
     Ok(Some(Way { from, to }))
 }
 
@@ -462,7 +454,7 @@ fn add_identifier(names: &mut Names, name: String, at: Location) -> Result<(), D
         return Err(at.fault(Wrong::TooMany(MAX_POSES)));
     }
     if names.number_of(name.as_str().as_bytes()).is_some() {
-        return Err(at.fault(Wrong::SameInC(name)));
+        return Err(at.fault(Wrong::Text(WrongText::SameInC, name)));
     }
     names.push(name)?;
     Ok(())
@@ -507,21 +499,6 @@ pub fn gives_of(
     Ok(gives)
 }
 
-/// The zone with a name.
-pub fn zone_named(
-    alloc: Global,
-    zones: &Names,
-    name: &str,
-    at: Location,
-) -> Result<u8, DocumentFault>
-    ensures { IfOk result (λ number. number_in zones.now name.now ≡ Some number) }
-{
-    match zones.number_of(name.as_bytes()) {
-        Some(zone) => Ok(zone),
-        None => Err(at.fault(Wrong::NoZone(copy(alloc, name)?))),
-    }
-}
-
 /// The zone that a row is about, and the posture that the row gives it.
 fn given_by(
     alloc: Global,
@@ -534,17 +511,11 @@ fn given_by(
     ensures posture { IfOk result (λ given.
         posture_of (string_bytes row.now.posture) ≡ Some given.1) }
 {
-    let zone = zone_named(alloc, zones, row.zone.as_str(), at)?;
-    let Some(posture) = posture_in(row.posture.as_str()) else {
-        return Err(at.fault(no_posture(alloc, row)?));
-    };
-    Ok((zone, posture))
-}
-
-/// What is wrong with a row whose posture is none.
-fn no_posture(alloc: Global, row: &PostureRow) -> Result<Wrong, AllocError> {
-    Ok(Wrong::NoPosture {
-        zone: copy(alloc, row.zone.as_str())?,
-        word: copy(alloc, row.posture.as_str())?,
-    })
+    let name = row.zone.as_str();
+    let word = row.posture.as_str();
+    let zone = number_named(alloc, zones, name, WrongText::NoZone, at)?;
+    match posture_in(word) {
+        Some(posture) => Ok((zone, posture)),
+        None => Err(at.pair_fault(alloc, WrongPair::NoPosture, name, word)),
+    }
 }

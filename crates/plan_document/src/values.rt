@@ -9,7 +9,7 @@ ghost use Rattle.plan_document.specs.declared.fault.Wrong.TheVariants.{Memory as
 ghost use Rattle.plan_document.specs.Reading as reading;
 
 use crate::document::{PostureRow, WayRow};
-use crate::fault::{DocumentFault, Key, Location, RowOf, Wrong};
+use crate::fault::{DocumentFault, Key, Location, RowOf, Wrong, WrongText};
 use std::alloc::{AllocError, Global};
 use toml::{Table, Value};
 
@@ -18,6 +18,11 @@ pub fn copy(alloc: Global, text: &str) -> Result<String, AllocError>
     ensures { IfOk result (λ copied. string_bytes copied ≡ text.now) }
 {
     String::from_str(alloc, text)
+}
+
+/// The number of a text in a list, if it is there.
+pub fn position_of(texts: &[String], text: &str) -> Option<usize> {
+    texts.iter().position(|other| other.as_str() == text)
 }
 
 /// The value at a key, if it is there.
@@ -281,8 +286,7 @@ pub fn check_keys(alloc: Global, table: &Table, row: RowOf) -> Result<(), Docume
 {
     'entries: for (key, _) in table.iter() {
         if !row.has_key(key.as_str()) {
-            let key = copy(alloc, key.as_str())?;
-            return Err(row.whole().fault(Wrong::Unknown(key)));
+            return Err(row.whole().text_fault(alloc, WrongText::Unknown, key.as_str()));
         }
     }
     Ok(())

@@ -1,4 +1,6 @@
-use Rattle.plan_document.proofs.PlanLaws.{endangered, kept, needed, posed, zoned}
+use Rattle.plan_document.proofs.MotorLaws.{endangered, needed}
+use Rattle.plan_document.proofs.PlanLaws.{kept, zoned}
+use Rattle.plan_document.proofs.PostureLaws.{posed}
 use Rattle.plan_document.proofs.laws.rows_have_names.Goals as goal
 
 pub returns-clause-places : goal.returns-clause-places

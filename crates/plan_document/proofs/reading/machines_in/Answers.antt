@@ -1,9 +1,0 @@
-use Rattle.std.proofs.Common.{arith}
-use Rattle.toml.specs.View.{view}
-use Rattle.plan_document.specs.Reading.{IsMachineIn}
-use Rattle.plan_document.proofs.Growing.{mapped_more}
-use Rattle.plan_document.proofs.reading.machines_in.Goals as goal
-
-pub rows-preserved : goal.rows-preserved
-rows-preserved c =
-    mapped_more view IsMachineIn c.args.values.now c.rows.i c.index-values-i.result c.rows.rows.items c.push.new.self.items c.in_ok-row.row (omega arith) c.index-values-i.is c.rows.invariant c.in_ok-row.ensures c.in_ok-push.ensures.items
