@@ -316,6 +316,17 @@ pub struct Location {
 }
 
 impl RowOf {
+    /// The list of the document in which the row is, or the machine that has it, and the number there.
+    pub fn number(self) -> Option<(Key, usize)> {
+        match self {
+            RowOf::Document => None,
+            RowOf::Machine(machine) | RowOf::Pose { machine, .. } => Some((Key::Machine, machine)),
+            RowOf::Zone(zone) => Some((Key::Zone, zone)),
+            RowOf::Motor(motor) => Some((Key::Motor, motor)),
+            RowOf::Hazard(hazard) => Some((Key::Hazard, hazard)),
+        }
+    }
+
     /// The row as a whole.
     pub fn whole(self) -> Location {
         Location {
@@ -369,24 +380,22 @@ impl Location {
         first: &str,
         second: &str,
     ) -> DocumentFault {
-        match String::from_str(alloc, first) {
-            Ok(first) => self.second_fault(alloc, why, first, second),
+        match wrong_pair(alloc, why, first, second) {
+            Ok(wrong) => self.fault(wrong),
             Err(AllocError) => self.fault(Wrong::Memory),
         }
     }
+}
 
-    fn second_fault(
-        self,
-        alloc: Global,
-        why: WrongPair,
-        first: String,
-        second: &str,
-    ) -> DocumentFault {
-        match String::from_str(alloc, second) {
-            Ok(second) => self.fault(Wrong::Pair(why, first, second)),
-            Err(AllocError) => self.fault(Wrong::Memory),
-        }
-    }
+fn wrong_pair(
+    alloc: Global,
+    why: WrongPair,
+    first: &str,
+    second: &str,
+) -> Result<Wrong, AllocError> {
+    let first = String::from_str(alloc, first)?;
+    let second = String::from_str(alloc, second)?;
+    Ok(Wrong::Pair(why, first, second))
 }
 
 /// What is wrong with a document, and where.

@@ -1,8 +1,8 @@
 //! The words of faults.
 
 use crate::fault::{
-    DocumentFault, Key, Location, PlanTextFault, RowNames, RowOf, TooWide, WayEnd, Wrong, WrongPair,
-    WrongText,
+    DocumentFault, Key, Location, PlanTextFault, RowNames, RowOf, TooWide, WayEnd, Wrong,
+    WrongPair, WrongText,
 };
 use crate::reading::MAX_BYTES;
 use std::fmt;

@@ -40,8 +40,10 @@ fn line_of_steps(
         return Ok(None);
     };
     let places = places_in(alloc, text, MAX_DEPTH)?;
-    let nearest = nearest_place(places.as_slice(), steps);
-    Ok(nearest.map(|place| line_number(bytes, place.start)))
+    match nearest_place(places.as_slice(), steps) {
+        Some(place) => Ok(Some(line_number(bytes, place.start))),
+        None => Ok(None),
+    }
 }
 
 /// The steps to what a fault is about.
@@ -86,16 +88,12 @@ fn key_name_of(fault: &DocumentFault) -> Option<&str> {
 
 /// Adds the steps to a row.
 fn push_row(steps: &mut Vec<Step<'_>>, row: RowOf) -> Result<(), AllocError> {
+    if let Some((key, number)) = row.number() {
+        push_item(steps, key, number)?;
+    }
     match row {
-        RowOf::Document => Ok(()),
-        RowOf::Machine(machine) => push_item(steps, Key::Machine, machine),
-        RowOf::Pose { machine, pose } => {
-            push_item(steps, Key::Machine, machine)?;
-            push_item(steps, Key::Poses, pose)
-        }
-        RowOf::Zone(zone) => push_item(steps, Key::Zone, zone),
-        RowOf::Motor(motor) => push_item(steps, Key::Motor, motor),
-        RowOf::Hazard(hazard) => push_item(steps, Key::Hazard, hazard),
+        RowOf::Pose { pose, .. } => push_item(steps, Key::Poses, pose),
+        _ => Ok(()),
     }
 }
 

@@ -120,7 +120,13 @@ fn motor_of(
 {
     let name = row.machine.as_str();
     let machine_at = at.key(Key::Machine);
-    let machine = number_named(alloc, named.machines(), name, WrongText::NoMachine, machine_at)?;
+    let machine = number_named(
+        alloc,
+        named.machines(),
+        name,
+        WrongText::NoMachine,
+        machine_at,
+    )?;
     let zones = needs_of(alloc, named.zones(), row, at)?;
     let places = place_needs_of(alloc, named.places(), row, at)?;
     Ok(Motor {
@@ -410,12 +416,7 @@ fn add_title(
 }
 
 /// Refuses a hazard's name that is none, that is there already, or for which there is no room.
-fn check_title(
-    alloc: Global,
-    names: &Names,
-    title: &str,
-    at: Location,
-) -> Result<(), DocumentFault>
+fn check_title(alloc: Global, names: &Names, title: &str, at: Location) -> Result<(), DocumentFault>
     ensures room { OnOk result (length names.now < 64) }
     ensures spelled { OnOk result (IsTrue (naming.is_title title.now)) }
     ensures other { OnOk result (number_in names.now title.now ≡ None) }
@@ -544,7 +545,9 @@ fn foreign_zone(
 ) -> DocumentFault {
     let name = name_with(named.zones(), zone);
     let key = key_of_zone(document, motor, name);
-    RowOf::Motor(motor).key(key).text_fault(alloc, WrongText::NoParty, name)
+    RowOf::Motor(motor)
+        .key(key)
+        .text_fault(alloc, WrongText::NoParty, name)
 }
 
 /// The key under which a motor names a zone.
@@ -562,7 +565,9 @@ fn key_of_zone(document: &Document, motor: usize, zone: &str) -> Key {
 /// The fault of a motor that needs a posture of a zone that its machine neither hosts nor has to hold.
 fn not_held(alloc: Global, named: &NamedPlan, motor: usize, zone: usize) -> DocumentFault {
     let name = name_with(named.zones(), zone);
-    RowOf::Motor(motor).key(Key::Stands).text_fault(alloc, WrongText::Foreign, name)
+    RowOf::Motor(motor)
+        .key(Key::Stands)
+        .text_fault(alloc, WrongText::Foreign, name)
 }
 
 /// The fault of a motor that needs a place which its machine doesn't keep.
@@ -583,7 +588,10 @@ fn location_of_place(document: &Document, motor: usize, place: &str) -> Location
     let Some(row) = document.motors.get(motor) else {
         return at.whole();
     };
-    match (position_of(&row.full, place), position_of(&row.empty, place)) {
+    match (
+        position_of(&row.full, place),
+        position_of(&row.empty, place),
+    ) {
         (Some(item), _) => at.item(Key::Full, item),
         (None, Some(item)) => at.item(Key::Empty, item),
         (None, None) => at.whole(),

@@ -6,7 +6,8 @@ ghost use Rattle.plan_document.specs.Saying.{IsNamedPlanOf, IsPlanOf, IsProgramO
 
 use crate::document::{Document, WayRow};
 use crate::fault::{
-    DocumentFault, Key, PlanTextFault, RowOf, TooWide, WayEnd, Wrong, WrongPair, WrongText, too_many,
+    DocumentFault, Key, PlanTextFault, RowOf, TooWide, WayEnd, Wrong, WrongPair, WrongText,
+    too_many,
 };
 use crate::motors::{NamedMotors, named_motors_of};
 use crate::programs::programs_of;
@@ -141,7 +142,9 @@ fn foreign_zone(alloc: Global, document: &Document, pose: usize, zone: usize) ->
         Some(row) => row.name.as_str(),
         None => "",
     };
-    pose_at(document, pose).key(Key::Gives).text_fault(alloc, WrongText::Foreign, name)
+    pose_at(document, pose)
+        .key(Key::Gives)
+        .text_fault(alloc, WrongText::Foreign, name)
 }
 
 /// The fault of a way inward, which has to lead from a place of the guest to one of the host.
@@ -151,7 +154,14 @@ fn inward_astray(alloc: Global, document: &Document, zone: usize) -> DocumentFau
     };
     let (host, guest) = (row.host.as_str(), row.guest.as_str());
     let ends = ((WayEnd::FromGuest, guest), (WayEnd::ToHost, host));
-    way_astray(alloc, document, &row.inward, RowOf::Zone(zone), Key::Inward, ends)
+    way_astray(
+        alloc,
+        document,
+        &row.inward,
+        RowOf::Zone(zone),
+        Key::Inward,
+        ends,
+    )
 }
 
 /// The fault of a way outward, which has to lead from a place of the host to one of the guest.
@@ -161,7 +171,14 @@ fn outward_astray(alloc: Global, document: &Document, zone: usize) -> DocumentFa
     };
     let (host, guest) = (row.host.as_str(), row.guest.as_str());
     let ends = ((WayEnd::FromHost, host), (WayEnd::ToGuest, guest));
-    way_astray(alloc, document, &row.outward, RowOf::Zone(zone), Key::Outward, ends)
+    way_astray(
+        alloc,
+        document,
+        &row.outward,
+        RowOf::Zone(zone),
+        Key::Outward,
+        ends,
+    )
 }
 
 /// The fault of a way, by its ends and the machines that have to keep the places there: the first place that isn't
@@ -179,10 +196,13 @@ fn way_astray(
     };
     let place = way.from.as_str();
     if !keeps(document, giver, place) {
-        return at.item(key, 0).pair_fault(alloc, WrongPair::Astray(from), place, giver);
+        return at
+            .item(key, 0)
+            .pair_fault(alloc, WrongPair::Astray(from), place, giver);
     }
     let place = way.to.as_str();
-    at.item(key, 1).pair_fault(alloc, WrongPair::Astray(to), place, receiver)
+    at.item(key, 1)
+        .pair_fault(alloc, WrongPair::Astray(to), place, receiver)
 }
 
 /// Whether a machine keeps a place, by their names.

@@ -70,7 +70,12 @@ impl RowKind for Machines {
 
     ghost is_in = { IsMachineIn };
 
-    fn read(self, alloc: Global, value: &Value, number: usize) -> Result<MachineRow, DocumentFault> {
+    fn read(
+        self,
+        alloc: Global,
+        value: &Value,
+        number: usize,
+    ) -> Result<MachineRow, DocumentFault> {
         let at = RowOf::Machine(number);
         let table = table_in(value, RowOf::Document, Key::Machine)?;
         check_keys(alloc, table, at)?;
@@ -100,7 +105,10 @@ impl RowKind for PosesOf {
 
     fn read(self, alloc: Global, value: &Value, number: usize) -> Result<PoseRow, DocumentFault> {
         let machine = self.machine;
-        let at = RowOf::Pose { machine, pose: number };
+        let at = RowOf::Pose {
+            machine,
+            pose: number,
+        };
         let table = table_in(value, RowOf::Machine(machine), Key::Poses)?;
         check_keys(alloc, table, at)?;
         let name = text_at(alloc, table, at, Key::Name)?;

@@ -281,8 +281,10 @@ fn zone_of(
     ensures { IfOk result (saying.IsZoneOf machines.now places.now row.now) }
 {
     let no_machine = WrongText::NoMachine;
-    let host = number_named(alloc, machines, row.host.as_str(), no_machine, at.key(Key::Host))?;
-    let guest = number_named(alloc, machines, row.guest.as_str(), no_machine, at.key(Key::Guest))?;
+    let host_at = at.key(Key::Host);
+    let host = number_named(alloc, machines, row.host.as_str(), no_machine, host_at)?;
+    let guest_at = at.key(Key::Guest);
+    let guest = number_named(alloc, machines, row.guest.as_str(), no_machine, guest_at)?;
     let inward = way_named(alloc, places, &row.inward, at, Key::Inward)?;
     let outward = way_named(alloc, places, &row.outward, at, Key::Outward)?;
     Ok(PlanZone {

@@ -142,41 +142,55 @@ pub fn way_at(
     let Some(value) = value_at(table, key) else {
         return Ok(None);
     };
-    let way = way_in(alloc, value, row.key(key))?;
-    Ok(Some(way))
+    let (from, to) = two_texts(alloc, value, row, key)?;
+    Ok(Some(WayRow { from, to }))
 }
 
-/// The two places of a way.
-fn way_in(alloc: Global, value: &Value, at: Location) -> Result<WayRow, DocumentFault>
-    ensures { IfOk result (λ way. reading.IsWay (Some (view value.now)) (Some way)) }
+/// The two texts in the list of a key.
+fn two_texts(
+    alloc: Global,
+    value: &Value,
+    row: RowOf,
+    key: Key,
+) -> Result<(String, String), DocumentFault>
+    ensures { IfOk result (λ both. view value.now ≡ reading.pair both.0 both.1) }
 {
     let Some(items) = value.as_array() else {
-        return Err(at.fault(Wrong::NoWay));
+        return Err(row.key(key).fault(no_two_texts(key)));
     };
     match items.as_slice() {
-        [from, to] => way_between(alloc, from, to, at),
-        _ => Err(at.fault(Wrong::NoWay)),
+        [first, second] => both_of(alloc, first, second, row, key),
+        _ => Err(row.key(key).fault(no_two_texts(key))),
     }
 }
 
-fn way_between(
+/// What is wrong with the value of a key that takes a list of two texts.
+fn no_two_texts(key: Key) -> Wrong {
+    match key {
+        Key::Motors => Wrong::NoMotors,
+        _ => Wrong::NoWay,
+    }
+}
+
+fn both_of(
     alloc: Global,
-    from: &Value,
-    to: &Value,
-    at: Location,
-) -> Result<WayRow, DocumentFault>
-    ensures from { IfOk result (λ way. view from.now ≡ reading.written way.from) }
-    ensures to { IfOk result (λ way. view to.now ≡ reading.written way.to) }
+    first: &Value,
+    second: &Value,
+    row: RowOf,
+    key: Key,
+) -> Result<(String, String), DocumentFault>
+    ensures first { IfOk result (λ both. view first.now ≡ reading.written both.0) }
+    ensures second { IfOk result (λ both. view second.now ≡ reading.written both.1) }
 {
-    let Some(from) = from.as_str() else {
-        return Err(at.fault(Wrong::NoWay));
+    let Some(first) = first.as_str() else {
+        return Err(row.key(key).fault(no_two_texts(key)));
     };
-    let Some(to) = to.as_str() else {
-        return Err(at.fault(Wrong::NoWay));
+    let Some(second) = second.as_str() else {
+        return Err(row.key(key).fault(no_two_texts(key)));
     };
-    let from = copy(alloc, from)?;
-    let to = copy(alloc, to)?;
-    Ok(WayRow { from, to })
+    let first = copy(alloc, first)?;
+    let second = copy(alloc, second)?;
+    Ok((first, second))
 }
 
 /// What a pose gives: a table from zones to postures, which has to be there.
@@ -245,37 +259,10 @@ pub fn motors_at(
     ensures { IfOk result (λ both.
         get_member (key_word Motors) (table_view table.now) ≡ Some (reading.pair both.0 both.1)) }
 {
-    let at = row.key(Key::Motors);
-    let Some(value) = value_at(table, Key::Motors) else {
-        return Err(at.fault(Wrong::Missing));
-    };
-    let Some(items) = value.as_array() else {
-        return Err(at.fault(Wrong::NoMotors));
-    };
-    match items.as_slice() {
-        [first, second] => both_of(alloc, first, second, at),
-        _ => Err(at.fault(Wrong::NoMotors)),
+    match value_at(table, Key::Motors) {
+        Some(value) => two_texts(alloc, value, row, Key::Motors),
+        None => Err(row.key(Key::Motors).fault(Wrong::Missing)),
     }
-}
-
-fn both_of(
-    alloc: Global,
-    first: &Value,
-    second: &Value,
-    at: Location,
-) -> Result<(String, String), DocumentFault>
-    ensures first { IfOk result (λ both. view first.now ≡ reading.written both.0) }
-    ensures second { IfOk result (λ both. view second.now ≡ reading.written both.1) }
-{
-    let Some(first) = first.as_str() else {
-        return Err(at.fault(Wrong::NoMotors));
-    };
-    let Some(second) = second.as_str() else {
-        return Err(at.fault(Wrong::NoMotors));
-    };
-    let first = copy(alloc, first)?;
-    let second = copy(alloc, second)?;
-    Ok((first, second))
 }
 
 /// Refuses a row with a key that such a row may not have.
@@ -286,7 +273,10 @@ pub fn check_keys(alloc: Global, table: &Table, row: RowOf) -> Result<(), Docume
 {
     'entries: for (key, _) in table.iter() {
         if !row.has_key(key.as_str()) {
-            return Err(row.whole().text_fault(alloc, WrongText::Unknown, key.as_str()));
+            return Err(
+                row.whole()
+                    .text_fault(alloc, WrongText::Unknown, key.as_str()),
+            );
         }
     }
     Ok(())
