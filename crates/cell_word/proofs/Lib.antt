@@ -8,11 +8,10 @@ mod PartyLemmas
 mod Trying
 mod Turning
 mod SameAnswer
-mod ZoneGuards
-mod PoseGuards
 mod Writing
 mod Changing
 mod Possible
+mod Looking
 mod GuardsHold
 mod StateWordsHold
 mod ZonesAtOnce

@@ -1,7 +1,7 @@
 -- What the word of a sound state shows through windows on its zones, its places, its stamp and its mark.
-use Rattle.cell_word.proofs.Names.{◌≡◌, ℕ, ◌+◌, ◌*◌, ◌^◌, Bool, true, false, ◌&&◌, refl, ap, ◌∙◌, bit_and, bit_or, Zone, Place, transfer_of, ModelState, zone_at, is_full, one_if, IsSound, implies, has_lawful_owner, is_lawful_plate, is_received_by, is_onto_full, is_open_to_guest, moves_by_host, is_of_some_pose, ZoneState, and_both, zone_bit, place_bit, stamp_bit, mark_bit, owner_code, posture_code, packed, bits_of}
-use Rattle.cell_word.proofs.lemmas.RoundTrip.{zone_fields_read, place_field_read, stamp_read, mark_read}
-use Rattle.cell_word.proofs.Windows.{and_or, field_shown, five_bits}
+use Rattle.cell_word.proofs.Names.{◌≡◌, ℕ, ◌+◌, ◌*◌, ◌^◌, Bool, true, false, ◌&&◌, refl, ap, ◌∙◌, bit_and, Zone, Place, transfer_of, ModelState, zone_at, is_full, one_if, IsSound, implies, has_lawful_owner, is_lawful_plate, is_received_by, is_onto_full, is_open_to_guest, moves_by_host, is_of_some_pose, ZoneState, and_both, zone_bit, place_bit, stamp_bit, mark_bit, owner_code, posture_code, packed, bits_of}
+use Rattle.cell_word.proofs.lemmas.RoundTrip.{ZoneRead, zone_fields_read, place_field_read, stamp_read, mark_read}
+use Rattle.cell_word.proofs.Windows.{field_shown, five_bits}
 
 -- the five bits of a zone
 abbrev pub zone_code : Zone → ZoneState → ℕ
@@ -28,13 +28,11 @@ mark_window = 1 * 2 ^ mark_bit
 abbrev pub mark_word : Bool → ℕ
 mark_word b = one_if b * 2 ^ mark_bit
 
+pub five_read : (w : ℕ) (z : Zone) (v : ZoneState) → ZoneRead w z v → bits_of w (zone_bit z) 5 ≡ zone_code z v
+five_read w z v r = five_bits w (zone_bit z) ∙ (λ i. r.owner i + 4 * r.flag i + 8 * r.posture i)
+
 pub zone_five : (s : ModelState) → IsSound s → (z : Zone) → bits_of (packed s) (zone_bit z) 5 ≡ zone_code z (zone_at s z)
-zone_five s sound z =
-    let r = zone_fields_read s sound z in
-    five_bits (packed s) (zone_bit z)
-    ∙ ap (λ n. n + 4 * bits_of (packed s) (zone_bit z + 2) 1 + 8 * bits_of (packed s) (zone_bit z + 3) 2) r.owner
-    ∙ ap (λ n. owner_code z (zone_at s z).owner + 4 * n + 8 * bits_of (packed s) (zone_bit z + 3) 2) r.flag
-    ∙ ap (λ n. owner_code z (zone_at s z).owner + 4 * one_if (zone_at s z).flag + 8 * n) r.posture
+zone_five s sound z = five_read (packed s) z (zone_at s z) (zone_fields_read s sound z)
 
 pub zone_shown : (s : ModelState) → IsSound s → (z : Zone) → bit_and (packed s) (zone_window z) ≡ zone_word z (zone_at s z)
 zone_shown s sound z = field_shown (packed s) (zone_bit z) 5 ∙ ap (λ n. n * 2 ^ zone_bit z) (zone_five s sound z)
@@ -47,14 +45,6 @@ stamp_shown s sound = field_shown (packed s) stamp_bit 20 ∙ ap (λ n. n * 2 ^ 
 
 pub mark_shown : (s : ModelState) → IsSound s → bit_and (packed s) mark_window ≡ mark_word s.stopped
 mark_shown s sound = field_shown (packed s) mark_bit 1 ∙ ap (λ n. n * 2 ^ mark_bit) (mark_read s sound)
-
--- a zone and a place at once
-pub zone_and_place_shown : (s : ModelState) → IsSound s → (z : Zone) (p : Place)
-    → bit_and (packed s) (bit_or (zone_window z) (place_window p)) ≡ bit_or (zone_word z (zone_at s z)) (place_word p (is_full s p))
-zone_and_place_shown s sound z p =
-    and_or (packed s) (zone_window z) (place_window p)
-    ∙ ap (λ n. bit_or n (bit_and (packed s) (place_window p))) (zone_shown s sound z)
-    ∙ ap (bit_or (zone_word z (zone_at s z))) (place_shown s sound p)
 
 -- ---- what a sound state has at a zone, whatever is at its places
 abbrev pub is_lawful : Zone → ZoneState → Bool

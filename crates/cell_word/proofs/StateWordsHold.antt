@@ -5,9 +5,8 @@ use Rattle.cell_word.proofs.Names.{place_bit, mark_bit, packed, bits_of, is_bit_
 use Rattle.cell_types.specs.Everything.{all_zones as every_zone}
 use Rattle.cell_word.proofs.lemmas.RoundTrip.{told_back, laid_out}
 use Rattle.cell_word.proofs.SameAnswer.{same_bool, one_bool}
-use Rattle.cell_word.proofs.Windows.{and_or, stands-window, field_shown, all_below, from_below, five_fit}
+use Rattle.cell_word.proofs.Windows.{and_or, and_zero, stands-window, field_shown, all_below, from_below, five_fit}
 use Rattle.cell_word.proofs.Seen.{zone_code, zone_window, place_window, place_word, zone_five, is_lawful, lawful_at}
-use Rattle.cell_word.proofs.ZoneGuards.{and_zero}
 use Rattle.cell_word.proofs.Writing.{is_word_of}
 
 -- ---- the state that a word encodes, zone by zone and place by place

@@ -1,5 +1,5 @@
 -- A row of guards sees only the bits of a word under its masks.
-use Rattle.cell_word.proofs.Names.{◌≡◌, inl, inr, ℕ, zero, suc, ◌+◌, ◌-◌, ◌*◌, ◌/◌, ◌%◌, ◌^◌, ◌<◌, min, max, Bool, true, false, ◌&&◌, cond, nat_eq, Option, Some, option_map, List, [], ◌∷◌, ◌++◌, refl, sym, ap, ◌∙◌, subst, arith, eqb-true, eq-eqb, ne_eqb, bit_and, bit_or, cases_lt, eqb-false, bit_at, option_or, find, list_all, mul_comm, mul-sub, and_assoc, and_mask, mod_below, pow-add, shr-shr, shl-shr, and_high, bit_at_and, bit_at_or}
+use Rattle.cell_word.proofs.Names.{◌≡◌, inl, inr, ℕ, zero, suc, ◌+◌, ◌-◌, ◌*◌, ◌/◌, ◌%◌, ◌^◌, ◌<◌, min, max, Bool, true, false, ◌&&◌, cond, nat_eq, Option, Some, option_map, List, [], ◌∷◌, ◌++◌, refl, sym, ap, ap₂, ◌∙◌, subst, arith, eqb-true, eq-eqb, ne_eqb, bit_and, bit_or, cases_lt, eqb-false, bit_at, option_or, find, list_all, mul_comm, mul-sub, and_assoc, and_le_r, and_mask, mod_below, pow-add, pow_pos, shr-shr, shl-shr, and_high, bit_at_and, bit_at_or}
 use Rattle.cell_word.proofs.Names.{same_from_bits, and_left, and_right, bits_of, stands, field_is, first_refusal, Pattern, Guard}
 use Rattle.cell_types.specs.declared.answer.Refusal.{Refusal}
 
@@ -25,7 +25,7 @@ stands-window w window p inside =
     let same : bit_and window p.mask ≡ p.mask = eqb-true (bit_and window p.mask) p.mask inside in
     ap (λ n. nat_eq n p.wanted) (ap (bit_and w) (sym same) ∙ sym (and_assoc p.mask w window))
 
-next : (t u : Bool) (g : Guard) (x y : Option Guard) → t ≡ u → option_map (λ (g : Guard). g.refusal) x ≡ option_map (λ (g : Guard). g.refusal) y
+pub next : (t u : Bool) (g : Guard) (x y : Option Guard) → t ≡ u → option_map (λ (g : Guard). g.refusal) x ≡ option_map (λ (g : Guard). g.refusal) y
     → option_map (λ (g : Guard). g.refusal) (cond t (Some g) x) ≡ option_map (λ (g : Guard). g.refusal) (cond u (Some g) y)
 next true true g x y e r = refl
 next false false g x y e r = r
@@ -37,6 +37,13 @@ first-window w window (g ∷ gs) inside =
     let rest = first-window w window gs (and_right (is_within window g) (all_within window gs) inside) in
     let here = stands-window w window g.pattern (and_left (is_within window g) (all_within window gs) inside) in
     next (stands w g.pattern) (stands (bit_and w window) g.pattern) g (find (λ g. stands w g.pattern) gs) (find (λ g. stands (bit_and w window) g.pattern) gs) here rest
+
+pub and_zero : (w : ℕ) → bit_and w 0 ≡ 0
+and_zero w = omega (arith, and_le_r w 0)
+
+-- guards that look at no bits
+pub blind : (w : ℕ) (row : List Guard) → all_within 0 row ≡ true → first_refusal w row ≡ first_refusal 0 row
+blind w row inside = first-window w 0 row inside ∙ ap (λ n. first_refusal n row) (and_zero w)
 
 -- ---- what windows show
 spread : (a b c : ℕ) → min a (max b c) ≡ max (min a b) (min a c)
@@ -106,3 +113,19 @@ from_below (suc n) P e c h =
 
 pub five_fit : (w k : ℕ) → bits_of w k 5 < 32
 five_fit w k = mod_below (w / 2 ^ k) 32 (omega arith)
+
+-- ---- tests of all values of some fields, each by its lowest bit and its width
+abbrev pub all_values : List (ℕ × ℕ) → (ℕ → Bool) → ℕ → Bool
+all_values [] P v = P v
+all_values (f ∷ fs) P v = all_below (2 ^ f.1) (λ n. all_values fs P (bit_or v (n * 2 ^ f.0)))
+
+abbrev pub window_on : List (ℕ × ℕ) → ℕ → ℕ
+window_on [] n = n
+window_on (f ∷ fs) n = window_on fs (bit_or n ((2 ^ f.1 - 1) * 2 ^ f.0))
+
+pub from_values : (fs : List (ℕ × ℕ)) (P : ℕ → Bool) (w n v : ℕ) → bit_and w n ≡ v → all_values fs P v ≡ true → P (bit_and w (window_on fs n)) ≡ true
+from_values [] P w n v e test = ap P e ∙ test
+from_values (f ∷ fs) P w n v e test =
+    let value = bits_of w f.0 f.1 in
+    from_values fs P w (bit_or n ((2 ^ f.1 - 1) * 2 ^ f.0)) (bit_or v (value * 2 ^ f.0)) (and_or w n ((2 ^ f.1 - 1) * 2 ^ f.0) ∙ ap₂ bit_or e (field_shown w f.0 f.1))
+    (from_below (2 ^ f.1) (λ n. all_values fs P (bit_or v (n * 2 ^ f.0))) test value (mod_below (w / 2 ^ f.0) (2 ^ f.1) (pow_pos f.1)))

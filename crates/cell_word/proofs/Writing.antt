@@ -3,7 +3,7 @@ use Rattle.cell_word.proofs.Names.{◌≡◌, ℕ, ◌+◌, ◌-◌, ◌*◌, �
 use Rattle.cell_word.proofs.Names.{ModelState, zone_at, is_full, one_if, ZoneState, Field, field, word_of, zone_bit, place_bit, stamp_bit, mark_bit, owner_code, posture_code, zone_fields, fields_of, packed, bits_of, SideBySide, ReadsBack, IsOffStamp, with_written}
 use Rattle.cell_word.proofs.Fields.{word-cons, arranged}
 use Rattle.cell_word.proofs.lemmas.RoundTrip.{ZoneRead, owner_fits, flag_fits, posture_fits, all_fields, all_three, side_by_side}
-use Rattle.cell_word.proofs.Seen.{zone_code}
+use Rattle.cell_word.proofs.Seen.{zone_code, five_read}
 
 -- ---- a number is the word of the fields that read back from it
 upper_part : (start end x : ℕ) (fs : List Field) → SideBySide start end fs → All (ReadsBack x) fs → x < 2 ^ end → x / 2 ^ start * 2 ^ start ≡ word_of fs
@@ -72,7 +72,7 @@ cleared w mask small within =
 abbrev pub rewritten : ℕ → ℕ → ℕ → ℕ
 rewritten v keep set = bit_or (bit_and v keep) set
 
-pub unchanged : (v n : ℕ) → v < 2 ^ n → rewritten v (2 ^ n - 1) 0 ≡ v
+unchanged : (v n : ℕ) → v < 2 ^ n → rewritten v (2 ^ n - 1) 0 ≡ v
 unchanged v n small = or_comm (bit_and v (2 ^ n - 1)) 0 ∙ and_mask v n ∙ mod-eq_of_lt small
 
 pub field_written : (w mask set k n : ℕ) → w < 2 ^ 64 → mask < 2 ^ 64 → bits_of (with_written w mask set) k n ≡ rewritten (bits_of w k n) (bits_of (complement mask) k n) (bits_of set k n)
@@ -94,11 +94,9 @@ place_below y _ = omega arith
 stamp_up : (y n : ℕ) → y < 2 ^ 61 → bits_of y 40 20 ≡ n → n < 1048575 → (bits_of (y + 2 ^ 40) 40 20 ≡ n + 1) × (y + 2 ^ 40 < 2 ^ 61) × (bits_of (y + 2 ^ 40) 60 1 ≡ bits_of y 60 1)
 stamp_up y n below e small = (omega arith, omega arith, omega arith)
 
--- the word of the state after, from what is written into each zone, each place and the mark
+-- the word of the next state, from the fields of the word into which bits are written
 pub written_word : (w mask set : ℕ) (s : ModelState) (n : ℕ) → w < 2 ^ 61 → IsOffStamp mask → IsOffStamp set → bits_of w stamp_bit 20 ≡ n → n < 1048575 → s.stamp ≡ n + 1
-    → ((z : Zone) → rewritten (bits_of w (zone_bit z) 5) (bits_of (complement mask) (zone_bit z) 5) (bits_of set (zone_bit z) 5) ≡ zone_code z (zone_at s z))
-    → ((p : Place) → rewritten (bits_of w (place_bit p) 1) (bits_of (complement mask) (place_bit p) 1) (bits_of set (place_bit p) 1) ≡ one_if (is_full s p))
-    → rewritten (bits_of w mark_bit 1) (bits_of (complement mask) mark_bit 1) (bits_of set mark_bit 1) ≡ one_if s.stopped
+    → ((z : Zone) → ZoneRead (with_written w mask set) z (zone_at s z)) → ((p : Place) → bits_of (with_written w mask set) (place_bit p) 1 ≡ one_if (is_full s p)) → bits_of (with_written w mask set) mark_bit 1 ≡ one_if s.stopped
     → packed s ≡ with_written w mask set + 2 ^ 40
 written_word w mask set s n below mask_off set_off stamp small next zone place mark =
     let y = with_written w mask set in
@@ -112,8 +110,4 @@ written_word w mask set s n below mask_off set_off stamp small next zone place m
     ∙ unchanged (bits_of w 40 20) 20 (mod_below (w / 2 ^ 40) (2 ^ 20) (omega arith))
     ∙ stamp in
     let up = stamp_up y n low stays small in
-    sym (is_word_of (y + 2 ^ 40) s up.1
-    (λ z. zone_below y z ∙ field_written w mask set (zone_bit z) 5 small_word small_mask ∙ zone z)
-    (λ p. place_below y p ∙ field_written w mask set (place_bit p) 1 small_word small_mask ∙ place p)
-    (up.0 ∙ sym next)
-    (up.2 ∙ field_written w mask set mark_bit 1 small_word small_mask ∙ mark))
+    sym (is_word_of (y + 2 ^ 40) s up.1 (λ z. zone_below y z ∙ five_read y z (zone_at s z) (zone z)) (λ p. place_below y p ∙ place p) (up.0 ∙ sym next) (up.2 ∙ mark))
