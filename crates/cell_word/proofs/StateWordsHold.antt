@@ -1,12 +1,14 @@
 -- A word is a sound state's exactly if the masks say so.
-use Rattle.cell_word.proofs.Names.{◌≡◌, ℕ, zero, suc, ◌+◌, ◌*◌, ◌/◌, ◌%◌, ◌^◌, ◌<◌, ◌≤◌, Bool, true, false, ◌&&◌, not, nat_eq, Option, Some, None, refl, sym, ap, ap₂, ◌∙◌, arith, eqb-true, eq-eqb, bit_and, bit_or, list_all, and-false, and_parts, not-true, shr-shr, mod_below, five, Zone, Z1, Z3, Transfer, Place, FeedEntry, PressIn, PressOut, Posture, Closed, Moving, OpenIn, OpenOut}
-use Rattle.cell_word.proofs.Names.{transfer_of, same_posture, one_posture, Machine, PlaceSet, ModelState, zone_at, is_full, one_if, IsSound, implies, has_lawful_owner, is_lawful_plate, is_onto_full, is_open_to_guest, moves_by_host, is_of_some_pose, has_one_plate, is_received_by, ZoneState, and_left, and_right, and_both, implied, all_bools, from_bools, from_zones, all_pass, zones, postures, states, holds2, zone_bit}
-use Rattle.cell_word.proofs.Names.{place_bit, mark_bit, packed, bits_of, is_bit_set, owner_of_code, posture_of_code, zone_in_word, state_told, stands, both, nothing, posture_is, place_is, field_is, zone_codes, onto_full, is_lawful_zone, is_lawful_press, is_state_word, Pattern}
+use Rattle.cell_word.proofs.Names.{◌≡◌, ℕ, zero, suc, ◌+◌, ◌*◌, ◌/◌, ◌%◌, ◌^◌, ◌<◌, ◌≤◌, Bool, ◌&&◌, true, false, not, nat_eq, Option, Some, None, List, [], ◌∷◌, ◌++◌, refl, sym, ap, ◌∙◌, arith, eqb-true, eq-eqb, bit_and, bit_at, list_all, and_parts, shr-shr, mod_below, Zone, Z1, Z3, Transfer, Place, FeedEntry, PressIn, PressOut, Posture, OpenIn, OpenOut, transfer_of, same_posture, ModelState, zone_at, is_full, one_if, IsSound}
+use Rattle.cell_word.proofs.Names.{implies, has_lawful_owner, is_lawful_plate, is_onto_full, is_open_to_guest, moves_by_host, is_of_some_pose, has_one_plate, is_sound, sound_by_test, ZoneState, and_right, and_both, implied, all_zones, all_postures, from_zones, all_pass, zones, postures, holds2, zone_bit, place_bit, mark_bit, packed, bits_of, is_bit_set, owner_of_code, posture_of_code, zone_in_word, state_told, stands, both, posture_is, place_is, field_is, zone_codes, onto_full, is_lawful_zone, is_lawful_press, is_state_word, Pattern}
 use Rattle.cell_types.specs.Everything.{all_zones as every_zone}
+use Rattle.cell_rules.specs.SoundTest.{is_lawful_at}
+use Rattle.cell_rules.proofs.lemmas.SoundnessTest.{test_of_sound}
+use Rattle.std.proofs.lemmas.Bool.{le-leb}
 use Rattle.cell_word.proofs.lemmas.RoundTrip.{told_back, laid_out}
 use Rattle.cell_word.proofs.SameAnswer.{same_bool, one_bool}
-use Rattle.cell_word.proofs.Windows.{and_or, and_zero, stands-window, field_shown, all_below, from_below, five_fit}
-use Rattle.cell_word.proofs.Seen.{zone_code, zone_window, place_window, place_word, zone_five, is_lawful, lawful_at}
+use Rattle.cell_word.proofs.Windows.{and_zero, stands-window, field_shown, same_field, all_values, window_on, from_values}
+use Rattle.cell_word.proofs.Seen.{zone_code, zone_five}
 use Rattle.cell_word.proofs.Writing.{is_word_of}
 
 -- ---- the state that a word encodes, zone by zone and place by place
@@ -28,7 +30,7 @@ zone_of_state : (w : ℕ) (z : Zone) → zone_at (state_told w) z ≡ zone_in_wo
 zone_of_state w Z1 = refl
 zone_of_state w _ = refl
 
-pub zone_is : (w : ℕ) (z : Zone) → zone_at (state_told w) z ≡ zone_of_code z (bits_of w (zone_bit z) 5)
+zone_is : (w : ℕ) (z : Zone) → zone_at (state_told w) z ≡ zone_of_code z (bits_of w (zone_bit z) 5)
 zone_is w z = zone_of_state w z ∙ told_by_code w z
 
 full_of_state : (w : ℕ) (p : Place) → is_full (state_told w) p ≡ is_bit_set w (place_bit p)
@@ -46,128 +48,111 @@ place_is_told w p = one_bit (bits_of w (place_bit p) 1) (mod_below (w / 2 ^ plac
 mark_is_told : (w : ℕ) → bits_of w mark_bit 1 ≡ one_if (state_told w).stopped
 mark_is_told w = one_bit (bits_of w mark_bit 1) (mod_below (w / 2 ^ mark_bit) 2 (omega arith))
 
--- ---- patterns on a zone and a place, and on two places, at any word
-seen_both : (w : ℕ) (z : Zone) (p : Place) → bit_and w (bit_or (zone_window z) (place_window p)) ≡ bit_or (bits_of w (zone_bit z) 5 * 2 ^ zone_bit z) (place_word p (is_full (state_told w) p))
-seen_both w z p =
-    and_or w (zone_window z) (place_window p)
-    ∙ ap₂ bit_or (field_shown w (zone_bit z) 5) (field_shown w (place_bit p) 1 ∙ ap (λ n. n * 2 ^ place_bit p) (place_is_told w p))
+-- ---- what a window on some fields leaves of them
+told_zone : (w n : ℕ) (z : Zone) → bits_of n (zone_bit z) 5 ≡ 31 → zone_at (state_told (bit_and w n)) z ≡ zone_at (state_told w) z
+told_zone w n z e = zone_is (bit_and w n) z ∙ ap (zone_of_code z) (same_field w n (zone_bit z) 5 e) ∙ sym (zone_is w z)
 
-abbrev pattern_test : Zone → Place → Pattern → (ZoneState → Bool) → ℕ → Bool → Bool
-pattern_test z p pattern here c full = same_bool (stands (bit_or (c * 2 ^ zone_bit z) (place_word p full)) pattern) (here (zone_of_code z c) && full)
+told_place : (w n : ℕ) (p : Place) → bits_of n (place_bit p) 1 ≡ 1 → is_full (state_told (bit_and w n)) p ≡ is_full (state_told w) p
+told_place w n p e = full_of_state (bit_and w n) p ∙ ap (λ b. nat_eq b 1) (same_field w n (place_bit p) 1 e) ∙ sym (full_of_state w p)
 
-abbrev pattern_tests : Zone → Place → Pattern → (ZoneState → Bool) → Bool
-pattern_tests z p pattern here =
-    nat_eq (bit_and (bit_or (zone_window z) (place_window p)) pattern.mask) pattern.mask && all_below 32 (λ c. all_bools (pattern_test z p pattern here c))
+abbrev covers : ℕ → Option Transfer → Bool
+covers n None = true
+covers n (Some row) = nat_eq (bits_of n (place_bit row.to) 1) 1
 
-pattern_seen : (w : ℕ) (z : Zone) (p : Place) (pattern : Pattern) (here : ZoneState → Bool) → pattern_tests z p pattern here ≡ true
-    → stands w pattern ≡ (here (zone_at (state_told w) z) && is_full (state_told w) p)
-pattern_seen w z p pattern here tests =
-    let c = bits_of w (zone_bit z) 5 in
-    let full = is_full (state_told w) p in
-    let window = bit_or (zone_window z) (place_window p) in
-    let both_hold = and_parts (nat_eq (bit_and window pattern.mask) pattern.mask) (all_below 32 (λ c. all_bools (pattern_test z p pattern here c))) tests in
-    stands-window w window pattern both_hold.0
-    ∙ ap (λ n. stands n pattern) (seen_both w z p)
-    ∙ one_bool (stands (bit_or (c * 2 ^ zone_bit z) (place_word p full)) pattern) (here (zone_of_code z c) && full)
-    (from_bools (pattern_test z p pattern here c) (from_below 32 (λ c. all_bools (pattern_test z p pattern here c)) both_hold.1 c (five_fit w (zone_bit z))) full)
-    ∙ ap (λ v. here v && full) (sym (zone_is w z))
+told_onto : (w n : ℕ) (row : Option Transfer) → covers n row ≡ true → is_onto_full (state_told (bit_and w n)).full row ≡ is_onto_full (state_told w).full row
+told_onto w n None e = refl
+told_onto w n (Some row) e = told_place w n row.to (eqb-true (bits_of n (place_bit row.to) 1) 1 e)
 
--- a plate on its way to a full place
-abbrev pub is_sent : Posture → ZoneState → Bool
-is_sent q v = v.flag && same_posture v.posture q
+-- ---- a zone, by its five bits and the places where its plates go
+abbrev end_of : Option Transfer → List (ℕ × ℕ)
+end_of None = []
+end_of (Some row) = (place_bit row.to, 1) ∷ []
 
-abbrev onto_test : Zone → Posture → Option Transfer → Bool
-onto_test z q None = true
-onto_test z q (Some row) = pattern_tests z row.to (onto_full z q (Some row)) (is_sent q)
+abbrev span : Zone → List (ℕ × ℕ)
+span z = (zone_bit z, 5) ∷ (end_of (transfer_of z OpenIn) ++ end_of (transfer_of z OpenOut))
 
-nowhere : (w : ℕ) → stands w nothing ≡ false
-nowhere w = ap (λ n. nat_eq n 0x8000000000000000) (and_zero w)
+abbrev is_covered : ℕ → Pattern → Bool
+is_covered n p = nat_eq (bit_and n p.mask) p.mask
 
-onto_by : (w : ℕ) (z : Zone) (q : Posture) (row : Option Transfer) → onto_test z q row ≡ true
-    → stands w (onto_full z q row) ≡ (is_sent q (zone_at (state_told w) z) && is_onto_full (state_told w).full row)
-onto_by w z q None test = nowhere w ∙ sym (and-false (is_sent q (zone_at (state_told w) z)))
-onto_by w z q (Some row) test = pattern_seen w z row.to (onto_full z q (Some row)) (is_sent q) test
+abbrev onto : Zone → Posture → Pattern
+onto z q = onto_full z q (transfer_of z q)
 
-pub onto_seen : (w : ℕ) (z : Zone) (q : Posture)
-    → stands w (onto_full z q (transfer_of z q)) ≡ (is_sent q (zone_at (state_told w) z) && is_onto_full (state_told w).full (transfer_of z q))
-onto_seen w z q = onto_by w z q (transfer_of z q) (holds2 zones postures (λ z q. onto_test z q (transfer_of z q)) refl z q)
+abbrev covers_zone : Zone → ℕ → Bool
+covers_zone z n = nat_eq (bits_of n (zone_bit z) 5) 31 && (all_postures (λ q. covers n (transfer_of z q)) && (is_covered n (onto z OpenIn) && is_covered n (onto z OpenOut)))
 
--- two plates in the press, and a forged one while it is open inward
-abbrev pub is_inward : ZoneState → Bool
-is_inward v = same_posture v.posture OpenIn
+record Seen (w : ℕ) (z : Zone) (v : ℕ) : Type 0 where
+  code : bits_of v (zone_bit z) 5 ≡ bits_of w (zone_bit z) 5
+  zone : zone_at (state_told v) z ≡ zone_at (state_told w) z
+  ends : (q : Posture) → is_onto_full (state_told v).full (transfer_of z q) ≡ is_onto_full (state_told w).full (transfer_of z q)
+  lawful : is_lawful_zone w z ≡ is_lawful_zone v z
 
-abbrev two_plates : Pattern
-two_plates = both (place_is PressIn true) (place_is PressOut true)
+seen : (w : ℕ) (z : Zone) → Seen w z (bit_and w (window_on (span z) 0))
+seen w z =
+    let n = window_on (span z) 0 in
+    let tests = and_parts (nat_eq (bits_of n (zone_bit z) 5) 31) (all_postures (λ q. covers n (transfer_of z q)) && (is_covered n (onto z OpenIn) && is_covered n (onto z OpenOut))) (from_zones (λ z. covers_zone z (window_on (span z) 0)) refl z) in
+    let rest = and_parts (all_postures (λ q. covers n (transfer_of z q))) (is_covered n (onto z OpenIn) && is_covered n (onto z OpenOut)) tests.1 in
+    let ways = and_parts (is_covered n (onto z OpenIn)) (is_covered n (onto z OpenOut)) rest.1 in
+    let five = eqb-true (bits_of n (zone_bit z) 5) 31 tests.0 in
+    let code = same_field w n (zone_bit z) 5 five in
+    let inward = stands-window w n (onto z OpenIn) ways.0 in
+    let outward = stands-window w n (onto z OpenOut) ways.1 in
+    record {
+      code = code;
+      zone = told_zone w n z five;
+      ends = λ q. told_onto w n (transfer_of z q) (postures.holds (λ q. covers n (transfer_of z q)) rest.0 q);
+      lawful = λ i. is_bit_set (zone_codes z) (sym code i) && not (inward i) && not (outward i);
+    }
 
-shown_place : (w : ℕ) (p : Place) → bit_and w (place_window p) ≡ place_word p (is_full (state_told w) p)
-shown_place w p = field_shown w (place_bit p) 1 ∙ ap (λ n. n * 2 ^ place_bit p) (place_is_told w p)
+-- it has a code, and the zone that it encodes is lawful
+abbrev fits : Bool → Zone → ZoneState → ℕ → Bool
+fits full z v code = nat_eq (zone_code z v) code && (has_lawful_owner z v && is_lawful_plate full z v && is_open_to_guest z v && moves_by_host z v && is_of_some_pose z v.posture)
 
-two_by : (a b : Bool) → same_bool (nat_eq (bit_or (place_word PressIn a) (place_word PressOut b)) two_plates.wanted) (a && b) ≡ true
-two_by true true = refl
-two_by _ true = refl
-two_by _ _ = refl
+abbrev zone_test : Zone → ℕ → Bool
+zone_test z v = let t = state_told v in same_bool (is_lawful_zone v z) (nat_eq (zone_code z (zone_at t z)) (bits_of v (zone_bit z) 5) && is_lawful_at t.full z (zone_at t z))
 
-pub plates_seen : (w : ℕ) → stands w two_plates ≡ (is_full (state_told w) PressIn && is_full (state_told w) PressOut)
-plates_seen w =
-    let a = is_full (state_told w) PressIn in
-    let b = is_full (state_told w) PressOut in
-    ap (λ n. nat_eq n two_plates.wanted) (and_or w (place_window PressIn) (place_window PressOut) ∙ ap₂ bit_or (shown_place w PressIn) (shown_place w PressOut))
-    ∙ one_bool (nat_eq (bit_or (place_word PressIn a) (place_word PressOut b)) two_plates.wanted) (a && b) (two_by a b)
+zone_law : (w : ℕ) (z : Zone) → let t = state_told w in is_lawful_zone w z ≡ (nat_eq (zone_code z (zone_at t z)) (bits_of w (zone_bit z) 5) && is_lawful_at t.full z (zone_at t z))
+zone_law w z =
+    let s = seen w z in
+    let v = bit_and w (window_on (span z) 0) in
+    s.lawful
+    ∙ one_bool (is_lawful_zone v z) _ (from_values (span z) (zone_test z) w 0 0 (and_zero w) (from_zones (λ z. all_values (span z) (zone_test z) 0) refl z))
+    ∙ (λ i. fits (is_onto_full (state_told v).full (transfer_of z (s.zone i).posture)) z (s.zone i) (s.code i))
+    ∙ ap (λ full. fits full z (zone_at (state_told w) z) (bits_of w (zone_bit z) 5)) (s.ends (zone_at (state_told w) z).posture)
 
-pub forged_seen : (w : ℕ) → stands w (both (posture_is Z3 OpenIn) (place_is PressOut true)) ≡ (is_inward (zone_at (state_told w) Z3) && is_full (state_told w) PressOut)
-forged_seen w = pattern_seen w Z3 PressOut (both (posture_is Z3 OpenIn) (place_is PressOut true)) is_inward refl
+-- a zone without a plate is lawful if it has a code
+abbrev clear_test : Zone → ℕ → Bool
+clear_test z v = let c = bits_of v (zone_bit z) 5 in implies (nat_eq (bit_at c 2) 0) (same_bool (is_lawful_zone v z) (is_bit_set (zone_codes z) c))
 
--- ---- the codes of a zone
-abbrev code_test : Zone → ℕ → Bool
-code_test z c = implies (is_bit_set (zone_codes z) c) (nat_eq (zone_code z (zone_of_code z c)) c && is_lawful z (zone_of_code z c))
+pub clear_law : (w : ℕ) (z : Zone) → bit_at (bits_of w (zone_bit z) 5) 2 ≡ 0 → is_lawful_zone w z ≡ is_bit_set (zone_codes z) (bits_of w (zone_bit z) 5)
+clear_law w z e =
+    let s = seen w z in
+    let v = bit_and w (window_on (span z) 0) in
+    let c = bits_of v (zone_bit z) 5 in
+    s.lawful
+    ∙ one_bool (is_lawful_zone v z) (is_bit_set (zone_codes z) c)
+    (implied (nat_eq (bit_at c 2) 0) (same_bool (is_lawful_zone v z) (is_bit_set (zone_codes z) c))
+    (from_values (span z) (clear_test z) w 0 0 (and_zero w) (from_zones (λ z. all_values (span z) (clear_test z) 0) refl z)) (eq-eqb (bit_at c 2) 0 (ap (λ c. bit_at c 2) s.code ∙ e)))
+    ∙ ap (is_bit_set (zone_codes z)) s.code
 
-abbrev lawful_test : Zone → ZoneState → Bool
-lawful_test z v = implies (is_lawful z v) (is_bit_set (zone_codes z) (zone_code z v))
+-- ---- the press
+abbrev press_span : List (ℕ × ℕ)
+press_span = (zone_bit Z3, 5) ∷ (place_bit PressIn, 1) ∷ (place_bit PressOut, 1) ∷ []
 
-by_code : (w : ℕ) (z : Zone) → is_bit_set (zone_codes z) (bits_of w (zone_bit z) 5) ≡ true
-    → (bits_of w (zone_bit z) 5 ≡ zone_code z (zone_at (state_told w) z)) × (is_lawful z (zone_at (state_told w) z) ≡ true)
-by_code w z e =
-    let c = bits_of w (zone_bit z) 5 in
-    let v = zone_of_code z c in
-    let both_hold = and_parts (nat_eq (zone_code z v) c) (is_lawful z v) (implied (is_bit_set (zone_codes z) c) _ (from_below 32 (code_test z) (from_zones (λ z. all_below 32 (code_test z)) refl z) c (five_fit w (zone_bit z))) e) in
-    (sym (ap (zone_code z) (zone_is w z) ∙ eqb-true (zone_code z v) c both_hold.0), ap (is_lawful z) (zone_is w z) ∙ both_hold.1)
+abbrev press_test : ℕ → Bool
+press_test v = same_bool (is_lawful_press v) (has_one_plate (state_told v).full (zone_at (state_told v) Z3))
 
--- ---- the plates, by posture
-plate_by : (f r o : Bool) → implies f (r && true) ≡ true → (f && o) ≡ false → implies f (r && not o) ≡ true
-plate_by false r o e h = refl
-plate_by true true false e h = refl
-plate_by _ _ _ e h = cc
-
--- a shut zone has no row
-no_row_closed : (z : Zone) → transfer_of z Closed ≡ None
-no_row_closed Z1 = refl
-no_row_closed _ = refl
-
-no_row_moving : (z : Zone) → transfer_of z Moving ≡ None
-no_row_moving Z1 = refl
-no_row_moving _ = refl
-
-unreceived : (o : Option Machine) (row : Option Transfer) → row ≡ None → (is_received_by o row && true) ≡ false
-unreceived o row e = ap (λ r. is_received_by o r && true) e
-
-plate_at : (full : PlaceSet) (z : Zone) (o : Option Machine) (f : Bool) (q : Posture) → implies f (is_received_by o (transfer_of z q) && true) ≡ true
-    → (f && same_posture q OpenIn && is_onto_full full (transfer_of z OpenIn)) ≡ false → (f && same_posture q OpenOut && is_onto_full full (transfer_of z OpenOut)) ≡ false
-    → implies f (is_received_by o (transfer_of z q) && not (is_onto_full full (transfer_of z q))) ≡ true
-plate_at full z o false q e a b = refl
-plate_at full z o true OpenIn e a b = plate_by true (is_received_by o (transfer_of z OpenIn)) (is_onto_full full (transfer_of z OpenIn)) e a
-plate_at full z o true OpenOut e a b = plate_by true (is_received_by o (transfer_of z OpenOut)) (is_onto_full full (transfer_of z OpenOut)) e b
-plate_at full z o true Closed e a b = let none = unreceived o (transfer_of z Closed) (no_row_closed z) in cc
-plate_at full z o true Moving e a b = let none = unreceived o (transfer_of z Moving) (no_row_moving z) in cc
-
-not_sent_by : (full : PlaceSet) (z : Zone) (q r : Posture) (b : Bool) → same_posture q r ≡ b → is_onto_full full (transfer_of z q) ≡ false → (b && is_onto_full full (transfer_of z r)) ≡ false
-not_sent_by full z q r false same e = refl
-not_sent_by full z q r true same e = ap (λ p. is_onto_full full (transfer_of z p)) (sym (one_posture q r same)) ∙ e
-
-not_sent : (full : PlaceSet) (z : Zone) (o : Option Machine) (f : Bool) (q r : Posture) → implies f (is_received_by o (transfer_of z q) && not (is_onto_full full (transfer_of z q))) ≡ true
-    → (f && same_posture q r && is_onto_full full (transfer_of z r)) ≡ false
-not_sent full z o false q r e = refl
-not_sent full z o true q r e =
-    not_sent_by full z q r (same_posture q r) refl (not-true (is_onto_full full (transfer_of z q)) (and_right (is_received_by o (transfer_of z q)) (not (is_onto_full full (transfer_of z q))) e))
+pub press_law : (w : ℕ) → is_lawful_press w ≡ has_one_plate (state_told w).full (zone_at (state_told w) Z3)
+press_law w =
+    let n = window_on press_span 0 in
+    let v = bit_and w n in
+    let two = stands-window w n (both (place_is PressIn true) (place_is PressOut true)) refl in
+    let forged = stands-window w n (both (posture_is Z3 OpenIn) (place_is PressOut true)) refl in
+    let start = told_place w n PressIn refl in
+    let end = told_place w n PressOut refl in
+    let zone = told_zone w n Z3 refl in
+    (λ i. not (two i) && not (forged i))
+    ∙ one_bool (is_lawful_press v) (has_one_plate (state_told v).full (zone_at (state_told v) Z3)) (from_values press_span press_test w 0 0 (and_zero w) refl)
+    ∙ (λ i. not (start i && end i) && implies (same_posture (zone i).posture OpenIn) (not (end i)))
 
 -- ---- both ways
 in_range : (w : ℕ) → w / 2 ^ 40 % 2 ^ 20 ≤ 1048575
@@ -183,69 +168,26 @@ clear_top w small =
     let none : bits_of w 61 3 * 2 ^ 61 ≡ 0 = omega arith in
     eq-eqb (bit_and w 16140901064495857664) 0 (field_shown w 61 3 ∙ none)
 
-either_not : (a b : Bool) → not (a && b) ≡ implies a (not b)
-either_not true b = refl
-either_not false b = refl
-
-pub zone_parts : (w : ℕ) (z : Zone) → is_lawful_zone w z ≡ true
-    → (is_bit_set (zone_codes z) (bits_of w (zone_bit z) 5) ≡ true) × (stands w (onto_full z OpenIn (transfer_of z OpenIn)) ≡ false) × (stands w (onto_full z OpenOut (transfer_of z OpenOut)) ≡ false)
-zone_parts w z e =
-    let code = is_bit_set (zone_codes z) (bits_of w (zone_bit z) 5) in
-    let inward = not (stands w (onto_full z OpenIn (transfer_of z OpenIn))) in
-    let outward = not (stands w (onto_full z OpenOut (transfer_of z OpenOut))) in
-    let front = and_left (code && inward) outward e in
-    (and_left code inward front, not-true _ (and_right code inward front), not-true _ (and_right (code && inward) outward e))
-
 pub sound_by_masks : (w : ℕ) → w < 2 ^ 64 → is_state_word w ≡ true → IsSound (state_told w) × (packed (state_told w) ≡ w)
 sound_by_masks w fits e =
     let t = state_told w in
     let top = stands w (field_is 61 3 0) in
-    let zones = list_all (is_lawful_zone w) every_zone in
-    let press = is_lawful_press w in
-    let front = and_left (top && zones) press e in
-    let small : w < 2 ^ 61 = top_clear w fits (and_left top zones front) in
-    let parts = λ (z : Zone). zone_parts w z (from_zones (is_lawful_zone w) (and_right top zones front) z) in
-    let code = λ (z : Zone). by_code w z (parts z).0 in
-    let same : w ≡ packed t = is_word_of w t small (λ z. (code z).0) (place_is_told w) refl (mark_is_told w) in
-    let v = λ (z : Zone). zone_at t z in
-    let of = λ (z : Zone). five (has_lawful_owner z (v z)) (is_lawful_plate false z (v z)) (is_open_to_guest z (v z)) (moves_by_host z (v z)) (is_of_some_pose z (v z).posture) (code z).1 in
-    let plates = not (stands w two_plates) in
-    let forged = not (stands w (both (posture_is Z3 OpenIn) (place_is PressOut true))) in
-    let last = and_right (top && zones) press e in
-    let one_plate : has_one_plate t.full (zone_at t Z3) ≡ true =
-    and_both (not (is_full t PressIn && is_full t PressOut)) (implies (is_inward (zone_at t Z3)) (not (is_full t PressOut)))
-    (ap not (sym (plates_seen w)) ∙ and_left plates forged last)
-    (sym (either_not (is_inward (zone_at t Z3)) (is_full t PressOut)) ∙ ap not (sym (forged_seen w)) ∙ and_right plates forged last) in (
-      record {
-        stamp_in_range = in_range w;
-        owner_is_party = λ z. (of z).0;
-        flag_has_transfer = λ z. plate_at t.full z (v z).owner (v z).flag (v z).posture (of z).1 (sym (onto_seen w z OpenIn) ∙ (parts z).1) (sym (onto_seen w z OpenOut) ∙ (parts z).2);
-        guest_only_while_open = λ z. (of z).2;
-        moving_belongs_to_host = λ z. (of z).3;
-        posture_of_some_pose = λ z. (of z).4;
-        press_holds_one_plate = one_plate;
-      },
-      sym same,
-    )
+    let lawful = list_all (is_lawful_zone w) every_zone in
+    let parts = and_parts (top && lawful) (is_lawful_press w) e in
+    let front = and_parts top lawful parts.0 in
+    let zone = λ (z : Zone). and_parts (nat_eq (zone_code z (zone_at t z)) (bits_of w (zone_bit z) 5)) (is_lawful_at t.full z (zone_at t z)) (sym (zone_law w z) ∙ from_zones (is_lawful_zone w) front.1 z) in
+    let same : w ≡ packed t = is_word_of w t (top_clear w fits front.0) (λ z. sym (eqb-true (zone_code z (zone_at t z)) (bits_of w (zone_bit z) 5) (zone z).0)) (place_is_told w) refl (mark_is_told w) in
+    let all_lawful = all_pass (λ z. is_lawful_at t.full z (zone_at t z)) (λ z. (zone z).1) every_zone in
+    (sound_by_test t (and_both _ _ (and_both _ _ (le-leb (bits_of w 40 20) 1048575 (in_range w)) all_lawful) (sym (press_law w) ∙ parts.1)), sym same)
 
 pub masks_of_sound : (s : ModelState) → IsSound s → is_state_word (packed s) ≡ true
 masks_of_sound s h =
     let w = packed s in
-    let told : state_told w ≡ s = told_back s h in
-    let onto : (z : Zone) (q : Posture) → stands w (onto_full z q (transfer_of z q)) ≡ false =
-    λ z q.
-    onto_seen w z q
-    ∙ ap (λ t. is_sent q (zone_at t z) && is_onto_full t.full (transfer_of z q)) told
-    ∙ not_sent s.full z (zone_at s z).owner (zone_at s z).flag (zone_at s z).posture q (h.flag_has_transfer z) in
-    let code : (z : Zone) → is_bit_set (zone_codes z) (bits_of w (zone_bit z) 5) ≡ true =
-    λ z.
-    ap (is_bit_set (zone_codes z)) (zone_five s h z)
-    ∙ implied (is_lawful z (zone_at s z)) (is_bit_set (zone_codes z) (zone_code z (zone_at s z))) (holds2 zones states lawful_test refl z (zone_at s z)) (lawful_at s h z) in
-    let zone : (z : Zone) → is_lawful_zone w z ≡ true = λ z. and_both _ _ (and_both _ _ (code z) (ap not (onto z OpenIn))) (ap not (onto z OpenOut)) in
-    let plates = not (is_full s PressIn && is_full s PressOut) in
-    let forged = implies (is_inward (zone_at s Z3)) (not (is_full s PressOut)) in
-    let press : is_lawful_press w ≡ true =
-    and_both _ _
-    (ap not (plates_seen w ∙ ap (λ t. is_full t PressIn && is_full t PressOut) told) ∙ and_left plates forged h.press_holds_one_plate)
-    (ap not (forged_seen w ∙ ap (λ t. is_inward (zone_at t Z3) && is_full t PressOut) told) ∙ either_not (is_inward (zone_at s Z3)) (is_full s PressOut) ∙ and_right plates forged h.press_holds_one_plate) in
-    and_both _ _ (and_both _ _ (clear_top w (laid_out s h).bound) (all_pass (is_lawful_zone w) zone every_zone)) press
+    let t = state_told w in
+    let told : t ≡ s = told_back s h in
+    let test : is_sound t ≡ true = ap is_sound told ∙ test_of_sound s h in
+    let parts = and_parts _ (has_one_plate t.full (zone_at t Z3)) test in
+    let lawful = λ (z : Zone). is_lawful_at t.full z (zone_at t z) in
+    let code : (z : Zone) → zone_code z (zone_at t z) ≡ bits_of w (zone_bit z) 5 = λ z. ap (λ t. zone_code z (zone_at t z)) told ∙ sym (zone_five s h z) in
+    let zone : (z : Zone) → is_lawful_zone w z ≡ true = λ z. zone_law w z ∙ and_both _ (lawful z) (eq-eqb _ _ (code z)) (from_zones lawful (and_right _ (list_all lawful every_zone) parts.0) z) in
+    and_both _ _ (and_both _ _ (clear_top w (laid_out s h).bound) (all_pass (is_lawful_zone w) zone every_zone)) (press_law w ∙ parts.1)

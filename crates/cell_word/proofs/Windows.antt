@@ -1,5 +1,5 @@
 -- A row of guards sees only the bits of a word under its masks.
-use Rattle.cell_word.proofs.Names.{◌≡◌, inl, inr, ℕ, zero, suc, ◌+◌, ◌-◌, ◌*◌, ◌/◌, ◌%◌, ◌^◌, ◌<◌, min, max, Bool, true, false, ◌&&◌, cond, nat_eq, Option, Some, option_map, List, [], ◌∷◌, ◌++◌, refl, sym, ap, ap₂, ◌∙◌, subst, arith, eqb-true, eq-eqb, ne_eqb, bit_and, bit_or, cases_lt, eqb-false, bit_at, option_or, find, list_all, mul_comm, mul-sub, and_assoc, and_le_r, and_mask, mod_below, pow-add, pow_pos, shr-shr, shl-shr, and_high, bit_at_and, bit_at_or}
+use Rattle.cell_word.proofs.Names.{◌≡◌, inl, inr, ℕ, zero, suc, ◌+◌, ◌-◌, ◌*◌, ◌/◌, ◌%◌, ◌^◌, ◌<◌, min, max, Bool, true, false, ◌&&◌, cond, nat_eq, Option, Some, option_map, List, [], ◌∷◌, ◌++◌, refl, sym, ap, ap₂, ◌∙◌, subst, arith, eqb-true, eq-eqb, ne_eqb, bit_and, bit_or, cases_lt, eqb-false, bit_at, option_or, find, list_all, mul_comm, mul-sub, and_assoc, and_le_r, and_mask, and_mod, and_shr, mod-eq_of_lt, or_mod, or_shr, mod_below, pow-add, pow_pos, shr-shr, shl-shr, and_high, bit_at_and, bit_at_or}
 use Rattle.cell_word.proofs.Names.{same_from_bits, and_left, and_right, bits_of, stands, field_is, first_refusal, Pattern, Guard}
 use Rattle.cell_types.specs.declared.answer.Refusal.{Refusal}
 
@@ -69,6 +69,18 @@ mask_ends lowest width =
 -- a window on a field shows its value
 pub field_shown : (w lowest width : ℕ) → bit_and w ((2 ^ width - 1) * 2 ^ lowest) ≡ bits_of w lowest width * 2 ^ lowest
 field_shown w lowest width = ap (bit_and w) (mask_ends lowest width) ∙ and_high w width lowest
+
+-- a field of two words at once
+pub bits_of-or : (a b k n : ℕ) → bits_of (bit_or a b) k n ≡ bit_or (bits_of a k n) (bits_of b k n)
+bits_of-or a b k n = ap (λ m. m % 2 ^ n) (or_shr a b k) ∙ or_mod (a / 2 ^ k) (b / 2 ^ k) n
+
+pub bits_of-and : (a b k n : ℕ) → bits_of (bit_and a b) k n ≡ bit_and (bits_of a k n) (bits_of b k n)
+bits_of-and a b k n = ap (λ m. m % 2 ^ n) (and_shr a b k) ∙ and_mod (a / 2 ^ k) (b / 2 ^ k) n
+
+-- a field that a window has whole
+pub same_field : (w n k width : ℕ) → bits_of n k width ≡ 2 ^ width - 1 → bits_of (bit_and w n) k width ≡ bits_of w k width
+same_field w n k width e =
+    bits_of-and w n k width ∙ ap (bit_and (bits_of w k width)) e ∙ and_mask (bits_of w k width) width ∙ mod-eq_of_lt (mod_below (w / 2 ^ k) (2 ^ width) (pow_pos width))
 
 five : (a : ℕ) → a % 32 ≡ a % 4 + 4 * (a / 4 % 2) + 8 * (a / 8 % 4)
 five a = omega arith

@@ -1,8 +1,9 @@
 -- A word into which a pattern is written: its fields, and the state that it encodes.
-use Rattle.cell_word.proofs.Names.{◌≡◌, ℕ, ◌+◌, ◌-◌, ◌*◌, ◌/◌, ◌%◌, ◌^◌, ◌<◌, List, [], ◌∷◌, sym, ap, ap₂, ◌∙◌, subst, arith, mod-eq_of_lt, bit_and, bit_or, All, div-eq_of_lt, pow-add, shr-shr, div-add-mod', and_shr, and_mod, or_shr, or_mod, and-not, and_comm, and_mask, or_comm, or_lt, mod_below, All-head, All-tail, Zone, Z1, Place, FeedEntry}
+use Rattle.cell_word.proofs.Names.{◌≡◌, ℕ, ◌+◌, ◌-◌, ◌*◌, ◌/◌, ◌%◌, ◌^◌, ◌<◌, List, [], ◌∷◌, sym, ap, ap₂, ◌∙◌, subst, arith, mod-eq_of_lt, bit_and, bit_or, All, div-eq_of_lt, pow-add, shr-shr, div-add-mod', and-not, and_comm, and_mask, or_comm, or_lt, mod_below, All-head, All-tail, Zone, Z1, Place, FeedEntry}
 use Rattle.cell_word.proofs.Names.{ModelState, zone_at, is_full, one_if, ZoneState, Field, field, word_of, zone_bit, place_bit, stamp_bit, mark_bit, owner_code, posture_code, zone_fields, fields_of, packed, bits_of, SideBySide, ReadsBack, IsOffStamp, with_written}
 use Rattle.cell_word.proofs.Fields.{word-cons, arranged}
 use Rattle.cell_word.proofs.lemmas.RoundTrip.{ZoneRead, owner_fits, flag_fits, posture_fits, all_fields, all_three, side_by_side}
+use Rattle.cell_word.proofs.Windows.{bits_of-and, bits_of-or}
 use Rattle.cell_word.proofs.Seen.{zone_code, five_read}
 
 -- ---- a number is the word of the fields that read back from it
@@ -53,12 +54,6 @@ is_word_of x s below zone place stamp mark =
 -- ---- the fields of a word into which bits are written
 abbrev pub complement : ℕ → ℕ
 complement mask = 2 ^ 64 - 1 - mask
-
-bits_of-or : (a b k n : ℕ) → bits_of (bit_or a b) k n ≡ bit_or (bits_of a k n) (bits_of b k n)
-bits_of-or a b k n = ap (λ m. m % 2 ^ n) (or_shr a b k) ∙ or_mod (a / 2 ^ k) (b / 2 ^ k) n
-
-bits_of-and : (a b k n : ℕ) → bits_of (bit_and a b) k n ≡ bit_and (bits_of a k n) (bits_of b k n)
-bits_of-and a b k n = ap (λ m. m % 2 ^ n) (and_shr a b k) ∙ and_mod (a / 2 ^ k) (b / 2 ^ k) n
 
 -- to clear bits is to keep the others
 pub cleared : (w mask : ℕ) → w < 2 ^ 64 → mask < 2 ^ 64 → w - bit_and w mask ≡ bit_and w (complement mask)

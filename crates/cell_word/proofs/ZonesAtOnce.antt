@@ -1,10 +1,10 @@
 -- The zones of a word without plates in zones, all tested at once.
-use Rattle.cell_word.proofs.Names.{◌≡◌, ◌↔◌, ℕ, ◌+◌, ◌-◌, ◌*◌, ◌/◌, ◌%◌, ◌^◌, min, max, Bool, true, false, ◌&&◌, not, nat_eq, refl, sym, ap, ap₂, ◌∙◌, arith, eqb-true, eq-eqb, bit_and, bit_or, bit_xor, bit_at, list_all, and-false, add_comm, shr-shr, xor_shr, le_or_l, le_or_r, bit_at_and, bit_at_or, bit_at_xor, Zone, Z1, Z2, Z3, Z4, Z5, Z6, PressIn, PressOut, Posture, OpenIn, OpenOut, transfer_of, same_posture, zone_at, is_full, is_onto_full}
-use Rattle.cell_word.proofs.Names.{implies, and_both, implied, from_zones, all_pass, each_zone, zone_bit, bits_of, is_bit_set, posture_of_code, state_told, stands, flag_is, place_is, zone_codes, onto_full, is_lawful_zone, is_lawful_press}
+use Rattle.cell_word.proofs.Names.{◌≡◌, ◌↔◌, ℕ, ◌+◌, ◌-◌, ◌*◌, ◌/◌, ◌%◌, ◌^◌, min, max, Bool, true, false, ◌&&◌, not, nat_eq, refl, sym, ap, ap₂, ◌∙◌, arith, eqb-true, eq-eqb, bit_and, bit_or, bit_xor, bit_at, list_all, add_comm, shr-shr, xor_shr, le_or_l, le_or_r, bit_at_and, bit_at_or, bit_at_xor, Zone, Z1, Z2, Z3, Z4, Z5, Z6, PressIn, PressOut, OpenIn, same_posture, zone_at, is_full}
+use Rattle.cell_word.proofs.Names.{implies, implied, from_zones, all_pass, each_zone, zone_bit, bits_of, is_bit_set, state_told, stands, flag_is, place_is, zone_codes, is_lawful_zone, is_lawful_press}
 use Rattle.cell_types.specs.Everything.{all_zones as every_zone}
 use Rattle.cell_word.proofs.SameAnswer.{same_bool, one_bool}
 use Rattle.cell_word.proofs.Windows.{and_or, field_shown, field_test, all_below, from_below, five_fit}
-use Rattle.cell_word.proofs.StateWordsHold.{zone_is, is_sent, onto_seen, zone_parts, plates_seen, forged_seen, is_inward}
+use Rattle.cell_word.proofs.StateWordsHold.{clear_law, press_law}
 
 -- ---- the lowest bits of all zones
 abbrev pub lowest_bits : ℕ
@@ -141,13 +141,6 @@ by_code w clear z =
     ∙ one_bool (nat_eq (spoilt_at (zone_bit z) c) 0) (is_bit_set (zone_codes z) c)
     (implied (nat_eq (bit_at c 2) 0) same (from_below 32 (free_test z) (from_zones (λ z. all_below 32 (free_test z)) refl z) c (five_fit w (zone_bit z))) (eq-eqb _ 0 (no_flag w clear z)))
 
-nothing_sent : (w : ℕ) → IsClear w → (z : Zone) (q : Posture) → stands w (onto_full z q (transfer_of z q)) ≡ false
-nothing_sent w clear z q =
-    let c = bits_of w (zone_bit z) 5 in
-    onto_seen w z q
-    ∙ ap (λ v. is_sent q v && is_onto_full (state_told w).full (transfer_of z q)) (zone_is w z)
-    ∙ ap (λ n. (nat_eq n 1 && same_posture (posture_of_code (c / 8 % 4)) q) && is_onto_full (state_told w).full (transfer_of z q)) (no_flag w clear z)
-
 either_way : (a b : Bool) → (a ≡ true → b ≡ true) → (b ≡ true → a ≡ true) → a ≡ b
 either_way true b there back = sym (there refl)
 either_way false true there back = back refl
@@ -155,21 +148,20 @@ either_way false false there back = refl
 
 pub codes_at_once : (w : ℕ) → IsClear w → nat_eq (bit_and (spoilt w) lowest_bits) 0 ≡ list_all (is_lawful_zone w) every_zone
 codes_at_once w clear =
+    let same : (z : Zone) → nat_eq (bits_of (spoilt w) (zone_bit z) 1) 0 ≡ is_lawful_zone w z = λ z. by_code w clear z ∙ sym (clear_law w z (no_flag w clear z)) in
     either_way (nat_eq (bit_and (spoilt w) lowest_bits) 0) (list_all (is_lawful_zone w) every_zone)
-    (λ e.
-    all_pass (is_lawful_zone w)
-    (λ z.
-    and_both _ _
-    (and_both _ _ (sym (by_code w clear z) ∙ eq-eqb _ 0 (none_set (spoilt w) (eqb-true _ 0 e) z)) (ap not (nothing_sent w clear z OpenIn)))
-    (ap not (nothing_sent w clear z OpenOut)))
-    every_zone)
-    (λ e. eq-eqb _ 0 (set_none (spoilt w) (λ z. eqb-true _ 0 (by_code w clear z ∙ (zone_parts w z (from_zones (is_lawful_zone w) e z)).0))))
+    (λ e. all_pass (is_lawful_zone w) (λ z. sym (same z) ∙ eq-eqb _ 0 (none_set (spoilt w) (eqb-true _ 0 e) z)) every_zone)
+    (λ e. eq-eqb _ 0 (set_none (spoilt w) (λ z. eqb-true _ 0 (same z ∙ from_zones (is_lawful_zone w) e z))))
 
 -- ---- the press without a forged plate
+one_at_most : (a b : Bool) → (not (a && false) && implies b (not false)) ≡ true
+one_at_most true true = refl
+one_at_most _ true = refl
+one_at_most _ _ = refl
+
 pub press_without_forged : (w : ℕ) → stands w (place_is PressOut true) ≡ false → is_lawful_press w ≡ true
 press_without_forged w e =
-    let empty : is_full (state_told w) PressOut ≡ false = sym (field_test w 35 1 1) ∙ e in
-    let seen = λ (b : Bool). ap (λ full. b && full) empty ∙ and-false b in
-    and_both _ _
-    (ap not (plates_seen w ∙ seen (is_full (state_told w) PressIn)))
-    (ap not (forged_seen w ∙ seen (is_inward (zone_at (state_told w) Z3))))
+    let t = state_told w in
+    let empty : is_full t PressOut ≡ false = sym (field_test w 35 1 1) ∙ e in
+    let inward = same_posture (zone_at t Z3).posture OpenIn in
+    press_law w ∙ ap (λ full. not (is_full t PressIn && full) && implies inward (not full)) empty ∙ one_at_most (is_full t PressIn) inward
