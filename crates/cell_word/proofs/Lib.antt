@@ -16,4 +16,3 @@ mod GuardsHold
 mod StateWordsHold
 mod ZonesAtOnce
 mod After
-mod ExamplesMet

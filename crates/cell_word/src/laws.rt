@@ -34,7 +34,7 @@ pub fn guards_are_refusals()
 
 /// Literal words: where each owner, plate, posture and place is, the word of a whole state, which
 /// words are a state's, and what calls test and write.
-#[tactic(auto, using(crate::proofs::ExamplesMet::word_examples))]
+#[tactic(auto, unfolding(crate::specs::Layout::packed))]
 pub fn words_by_examples()
     ensures { WordExamples }
 {}
