@@ -1,5 +1,5 @@
 -- What a Done call writes is what it changes: each field of the next state holds what the call writes into that field.
-use Rattle.cell_word.proofs.Names.{◌≡◌, ℕ, ◌+◌, ◌^◌, ◌<◌, Bool, true, false, cond, ◌||◌, ◌&&◌, not, nat_eq, Option, Some, None, is_none, is_some, unwrap_or, refl, sym, ap, ap₂, ◌∙◌, arith, eqb-true, if◌then◌else◌, and_parts, Machine, Feed, Watch, Zone, Z1, Transfer, Place, Posture, Closed, Call, Claim, Give, Yield, Take, Release, SetPose, Advance, Inquire, Stop, Resume, Done, transfer_of, posture_of, own_move_of, same_machine, same_zone, same_place, one_machine, PlaceSet, has, ModelState, zone_at, is_full, one_if}
+use Rattle.cell_word.proofs.Names.{◌≡◌, ℕ, ◌+◌, ◌^◌, ◌<◌, Bool, true, false, cond, ◌&&◌, not, nat_eq, Option, Some, None, is_some, unwrap_or, refl, sym, ap, ap₂, ◌∙◌, arith, eqb-true, if◌then◌else◌, and_parts, Machine, Feed, Watch, Zone, Z1, Transfer, Place, Posture, Closed, Call, Claim, Give, Yield, Take, Release, SetPose, Advance, Inquire, Stop, Resume, Done, transfer_of, posture_of, own_move_of, same_machine, same_zone, same_place, one_machine, PlaceSet, has, ModelState, zone_at, is_full, one_if}
 use Rattle.cell_word.proofs.Names.{IsSound, implies, is_party, reply, changed, next, next_by, emptied, filled, worked, is_belt_of, and_left, and_right, implied, all_bools, from_bools, all_zones, from_zones, from_places, all_postures, machines, zones, postures, holds2, holds3, has-put, none_or, fresh, claim_done, give_done, yield_done, take_done, release_done, stop_done, resume_done, done_none, take_finds, zone_bit, place_bit, mark_bit, owner_code, posture_code, packed, bits_of, with_written, written, received_by, row_received, Pattern}
 use Rattle.cell_rules.specs.Names.{other_party, stopped_after}
 use Rattle.cell_rules.specs.Refusals
@@ -88,22 +88,13 @@ stopped_is : (s : ModelState) (c : Call) → stopped_after s c ≡ stopped_by c 
 stopped_is s Stop = refl
 stopped_is s _ = refl
 
--- if a machine may give in a posture, the row is the only one in which it gives
-abbrev given_test : Machine → Zone → Posture → Bool
-given_test m z q = is_none (Refusals.given_by m (transfer_of z q)) || same_row (Refusals.given_by m (transfer_of z q)) (guards.row_given m z)
+-- if a machine may give or receive in a posture, the row is the only one in which it does
+abbrev once_test : (Machine → Option Transfer → Option Transfer) → (Machine → Zone → Option Transfer) → Machine → Zone → Posture → Bool
+once_test by row m z q = implies (is_some (by m (transfer_of z q))) (same_row (by m (transfer_of z q)) (row m z))
 
-either_way : (a b : Bool) → (a || b) ≡ true → a ≡ false → b ≡ true
-either_way true b e f = cc
-either_way false b e f = e
-
-given_once : (m : Machine) (z : Zone) (q : Posture) → is_none (Refusals.given_by m (transfer_of z q)) ≡ false → Refusals.given_by m (transfer_of z q) ≡ guards.row_given m z
-given_once m z q some = one_row _ _ (either_way _ _ (holds3 machines zones postures given_test refl m z q) some)
-
-abbrev received_test : Machine → Zone → Posture → Bool
-received_test m z q = is_none (received_by m (transfer_of z q)) || same_row (received_by m (transfer_of z q)) (row_received m z)
-
-received_once : (m : Machine) (z : Zone) (q : Posture) → is_none (received_by m (transfer_of z q)) ≡ false → received_by m (transfer_of z q) ≡ row_received m z
-received_once m z q some = one_row _ _ (either_way _ _ (holds3 machines zones postures received_test refl m z q) some)
+once : (by : Machine → Option Transfer → Option Transfer) (row : Machine → Zone → Option Transfer) → machines.all (λ m. zones.all (λ z. postures.all (once_test by row m z))) ≡ true
+    → (m : Machine) (z : Zone) (q : Posture) → is_some (by m (transfer_of z q)) ≡ true → by m (transfer_of z q) ≡ row m z
+once by row table m z q some = one_row _ _ (implied (is_some (by m (transfer_of z q))) (same_row (by m (transfer_of z q)) (row m z)) (holds3 machines zones postures (once_test by row) table m z q) some)
 
 -- ---- what a Done call finds
 abbrev may : Machine → Call → Bool
@@ -122,16 +113,12 @@ record Found (s : ModelState) (m : Machine) (c : Call) : Type 0 where
   unworn : s.stamp < 1048575
   places : (at : Place) → is_full (changed s m c) at ≡ place_by m c at (is_full s at)
 
-was_some : {X : Type 0} (o : Option X) → is_some o ≡ true → is_none o ≡ false
-was_some None e = cc
-was_some (Some x) e = refl
-
 give_found : (s : ModelState) (m : Machine) (z : Zone) → Refusals.give_refusal s m z ≡ None → Found s m (Give z)
 give_found s m z e =
     let done = give_done s m z e in
     let gift = Refusals.transfer_given s m z in
     let some : is_some gift ≡ true = and_right (not (zone_at s z).flag) (is_some gift) (and_right _ _ (and_right (is_party m z) _ done.0)) in
-    let same : gift ≡ guards.row_given m z = given_once m z (zone_at s z).posture (was_some gift some) in
+    let same : gift ≡ guards.row_given m z = once Refusals.given_by guards.row_given refl m z (zone_at s z).posture some in
     record { allowed = ap is_some (sym same) ∙ some; unworn = done.2; places = λ at. emptied_has s.full gift at ∙ ap (λ row. emptied_at row at (is_full s at)) same }
 
 take_found : (s : ModelState) → IsSound s → (m : Machine) (z : Zone) → Refusals.take_refusal s m z ≡ None → Found s m (Take z)
@@ -142,8 +129,8 @@ take_found s sound m z e =
     let here : m ≡ found.row.receiver = one_machine m found.row.receiver found.receiver in
     let turned : same_machine found.row.receiver m ≡ true = ap₂ same_machine (sym here) here ∙ found.receiver in
     let mine : received_by m row ≡ row = ap (received_by m) found.way ∙ ap (λ b. if b then Some found.row else None) turned ∙ sym found.way in
-    let some : is_none (received_by m row) ≡ false = ap is_none (mine ∙ found.way) in
-    let same : row ≡ row_received m z = sym mine ∙ received_once m z (zone_at s z).posture some in
+    let some : is_some (received_by m row) ≡ true = ap is_some (mine ∙ found.way) in
+    let same : row ≡ row_received m z = sym mine ∙ once received_by row_received refl m z (zone_at s z).posture some in
     record { allowed = ap is_some (sym same ∙ found.way); unworn = done.1; places = λ at. filled_has s.full row at ∙ ap (λ row. filled_at row at (is_full s at)) same }
 
 found : (s : ModelState) → IsSound s → (m : Machine) (c : Call) → reply s m c ≡ Done → Found s m c

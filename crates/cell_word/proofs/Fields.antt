@@ -1,5 +1,5 @@
 -- Fields side by side read back from their word.
-use Rattle.cell_word.proofs.Names.{◌≡◌, ℕ, ◌+◌, ◌*◌, ◌/◌, ◌<◌, ◌^◌, List, [], ◌∷◌, sym, ap, ◌∙◌, subst, arith, All, add-mul, add_assoc, mul_assoc, mul_comm, pow-add, mul-add-lt, shr_high, mod_low, sum_by-cons, All-nil, All-cons, All-head, All-tail, Field, term_of, word_of, bits_of, Fits, SideBySide, ReadsBack}
+use Rattle.cell_word.proofs.Names.{◌≡◌, ℕ, ◌+◌, ◌*◌, ◌/◌, ◌%◌, ◌<◌, ◌^◌, List, [], ◌∷◌, sym, ap, ◌∙◌, subst, arith, All, add-mul, add_assoc, mul_assoc, mul_comm, pow-add, mul-add-lt, shr_high, shr-shr, mod_low, sum_by-cons, All-nil, All-cons, All-head, All-tail, Field, term_of, word_of, bits_of, Fits, SideBySide, ReadsBack}
 
 -- the fields as one number, from their lowest bit on
 abbrev pub stacked : List Field → ℕ
@@ -43,26 +43,14 @@ word_below start end low (f ∷ fs) side fits below =
     let upper = word_below (start + f.width) end (low + f.value * 2 ^ start) fs side.1 (All-tail Fits f fs fits) more in
     subst (λ w. w < 2 ^ end) (same_word low start f fs side.0) upper
 
--- the lowest field reads back
-pub lowest_back : (start width low v upper : ℕ) → low < 2 ^ start → v < 2 ^ width → bits_of (low + (upper * 2 ^ width + v) * 2 ^ start) start width ≡ v
-lowest_back start width low v upper below fits =
-    let high : ((upper * 2 ^ width + v) * 2 ^ start + low) / 2 ^ start ≡ upper * 2 ^ width + v = shr_high (upper * 2 ^ width + v) start low below in
-    let turned : low + (upper * 2 ^ width + v) * 2 ^ start ≡ (upper * 2 ^ width + v) * 2 ^ start + low = omega arith in
-    rw turned (rw high (mod_low upper width v fits))
-
--- and so does each field
-pub all_back : (start end low : ℕ) (fs : List Field) → SideBySide start end fs → All Fits fs → low < 2 ^ start → All (ReadsBack (low + word_of fs)) fs
-all_back start end low [] side fits below = All-nil (ReadsBack (low + word_of []))
-all_back start end low (f ∷ fs) side fits below =
-    let Back = ReadsBack (low + word_of (f ∷ fs)) in
-    let more : low + f.value * 2 ^ start < 2 ^ (start + f.width) = next_bound low f.value start f.width below (All-head Fits f fs fits) in
-    let upper = all_back (start + f.width) end (low + f.value * 2 ^ start) fs side.1 (All-tail Fits f fs fits) more in
-    let whole : word_of (f ∷ fs) ≡ (stacked fs * 2 ^ f.width + f.value) * 2 ^ start = word-stacked start end (f ∷ fs) side in
-    let first : Back f =
-    ap (λ n. bits_of (low + n) f.lowest f.width) whole
-    ∙ ap (λ n. bits_of (low + (stacked fs * 2 ^ f.width + f.value) * 2 ^ start) n f.width) side.0
-    ∙ lowest_back start f.width low f.value (stacked fs) below (All-head Fits f fs fits) in
-    All-cons Back f fs first (subst (λ w. All (ReadsBack w) fs) (same_word low start f fs side.0) upper)
+-- each field reads back from a number that has them from their lowest bit on
+pub all_back : (x start end : ℕ) (fs : List Field) → SideBySide start end fs → All Fits fs → x / 2 ^ start ≡ stacked fs → All (ReadsBack x) fs
+all_back x start end [] side fits e = All-nil (ReadsBack x)
+all_back x start end (f ∷ fs) side fits e =
+    let here = All-head Fits f fs fits in
+    let first : ReadsBack x f = ap (λ n. bits_of x n f.width) side.0 ∙ ap (λ n. n % 2 ^ f.width) e ∙ mod_low (stacked fs) f.width f.value here in
+    let rest : x / 2 ^ (start + f.width) ≡ stacked fs = sym (shr-shr x start f.width) ∙ ap (λ n. n / 2 ^ f.width) e ∙ shr_high (stacked fs) f.width f.value here in
+    All-cons (ReadsBack x) f fs first (all_back x (start + f.width) end fs side.1 (All-tail Fits f fs fits) rest)
 
 -- fields that begin at bit 0
 pub whole_word_below : (end : ℕ) (fs : List Field) → SideBySide 0 end fs → All Fits fs → word_of fs < 2 ^ end
@@ -70,5 +58,5 @@ whole_word_below end fs side fits = let below = word_below 0 end 0 fs side fits 
 
 pub whole_word_back : (end : ℕ) (fs : List Field) → SideBySide 0 end fs → All Fits fs → All (ReadsBack (word_of fs)) fs
 whole_word_back end fs side fits =
-    let same : 0 + word_of fs ≡ word_of fs = omega arith in
-    subst (λ w. All (ReadsBack w) fs) same (all_back 0 end 0 fs side fits (omega arith))
+    let whole : word_of fs ≡ stacked fs * 2 ^ 0 = word-stacked 0 end fs side in
+    all_back (word_of fs) 0 end fs side fits (omega (arith, whole))

@@ -1,56 +1,29 @@
 -- The zones of a word without plates in zones, all tested at once.
-use Rattle.cell_word.proofs.Names.{◌≡◌, ◌↔◌, ℕ, ◌+◌, ◌-◌, ◌*◌, ◌/◌, ◌%◌, ◌^◌, min, max, Bool, true, false, ◌&&◌, not, nat_eq, refl, sym, ap, ap₂, ◌∙◌, arith, eqb-true, eq-eqb, bit_and, bit_or, bit_xor, bit_at, list_all, add_comm, shr-shr, xor_shr, le_or_l, le_or_r, bit_at_and, bit_at_or, bit_at_xor, Zone, Z1, Z2, Z3, Z4, Z5, Z6, PressIn, PressOut, OpenIn, same_posture, zone_at, is_full}
-use Rattle.cell_word.proofs.Names.{implies, implied, from_zones, all_pass, each_zone, zone_bit, bits_of, is_bit_set, state_told, stands, flag_is, place_is, zone_codes, is_lawful_zone, is_lawful_press}
+use Rattle.cell_word.proofs.Names.{◌≡◌, ◌↔◌, ℕ, ◌+◌, ◌*◌, ◌/◌, ◌%◌, ◌^◌, min, max, Bool, true, false, ◌&&◌, not, nat_eq, List, map, refl, sym, ap, ap₂, ◌∙◌, arith, eqb-true, eq-eqb, bit_and, bit_or, bit_xor, bit_at, list_all, add_comm, shr-shr, xor_shr, bit_at_and, bit_at_or, bit_at_xor, Zone, Z3, PressIn, PressOut, OpenIn, same_posture, zone_at, is_full}
+use Rattle.cell_word.proofs.Names.{implies, implied, all_zones, from_zones, all_pass, zone_bit, bits_of, is_bit_set, state_told, stands, flag_is, place_is, zone_codes, is_lawful_zone, is_lawful_press}
 use Rattle.cell_types.specs.Everything.{all_zones as every_zone}
 use Rattle.cell_word.proofs.SameAnswer.{same_bool, one_bool}
-use Rattle.cell_word.proofs.Windows.{and_or, field_shown, field_test, all_below, from_below, five_fit}
+use Rattle.cell_word.proofs.Windows.{and_zero, field_test, same_field, all_below, from_below, five_fit, from_values}
 use Rattle.cell_word.proofs.StateWordsHold.{clear_law, press_law}
 
 -- ---- the lowest bits of all zones
 abbrev pub lowest_bits : ℕ
 lowest_bits = 34636833
 
-abbrev bit_of : ℕ → Zone → ℕ
-bit_of n z = bits_of n (zone_bit z) 1 * 2 ^ zone_bit z
+abbrev lowest_fields : List (ℕ × ℕ)
+lowest_fields = map (λ z. (zone_bit z, 1)) every_zone
 
-abbrev mask_of : Zone → ℕ
-mask_of z = (2 ^ 1 - 1) * 2 ^ zone_bit z
+abbrev are_clear : ℕ → Bool
+are_clear n = all_zones (λ z. nat_eq (bits_of n (zone_bit z) 1) 0)
 
-abbrev joined : (Zone → ℕ) → ℕ
-joined f = bit_or (f Z1) (bit_or (f Z2) (bit_or (f Z3) (bit_or (f Z4) (bit_or (f Z5) (f Z6)))))
+abbrev once_test : ℕ → Bool
+once_test v = same_bool (nat_eq v 0) (are_clear v)
 
-shown : (n : ℕ) (z : Zone) → bit_and n (mask_of z) ≡ bit_of n z
-shown n z = field_shown n (zone_bit z) 1
-
-one_more : (n : ℕ) (z : Zone) (rest seen : ℕ) → bit_and n rest ≡ seen → bit_and n (bit_or (mask_of z) rest) ≡ bit_or (bit_of n z) seen
-one_more n z rest seen e = and_or n (mask_of z) rest ∙ ap₂ bit_or (shown n z) e
-
-apart : (n : ℕ) → bit_and n lowest_bits ≡ joined (bit_of n)
-apart n = one_more n Z1 _ _ (one_more n Z2 _ _ (one_more n Z3 _ _ (one_more n Z4 _ _ (one_more n Z5 _ _ (shown n Z6)))))
-
-both_zero : (a b : ℕ) → bit_or a b ≡ 0 → (a ≡ 0) × (b ≡ 0)
-both_zero a b e = (omega (arith, le_or_l a b), omega (arith, le_or_r a b))
-
-each_zero : (f : Zone → ℕ) → joined f ≡ 0 → (z : Zone) → f z ≡ 0
-each_zero f e =
-    let z1 = both_zero (f Z1) (bit_or (f Z2) (bit_or (f Z3) (bit_or (f Z4) (bit_or (f Z5) (f Z6))))) e in
-    let z2 = both_zero (f Z2) (bit_or (f Z3) (bit_or (f Z4) (bit_or (f Z5) (f Z6)))) z1.1 in
-    let z3 = both_zero (f Z3) (bit_or (f Z4) (bit_or (f Z5) (f Z6))) z2.1 in
-    let z4 = both_zero (f Z4) (bit_or (f Z5) (f Z6)) z3.1 in
-    let z5 = both_zero (f Z5) (f Z6) z4.1 in
-    each_zone (λ z. f z ≡ 0) z1.0 z2.0 z3.0 z4.0 z5.0 z5.1
-
-unshifted : (n : ℕ) (z : Zone) → bit_of n z ≡ 0 → bits_of n (zone_bit z) 1 ≡ 0
-unshifted n Z1 e = omega arith
-unshifted n _ e = omega arith
-
-pub none_set : (n : ℕ) → bit_and n lowest_bits ≡ 0 → (z : Zone) → bits_of n (zone_bit z) 1 ≡ 0
-none_set n e z = unshifted n z (each_zero (bit_of n) (sym (apart n) ∙ e) z)
-
-pub set_none : (n : ℕ) → ((z : Zone) → bits_of n (zone_bit z) 1 ≡ 0) → bit_and n lowest_bits ≡ 0
-set_none n h =
-    apart n
-    ∙ (λ i. bit_or (h Z1 i * 2 ^ zone_bit Z1) (bit_or (h Z2 i * 2 ^ zone_bit Z2) (bit_or (h Z3 i * 2 ^ zone_bit Z3) (bit_or (h Z4 i * 2 ^ zone_bit Z4) (bit_or (h Z5 i * 2 ^ zone_bit Z5) (h Z6 i * 2 ^ zone_bit Z6))))))
+once : (n : ℕ) → nat_eq (bit_and n lowest_bits) 0 ≡ are_clear n
+once n =
+    let v = bit_and n lowest_bits in
+    let same : (z : Zone) → bits_of v (zone_bit z) 1 ≡ bits_of n (zone_bit z) 1 = λ z. same_field n lowest_bits (zone_bit z) 1 (eqb-true (bits_of lowest_bits (zone_bit z) 1) 1 (from_zones (λ z. nat_eq (bits_of lowest_bits (zone_bit z) 1) 1) refl z)) in
+    one_bool (nat_eq v 0) (are_clear v) (from_values lowest_fields once_test n 0 0 (and_zero n) refl) ∙ (λ i. all_zones (λ z. nat_eq (same z i) 0))
 
 -- ---- the flags
 down : (w k j : ℕ) → w / 2 ^ j / 2 ^ k ≡ w / 2 ^ k / 2 ^ j
@@ -64,8 +37,8 @@ flag_clear w z = field_test w (zone_bit z + 2) 1 0 ∙ ap (λ n. nat_eq n 0) (sy
 
 pub clear_at_once : (w : ℕ) → nat_eq (bit_and (w / 4) lowest_bits) 0 ≡ true ↔ ((z : Zone) → stands w (flag_is z false) ≡ true)
 clear_at_once w = (
-  λ e z. flag_clear w z ∙ eq-eqb _ 0 (none_set (w / 2 ^ 2) (eqb-true _ 0 e) z),
-  λ h. eq-eqb _ 0 (set_none (w / 2 ^ 2) (λ z. eqb-true _ 0 (sym (flag_clear w z) ∙ h z))),
+  λ e z. flag_clear w z ∙ from_zones (λ z. nat_eq (bits_of (w / 2 ^ 2) (zone_bit z) 1) 0) (sym (once (w / 2 ^ 2)) ∙ e) z,
+  λ h. once (w / 2 ^ 2) ∙ all_pass (λ z. nat_eq (bits_of (w / 2 ^ 2) (zone_bit z) 1) 0) (λ z. sym (flag_clear w z) ∙ h z) every_zone,
 )
 
 -- ---- the codes
@@ -141,17 +114,10 @@ by_code w clear z =
     ∙ one_bool (nat_eq (spoilt_at (zone_bit z) c) 0) (is_bit_set (zone_codes z) c)
     (implied (nat_eq (bit_at c 2) 0) same (from_below 32 (free_test z) (from_zones (λ z. all_below 32 (free_test z)) refl z) c (five_fit w (zone_bit z))) (eq-eqb _ 0 (no_flag w clear z)))
 
-either_way : (a b : Bool) → (a ≡ true → b ≡ true) → (b ≡ true → a ≡ true) → a ≡ b
-either_way true b there back = sym (there refl)
-either_way false true there back = back refl
-either_way false false there back = refl
-
 pub codes_at_once : (w : ℕ) → IsClear w → nat_eq (bit_and (spoilt w) lowest_bits) 0 ≡ list_all (is_lawful_zone w) every_zone
 codes_at_once w clear =
     let same : (z : Zone) → nat_eq (bits_of (spoilt w) (zone_bit z) 1) 0 ≡ is_lawful_zone w z = λ z. by_code w clear z ∙ sym (clear_law w z (no_flag w clear z)) in
-    either_way (nat_eq (bit_and (spoilt w) lowest_bits) 0) (list_all (is_lawful_zone w) every_zone)
-    (λ e. all_pass (is_lawful_zone w) (λ z. sym (same z) ∙ eq-eqb _ 0 (none_set (spoilt w) (eqb-true _ 0 e) z)) every_zone)
-    (λ e. eq-eqb _ 0 (set_none (spoilt w) (λ z. eqb-true _ 0 (same z ∙ from_zones (is_lawful_zone w) e z))))
+    once (spoilt w) ∙ (λ i. all_zones (λ z. same z i))
 
 -- ---- the press without a forged plate
 one_at_most : (a b : Bool) → (not (a && false) && implies b (not false)) ≡ true
