@@ -19,38 +19,28 @@ pub reply_found : (s : ModelState) → IsSound s → (m : Machine) (c : Call) �
 reply_found s sound m c other w e found is =
     reply_by s m c other ∙ ap done_unless (sym (guards_hold s sound m c) ∙ ap (λ n. first_refusal n (guards_of m c)) e ∙ is)
 
-is_written : (s : ModelState) → IsSound s → (m : Machine) (c : Call) (w : ℕ) → packed s ≡ w → reply s m c ≡ Done → with_written w (written m c).mask (written m c).wanted + 2 ^ 40 ≡ packed (next s m c)
-is_written s sound m c w e done =
-    ap (λ n. with_written n (written m c).mask (written m c).wanted + 2 ^ 40) (sym e) ∙ sym (done_written s sound m c done)
-
-after_found : (s : ModelState) → IsSound s → (m : Machine) (c : Call) (w : ℕ) → packed s ≡ w → (found : Option Refusal) → reply s m c ≡ done_unless found → word_after w (unless found (written m c)) ≡ packed (next s m c)
-after_found s sound m c w e None is = is_written s sound m c w e is
-after_found s sound m c w e (Some r) is = sym e ∙ ap (λ a. packed (next_by a s m c)) (sym is)
-
-room_found : (s : ModelState) → IsSound s → (m : Machine) (c : Call) (w : ℕ) → packed s ≡ w → (found : Option Refusal) → reply s m c ≡ done_unless found → IfOk (unless found (written m c)) (λ p. with_written w p.mask p.wanted + 2 ^ 40 < 2 ^ 64)
-room_found s sound m c w e None is =
-    let same = is_written s sound m c w e is in
-    let bound = (laid_out (next s m c) (next_keeps s m c sound)).bound in
-    omega arith
-room_found s sound m c w e (Some r) is = tt
-
 -- what the guards give leads to the next state's word, which has 64 bits
-pub after_guards : (s : ModelState) → IsSound s → (m : Machine) (c : Call) → IsNoInquiry c → (w : ℕ) → packed s ≡ w → word_after w (unless (first_refusal w (guards_of m c)) (written m c)) ≡ packed (next s m c)
-after_guards s sound m c other w e =
-    after_found s sound m c w e (first_refusal w (guards_of m c)) (reply_found s sound m c other w e (first_refusal w (guards_of m c)) refl)
+abbrev LeadsTo : ModelState → Machine → Call → ℕ → Result Pattern Refusal → Type 0
+LeadsTo s m c w r = (word_after w r ≡ packed (next s m c)) × IfOk r (λ p. with_written w p.mask p.wanted + 2 ^ 40 < 2 ^ 64)
 
-pub room_after_guards : (s : ModelState) → IsSound s → (m : Machine) (c : Call) → IsNoInquiry c → (w : ℕ) → packed s ≡ w → IfOk (unless (first_refusal w (guards_of m c)) (written m c)) (λ p. with_written w p.mask p.wanted + 2 ^ 40 < 2 ^ 64)
-room_after_guards s sound m c other w e =
-    room_found s sound m c w e (first_refusal w (guards_of m c)) (reply_found s sound m c other w e (first_refusal w (guards_of m c)) refl)
+leads : (s : ModelState) → IsSound s → (m : Machine) (c : Call) (w : ℕ) → packed s ≡ w → (found : Option Refusal) → reply s m c ≡ done_unless found → LeadsTo s m c w (unless found (written m c))
+leads s sound m c w e None is =
+    let same : with_written w (written m c).mask (written m c).wanted + 2 ^ 40 ≡ packed (next s m c) = ap (λ n. with_written n (written m c).mask (written m c).wanted + 2 ^ 40) (sym e) ∙ sym (done_written s sound m c is) in
+    let bound = (laid_out (next s m c) (next_keeps s m c sound)).bound in
+    (same, omega arith)
+leads s sound m c w e (Some r) is = (sym e ∙ ap (λ a. packed (next_by a s m c)) (sym is), tt)
 
--- the same, by what a function gives
+leads_by : {r : Result Pattern Refusal} (s : ModelState) → IsSound s → (m : Machine) (c : Call) → IsNoInquiry c → (w : ℕ) → packed s ≡ w → r ≡ unless (first_refusal w (guards_of m c)) (written m c) → LeadsTo s m c w r
+leads_by s sound m c other w e is =
+    let found = first_refusal w (guards_of m c) in
+    subst (LeadsTo s m c w) (sym is) (leads s sound m c w e found (reply_found s sound m c other w e found refl))
+
 pub room_of : {r : Result Pattern Refusal} (w : ℕ) → (s : ModelState) × IsSound s × (packed s ≡ w) → (m : Machine) (c : Call) → IsNoInquiry c → r ≡ unless (first_refusal w (guards_of m c)) (written m c) → IfOk r (λ p. with_written w p.mask p.wanted + 2 ^ 40 < 2 ^ 64)
-room_of w known m c other is =
-    subst (λ r. IfOk r (λ p. with_written w p.mask p.wanted + 2 ^ 40 < 2 ^ 64)) (sym is) (room_after_guards known.0 known.1 m c other w known.2)
+room_of w known m c other is = (leads_by known.0 known.1 m c other w known.2 is).1
 
 pub after_of : {x : ℕ} {r : Result Pattern Refusal} {call : Call} (w : ℕ) (m : Machine) (c : Call) → call ≡ c → IsNoInquiry c → r ≡ unless (first_refusal w (guards_of m c)) (written m c) → x ≡ word_after w r
     → (s : ModelState) → IsSound s → packed s ≡ w → x ≡ packed (next s m call)
-after_of w m c call other is after s sound e = after ∙ ap (word_after w) is ∙ after_guards s sound m c other w e ∙ ap (λ k. packed (next s m k)) (sym call)
+after_of w m c call other is after s sound e = after ∙ (leads_by s sound m c other w e is).0 ∙ ap (λ k. packed (next s m k)) (sym call)
 
 -- a call that changes the word is Done
 done_by : (a : Answer) (s : ModelState) (m : Machine) (c : Call) (w : ℕ) → packed s ≡ w → packed (next_by a s m c) ≢ w → Done ≡ a

@@ -1,6 +1,6 @@
 -- On a sound state's word the guards of each machine and call are its refusals, in their order.
 use Rattle.cell_word.proofs.Names.{◌≡◌, ℕ, ◌*◌, ◌^◌, ◌≤◌, Bool, true, false, ◌&&◌, not, nat_eq, nat_lt, Option, Some, None, unwrap_or, refl, sym, ap, ap₂, ◌∙◌, arith, bit_or, and_parts, nat_tests, then_some, option_or, Machine, Feed, Zone, Z1, Transfer, Posture, Closed, OpenIn, Pose, Call, Claim, Give, Yield, Take, Release, SetPose, Inquire, Refusal, PlaceFull, Worn}
-use Rattle.cell_word.proofs.Names.{transfer_of, posture_of, same_posture, ModelState, zone_at, is_full, last_stamp, IsSound, refusal, order_of, all_bools, bools, machines, holds2, packed, stands, first_refusal, guards_of, numbers_of, is_ordered}
+use Rattle.cell_word.proofs.Names.{transfer_of, posture_of, same_posture, ModelState, last_stamp, IsSound, refusal, order_of, all_bools, bools, machines, holds2, packed, stands, first_refusal, guards_of, numbers_of, is_ordered}
 use Rattle.cell_types.specs.declared.pose.Pose.TheVariants.{Turning}
 use Rattle.cell_rules.specs.Refusals
 use Rattle.cell_word.specs.Guards as guards

@@ -1,6 +1,6 @@
 -- A word is a sound state's exactly if the masks say so.
-use Rattle.cell_word.proofs.Names.{◌≡◌, ℕ, zero, suc, ◌+◌, ◌*◌, ◌/◌, ◌%◌, ◌^◌, ◌<◌, ◌≤◌, Bool, ◌&&◌, true, false, not, nat_eq, Option, Some, None, List, [], ◌∷◌, ◌++◌, refl, sym, ap, ◌∙◌, arith, eqb-true, eq-eqb, bit_and, bit_at, list_all, and_parts, shr-shr, mod_below, Zone, Z1, Z3, Transfer, Place, FeedEntry, PressIn, PressOut, Posture, OpenIn, OpenOut, transfer_of, same_posture, ModelState, zone_at, is_full, one_if, IsSound}
-use Rattle.cell_word.proofs.Names.{implies, has_lawful_owner, is_lawful_plate, is_onto_full, is_open_to_guest, moves_by_host, is_of_some_pose, has_one_plate, is_sound, sound_by_test, ZoneState, and_right, and_both, implied, all_zones, all_postures, from_zones, all_pass, zones, postures, holds2, zone_bit, place_bit, mark_bit, packed, bits_of, is_bit_set, owner_of_code, posture_of_code, zone_in_word, state_told, stands, both, posture_is, place_is, field_is, zone_codes, onto_full, is_lawful_zone, is_lawful_press, is_state_word, Pattern}
+use Rattle.cell_word.proofs.Names.{◌≡◌, ℕ, zero, suc, ◌+◌, ◌*◌, ◌/◌, ◌%◌, ◌^◌, ◌<◌, ◌≤◌, Bool, ◌&&◌, true, not, nat_eq, Option, Some, None, List, [], ◌∷◌, ◌++◌, refl, sym, ap, ◌∙◌, arith, eqb-true, eq-eqb, bit_and, bit_at, list_all, and_parts, shr-shr, mod_below, Zone, Z1, Z3, Transfer, Place, FeedEntry, PressIn, PressOut, Posture, OpenIn, OpenOut, transfer_of, same_posture, ModelState, zone_at, is_full, one_if, IsSound}
+use Rattle.cell_word.proofs.Names.{implies, has_lawful_owner, is_lawful_plate, is_onto_full, is_open_to_guest, moves_by_host, is_of_some_pose, has_one_plate, is_sound, sound_by_test, ZoneState, and_right, and_both, implied, all_postures, from_zones, all_pass, postures, zone_bit, place_bit, mark_bit, packed, bits_of, is_bit_set, owner_of_code, posture_of_code, zone_in_word, state_told, stands, both, posture_is, place_is, field_is, zone_codes, onto_full, is_lawful_zone, is_lawful_press, is_state_word, Pattern}
 use Rattle.cell_types.specs.Everything.{all_zones as every_zone}
 use Rattle.cell_rules.specs.SoundTest.{is_lawful_at}
 use Rattle.cell_rules.proofs.lemmas.SoundnessTest.{test_of_sound}

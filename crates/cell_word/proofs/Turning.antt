@@ -1,5 +1,5 @@
 -- A zone has another posture if a bit of its posture differs.
-use Rattle.cell_word.proofs.Names.{◌≡◌, ℕ, ◌+◌, ◌^◌, Bool, true, false, ◌&&◌, cond, nat_eq, Option, Some, None, is_some, option_map, Result, Ok, Err, List, [], ◌∷◌, map, refl, sym, ap, ap₂, ◌∙◌, bit_and, and_parts, Zone, Transfer, Place, Posture, OpenIn, Refusal, Jump, WrongWay, guest_of, transfer_of, and_left, and_right, from_zones, zones, postures, places, holds2}
+use Rattle.cell_word.proofs.Names.{◌≡◌, ℕ, ◌+◌, Bool, true, false, ◌&&◌, cond, nat_eq, Option, Some, None, is_some, option_map, Result, Ok, Err, List, [], ◌∷◌, map, refl, sym, ap, ap₂, ◌∙◌, bit_and, and_parts, Zone, Transfer, Place, Posture, OpenIn, Refusal, Jump, WrongWay, guest_of, transfer_of, from_zones, zones, postures, places, holds2}
 use Rattle.cell_word.proofs.Names.{zone_bit, place_bit, stands, when, posture_is, low_differs, high_differs, anything, guard, first_refusal, unless, checked, machine_of, giving_posture, Party, Host, Guest, Pattern, Guard}
 use Rattle.cell_types.specs.Everything.{all_postures as every_posture}
 use Rattle.cell_word.specs.Guards as guards

@@ -1,5 +1,5 @@
 -- The zones of a word without plates in zones, all tested at once.
-use Rattle.cell_word.proofs.Names.{◌≡◌, ◌↔◌, ℕ, ◌+◌, ◌*◌, ◌/◌, ◌%◌, ◌^◌, min, max, Bool, true, false, ◌&&◌, not, nat_eq, List, map, refl, sym, ap, ap₂, ◌∙◌, arith, eqb-true, eq-eqb, bit_and, bit_or, bit_xor, bit_at, list_all, add_comm, shr-shr, xor_shr, bit_at_and, bit_at_or, bit_at_xor, Zone, Z3, PressIn, PressOut, OpenIn, same_posture, zone_at, is_full}
+use Rattle.cell_word.proofs.Names.{◌≡◌, ◌↔◌, ℕ, ◌+◌, ◌/◌, ◌%◌, ◌^◌, min, max, Bool, true, false, ◌&&◌, not, nat_eq, List, map, refl, sym, ap, ap₂, ◌∙◌, arith, eqb-true, eq-eqb, bit_and, bit_or, bit_xor, bit_at, list_all, add_comm, shr-shr, xor_shr, bit_at_and, bit_at_or, bit_at_xor, Zone, Z3, PressIn, PressOut, OpenIn, same_posture, zone_at, is_full}
 use Rattle.cell_word.proofs.Names.{implies, implied, all_zones, from_zones, all_pass, zone_bit, bits_of, is_bit_set, state_told, stands, flag_is, place_is, zone_codes, is_lawful_zone, is_lawful_press}
 use Rattle.cell_types.specs.Everything.{all_zones as every_zone}
 use Rattle.cell_word.proofs.SameAnswer.{same_bool, one_bool}

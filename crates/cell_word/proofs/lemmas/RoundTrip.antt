@@ -2,6 +2,7 @@
 use Rattle.cell_word.proofs.Names.{◌≡◌, ℕ, ◌+◌, ◌-◌, ◌*◌, ◌/◌, ◌<◌, ◌≤◌, Bool, true, false, ◌||◌, if◌then◌else◌, nat_eq, Option, Some, None, is_none, List, [], ◌∷◌, ◌++◌, map, get_or, refl, sym, ap, ◌∙◌, subst, arith, rules, ◌↔◌, All, flat_map, All-nil, All-cons, All-append, All-map, Machine, Zone, Z1, Z2, Z3, Z4, Z5, Z6, Place, FeedEntry, FeedEnd, Arm1, PressIn, PressOut, Arm2, DepEntry, DepEnd, Posture, Closed}
 use Rattle.cell_word.proofs.Names.{host_of, guest_of, same_machine, one_machine, all_places, Table, Crane, ModelState, zone_at, is_full, one_if, last_stamp, IsSound, has_lawful_owner, is_owned_by, ZoneState, Field, field, zone_bit, place_bit, stamp_bit, mark_bit, owner_code, posture_code, zone_fields, fields_at, place_field, last_fields, fields_of, packed, bits_of, owner_of_code, posture_of_code, is_bit_set, is_told_full, zone_in_word, state_told, Fits, SideBySide, ReadsBack, IsLaidOut}
 use Rattle.cell_rules.specs.Types.{all_zones}
+use Rattle.cell_rules.specs.Names.{model_state, zone_map, place_set}
 use Rattle.cell_word.proofs.Fields.{whole_word_below, whole_word_back}
 
 -- ---- each field fits
@@ -120,23 +121,11 @@ told_back s sound =
     let place = place_read s sound in
     let stamp = stamp_read s sound in
     let stopped = bit_back (packed s) mark_bit s.stopped (mark_read s sound) in
-    λ i. record {
-      zones = record { at_z1 = zone Z1 i; at_z2 = zone Z2 i; at_z3 = zone Z3 i; at_z4 = zone Z4 i; at_z5 = zone Z5 i; at_z6 = zone Z6 i };
-      full = record {
-        feed_entry = place FeedEntry i;
-        feed_end = place FeedEnd i;
-        table = place Table i;
-        arm1 = place Arm1 i;
-        press_in = place PressIn i;
-        press_out = place PressOut i;
-        arm2 = place Arm2 i;
-        dep_entry = place DepEntry i;
-        dep_end = place DepEnd i;
-        crane = place Crane i;
-      };
-      stamp = stamp i;
-      stopped = stopped i;
-    }
+    λ i. model_state
+    (zone_map (zone Z1 i) (zone Z2 i) (zone Z3 i) (zone Z4 i) (zone Z5 i) (zone Z6 i))
+    (place_set (place FeedEntry i) (place FeedEnd i) (place Table i) (place Arm1 i) (place PressIn i) (place PressOut i) (place Arm2 i) (place DepEntry i) (place DepEnd i) (place Crane i))
+    (stamp i)
+    (stopped i)
 
 pub one_state : (s t : ModelState) → IsSound s → IsSound t → packed s ≡ packed t → s ≡ t
 one_state s t h k e = sym (told_back s h) ∙ ap state_told e ∙ told_back t k
