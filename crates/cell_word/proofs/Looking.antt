@@ -1,4 +1,4 @@
--- A call looks at some zones and some places, at the mark and at the stamp. Its guards are tested at all that these may be.
+-- A call looks at some zones and places, at the mark and at the stamp. Its guards are tested at all values of these.
 use Rattle.cell_word.proofs.Names.{◌≡◌, ℕ, Bool, true, false, ◌||◌, ◌&&◌, nat_eq, Option, Some, None, option_map, List, [], ◌∷◌, refl, ap₂, ◌∙◌, eqb-true, if◌then◌else◌, bit_and, bit_or, and_parts, find, list_all, Machine, Feed, Press, Deposit, Zone, Z1, Z2, Z3, Z4, Z5, Z6, Place, FeedEntry, FeedEnd, PressIn, PressOut, DepEntry, DepEnd, Table, Transfer, Call, Claim, Give, Yield, Take, Release, SetPose, Advance, Refusal, same_machine, same_zone}
 use Rattle.cell_word.proofs.Names.{ZoneState, everywhere, free_zone, put_zone, empty, ModelState, model_state, zone_at, is_full, last_stamp, IsSound, implies, refusal, and_left, and_right, implied, all_bools, from_bools, all_states, from_states, machines, holds2, packed, stands, first_refusal, guards_of, Guard}
 use Rattle.cell_types.specs.declared.machine.Machine.TheVariants.{Table as TableMachine}

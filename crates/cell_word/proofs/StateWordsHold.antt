@@ -1,6 +1,6 @@
 -- A word is a sound state's exactly if the masks say so.
 use Rattle.cell_word.proofs.Names.{◌≡◌, ℕ, zero, suc, ◌+◌, ◌*◌, ◌/◌, ◌%◌, ◌^◌, ◌<◌, ◌≤◌, Bool, ◌&&◌, true, not, nat_eq, Option, Some, None, List, [], ◌∷◌, ◌++◌, refl, sym, ap, ◌∙◌, arith, eqb-true, eq-eqb, bit_and, bit_at, list_all, and_parts, shr-shr, mod_below, Zone, Z1, Z3, Transfer, Place, FeedEntry, PressIn, PressOut, Posture, OpenIn, OpenOut, transfer_of, same_posture, ModelState, zone_at, is_full, one_if, IsSound}
-use Rattle.cell_word.proofs.Names.{implies, has_lawful_owner, is_lawful_plate, is_onto_full, is_open_to_guest, moves_by_host, is_of_some_pose, has_one_plate, is_sound, sound_by_test, ZoneState, and_right, and_both, implied, all_postures, from_zones, all_pass, postures, zone_bit, place_bit, mark_bit, packed, bits_of, is_bit_set, owner_of_code, posture_of_code, zone_in_word, state_told, stands, both, posture_is, place_is, field_is, zone_codes, onto_full, is_lawful_zone, is_lawful_press, is_state_word, Pattern}
+use Rattle.cell_word.proofs.Names.{implies, has_lawful_owner, is_lawful_plate, is_onto_full, is_open_to_guest, moves_by_host, is_of_some_pose, has_one_plate, is_sound, sound_by_test, ZoneState, and_right, and_both, implied, zones, postures, holds2, from_zones, all_pass, zone_bit, place_bit, mark_bit, packed, bits_of, is_bit_set, owner_of_code, posture_of_code, zone_in_word, state_told, stands, both, posture_is, place_is, field_is, zone_codes, onto_full, is_lawful_zone, is_lawful_press, is_state_word, Pattern}
 use Rattle.cell_types.specs.Everything.{all_zones as every_zone}
 use Rattle.cell_rules.specs.SoundTest.{is_lawful_at}
 use Rattle.cell_rules.proofs.lemmas.SoundnessTest.{test_of_sound}
@@ -77,8 +77,8 @@ is_covered n p = nat_eq (bit_and n p.mask) p.mask
 abbrev onto : Zone → Posture → Pattern
 onto z q = onto_full z q (transfer_of z q)
 
-abbrev covers_zone : Zone → ℕ → Bool
-covers_zone z n = nat_eq (bits_of n (zone_bit z) 5) 31 && (all_postures (λ q. covers n (transfer_of z q)) && (is_covered n (onto z OpenIn) && is_covered n (onto z OpenOut)))
+abbrev window : Zone → ℕ
+window z = window_on (span z) 0
 
 record Seen (w : ℕ) (z : Zone) (v : ℕ) : Type 0 where
   code : bits_of v (zone_bit z) 5 ≡ bits_of w (zone_bit z) 5
@@ -86,20 +86,17 @@ record Seen (w : ℕ) (z : Zone) (v : ℕ) : Type 0 where
   ends : (q : Posture) → is_onto_full (state_told v).full (transfer_of z q) ≡ is_onto_full (state_told w).full (transfer_of z q)
   lawful : is_lawful_zone w z ≡ is_lawful_zone v z
 
-seen : (w : ℕ) (z : Zone) → Seen w z (bit_and w (window_on (span z) 0))
+seen : (w : ℕ) (z : Zone) → Seen w z (bit_and w (window z))
 seen w z =
-    let n = window_on (span z) 0 in
-    let tests = and_parts (nat_eq (bits_of n (zone_bit z) 5) 31) (all_postures (λ q. covers n (transfer_of z q)) && (is_covered n (onto z OpenIn) && is_covered n (onto z OpenOut))) (from_zones (λ z. covers_zone z (window_on (span z) 0)) refl z) in
-    let rest = and_parts (all_postures (λ q. covers n (transfer_of z q))) (is_covered n (onto z OpenIn) && is_covered n (onto z OpenOut)) tests.1 in
-    let ways = and_parts (is_covered n (onto z OpenIn)) (is_covered n (onto z OpenOut)) rest.1 in
-    let five = eqb-true (bits_of n (zone_bit z) 5) 31 tests.0 in
+    let n = window z in
+    let five = eqb-true (bits_of n (zone_bit z) 5) 31 (from_zones (λ z. nat_eq (bits_of (window z) (zone_bit z) 5) 31) refl z) in
     let code = same_field w n (zone_bit z) 5 five in
-    let inward = stands-window w n (onto z OpenIn) ways.0 in
-    let outward = stands-window w n (onto z OpenOut) ways.1 in
+    let inward = stands-window w n (onto z OpenIn) (from_zones (λ z. is_covered (window z) (onto z OpenIn)) refl z) in
+    let outward = stands-window w n (onto z OpenOut) (from_zones (λ z. is_covered (window z) (onto z OpenOut)) refl z) in
     record {
       code = code;
       zone = told_zone w n z five;
-      ends = λ q. told_onto w n (transfer_of z q) (postures.holds (λ q. covers n (transfer_of z q)) rest.0 q);
+      ends = λ q. told_onto w n (transfer_of z q) (holds2 zones postures (λ z q. covers (window z) (transfer_of z q)) refl z q);
       lawful = λ i. is_bit_set (zone_codes z) (sym code i) && not (inward i) && not (outward i);
     }
 
@@ -113,7 +110,7 @@ zone_test z v = let t = state_told v in same_bool (is_lawful_zone v z) (nat_eq (
 zone_law : (w : ℕ) (z : Zone) → let t = state_told w in is_lawful_zone w z ≡ (nat_eq (zone_code z (zone_at t z)) (bits_of w (zone_bit z) 5) && is_lawful_at t.full z (zone_at t z))
 zone_law w z =
     let s = seen w z in
-    let v = bit_and w (window_on (span z) 0) in
+    let v = bit_and w (window z) in
     s.lawful
     ∙ one_bool (is_lawful_zone v z) _ (from_values (span z) (zone_test z) w 0 0 (and_zero w) (from_zones (λ z. all_values (span z) (zone_test z) 0) refl z))
     ∙ (λ i. fits (is_onto_full (state_told v).full (transfer_of z (s.zone i).posture)) z (s.zone i) (s.code i))
@@ -126,7 +123,7 @@ clear_test z v = let c = bits_of v (zone_bit z) 5 in implies (nat_eq (bit_at c 2
 pub clear_law : (w : ℕ) (z : Zone) → bit_at (bits_of w (zone_bit z) 5) 2 ≡ 0 → is_lawful_zone w z ≡ is_bit_set (zone_codes z) (bits_of w (zone_bit z) 5)
 clear_law w z e =
     let s = seen w z in
-    let v = bit_and w (window_on (span z) 0) in
+    let v = bit_and w (window z) in
     let c = bits_of v (zone_bit z) 5 in
     s.lawful
     ∙ one_bool (is_lawful_zone v z) (is_bit_set (zone_codes z) c)

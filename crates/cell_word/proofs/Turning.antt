@@ -6,7 +6,7 @@ use Rattle.cell_word.specs.Guards as guards
 use Rattle.cell_word.proofs.SameAnswer.{same_answer, one_answer}
 use Rattle.cell_word.proofs.Windows.{and_zero, blind, first-window, stands-window, all_within, all_values, window_on, from_values}
 
--- ---- a row whose guards all pass if a pattern matches, and are else as a short row: tested at all values of some fields
+-- ---- a row whose guards all pass if a pattern matches, and are else as a short row
 abbrev but : Pattern → List Guard → ℕ → Option Refusal
 but p short w = cond (stands w p) None (first_refusal w short)
 
