@@ -1,5 +1,7 @@
 -- A row of guards is tested part by part.
-use Rattle.cell_word.proofs.Names.{◌≡◌, ℕ, Option, Some, None, Result, Ok, Err, List, [], ◌∷◌, ◌++◌, refl, ap, ◌∙◌, sym, option_or, IsErrAnd, first_refusal, unless, checked, Guard}
+use Rattle.cell_word.proofs.Names.{◌≡◌, ℕ, Option, Some, None, Result, Ok, Err, List, [], ◌∷◌, ◌++◌, refl, ap, ◌∙◌, sym, take, append-nil, option_or, IsErrAnd, first_refusal, unless, checked, Guard}
+use Rattle.std.proofs.Common.{drop}
+use Rattle.std.proofs.lemmas.List.{take-append-drop}
 use Rattle.cell_types.specs.declared.answer.Refusal.{Refusal}
 use Rattle.cell_word.proofs.Windows.{first-append}
 
@@ -48,6 +50,18 @@ before w (part ∷ parts) last p = in_parts w part (joined parts last) p ∙ ap 
 pub by_parts : {A : Type 0} (w : ℕ) (parts : List (List Guard)) (p : A) → InTurn w parts (Ok p) (unless (first_refusal w (joined parts [])) p)
 by_parts w parts p = record { is = before w parts [] p }
 
+-- a row by how many guards each of its parts has, but for the last part
+abbrev pub split : List ℕ → List Guard → List (List Guard)
+split [] row = row ∷ []
+split (n ∷ ns) row = take n row ∷ split ns (drop n row)
+
+whole : (ns : List ℕ) (row : List Guard) → joined (split ns row) [] ≡ row
+whole [] row = append-nil row
+whole (n ∷ ns) row = ap (λ rest. take n row ++ rest) (whole ns (drop n row)) ∙ take-append-drop n row
+
+pub by_counts : {A : Type 0} (w : ℕ) (ns : List ℕ) (row : List Guard) (p : A) → InTurn w (split ns row) (Ok p) (unless (first_refusal w row) p)
+by_counts w ns row p = record { is = ap (λ row. unless (first_refusal w row) p) (sym (whole ns row)) ∙ before w (split ns row) [] p }
+
 pub by_parts_to : (w : ℕ) (parts : List (List Guard)) (last : List Guard) → InTurn w parts (checked w last) (checked w (joined parts last))
 by_parts_to w parts last = record { is = before w parts last tt }
 
@@ -57,10 +71,6 @@ past k e passes = record { is = k.is ∙ go (sym e ∙ passes) }
 
 pub refused_by : {A : Type 0} {w : ℕ} {part : List Guard} {parts : List (List Guard)} {last row x : Result A Refusal} {q : Result (Unit {0}) Refusal} {r : Refusal} → InTurn w (part ∷ parts) last row → q ≡ checked w part → q ≡ Err r → IsErrAnd x (λ y. y ≡ r) → x ≡ row
 refused_by {x = x} {r = r} k e stops is = refused x r is ∙ sym (k.is ∙ stop (sym e ∙ stops) _)
-
--- a row by other names of its parts
-pub renamed : {A : Type 0} {w : ℕ} {parts others : List (List Guard)} {last row : Result A Refusal} → InTurn w parts last row → parts ≡ others → InTurn w others last row
-renamed {w = w} {last = last} k e = record { is = k.is ∙ ap (λ (ps : List (List Guard)). in_turn w ps last) e }
 
 pub ends : {A : Type 0} {w : ℕ} {last row x : Result A Refusal} → InTurn w [] last row → x ≡ last → x ≡ row
 ends k e = e ∙ sym k.is

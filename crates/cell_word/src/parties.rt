@@ -82,7 +82,6 @@ impl Party {
 
 /// The row of transfers in which a party of a zone gives.
 #[inline(always)]
-#[tactic(auto, using(crate::proofs::PartyLemmas::given_by_party))]
 pub(crate) fn row_given(zone: Zone, party: Party) -> Option<Transfer>
     ensures row { result ≡ transfer_of zone (parties.giving_posture party) }
     ensures given { result ≡ row_given_of (parties.machine_of zone party) zone }
@@ -92,7 +91,6 @@ pub(crate) fn row_given(zone: Zone, party: Party) -> Option<Transfer>
 
 /// The row of transfers in which a party of a zone receives.
 #[inline(always)]
-#[tactic(auto, using(crate::proofs::PartyLemmas::received_by_party))]
 pub(crate) fn row_received(zone: Zone, party: Party) -> Option<Transfer>
     ensures { result ≡ row_received_of (parties.machine_of zone party) zone }
 {

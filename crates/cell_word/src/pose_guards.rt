@@ -42,7 +42,6 @@ pub(crate) fn posed_at(machine: Machine, pose: Pose, zone: Option<Zone>) -> Opti
 
 /// A zone that gets another posture has to be its host's.
 #[inline(always)]
-#[tactic(auto, using(crate::proofs::Turning::require_held_unless_in))]
 fn require_held_unless_in(at: ZoneBits, posture: Posture) -> Result<(), Refusal>
     ensures { result ≡ guards.checked at.word (guards.owner_guards at.zone posture) }
 {
@@ -64,7 +63,6 @@ fn require_owned_zone(word: u64, posed: Option<(Zone, Posture)>) -> Result<(), R
 
 /// A zone that gets another posture has to be free of plates.
 #[inline(always)]
-#[tactic(auto, using(crate::proofs::Turning::require_clear_unless_in))]
 fn require_clear_unless_in(at: ZoneBits, posture: Posture) -> Result<(), Refusal>
     ensures { result ≡ guards.checked at.word (guards.plate_guards at.zone posture) }
 {

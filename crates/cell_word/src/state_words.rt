@@ -102,7 +102,6 @@ fn are_clear_zones(word: u64) -> bool
 /// Whether each zone has a code that it may have, where no zone has a plate in it. All zones are
 /// tested at once: the bits of each are shifted down to its lowest.
 #[inline(always)]
-#[tactic(auto, using(crate::proofs::ZonesAtOnce::codes_at_once))]
 fn are_lawful_codes(word: u64) -> bool
     requires clear { (zone : Zone) → IsTrue (stands word (flag_is zone false)) }
     ensures { result ≡ list_all (words.is_lawful_zone word) all_zones }

@@ -1,23 +1,16 @@
-use Rattle.cell_word.proofs.Names.{Ok, List, [], ◌∷◌, ap, Press, Z3, PressIn, PressOut, Closed, Advance, NotAtWork, guest_of, written, Guard}
+use Rattle.cell_word.proofs.Names.{Ok, [], ◌∷◌, ap, Press, Advance, written}
 use Rattle.cell_word.specs.Guards as guards
-use Rattle.cell_word.proofs.Trying.{by_parts, ends, past, refused_by}
+use Rattle.cell_word.proofs.Trying.{by_counts, ends, past, refused_by}
 use Rattle.cell_word.proofs.pose_guards.advance_press.Goals as goal
 
-abbrev parts : List (List Guard)
-parts =
-    (guards.unowned Z3 ∷ guards.anothers Z3 (guest_of Z3) ∷ [])
-    ∷ (guards.low_refuses Z3 Closed NotAtWork ∷ guards.high_refuses Z3 Closed NotAtWork ∷ [])
-    ∷ (guards.no_plate_at PressIn ∷ guards.no_room_at PressOut ∷ guards.worn ∷ [])
-    ∷ []
-
 pub returns-in_err-require_held : goal.returns-in_err-require_held
-returns-in_err-require_held c = refused_by (by_parts c.args.word parts (written Press Advance)) c.require_held.ensures c.in_err-require_held.was c.from_residual.ensures.1
+returns-in_err-require_held c = refused_by (by_counts c.args.word (2 ∷ 2 ∷ []) (guards.advance_guards Press) (written Press Advance)) c.require_held.ensures c.in_err-require_held.was c.from_residual.ensures.1
 
 pub returns-in_err-require_in : goal.returns-in_err-require_in
-returns-in_err-require_in c = refused_by (past (by_parts c.args.word parts (written Press Advance)) c.require_held.ensures c.in_ok-require_held.was) c.require_in.ensures c.in_err-require_in.was c.from_residual-in_err-require_in.ensures.1
+returns-in_err-require_in c = refused_by (past (by_counts c.args.word (2 ∷ 2 ∷ []) (guards.advance_guards Press) (written Press Advance)) c.require_held.ensures c.in_ok-require_held.was) c.require_in.ensures c.in_err-require_in.was c.from_residual-in_err-require_in.ensures.1
 
 pub returns-in_err-require_movable : goal.returns-in_err-require_movable
-returns-in_err-require_movable c = refused_by (past (past (by_parts c.args.word parts (written Press Advance)) c.require_held.ensures c.in_ok-require_held.was) c.require_in.ensures c.in_ok-require_in.was) c.require_movable.ensures c.in_err-require_movable.was c.from_residual-in_err-require_movable.ensures.1
+returns-in_err-require_movable c = refused_by (past (past (by_counts c.args.word (2 ∷ 2 ∷ []) (guards.advance_guards Press) (written Press Advance)) c.require_held.ensures c.in_ok-require_held.was) c.require_in.ensures c.in_ok-require_in.was) c.require_movable.ensures c.in_err-require_movable.was c.from_residual-in_err-require_movable.ensures.1
 
 pub returns : goal.returns
-returns c = ends (past (past (past (by_parts c.args.word parts (written Press Advance)) c.require_held.ensures c.in_ok-require_held.was) c.require_in.ensures c.in_ok-require_in.was) c.require_movable.ensures c.in_ok-require_movable.was) (ap Ok c.advance_pattern.ensures)
+returns c = ends (past (past (past (by_counts c.args.word (2 ∷ 2 ∷ []) (guards.advance_guards Press) (written Press Advance)) c.require_held.ensures c.in_ok-require_held.was) c.require_in.ensures c.in_ok-require_in.was) c.require_movable.ensures c.in_ok-require_movable.was) (ap Ok c.advance_pattern.ensures)
