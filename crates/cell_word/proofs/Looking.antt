@@ -1,5 +1,5 @@
 -- A call looks at some zones and places, at the mark and at the stamp. Its guards are tested at all values of these.
-use Rattle.cell_word.proofs.Names.{◌≡◌, ℕ, Bool, true, false, ◌||◌, ◌&&◌, nat_eq, Option, Some, None, option_map, List, [], ◌∷◌, refl, ap₂, ◌∙◌, eqb-true, if◌then◌else◌, bit_and, bit_or, and_parts, find, list_all, Machine, Feed, Press, Deposit, Zone, Z1, Z2, Z3, Z4, Z5, Z6, Place, FeedEntry, FeedEnd, PressIn, PressOut, DepEntry, DepEnd, Table, Transfer, Call, Claim, Give, Yield, Take, Release, SetPose, Advance, Refusal, same_machine, same_zone}
+use Rattle.cell_word.proofs.Names.{◌≡◌, ℕ, Bool, true, false, ◌||◌, ◌&&◌, nat_eq, Option, Some, None, option_map, List, [], ◌∷◌, ◌++◌, refl, ap₂, ◌∙◌, eqb-true, if◌then◌else◌, bit_and, bit_or, and_parts, find, list_all, Machine, Feed, Press, Deposit, Zone, Z1, Z2, Z3, Z4, Z5, Z6, Place, FeedEntry, FeedEnd, PressIn, PressOut, DepEntry, DepEnd, Table, Transfer, Call, Claim, Give, Yield, Take, Release, SetPose, Advance, Refusal, same_machine, same_zone, same_pose, Running}
 use Rattle.cell_word.proofs.Names.{ZoneState, everywhere, free_zone, put_zone, empty, ModelState, model_state, zone_at, is_full, last_stamp, IsSound, implies, refusal, and_left, and_right, implied, all_bools, from_bools, all_states, from_states, machines, holds2, packed, stands, first_refusal, guards_of, Guard}
 use Rattle.cell_types.specs.declared.machine.Machine.TheVariants.{Table as TableMachine}
 use Rattle.cell_rules.specs.PlaceSet.{put_place}
@@ -15,25 +15,37 @@ abbrev pub ends_of : Option Transfer → List Place
 ends_of None = []
 ends_of (Some row) = row.from ∷ row.to ∷ []
 
--- a call about a zone: feed uses z1 by z6
-abbrev pub about : Machine → Zone → List Zone × List Place
-about m z = (z ∷ (if same_machine m Feed && same_zone z Z1 then Z6 ∷ [] else []), ends_of (guards.row_given m z))
+abbrev pub Sight : Type 0
+Sight = List Zone × List Place
 
-abbrev pub own : Machine → List Zone × List Place
-own Feed = (Z6 ∷ Z1 ∷ [], FeedEntry ∷ FeedEnd ∷ [])
+abbrev pub and_also : Sight → Sight → Sight
+and_also a b = (a.0 ++ b.0, a.1 ++ b.1)
+
+-- feed uses z1 by z6
+abbrev pub leaves : Machine → Zone → Sight
+leaves m z = if same_machine m Feed && same_zone z Z1 then (z ∷ Z6 ∷ [], FeedEnd ∷ []) else (z ∷ [], [])
+
+abbrev pub own : Machine → Sight
+own Feed = (Z6 ∷ [], FeedEntry ∷ [])
 own TableMachine = (Z1 ∷ Z2 ∷ [], Table ∷ [])
 own Press = (Z3 ∷ [], PressIn ∷ PressOut ∷ [])
-own Deposit = (Z4 ∷ Z5 ∷ [], DepEntry ∷ DepEnd ∷ [])
+own Deposit = (Z4 ∷ Z5 ∷ [], DepEntry ∷ [])
 own _ = ([], [])
 
-abbrev pub looks : Machine → Call → List Zone × List Place
-looks m (Claim z) = about m z
-looks m (Give z) = about m z
-looks m (Yield z) = about m z
-looks m (Take z) = about m z
-looks m (Release z) = about m z
-looks m (SetPose p) = if Refusals.has_pose m p then own m else ([], [])
-looks m Advance = own m
+-- a belt's end, and the zone into which feed runs
+abbrev pub end : Machine → Sight
+end Feed = (Z1 ∷ [], FeedEnd ∷ [])
+end Deposit = ([], DepEnd ∷ [])
+end _ = ([], [])
+
+abbrev pub looks : Machine → Call → Sight
+looks m (Claim z) = (z ∷ [], [])
+looks m (Give z) = (z ∷ [], ends_of (guards.row_given m z))
+looks m (Yield z) = leaves m z
+looks m (Take z) = (z ∷ [], [])
+looks m (Release z) = leaves m z
+looks m (SetPose p) = if Refusals.has_pose m p then (if same_pose p Running then and_also (own m) (end m) else own m) else ([], [])
+looks m Advance = and_also (own m) (end m)
 looks m _ = ([], [])
 
 -- ---- a word and a state that have these of a state, and nothing else

@@ -48,3 +48,4 @@ pub use Rattle.std.specs.List.{All, find, flat_map, list_all}
 pub use Rattle.std.specs.Option.{option_or}
 pub use Rattle.std.specs.Prelude.{IsTrue, bit_and, bit_or, bit_xor, ◌≢◌}
 pub use Rattle.std.specs.Result.{IsErrAnd}
+pub use Rattle.cell_rules.specs.Types.{Running, same_pose}
