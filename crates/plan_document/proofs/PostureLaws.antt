@@ -1,9 +1,9 @@
 -- What rows say of zones, and which poses rows are of.
-use Rattle.std.proofs.Common.{◌≡◌, ◌∙◌, ◌+◌, ◌++◌, ◌∷◌, [], ℕ, Bool, true, false, List, length, map, get_or, sym, ap, refl, string_bytes, eq-eqb}
+use Rattle.std.proofs.Common.{◌≡◌, ◌∙◌, ◌+◌, ◌++◌, ◌∷◌, [], ℕ, true, false, List, length, sym, ap, refl, string_bytes, eq-eqb}
 use Rattle.std.proofs.Common.{Option, Some, None, append-nil, filter_map, is_some, nat_eq, ne_eqb}
 use Rattle.std.proofs.lemmas.List.{append_assoc, length-map}
 use Rattle.std.proofs.lemmas.List.Elements.{filter_map-append}
-use Rattle.std.specs.List.{AllZip, cons_option, last_or, list_all}
+use Rattle.std.specs.List.{cons_option, last_or, list_all}
 use Rattle.std.specs.Option.{option_eq}
 use Rattle.plan_types.specs.Table.{no_pose, pose_row}
 use Rattle.plan_text.specs.Answers.{posture_of}
