@@ -1,6 +1,8 @@
 -- The numbers for C of all postures, calls, refusals and answers; and what bytes and words have to be, in other words.
-use Rattle.std.specs.Prelude.{◌≡◌, ◌≢◌, ℕ, Bool, true, false, List, [], ◌∷◌, map, Some, None}
+use Rattle.std.specs.Prelude.{◌≡◌, ◌≢◌, ℕ, ◌<◌, Bool, true, false, List, [], ◌∷◌, map, Some, None}
+use Rattle.plan_types.specs.declared.posture.Posture.{Posture}
 use Rattle.plan_types.specs.declared.posture.Posture.TheVariants.{Closed, Moving, OpenIn, OpenOut}
+use Rattle.plan_types.specs.declared.call.Call.{Call}
 use Rattle.plan_types.specs.declared.call.Call.TheVariants.{Claim, Give, Yield, Take, Release, SetPose, Inquire, Stop}
 use Rattle.plan_types.specs.declared.call.Call.TheVariants.{Resume}
 use Rattle.plan_types.specs.declared.answer.Answer.TheVariants.{Done, Shown, Refused}
@@ -39,58 +41,54 @@ pub record NumbersAreMet : Type 0 where
   pub others : no_call ∷ no_state ∷ no_plan ∷ nothing ∷ no_stamp ∷ no_word ∷ []
       ≡ 64 ∷ 65 ∷ 67 ∷ 255 ∷ 4294967295 ∷ 18446744073709551615 ∷ []
 
--- the two numbers of a call, and numbers of none: the cell's Advance, a stop of a zone, and verbs before and past all
+-- the two numbers of each call, and numbers of none: the cell's Advance, a stop of a zone, and verbs before and past all
 pub record CallsAreMet : Type 0 where
-  pub pose : IsCall 6 63 (SetPose 63)
-  pub claim : IsCall 1 9 (Claim 9)
-  pub give : IsCall 2 8 (Give 8)
-  pub yield : IsCall 3 0 (Yield 0)
-  pub take : IsCall 4 7 (Take 7)
-  pub release : IsCall 5 1 (Release 1)
-  pub inquire : IsCall 8 255 (Inquire 255)
+  pub claim : (z : ℕ) → IsCall 1 z (Claim z)
+  pub give : (z : ℕ) → IsCall 2 z (Give z)
+  pub yield : (z : ℕ) → IsCall 3 z (Yield z)
+  pub take : (z : ℕ) → IsCall 4 z (Take z)
+  pub release : (z : ℕ) → IsCall 5 z (Release z)
+  pub pose : (p : ℕ) → IsCall 6 p (SetPose p)
+  pub inquire : (z : ℕ) → IsCall 8 z (Inquire z)
   pub stop : IsCall 9 0 Stop
   pub resume : IsCall 10 0 Resume
+  -- they are no other's
+  pub one_call : (verb object : ℕ) (a b : Call) → IsCall verb object a → IsCall verb object b → a ≡ b
   pub resume_of_zone : ¬ IsCall 10 1 Resume
   pub some_stop : ¬ NoCall 9 0
   pub some_claim : ¬ NoCall 1 255
   pub other_verb : ¬ IsCall 5 63 (SetPose 63)
   pub other_object : ¬ IsCall 6 62 (SetPose 63)
   pub some_call : ¬ NoCall 6 63
-  pub no_verb : NoCall 0 0
-  pub advance : NoCall 7 3
-  pub stop_of_zone : NoCall 9 1
-  pub past_all : NoCall 11 0
+  pub no_verb : (object : ℕ) → NoCall 0 object
+  pub advance : (object : ℕ) → NoCall 7 object
+  pub stop_of_zone : (object : ℕ) → object ≢ 0 → NoCall 9 object
+  pub none_to_resume : (object : ℕ) → object ≢ 0 → NoCall 10 object
+  pub past_all : (verb object : ℕ) → 10 < verb → NoCall verb object
 
--- an answer's number, the machine, the zone and the posture that it names, and whether it shows a plate
-pub record RepliesAreMet : Type 0 where
-  pub done : reply_of Done 70 ≡ reply 70 0 255 255 255 false
-  pub shown : reply_of (Shown (Some 14) true OpenOut) 71 ≡ reply 71 32 14 255 3 true
-  pub shown_free : reply_of (Shown None false Moving) 72 ≡ reply 72 32 255 255 1 false
-  pub held : reply_of (Refused (Held 13)) 73 ≡ reply 73 2 13 255 255 false
-  pub shut : reply_of (Refused (Shut OpenIn)) 74 ≡ reply 74 4 255 255 2 false
-  pub another : reply_of (Refused (NotOwner (Some 12))) 75 ≡ reply 75 5 12 255 255 false
-  pub nobody : reply_of (Refused (NotOwner None)) 76 ≡ reply 76 5 255 255 255 false
-  pub plate : reply_of (Refused (PlateInZone 9)) 77 ≡ reply 77 6 255 9 255 false
-  pub stopped : reply_of (Refused Stopped) 78 ≡ reply 78 14 255 255 255 false
-  -- all refusals that name nothing; each posture, and each machine and zone of a few
-  pub naming_nothing : map (λ r. reply_of (Refused r) 80)
+-- an answer's number, the machine, the zone and the posture that it names, and whether it shows a plate: of each answer
+-- and each word after it
+pub record RepliesAreMet (word : ℕ) : Type 0 where
+  pub done : reply_of Done word ≡ reply word 0 255 255 255 false
+  pub shown : (m : ℕ) (plate : Bool) (q : Posture)
+      → reply_of (Shown (Some m) plate q) word ≡ reply word 32 m 255 (posture_number q) plate
+  pub shown_free : (plate : Bool) (q : Posture)
+      → reply_of (Shown None plate q) word ≡ reply word 32 255 255 (posture_number q) plate
+  pub held : (m : ℕ) → reply_of (Refused (Held m)) word ≡ reply word 2 m 255 255 false
+  pub shut : (q : Posture) → reply_of (Refused (Shut q)) word ≡ reply word 4 255 255 (posture_number q) false
+  pub another : (m : ℕ) → reply_of (Refused (NotOwner (Some m))) word ≡ reply word 5 m 255 255 false
+  pub nobody : reply_of (Refused (NotOwner None)) word ≡ reply word 5 255 255 255 false
+  pub plate : (z : ℕ) → reply_of (Refused (PlateInZone z)) word ≡ reply word 6 255 z 255 false
+  -- all refusals that name nothing; and the postures by their numbers
+  pub naming_nothing : map (λ r. reply_of (Refused r) word)
       (NotParty ∷ AlreadyMine ∷ NoPlate ∷ PlaceFull ∷ WrongWay ∷ Jump ∷ NoPose ∷ Worn ∷ Stopped ∷ NotStopped ∷ [])
-      ≡ map (λ n. reply 80 n 255 255 255 false) (1 ∷ 3 ∷ 7 ∷ 8 ∷ 9 ∷ 10 ∷ 12 ∷ 13 ∷ 14 ∷ 15 ∷ [])
-  pub naming_posture : map (λ q. reply_of (Refused (Shut q)) 81) (Closed ∷ Moving ∷ OpenIn ∷ OpenOut ∷ [])
-      ≡ map (λ n. reply 81 4 255 255 n false) (0 ∷ 1 ∷ 2 ∷ 3 ∷ [])
-  pub naming_machine : map (λ m. reply_of (Refused (Held m)) 82) (0 ∷ 1 ∷ 14 ∷ [])
-      ≡ map (λ m. reply 82 2 m 255 255 false) (0 ∷ 1 ∷ 14 ∷ [])
-  pub naming_owner : map (λ o. reply_of (Refused (NotOwner o)) 83) (Some 0 ∷ Some 1 ∷ Some 14 ∷ None ∷ [])
-      ≡ map (λ m. reply 83 5 m 255 255 false) (0 ∷ 1 ∷ 14 ∷ 255 ∷ [])
-  pub naming_zone : map (λ z. reply_of (Refused (PlateInZone z)) 84) (0 ∷ 1 ∷ 7 ∷ [])
-      ≡ map (λ z. reply 84 6 255 z 255 false) (0 ∷ 1 ∷ 7 ∷ [])
-  pub showing_posture : map (λ q. reply_of (Shown (Some 0) false q) 85) (Closed ∷ Moving ∷ OpenIn ∷ OpenOut ∷ [])
-      ≡ map (λ n. reply 85 32 0 255 n false) (0 ∷ 1 ∷ 2 ∷ 3 ∷ [])
-  pub showing_plate : map (λ plate. reply_of (Shown None plate Closed) 86) (false ∷ true ∷ [])
-      ≡ map (reply 86 32 255 255 0) (false ∷ true ∷ [])
-  pub bare_ones : map (λ n. bare_reply n 87) (64 ∷ 65 ∷ 67 ∷ [])
-      ≡ map (λ n. reply 87 n 255 255 255 false) (64 ∷ 65 ∷ 67 ∷ [])
-  pub bare : bare_reply 67 79 ≡ reply 79 67 255 255 255 false
+      ≡ map (λ n. reply word n 255 255 255 false) (1 ∷ 3 ∷ 7 ∷ 8 ∷ 9 ∷ 10 ∷ 12 ∷ 13 ∷ 14 ∷ 15 ∷ [])
+  pub naming_posture : map (λ q. reply_of (Refused (Shut q)) word) (Closed ∷ Moving ∷ OpenIn ∷ OpenOut ∷ [])
+      ≡ map (λ n. reply word 4 255 255 n false) (0 ∷ 1 ∷ 2 ∷ 3 ∷ [])
+  pub bare : (answer : ℕ) → bare_reply answer word ≡ reply word answer 255 255 255 false
+  -- literal ones
+  pub zone_of_five : reply_of (Shown (Some 5) true OpenOut) 71 ≡ reply 71 32 5 255 3 true
+  pub held_by_last : reply_of (Refused (Held 14)) 82 ≡ reply 82 2 14 255 255 false
 
 -- nothing else is asked of a plan's bytes and of a state's word, and nothing less
 pub record GivenIsMet : Type 0 where

@@ -1,4 +1,5 @@
 //! Laws, each the contract of a function that does nothing.
+ghost use Rattle.std.specs.Prelude.{ℕ};
 ghost use Rattle.plan_c.specs.Examples.{StartsAreJudged};
 ghost use Rattle.plan_c.specs.Laws.{NoStateHasNoWord};
 ghost use Rattle.plan_c.specs.NumberExamples.{CallsAreMet, GivenIsMet, NumbersAreMet, RepliesAreMet};
@@ -22,14 +23,14 @@ pub fn numbers_are_met()
     ensures { NumbersAreMet }
 {}
 
-/// Examples: the numbers of a call, and numbers of none.
+/// The numbers of each call, and numbers of none.
 pub fn calls_are_met()
     ensures { CallsAreMet }
 {}
 
-/// Examples: what C gets of each kind of answer.
+/// What C gets of each answer, whatever it names.
 pub fn replies_are_met()
-    ensures { RepliesAreMet }
+    ensures { (word : ℕ) → RepliesAreMet word }
 {}
 
 /// What the bytes of a plan and the word of a state have to be, in other words.

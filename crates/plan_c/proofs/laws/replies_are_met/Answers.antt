@@ -2,23 +2,18 @@ use Rattle.std.proofs.Common.{refl}
 use Rattle.plan_c.proofs.laws.replies_are_met.Goals as goal
 
 pub returns : goal.returns
-returns c = record {
+returns c = λ word. record {
   done = refl;
-  shown = refl;
-  shown_free = refl;
-  held = refl;
-  shut = refl;
-  another = refl;
+  shown = λ m plate q. refl;
+  shown_free = λ plate q. refl;
+  held = λ m. refl;
+  shut = λ q. refl;
+  another = λ m. refl;
   nobody = refl;
-  plate = refl;
-  stopped = refl;
+  plate = λ z. refl;
   naming_nothing = refl;
   naming_posture = refl;
-  naming_machine = refl;
-  naming_owner = refl;
-  naming_zone = refl;
-  showing_posture = refl;
-  showing_plate = refl;
-  bare_ones = refl;
-  bare = refl;
+  bare = λ answer. refl;
+  zone_of_five = refl;
+  held_by_last = refl;
 }
