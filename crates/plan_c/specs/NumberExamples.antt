@@ -41,7 +41,7 @@ pub record NumbersAreMet : Type 0 where
   pub others : no_call ∷ no_state ∷ no_plan ∷ nothing ∷ no_stamp ∷ no_word ∷ []
       ≡ 64 ∷ 65 ∷ 67 ∷ 255 ∷ 4294967295 ∷ 18446744073709551615 ∷ []
 
--- the two numbers of each call, and numbers of none: the cell's Advance, a stop of a zone, and verbs before and past all
+-- the two numbers of each call, and numbers of none: the cell's Advance, a stop of a zone, verbs before and past all
 pub record CallsAreMet : Type 0 where
   pub claim : (z : ℕ) → IsCall 1 z (Claim z)
   pub give : (z : ℕ) → IsCall 2 z (Give z)

@@ -1,6 +1,7 @@
 pub mod Steps
 pub mod Seen
 pub mod Turns
+pub mod Laws
 pub mod Wiring
 pub mod Benches
 pub mod BenchView
