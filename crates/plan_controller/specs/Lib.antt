@@ -1,8 +1,8 @@
 pub mod Steps
 pub mod Seen
 pub mod Turns
-pub mod Laws
 pub mod Wiring
 pub mod Benches
 pub mod BenchView
 pub mod Examples
+pub mod Laws

@@ -1,6 +1,8 @@
 //! Laws of controllers, each the contract of a function that does nothing.
-ghost use Rattle.std.specs.Prelude.{ℕ};
-ghost use Rattle.plan_controller.specs.Laws.{PlacesGoRound, SensorsHaveBits};
+ghost use Rattle.std.specs.Prelude.{Bool, ℕ};
+ghost use Rattle.plan_types.specs.declared.posture.Posture.{Posture};
+ghost use Rattle.plan_controller.specs.Laws.{LinesAreOfSteps, NamesAreWaitedFor, OwnersGoOn};
+ghost use Rattle.plan_controller.specs.Laws.{PlacesGoRound, RunsAreDriven, SensorsHaveBits};
 ghost use Rattle.plan_controller.specs.Turns.{Control, RoundsBeginAnywhere};
 
 /// A controller at its first step is in place, whatever its line has seen.
@@ -16,4 +18,24 @@ pub fn places_go_round()
 /// Each sensor shows by its own bit, whatever the others show.
 pub fn sensors_have_bits()
     ensures { (i low high : ℕ) → SensorsHaveBits i low high }
+{}
+
+/// An inquiry leads on the machine that owns the zone, whichever it is, and no other.
+pub fn owners_go_on()
+    ensures { (m : ℕ) (plate : Bool) (q : Posture) → OwnersGoOn m plate q }
+{}
+
+/// A refusal that names a machine, a zone or a posture is one to wait for, whatever it names.
+pub fn names_are_waited_for()
+    ensures { NamesAreWaitedFor }
+{}
+
+/// A step's line has its call, its zone and its motors.
+pub fn lines_are_of_steps()
+    ensures { LinesAreOfSteps }
+{}
+
+/// A run has exactly its motors on until its sensor shows, and then none.
+pub fn runs_are_driven()
+    ensures { RunsAreDriven }
 {}
