@@ -9,6 +9,8 @@ mod LineRows
 mod ReportsTold
 mod GoingRows
 mod InputRows
+mod EventsTold
+mod ScriptsFound
 mod ScreenRows
 mod FailedRows
 mod Verdicts

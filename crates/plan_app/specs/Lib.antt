@@ -17,7 +17,9 @@ pub mod StarvingExamples
 pub mod SizeExamples
 pub mod LineExamples
 pub mod GoingExamples
+pub mod GoingLaws
 pub mod HazardExamples
 pub mod InputExamples
+pub mod InputLaws
 pub mod ScreenExamples
 pub mod FailedExamples

@@ -2,8 +2,10 @@
 
 ghost use Rattle.plan_app.specs.FailedExamples.{FailedIsMeant, FaultLines};
 ghost use Rattle.plan_app.specs.GoingExamples.{EventLines, MachinesAreTold, WalksAreTold};
+ghost use Rattle.plan_app.specs.GoingLaws.{EventsTell};
 ghost use Rattle.plan_app.specs.HazardExamples.{AreKept, HazardLines, KeptMotorsAreNeverBoth, LeadLines};
 ghost use Rattle.plan_app.specs.InputExamples.{InputsAreSplit, RequestsAreRead, WordsAreMade};
+ghost use Rattle.plan_app.specs.InputLaws.{ScriptsAreFound};
 ghost use Rattle.plan_app.specs.LineExamples.{ReportLines, RowsAreTold, WholeReports};
 ghost use Rattle.plan_app.specs.ReportLaws.{ReportsTell};
 ghost use Rattle.plan_app.specs.ScreenExamples.{AnswersAreMeant, KindsOfScreens, ScreensAreMeant};
@@ -64,6 +66,11 @@ pub fn events_are_told()
     ensures { EventLines }
 {}
 
+/// Each line of what machines ask, for all machines, calls and answers.
+pub fn events_tell()
+    ensures { EventsTell }
+{}
+
 /// Examples: what the turns of a loader and a press ask, and orders in which one of them starves, whole.
 pub fn walks_are_told()
     ensures { WalksAreTold }
@@ -77,6 +84,11 @@ pub fn machines_are_told()
 /// Examples: inputs of a document and a script, and where the script begins.
 pub fn inputs_are_split()
     ensures { InputsAreSplit }
+{}
+
+/// Where the script begins, for all documents and scripts.
+pub fn scripts_are_found()
+    ensures { ScriptsAreFound }
 {}
 
 /// Examples: what words ask for.
