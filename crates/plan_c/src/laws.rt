@@ -13,7 +13,7 @@ pub fn no_state_has_no_word()
     words_are_laid_out();
 }
 
-/// Examples: which texts and stamps are those of a start of two places, and of sixteen.
+/// Which texts and stamps are those of a start of two places, and of sixteen, and which places are full.
 pub fn starts_are_judged()
     ensures { StartsAreJudged }
 {}
