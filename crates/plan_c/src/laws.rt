@@ -2,7 +2,8 @@
 ghost use Rattle.std.specs.Prelude.{ℕ};
 ghost use Rattle.plan_c.specs.Examples.{StartsAreJudged};
 ghost use Rattle.plan_c.specs.Laws.{NoStateHasNoWord};
-ghost use Rattle.plan_c.specs.NumberExamples.{CallsAreMet, GivenIsMet, NumbersAreMet, RepliesAreMet};
+ghost use Rattle.plan_c.specs.NumberExamples.{CallsAreMet, GivenIsMet};
+ghost use Rattle.plan_c.specs.NumberExamples.{NumbersAreMet, RepliesAreMet};
 
 use plan_word::laws::words_are_laid_out;
 

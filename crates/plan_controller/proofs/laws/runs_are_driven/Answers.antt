@@ -24,7 +24,7 @@ leads c now run until read motors false shown are led = record {
 driven : RunsAreDriven
 driven c run until read motors now running is turn =
     let t : TurnsBy None c ⊤ (λ q a. ⊥) (Some read) motors now =
-        subst (λ s. TurnsBy s c ⊤ (λ q a. ⊥) (Some read) motors now) running turn in
+    subst (λ s. TurnsBy s c ⊤ (λ q a. ⊥) (Some read) motors now) running turn in
     let p = subst (λ o. Performs c ⊤ (λ q a. ⊥) read o motors t.0) is t.1 in
     leads c now run until read motors (shows read until) refl p.1 (t.2 ∙ ap (advanced c) p.2)
 
