@@ -188,6 +188,23 @@ fn answers_scripts(rt: HostRuntime) -> Result<(), AllocError> {
     Ok(())
 }
 
+/// How many records come before the one that is refused: their answers are longer than a writer may take at once.
+const RECORDS: usize = 300;
+
+#[test]
+fn writes_all_answers_before_a_fault(rt: HostRuntime) -> Result<(), AllocError> {
+    let mut input = format!(in rt.alloc(); "{PRESS}start,00\n")?;
+    let mut text = String::from_str(rt.alloc(), "0 0 start 0\n")?;
+    for record in 1..=RECORDS {
+        input.push_str("watch,inquire,interior\n")?;
+        write!(text, "{record} 0 zone free 0 closed\n")?;
+    }
+    input.push_str("press,claim,door\n")?;
+    text.push_str("record 301, field 3: no zone has this name\nfault badrow 301\n")?;
+    assert!(rt; is_answered(rt.alloc(), b"replay", input.as_str(), 1, text.as_str()));
+    Ok(())
+}
+
 /// Two machines, each with a pose of the same name, and what each does with its own.
 const NAMESAKES: &str = "\
 [[machine]]

@@ -436,3 +436,82 @@ fn tells_a_long_program(rt: HostRuntime) -> Result<(), AllocError> {
     }
     Ok(())
 }
+
+/// What comes before rows of a kind; a row, before its number and after it; the last row, which has no name; and how
+/// many rows come before that, with the fault after `fault plan `.
+const NAMELESS: &[(&str, &str, &str, &str, &[(usize, &str)])] = &[
+    (
+        "",
+        "[[machine]]\nname = \"m",
+        "\"\n",
+        "[[machine]]\n",
+        &[
+            (6, "line 13: machine 7: name: it is missing"),
+            (8, "line 17: machine 9: name: it is missing"),
+            (9, "line 19: machine 10: name: it is missing"),
+        ],
+    ),
+    (
+        "[[machine]]\nname = \"a\"\nposes = [",
+        "{ name = \"x",
+        "\", gives = {} }, ",
+        "{ gives = {} }]\n",
+        &[
+            (6, "line 3: machine a: pose 7: name: it is missing"),
+            (8, "line 3: machine a: pose 9: name: it is missing"),
+            (9, "line 3: machine a: pose 10: name: it is missing"),
+        ],
+    ),
+    (
+        MACHINES,
+        "[[zone]]\nname = \"z",
+        "\"\nhost = \"a\"\nguest = \"b\"\n",
+        "[[zone]]\n",
+        &[
+            (6, "line 31: zone 7: name: it is missing"),
+            (8, "line 39: zone 9: name: it is missing"),
+            (9, "line 43: zone 10: name: it is missing"),
+        ],
+    ),
+    (
+        MACHINES,
+        "[[motor]]\nname = \"r",
+        "\"\nmachine = \"a\"\n",
+        "[[motor]]\n",
+        &[
+            (6, "line 25: motor 7: name: it is missing"),
+            (8, "line 31: motor 9: name: it is missing"),
+            (9, "line 34: motor 10: name: it is missing"),
+        ],
+    ),
+    (
+        MACHINES,
+        "[[hazard]]\nname = \"h",
+        "\"\nmotors = [\"r\", \"s\"]\n",
+        "[[hazard]]\n",
+        &[
+            (6, "line 25: hazard 7: name: it is missing"),
+            (8, "line 31: hazard 9: name: it is missing"),
+            (9, "line 34: hazard 10: name: it is missing"),
+        ],
+    ),
+];
+
+#[test]
+fn numbers_rows_without_names(rt: HostRuntime) -> Result<(), AllocError> {
+    for (before, begin, end, last, faults) in NAMELESS {
+        for (rows, words) in *faults {
+            let mut document = String::from_str(rt.alloc(), before)?;
+            for row in 0..*rows {
+                write!(document, "{begin}{row}{end}")?;
+            }
+            document.push_str(last)?;
+            let text = format!(in rt.alloc(); "fault plan {words}\n")?;
+            assert!(rt;
+                is_answered(rt.alloc(), b"check", document.as_str(), 1, text.as_str()),
+                "{words}"
+            );
+        }
+    }
+    Ok(())
+}

@@ -595,6 +595,26 @@ right_press goes on for ever in each fair order: within k * 7 turns
 plates move for ever in each fair order: within k * 10 turns
 ";
 
+/// A fan that turns to and fro. The plate in its tray rests.
+const FAN: &str = "\
+[[machine]]
+name = \"fan\"
+places = [\"tray\"]
+poses = [{ name = \"left\", gives = {} }, { name = \"right\", gives = {} }]
+program = [\"pose left\", \"pose right\"]
+";
+
+/// Of the fan: status 1 comes of the plate alone.
+const FAN_GOES: &str = "\
+no standstill in any order of turns before the last stamp: 2 situations
+fan goes on for ever in each fair order: within k * 1 turns
+plates may rest for ever
+  a fair order in which none moves: first
+  and then again and again
+  fan asks: pose left: done
+  fan asks: pose right: done
+";
+
 /// Whether this status comes of a plan and a start, with these words and what is meant by fair orders.
 fn is_explored(
     rt: &HostRuntime,
@@ -648,6 +668,12 @@ fn explores_two_presses(rt: HostRuntime) -> Result<(), AllocError> {
 #[test]
 fn explores_a_dock(rt: HostRuntime) -> Result<(), AllocError> {
     assert!(rt; is_explored(&rt, DOCK, "start,", 1, DOCK_GOES)?);
+    Ok(())
+}
+
+#[test]
+fn explores_a_fan(rt: HostRuntime) -> Result<(), AllocError> {
+    assert!(rt; is_explored(&rt, FAN, "start,1", 1, FAN_GOES)?);
     Ok(())
 }
 

@@ -231,3 +231,63 @@ fn counts_bytes(rt: HostRuntime) -> Result<(), AllocError> {
     assert!(rt; is_answered(rt.alloc(), b"check", document.as_str(), 1, long));
     Ok(())
 }
+
+/// What a pose gives all eight zones.
+const ALL_EIGHT: &str = "z0 = \"moving\", z1 = \"moving\", z2 = \"moving\", z3 = \"moving\", \
+     z4 = \"moving\", z5 = \"moving\", z6 = \"moving\", z7 = \"moving\"";
+
+/// The same zones are those that a motor needs.
+#[test]
+fn a_pose_may_give_all_zones(rt: HostRuntime) -> Result<(), AllocError> {
+    let mut document = format!(in rt.alloc(); "[[machine]]\nname = \"m0\"\n")?;
+    write!(
+        document,
+        "poses = [{{ name = \"x\", gives = {{ {ALL_EIGHT} }} }}]\n[[machine]]\nname = \"m1\"\n"
+    )?;
+    for zone in 0..8usize {
+        write!(
+            document,
+            "[[zone]]\nname = \"z{zone}\"\nhost = \"m0\"\nguest = \"m1\"\n"
+        )?;
+    }
+    write!(
+        document,
+        "[[motor]]\nname = \"ram\"\nmachine = \"m0\"\nholds = {{ {ALL_EIGHT} }}\n"
+    )?;
+    assert!(rt; is_told(rt.alloc(), document.as_str(), 0, "1 motor: ram\n"));
+    Ok(())
+}
+
+/// Zones that are named by words of scripts.
+const NAMED_BY_WORDS: &str = "\
+[[machine]]
+name = \"a\"
+[[machine]]
+name = \"b\"
+[[zone]]
+name = \"watch\"
+host = \"a\"
+guest = \"b\"
+[[zone]]
+name = \"free\"
+host = \"a\"
+guest = \"b\"
+[[zone]]
+name = \"start\"
+host = \"a\"
+guest = \"b\"
+[[zone]]
+name = \"pose\"
+host = \"b\"
+guest = \"a\"
+[[zone]]
+name = \"claim\"
+host = \"b\"
+guest = \"a\"
+";
+
+#[test]
+fn zones_may_be_named_by_words(rt: HostRuntime) {
+    let zones = "5 zones: watch free start pose claim\n";
+    assert!(rt; is_told(rt.alloc(), NAMED_BY_WORDS, 0, zones));
+}
