@@ -42,8 +42,8 @@ pub record Desk : Type 0 where
   pub history : List Event
   pub machine : ℕ
 
--- the state answers the call and makes its change, and the event is added to the history; or memory ran out, and nothing
--- changes
+-- the state answers the call and makes its change, and the event is added to the history; or memory ran out, and
+-- nothing changes
 abbrev pub BenchAsks : Desk → Call → Option Answer → Desk → Type 0
 BenchAsks b c (Some a) d =
     (a ≡ reply b.table b.state b.machine c)

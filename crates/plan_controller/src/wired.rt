@@ -11,8 +11,8 @@ use std::marker::Model;
 
 /// A machine's controller at the end of its line.
 ///
-/// The line is its machine's, which is at the controller's place in its program by all that the line has seen. Both stay
-/// so, so a turn asks nothing of its caller.
+/// The line is its machine's, which is at the controller's place in its program by all that the line has seen. Both
+/// stay so, so a turn asks nothing of its caller.
 #[derive(Drop)]
 pub struct PlanWired<L: PlanLine> {
     controller: PlanController,

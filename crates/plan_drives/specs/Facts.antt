@@ -50,7 +50,7 @@ one_way true false = Some OpenIn
 one_way false true = Some OpenOut
 one_way _ _ = None
 
--- what owning a zone tells of its posture: a guest owns only zones that are open
+-- what its owner knows about a zone's posture: a guest owns only zones that are open
 abbrev pub posture_owned : PlanTable → ℕ → ℕ → Option Posture
 posture_owned t m z =
     if nat_eq m (guest_of t z) then one_way (some_gives t z OpenIn) (some_gives t z OpenOut) else None
