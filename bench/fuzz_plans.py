@@ -4,7 +4,8 @@
   bench/fuzz --plans NUMBER [--seed SEED] [--program PROGRAM]
 
 Of NUMBER inputs some six in ten are documents for `plan check`, three are scripts for `plan replay` and one is for `plan explore`. The
-seed decides them all: plan_inputs.py makes the plans, spoils half of the documents by a fault of each kind, and changes some bytes.
+seed decides them all: plan_inputs.py makes the plans, half of them with sensors, runs and waits; it spoils half of the documents by a
+fault of each kind, and changes some bytes.
 PROGRAM is crates/plan/out/plan if absent, which ./plan builds.
 
 Compared are the status, what `check` and `replay` print, byte by byte, but for which of two lines says of a plan's rows, and of a
@@ -77,8 +78,10 @@ def make_input(seed, index):
     r = random.Random(f"{seed} {index}")
     verb = r.choice(("check",) * 6 + ("replay",) * 3 + ("explore",))
     rows = plan_inputs.plan(r, verb == "explore" or verb == "check" and r.randrange(3) == 0)
-    if verb == "explore" and r.randrange(2):
-        plan_inputs.rounds(r, rows)
+    if verb == "explore" and (way := r.randrange(4)):
+        (plan_inputs.rounds if way > 1 else plan_inputs.hand_over)(r, rows)
+    if r.randrange(2):
+        plan_inputs.drives(r, rows)
     script = b"" if verb == "check" and r.randrange(10) else plan_inputs.script(r, rows)
     for _ in range(r.choice((0, 1, 1, 2) if verb == "check" else (0,) * 20 + (1,))):
         plan_inputs.spoil(r, rows)
@@ -153,6 +156,9 @@ def kind_of(verb, wanted):
     status, fault, found, chart = wanted
     if fault:
         return f"{verb}: fault {twin.kind_of(fault[1])[0] if fault[0] == 'row' else fault[0]}"
+    drives = [it for it in found if it.startswith("drives: ") or twin.plans.UNDRIVEN.match(it)] if verb == "check" else []
+    if drives:
+        return f"check: {'drives' if drives[0].startswith('drives') else 'undriven'}"
     last = found[-1].split()
     if last[0] == "fault":
         return f"{verb}: {' '.join(last[:2])}"

@@ -1,4 +1,4 @@
-"""Makes plans, with the lines of all that stands in them, and scripts, by a random source."""
+"""Makes plans, with drives or without, the lines of all that stands in them, and scripts, by a random source."""
 
 import plans
 
@@ -9,6 +9,7 @@ PLACES = "hand die hook bed fork slot rack bin pan tip".split()
 POSES = "load unload closed travelling high low left right open shut".split()
 ZONES = "inside mouth track pit z1 z2 z3 shelf".split()
 MOTORS = "ram hoist arm_in_press lamp blades drive hammer valve jaw fan".split()
+SENSORS = "at_top at_bottom there shut_tight cold until run low high in_place".split()
 TITLES = ("arm crushed", "two trains", "A jam (again)", "boiling over", "x", "derailed - 2")
 KINDS = ("machine", "zone", "motor", "hazard")
 WORDS = ("Press", "", "2nd", "a-b", "a b", "é", "x" * 33, "a" * 41, "press ", "_a", "ab\t", "A")
@@ -147,6 +148,68 @@ def rounds(r, document):
         row["program"] = lines
 
 
+def hand_over(r, document):
+    """Gives the machines programs that end as they began, and hand zones over and back: a guest awaits each, and so does its host."""
+    for row in document["machine"]:
+        lines = []
+        for it in document["zone"]:
+            poses = [f"pose {other['name']}" for other in row["poses"] if it["name"] in other["gives"]]
+            if row["name"] == it["host"] and poses:
+                postures = [other["gives"][it["name"]] for other in row["poses"] if it["name"] in other["gives"]]
+                moving = [pose for pose, posture in zip(poses, postures) if posture == "moving"]
+                opening = [pose for pose, posture in zip(poses, postures) if posture.startswith("open")]
+                begin = [f"claim {it['name']}", *r.sample(moving, min(1, len(moving))), r.choice(opening or poses)]
+                lines += [*begin, f"yield {it['name']}", f"await {it['name']}", f"release {it['name']}"]
+            elif row["name"] == it["guest"] and r.randrange(5):
+                lines += [f"await {it['name']}", f"yield {it['name']}"]
+        row["program"] = lines
+
+
+def needs_known(r, facts, taken):
+    """A motor that needs some of what its machine knows."""
+    hosted = [it for it in facts.plan.zones if facts.hosts(it)]
+    holds = {it: r.choice((facts.postures.get(it, "any"), "any")) for it in sorted(facts.held) if r.randrange(3)}
+    stands = {it: facts.postures[it] for it in hosted if it in facts.postures and it not in holds and r.randrange(3)}
+    full = {it: is_full for it, is_full in facts.full.items() if r.randrange(2)}
+    lists = {key: [it for it, is_full in full.items() if is_full == (key == "full")] for key in ("full", "empty")}
+    row = {"name": name(r, MOTORS, taken), "machine": facts.machine}
+    return row | {key: value for key, value in {"holds": holds, "stands": stands, **lists}.items() if value}
+
+
+def run_line(r, facts, machine, document, taken):
+    """A line that runs motors of a machine, old ones or new ones, which need what is known there, or what they like."""
+    rows = document["motor"]
+    for _ in range(r.choice((0, 1, 1, 1, 2))):
+        if len(rows) < 64:
+            rows.append(needs_known(r, facts, taken) if r.randrange(8) else motor_row(r, machine, document["zone"], taken))
+    own = [it for it in rows if it["machine"] == machine["name"]]
+    motors = own[-r.choice((1, 1, 2)) :] if r.randrange(6) else r.sample(own, min(len(own), r.randrange(1, 4)))
+    names = [it["name"] for it in r.sample(motors, len(motors))]
+    return [f"run {' '.join(names)} until {r.choice(machine['sensors'])}"] if names else []
+
+
+def drives(r, document):
+    """Gives machines sensors, and their programs lines that wait, and lines that run motors: of these most are permitted."""
+    zones = [it["name"] for it in document["zone"]]
+    for row in document["machine"]:
+        taken = [*zones]
+        row["sensors"] = [name(r, SENSORS, taken) for _ in range(r.choice((0, 1, 1, 2, 3)))]
+        own = [it["name"] for it in document["zone"] if row["name"] in (it["host"], it["guest"])]
+        for it in own + row["sensors"]:
+            if r.randrange(8) == 0:
+                row["program"].insert(r.randrange(len(row["program"]) + 1), f"await {it}")
+    document.setdefault("motor", [])
+    taken = [it["name"] for it in document["motor"]]
+    rules = plans.Plan({key: document[key] for key in ("machine", "zone")})
+    for row, steps in zip(document["machine"], rules.steps):
+        facts, lines = plans.Facts(rules, row["name"]), []
+        for line, step in zip(row["program"], steps):
+            lines += run_line(r, facts, row, document, taken) if row["sensors"] and r.randrange(3) == 0 else []
+            lines.append(line)
+            facts.learn(*step)
+        row["program"] = lines + (run_line(r, facts, row, document, taken) if row["sensors"] and r.randrange(2) else [])
+
+
 def items(row, key):
     """The list of a key; an empty one where there is none."""
     return row[key] if isinstance(row.get(key), list) else []
@@ -157,6 +220,7 @@ def spoil(r, document):
     machines, zones = items(document, "machine"), items(document, "zone")
     poses = [it for row in machines for it in items(row, "poses")]
     kinds = [spoil_key, spoil_value, spoil_name, spoil_program, spoil_program, spoil_many, spoil_for_c]
+    kinds += [spoil_drives] * 4 if any(items(it, "sensors") for it in machines) else []
     kinds += [spoil_zone] * 2 if zones else []
     kinds += [spoil_pose] * 2 if poses else []
     kinds += [spoil_motor] * 4 if items(document, "motor") else []
@@ -195,6 +259,32 @@ def spoil_program(r, document, machine, zone, pose):
     line = r.choice(lines) if r.randrange(3) == 0 else f"{r.choice((*VERBS, *VERBS, 'inquire', 'pose'))} {name}"
     if r.randrange(12) == 0:
         machine["program"] = [f"claim {name}"] * r.choice((255, 256, 300))
+    else:
+        found = items(machine, "program")
+        found.insert(r.randrange(len(found) + 1), line)
+
+
+def spoil_drives(r, document, machine, zone, pose):
+    """Spoils a machine's sensors, or puts a line that runs motors, or waits, into its program, which may be right."""
+    sensors = machine.setdefault("sensors", [])
+    others = [it for row in items(document, "machine") for it in items(row, "sensors")] + ["nowhere"]
+    zones = [it["name"] for it in items(document, "zone") if isinstance(it.get("name"), str)] + ["nowhere"]
+    if r.randrange(3) == 0 and isinstance(sensors, list):
+        more = (r.choice(WORDS), r.choice(zones), r.choice(others), r.choice(sensors or ["until"]))
+        sensors.insert(r.randrange(len(sensors) + 1), r.choice(more))
+        sensors.extend(f"extra{it}" for it in range(r.choice((0, 0, 0, 0, 28, 31, 32))))
+        return
+    motors = [it["name"] for it in items(document, "motor") if isinstance(it.get("name"), str)] + ["nobody"]
+    motor, sensor = r.choice(motors), r.choice(sensors if isinstance(sensors, list) and sensors and r.randrange(2) else others)
+    right = [f"run {motor} until {sensor}", f"run {motor} {r.choice(motors)} until {sensor}", f"run {motor} {motor} until {sensor}"]
+    right += [f"await {sensor}", f"await {r.choice(zones)}"]
+    wrong = ["run", "run ", "await", "await ", f"await {sensor} ", f"await  {sensor}", f"run {motor}", f"run until {sensor}"]
+    wrong += [f"run {motor}{it}" for it in (" until", " until ", f" to {sensor}", f"  until {sensor}", f"\tuntil {sensor}")]
+    wrong += [f"run {motor} until{it}" for it in (f"  {sensor}", f" {sensor} ", f" {sensor} {sensor}")]
+    wrong += [f"{it} until {sensor}" for it in (f"run  {motor}", f" run {motor}", f"Run {motor}", "run until", f"run {'x' * 40}")]
+    line = r.choice(right if r.randrange(2) else wrong)
+    if r.randrange(12) == 0:
+        machine["program"] = [line] * r.choice((255, 256))
     else:
         found = items(machine, "program")
         found.insert(r.randrange(len(found) + 1), line)
