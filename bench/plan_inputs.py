@@ -166,11 +166,16 @@ def hand_over(r, document):
 
 
 def needs_known(r, facts, taken):
-    """A motor that needs some of what its machine knows."""
+    """A motor that needs some of what its machine knows; seldom something else in one place."""
     hosted = [it for it in facts.plan.zones if facts.hosts(it)]
     holds = {it: r.choice((facts.postures.get(it, "any"), "any")) for it in sorted(facts.held) if r.randrange(3)}
     stands = {it: facts.postures[it] for it in hosted if it in facts.postures and it not in holds and r.randrange(3)}
     full = {it: is_full for it, is_full in facts.full.items() if r.randrange(2)}
+    wrong = r.choice([*holds, *stands, *full, None]) if r.randrange(4) == 0 else None
+    if wrong in full:
+        full[wrong] = not full[wrong]
+    elif wrong:
+        (holds if wrong in holds else stands)[wrong] = r.choice(POSTURES if wrong in hosted else ("openin", "openout"))
     lists = {key: [it for it, is_full in full.items() if is_full == (key == "full")] for key in ("full", "empty")}
     row = {"name": name(r, MOTORS, taken), "machine": facts.machine}
     return row | {key: value for key, value in {"holds": holds, "stands": stands, **lists}.items() if value}
