@@ -1,7 +1,7 @@
 -- The bytes of the press and of the lift, written out, of a zone that plates go through one way only, and of tables in
 -- which all numbers are different.
 use Rattle.std.specs.Prelude.{◌≡◌, ℕ, true, false, [], ◌∷◌, replicate, Some, None}
-use Rattle.plan_types.specs.declared.posture.Posture.TheVariants.{OpenIn}
+use Rattle.plan_types.specs.declared.posture.Posture.TheVariants.{Closed, Moving, OpenIn, OpenOut}
 use Rattle.plan_types.specs.declared.table.PlanPose.{PlanPose}
 use Rattle.plan_types.specs.Table.{plan_table}
 use Rattle.plan_types.specs.Examples.{way, zone, pose, two_at, press_table, lift_table}
@@ -11,6 +11,16 @@ use Rattle.plan_types.specs.Bytes.{bytes_of, HasWholeRows}
 -- a pose with a row for each of n zones
 abbrev pub pose_of_width : ℕ → PlanPose
 pose_of_width n = record { machine = 0; after_moving = false; gives = replicate n None }
+
+-- a pose that gives no two neighbours of ten zones the same
+abbrev pub pose_of_ten : PlanPose
+pose_of_ten = record {
+  machine = 0;
+  after_moving = false;
+  gives =
+      Some Closed ∷ Some Moving ∷ Some OpenIn ∷ Some OpenOut ∷ None ∷ Some Moving ∷ Some OpenOut ∷ Some Closed
+      ∷ Some OpenIn ∷ Some Moving ∷ [];
+}
 
 -- 2 machines, 1 zone, 4 poses, 2 places
 -- the interior: host 1, guest 0, inward from 0 to 1, outward from 1 to 0
@@ -56,6 +66,9 @@ pub record BytesAreRight : Type 0 where
       ∷ 16 ∷ 1 ∷ 4 ∷ 3 ∷ 0 ∷ 0 ∷ 0 ∷ 0 ∷ 0 ∷ 0 ∷ 0 ∷ 0
       ∷ 17 ∷ 0 ∷ 1 ∷ 2 ∷ 3 ∷ 4 ∷ 0 ∷ 0 ∷ 0 ∷ 0 ∷ 0 ∷ 3
       ∷ 18 ∷ 19 ∷ 20 ∷ 21 ∷ []
+  -- each of ten zones has its own byte
+  pub ten_zones : bytes_of (plan_table 1 [] (pose_of_ten ∷ []) [])
+      ≡ 1 ∷ 0 ∷ 1 ∷ 0 ∷ 0 ∷ 0 ∷ 1 ∷ 2 ∷ 3 ∷ 4 ∷ 0 ∷ 2 ∷ 4 ∷ 1 ∷ 3 ∷ 2 ∷ []
   -- a second pose with a row for nine zones, or for eleven
   pub short_row : ¬ HasWholeRows (plan_table 1 [] (pose 0 false None None ∷ pose_of_width 9 ∷ []) [])
   pub long_row : ¬ HasWholeRows (plan_table 1 [] (pose 0 false None None ∷ pose_of_width 11 ∷ []) [])

@@ -8,14 +8,14 @@ ghost use Rattle.plan_types.specs.Faults.{plan_fault};
 use crate::fault::PlanFault;
 use crate::posture::Posture;
 use crate::sheet::Sheet;
-use crate::table::{MAX_ZONES, PlanPose, PlanZone, Tables, Transfer, Way};
+use crate::table::{PlanPose, PlanZone, Tables, Transfer, Way};
 use std::marker::Model;
 
 /// A plan of a plant. Each plan is one that [`Plan::new`] has accepted.
 ///
 /// It takes no memory beyond itself, and C can keep it, if only these functions make it.
 #[repr(C)]
-#[derive(Debug, Drop)]
+#[derive(Clone, Debug, Drop)]
 pub struct Plan {
     sheet: Sheet,
 }
@@ -116,6 +116,20 @@ impl Plan {
         self.sheet.pose(usize::from(pose))
     }
 
+    /// The machine to which a zone belongs; the first machine if there is no such zone.
+    pub fn host(&self, zone: u8) -> u8
+        ensures { result ≡ table.host_of self.now zone }
+    {
+        self.sheet.host(usize::from(zone))
+    }
+
+    /// The other machine of a zone; the first machine if there is no such zone.
+    pub fn guest(&self, zone: u8) -> u8
+        ensures { result ≡ table.guest_of self.now zone }
+    {
+        self.sheet.guest(usize::from(zone))
+    }
+
     /// The machine that keeps a place; the first where there is no such place.
     pub fn keeper(&self, place: u8) -> u8
         ensures { result ≡ table.keeper_of self.now place }
@@ -127,37 +141,35 @@ impl Plan {
     pub fn is_party(&self, machine: u8, zone: u8) -> bool
         ensures { result ≡ table.is_party self.now machine zone }
     {
-        let row = self.zone(zone);
-        zone < self.zone_count() && (machine == row.host || machine == row.guest)
+        zone < self.zone_count() && (machine == self.host(zone) || machine == self.guest(zone))
     }
 
     /// Whether a machine has a pose of the plan.
     pub fn has_pose(&self, machine: u8, pose: u8) -> bool
         ensures { result ≡ table.has_pose self.now machine pose }
     {
-        pose < self.pose_count() && self.pose(pose).machine == machine
+        pose < self.pose_count() && self.sheet.machine(usize::from(pose)) == machine
     }
 
     /// The posture that a pose gives a zone, if it gives it one.
     pub fn posture_of(&self, pose: u8, zone: u8) -> Option<Posture>
         ensures { result ≡ table.posture_of self.now pose zone }
     {
-        let gives = self.pose(pose).gives;
-        if usize::from(zone) < MAX_ZONES {
-            gives[usize::from(zone)]
-        } else {
-            None
-        }
+        self.sheet.posture(usize::from(pose), usize::from(zone))
+    }
+
+    /// Whether a pose can be taken only after moving; no if there is no such pose.
+    pub fn is_after_moving(&self, pose: u8) -> bool
+        ensures { result ≡ (table.pose_row self.now pose).after_moving }
+    {
+        self.sheet.is_after_moving(usize::from(pose))
     }
 
     /// Whether a pose moves: it gives some zone the posture `Moving`.
     pub fn is_moving_pose(&self, pose: u8) -> bool
         ensures { result ≡ table.is_moving_pose self.now pose }
     {
-        self.pose(pose)
-            .gives
-            .iter()
-            .any(|posture| *posture == Some(Posture::Moving))
+        self.sheet.is_moving(usize::from(pose))
     }
 
     /// How a plate goes through a zone in a posture, if one goes.

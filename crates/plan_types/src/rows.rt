@@ -1,5 +1,6 @@
 //! The bytes of one row, and the row that has them.
-ghost use Rattle.std.specs.Prelude.{◌≡◌, ◌↔◌, ◌∷◌, [], Bool, List, Option, map, IfSome};
+ghost use Rattle.std.specs.Prelude.{◌≡◌, ◌↔◌, ◌∷◌, [], Bool, List, None, Option, get_or, map, nat_eq, IfSome};
+ghost use Rattle.std.specs.List.{list_any};
 ghost use mir.Val.{bool_byte};
 ghost use Rattle.plan_types.specs.declared.posture.Posture.{Posture};
 ghost use Rattle.plan_types.specs.declared.table.Way.{Way};
@@ -7,6 +8,7 @@ ghost use Rattle.plan_types.specs.declared.table.PlanZone.{PlanZone};
 ghost use Rattle.plan_types.specs.declared.table.PlanPose.{PlanPose};
 ghost use Rattle.plan_types.specs.Bytes as bytes;
 ghost use Rattle.plan_types.specs.Kept as kept;
+ghost use Rattle.plan_types.specs.Table.{is_moving};
 
 use crate::{MAX_ZONES, PlanPose, PlanZone, Posture, Way};
 
@@ -151,6 +153,32 @@ pub(crate) fn pose_told(row: [u8; POSE_BYTES]) -> PlanPose
             posture_told(j),
         ],
     }
+}
+
+/// The posture that the pose of a row gives a zone.
+#[tactic(auto, using(crate::proofs::RowParts::posture_in))]
+pub(crate) fn posture_in_row(row: &[u8; POSE_BYTES], zone: usize) -> Option<Posture>
+    ensures { result ≡ get_or (kept.pose_told row.now).gives zone None }
+{
+    if zone < MAX_ZONES {
+        posture_told(row[2 + zone])
+    } else {
+        None
+    }
+}
+
+/// Whether one of these bytes is that of the posture `Moving`.
+fn has_moving(bytes: &[u8]) -> bool
+    ensures { result ≡ list_any (λ byte. nat_eq byte 2) bytes.now }
+{
+    bytes.iter().any(|byte| *byte == 2)
+}
+
+/// Whether the pose of a row gives some zone the posture `Moving`.
+pub(crate) fn gives_moving(row: &[u8; POSE_BYTES]) -> bool
+    ensures { result ≡ list_any is_moving (kept.pose_told row.now).gives }
+{
+    has_moving(&row[2..])
 }
 
 /// The row of a pose.

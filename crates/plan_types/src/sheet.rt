@@ -4,7 +4,10 @@ ghost use Rattle.plan_types.specs.Table as table;
 ghost use Rattle.plan_types.specs.Table.{plan_table};
 ghost use Rattle.plan_types.specs.Kept as kept;
 
-use crate::rows::{POSE_BYTES, ZONE_BYTES, pose_row, pose_told, zone_row, zone_told};
+use crate::posture::Posture;
+use crate::rows::{
+    POSE_BYTES, ZONE_BYTES, gives_moving, pose_row, pose_told, posture_in_row, zone_row, zone_told,
+};
 use crate::table::{MAX_PLACES, MAX_POSES, MAX_ZONES, PlanPose, PlanZone, Tables};
 use std::marker::Model;
 
@@ -148,6 +151,64 @@ impl Sheet {
         } else {
             NO_POSE
         }
+    }
+
+    /// The machine to which a zone belongs; the first where there is no such zone.
+    pub(crate) fn host(&self, zone: usize) -> u8
+        ensures { result ≡ table.host_of self.now zone }
+    {
+        if zone < usize::from(self.zone_count) {
+            self.zones[zone][0]
+        } else {
+            0
+        }
+    }
+
+    /// The other machine of a zone; the first where there is no such zone.
+    pub(crate) fn guest(&self, zone: usize) -> u8
+        ensures { result ≡ table.guest_of self.now zone }
+    {
+        if zone < usize::from(self.zone_count) {
+            self.zones[zone][1]
+        } else {
+            0
+        }
+    }
+
+    /// The machine that has a pose; the first where there is no such pose.
+    pub(crate) fn machine(&self, pose: usize) -> u8
+        ensures { result ≡ table.machine_of self.now pose }
+    {
+        if pose < usize::from(self.pose_count) {
+            self.poses[pose][0]
+        } else {
+            0
+        }
+    }
+
+    /// Whether a pose can be taken only after moving.
+    pub(crate) fn is_after_moving(&self, pose: usize) -> bool
+        ensures { result ≡ (table.pose_row self.now pose).after_moving }
+    {
+        pose < usize::from(self.pose_count) && self.poses[pose][1] != 0
+    }
+
+    /// The posture that a pose gives a zone, if it gives it one.
+    pub(crate) fn posture(&self, pose: usize, zone: usize) -> Option<Posture>
+        ensures { result ≡ table.posture_of self.now pose zone }
+    {
+        if pose < usize::from(self.pose_count) {
+            posture_in_row(&self.poses[pose], zone)
+        } else {
+            None
+        }
+    }
+
+    /// Whether a pose gives some zone the posture `Moving`.
+    pub(crate) fn is_moving(&self, pose: usize) -> bool
+        ensures { result ≡ table.is_moving_pose self.now pose }
+    {
+        pose < usize::from(self.pose_count) && gives_moving(&self.poses[pose])
     }
 
     /// The machine that keeps a place; the first where there is no such place.

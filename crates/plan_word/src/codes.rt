@@ -12,7 +12,7 @@ fn owner_code(plan: &Plan, zone: u8, owner: Option<u8>) -> u64
 {
     match owner {
         None => 0,
-        Some(machine) if machine == plan.zone(zone).host => 1,
+        Some(machine) if machine == plan.host(zone) => 1,
         Some(_) => 2,
     }
 }
@@ -23,8 +23,8 @@ fn owner_of_code(plan: &Plan, zone: u8, code: u64) -> Option<u8>
 {
     match code {
         0 => None,
-        1 => Some(plan.zone(zone).host),
-        _ => Some(plan.zone(zone).guest),
+        1 => Some(plan.host(zone)),
+        _ => Some(plan.guest(zone)),
     }
 }
 

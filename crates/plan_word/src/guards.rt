@@ -51,7 +51,7 @@ pub(crate) fn claim_refusal(
         }
         return Some(Refusal::Held(owner));
     }
-    if machine == plan.zone(zone).guest && !is_open(at.posture) {
+    if machine == plan.guest(zone) && !is_open(at.posture) {
         return Some(Refusal::Shut(at.posture));
     }
     worn(plan, layout, word)

@@ -27,7 +27,7 @@ fn is_concerned(plan: &Plan, moves: bool, machine: u8, pose: u8, zone: u8, postu
         ≡ (nat_eq (host_of plan.now zone) machine
         && (is_moving_pose plan.now pose || not (same_posture after posture))) }
 {
-    plan.zone(zone).host == machine && (moves || posture_with(plan, pose, zone, posture) != posture)
+    plan.host(zone) == machine && (moves || posture_with(plan, pose, zone, posture) != posture)
 }
 
 fn unowned_at(
@@ -44,19 +44,29 @@ fn unowned_at(
     ensures { let state = state_told plan.now word in
         result ≡ refusals.unowned_by_pose plan.now state machine pose zone }
 {
+    if plan.host(zone) != machine {
+        return None;
+    }
     let at = zone_in_word(plan, layout, word, zone);
     let unowned = is_concerned(plan, moves, machine, pose, zone, at.posture)
         && at.owner != Some(machine);
     unowned.then_some(Refusal::NotOwner(at.owner))
 }
 
-fn any_unowned(plan: &Plan, layout: &Layout, word: u64, machine: u8, pose: u8) -> Option<Refusal>
-    requires { layout.now ≡ counts_of plan.now }
+fn any_unowned(
+    plan: &Plan,
+    layout: &Layout,
+    word: u64,
+    moves: bool,
+    machine: u8,
+    pose: u8,
+) -> Option<Refusal>
+    requires layout { layout.now ≡ counts_of plan.now }
+    requires moves { moves ≡ is_moving_pose plan.now pose }
     ensures { let state = state_told plan.now word in
         result
         ≡ refusals.first_zone plan.now (refusals.unowned_by_pose plan.now state machine pose) }
 {
-    let moves = plan.is_moving_pose(pose);
     for zone in 0..plan.zone_count() {
         if let Some(refusal) = unowned_at(plan, layout, word, moves, machine, pose, zone) {
             return Some(refusal);
@@ -79,18 +89,28 @@ fn plate_at(
     ensures { let state = state_told plan.now word in
         result ≡ refusals.plate_under_pose plan.now state machine pose zone }
 {
+    if plan.host(zone) != machine {
+        return None;
+    }
     let at = zone_in_word(plan, layout, word, zone);
     let under = is_concerned(plan, moves, machine, pose, zone, at.posture) && at.flag;
     under.then_some(Refusal::PlateInZone(zone))
 }
 
-fn any_plate(plan: &Plan, layout: &Layout, word: u64, machine: u8, pose: u8) -> Option<Refusal>
-    requires { layout.now ≡ counts_of plan.now }
+fn any_plate(
+    plan: &Plan,
+    layout: &Layout,
+    word: u64,
+    moves: bool,
+    machine: u8,
+    pose: u8,
+) -> Option<Refusal>
+    requires layout { layout.now ≡ counts_of plan.now }
+    requires moves { moves ≡ is_moving_pose plan.now pose }
     ensures { let state = state_told plan.now word in
         result
         ≡ refusals.first_zone plan.now (refusals.plate_under_pose plan.now state machine pose) }
 {
-    let moves = plan.is_moving_pose(pose);
     for zone in 0..plan.zone_count() {
         if let Some(refusal) = plate_at(plan, layout, word, moves, machine, pose, zone) {
             return Some(refusal);
@@ -103,8 +123,7 @@ fn stands_at(plan: &Plan, layout: &Layout, word: u64, machine: u8, zone: u8) -> 
     requires { layout.now ≡ counts_of plan.now }
     ensures { result ≡ refusals.stands_at plan.now (state_told plan.now word) machine zone }
 {
-    plan.zone(zone).host == machine
-        && zone_in_word(plan, layout, word, zone).posture != Posture::Moving
+    plan.host(zone) == machine && zone_in_word(plan, layout, word, zone).posture != Posture::Moving
 }
 
 /// Whether any zone that a machine hosts doesn't move.
@@ -126,10 +145,10 @@ fn opens_onto_plate(plan: &Plan, layout: &Layout, word: u64, pose: u8, zone: u8)
     requires { layout.now ≡ counts_of plan.now }
     ensures { result ≡ refusals.opens_onto_plate plan.now (state_told plan.now word) pose zone }
 {
-    let posture = zone_in_word(plan, layout, word, zone).posture;
-    let opens = posture_with(plan, pose, zone, posture) == Posture::OpenIn
-        && posture != Posture::OpenIn;
-    if !opens {
+    if plan.posture_of(pose, zone) != Some(Posture::OpenIn) {
+        return None;
+    }
+    if zone_in_word(plan, layout, word, zone).posture == Posture::OpenIn {
         return None;
     }
     match plan.transfer(zone, Posture::OpenIn) {
@@ -155,15 +174,22 @@ fn jumps(plan: &Plan, layout: &Layout, word: u64, machine: u8, pose: u8) -> Opti
     requires { layout.now ≡ counts_of plan.now }
     ensures { result ≡ refusals.jump plan.now (state_told plan.now word) machine pose }
 {
-    let jumps = plan.pose(pose).after_moving && stands_anywhere(plan, layout, word, machine);
+    let jumps = plan.is_after_moving(pose) && stands_anywhere(plan, layout, word, machine);
     jumps.then_some(Refusal::Jump)
 }
 
-fn moves_while_stopped(plan: &Plan, layout: &Layout, word: u64, pose: u8) -> Option<Refusal>
-    requires { layout.now ≡ counts_of plan.now }
+fn moves_while_stopped(
+    plan: &Plan,
+    layout: &Layout,
+    word: u64,
+    moves: bool,
+    pose: u8,
+) -> Option<Refusal>
+    requires layout { layout.now ≡ counts_of plan.now }
+    requires moves { moves ≡ is_moving_pose plan.now pose }
     ensures { result ≡ refusals.moves_while_stopped plan.now (state_told plan.now word) pose }
 {
-    (plan.is_moving_pose(pose) && is_stopped_in(layout, word)).then_some(Refusal::Stopped)
+    (moves && is_stopped_in(layout, word)).then_some(Refusal::Stopped)
 }
 
 pub(crate) fn pose_refusal(
@@ -179,13 +205,14 @@ pub(crate) fn pose_refusal(
     if !plan.has_pose(machine, pose) {
         return Some(Refusal::NoPose);
     }
-    if let Some(refusal) = moves_while_stopped(plan, layout, word, pose) {
+    let moves = plan.is_moving_pose(pose);
+    if let Some(refusal) = moves_while_stopped(plan, layout, word, moves, pose) {
         return Some(refusal);
     }
-    if let Some(refusal) = any_unowned(plan, layout, word, machine, pose) {
+    if let Some(refusal) = any_unowned(plan, layout, word, moves, machine, pose) {
         return Some(refusal);
     }
-    if let Some(refusal) = any_plate(plan, layout, word, machine, pose) {
+    if let Some(refusal) = any_plate(plan, layout, word, moves, machine, pose) {
         return Some(refusal);
     }
     if let Some(refusal) = jumps(plan, layout, word, machine, pose) {

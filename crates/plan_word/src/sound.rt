@@ -42,8 +42,11 @@ fn are_lawful_zones(plan: &Plan, state: &State) -> bool
 pub(crate) fn is_coming(plan: &Plan, zone: u8, at: ZoneState, place: u8) -> bool
     ensures { result ≡ states.is_coming plan.now at place zone }
 {
+    if !at.flag {
+        return false;
+    }
     match plan.transfer(zone, at.posture) {
-        Some(way) => at.flag && way.to == place,
+        Some(way) => way.to == place,
         None => false,
     }
 }

@@ -24,3 +24,23 @@ first_below_none f (suc n) e i l =
 pub first_below_all : {A : Type 0} (f : ℕ → Option A) (n : ℕ) → ((i : ℕ) → i < n → f i ≡ None) → first_below f n ≡ None
 first_below_all f zero all = refl
 first_below_all f (suc n) all = rw (first_below_all f n (λ i l. all i (omega arith)), all n (omega arith)) refl
+
+-- the first value is that of the first number that has one
+pub record IsFirst {A : Type 0} (f : ℕ → Option A) (n : ℕ) (x : A) : Type 0 where
+  pub at : ℕ
+  pub below : at < n
+  pub has : f at ≡ Some x
+  pub none : (i : ℕ) → i < at → f i ≡ None
+
+first_in_either : {A : Type 0} (f : ℕ → Option A) (n : ℕ) (x : A) (o : Option A) → first_below f n ≡ o
+    → option_or o (f n) ≡ Some x → (first_below f n ≡ Some x → IsFirst f n x) → IsFirst f (suc n) x
+first_in_either f n x None none is below =
+    record { at = n; below = omega arith; has = is; none = first_below_none f n none }
+first_in_either f n x (Some w) some is below =
+    let h = below (some ∙ is) in
+    let l = h.below in
+    record { at = h.at; below = omega arith; has = h.has; none = h.none }
+
+pub first_of : {A : Type 0} (f : ℕ → Option A) (n : ℕ) (x : A) → first_below f n ≡ Some x → IsFirst f n x
+first_of f zero x e = absurd (cc)
+first_of f (suc n) x e = first_in_either f n x (first_below f n) refl e (first_of f n x)

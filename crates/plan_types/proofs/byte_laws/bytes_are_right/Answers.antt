@@ -32,6 +32,7 @@ returns c = record {
   press_rows = whole_rows press_poses refl;
   lift_rows = whole_rows lift_poses refl;
   unlike = refl;
+  ten_zones = refl;
   short_row = λ law. let e : 9 ≡ 10 = second_whole (pose 0 false None None) (pose_of_width 9) law in absurd (omega arith);
   long_row = λ law. let e : 11 ≡ 10 = second_whole (pose 0 false None None) (pose_of_width 11) law in absurd (omega arith);
   first_empty = λ law. let e : 0 ≡ 10 = All-head IsForTenZones (pose_of_width 0) (pose 0 false None None ∷ []) law in absurd (omega arith);
