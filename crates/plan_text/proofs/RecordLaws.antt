@@ -1,5 +1,5 @@
 -- Which records are calls and starts, of all; and why one is no call.
-use Rattle.std.proofs.Common.{◌≡◌, ◌≢◌, ◌∙◌, inl, inr, ℕ, ◌<◌, Bool, true, false, ◌&&◌, [], ◌∷◌, codes, length, nat_eq, nat_le, Option, Some, None, Ok, Err, refl, sym, ap, subst, arith}
+use Rattle.std.proofs.Common.{◌≡◌, ◌≢◌, ◌∙◌, inl, inr, ℕ, ◌<◌, Bool, true, false, ◌&&◌, [], ◌∷◌, codes, length, All, nat_eq, nat_le, Option, Some, None, Ok, Err, refl, sym, ap, subst, arith}
 use Rattle.std.specs.Prelude.{nat_lt, if◌then◌else◌}
 use Rattle.std.specs.List.{list_all}
 use Rattle.std.specs.Option.{ok_or, option_and_then, option_map}
@@ -12,6 +12,7 @@ use Rattle.std.proofs.lemmas.Slice.Eq.{bytes_eq-Decides}
 use Rattle.csv.specs.Records.{field_at}
 use Rattle.csv_rows.specs.Numbers.{number_in}
 use Rattle.csv_rows.specs.Rows.{Row}
+use Rattle.csv_rows.specs.declared.script_end.ScriptFault.{ScriptFault}
 use Rattle.csv_rows.specs.declared.script_end.ScriptFault.TheVariants.{BadStart, NoStart}
 use Rattle.plan_types.specs.declared.call.Call.{Call}
 use Rattle.plan_types.specs.declared.call.Call.TheVariants.{Stop, Resume}
@@ -152,19 +153,40 @@ stamped : (count : ℕ) (digits field : Text) (s : State) → start_in count (co
 unfolding field_at
 stamped count digits field s e = (started count digits (field ∷ []) s e).told
 
+-- a record that begins so is a start, or a wrong one
+wrong_or_start : (count : ℕ) (rest : Row) (fault : ScriptFault) → start_in count (codes "start" ∷ rest) ≡ Err fault → fault ≡ BadStart
+unfolding field_at
+wrong_or_start count rest fault e = by (start_fields count (codes "start" ∷ rest)) e
+  where
+    by : (o : Option State) → ok_or o BadStart ≡ Err fault → fault ≡ BadStart
+    by None is = cc
+    by (Some s) is = absurd (cc)
+
+wrong_unless : (count : ℕ) (rest : Row) → ((s : State) → start_in count (codes "start" ∷ rest) ≡ Ok s → ⊥) → start_in count (codes "start" ∷ rest) ≡ Err BadStart
+unfolding field_at
+wrong_unless count rest none = by (start_fields count (codes "start" ∷ rest)) none
+  where
+    by : (o : Option State) → ((s : State) → ok_or o BadStart ≡ Ok s → ⊥) → ok_or o BadStart ≡ Err BadStart
+    by None never = refl
+    by (Some s) never = absurd (never s refl)
+
+digits_of : (count : ℕ) (digits : Text) (rest : Row) (s : State) → start_in count (codes "start" ∷ digits ∷ rest) ≡ Ok s → (length digits ≡ count) × All IsZeroOrOne digits
+digits_of count digits rest s e =
+    let h = and_parts (nat_eq (length digits) count) (list_all is_flag digits) (started count digits rest s e).places in
+    (eqb-true (length digits) count h.0, All-weaker (λ d. is_flag d ≡ true) IsZeroOrOne zero_or_one digits (AllPass-from_list_all is_flag digits h.1))
+
 pub records_are_starts : (count : ℕ) (rest : Row) (word digits field : Text) (s : State) → RecordsAreStarts count rest word digits field s
 records_are_starts count rest word digits field s = record {
   other_word = no_start count word rest;
   longer = too_long count rest;
   shorter = too_little count;
-  places = λ e.
-      let h = and_parts (nat_eq (length digits) count) (list_all is_flag digits) (started count digits rest s e).places in
-      eqb-true (length digits) count h.0;
-  digit = λ e.
-      let h = and_parts (nat_eq (length digits) count) (list_all is_flag digits) (started count digits rest s e).places in
-      All-weaker (λ d. is_flag d ≡ true) IsZeroOrOne zero_or_one digits (AllPass-from_list_all is_flag digits h.1);
+  places = λ e. (digits_of count digits rest s e).0;
+  digit = λ e. (digits_of count digits rest s e).1;
   stamp = stamped count digits field s;
   last = λ e. leb-true s.stamp last_stamp (started count digits (field ∷ []) s e).within;
+  other_count = λ other. wrong_unless count (digits ∷ rest) (λ k e. other (digits_of count digits rest k e).0);
+  other_digit = λ other. wrong_unless count (digits ∷ rest) (λ k e. other (digits_of count digits rest k e).1);
+  fault = wrong_or_start count rest;
 }
 
 -- ---- reasons

@@ -2,6 +2,7 @@
 use Rattle.std.specs.Prelude.{◌≡◌, ◌≢◌, ◌⊎◌, ℕ, ◌<◌, ◌≤◌, [], ◌∷◌, ◌++◌, codes, length, All, Some, None, Ok, Err}
 use Rattle.csv_rows.specs.Numbers.{number_in}
 use Rattle.csv_rows.specs.Rows.{Row}
+use Rattle.csv_rows.specs.declared.script_end.ScriptFault.{ScriptFault}
 use Rattle.csv_rows.specs.declared.script_end.ScriptFault.TheVariants.{BadStart, NoStart}
 use Rattle.plan_types.specs.declared.call.Call.{Call}
 use Rattle.plan_types.specs.declared.call.Call.TheVariants.{Stop, Resume}
@@ -42,7 +43,7 @@ abbrev pub IsZeroOrOne : ℕ → Type 0
 IsZeroOrOne digit = (digit ≡ 48) ⊎ (digit ≡ 49)
 
 -- no record of more than three fields is a start, nor one of another first word; a start has a digit 0 or 1 for each
--- place, and a stamp up to the last
+-- place, and a stamp up to the last; with other digits it is a wrong start, whatever stamp follows
 pub record RecordsAreStarts (count : ℕ) (rest : Row) (word digits field : Text) (s : State) : Type 0 where
   pub other_word : word ≢ codes "start" → start_in count (word ∷ rest) ≡ Err NoStart
   pub longer : 2 < length rest → start_in count (codes "start" ∷ rest) ≡ Err BadStart
@@ -51,6 +52,9 @@ pub record RecordsAreStarts (count : ℕ) (rest : Row) (word digits field : Text
   pub digit : start_in count (codes "start" ∷ digits ∷ rest) ≡ Ok s → All IsZeroOrOne digits
   pub stamp : start_in count (codes "start" ∷ digits ∷ field ∷ []) ≡ Ok s → number_in field ≡ Some s.stamp
   pub last : start_in count (codes "start" ∷ digits ∷ field ∷ []) ≡ Ok s → s.stamp ≤ 1048575
+  pub other_count : length digits ≢ count → start_in count (codes "start" ∷ digits ∷ rest) ≡ Err BadStart
+  pub other_digit : ¬ All IsZeroOrOne digits → start_in count (codes "start" ∷ digits ∷ rest) ≡ Err BadStart
+  pub fault : (fault : ScriptFault) → start_in count (codes "start" ∷ rest) ≡ Err fault → fault ≡ BadStart
 
 -- ---- reasons
 
