@@ -30,6 +30,9 @@ use Rattle.plan_cell.specs.LawExamples.{held_in, cell_at, press_in, press_given,
 -- machines: 0 feed, 1 table, 2 robot, 3 press, 4 deposit, 5 crane
 pub record TableRows : Type 0 where
   pub machines : cell_table.machines ≡ 6
+  pub zones : table.zone_count cell_table ≡ 6
+  pub places : table.place_count cell_table ≡ 10
+  pub poses : table.pose_count cell_table ≡ 15
   pub hosts : map (table.host_of cell_table) (range_with_len 0 6) ≡ 1 ∷ 1 ∷ 3 ∷ 4 ∷ 4 ∷ 0 ∷ []
   pub guests : map (table.guest_of cell_table) (range_with_len 0 6) ≡ 0 ∷ 2 ∷ 2 ∷ 2 ∷ 5 ∷ 5 ∷ []
   pub keepers : map (table.keeper_of cell_table) (range_with_len 0 10) ≡ 0 ∷ 0 ∷ 1 ∷ 2 ∷ 3 ∷ 3 ∷ 2 ∷ 4 ∷ 4 ∷ 5 ∷ []

@@ -173,7 +173,7 @@ returns-clause-tables c = record {
     zone = λ law k. (law s k).zone_is_lawful 5 (omega arith);
     stamp = λ law k. (law s k).stamp_in_range;
   };
-  rows = record { machines = refl; hosts = refl; guests = refl; keepers = refl; inward = refl; outward = refl; posing = refl; after_moving = refl; table_z1 = refl; table_z2 = refl; press_z3 = refl; feed_z6 = refl; deposit_z4 = refl; deposit_z5 = refl };
+  rows = record { machines = refl; zones = refl; places = refl; poses = refl; hosts = refl; guests = refl; keepers = refl; inward = refl; outward = refl; posing = refl; after_moving = refl; table_z1 = refl; table_z2 = refl; press_z3 = refl; feed_z6 = refl; deposit_z4 = refl; deposit_z5 = refl };
   states = record { postures = refl; zone = refl; free = refl; state = refl; zones = refl; places = refl; stop = refl; shown = refl };
   own = record { held_back = refl; belt_is_empty = refl; yield = refl; release = refl; other_refusal = refl; feed_runs = refl; feed_runs_empty = refl; deposit_runs = refl; press_opens = refl; press_opens_empty = refl; press_unloads = refl };
 }
