@@ -40,7 +40,7 @@ no_then_not b r e = rw e refl
 
 -- ---- in words
 
-either : (a b : Bool) → (a || b) ≡ true → (a ≡ true) ⊎ (b ≡ true)
+pub either : (a b : Bool) → (a || b) ≡ true → (a ≡ true) ⊎ (b ≡ true)
 either true b e = inl refl
 either false b e = inr e
 
@@ -241,7 +241,7 @@ release_by_words t s m z f =
 
 -- ---- poses
 
-concerned_by_change : (t : PlanTable) (s : State) (m p z : ℕ) (q : Posture) → host_of t z ≡ m → posture_of t p z ≡ Some q → posture_at s z ≢ q → is_concerned t s m p z ≡ true
+pub concerned_by_change : (t : PlanTable) (s : State) (m p z : ℕ) (q : Posture) → host_of t z ≡ m → posture_of t p z ≡ Some q → posture_at s z ≢ q → is_concerned t s m p z ≡ true
 concerned_by_change t s m p z q host given other =
     let with_it : posture_with t s p z ≡ q = ap (λ o. unwrap_or o (posture_at s z)) given in
     let apart : same_posture q (posture_at s z) ≡ false = false_from_ne_true (same_posture q (posture_at s z)) (λ same. other (sym (one_posture q (posture_at s z) same))) in
@@ -286,7 +286,7 @@ itself Moving = refl
 itself OpenIn = refl
 itself OpenOut = refl
 
-differs : (a b : Bool) → a ≡ true → not b ≡ true → a ≡ b → ⊥
+pub differs : (a b : Bool) → a ≡ true → not b ≡ true → a ≡ b → ⊥
 differs a true e f same = cc
 differs a false e f same = cc
 

@@ -46,7 +46,7 @@ both true true c e f = refl
 both true false c e f = cc
 both false b c e f = cc
 
-concerned : (t : PlanTable) (s : State) (m p y z : ℕ) → posture_of t p y ≡ Some Moving → host_of t z ≡ m → is_concerned t s m p z ≡ true
+pub concerned : (t : PlanTable) (s : State) (m p y z : ℕ) → posture_of t p y ≡ Some Moving → host_of t z ≡ m → is_concerned t s m p z ≡ true
 concerned t s m p y z given host =
     let own : nat_eq (host_of t z) m ≡ true = ap (nat_eq (host_of t z)) (sym host) ∙ nat_eq-self (host_of t z) in
     both (nat_eq (host_of t z) m) (is_moving_pose t p) (not (same_posture (posture_with t s p z) (posture_at s z))) own (gives_moving t p y given)

@@ -21,3 +21,4 @@ mod PartRows
 mod FullPlaces
 mod DoneExactly
 mod Truth
+mod Lowest

@@ -29,25 +29,25 @@ use Rattle.plan_rules.proofs.Refusing.{refusal_of_reply}
 
 -- ---- what holds of the first refusal of several
 
-both_say : (P : Refusal → Type 0) (a b : Option Refusal) → ((r : Refusal) → a ≡ Some r → P r) → ((r : Refusal) → b ≡ Some r → P r) → (r : Refusal) → (a or b) ≡ Some r → P r
+pub both_say : (P : Refusal → Type 0) (a b : Option Refusal) → ((r : Refusal) → a ≡ Some r → P r) → ((r : Refusal) → b ≡ Some r → P r) → (r : Refusal) → (a or b) ≡ Some r → P r
 both_say P None b here there r e = there r e
 both_say P (Some q) b here there r e = here r e
 
-one_says : (P : Refusal → Type 0) (b : Bool) (q : Refusal) → (b ≡ true → P q) → (r : Refusal) → then_some b q ≡ Some r → P r
+pub one_says : (P : Refusal → Type 0) (b : Bool) (q : Refusal) → (b ≡ true → P q) → (r : Refusal) → then_some b q ≡ Some r → P r
 one_says P true q says r e = let same : q ≡ r = cc in subst P same (says refl)
 one_says P false q says r e = cc
 
-zones_say : (P : Refusal → Type 0) (f : ℕ → Option Refusal) (n : ℕ) → ((z : ℕ) → z < n → (r : Refusal) → f z ≡ Some r → P r) → (r : Refusal) → first_below f n ≡ Some r → P r
+pub zones_say : (P : Refusal → Type 0) (f : ℕ → Option Refusal) (n : ℕ) → ((z : ℕ) → z < n → (r : Refusal) → f z ≡ Some r → P r) → (r : Refusal) → first_below f n ≡ Some r → P r
 zones_say P f zero says r e = cc
 zones_say P f (suc n) says r e = both_say P (first_below f n) (f n) (zones_say P f n (λ z l. says z (omega arith))) (says n (omega arith)) r e
 
 -- ---- truth values
 
-is_not : (b : Bool) → not b ≡ true → b ≡ false
+pub is_not : (b : Bool) → not b ≡ true → b ≡ false
 is_not true e = cc
 is_not false e = refl
 
-not_both : (b : Bool) → b ≡ true → b ≡ false → ⊥
+pub not_both : (b : Bool) → b ≡ true → b ≡ false → ⊥
 not_both true e f = cc
 not_both false e f = cc
 

@@ -19,3 +19,4 @@ pub mod PartExamples
 pub mod PlaceLaws
 pub mod DoneLaws
 pub mod SayLaws
+pub mod PoseLaws

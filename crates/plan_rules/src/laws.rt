@@ -10,6 +10,7 @@ ghost use Rattle.plan_rules.specs.Laws as law;
 ghost use Rattle.plan_rules.specs.Laws.{Throughout};
 ghost use Rattle.plan_rules.specs.LiftLaws.{LawsOfLift};
 ghost use Rattle.plan_rules.specs.PlaceLaws.{FullPlaces};
+ghost use Rattle.plan_rules.specs.PoseLaws.{PosesNameLowestZones};
 ghost use Rattle.plan_rules.specs.RefusalLaws.{RefusalsTell};
 ghost use Rattle.plan_rules.specs.SayLaws.{RefusalsAreTrue};
 
@@ -135,6 +136,12 @@ pub fn calls_are_done_exactly()
 /// hosts.
 pub fn refusals_are_true()
     ensures { RefusalsAreTrue }
+{}
+
+/// In all tables and states a refused pose names the lowest zone that bars it: of the zones that it needs, the owner of
+/// the lowest that isn't its machine's, or the lowest with a plate in it.
+pub fn poses_name_lowest_zones()
+    ensures { PosesNameLowestZones }
 {}
 
 /// In all tables and states a place counts as full exactly if it has a plate, or if a plate is in a zone of the plan
