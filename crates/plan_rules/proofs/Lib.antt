@@ -22,3 +22,4 @@ mod FullPlaces
 mod DoneExactly
 mod Truth
 mod Lowest
+mod Orders

@@ -1,5 +1,5 @@
 -- Laws of refusals, on every sound state of every plan.
-use Rattle.std.specs.Prelude.{◌≡◌, ℕ, Bool, cond, nat_eq, List, [], ◌∷◌, IsTrue}
+use Rattle.std.specs.Prelude.{◌≡◌, ◌↔◌, ℕ, ◌<◌, ◌≤◌, Bool, cond, nat_eq, List, [], ◌∷◌, length, get_or, IsTrue}
 use Rattle.std.specs.List.{list_any}
 use Rattle.plan_types.specs.declared.call.Call.{Call}
 use Rattle.plan_types.specs.declared.answer.Refusal.{Refusal}
@@ -31,3 +31,15 @@ pub record RefusalsTell : Type 0 where
       → reply t s m c ≡ Refused r → IsTrue (is_cause t s m c r)
   pub first : (t : PlanTable) (s : State) (m : ℕ) (c : Call) (r : Refusal) → IsSound t s
       → IsTrue (is_cause t s m c r) → IsRefusedBy t s m c r
+
+-- in an order one number stands somewhere, and another stands there or later
+pub record StandsNoLater (order : List ℕ) (n k : ℕ) : Type 0 where
+  pub first : ℕ
+  pub second : ℕ
+  pub no_later : first ≤ second
+  pub within : second < length order
+  pub first_is : get_or order first 0 ≡ n
+  pub second_is : get_or order second 0 ≡ k
+
+abbrev pub OrdersAreKept : Type 0
+OrdersAreKept = (order : List ℕ) (n k : ℕ) → IsTrue (is_no_later order n k) ↔ StandsNoLater order n k

@@ -11,7 +11,7 @@ ghost use Rattle.plan_rules.specs.Laws.{Throughout};
 ghost use Rattle.plan_rules.specs.LiftLaws.{LawsOfLift};
 ghost use Rattle.plan_rules.specs.PlaceLaws.{FullPlaces};
 ghost use Rattle.plan_rules.specs.PoseLaws.{PosesNameLowestZones};
-ghost use Rattle.plan_rules.specs.RefusalLaws.{RefusalsTell};
+ghost use Rattle.plan_rules.specs.RefusalLaws.{OrdersAreKept, RefusalsTell};
 ghost use Rattle.plan_rules.specs.SayLaws.{RefusalsAreTrue};
 
 use crate::state::State;
@@ -142,6 +142,11 @@ pub fn refusals_are_true()
 /// the lowest that isn't its machine's, or the lowest with a plate in it.
 pub fn poses_name_lowest_zones()
     ensures { PosesNameLowestZones }
+{}
+
+/// In an order one number comes no later than another exactly if it stands somewhere, and the other there or after it.
+pub fn orders_are_kept()
+    ensures { OrdersAreKept }
 {}
 
 /// In all tables and states a place counts as full exactly if it has a plate, or if a plate is in a zone of the plan
