@@ -23,3 +23,4 @@ mod DoneExactly
 mod Truth
 mod Lowest
 mod Orders
+mod CallChanges

@@ -20,3 +20,4 @@ pub mod PlaceLaws
 pub mod DoneLaws
 pub mod SayLaws
 pub mod PoseLaws
+pub mod ChangeLaws

@@ -4,6 +4,7 @@
 ghost use Rattle.std.specs.Prelude.{◌++◌};
 ghost use Rattle.plan_rules.specs.Sound.{IsSound, IsStart};
 ghost use Rattle.plan_rules.specs.BrokenLaws.{LawsCanBeBroken};
+ghost use Rattle.plan_rules.specs.ChangeLaws.{ChangesAreThese};
 ghost use Rattle.plan_rules.specs.DoneLaws.{CallsAreDoneExactly};
 ghost use Rattle.plan_rules.specs.History.{IsLegal};
 ghost use Rattle.plan_rules.specs.Laws as law;
@@ -147,6 +148,13 @@ pub fn poses_name_lowest_zones()
 /// In an order one number comes no later than another exactly if it stands somewhere, and the other there or after it.
 pub fn orders_are_kept()
     ensures { OrdersAreKept }
+{}
+
+/// On every sound state of every plan each Done call changes this and nothing else: the owner of its zone, the plate in
+/// it and one place, or the postures that its pose gives, or the stop; and the stamp by one. What isn't Done changes
+/// nothing.
+pub fn changes_are_these()
+    ensures { ChangesAreThese }
 {}
 
 /// In all tables and states a place counts as full exactly if it has a plate, or if a plate is in a zone of the plan
