@@ -43,8 +43,8 @@ enum SeekEnd {
     Memory,
 }
 
-// Passes over a number of frames, and then looks for the first with a call. It keeps the turns that it has seen, and the
-// last frame.
+// Passes over a number of frames, and then looks for the first with a call. It keeps the turns that it
+// has seen, and the last frame.
 #[derive(Drop)]
 struct AskSeeker {
     skip: usize,
