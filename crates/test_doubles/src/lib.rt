@@ -5,7 +5,9 @@
 pub mod failing;
 pub mod given;
 pub mod interrupted;
+pub mod parts;
 
 pub use failing::{FailingReader, FailingWriter};
 pub use given::Given;
 pub use interrupted::{Failure, InterruptedReader, InterruptedWriter};
+pub use parts::{arguments_in, count_parts, part, words_in};

@@ -1,0 +1,34 @@
+//! Parts of a text, by their numbers, and its words. So a table of many texts can be one text.
+
+use std::alloc::{AllocError, Global};
+
+/// How many parts a text has, if this mark stands between each two of them.
+pub fn count_parts(text: &str, mark: &str) -> usize {
+    text.split(mark).count()
+}
+
+/// The part with this number, from 0 on; empty if the text has no such part.
+pub fn part<'a>(text: &'a str, mark: &str, number: usize) -> &'a str {
+    match text.split(mark).nth(number) {
+        Some(part) => part,
+        None => "",
+    }
+}
+
+/// The words of a line, with a blank between each two of them.
+pub fn words_in<'a>(alloc: Global, line: &'a str) -> Result<Vec<&'a str>, AllocError> {
+    let mut words = Vec::new(alloc);
+    for number in 0..count_parts(line, " ") {
+        words.push(part(line, " ", number))?;
+    }
+    Ok(words)
+}
+
+/// The bytes of each word of a line.
+pub fn arguments_in<'a>(alloc: Global, line: &'a str) -> Result<Vec<&'a [u8]>, AllocError> {
+    let mut arguments = Vec::new(alloc);
+    for number in 0..count_parts(line, " ") {
+        arguments.push(part(line, " ", number).as_bytes())?;
+    }
+    Ok(arguments)
+}
