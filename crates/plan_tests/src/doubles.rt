@@ -1,9 +1,10 @@
 //! The program with given arguments.
 
 use plan_app::serve::start;
-use std::alloc::Global;
+use std::alloc::{AllocError, Global};
 use std::io::{Read, Write};
-use test_doubles::Given;
+use std::process::Abort;
+use test_doubles::{Given, count_parts, part};
 
 /// The exit status of the program that is started with these arguments. It has no clauses, so the rows don't carry
 /// those of `start`.
@@ -26,4 +27,23 @@ pub fn is_answered(alloc: Global, word: &[u8], input: &str, status: u8, text: &s
         &mut written,
     );
     found == status && written.as_slice() == text.as_bytes()
+}
+
+/// Whether `check` refuses this beginning and then the row's document, with the row's fault.
+fn is_told(alloc: Global, head: &str, row: &str) -> Result<bool, AllocError> {
+    let rest = part(row, "=>\n", 0);
+    let words = part(row, "=>\n", 1);
+    let document = format!(in alloc; "{head}{rest}")?;
+    let text = format!(in alloc; "fault plan {words}")?;
+    Ok(is_answered(alloc, b"check", document.as_str(), 1, text.as_str()))
+}
+
+/// Checks that each row's document is refused so. A row has a document, an arrow and its fault, and perhaps another
+/// arrow and what it shows; a line of dashes stands between two rows.
+pub fn are_told(rt: &impl Abort, alloc: Global, head: &str, rows: &str) -> Result<(), AllocError> {
+    for number in 0..count_parts(rows, "--\n") {
+        let row = part(rows, "--\n", number);
+        assert!(rt; is_told(alloc, head, row)?, "{row}");
+    }
+    Ok(())
 }

@@ -1,6 +1,6 @@
 //! Each fault of a plan, in words.
 
-use super::doubles::is_answered;
+use super::doubles::{are_told, is_answered};
 use std::alloc::AllocError;
 
 const MACHINES: &str = "\
@@ -12,100 +12,128 @@ name = \"b\"
 places = [\"q\"]
 ";
 
-const ZONE: &str = "[[zone]]\nname = \"z\"\nhost = \"a\"\nguest = \"b\"\n";
+/// The machines, and a zone of the first.
+const WITH_ZONE: &str = "\
+[[machine]]
+name = \"a\"
+places = [\"p\"]
+[[machine]]
+name = \"b\"
+places = [\"q\"]
+[[zone]]
+name = \"z\"
+host = \"a\"
+guest = \"b\"
+";
 
-/// A document, and its fault after `fault plan `.
-const ROWS: &[(&str, &str)] = &[
-    ("", "the document: there is no [[machine]]"),
-    (
-        "machines = 1\n",
-        "line 1: the document: \"machines\" isn't a key here; known: machine, zone, motor, hazard",
-    ),
-    (
-        "machine = 1\n",
-        "line 1: the document: machine: it takes a list of tables; begin each with [[machine]]",
-    ),
-    (
-        "machine = [1]\n",
-        "line 1: the document: machine: it takes a list of tables; begin each with [[machine]]",
-    ),
-    (
-        "[machine]\nname = \"a\"\n",
-        "line 1: the document: machine: it takes a list of tables; begin each with [[machine]]",
-    ),
-    ("[[machine]]\n", "line 1: machine 1: name: it is missing"),
-    (
-        "[[machine]]\nname = 1\n",
-        "line 2: machine 1: name: it takes a text; put quotes round it",
-    ),
-    (
-        "[[machine]]\nnames = \"a\"\n",
-        "line 2: machine 1: \"names\" isn't a key here; known: name, places, poses, program",
-    ),
-    (
-        "[[machine]]\nname = \"A\"\n",
-        "line 2: machine 1: name: \"A\" isn't a name: \
-         a letter, then letters, digits or underscores, lower case, at most 32",
-    ),
-    (
-        "[[machine]]\nname = \"watch\"\n",
-        "line 2: machine 1: name: \"watch\" is a word of scripts, and names no machine",
-    ),
-    (
-        "[[machine]]\nname = \"resume\"\n",
-        "line 2: machine 1: name: \"resume\" is a word of scripts, and names no machine",
-    ),
-    (
-        "[[machine]]\nname = \"a\"\n[[machine]]\nname = \"a\"\n",
-        "line 4: machine 2: name: \"a\" is defined twice, first on line 2",
-    ),
-    (
-        "[[machine]]\nname = \"a\"\nplaces = \"p\"\n",
-        "line 3: machine a: places: it takes a list of texts, such as [\"hand\", \"die\"]",
-    ),
-    (
-        "[[machine]]\nname = \"a\"\nplaces = [\"p\", \"p\"]\n",
-        "line 3: machine a: places: \"p\" is defined twice, first on line 3",
-    ),
-    (
-        "[[machine]]\nname = \"a\"\nposes = 1\n",
-        "line 3: machine a: poses: it takes a list of tables",
-    ),
-    (
-        "[[machine]]\nname = \"a\"\nposes = [{ name = \"x\" }]\n",
-        "line 3: machine a: pose x: gives: it is missing",
-    ),
-    (
-        "[[machine]]\nname = \"a\"\nposes = [{ name = \"x\", gives = 1 }]\n",
-        "line 3: machine a: pose x: gives: it takes a table, such as { interior = \"closed\" }",
-    ),
-    (
-        "[[machine]]\nname = \"a\"\nposes = [{ name = \"x\", gives = {}, after_moving = 1 }]\n",
-        "line 3: machine a: pose x: after_moving: it takes true or false",
-    ),
-    (
-        "[[machine]]\nname = \"a\"\nposes = [{ name = \"x\", gives = { z = \"shut\" } }]\n",
-        "line 3: machine a: pose x: gives: no zone is named \"z\"",
-    ),
-];
+/// Documents, each with its fault after `fault plan `. A line of dashes ends a row.
+const ROWS: &str = "\
+=>
+the document: there is no [[machine]]
+--
+machines = 1
+=>
+line 1: the document: \"machines\" isn't a key here; known: machine, zone, motor, hazard
+--
+machine = 1
+=>
+line 1: the document: machine: it takes a list of tables; begin each with [[machine]]
+--
+machine = [1]
+=>
+line 1: the document: machine: it takes a list of tables; begin each with [[machine]]
+--
+[machine]
+name = \"a\"
+=>
+line 1: the document: machine: it takes a list of tables; begin each with [[machine]]
+--
+[[machine]]
+=>
+line 1: machine 1: name: it is missing
+--
+[[machine]]
+name = 1
+=>
+line 2: machine 1: name: it takes a text; put quotes round it
+--
+[[machine]]
+names = \"a\"
+=>
+line 2: machine 1: \"names\" isn't a key here; known: name, places, poses, program
+--
+[[machine]]
+name = \"A\"
+=>
+line 2: machine 1: name: \"A\" isn't a name: a letter, then letters, digits or underscores, lower case, at most 32
+--
+[[machine]]
+name = \"watch\"
+=>
+line 2: machine 1: name: \"watch\" is a word of scripts, and names no machine
+--
+[[machine]]
+name = \"resume\"
+=>
+line 2: machine 1: name: \"resume\" is a word of scripts, and names no machine
+--
+[[machine]]
+name = \"a\"
+[[machine]]
+name = \"a\"
+=>
+line 4: machine 2: name: \"a\" is defined twice, first on line 2
+--
+[[machine]]
+name = \"a\"
+places = \"p\"
+=>
+line 3: machine a: places: it takes a list of texts, such as [\"hand\", \"die\"]
+--
+[[machine]]
+name = \"a\"
+places = [\"p\", \"p\"]
+=>
+line 3: machine a: places: \"p\" is defined twice, first on line 3
+--
+[[machine]]
+name = \"a\"
+poses = 1
+=>
+line 3: machine a: poses: it takes a list of tables
+--
+[[machine]]
+name = \"a\"
+poses = [{ name = \"x\" }]
+=>
+line 3: machine a: pose x: gives: it is missing
+--
+[[machine]]
+name = \"a\"
+poses = [{ name = \"x\", gives = 1 }]
+=>
+line 3: machine a: pose x: gives: it takes a table, such as { interior = \"closed\" }
+--
+[[machine]]
+name = \"a\"
+poses = [{ name = \"x\", gives = {}, after_moving = 1 }]
+=>
+line 3: machine a: pose x: after_moving: it takes true or false
+--
+[[machine]]
+name = \"a\"
+poses = [{ name = \"x\", gives = { z = \"shut\" } }]
+=>
+line 3: machine a: pose x: gives: no zone is named \"z\"
+";
 
 #[test]
 fn tells_faults(rt: HostRuntime) -> Result<(), AllocError> {
-    for (document, words) in ROWS {
-        let text = format!(in rt.alloc(); "fault plan {words}\n")?;
-        assert!(rt;
-            is_answered(rt.alloc(), b"check", document, 1, text.as_str()),
-            "{words}"
-        );
-    }
-    Ok(())
+    are_told(&rt, rt.alloc(), "", ROWS)
 }
 
-/// Documents of several lines, and their faults after `fault plan `.
-const PLACED: &[(&str, &str)] = &[
-    // Comments and blank lines come before.
-    (
-        "\
+/// Documents of several lines, each with its fault after `fault plan `, and what it shows.
+const PLACED: &str = "\
 # [[machine]]
 
 [[machine]] # name = \"a\"
@@ -115,17 +143,21 @@ name = \"a\"
 [[machine]]
 
 name = \"a\"
-",
-        "line 9: machine 2: name: \"a\" is defined twice, first on line 4",
-    ),
-    // Lines end by CRLF, and a byte order mark comes first.
-    (
-        "\u{feff}# CRLF\r\n\r\n[[machine]]\r\nplaces = []\r\nname = true\r\n",
-        "line 5: machine 1: name: it takes a text; put quotes round it",
-    ),
-    // A text of several lines hides a head; a key is in quotes.
-    (
-        "\
+=>
+line 9: machine 2: name: \"a\" is defined twice, first on line 4
+=>
+Comments and blank lines come before.
+--
+\u{feff}# CRLF\r
+\r
+[[machine]]\r
+places = []\r
+name = true\r
+=>
+line 5: machine 1: name: it takes a text; put quotes round it
+=>
+Lines end by CRLF, and a byte order mark comes first.
+--
 [[machine]]
 name = \"\"\"
 a\"\"\"
@@ -134,35 +166,64 @@ program = ['''
 ]
 [[machine]]
 \"name\" = \"a\"
-",
-        "line 8: machine 2: name: \"a\" is defined twice, first on line 2",
-    ),
-    // A key is missing, and the next row has it: the line is the head's.
-    (
-        "[[machine]]\nname = \"a\"\n\n[[machine]]\nplaces = []\n\n[[machine]]\nname = \"b\"\n",
-        "line 4: machine 2: name: it is missing",
-    ),
-    // A key is unknown, and stands below known ones.
-    (
-        "[[machine]]\nname = \"a\"\nplaces = []\n\nprograms = [\n]\n",
-        "line 5: machine a: \"programs\" isn't a key here; known: name, places, poses, program",
-    ),
-    (
-        "[[machine]]\nname = \"a\"\n\n[plant]\nname = \"a\"\n",
-        "line 4: the document: \"plant\" isn't a key here; known: machine, zone, motor, hazard",
-    ),
-    // A list has several lines: the line is the text's.
-    (
-        "[[machine]]\nname = \"a\"\nplaces = [\n  \"p\", # \"p\"\n  \"q\",\n  \"p\",\n]\n",
-        "line 6: machine a: places: \"p\" is defined twice, first on line 4",
-    ),
-    (
-        "[[machine]]\nname = \"a\"\nplaces = [\n  \"p\",\n  1,\n]\n",
-        "line 3: machine a: places: it takes a list of texts, such as [\"hand\", \"die\"]",
-    ),
-    // Poses stand in a list.
-    (
-        "\
+=>
+line 8: machine 2: name: \"a\" is defined twice, first on line 2
+=>
+A text of several lines hides a head; a key is in quotes.
+--
+[[machine]]
+name = \"a\"
+
+[[machine]]
+places = []
+
+[[machine]]
+name = \"b\"
+=>
+line 4: machine 2: name: it is missing
+=>
+A key is missing, and the next row has it: the line is the head's.
+--
+[[machine]]
+name = \"a\"
+places = []
+
+programs = [
+]
+=>
+line 5: machine a: \"programs\" isn't a key here; known: name, places, poses, program
+=>
+A key is unknown, and stands below known ones.
+--
+[[machine]]
+name = \"a\"
+
+[plant]
+name = \"a\"
+=>
+line 4: the document: \"plant\" isn't a key here; known: machine, zone, motor, hazard
+--
+[[machine]]
+name = \"a\"
+places = [
+  \"p\", # \"p\"
+  \"q\",
+  \"p\",
+]
+=>
+line 6: machine a: places: \"p\" is defined twice, first on line 4
+=>
+A list has several lines: the line is the text's.
+--
+[[machine]]
+name = \"a\"
+places = [
+  \"p\",
+  1,
+]
+=>
+line 3: machine a: places: it takes a list of texts, such as [\"hand\", \"die\"]
+--
 [[machine]]
 name = \"a\"
 poses = [
@@ -172,11 +233,11 @@ poses = [
   { name = \"y\", gives = {} },
   { name = \"x\", gives = {} },
 ]
-",
-        "line 8: machine a: pose 3: name: \"x\" is defined twice, first on line 4",
-    ),
-    (
-        "\
+=>
+line 8: machine a: pose 3: name: \"x\" is defined twice, first on line 4
+=>
+Poses stand in a list.
+--
 [[machine]]
 name = \"a\"
 poses = [{ name = \"x\", gives = {} }, {
@@ -185,20 +246,29 @@ poses = [{ name = \"x\", gives = {} }, {
     after_moving = \"]\",
   },
 ]
-",
-        "line 6: machine a: pose y: after_moving: it takes true or false",
-    ),
-    (
-        "[[machine]]\nname = \"a\"\nposes = [\n  { name = \"x\", gives = {} },\n  { name = \"y\" },\n]\n",
-        "line 5: machine a: pose y: gives: it is missing",
-    ),
-    (
-        "[[machine]]\nname = \"a\"\nposes = [\n  {\n    name = \"x\",\n    give = {},\n  },\n]\n",
-        "line 6: machine a: pose x: \"give\" isn't a key here; known: name, gives, after_moving",
-    ),
-    // Poses have heads, or keys with dots.
-    (
-        "\
+=>
+line 6: machine a: pose y: after_moving: it takes true or false
+--
+[[machine]]
+name = \"a\"
+poses = [
+  { name = \"x\", gives = {} },
+  { name = \"y\" },
+]
+=>
+line 5: machine a: pose y: gives: it is missing
+--
+[[machine]]
+name = \"a\"
+poses = [
+  {
+    name = \"x\",
+    give = {},
+  },
+]
+=>
+line 6: machine a: pose x: \"give\" isn't a key here; known: name, gives, after_moving
+--
 [[machine]]
 name = \"a\"
 [[machine.poses]]
@@ -214,194 +284,251 @@ gives = {}
 name = \"y\"
 [machine.poses.gives]
 y = \"closed\"
-",
-        "line 15: machine b: pose y: gives: no zone is named \"y\"",
-    ),
-    // All machines stand in a list.
-    (
-        "machine = [\n  { name = \"a\" },\n  { name = \"b\", program = [\"\"] },\n]\n",
-        "line 3: machine b: program: \"\" isn't a call: \
-         claim, give, yield, take or release with a zone, or pose with a pose",
-    ),
-    // What is no TOML.
-    (
-        "[[machine]]\r\n\r\nname = \r\n",
-        "line 3: this isn't TOML: invalid value, \
-         expected a string, number, boolean, date-time, array or inline table",
-    ),
-    (
-        "[[machine]]\nname = \"a\"\nname = \"b\"\n",
-        "line 3: this isn't TOML: duplicate key",
-    ),
-];
+=>
+line 15: machine b: pose y: gives: no zone is named \"y\"
+=>
+Poses have heads, or keys with dots.
+--
+machine = [
+  { name = \"a\" },
+  { name = \"b\", program = [\"\"] },
+]
+=>
+line 3: machine b: program: \"\" isn't a call: claim, give, yield, take or release with a zone, or pose with a pose
+=>
+All machines stand in a list.
+--
+[[machine]]\r
+\r
+name = \r
+=>
+line 3: this isn't TOML: invalid value, expected a string, number, boolean, date-time, array or inline table
+=>
+What is no TOML.
+--
+[[machine]]
+name = \"a\"
+name = \"b\"
+=>
+line 3: this isn't TOML: duplicate key
+";
 
 #[test]
 fn tells_lines(rt: HostRuntime) -> Result<(), AllocError> {
-    for (document, words) in PLACED {
-        let text = format!(in rt.alloc(); "fault plan {words}\n")?;
-        assert!(rt;
-            is_answered(rt.alloc(), b"check", document, 1, text.as_str()),
-            "{words}"
-        );
-    }
-    Ok(())
+    are_told(&rt, rt.alloc(), "", PLACED)
 }
 
-/// What comes after two machines, and the fault after `fault plan `.
-const LATER: &[(&str, &str)] = &[
-    (
-        "zone = 1\n",
-        "line 7: machine b: \"zone\" isn't a key here; known: name, places, poses, program",
-    ),
-    (
-        "[[zone]]\nname = \"z\"\n",
-        "line 7: zone z: host: it is missing",
-    ),
-    (
-        "[[zone]]\nname = \"z\"\nhost = \"pres\"\nguest = \"b\"\n",
-        "line 9: zone z: host: no machine is named \"pres\"",
-    ),
-    (
-        "[[zone]]\nname = \"z\"\nhost = \"a\"\nguest = \"c\"\n",
-        "line 10: zone z: guest: no machine is named \"c\"",
-    ),
-    (
-        "[[zone]]\nname = \"z\"\nhost = \"a\"\nguest = \"a\"\n",
-        "line 10: zone z: guest: the host is its own guest",
-    ),
-];
+/// What comes after two machines, each with its fault after `fault plan `.
+const LATER: &str = "\
+zone = 1
+=>
+line 7: machine b: \"zone\" isn't a key here; known: name, places, poses, program
+--
+[[zone]]
+name = \"z\"
+=>
+line 7: zone z: host: it is missing
+--
+[[zone]]
+name = \"z\"
+host = \"pres\"
+guest = \"b\"
+=>
+line 9: zone z: host: no machine is named \"pres\"
+--
+[[zone]]
+name = \"z\"
+host = \"a\"
+guest = \"c\"
+=>
+line 10: zone z: guest: no machine is named \"c\"
+--
+[[zone]]
+name = \"z\"
+host = \"a\"
+guest = \"a\"
+=>
+line 10: zone z: guest: the host is its own guest
+";
 
 #[test]
 fn tells_faults_of_zones(rt: HostRuntime) -> Result<(), AllocError> {
-    for (rest, words) in LATER {
-        let document = format!(in rt.alloc(); "{MACHINES}{rest}")?;
-        let text = format!(in rt.alloc(); "fault plan {words}\n")?;
-        assert!(rt;
-            is_answered(rt.alloc(), b"check", document.as_str(), 1, text.as_str()),
-            "{words}"
-        );
-    }
-    Ok(())
+    are_told(&rt, rt.alloc(), MACHINES, LATER)
 }
 
-/// What comes after two machines and a zone of the first, and the fault after `fault plan `.
-const LAST: &[(&str, &str)] = &[
-    (
-        "inward = [\"q\"]\n",
-        "line 11: zone z: inward: it takes two places: from which one, and to which",
-    ),
-    (
-        "inward = [\"q\", \"r\"]\n",
-        "line 11: zone z: inward: no place is named \"r\"",
-    ),
-    (
-        "inward = [\"p\", \"q\"]\n",
-        "line 11: zone z: inward: it leads from \"p\", which isn't a place of the guest, \"b\"",
-    ),
-    (
-        "inward = [\"q\", \"q\"]\n",
-        "line 11: zone z: inward: it leads to \"q\", which isn't a place of the host, \"a\"",
-    ),
-    (
-        "outward = [\"q\", \"p\"]\n",
-        "line 11: zone z: outward: it leads from \"q\", which isn't a place of the host, \"a\"",
-    ),
-    (
-        "outward = [\"p\", \"p\"]\n",
-        "line 11: zone z: outward: it leads to \"p\", which isn't a place of the guest, \"b\"",
-    ),
-    (
-        "inwards = [\"p\", \"q\"]\n",
-        "line 11: zone z: \"inwards\" isn't a key here; known: name, host, guest, inward, outward",
-    ),
-    (
-        "[[zone]]\nname = \"z\"\nhost = \"a\"\nguest = \"b\"\n",
-        "line 12: zone 2: name: \"z\" is defined twice, first on line 8",
-    ),
-    (
-        "[[machine]]\nname = \"c\"\nposes = [{ name = \"x\", gives = { z = \"closed\" } }]\n",
-        "line 13: machine c: pose x: gives: the machine doesn't host \"z\"",
-    ),
-    (
-        "[[machine]]\nname = \"c\"\nposes = [{ name = \"x\", gives = { z = \"shut\" } }]\n",
-        "line 13: machine c: pose x: gives: \"shut\" isn't a posture; known: closed, moving, openin, openout",
-    ),
-    (
-        "[[machine]]\nname = \"c\"\nprogram = [\"claim\"]\n",
-        "line 13: machine c: program: \"claim\" isn't a call: \
-         claim, give, yield, take or release with a zone, or pose with a pose",
-    ),
-    (
-        "[[machine]]\nname = \"c\"\nprogram = [\"inquire z\"]\n",
-        "line 13: machine c: program: \"inquire z\" isn't a call: \
-         claim, give, yield, take or release with a zone, or pose with a pose",
-    ),
-    (
-        "[[machine]]\nname = \"c\"\nprogram = [\"claim y\"]\n",
-        "line 13: machine c: program: no zone is named \"y\"",
-    ),
-    (
-        "[[machine]]\nname = \"c\"\nprogram = [\"pose y\"]\n",
-        "line 13: machine c: program: the machine has no pose \"y\"",
-    ),
-    (
-        "[[machine]]\nname = \"c\"\nprogram = [\n  \"claim w\", \"release w\",\n  \"claim y\", \"claim x\",\n]\n\
-         [[zone]]\nname = \"w\"\nhost = \"c\"\nguest = \"a\"\n",
-        "line 15: machine c: program: no zone is named \"y\"",
-    ),
-    (
-        "[[machine]]\nname = \"c\"\nprogram = [\n  \"claim z\",\n  \"claim y\",\n]\n",
-        "line 14: machine c: program: \"claim z\" is never done: \
-         the machine is neither host nor guest of the zone",
-    ),
-    (
-        "[[machine]]\nname = \"c\"\nplaces = [\"r\"]\nprogram = [\"take y\", \"give y\"]\n\
-         [[zone]]\nname = \"y\"\nhost = \"c\"\nguest = \"a\"\ninward = [\"p\", \"r\"]\n",
-        "line 14: machine c: program: \"give y\" is never done: the machine gives no plates through the zone",
-    ),
-    (
-        "[[machine]]\nname = \"c\"\nplaces = [\"r\"]\nprogram = [\"give y\", \"take y\"]\n\
-         [[zone]]\nname = \"y\"\nhost = \"c\"\nguest = \"a\"\noutward = [\"r\", \"p\"]\n",
-        "line 14: machine c: program: \"take y\" is never done: the machine takes no plates through the zone",
-    ),
-    (
-        "[[machine]]\nname = \"c\"\nposes = [{ name = \"d_x\", gives = {} }]\n\
-         [[machine]]\nname = \"c_d\"\nposes = [{ name = \"x\", gives = {} }]\n",
-        "line 16: machine c_d: pose 1: name: for C it is \"c_d_x\", and so is another pose's",
-    ),
-    (
-        "outward = [\n  \"p\",\n  \"r\",\n]\n",
-        "line 13: zone z: outward: no place is named \"r\"",
-    ),
-    (
-        "outward = [\n  \"q\",\n  \"p\",\n]\n",
-        "line 12: zone z: outward: it leads from \"q\", which isn't a place of the host, \"a\"",
-    ),
-    (
-        "\n[[zone]]\nname = \"y\"\nhost = \"b\"\nguest = \"a\"\ninward = [\"q\", \"p\"]\n",
-        "line 16: zone y: inward: it leads from \"q\", which isn't a place of the guest, \"a\"",
-    ),
-    (
-        "[[machine]]\nname = \"c\"\n[[machine.poses]]\nname = \"x\"\ngives.z = \"shut\"\n",
-        "line 15: machine c: pose x: gives: \"shut\" isn't a posture; known: closed, moving, openin, openout",
-    ),
-    (
-        "[[machine]]\nname = \"c\"\nposes = [{ name = \"x\", gives = {\n  z = \"moving\"\n} }]\n",
-        "line 14: machine c: pose x: gives: the machine doesn't host \"z\"",
-    ),
-];
+/// What comes after two machines and a zone of the first, each with its fault after `fault plan `.
+const LAST: &str = "\
+inward = [\"q\"]
+=>
+line 11: zone z: inward: it takes two places: from which one, and to which
+--
+inward = [\"q\", \"r\"]
+=>
+line 11: zone z: inward: no place is named \"r\"
+--
+inward = [\"p\", \"q\"]
+=>
+line 11: zone z: inward: it leads from \"p\", which isn't a place of the guest, \"b\"
+--
+inward = [\"q\", \"q\"]
+=>
+line 11: zone z: inward: it leads to \"q\", which isn't a place of the host, \"a\"
+--
+outward = [\"q\", \"p\"]
+=>
+line 11: zone z: outward: it leads from \"q\", which isn't a place of the host, \"a\"
+--
+outward = [\"p\", \"p\"]
+=>
+line 11: zone z: outward: it leads to \"p\", which isn't a place of the guest, \"b\"
+--
+inwards = [\"p\", \"q\"]
+=>
+line 11: zone z: \"inwards\" isn't a key here; known: name, host, guest, inward, outward
+--
+[[zone]]
+name = \"z\"
+host = \"a\"
+guest = \"b\"
+=>
+line 12: zone 2: name: \"z\" is defined twice, first on line 8
+--
+[[machine]]
+name = \"c\"
+poses = [{ name = \"x\", gives = { z = \"closed\" } }]
+=>
+line 13: machine c: pose x: gives: the machine doesn't host \"z\"
+--
+[[machine]]
+name = \"c\"
+poses = [{ name = \"x\", gives = { z = \"shut\" } }]
+=>
+line 13: machine c: pose x: gives: \"shut\" isn't a posture; known: closed, moving, openin, openout
+--
+[[machine]]
+name = \"c\"
+program = [\"claim\"]
+=>
+line 13: machine c: program: \"claim\" isn't a call: claim, give, yield, take or release with a zone, or pose with \
+a pose
+--
+[[machine]]
+name = \"c\"
+program = [\"inquire z\"]
+=>
+line 13: machine c: program: \"inquire z\" isn't a call: claim, give, yield, take or release with a zone, or pose \
+with a pose
+--
+[[machine]]
+name = \"c\"
+program = [\"claim y\"]
+=>
+line 13: machine c: program: no zone is named \"y\"
+--
+[[machine]]
+name = \"c\"
+program = [\"pose y\"]
+=>
+line 13: machine c: program: the machine has no pose \"y\"
+--
+[[machine]]
+name = \"c\"
+program = [
+  \"claim w\", \"release w\",
+  \"claim y\", \"claim x\",
+]
+[[zone]]
+name = \"w\"
+host = \"c\"
+guest = \"a\"
+=>
+line 15: machine c: program: no zone is named \"y\"
+--
+[[machine]]
+name = \"c\"
+program = [
+  \"claim z\",
+  \"claim y\",
+]
+=>
+line 14: machine c: program: \"claim z\" is never done: the machine is neither host nor guest of the zone
+--
+[[machine]]
+name = \"c\"
+places = [\"r\"]
+program = [\"take y\", \"give y\"]
+[[zone]]
+name = \"y\"
+host = \"c\"
+guest = \"a\"
+inward = [\"p\", \"r\"]
+=>
+line 14: machine c: program: \"give y\" is never done: the machine gives no plates through the zone
+--
+[[machine]]
+name = \"c\"
+places = [\"r\"]
+program = [\"give y\", \"take y\"]
+[[zone]]
+name = \"y\"
+host = \"c\"
+guest = \"a\"
+outward = [\"r\", \"p\"]
+=>
+line 14: machine c: program: \"take y\" is never done: the machine takes no plates through the zone
+--
+[[machine]]
+name = \"c\"
+poses = [{ name = \"d_x\", gives = {} }]
+[[machine]]
+name = \"c_d\"
+poses = [{ name = \"x\", gives = {} }]
+=>
+line 16: machine c_d: pose 1: name: for C it is \"c_d_x\", and so is another pose's
+--
+outward = [
+  \"p\",
+  \"r\",
+]
+=>
+line 13: zone z: outward: no place is named \"r\"
+--
+outward = [
+  \"q\",
+  \"p\",
+]
+=>
+line 12: zone z: outward: it leads from \"q\", which isn't a place of the host, \"a\"
+--
+
+[[zone]]
+name = \"y\"
+host = \"b\"
+guest = \"a\"
+inward = [\"q\", \"p\"]
+=>
+line 16: zone y: inward: it leads from \"q\", which isn't a place of the guest, \"a\"
+--
+[[machine]]
+name = \"c\"
+[[machine.poses]]
+name = \"x\"
+gives.z = \"shut\"
+=>
+line 15: machine c: pose x: gives: \"shut\" isn't a posture; known: closed, moving, openin, openout
+--
+[[machine]]
+name = \"c\"
+poses = [{ name = \"x\", gives = {
+  z = \"moving\"
+} }]
+=>
+line 14: machine c: pose x: gives: the machine doesn't host \"z\"
+";
 
 #[test]
 fn tells_later_faults(rt: HostRuntime) -> Result<(), AllocError> {
-    for (rest, words) in LAST {
-        let document = format!(in rt.alloc(); "{MACHINES}{ZONE}{rest}")?;
-        let text = format!(in rt.alloc(); "fault plan {words}\n")?;
-        assert!(rt;
-            is_answered(rt.alloc(), b"check", document.as_str(), 1, text.as_str()),
-            "{words}"
-        );
-    }
-    Ok(())
+    are_told(&rt, rt.alloc(), WITH_ZONE, LAST)
 }
 
 /// The fault of a program whose line 256 is line 269 of the document.
@@ -423,7 +550,7 @@ const PROGRAMS: &[(usize, &[u8], u8, &str)] = &[
 fn tells_a_long_program(rt: HostRuntime) -> Result<(), AllocError> {
     for row in PROGRAMS {
         let (lines, word, status, text) = *row;
-        let mut input = format!(in rt.alloc(); "{MACHINES}{ZONE}")?;
+        let mut input = format!(in rt.alloc(); "{WITH_ZONE}")?;
         input.push_str("[[machine]]\nname = \"c\"\nprogram = [\n")?;
         for _ in 0..lines {
             input.push_str("  \"claim y\",\n")?;

@@ -5,7 +5,7 @@ use std::alloc::{AllocError, Global};
 use std::str;
 
 /// How large a document is.
-#[derive(Clone, Copy, Debug)]
+#[derive(Clone, Copy)]
 struct Size {
     machines: usize,
     /// Of each machine.
@@ -199,7 +199,7 @@ fn accepts_the_largest(rt: HostRuntime) -> Result<(), AllocError> {
     for row in ACCEPTED {
         let (size, part) = *row;
         let document = document_of(rt.alloc(), size)?;
-        assert!(rt; is_told(rt.alloc(), document.as_str(), 0, part), "{row:?}");
+        assert!(rt; is_told(rt.alloc(), document.as_str(), 0, part), "{part}");
     }
     Ok(())
 }
@@ -212,7 +212,7 @@ fn refuses_larger_ones(rt: HostRuntime) -> Result<(), AllocError> {
         let text = format!(in rt.alloc(); "fault plan {words}\n")?;
         assert!(rt;
             is_answered(rt.alloc(), b"check", document.as_str(), 1, text.as_str()),
-            "{row:?}"
+            "{words}"
         );
     }
     Ok(())

@@ -4,7 +4,7 @@ use super::answered_examples::PRESS;
 use super::doubles::run;
 use program_shell::VERSION;
 use std::alloc::{AllocError, Global};
-use test_doubles::{FailingReader, FailingWriter};
+use test_doubles::{FailingReader, FailingWriter, arguments_in, count_parts, part};
 
 const OTHER_WORDS: &str =
     "error: the only argument is check, replay, explore, header, --help or --version\n";
@@ -13,18 +13,7 @@ const NO_TEXT: &str = "error: a word isn't UTF-8\n";
 
 /// Arguments, the status and the text.
 const ROWS: &[(&[&[u8]], u8, &str)] = &[
-    (&[b"./plan"], 2, OTHER_WORDS),
     (&[], 2, OTHER_WORDS),
-    (&[b"./plan", b"sim"], 2, OTHER_WORDS),
-    (&[b"./plan", b"check", b"check"], 2, OTHER_WORDS),
-    (&[b"./plan", b"checks", b"--help"], 2, OTHER_WORDS),
-    (&[b"./plan", b"check", b"replay", b"--help"], 2, OTHER_WORDS),
-    (&[b"./plan", b"--version", b"--help"], 2, OTHER_WORDS),
-    (&[b"./plan", b"check", b"--version"], 2, OTHER_WORDS),
-    (&[b"./plan", b"help"], 2, OTHER_WORDS),
-    (&[b"./plan", b"header", b"--rust"], 2, OTHER_WORDS),
-    (&[b"./plan", b"check", b"--python"], 2, OTHER_WORDS),
-    (&[b"./plan", b""], 2, OTHER_WORDS),
     (&[b"./plan", b"\xff"], 2, NO_TEXT),
     (&[b"bad\xff", b"checks"], 2, OTHER_WORDS),
     (
@@ -34,42 +23,74 @@ const ROWS: &[(&[&[u8]], u8, &str)] = &[
     ),
 ];
 
-#[test]
-fn serves(rt: HostRuntime) {
-    for row in ROWS {
-        let (arguments, status, text) = *row;
-        let mut written = Vec::new(rt.alloc());
-        let found = run(rt.alloc(), arguments, &mut "".as_bytes(), &mut written);
-        assert!(rt;
-            found == status && written.as_slice() == text.as_bytes(),
-            "{row:?}"
-        );
+/// Lines of words that are refused. Bars separate the lines.
+const ASTRAY: &str = "\
+    ./plan|\
+    ./plan sim|\
+    ./plan check check|\
+    ./plan checks --help|\
+    ./plan check replay --help|\
+    ./plan --version --help|\
+    ./plan check --version|\
+    ./plan help|\
+    ./plan header --rust|\
+    ./plan check --python|\
+    ./plan ";
+
+/// Whether the program answers these arguments and an empty input with this status and text.
+fn is_served(alloc: Global, arguments: &[&[u8]], status: u8, text: &str) -> bool {
+    let mut written = Vec::new(alloc);
+    let found = run(alloc, arguments, &mut "".as_bytes(), &mut written);
+    found == status && written.as_slice() == text.as_bytes()
+}
+
+/// Whether these words are refused.
+fn is_refused(alloc: Global, line: &str) -> bool {
+    match arguments_in(alloc, line) {
+        Ok(arguments) => is_served(alloc, arguments.as_slice(), 2, OTHER_WORDS),
+        Err(_) => false,
     }
 }
 
-/// Arguments that ask for help.
-const HELPS: &[&[&[u8]]] = &[
-    &[b"./plan", b"--help"],
-    &[b"./plan", b"-h", b"checks"],
-    &[b"./plan", b"check", b"--help"],
-    &[b"./plan", b"replay", b"-h"],
-    &[b"./plan", b"explore", b"--help", b"--version"],
-    &[b"./plan", b"header", b"--help"],
-];
+#[test]
+fn serves(rt: HostRuntime) {
+    for (arguments, status, text) in ROWS {
+        assert!(rt; is_served(rt.alloc(), arguments, *status, text), "{text}");
+    }
+    for number in 0..count_parts(ASTRAY, "|") {
+        let line = part(ASTRAY, "|", number);
+        assert!(rt; is_refused(rt.alloc(), line), "{line}");
+    }
+}
+
+/// Lines of words that ask for help.
+const HELPS: &str = "\
+    ./plan --help|\
+    ./plan -h checks|\
+    ./plan check --help|\
+    ./plan replay -h|\
+    ./plan explore --help --version|\
+    ./plan header --help";
+
+/// Whether these words are answered with the help, and the input is left alone.
+fn is_helped(alloc: Global, line: &str) -> bool {
+    let Ok(arguments) = arguments_in(alloc, line) else {
+        return false;
+    };
+    let mut reader = PRESS.as_bytes();
+    let mut written = Vec::new(alloc);
+    let status = run(alloc, arguments.as_slice(), &mut reader, &mut written);
+    let is_help = written
+        .as_slice()
+        .starts_with(b"Reads a plan of a plant, in TOML");
+    status == 0 && is_help && reader.len() == PRESS.len()
+}
 
 #[test]
 fn helps(rt: HostRuntime) {
-    for arguments in HELPS {
-        let mut reader = PRESS.as_bytes();
-        let mut written = Vec::new(rt.alloc());
-        let status = run(rt.alloc(), arguments, &mut reader, &mut written);
-        let is_help = written
-            .as_slice()
-            .starts_with(b"Reads a plan of a plant, in TOML");
-        assert!(rt;
-            status == 0 && is_help && reader.len() == PRESS.len(),
-            "{arguments:?}"
-        );
+    for number in 0..count_parts(HELPS, "|") {
+        let line = part(HELPS, "|", number);
+        assert!(rt; is_helped(rt.alloc(), line), "{line}");
     }
 }
 
