@@ -9,7 +9,7 @@ use cell_types::Machine;
 use std::alloc::{AllocError, Global};
 use std::process::Abort;
 use std::test::Fail;
-use test_doubles::FailingReader;
+use test_doubles::{FailingReader, count_parts, part};
 
 /// The points of an axis from 0 to `end`.
 fn axis(raw_lo: u16, raw_hi: u16, end: i32, tol: i32) -> Result<Points, Fail> {
@@ -25,184 +25,159 @@ fn judgement_of(alloc: Global, bytes: &[u8]) -> &'static str {
     }
 }
 
-/// Checks how each text is judged after a good start.
-fn are_judged_beside_start(
+/// Checks how the text of each row is judged after this beginning. Bars separate the rows; in a row an arrow separates
+/// the text from its judgement.
+fn are_judged_after(
     rt: &impl Abort,
     alloc: Global,
-    rows: &[(&str, &str)],
+    begin: &str,
+    rows: &str,
 ) -> Result<(), AllocError> {
-    for (more, wanted) in rows {
-        let mut text = String::from_str(alloc, "start = \"0000000000\"\n")?;
-        text.push_str(more)?;
-        assert!(rt; judgement_of(alloc, text.as_bytes()) == *wanted, "{more}");
+    for number in 0..count_parts(rows, "|") {
+        let row = part(rows, "|", number);
+        let mut text = String::from_str(alloc, begin)?;
+        text.push_str(part(row, " => ", 0))?;
+        let judgement = judgement_of(alloc, text.as_bytes());
+        assert!(rt; judgement == part(row, " => ", 1), "{row}");
     }
     Ok(())
 }
 
-const TEXTS: &[(&str, &str)] = &[
-    ("", "config missing"),
-    ("stamp = -1", "config missing"),
-    ("colour = 1", "config unknown"),
-    ("Start = \"0000000000\"", "config unknown"),
-    ("start = 5\ncolour = 1", "config unknown"),
-    ("start = 5\narm1.colour = 1", "config unknown"),
-    ("start = \"00", "config text"),
-    (
-        "start = \"0000000000\"\nstart = \"0000000000\"",
-        "config text",
-    ),
-    ("start = 5", "config kind"),
-    ("start = 5\nstamp = -1", "config kind"),
-    ("start = \"000\"", "config start"),
-    ("start = \"00000000000\"", "config start"),
-    ("start = \"000000000 \"", "config start"),
-    ("start = \"0000000002\"", "config start"),
-    ("start = \"0000110000\"", "config start"),
-    ("start = \"1111100110\"", "config start"),
-    ("start = \"000\"\nstamp = \"0\"", "config start"),
-    ("start = \"000\"\narm1 = 3", "config start"),
-    ("start = \"0000110000\"\nstamp = -1", "config range"),
-    ("start = \"0000110000\"\nstamp = \"0\"", "config kind"),
-    ("schedule = 5\nstart = \"0000110000\"", "config start"),
-];
+const START: &str = "start = \"0000000000\"\n";
+
+const TEXTS: &str = "\
+    \u{20}=> config missing|\
+    stamp = -1 => config missing|\
+    colour = 1 => config unknown|\
+    Start = \"0000000000\" => config unknown|\
+    start = 5\ncolour = 1 => config unknown|\
+    start = 5\narm1.colour = 1 => config unknown|\
+    start = \"00 => config text|\
+    start = \"0000000000\"\nstart = \"0000000000\" => config text|\
+    start = 5 => config kind|\
+    start = 5\nstamp = -1 => config kind|\
+    start = \"000\" => config start|\
+    start = \"00000000000\" => config start|\
+    start = \"000000000 \" => config start|\
+    start = \"0000000002\" => config start|\
+    start = \"0000110000\" => config start|\
+    start = \"1111100110\" => config start|\
+    start = \"000\"\nstamp = \"0\" => config start|\
+    start = \"000\"\narm1 = 3 => config start|\
+    start = \"0000110000\"\nstamp = -1 => config range|\
+    start = \"0000110000\"\nstamp = \"0\" => config kind|\
+    schedule = 5\nstart = \"0000110000\" => config start";
 
 #[test]
-fn refuses_texts(rt: HostRuntime) {
-    for (text, wanted) in TEXTS {
-        assert!(rt;
-            judgement_of(rt.alloc(), text.as_bytes()) == *wanted,
-            "{text}"
-        );
-    }
+fn refuses_texts(rt: HostRuntime) -> Result<(), AllocError> {
     assert!(rt; judgement_of(rt.alloc(), b"\xff") == "config text");
+    are_judged_after(&rt, rt.alloc(), "", TEXTS)
 }
 
-const VALUES: &[(&str, &str)] = &[
-    ("stamp = 9223372036854775808", "config text"),
-    ("stamp = 1e400", "config text"),
-    ("stamp = 1.0", "config kind"),
-    ("stamp = true", "config kind"),
-    ("stamp = -1", "config range"),
-    ("stamp = 1048576", "config range"),
-    ("schedule = 5", "config kind"),
-    ("schedule = [\"p\"]", "config kind"),
-    ("schedule = \"x\"", "config letter"),
-    ("schedule = \"v\"", "config letter"),
-    ("schedule = \"wV\"", "config letter"),
-    ("schedule = \"p p\"", "config letter"),
-    ("schedule = \"pé\"", "config letter"),
-    ("arm1 = 3", "config kind"),
-    ("arm1 = [0, 4000]", "config kind"),
-    ("[[arm2]]\ntol = 5", "config kind"),
-    ("arm1.raw = 4000", "config kind"),
-    ("arm1.raw = []", "config kind"),
-    ("arm1.raw = [0]", "config kind"),
-    ("arm1.raw = [0, 2000, 4000]", "config kind"),
-    ("arm1.raw = [0, 4000.0]", "config kind"),
-    ("arm1.raw = [\"0\", 4000]", "config kind"),
-    ("arm1.raw = [[0, 4000]]", "config kind"),
-    ("arm1.raw = [-1, \"4000\"]", "config kind"),
-    ("arm1.raw = [0, 999]", "config range"),
-    ("arm2.raw = [3000, 3999]", "config range"),
-    ("rotation.raw = [0, 1999]", "config range"),
-    ("turn.raw = [0, 499]", "config range"),
-    ("gripper.raw = [0, 999]", "config range"),
-    ("arm1.raw = [4000, 0]", "config range"),
-    ("arm1.raw = [-1, 4000]", "config range"),
-    ("arm1.raw = [0, 65536]", "config range"),
-    (
-        "arm1.raw = [-9223372036854775808, 9223372036854775807]",
-        "config range",
-    ),
-    ("turn.tol = 11", "config range"),
-    ("turn.tol = 0", "config range"),
-    ("turn.tol = 5.0", "config kind"),
-    ("arm1.points = 5", "config kind"),
-    ("arm1.points = [0, 1000]", "config kind"),
-    ("arm1.points = [[0, 0]]", "config range"),
-    ("arm1.points = [[0, 0], [3999, 1000]]", "config range"),
-    (
-        "arm1.points = [[0, 0], [2000, 505], [4000, 1000]]",
-        "config range",
-    ),
-    // 33 pairs
-    (
-        "arm1.points = [[0, 0], [4, 1], [8, 2], [12, 3], [16, 4], [20, 5], [24, 6], [28, 7], \
-        [32, 8], [36, 9], [40, 10], [44, 11], [48, 12], [52, 13], [56, 14], [60, 15], \
-        [64, 16], [68, 17], [72, 18], [76, 19], [80, 20], [84, 21], [88, 22], [92, 23], \
-        [96, 24], [100, 25], [104, 26], [108, 27], [112, 28], [116, 29], [120, 30], \
-        [124, 31], [4000, 1000]]",
-        "config range",
-    ),
-];
+const VALUES: &str = "\
+    stamp = 9223372036854775808 => config text|\
+    stamp = 1e400 => config text|\
+    stamp = 1.0 => config kind|\
+    stamp = true => config kind|\
+    stamp = -1 => config range|\
+    stamp = 1048576 => config range|\
+    schedule = 5 => config kind|\
+    schedule = [\"p\"] => config kind|\
+    schedule = \"x\" => config letter|\
+    schedule = \"v\" => config letter|\
+    schedule = \"wV\" => config letter|\
+    schedule = \"p p\" => config letter|\
+    schedule = \"pé\" => config letter|\
+    arm1 = 3 => config kind|\
+    arm1 = [0, 4000] => config kind|\
+    [[arm2]]\ntol = 5 => config kind|\
+    arm1.raw = 4000 => config kind|\
+    arm1.raw = [] => config kind|\
+    arm1.raw = [0] => config kind|\
+    arm1.raw = [0, 2000, 4000] => config kind|\
+    arm1.raw = [0, 4000.0] => config kind|\
+    arm1.raw = [\"0\", 4000] => config kind|\
+    arm1.raw = [[0, 4000]] => config kind|\
+    arm1.raw = [-1, \"4000\"] => config kind|\
+    arm1.raw = [0, 999] => config range|\
+    arm2.raw = [3000, 3999] => config range|\
+    rotation.raw = [0, 1999] => config range|\
+    turn.raw = [0, 499] => config range|\
+    gripper.raw = [0, 999] => config range|\
+    arm1.raw = [4000, 0] => config range|\
+    arm1.raw = [-1, 4000] => config range|\
+    arm1.raw = [0, 65536] => config range|\
+    arm1.raw = [-9223372036854775808, 9223372036854775807] => config range|\
+    turn.tol = 11 => config range|\
+    turn.tol = 0 => config range|\
+    turn.tol = 5.0 => config kind|\
+    arm1.points = 5 => config kind|\
+    arm1.points = [0, 1000] => config kind|\
+    arm1.points = [[0, 0]] => config range|\
+    arm1.points = [[0, 0], [3999, 1000]] => config range|\
+    arm1.points = [[0, 0], [2000, 505], [4000, 1000]] => config range|\
+    arm1.points = [[0, 0], [4, 1], [8, 2], [12, 3], [16, 4], [20, 5], [24, 6], [28, 7], [32, 8], [36, 9], \
+        [40, 10], [44, 11], [48, 12], [52, 13], [56, 14], [60, 15], [64, 16], [68, 17], [72, 18], [76, 19], \
+        [80, 20], [84, 21], [88, 22], [92, 23], [96, 24], [100, 25], [104, 26], [108, 27], [112, 28], [116, \
+        29], [120, 30], [124, 31], [4000, 1000]] \
+        => config range";
 
-const LIMITS: &[(&str, &str)] = &[
-    ("", "well"),
-    ("stamp = 1048575", "well"),
-    ("schedule = \"\"", "well"),
-    ("turn.raw = [0, 500]", "well"),
-    ("arm1.raw = [0, 1000]", "well"),
-    ("arm2.raw = [64535, 65535]", "well"),
-    ("rotation = { raw = [1, 2001], tol = 1 }", "well"),
-    ("[gripper]\ntol = 10", "well"),
-    ("[gripper]", "well"),
-    ("arm1.points = [[0, 0], [4000, 1000]]", "well"),
-    ("arm1.points = [[0, 0], [2000, 504], [4000, 1000]]", "well"),
-    // 32 pairs, the most
-    (
-        "arm1.points = [[0, 0], [4, 1], [8, 2], [12, 3], [16, 4], [20, 5], [24, 6], [28, 7], \
-        [32, 8], [36, 9], [40, 10], [44, 11], [48, 12], [52, 13], [56, 14], [60, 15], \
-        [64, 16], [68, 17], [72, 18], [76, 19], [80, 20], [84, 21], [88, 22], [92, 23], \
-        [96, 24], [100, 25], [104, 26], [108, 27], [112, 28], [116, 29], [120, 30], \
-        [4000, 1000]]",
-        "well",
-    ),
-];
+const LIMITS: &str = "\
+    \u{20}=> well|\
+    stamp = 1048575 => well|\
+    schedule = \"\" => well|\
+    turn.raw = [0, 500] => well|\
+    arm1.raw = [0, 1000] => well|\
+    arm2.raw = [64535, 65535] => well|\
+    rotation = { raw = [1, 2001], tol = 1 } => well|\
+    [gripper]\ntol = 10 => well|\
+    [gripper] => well|\
+    arm1.points = [[0, 0], [4000, 1000]] => well|\
+    arm1.points = [[0, 0], [2000, 504], [4000, 1000]] => well|\
+    arm1.points = [[0, 0], [4, 1], [8, 2], [12, 3], [16, 4], [20, 5], [24, 6], [28, 7], [32, 8], [36, 9], \
+        [40, 10], [44, 11], [48, 12], [52, 13], [56, 14], [60, 15], [64, 16], [68, 17], [72, 18], [76, 19], \
+        [80, 20], [84, 21], [88, 22], [92, 23], [96, 24], [100, 25], [104, 26], [108, 27], [112, 28], [116, \
+        29], [120, 30], [4000, 1000]] \
+        => well";
 
 #[test]
-fn accepts_limits(rt: HostRuntime) -> Result<(), Fail> {
-    Ok(are_judged_beside_start(&rt, rt.alloc(), LIMITS)?)
+fn accepts_limits(rt: HostRuntime) -> Result<(), AllocError> {
+    are_judged_after(&rt, rt.alloc(), START, LIMITS)
 }
 
 // The forms of TOML 1.1, and their limits.
-const FORMS: &[(&str, &str)] = &[
-    ("stamp = 0x_7", "config text"),
-    ("stamp = 0xF_F", "well"),
-    ("stamp = 0o17", "well"),
-    ("stamp = 0b1", "well"),
-    ("stamp = +1_000", "well"),
-    ("stamp = 01", "config text"),
-    ("\"stamp\" = 1", "well"),
-    ("'stamp' = 1", "well"),
-    ("stamp = 1\r\nschedule = 'p'", "well"),
-    ("schedule = 'ftrpdcw'", "well"),
-    ("schedule = \"\"\"\nft\\\n  rp\"\"\"", "well"),
-    ("schedule = '''\nft'''", "well"),
-    ("schedule = '''f\nt'''", "config letter"),
-    ("schedule = \"\\u0070\\x70\"", "well"),
-    ("schedule = \"\\p\"", "config text"),
-    (
-        "arm1 = { raw = [\n  0, # at the near end\n  4000,\n], tol = 5 }",
-        "well",
-    ),
-    ("arm1 = {\n  raw = [0, 4000],\n  tol = 5,\n}", "well"),
-    ("arm1.raw = [0, 4000]\narm1.tol = 5", "well"),
-    ("[ arm1 ]\nraw = [0, 4000]\n[ 'arm2' ]\ntol = 5", "well"),
-    ("[arm1]\ntol = 5\n[arm1]\nraw = [0, 4000]", "config text"),
-    ("arm1 = {}\narm1.tol = 5", "config text"),
-    ("stamp = 1 schedule = \"p\"", "config text"),
-    ("stamp = 2026-11-22", "config kind"),
-    ("stamp = inf", "config kind"),
-    ("arm1.raw = [[[[0]]]]", "config kind"),
-    ("# only a comment", "well"),
-];
+const FORMS: &str = "\
+    stamp = 0x_7 => config text|\
+    stamp = 0xF_F => well|\
+    stamp = 0o17 => well|\
+    stamp = 0b1 => well|\
+    stamp = +1_000 => well|\
+    stamp = 01 => config text|\
+    \"stamp\" = 1 => well|\
+    'stamp' = 1 => well|\
+    stamp = 1\r\nschedule = 'p' => well|\
+    schedule = 'ftrpdcw' => well|\
+    schedule = \"\"\"\nft\\\n  rp\"\"\" => well|\
+    schedule = '''\nft''' => well|\
+    schedule = '''f\nt''' => config letter|\
+    schedule = \"\\u0070\\x70\" => well|\
+    schedule = \"\\p\" => config text|\
+    arm1 = { raw = [\n  0, # at the near end\n  4000,\n], tol = 5 } => well|\
+    arm1 = {\n  raw = [0, 4000],\n  tol = 5,\n} => well|\
+    arm1.raw = [0, 4000]\narm1.tol = 5 => well|\
+    [ arm1 ]\nraw = [0, 4000]\n[ 'arm2' ]\ntol = 5 => well|\
+    [arm1]\ntol = 5\n[arm1]\nraw = [0, 4000] => config text|\
+    arm1 = {}\narm1.tol = 5 => config text|\
+    stamp = 1 schedule = \"p\" => config text|\
+    stamp = 2026-11-22 => config kind|\
+    stamp = inf => config kind|\
+    arm1.raw = [[[[0]]]] => config kind|\
+    # only a comment => well";
 
 #[test]
-fn judges_what_stands_beside_a_start(rt: HostRuntime) -> Result<(), Fail> {
-    for rows in [VALUES, FORMS] {
-        are_judged_beside_start(&rt, rt.alloc(), rows)?;
-    }
-    Ok(())
+fn judges_what_stands_beside_a_start(rt: HostRuntime) -> Result<(), AllocError> {
+    are_judged_after(&rt, rt.alloc(), START, VALUES)?;
+    are_judged_after(&rt, rt.alloc(), START, FORMS)
 }
 
 /// The judgement of a value with this depth of nested arrays.

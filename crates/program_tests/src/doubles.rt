@@ -7,6 +7,7 @@ use std::io;
 use std::io::{ErrorKind, Read, Write};
 use std::sync::Wait;
 use std::thread::Threads;
+use test_doubles::words_in;
 
 /// The exit status of a run of the program. It has no clauses, so the rows don't carry those of
 /// `serve`.
@@ -18,6 +19,20 @@ pub fn run<T: Threads + Wait + Sync, R: Read, W: Write>(
     writer: &mut W,
 ) -> u8 {
     serve(rt, alloc, words, reader, writer)
+}
+
+/// The same by a line of words, with a blank between each two of them; 255 if there is no memory for them.
+pub fn run_line<T: Threads + Wait + Sync, R: Read, W: Write>(
+    rt: &T,
+    alloc: Global,
+    line: &str,
+    reader: &mut R,
+    writer: &mut W,
+) -> u8 {
+    match words_in(alloc, line) {
+        Ok(words) => run(rt, alloc, words.as_slice(), reader, writer),
+        Err(_) => 255,
+    }
 }
 
 /// Whether the program answers these words and what a reader gives with this status and this text.

@@ -6,13 +6,10 @@ use super::simulations::SIM;
 use std::alloc::Global;
 use std::sync::Wait;
 use std::thread::Threads;
+use test_doubles::{count_parts, part};
 
 /// How a report begins if no place is full and the first stamp is 0.
 const NO_PLATES: &str = "version 2\nstart 0000000000 0\n";
-
-/// The report's first three lines if the feed belt's two turns find the interlock busy.
-const TWO_BUSY: &str =
-    "version 2\nstart 0000000000 0\nfeed turns 2 done 0 read 0 refused 0 busy 2 ok\n";
 
 /// Whether `cell sim` refuses a configuration with this word, or answers it with a report that begins
 /// with this text.
@@ -34,98 +31,111 @@ fn says(status: u8, written: &[u8], wanted: &str) -> bool {
     }
 }
 
-/// Whole configurations.
-const SENT: &[(&str, &str)] = &[
-    // None, or one that says nothing.
-    ("", "missing"),
-    ("\n", "missing"),
-    ("\r\n\r\n", "missing"),
-    (" \t", "missing"),
-    ("# start = \"0000000000\"", "missing"),
-    ("[turn]\ntol = 3", "missing"),
-    ("colour = 1", "unknown"),
-    ("[turn]\ntol = 3\nstart = \"0000000000\"\n", "unknown"),
-    // Line ends of Windows, also within a text, and with none at the end.
-    (
-        "start = \"0000000000\"\r\nstamp = 1\r\n[turn]\r\ntol = 3\r\n",
-        "version 2\nstart 0000000000 1\n",
-    ),
-    (
-        "# no plates\r\nstart = \"0000000000\" # none\r\n\r\nstamp = 1",
-        "version 2\nstart 0000000000 1\n",
-    ),
-    (
-        "start = \"0000000000\"\r\nschedule = \"\"\"\r\nF\\\r\n  F\"\"\"\r\n",
-        TWO_BUSY,
-    ),
-    (
-        "start = \"0000000000\"\r\nschedule = '''\r\nF\r\nF'''\r\n",
-        "letter",
-    ),
-    // A return alone ends no line.
-    ("start = \"0000000000\"\rstamp = 1\r", "text"),
-    ("start = \"0000000000\"\n\r", "text"),
-    ("# no plates\rstart = \"0000000000\"", "text"),
-    // A byte order mark is dropped at the very beginning alone.
-    ("\u{feff}", "missing"),
-    ("\u{feff}start = \"0000000000\"\r\n", NO_PLATES),
-    ("\u{feff}\r\n[turn]\r\ntol = 3\r\n", "missing"),
-    ("\u{feff}\u{feff}start = \"0000000000\"", "text"),
-    ("\n\u{feff}start = \"0000000000\"", "text"),
-    ("start = \"0000000000\"\u{feff}", "text"),
-    ("start = \"\u{feff}0000000000\"", "start"),
-    ("start = \"0000000000\" # \u{feff}", NO_PLATES),
-    // Zero bytes, and other characters that don't print.
-    ("\u{0}", "text"),
-    ("start = \"0000000000\"\n\u{0}", "text"),
-    ("start = \"0000000000\" # \u{0}", "text"),
-    ("start = \"000000000\u{0}\"", "text"),
-    ("start = '000000000\u{0}'", "text"),
-    ("start\u{0} = \"0000000000\"", "text"),
-    ("start = \"000000000\\u0000\"", "start"),
-    ("start = \"0000000000\"\r\n\u{1a}", "text"),
-    ("start = \"0000000000\" # \u{7f}", "text"),
-    ("start = \"0000000000\"\u{c}", "text"),
-    ("start = \"000000000\t\"", "start"),
-    ("\tstart\t=\t\"0000000000\"\t#\t", NO_PLATES),
-    // Blanks, quotes, digits and letters that only look alike.
-    ("start = \"0000000000\"\u{a0}", "text"),
-    ("start = \"0000000000\"\u{2028}", "text"),
-    ("start = \u{201c}0000000000\u{201d}", "text"),
-    ("start = \"000000000\u{ff10}\"", "start"),
-    ("start = \"000000000\u{660}\"", "start"),
-    ("\"st\u{430}rt\" = \"0000000000\"", "unknown"),
-    // The start without quotes, with others, or in them and more.
-    ("start = 0000000000", "text"),
-    ("start = 1111100010", "kind"),
-    ("start = 0b1111100010", "kind"),
-    ("start = 0", "kind"),
-    ("start = 5", "kind"),
-    ("start = true", "kind"),
-    ("start = [\"0000000000\"]", "kind"),
-    ("start = {}", "kind"),
-    ("[start]", "kind"),
-    ("[[start]]", "kind"),
-    ("start", "text"),
-    ("start =", "text"),
-    ("start = \"00", "text"),
-    ("start = \"0000000000", "text"),
-    ("start = \"\"", "start"),
-    ("start = \"000\"", "start"),
-    ("start = \"0000110000\"", "start"),
-    ("start = \"0000110000\"\nstamp = -1", "range"),
-    ("start = '0000000000'", NO_PLATES),
-    ("start = \"0000000000\\n\"", "start"),
-    ("start = \"\\u0030000000000\"", NO_PLATES),
-    ("start = \"\"\"\n0000000000\"\"\"", NO_PLATES),
-    ("start = \"\"\"0000000000\n\"\"\"", "start"),
-    // Scripts and other formats.
-    ("start,0000000000\npress,claim,z3\n", "text"),
-    ("{\"start\": \"0000000000\"}", "text"),
-    ("start: \"0000000000\"", "text"),
-    ("start = \"0000000000\";", "text"),
-    ("start = \"0000000000\",\nstamp = 1", "text"),
-    ("// no plates\nstart = \"0000000000\"", "text"),
+/// None, or one that says nothing.
+const NOTHING: &str = "\
+    \u{20}=> missing|\
+    \n => missing|\
+    \r\n\r\n => missing|\
+    \u{20}\t => missing|\
+    # start = \"0000000000\" => missing|\
+    [turn]\ntol = 3 => missing|\
+    colour = 1 => unknown|\
+    [turn]\ntol = 3\nstart = \"0000000000\"\n => unknown";
+
+/// Line ends of Windows, also within a text, and with none at the end.
+const WINDOWS: &str = "\
+    start = \"0000000000\"\r\nstamp = 1\r\n[turn]\r\ntol = 3\r\n => version 2\nstart 0000000000 1\n|\
+    # no plates\r\nstart = \"0000000000\" # none\r\n\r\nstamp = 1 => version 2\nstart 0000000000 1\n|\
+    start = \"0000000000\"\r\nschedule = \"\"\"\r\nF\\\r\n  F\"\"\"\r\n \
+        => version 2\nstart 0000000000 0\nfeed turns 2 done 0 read 0 refused 0 busy 2 ok\n|\
+    start = \"0000000000\"\r\nschedule = '''\r\nF\r\nF'''\r\n => letter";
+
+/// A return alone ends no line.
+const RETURNS: &str = "\
+    start = \"0000000000\"\rstamp = 1\r => text|\
+    start = \"0000000000\"\n\r => text|\
+    # no plates\rstart = \"0000000000\" => text";
+
+/// A byte order mark is dropped at the very beginning alone.
+const MARKS: &str = "\
+    \u{feff} => missing|\
+    \u{feff}start = \"0000000000\"\r\n => version 2\nstart 0000000000 0\n|\
+    \u{feff}\r\n[turn]\r\ntol = 3\r\n => missing|\
+    \u{feff}\u{feff}start = \"0000000000\" => text|\
+    \n\u{feff}start = \"0000000000\" => text|\
+    start = \"0000000000\"\u{feff} => text|\
+    start = \"\u{feff}0000000000\" => start|\
+    start = \"0000000000\" # \u{feff} => version 2\nstart 0000000000 0\n";
+
+/// Zero bytes, and other characters that don't print.
+const UNPRINTABLE: &str = "\
+    \u{0} => text|\
+    start = \"0000000000\"\n\u{0} => text|\
+    start = \"0000000000\" # \u{0} => text|\
+    start = \"000000000\u{0}\" => text|\
+    start = '000000000\u{0}' => text|\
+    start\u{0} = \"0000000000\" => text|\
+    start = \"000000000\\u0000\" => start|\
+    start = \"0000000000\"\r\n\u{1a} => text|\
+    start = \"0000000000\" # \u{7f} => text|\
+    start = \"0000000000\"\u{c} => text|\
+    start = \"000000000\t\" => start|\
+    \tstart\t=\t\"0000000000\"\t#\t => version 2\nstart 0000000000 0\n";
+
+/// Blanks, quotes, digits and letters that only look alike.
+const ALIKE: &str = "\
+    start = \"0000000000\"\u{a0} => text|\
+    start = \"0000000000\"\u{2028} => text|\
+    start = \u{201c}0000000000\u{201d} => text|\
+    start = \"000000000\u{ff10}\" => start|\
+    start = \"000000000\u{660}\" => start|\
+    \"st\u{430}rt\" = \"0000000000\" => unknown";
+
+/// The start without quotes, with others, or in them and more.
+const STARTS: &str = "\
+    start = 0000000000 => text|\
+    start = 1111100010 => kind|\
+    start = 0b1111100010 => kind|\
+    start = 0 => kind|\
+    start = 5 => kind|\
+    start = true => kind|\
+    start = [\"0000000000\"] => kind|\
+    start = {} => kind|\
+    [start] => kind|\
+    [[start]] => kind|\
+    start => text|\
+    start = => text|\
+    start = \"00 => text|\
+    start = \"0000000000 => text|\
+    start = \"\" => start|\
+    start = \"000\" => start|\
+    start = \"0000110000\" => start|\
+    start = \"0000110000\"\nstamp = -1 => range|\
+    start = '0000000000' => version 2\nstart 0000000000 0\n|\
+    start = \"0000000000\\n\" => start|\
+    start = \"\\u0030000000000\" => version 2\nstart 0000000000 0\n|\
+    start = \"\"\"\n0000000000\"\"\" => version 2\nstart 0000000000 0\n|\
+    start = \"\"\"0000000000\n\"\"\" => start";
+
+/// Scripts and other formats.
+const FORMATS: &str = "\
+    start,0000000000\npress,claim,z3\n => text|\
+    {\"start\": \"0000000000\"} => text|\
+    start: \"0000000000\" => text|\
+    start = \"0000000000\"; => text|\
+    start = \"0000000000\",\nstamp = 1 => text|\
+    // no plates\nstart = \"0000000000\" => text";
+
+/// Whole configurations, each with the word of its refusal or the beginning of its report.
+const SENT: [&str; 8] = [
+    NOTHING,
+    WINDOWS,
+    RETURNS,
+    MARKS,
+    UNPRINTABLE,
+    ALIKE,
+    STARTS,
+    FORMATS,
 ];
 
 /// Whole configurations that aren't UTF-8, or have more bytes than characters.
@@ -150,12 +160,18 @@ const BYTES: &[(&[u8], &str)] = &[
 
 #[test]
 fn takes_what_is_sent(rt: HostRuntime) {
-    for (config, wanted) in SENT {
-        assert!(rt;
-            is_told(&rt, rt.alloc(), config.as_bytes(), wanted),
-            "{config}"
-        );
+    for rows in SENT {
+        for number in 0..count_parts(rows, "|") {
+            let row = part(rows, "|", number);
+            let config = part(row, " => ", 0);
+            let is_right = is_told(&rt, rt.alloc(), config.as_bytes(), part(row, " => ", 1));
+            assert!(rt; is_right, "{row}");
+        }
     }
+}
+
+#[test]
+fn takes_what_is_no_text(rt: HostRuntime) {
     for (config, wanted) in BYTES {
         assert!(rt; is_told(&rt, rt.alloc(), config, wanted), "{config:?}");
     }

@@ -1,12 +1,13 @@
 //! Words of the program, exit statuses, fault lines and help.
 
-use super::doubles::{is_served, run};
+use super::doubles::{is_served, run_line};
 use cell_words::{Mode, read_words};
 use program_shell::{Exit, VERSION, refuse_bytes};
 use std::alloc::Global;
 use std::sync::Wait;
 use std::test::Fail;
 use std::thread::Threads;
+use test_doubles::{count_parts, part, words_in};
 
 pub const SCRIPT: &str =
     "start,0000000000\npress,claim,z3\nrobot,claim,z3\npress,release,z3\nrobot,claim,z3\nwatch,inquire,z3\n";
@@ -41,60 +42,66 @@ fn serves(rt: HostRuntime) {
 
 /// Whether words that ask for no mode are answered with this status and some text, and the script
 /// isn't read. For status 2, and only then, the text says that it is an error.
-fn is_told<T: Threads + Wait + Sync>(rt: &T, alloc: Global, words: &[&str], status: u8) -> bool {
+fn is_told<T: Threads + Wait + Sync>(rt: &T, alloc: Global, line: &str, status: u8) -> bool {
     let mut script = SCRIPT.as_bytes();
     let mut written = Vec::new(alloc);
-    let answered = run(rt, alloc, words, &mut script, &mut written);
+    let answered = run_line(rt, alloc, line, &mut script, &mut written);
     let is_error = written.as_slice().starts_with(b"error: ");
     let is_other = !written.is_empty() && is_error == (status == 2);
     answered == status && is_other && script.len() == SCRIPT.len()
 }
 
-const OTHERS: &[(&[&str], u8)] = &[
-    (&["cell", "--help"], 0),
-    (&["cell", "replay", "--help"], 0),
-    (&["cell", "sim", "--help"], 0),
-    (&["cell", "-h"], 0),
-    (&["cell", "help"], 0),
-    (&["cell", "--help", "go", "--version"], 0),
-    (&["cell", "run", "--turns", "3", "--help"], 0),
-    (&["cell", "go", "--help"], 2),
-    (&["cell", "sim", "run", "--help"], 2),
-    (&["cell", "--version", "--help"], 2),
-    (&["cell", "--version"], 0),
-    (&["cell", "-V"], 2),
-    (&["cell", "version"], 2),
-    (&["cell", "--version", "sim"], 2),
-    (&["cell", "sim", "--version"], 2),
-    (&["cell", "go"], 2),
-    (&["cell", "sim", "sim"], 2),
-    (&["cell", "run", "run"], 2),
-    (&["cell", "run", "--help"], 0),
-    (&["cell", "run", "--turns"], 2),
-    (&["cell", "run", "--turns", "0"], 2),
-    (&["cell", "run", "--turns", "100001"], 2),
-    (&["cell", "run", "--turns", "x"], 2),
-    (&["cell", "run", "--turns", "-1"], 2),
-    (&["cell", "run", "--turns="], 2),
-    (&["cell", "run", "--turns", "3", "4"], 2),
-    (&["cell", "run", "--turns", "3", "--turns", "3"], 2),
-    (&["cell", "run", "--tries"], 2),
-    (&["cell", "run", "--tries", "0"], 2),
-    (&["cell", "run", "--tries", "65"], 2),
-    (&["cell", "run", "--tries", "18446744073709551617"], 2),
-    (&["cell", "run", "--tries", "1.0"], 2),
-    (&["cell", "run", "--tries=3", "--tries=3"], 2),
-    (&["cell", "run", "-t", "3"], 2),
-    (&["cell", "sim", "--turns", "3"], 2),
-    (&["cell", "--turns", "3", "run"], 2),
-    (&["cell", "replay", "replay"], 2),
-    (&["cell", "--turns", "3"], 2),
-];
+/// Words that ask for a text. Bars separate the lines of words.
+const ASKED: &str = "\
+    cell --help|\
+    cell replay --help|\
+    cell sim --help|\
+    cell -h|\
+    cell help|\
+    cell --help go --version|\
+    cell run --turns 3 --help|\
+    cell --version|\
+    cell run --help";
+
+/// Words that are refused.
+const ASTRAY: &str = "\
+    cell go --help|\
+    cell sim run --help|\
+    cell --version --help|\
+    cell -V|\
+    cell version|\
+    cell --version sim|\
+    cell sim --version|\
+    cell go|\
+    cell sim sim|\
+    cell run run|\
+    cell run --turns|\
+    cell run --turns 0|\
+    cell run --turns 100001|\
+    cell run --turns x|\
+    cell run --turns -1|\
+    cell run --turns=|\
+    cell run --turns 3 4|\
+    cell run --turns 3 --turns 3|\
+    cell run --tries|\
+    cell run --tries 0|\
+    cell run --tries 65|\
+    cell run --tries 18446744073709551617|\
+    cell run --tries 1.0|\
+    cell run --tries=3 --tries=3|\
+    cell run -t 3|\
+    cell sim --turns 3|\
+    cell --turns 3 run|\
+    cell replay replay|\
+    cell --turns 3";
 
 #[test]
 fn serves_other_words(rt: HostRuntime) {
-    for (words, status) in OTHERS {
-        assert!(rt; is_told(&rt, rt.alloc(), words, *status), "{words:?}");
+    for (lines, status) in [(ASKED, 0), (ASTRAY, 2)] {
+        for number in 0..count_parts(lines, "|") {
+            let line = part(lines, "|", number);
+            assert!(rt; is_told(&rt, rt.alloc(), line, status), "{line}");
+        }
     }
 }
 
@@ -158,44 +165,60 @@ const RUN_ONE_TRY: Option<Mode> = Some(Mode::Run {
     tries: 1,
 });
 
-// Words, and what they ask for, if anything.
-const MODES: &[(&[&str], Option<Mode>)] = &[
-    (&["cell"], Some(Mode::Replay)),
-    (&["cell", "replay"], Some(Mode::Replay)),
-    (&["cell", "sim"], Some(Mode::Sim)),
-    (&["cell", "run"], RUN_BY_DEFAULT),
-    (&["cell", "run", "--turns", "3", "--tries", "64"], RUN_3_64),
-    (&["cell", "run", "--tries=64", "--turns=3"], RUN_3_64),
-    (
-        &["cell", "run", "--turns", "+0003", "--tries", "064"],
-        RUN_3_64,
-    ),
-    (&["cell", "run", "--turns", "100000"], RUN_LONGEST),
-    (&["cell", "run", "--tries", "1"], RUN_ONE_TRY),
-    (&["cell", "simulate"], None),
-    (&["cell", "run", "3"], None),
-    (&["cell", "Replay"], None),
-    (&["cell", "--version"], None),
-    (&["cell", ""], None),
+// Lines of words.
+const MODES: &str = "\
+    cell|\
+    cell replay|\
+    cell sim|\
+    cell run|\
+    cell run --turns 3 --tries 64|\
+    cell run --tries=64 --turns=3|\
+    cell run --turns +0003 --tries 064|\
+    cell run --turns 100000|\
+    cell run --tries 1|\
+    cell simulate|\
+    cell run 3|\
+    cell Replay|\
+    cell --version|\
+    cell ";
+
+/// What each of these lines asks for, if anything.
+const WANTED: [Option<Mode>; 14] = [
+    Some(Mode::Replay),
+    Some(Mode::Replay),
+    Some(Mode::Sim),
+    RUN_BY_DEFAULT,
+    RUN_3_64,
+    RUN_3_64,
+    RUN_3_64,
+    RUN_LONGEST,
+    RUN_ONE_TRY,
+    None,
+    None,
+    None,
+    None,
+    None,
 ];
 
 /// What these words ask for, if anything.
-fn mode_of(alloc: Global, words: &[&str]) -> Option<Mode> {
-    read_words(alloc, words).ok()
+fn mode_of(alloc: Global, line: &str) -> Option<Mode> {
+    let words = words_in(alloc, line).ok()?;
+    read_words(alloc, words.as_slice()).ok()
 }
 
 #[test]
 fn reads_words(rt: HostRuntime) {
-    for (words, mode) in MODES {
-        assert!(rt; mode_of(rt.alloc(), words) == *mode, "{words:?}");
+    for number in 0..WANTED.len() {
+        let line = part(MODES, "|", number);
+        assert!(rt; mode_of(rt.alloc(), line) == WANTED[number], "{line}");
     }
 }
 
-/// Whether a text has these parts, in this order.
-fn has_in_order(text: &str, parts: &[&str]) -> bool {
+/// Whether a text has these parts, in this order. Bars separate them.
+fn has_in_order(text: &str, parts: &str) -> bool {
     let mut rest = text;
-    for part in parts {
-        match rest.split_once(*part) {
+    for number in 0..count_parts(parts, "|") {
+        match rest.split_once(part(parts, "|", number)) {
             Some((_, after)) => rest = after,
             None => return false,
         }
@@ -204,76 +227,67 @@ fn has_in_order(text: &str, parts: &[&str]) -> bool {
 }
 
 /// Whether the help that these words ask for has these parts, in this order.
-fn is_helped<T: Threads + Wait + Sync>(
-    rt: &T,
-    alloc: Global,
-    words: &[&str],
-    parts: &[&str],
-) -> bool {
+fn is_helped<T: Threads + Wait + Sync>(rt: &T, alloc: Global, line: &str, parts: &str) -> bool {
     let mut written = Vec::new(alloc);
-    let status = run(rt, alloc, words, &mut "".as_bytes(), &mut written);
+    let status = run_line(rt, alloc, line, &mut "".as_bytes(), &mut written);
     match str::from_utf8(written.as_slice()) {
         Ok(text) => status == 0 && has_in_order(text, parts),
         Err(_) => false,
     }
 }
 
-const OF_THE_WHOLE: &[&str] = &[
-    "Usage: cell [COMMAND]",
-    "replay",
-    "sim",
-    "run",
-    "docs/FORMATS.md",
-    "`explain`",
-    "cell replay < examples/interior.csv",
-    "cell sim < examples/press.toml",
-    "cell run --turns 3 --tries 64 < examples/six_workers.toml",
-];
+const OF_THE_WHOLE: &str = "\
+    Usage: cell [COMMAND]|\
+    replay|\
+    sim|\
+    run|\
+    docs/FORMATS.md|\
+    `explain`|\
+    cell replay < examples/interior.csv|\
+    cell sim < examples/press.toml|\
+    cell run --turns 3 --tries 64 < examples/six_workers.toml";
 
-const OF_REPLAY: &[&str] = &[
-    "Usage: cell replay",
-    "Reads a script",
-    "Writes a line for each record",
-    "`explain replay < FILE`",
-    "docs/FORMATS.md",
-    "cell replay < examples/interior.csv",
-];
+const OF_REPLAY: &str = "\
+    Usage: cell replay|\
+    Reads a script|\
+    Writes a line for each record|\
+    `explain replay < FILE`|\
+    docs/FORMATS.md|\
+    cell replay < examples/interior.csv";
 
-const OF_SIM: &[&str] = &[
-    "Usage: cell sim",
-    "Reads a configuration",
-    "Writes a report",
-    "`explain sim < FILE`",
-    "docs/FORMATS.md",
-    "cell sim < examples/press.toml",
-];
+const OF_SIM: &str = "\
+    Usage: cell sim|\
+    Reads a configuration|\
+    Writes a report|\
+    `explain sim < FILE`|\
+    docs/FORMATS.md|\
+    cell sim < examples/press.toml";
 
-const OF_RUN: &[&str] = &[
-    "Usage: cell run [OPTIONS]",
-    "--turns <N>",
-    "[default: 1000]",
-    "--tries <N>",
-    "[default: 8]",
-    "Reads a configuration",
-    "Writes a",
-    "docs/FORMATS.md",
-    "cell run --turns 3 --tries 64 < examples/six_workers.toml",
-];
+const OF_RUN: &str = "\
+    Usage: cell run [OPTIONS]|\
+    --turns <N>|\
+    [default: 1000]|\
+    --tries <N>|\
+    [default: 8]|\
+    Reads a configuration|\
+    Writes a|\
+    docs/FORMATS.md|\
+    cell run --turns 3 --tries 64 < examples/six_workers.toml";
 
 // Words that ask for help, and what it has.
-const HELPS: &[(&[&str], &[&str])] = &[
-    (&["cell", "--help"], OF_THE_WHOLE),
-    (&["cell", "-h"], OF_THE_WHOLE),
-    (&["cell", "replay", "--help"], OF_REPLAY),
-    (&["cell", "sim", "--help"], OF_SIM),
-    (&["cell", "run", "--help"], OF_RUN),
+const HELPS: [(&str, &str); 5] = [
+    ("cell --help", OF_THE_WHOLE),
+    ("cell -h", OF_THE_WHOLE),
+    ("cell replay --help", OF_REPLAY),
+    ("cell sim --help", OF_SIM),
+    ("cell run --help", OF_RUN),
 ];
 
 // Help says what is read, what is written, what explains a refusal, where the formats are described, and an example.
 #[test]
 fn helps(rt: HostRuntime) {
-    for (words, parts) in HELPS {
-        assert!(rt; is_helped(&rt, rt.alloc(), words, parts), "{words:?}");
+    for (line, parts) in HELPS {
+        assert!(rt; is_helped(&rt, rt.alloc(), line, parts), "{line}");
     }
 }
 
