@@ -4,83 +4,175 @@ use super::is_answered;
 use cell_replay::{Outcome, ReplayFault, ScriptFault, replay};
 use std::alloc::Global;
 use std::process::Abort;
-use test_doubles::{Failure, InterruptedReader, InterruptedWriter};
+use test_doubles::{Failure, InterruptedReader, InterruptedWriter, count_parts, part};
 
 /// A script's records, the length to which blank lines fill it, and a record after those.
-type Filled = (&'static str, usize, &'static str);
+type Filled<'a> = (&'a str, usize, &'a str);
 
 const TWO: &str = "start,0000000000\nwatch,inquire,z1\nwatch,inquire,z2\n";
 
-const QUOTED: &str = "start,0000000000\nwatch,inquire,z1\nwatch,inquire,\"z2\n";
-
 const LONG: Outcome = Outcome::Refused(ScriptFault::Long);
 
-const ROWS: &[(Filled, &str, Outcome)] = &[
-    // Every byte is used.
-    (
-        (TWO, 4_194_304, ""),
-        "0 0 start 0\n1 0 zone free 0 closed\n2 0 zone free 0 closed\n",
-        Outcome::Clean,
-    ),
-    // With more bytes the last record isn't answered, wherever it ends.
-    (
-        (TWO, 4_194_305, ""),
-        "0 0 start 0\n1 0 zone free 0 closed\nfault long\n",
-        LONG,
-    ),
-    // A record that goes on past the used bytes is the last one.
-    (
-        (TWO, 4_194_300, "watch,inquire,z3\n"),
-        "0 0 start 0\n1 0 zone free 0 closed\n2 0 zone free 0 closed\nfault long\n",
-        LONG,
-    ),
-    // So is one that lacks its line feed, one whose line feed is the last used byte, and one in
-    // quotes.
-    (
-        (TWO, 4_194_288, "watch,inquire,z3\n"),
-        "0 0 start 0\n1 0 zone free 0 closed\n2 0 zone free 0 closed\nfault long\n",
-        LONG,
-    ),
-    (
-        (TWO, 4_194_287, "watch,inquire,z3\nw"),
-        "0 0 start 0\n1 0 zone free 0 closed\n2 0 zone free 0 closed\nfault long\n",
-        LONG,
-    ),
-    (
-        (TWO, 4_194_300, "\"watch\",inquire,z3\n"),
-        "0 0 start 0\n1 0 zone free 0 closed\n2 0 zone free 0 closed\nfault long\n",
-        LONG,
-    ),
-    // A quote that isn't closed makes all that follows one record.
-    (
-        (QUOTED, 4_194_305, ""),
-        "0 0 start 0\n1 0 zone free 0 closed\nfault long\n",
-        LONG,
-    ),
-    // A cut script of one record or none.
-    (("", 4_194_305, ""), "fault long\n", LONG),
-    (("start,0000000000\n", 4_194_305, ""), "fault long\n", LONG),
-    (("start,2\n", 4_194_305, ""), "fault long\n", LONG),
-    (("stop\n", 4_194_305, ""), "fault long\n", LONG),
-    // A cut script with an earlier fault.
-    (
-        ("start,2\nwatch\n", 4_194_305, ""),
-        "fault badstart\n",
-        Outcome::Refused(ScriptFault::BadStart),
-    ),
-    (
-        ("stop\nwatch\n", 4_194_305, ""),
-        "fault nostart\n",
-        Outcome::Refused(ScriptFault::NoStart),
-    ),
-    (
-        ("start,0000000000\nwatch\nwatch\n", 4_194_400, ""),
-        "0 0 start 0\nfault badrow 1\n",
-        Outcome::Refused(ScriptFault::BadRow(1)),
-    ),
+/// What each row shows, a script's records, a record after the blank lines that fill it, and the answer.
+const ROWS: &str = "\
+Every byte is used.
+=>
+start,0000000000
+watch,inquire,z1
+watch,inquire,z2
+=>
+=>
+0 0 start 0
+1 0 zone free 0 closed
+2 0 zone free 0 closed
+--
+With more bytes the last record isn't answered, wherever it ends.
+=>
+start,0000000000
+watch,inquire,z1
+watch,inquire,z2
+=>
+=>
+0 0 start 0
+1 0 zone free 0 closed
+fault long
+--
+A record that goes on past the used bytes is the last one.
+=>
+start,0000000000
+watch,inquire,z1
+watch,inquire,z2
+=>
+watch,inquire,z3
+=>
+0 0 start 0
+1 0 zone free 0 closed
+2 0 zone free 0 closed
+fault long
+--
+So is one that lacks its line feed, one whose line feed is the last used byte, and one in quotes.
+=>
+start,0000000000
+watch,inquire,z1
+watch,inquire,z2
+=>
+watch,inquire,z3
+=>
+0 0 start 0
+1 0 zone free 0 closed
+2 0 zone free 0 closed
+fault long
+--
+So is one that lacks its line feed, one whose line feed is the last used byte, and one in quotes.
+=>
+start,0000000000
+watch,inquire,z1
+watch,inquire,z2
+=>
+watch,inquire,z3
+w=>
+0 0 start 0
+1 0 zone free 0 closed
+2 0 zone free 0 closed
+fault long
+--
+So is one that lacks its line feed, one whose line feed is the last used byte, and one in quotes.
+=>
+start,0000000000
+watch,inquire,z1
+watch,inquire,z2
+=>
+\"watch\",inquire,z3
+=>
+0 0 start 0
+1 0 zone free 0 closed
+2 0 zone free 0 closed
+fault long
+--
+A quote that isn't closed makes all that follows one record.
+=>
+start,0000000000
+watch,inquire,z1
+watch,inquire,\"z2
+=>
+=>
+0 0 start 0
+1 0 zone free 0 closed
+fault long
+--
+A cut script of one record or none.
+=>
+=>
+=>
+fault long
+--
+A cut script of one record or none.
+=>
+start,0000000000
+=>
+=>
+fault long
+--
+A cut script of one record or none.
+=>
+start,2
+=>
+=>
+fault long
+--
+A cut script of one record or none.
+=>
+stop
+=>
+=>
+fault long
+--
+A cut script with an earlier fault.
+=>
+start,2
+watch
+=>
+=>
+fault badstart
+--
+A cut script with an earlier fault.
+=>
+stop
+watch
+=>
+=>
+fault nostart
+--
+A cut script with an earlier fault.
+=>
+start,0000000000
+watch
+watch
+=>
+=>
+0 0 start 0
+fault badrow 1
+";
+
+/// The length to which blank lines fill the records of each row, and how the script ends.
+const ENDS: [(usize, Outcome); 14] = [
+    (4_194_304, Outcome::Clean),
+    (4_194_305, LONG),
+    (4_194_300, LONG),
+    (4_194_288, LONG),
+    (4_194_287, LONG),
+    (4_194_300, LONG),
+    (4_194_305, LONG),
+    (4_194_305, LONG),
+    (4_194_305, LONG),
+    (4_194_305, LONG),
+    (4_194_305, LONG),
+    (4_194_305, Outcome::Refused(ScriptFault::BadStart)),
+    (4_194_305, Outcome::Refused(ScriptFault::NoStart)),
+    (4_194_400, Outcome::Refused(ScriptFault::BadRow(1))),
 ];
 
-fn script_of(rt: &impl Abort, alloc: Global, filled: Filled) -> Vec<u8> {
+fn script_of(rt: &impl Abort, alloc: Global, filled: Filled<'_>) -> Vec<u8> {
     let (records, length, last) = filled;
     let mut script = Vec::new(alloc);
     script
@@ -93,12 +185,20 @@ fn script_of(rt: &impl Abort, alloc: Global, filled: Filled) -> Vec<u8> {
     script
 }
 
+/// Whether the script of a row that is filled to this length gets its answer, and ends so.
+fn is_cut(rt: &impl Abort, alloc: Global, row: &str, length: usize, outcome: Outcome) -> bool {
+    let filled = (part(row, "=>\n", 1), length, part(row, "=>\n", 2));
+    let script = script_of(rt, alloc, filled);
+    is_answered(alloc, script.as_slice(), part(row, "=>\n", 3), outcome)
+}
+
 #[test]
 fn cuts_long_scripts(rt: HostRuntime) {
-    for (filled, text, outcome) in ROWS {
-        let script = script_of(&rt, rt.alloc(), *filled);
-        let is_right = is_answered(rt.alloc(), script.as_slice(), text, *outcome);
-        assert!(rt; is_right, "{text}");
+    assert!(rt; count_parts(ROWS, "--\n") == ENDS.len());
+    for number in 0..ENDS.len() {
+        let row = part(ROWS, "--\n", number);
+        let (length, outcome) = ENDS[number];
+        assert!(rt; is_cut(&rt, rt.alloc(), row, length, outcome), "{row}");
     }
 }
 
