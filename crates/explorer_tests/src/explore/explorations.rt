@@ -13,7 +13,7 @@ const ONE_PLATE: [bool; 10] = [
 ];
 
 /// What is found from a start: how many situations, or how many turns lead to a standstill.
-#[derive(Clone, Copy, Debug, PartialEq, Eq)]
+#[derive(Clone, Copy, PartialEq, Eq)]
 enum Found {
     Free(usize),
     Standstill(usize),
@@ -31,9 +31,9 @@ fn found_from(alloc: Global, places: [bool; 10]) -> Result<Found, Fail> {
 #[test]
 fn explores_starts(rt: HostRuntime) -> Result<(), Fail> {
     let empty = found_from(rt.alloc(), [false; 10])?;
-    assert!(rt; empty == Found::Standstill(21), "{empty:?}");
+    assert!(rt; empty == Found::Standstill(21));
     let one = found_from(rt.alloc(), ONE_PLATE)?;
-    assert!(rt; one == Found::Free(49_902), "{one:?}");
+    assert!(rt; one == Found::Free(49_902));
     Ok(())
 }
 
@@ -58,7 +58,7 @@ const MORE_PLATES: [[bool; 10]; 4] = [
 fn explores_starts_with_more_plates(rt: HostRuntime) -> Result<(), Fail> {
     for places in &MORE_PLATES {
         let found = found_from(rt.alloc(), *places)?;
-        assert!(rt; !matches!(found, Found::Refusal(_)), "{found:?}");
+        assert!(rt; !matches!(found, Found::Refusal(_)));
     }
     Ok(())
 }

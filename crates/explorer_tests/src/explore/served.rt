@@ -5,7 +5,7 @@ use super::doubles::run;
 use program_shell::VERSION;
 use std::alloc::{AllocError, Global};
 use std::thread::Threads;
-use test_doubles::{FailingReader, FailingWriter};
+use test_doubles::{FailingReader, FailingWriter, arguments_in, count_parts, part};
 
 /// The help.
 const HELP: &str = "\
@@ -61,15 +61,9 @@ start = \"1000000000\"
 const EXPLORE: &[&[u8]] = &[b"./explore"];
 
 /// Arguments, an input, the status, the text, and how many bytes of the input are left.
-type Row = (
-    &'static [&'static [u8]],
-    &'static str,
-    u8,
-    &'static str,
-    usize,
-);
+type Row<'a> = (&'a [&'a [u8]], &'a str, u8, &'a str, usize);
 
-const ROWS: &[Row] = &[
+const ROWS: &[Row<'static>] = &[
     (EXPLORE, EMPTY, 1, SCREEN, 0),
     (&[b"./explore", b"--starve"], EMPTY, 1, SCREEN, 0),
     (EXPLORE, ONE_PLATE, 0, FREE_SCREEN, 0),
@@ -80,43 +74,7 @@ const ROWS: &[Row] = &[
         "fault config letter\n",
         0,
     ),
-    (&[b"./explore", b"--help"], EMPTY, 0, HELP, 21),
     (&[b"bad\xff", b"--help"], EMPTY, 0, HELP, 21),
-    (&[b"", b"-h"], EMPTY, 0, HELP, 21),
-    (&[b"./explore", b"--help", b"--help"], EMPTY, 0, HELP, 21),
-    (&[b"./explore", b"--all", b"--help"], EMPTY, 0, HELP, 21),
-    (
-        &[b"./explore", b"explore", b"--help"],
-        EMPTY,
-        2,
-        OTHER_WORDS,
-        21,
-    ),
-    (
-        &[b"./explore", b"--version", b"--help"],
-        EMPTY,
-        2,
-        OTHER_WORDS,
-        21,
-    ),
-    (
-        &[b"./explore", b"--version", b"--version"],
-        EMPTY,
-        2,
-        OTHER_WORDS,
-        21,
-    ),
-    (
-        &[b"./explore", b"--all", b"--all"],
-        EMPTY,
-        2,
-        OTHER_WORDS,
-        21,
-    ),
-    (&[b"./explore", b"-V"], EMPTY, 2, OTHER_WORDS, 21),
-    (&[b"./explore", b"help"], EMPTY, 2, OTHER_WORDS, 21),
-    (&[b"./explore", b""], EMPTY, 2, OTHER_WORDS, 21),
-    (&[b"./explore", b"explore"], EMPTY, 2, OTHER_WORDS, 21),
     (&[b"./explore", b"\xff"], EMPTY, 2, NO_TEXT, 21),
     (&[b"./explore", b"--all", b"\xff"], EMPTY, 2, NO_TEXT, 21),
     (EXPLORE, BAD_LETTER, 1, "fault config letter\n", 0),
@@ -125,8 +83,26 @@ const ROWS: &[Row] = &[
     (EXPLORE, "start = 5\n", 1, "fault config kind\n", 0),
 ];
 
+/// Lines of words that ask for help. Bars separate the lines.
+const HELPED: &str = "\
+    ./explore --help|\
+    \u{20}-h|\
+    ./explore --help --help|\
+    ./explore --all --help";
+
+/// Lines of other words.
+const ASTRAY: &str = "\
+    ./explore explore --help|\
+    ./explore --version --help|\
+    ./explore --version --version|\
+    ./explore --all --all|\
+    ./explore -V|\
+    ./explore help|\
+    ./explore |\
+    ./explore explore";
+
 /// Whether the program answers so, and tells no progress.
-fn is_served<T: Threads + Sync>(rt: &T, alloc: Global, row: &Row) -> bool {
+fn is_served<T: Threads + Sync>(rt: &T, alloc: Global, row: &Row<'_>) -> bool {
     let (arguments, input, status, text, left) = *row;
     let mut reader = input.as_bytes();
     let mut written = Vec::new(alloc);
@@ -149,6 +125,28 @@ fn is_served<T: Threads + Sync>(rt: &T, alloc: Global, row: &Row) -> bool {
 fn serves(rt: HostRuntime) {
     for row in ROWS {
         assert!(rt; is_served(&rt, rt.alloc(), row), "{row:?}");
+    }
+}
+
+/// Whether the program answers these words with this status and text, and leaves its input alone.
+fn is_told<T: Threads + Sync>(rt: &T, alloc: Global, line: &str, status: u8, text: &str) -> bool {
+    let Ok(arguments) = arguments_in(alloc, line) else {
+        return false;
+    };
+    is_served(
+        rt,
+        alloc,
+        &(arguments.as_slice(), EMPTY, status, text, EMPTY.len()),
+    )
+}
+
+#[test]
+fn serves_words(rt: HostRuntime) {
+    for (lines, status, text) in [(HELPED, 0, HELP), (ASTRAY, 2, OTHER_WORDS)] {
+        for number in 0..count_parts(lines, "|") {
+            let line = part(lines, "|", number);
+            assert!(rt; is_told(&rt, rt.alloc(), line, status, text), "{line}");
+        }
     }
 }
 

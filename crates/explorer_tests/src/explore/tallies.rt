@@ -9,7 +9,7 @@ use std::alloc::{AllocError, Global};
 
 /// What was found from one start: the number of situations, and a bound on how many steps pass until each machine
 /// moves a plate, or that one may move none, or that this isn't known; or how many turns lead to an end.
-#[derive(Clone, Copy, Debug)]
+#[derive(Clone, Copy)]
 enum Found {
     Free(usize, usize, usize),
     Starving(usize),
