@@ -8,7 +8,7 @@ use super::pages::{is_whole, parts_of};
 use program_shell::VERSION;
 use std::alloc::{AllocError, Global};
 use std::test::Fail;
-use test_doubles::{FailingReader, FailingWriter};
+use test_doubles::{FailingReader, FailingWriter, arguments_in, count_parts, part};
 
 /// The help.
 const HELP: &str = "\
@@ -34,60 +34,10 @@ const BAD_LETTER: &str = "start = \"0000000000\"\nschedule = \"x\"\n";
 const FILM: &[&[u8]] = &[b"./film"];
 
 /// Arguments, an input, the status, the text, and how many bytes of the input are left.
-type Row = (
-    &'static [&'static [u8]],
-    &'static str,
-    u8,
-    &'static str,
-    usize,
-);
+type Row<'a> = (&'a [&'a [u8]], &'a str, u8, &'a str, usize);
 
-const ROWS: &[Row] = &[
-    (&[b"./film", b"--help"], EMPTY, 0, HELP, 21),
+const ROWS: &[Row<'static>] = &[
     (&[b"bad\xff", b"--help"], EMPTY, 0, HELP, 21),
-    (&[b"", b"-h"], EMPTY, 0, HELP, 21),
-    (&[b"./film", b"--help", b"--help"], EMPTY, 0, HELP, 21),
-    (
-        &[b"./film", b"-h", b"film", b"--version"],
-        EMPTY,
-        0,
-        HELP,
-        21,
-    ),
-    (&[b"./film", b"--loop", b"--help"], EMPTY, 0, HELP, 21),
-    (&[b"./film", b"--loop", b"-h", b"film"], EMPTY, 0, HELP, 21),
-    (&[b"./film", b"film", b"--help"], EMPTY, 2, OTHER_WORDS, 21),
-    (
-        &[b"./film", b"--loop", b"--loop", b"--help"],
-        EMPTY,
-        2,
-        OTHER_WORDS,
-        21,
-    ),
-    (
-        &[b"./film", b"--version", b"--help"],
-        EMPTY,
-        2,
-        OTHER_WORDS,
-        21,
-    ),
-    (
-        &[b"./film", b"--loop", b"--version"],
-        EMPTY,
-        2,
-        OTHER_WORDS,
-        21,
-    ),
-    (
-        &[b"./film", b"--version", b"--version"],
-        EMPTY,
-        2,
-        OTHER_WORDS,
-        21,
-    ),
-    (&[b"./film", b"-V"], EMPTY, 2, OTHER_WORDS, 21),
-    (&[b"./film", b"help"], EMPTY, 2, OTHER_WORDS, 21),
-    (&[b"./film", b""], EMPTY, 2, OTHER_WORDS, 21),
     (
         &[b"./film", b"--loop"],
         BAD_LETTER,
@@ -95,7 +45,6 @@ const ROWS: &[Row] = &[
         "fault config letter\n",
         0,
     ),
-    (&[b"./film", b"film"], EMPTY, 2, OTHER_WORDS, 21),
     (&[b"./film", b"\xff"], EMPTY, 2, NO_TEXT, 21),
     (&[b"./film", b"--help", b"\xff"], EMPTY, 2, NO_TEXT, 21),
     (FILM, BAD_LETTER, 1, "fault config letter\n", 0),
@@ -104,8 +53,29 @@ const ROWS: &[Row] = &[
     (FILM, "start = 5\n", 1, "fault config kind\n", 0),
 ];
 
+/// Lines of words that ask for help. Bars separate the lines.
+const HELPED: &str = "\
+    ./film --help|\
+    \u{20}-h|\
+    ./film --help --help|\
+    ./film -h film --version|\
+    ./film --loop --help|\
+    ./film --loop -h film";
+
+/// Lines of other words.
+const ASTRAY: &str = "\
+    ./film film --help|\
+    ./film --loop --loop --help|\
+    ./film --version --help|\
+    ./film --loop --version|\
+    ./film --version --version|\
+    ./film -V|\
+    ./film help|\
+    ./film |\
+    ./film film";
+
 /// Whether the program answers so.
-fn is_served(alloc: Global, row: &Row) -> bool {
+fn is_served(alloc: Global, row: &Row<'_>) -> bool {
     let (arguments, input, status, text, left) = *row;
     let mut reader = input.as_bytes();
     let mut written = Vec::new(alloc);
@@ -113,10 +83,31 @@ fn is_served(alloc: Global, row: &Row) -> bool {
     found == status && written.as_slice() == text.as_bytes() && reader.len() == left
 }
 
+/// Whether the program answers these words with this status and text, and leaves its input alone.
+fn is_told(alloc: Global, line: &str, status: u8, text: &str) -> bool {
+    let Ok(arguments) = arguments_in(alloc, line) else {
+        return false;
+    };
+    is_served(
+        alloc,
+        &(arguments.as_slice(), EMPTY, status, text, EMPTY.len()),
+    )
+}
+
 #[test]
 fn serves(rt: HostRuntime) {
     for row in ROWS {
         assert!(rt; is_served(rt.alloc(), row), "{row:?}");
+    }
+}
+
+#[test]
+fn serves_words(rt: HostRuntime) {
+    for (lines, status, text) in [(HELPED, 0, HELP), (ASTRAY, 2, OTHER_WORDS)] {
+        for number in 0..count_parts(lines, "|") {
+            let line = part(lines, "|", number);
+            assert!(rt; is_told(rt.alloc(), line, status, text), "{line}");
+        }
     }
 }
 

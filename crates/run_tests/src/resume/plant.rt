@@ -8,7 +8,7 @@ use cell_sensors::{CraneSense, DepositSense, FeedSense, PressSense, RobotSense, 
 const STEP: u16 = 20;
 
 /// An axis that goes from 0 to its end.
-#[derive(Clone, Copy, Debug, PartialEq, Eq)]
+#[derive(Clone, Copy, PartialEq, Eq)]
 struct Axis {
     at: u16,
     end: u16,
@@ -33,7 +33,7 @@ impl Axis {
 }
 
 /// A belt that carries one plate at a time past a light barrier.
-#[derive(Clone, Copy, Debug, PartialEq, Eq)]
+#[derive(Clone, Copy, PartialEq, Eq)]
 struct Belt {
     plate: u16,
 }
@@ -53,7 +53,7 @@ impl Belt {
 }
 
 /// The positions of all parts.
-#[derive(Clone, Copy, Debug, PartialEq, Eq)]
+#[derive(Clone, Copy, PartialEq, Eq)]
 pub struct Plant {
     feed: Belt,
     deposit: Belt,
