@@ -4,7 +4,7 @@ use explain_app::serve::{serve, start};
 use program_shell::VERSION;
 use std::alloc::Global;
 use std::test::Fail;
-use test_doubles::{FailingReader, FailingWriter, Given};
+use test_doubles::{FailingReader, FailingWriter, Given, count_parts, part, words_in};
 
 /// A script that is taken. As a configuration it is no TOML.
 const SCRIPT: &str = "start,0000000000\npress,claim,z3\n";
@@ -73,51 +73,53 @@ fn serves(rt: HostRuntime) {
 const OTHER_WORDS: &str =
     "error: the only arguments are replay, sim, run, --turns N, --tries N, --help and --version\n";
 
-/// Words that explain nothing, the exit status, and how the text begins.
-const OTHERS: &[(&[&str], u8, &str)] = &[
+/// Lines of words that explain nothing, with bars between the lines; the exit status, and how the text begins.
+const OTHERS: [(&str, u8, &str); 3] = [
     (
-        &["explain", "--help"],
+        HELPED,
         0,
         "Says what is wrong with an input that `cell` refuses",
     ),
-    (
-        &["explain", "sim", "--help"],
-        0,
-        "Says what is wrong with an input that `cell` refuses",
-    ),
-    (
-        &["explain", "-h"],
-        0,
-        "Says what is wrong with an input that `cell` refuses",
-    ),
-    (&["explain", "--version"], 0, "explain "),
-    (
-        &["explain", "help"],
-        0,
-        "Says what is wrong with an input that `cell` refuses",
-    ),
-    (&["explain", "-V"], 2, OTHER_WORDS),
-    (&["explain", "sim", "--version"], 2, OTHER_WORDS),
-    (&["explain", "--version", "--help"], 2, OTHER_WORDS),
-    (&["explain", "simulate"], 2, OTHER_WORDS),
-    (&["explain", "simulate", "--help"], 2, OTHER_WORDS),
-    (&["explain", "replay", "replay"], 2, OTHER_WORDS),
-    (&["explain", "run", "--turns", "0"], 2, OTHER_WORDS),
+    ("explain --version", 0, "explain "),
+    (ASTRAY, 2, OTHER_WORDS),
 ];
 
-/// Whether words are answered with this status and a text that begins so, and nothing is read.
-fn is_told(alloc: Global, words: &[&str], status: u8, begins: &str) -> bool {
+/// Lines that ask for help.
+const HELPED: &str = "\
+    explain --help|\
+    explain sim --help|\
+    explain -h|\
+    explain help";
+
+/// Lines that are refused.
+const ASTRAY: &str = "\
+    explain -V|\
+    explain sim --version|\
+    explain --version --help|\
+    explain simulate|\
+    explain simulate --help|\
+    explain replay replay|\
+    explain run --turns 0";
+
+/// Whether a line of words is answered with this status and a text that begins so, and nothing is read.
+fn is_told(alloc: Global, line: &str, status: u8, begins: &str) -> bool {
+    let Ok(words) = words_in(alloc, line) else {
+        return false;
+    };
     let mut reader = BAD_SCRIPT.as_bytes();
     let mut written = Vec::new(alloc);
-    let answered = serve(alloc, words, &mut reader, &mut written);
+    let answered = serve(alloc, words.as_slice(), &mut reader, &mut written);
     let is_unread = reader.len() == BAD_SCRIPT.len();
     answered == status && is_unread && written.as_slice().starts_with(begins.as_bytes())
 }
 
 #[test]
 fn serves_other_words(rt: HostRuntime) {
-    for (words, status, begins) in OTHERS {
-        assert!(rt; is_told(rt.alloc(), words, *status, begins), "{words:?}");
+    for (lines, status, begins) in OTHERS {
+        for number in 0..count_parts(lines, "|") {
+            let line = part(lines, "|", number);
+            assert!(rt; is_told(rt.alloc(), line, status, begins), "{line}");
+        }
     }
 }
 

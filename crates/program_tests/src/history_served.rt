@@ -6,11 +6,11 @@ use std::alloc::Global;
 use std::sync::Wait;
 use std::test::Fail;
 use std::thread::Threads;
-use test_doubles::Given;
+use test_doubles::{Given, count_parts, part, words_in};
 
 /// Words, an input, the status, and what is written, or what it begins with if the status is 2 or
 /// help is asked for.
-type Row = (&'static [&'static str], &'static str, u8, &'static str);
+type Row<'a> = (&'a [&'a str], &'a str, u8, &'a str);
 
 // With the last stamp each claim is worn, whichever thread comes first.
 const WORN: &str = "start = \"0000000000\"\nstamp = 1048575\n";
@@ -23,7 +23,7 @@ const WORN_SCRIPT: &str = "start,0000000000,1048575\nfeed,claim,z6\ntable,claim,
 
 const EMPTY: &str = "start = \"0000000000\"\n";
 
-const ROWS: &[Row] = &[
+const ROWS: &[Row<'static>] = &[
     (&["history", "--turns", "4"], WORN, 1, WORN_SCRIPT),
     (&["history"], "", 1, "fault config missing\n"),
     (
@@ -42,22 +42,25 @@ const ROWS: &[Row] = &[
         "Runs the six machines",
     ),
     (&["history", "--version"], EMPTY, 0, "history "),
-    (&["history", "--version", "--help"], EMPTY, 2, "error: "),
-    (&["history", "help"], EMPTY, 2, "error: "),
-    (&["history", "-V"], EMPTY, 2, "error: "),
-    (&["history", "--version", "--turns=1"], EMPTY, 2, "error: "),
-    (&["history", "--turns", "0"], EMPTY, 2, "error: "),
     (
         &["history", "run"],
         EMPTY,
         2,
         "error: the only arguments are --turns N, --tries N, --help and --version\n",
     ),
-    (&["history", "--tries", "65"], EMPTY, 2, "error: "),
 ];
 
+/// Lines of words that are refused. Bars separate the lines.
+const ASTRAY: &str = "\
+    history --version --help|\
+    history help|\
+    history -V|\
+    history --version --turns=1|\
+    history --turns 0|\
+    history --tries 65";
+
 // Whether the words are served so.
-fn is_served<T: Threads + Wait + Sync>(rt: &T, alloc: Global, row: &Row) -> bool {
+fn is_served<T: Threads + Wait + Sync>(rt: &T, alloc: Global, row: &Row<'_>) -> bool {
     let (words, input, status, text) = *row;
     let mut written = Vec::new(alloc);
     let found = serve(rt, alloc, words, &mut input.as_bytes(), &mut written);
@@ -66,10 +69,22 @@ fn is_served<T: Threads + Wait + Sync>(rt: &T, alloc: Global, row: &Row) -> bool
     found == status && has_text && (!is_whole || written.len() == text.len())
 }
 
+// Whether these words are refused.
+fn is_refused<T: Threads + Wait + Sync>(rt: &T, alloc: Global, line: &str) -> bool {
+    match words_in(alloc, line) {
+        Ok(words) => is_served(rt, alloc, &(words.as_slice(), EMPTY, 2, "error: ")),
+        Err(_) => false,
+    }
+}
+
 #[test]
 fn is_served_as_cell_serves(rt: HostRuntime) {
     for row in ROWS {
         assert!(rt; is_served(&rt, rt.alloc(), row), "{row:?}");
+    }
+    for number in 0..count_parts(ASTRAY, "|") {
+        let line = part(ASTRAY, "|", number);
+        assert!(rt; is_refused(&rt, rt.alloc(), line), "{line}");
     }
 }
 
