@@ -91,23 +91,12 @@ fn journals_of(rt: &impl Abort, alloc: Global, notes: &[Note], more: &[Note]) ->
     journals
 }
 
-/// The fault of an audit of notes in two parts.
-fn fault_of(
-    rt: &impl Abort,
-    alloc: Global,
-    notes: &[Note],
-    more: &[Note],
-    end: Option<&State>,
-) -> Option<AuditFault> {
-    let start = start_at(rt, EMPTY, 0);
-    let journals = journals_of(rt, alloc, notes, more);
-    audit(alloc, &journals, &start, end).err()
-}
-
 #[test]
 fn refuses_what_no_history_wrote(rt: HostRuntime) {
+    let start = start_at(&rt, EMPTY, 0);
     for (notes, more, fault) in ROWS {
-        let got = fault_of(&rt, rt.alloc(), notes, more, None);
+        let journals = journals_of(&rt, rt.alloc(), notes, more);
+        let got = audit(rt.alloc(), &journals, &start, None).err();
         assert!(rt; got == *fault, "{fault:?}");
     }
 }
@@ -129,41 +118,23 @@ fn event(note: Note) -> Event {
     }
 }
 
-/// Whether an audit of the three notes finds these events, up to this end.
-fn are_events(rt: &impl Abort, alloc: Global, end: &State, wanted: &[Event]) -> bool {
-    let start = start_at(rt, EMPTY, 0);
-    let journals = journals_of(rt, alloc, &THREE, &[]);
-    match audit(alloc, &journals, &start, Some(end)) {
-        Ok(events) => events.as_slice() == wanted,
-        Err(_) => false,
-    }
-}
-
 #[test]
 fn accepts_what_was_noted(rt: HostRuntime) {
     let start = start_at(&rt, EMPTY, 0);
+    let journals = journals_of(&rt, rt.alloc(), &THREE, &[]);
     let end = end_of_three_calls(&start);
+    let events = audit(rt.alloc(), &journals, &start, Some(&end)).expect(&rt, "a history");
     let wanted = [
         event(PRESS_CLAIMS),
         event(TABLE_CLAIMS),
         event(PRESS_RELEASES),
     ];
-    assert!(rt; are_events(&rt, rt.alloc(), &end, &wanted));
+    assert!(rt; events.as_slice() == wanted.as_slice());
     // the start's zones aren't the end's
     let late = State::from_parts(start.zones(), start.full(), 3, false);
-    assert!(rt; late.is_some());
-    let got = fault_of(&rt, rt.alloc(), &THREE, &[], late.as_ref());
+    let late = late.expect(&rt, "the start's zones");
+    let got = audit(rt.alloc(), &journals, &start, Some(&late)).err();
     assert!(rt; got == Some(AuditFault::End));
-}
-
-/// Whether an audit finds three events, or memory runs out.
-fn are_three_or_memory(alloc: Global, journals: &Journals, start: &State, end: &State) -> bool {
-    let is_right = match audit(alloc, journals, start, Some(end)) {
-        Ok(events) => events.len() == 3,
-        Err(fault) => fault == AuditFault::Memory,
-    };
-    let fault = find_fault(alloc, journals, start, Some(end));
-    is_right && (fault.is_none() || fault == Some(AuditFault::Memory))
 }
 
 // If memory runs out, a journal can't be written or the audit says so; else the answer is the same.
@@ -172,8 +143,16 @@ fn wants_memory_or_answers(rt: HostRuntime) {
     let start = start_at(&rt, EMPTY, 0);
     let end = end_of_three_calls(&start);
     let mut journals = Journals::new(rt.alloc());
-    let noted = note(&mut journals, &THREE);
-    assert!(rt; noted.is_err() || are_three_or_memory(rt.alloc(), &journals, &start, &end));
+    if note(&mut journals, &THREE).is_err() {
+        return;
+    }
+    let is_right = match audit(rt.alloc(), &journals, &start, Some(&end)) {
+        Ok(events) => events.len() == 3,
+        Err(fault) => fault == AuditFault::Memory,
+    };
+    assert!(rt; is_right);
+    let fault = find_fault(rt.alloc(), &journals, &start, Some(&end));
+    assert!(rt; fault.is_none() || fault == Some(AuditFault::Memory));
 }
 
 /// A number of notes of the press, which claims its zone and releases it in turn.
@@ -190,26 +169,13 @@ fn claims_and_releases(alloc: Global, count: u32) -> Result<Journals, AllocError
     Ok(journals)
 }
 
-/// Whether an audit finds this many events and no fault.
-fn are_audited(
-    alloc: Global,
-    journals: &Journals,
-    start: &State,
-    end: &State,
-    count: usize,
-) -> bool {
-    let are_all = match audit(alloc, journals, start, Some(end)) {
-        Ok(events) => events.len() == count,
-        Err(_) => false,
-    };
-    are_all && find_fault(alloc, journals, start, Some(end)).is_none()
-}
-
 #[test]
 fn audits_many_entries(rt: HostRuntime) {
     let start = start_at(&rt, EMPTY, 0);
+    let journals = claims_and_releases(rt.alloc(), 1_000_000).expect(&rt, "memory");
     let end = State::from_parts(start.zones(), start.full(), 1_000_000, false);
     let end = end.expect(&rt, "an end");
-    let journals = claims_and_releases(rt.alloc(), 1_000_000).expect(&rt, "memory");
-    assert!(rt; are_audited(rt.alloc(), &journals, &start, &end, 1_000_000));
+    let events = audit(rt.alloc(), &journals, &start, Some(&end)).expect(&rt, "a history");
+    assert!(rt; events.len() == 1_000_000);
+    assert!(rt; find_fault(rt.alloc(), &journals, &start, Some(&end)).is_none());
 }

@@ -35,30 +35,22 @@ fn fails_to_read(alloc: Global, left: usize, at_once: usize) -> bool {
 }
 
 /// Whether the replay has this result with a writer for `room` bytes, and has written that many of
-/// its text, or all if it is shorter.
-fn is_taken<R: Read>(
-    alloc: Global,
-    reader: &mut R,
-    room: usize,
-    failure: Failure,
-    wanted: Result<Outcome, ReplayFault>,
-) -> bool {
-    let mut writer = InterruptedWriter::new(alloc, room, 3, failure);
-    let got = replay(alloc, reader, &mut writer);
-    let taken = writer.taken.as_slice();
-    got == wanted && taken.len() == room.min(TEXT.len()) && TEXT.as_bytes().starts_with(taken)
-}
-
-/// Whether it does so, if the script is read at once and if it is read a byte at a time.
+/// its text, or all if it is shorter. The script is read at once, and then a byte at a time.
 fn is_written(
     alloc: Global,
     room: usize,
     failure: Failure,
     wanted: Result<Outcome, ReplayFault>,
 ) -> bool {
-    let mut bytewise = InterruptedReader::new(SCRIPT.as_bytes(), usize::MAX, 1);
-    is_taken(alloc, &mut SCRIPT.as_bytes(), room, failure, wanted)
-        && is_taken(alloc, &mut bytewise, room, failure, wanted)
+    let mut at_once = InterruptedWriter::new(alloc, room, 3, failure);
+    let mut bytewise = InterruptedWriter::new(alloc, room, 3, failure);
+    let mut reader = InterruptedReader::new(SCRIPT.as_bytes(), usize::MAX, 1);
+    replay(alloc, &mut SCRIPT.as_bytes(), &mut at_once) == wanted
+        && replay(alloc, &mut reader, &mut bytewise) == wanted
+        && [at_once, bytewise].iter().all(|writer| {
+            writer.taken.len() == room.min(TEXT.len())
+                && TEXT.as_bytes().starts_with(writer.taken.as_slice())
+        })
 }
 
 /// How many lines are written before a flush fails, if they are the first lines of the text.
@@ -95,18 +87,19 @@ fn fails_with_its_reader(rt: HostRuntime) {
     }
 }
 
-/// Whether a writer that takes no more than `room` bytes makes the replay fail, however it fails.
-fn fails_to_write(alloc: Global, room: usize) -> bool {
-    let failed = Err(ReplayFault::Write);
-    is_written(alloc, room, Failure::Write, failed)
-        && is_written(alloc, room, Failure::Full, failed)
-}
-
 // A failure is reported; an interruption isn't a failure.
 #[test]
 fn fails_with_its_writer(rt: HostRuntime) {
+    let failed = Err(ReplayFault::Write);
     for room in 0..TEXT.len() {
-        assert!(rt; fails_to_write(rt.alloc(), room), "{room}");
+        assert!(rt;
+            is_written(rt.alloc(), room, Failure::Write, failed),
+            "{room}"
+        );
+        assert!(rt;
+            is_written(rt.alloc(), room, Failure::Full, failed),
+            "{room}"
+        );
     }
     assert!(rt; is_written(rt.alloc(), usize::MAX, Failure::Write, Ok(Outcome::Clean)));
     for times in [0, 1, 1_000, 100_000] {

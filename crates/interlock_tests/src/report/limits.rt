@@ -2,7 +2,7 @@
 
 use super::is_answered;
 use cell_replay::{Outcome, ReplayFault, ScriptFault, replay};
-use std::alloc::{AllocError, Global};
+use std::alloc::Global;
 use std::process::Abort;
 use test_doubles::{Failure, InterruptedReader, InterruptedWriter, count_parts, part};
 
@@ -155,7 +155,7 @@ fault badrow 1
 ";
 
 /// The length to which blank lines fill the records of each row, and how the script ends.
-const ENDS: &[(usize, Outcome)] = &[
+const ENDS: [(usize, Outcome); 14] = [
     (4_194_304, Outcome::Clean),
     (4_194_305, LONG),
     (4_194_300, LONG),
@@ -185,22 +185,20 @@ fn script_of(rt: &impl Abort, alloc: Global, filled: Filled<'_>) -> Vec<u8> {
     script
 }
 
-/// Whether the script of the row with this number gets its answer, and ends so.
-fn is_cut(rt: &impl Abort, alloc: Global, number: usize) -> bool {
-    let Some((length, outcome)) = ENDS.get(number) else {
-        return false;
-    };
-    let row = part(ROWS, "--\n", number);
-    let filled = (part(row, "=>\n", 1), *length, part(row, "=>\n", 2));
+/// Whether the script of a row that is filled to this length gets its answer, and ends so.
+fn is_cut(rt: &impl Abort, alloc: Global, row: &str, length: usize, outcome: Outcome) -> bool {
+    let filled = (part(row, "=>\n", 1), length, part(row, "=>\n", 2));
     let script = script_of(rt, alloc, filled);
-    is_answered(alloc, script.as_slice(), part(row, "=>\n", 3), *outcome)
+    is_answered(alloc, script.as_slice(), part(row, "=>\n", 3), outcome)
 }
 
 #[test]
 fn cuts_long_scripts(rt: HostRuntime) {
-    assert!(rt; count_parts(ROWS, "--\n") == 14 && ENDS.len() == 14);
-    for number in 0..14usize {
-        assert!(rt; is_cut(&rt, rt.alloc(), number), "{number}");
+    assert!(rt; count_parts(ROWS, "--\n") == ENDS.len());
+    for number in 0..ENDS.len() {
+        let row = part(ROWS, "--\n", number);
+        let (length, outcome) = ENDS[number];
+        assert!(rt; is_cut(&rt, rt.alloc(), row, length, outcome), "{row}");
     }
 }
 
@@ -214,26 +212,32 @@ fn inquiries(rt: &impl Abort, alloc: Global, count: u32, last: &str) -> String {
     script
 }
 
-/// The answers to 65,536 inquiries, and a last line.
-fn answers_to_most(alloc: Global, last: &str) -> Result<String, AllocError> {
-    let mut text = String::from_str(alloc, "0 0 start 0\n")?;
-    for number in 1..=65_536u32 {
-        write!(text, "{number} 0 zone free 0 closed\n")?;
+/// The text for 65,536 inquiries and a last record, if the script has this outcome.
+fn text_after(rt: &impl Abort, alloc: Global, last: &str, outcome: Outcome) -> Option<Vec<u8>> {
+    let script = inquiries(rt, alloc, 65_536, last);
+    let mut written = Vec::new(alloc);
+    if replay(alloc, &mut script.as_bytes(), &mut written) == Ok(outcome) {
+        Some(written)
+    } else {
+        None
     }
-    text.push_str(last)?;
-    Ok(text)
 }
 
-/// Whether 65,536 inquiries and a last record have these answers and this outcome.
-fn are_told(rt: &impl Abort, alloc: Global, last: &str, text: &str, outcome: Outcome) -> bool {
-    let script = inquiries(rt, alloc, 65_536, last);
-    is_answered(alloc, script.as_bytes(), text, outcome)
+/// Whether the text has 65,537 lines, with these first and last ones.
+fn has_most_lines(text: &[u8], first: &str, last: &str) -> bool {
+    text.starts_with(first.as_bytes())
+        && text.ends_with(last.as_bytes())
+        && text.iter().filter(|byte| **byte == b'\n').count() == 65_537
 }
 
 /// The script of 65,536 inquiries, which blank lines fill to the most bytes.
 fn largest(rt: &impl Abort, alloc: Global) -> Vec<u8> {
-    let records = inquiries(rt, alloc, 65_536, "");
-    script_of(rt, alloc, (&records, 4_194_304, ""))
+    let mut script = Vec::new(alloc);
+    script
+        .extend_from_slice(inquiries(rt, alloc, 65_536, "").as_bytes())
+        .expect(rt, "memory");
+    script.resize(4_194_304, b'\n').expect(rt, "memory");
+    script
 }
 
 /// Whether the largest script has this text, if it is read and written a byte at a time, with
@@ -247,39 +251,37 @@ fn is_told_bytewise(rt: &impl Abort, alloc: Global, text: &[u8]) -> bool {
 
 const TOO_MANY: &[&str] = &["watch,inquire,z1\n", "nothing\n"];
 
-// As many records as may be answered are clean, of as many bytes as may be read.
+// As many records as may be answered are clean, of as many bytes as may be read. One more record may
+// hold anything.
 #[test]
 fn answers_most_records(rt: HostRuntime) {
-    let text = answers_to_most(rt.alloc(), "").expect(&rt, "memory");
-    assert!(rt; are_told(&rt, rt.alloc(), "", &text, Outcome::Clean));
-    assert!(rt; is_told_bytewise(&rt, rt.alloc(), text.as_bytes()));
-}
-
-// One more record may hold anything.
-#[test]
-fn answers_no_more_records(rt: HostRuntime) {
-    let text = answers_to_most(rt.alloc(), "fault long\n").expect(&rt, "memory");
+    let alloc = rt.alloc();
+    let mut text = text_after(&rt, alloc, "", Outcome::Clean).expect(&rt, "a clean script");
+    let first = "0 0 start 0\n1 0 zone free 0 closed\n2 0 zone free 0 closed\n";
+    let last = "\n65536 0 zone free 0 closed\n";
+    assert!(rt; has_most_lines(text.as_slice(), first, last));
+    assert!(rt; is_told_bytewise(&rt, alloc, text.as_slice()));
+    text.extend_from_slice("fault long\n".as_bytes())
+        .expect(&rt, "memory");
     for last in TOO_MANY {
-        assert!(rt; are_told(&rt, rt.alloc(), last, &text, LONG), "{last}");
+        let long = text_after(&rt, alloc, last, LONG).expect(&rt, "a long script");
+        assert!(rt; long.as_slice() == text.as_slice(), "{last}");
     }
-}
-
-/// Whether a replay whose reader fails after this many bytes fails to read, and its answers have this end.
-fn ends_after(alloc: Global, script: &[u8], left: usize, last: &[u8]) -> bool {
-    let mut reader = InterruptedReader::new(script, left, 1);
-    let mut written = Vec::new(alloc);
-    let got = replay(alloc, &mut reader, &mut written);
-    got == Err(ReplayFault::Read) && written.as_slice().ends_with(last)
 }
 
 // A reader fails at the last byte of a script with one record too many. The lines that are known
 // are written; the record before the one that failed is still held back.
 #[test]
 fn writes_before_its_reader_fails(rt: HostRuntime) {
-    let script = inquiries(&rt, rt.alloc(), 65_537, "");
-    let left = script.len().saturating_sub(1);
+    let alloc = rt.alloc();
+    let script = inquiries(&rt, alloc, 65_537, "");
+    let last_byte = script.len().saturating_sub(1);
+    let mut reader = InterruptedReader::new(script.as_bytes(), last_byte, 1);
+    let mut written = Vec::new(alloc);
+    let got = replay(alloc, &mut reader, &mut written);
+    assert!(rt; got == Err(ReplayFault::Read));
     let last = b"\n65535 0 zone free 0 closed\n".as_slice();
-    assert!(rt; ends_after(rt.alloc(), script.as_bytes(), left, last));
+    assert!(rt; written.as_slice().ends_with(last));
 }
 
 /// After how many bytes a reader of `TWO` and blank lines fails, and what follows.
@@ -308,53 +310,28 @@ const ROOMS: &[usize] = &[
     0, 1, 8_170, 8_191, 8_192, 8_193, 16_383, 16_384, 16_385, 20_000,
 ];
 
-/// Whether a script has this answer and this end, if its reader fails after this many bytes.
-fn is_told_up_to(
-    alloc: Global,
-    script: &[u8],
-    left: usize,
-    text: &str,
-    wanted: Result<Outcome, ReplayFault>,
-) -> bool {
-    let mut reader = InterruptedReader::new(script, left, usize::MAX);
-    let mut written = Vec::new(alloc);
-    let got = replay(alloc, &mut reader, &mut written);
-    got == wanted && written.as_slice() == text.as_bytes()
-}
-
-// The faults of a reader at the limit.
+// The faults of a reader at the limit, and of a writer between the blocks of a long text.
 #[test]
 fn fails_at_limits(rt: HostRuntime) {
-    let script = script_of(&rt, rt.alloc(), (TWO, 4_194_310, ""));
+    let alloc = rt.alloc();
+    let script = script_of(&rt, alloc, (TWO, 4_194_310, ""));
     for (left, text, wanted) in FAILS_AT_LIMIT {
-        let is_right = is_told_up_to(rt.alloc(), script.as_slice(), *left, text, *wanted);
-        assert!(rt; is_right, "{left}");
+        let mut reader = InterruptedReader::new(script.as_slice(), *left, usize::MAX);
+        let mut written = Vec::new(alloc);
+        let got = replay(alloc, &mut reader, &mut written);
+        assert!(rt;
+            got == *wanted && written.as_slice() == text.as_bytes(),
+            "{left}"
+        );
     }
-}
-
-/// Whether a writer that fails after this many bytes has got the first ones of this text.
-fn is_cut_after(alloc: Global, script: &str, text: &[u8], room: usize) -> bool {
-    let mut writer = InterruptedWriter::new(alloc, room, 1_000, Failure::Write);
-    let got = replay(alloc, &mut script.as_bytes(), &mut writer);
-    let taken = writer.taken.as_slice();
-    got == Err(ReplayFault::Write) && taken.len() == room && text.starts_with(taken)
-}
-
-/// Whether a writer that fails gets the first bytes of a script's answers, after however many of `ROOMS`.
-fn is_cut_in_each_block(alloc: Global, script: &str) -> bool {
+    let long = inquiries(&rt, alloc, 1_000, "");
     let mut text = Vec::new(alloc);
-    let got = replay(alloc, &mut script.as_bytes(), &mut text);
+    assert!(rt; replay(alloc, &mut long.as_bytes(), &mut text) == Ok(Outcome::Clean));
     for room in ROOMS {
-        if !is_cut_after(alloc, script, text.as_slice(), *room) {
-            return false;
-        }
+        let mut writer = InterruptedWriter::new(alloc, *room, 1_000, Failure::Write);
+        let got = replay(alloc, &mut long.as_bytes(), &mut writer);
+        let taken = writer.taken.as_slice();
+        let is_prefix = taken.len() == *room && text.as_slice().starts_with(taken);
+        assert!(rt; got == Err(ReplayFault::Write) && is_prefix, "{room}");
     }
-    got == Ok(Outcome::Clean)
-}
-
-// The faults of a writer between the blocks of a long text.
-#[test]
-fn fails_between_blocks(rt: HostRuntime) {
-    let long = inquiries(&rt, rt.alloc(), 1_000, "");
-    assert!(rt; is_cut_in_each_block(rt.alloc(), &long));
 }

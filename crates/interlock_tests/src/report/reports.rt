@@ -238,21 +238,14 @@ fn is_reported(
         && written.as_slice().ends_with(line.as_bytes())
 }
 
-/// Whether a run is reported so with each line of an audit.
-fn are_reported(alloc: Global, run: &RunRecord, text: &str) -> bool {
-    for (audit, line) in AUDITS {
-        if !is_reported(alloc, run, *audit, text, line) {
-            return false;
-        }
-    }
-    true
-}
-
 #[test]
 fn tells_runs(rt: HostRuntime) {
     let alloc = rt.alloc();
     assert!(rt; is_reported(alloc, &press_alone(&rt, alloc), None, PRESS_ALONE, ""));
-    assert!(rt; are_reported(alloc, &mixed_run(&rt, alloc), MIXED));
+    let run = mixed_run(&rt, alloc);
+    for (audit, line) in AUDITS {
+        assert!(rt; is_reported(alloc, &run, *audit, MIXED, line), "{line}");
+    }
     let differs = Some(AuditFault::Differs(u32::MAX));
     let line = "audit differs 4294967295\n";
     assert!(rt; LARGEST.len().saturating_add(line.len()) == 1_457);
@@ -276,28 +269,24 @@ fn is_written(
         && PRESS_ALONE.as_bytes().starts_with(writer.taken.as_slice())
 }
 
-/// Whether the report fails with each writer that takes less than all of it, however it fails.
-fn fails_with_each(alloc: Global, run: &RunRecord) -> bool {
-    let failed = Err(WriteFault::Write);
-    for room in 0..PRESS_ALONE.len() {
-        if !is_written(alloc, run, room, 100, Failure::Write, failed)
-            || !is_written(alloc, run, room, 100, Failure::Full, failed)
-        {
-            return false;
-        }
-    }
-    is_written(alloc, run, usize::MAX, 100, Failure::Flush, failed)
-}
-
-/// Whether the report is written whole, also byte by byte.
-fn is_written_whole(alloc: Global, run: &RunRecord) -> bool {
-    is_written(alloc, run, usize::MAX, 100, Failure::Write, Ok(()))
-        && is_written(alloc, run, PRESS_ALONE.len(), 1, Failure::Full, Ok(()))
-}
-
 // A failure is reported; an interruption isn't a failure.
 #[test]
 fn fails_with_its_writer(rt: HostRuntime) {
-    let run = press_alone(&rt, rt.alloc());
-    assert!(rt; fails_with_each(rt.alloc(), &run) && is_written_whole(rt.alloc(), &run));
+    let alloc = rt.alloc();
+    let run = press_alone(&rt, alloc);
+    let failed = Err(WriteFault::Write);
+    for room in 0..PRESS_ALONE.len() {
+        assert!(rt;
+            is_written(alloc, &run, room, 100, Failure::Write, failed),
+            "{room}"
+        );
+        assert!(rt;
+            is_written(alloc, &run, room, 100, Failure::Full, failed),
+            "{room}"
+        );
+    }
+    assert!(rt; is_written(alloc, &run, usize::MAX, 100, Failure::Flush, failed));
+    assert!(rt; is_written(alloc, &run, usize::MAX, 100, Failure::Write, Ok(())));
+    // The writer takes byte by byte.
+    assert!(rt; is_written(alloc, &run, PRESS_ALONE.len(), 1, Failure::Full, Ok(())));
 }
