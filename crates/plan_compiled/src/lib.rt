@@ -11,8 +11,6 @@ mod needs;
 mod part;
 mod right;
 mod row;
-#[cfg(test)]
-mod tests;
 mod told;
 
 pub use compiled::Compiled;

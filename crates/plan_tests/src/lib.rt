@@ -9,6 +9,8 @@ mod cell;
 #[cfg(test)]
 mod cell_plan;
 #[cfg(test)]
+mod compiled;
+#[cfg(test)]
 mod doubles;
 #[cfg(test)]
 mod examples;

@@ -1,6 +1,6 @@
-//! Random calls on words, by rows and by unpacking.
+//! Random calls on words of compiled plans, by rows and by unpacking.
 
-use crate::{Compiled, SLOTS_OF_ALL, slot};
+use plan_compiled::{Compiled, SLOTS_OF_ALL, slot};
 use plan_rules::State;
 use plan_types::{
     Answer, Call, MAX_ZONES, Plan, PlanPose, PlanZone, Posture, Tables, WATCH, examples, read_plan,
