@@ -1,5 +1,5 @@
-mod Leading
-mod Permitting
-mod Caring
-mod Benching
+pub mod Leading
+pub mod Permitting
+pub mod Caring
+pub mod Benching
 mod Rows

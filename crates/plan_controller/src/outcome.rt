@@ -48,7 +48,7 @@ fn after_refusal(refusal: Refusal) -> Outcome
 }
 
 /// What a call leads to, by its answer; `None` if it wasn't made.
-pub(crate) fn after_call(answer: Option<Answer>) -> Outcome
+pub fn after_call(answer: Option<Answer>) -> Outcome
     ensures { result ≡ steps.after_call answer }
 {
     match answer {
@@ -59,7 +59,7 @@ pub(crate) fn after_call(answer: Option<Answer>) -> Outcome
 }
 
 /// What an inquiry leads to while a machine awaits a zone: on, if it shows the machine as the owner.
-pub(crate) fn after_inquiry(machine: u8, answer: Option<Answer>) -> Outcome
+pub fn after_inquiry(machine: u8, answer: Option<Answer>) -> Outcome
     ensures { result ≡ steps.after_inquiry machine answer }
 {
     match answer {

@@ -44,7 +44,7 @@ pub fn lines_of(alloc: Global, program: &[Step]) -> Result<Vec<Line>, AllocError
 }
 
 /// Whether a sensor shows, of 32.
-pub(crate) fn shows(sensors: u32, sensor: u8) -> bool
+pub fn shows(sensors: u32, sensor: u8) -> bool
     ensures { result ≡ steps.shows sensors sensor }
 {
     sensor < 32 && sensors >> sensor & 1 == 1
