@@ -46,6 +46,17 @@ returns-clause-callers c =
       ap (λ (ps : Views). (first_of (new_view i.rules i.opening 1) ps).actor) second,
     )
 
+pub returns-clause-rules : goal.returns-clause-rules
+returns-clause-rules c =
+    let i = c.in-Ok-new-2.interlock in
+    let plan_is = c.new-rules.ensures ∙ (c.in-Ok-new.ensures.plan ∙ c.in-Ok.ensures) in
+    let are = ap (λ p. p.actors) c.in-Ok-new-2.ensures.passes ∙ ap (λ (t : PlanTable). map (new_view i.rules i.opening) (callers_of t)) plan_is in
+    let left = sym (ap (λ (ps : Views). but_first ps) c.take_pass-loader.ensures.taken) ∙ ap (λ (ps : Views). but_first ps) are in
+    let first = sym c.take_pass-loader.ensures.taken ∙ are in let second = sym c.take_pass-press.ensures.taken ∙ left in (
+      ap (λ (ps : Views). (first_of (new_view i.rules i.opening 0) ps).rules) first,
+      ap (λ (ps : Views). (first_of (new_view i.rules i.opening 1) ps).rules) second,
+    )
+
 pub returns-clause-starts : goal.returns-clause-starts
 returns-clause-starts c =
     let i = c.in-Ok-new-2.interlock in
