@@ -1,5 +1,5 @@
 -- Which texts are names and words, of all.
-use Rattle.std.proofs.Common.{◌≡◌, ◌≢◌, ◌∙◌, inl, inr, ℕ, zero, suc, ◌<◌, Bool, true, false, ◌&&◌, ◌||◌, cond, List, [], ◌∷◌, ◌++◌, codes, length, nat_eq, nat_le, Option, Some, None, option_map, refl, sym, ap, arith}
+use Rattle.std.proofs.Common.{◌≡◌, ◌≢◌, ◌∙◌, inl, inr, ℕ, ◌<◌, Bool, true, false, ◌&&◌, ◌||◌, cond, List, [], ◌∷◌, ◌++◌, codes, length, nat_eq, nat_le, Option, Some, None, option_map, refl, sym, ap, arith}
 use Rattle.std.specs.Prelude.{slice_index}
 use Rattle.std.specs.Bool.{then_some}
 use Rattle.std.specs.Char.{is_ascii_digit, is_ascii_lowercase}
@@ -17,7 +17,7 @@ use Rattle.plan_types.specs.Table.{machine_of}
 use Rattle.plan_types.specs.declared.call.Call.TheVariants as call
 use Rattle.plan_types.specs.declared.posture.Posture.{Posture}
 use Rattle.plan_types.specs.declared.posture.Posture.TheVariants as posture
-use Rattle.plan_types.proofs.lemmas.Below.{first_below_none}
+use Rattle.plan_types.proofs.lemmas.Below.{IsFirst, first_of}
 use Rattle.plan_text.specs.Answers.{all_postures, posture_of, posture_word}
 use Rattle.plan_text.specs.Calls.{all_verbs, call_of, pose_if, verb_of, verb_word}
 use Rattle.plan_text.specs.Named.{Named}
@@ -160,24 +160,6 @@ words_are_of_one word verb posture = record {
 }
 
 -- ---- numbers
-
--- what is found below a number is that of the first number that has any
-record IsFirst (f : ℕ → Option ℕ) (n v : ℕ) : Type 0 where
-  at : ℕ
-  below : at < n
-  has : f at ≡ Some v
-  none : (i : ℕ) → i < at → f i ≡ None
-
-first_in_either : (f : ℕ → Option ℕ) (n v : ℕ) (o : Option ℕ) → first_below f n ≡ o → option_or o (f n) ≡ Some v → (first_below f n ≡ Some v → IsFirst f n v) → IsFirst f (suc n) v
-first_in_either f n v None none is below = record { at = n; below = omega arith; has = is; none = first_below_none f n none }
-first_in_either f n v (Some w) some is below =
-    let h = below (some ∙ is) in
-    let l = h.below in
-    record { at = h.at; below = omega arith; has = h.has; none = h.none }
-
-first_of : (f : ℕ → Option ℕ) (n v : ℕ) → first_below f n ≡ Some v → IsFirst f n v
-first_of f zero v e = absurd (cc)
-first_of f (suc n) v e = first_in_either f n v (first_below f n) refl e (first_of f n v)
 
 failed : (test : Bool) (k : ℕ) → then_some test k ≡ None → test ≡ false
 failed true k e = absurd (cc)
