@@ -1,4 +1,6 @@
 mod Growing
+mod Running
+mod Stepping
 mod Given
 mod Listed
 mod Written
@@ -10,6 +12,8 @@ mod PlanRows
 mod ReadingRows
 mod MotorRows
 mod Standing
+mod StepLines
+mod StepRows
 mod PlanLaws
 mod PostureLaws
 mod MotorLaws

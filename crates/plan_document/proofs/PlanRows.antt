@@ -25,8 +25,8 @@ use Rattle.plan_document.specs.Laws.{AcceptedLinesAreTheirs, RefusedLinesAreNeve
 use Rattle.plan_document.specs.NameLaws.{NamesAreWords, is_one_word}
 use Rattle.plan_document.specs.Names.{AreDistinct, all_poses, machine_names, names_in, numbered, place_names, pose_names, zone_names}
 use Rattle.plan_document.specs.Postures.{gives_zone}
-use Rattle.plan_document.specs.Saying.{IsCallOf, IsNamedPlanOf, IsPlanOf, IsPoseOf, IsProgramOf, IsZoneOf, is_free, keepers, may_be_done, own_call}
-use Rattle.plan_document.specs.PlanExamples.{AreApart, AreOneWord, CallsAreOfLines, DocumentsAreMet, HasTwo, LawsOfLift, LinesAreRead, NamesAreTold, NeverDone, NeverTheirs, PlansHaveNames, PlansHavePrograms, PlansHaveRows, PlansSayRows, PosesAreRead, PosturesAreGiven, WaysAreRead, ZonesAreRead, letters}
+use Rattle.plan_document.specs.Saying.{IsCallOf, IsNamedPlanOf, IsPlanOf, IsPoseOf, IsProgramOf, IsZoneOf, is_free, keepers, calls_of, may_be_done, own_call}
+use Rattle.plan_document.specs.PlanExamples.{AreApart, AreOneWord, DocumentsAreMet, HasTwo, LawsOfLift, LinesAreRead, NamesAreTold, NeverDone, NeverTheirs, PlansHaveNames, PlansHavePrograms, PlansHaveRows, PlansSayRows, PosesAreRead, PosturesAreGiven, WaysAreRead, ZonesAreRead, letters}
 use Rattle.plan_document.specs.WordExamples.{parked}
 
 pub impossible : false ≡ true → ⊥
@@ -144,7 +144,7 @@ begins Inquire name rest e = absurd (impossible (sym (ap (λ (t : Text). nat_eq 
 begins Pose name rest e = absurd (impossible (sym (ap (λ (t : Text). nat_eq (slice_index t 0) 103) e)))
 
 -- what a line of this verb asks
-asked : (machine : ℕ) (rest : Text) (c : Call) → IsCallOf parked machine (codes "give " ++ rest) c → own_call parked machine GiveVerb rest ≡ Some c
+pub asked : (machine : ℕ) (rest : Text) (c : Call) → IsCallOf parked machine (codes "give " ++ rest) c → own_call parked machine GiveVerb rest ≡ Some c
 asked machine rest c is = by is.verb is.name is.line_is is.call_is
   where
     by : (v : Verb) (name : Text) → codes "give " ++ rest ≡ verb_word v ++ codes " " ++ name → own_call parked machine v name ≡ Some c → own_call parked machine GiveVerb rest ≡ Some c
@@ -197,13 +197,6 @@ line_rows = record {
         let e : Give 1 ≡ c = cc in
         impossible (ap (may_be_done parked.plan 1) e ∙ is.doable)
 
-call_rows : (n : Named) (machine : ℕ) → CallsAreOfLines n machine
-call_rows n machine = record {
-  line_lost = λ line is. is;
-  call_added = λ call is. is;
-  in_order = λ a b x y is. (is.0, is.1.0);
-}
-
 pub document_rows : DocumentsAreMet
 document_rows = record {
   names = name_rows;
@@ -213,7 +206,6 @@ document_rows = record {
   postures = posture_rows;
   poses = pose_rows;
   lines = line_rows;
-  calls = call_rows;
 }
 
 -- ---- plans
@@ -260,8 +252,9 @@ rows_of_plans d a b x y n has is = record {
 
 programs_of_plans : (d : Document) (a b : MachineRow) (x y : ZoneRow) (p : ProgrammedPlan) → HasTwo d a b x y → IsPlanOf d p → PlansHavePrograms a b p
 programs_of_plans d a b x y p has is = record {
-  programs = λ first second programs. two (IsProgramOf p.named) (numbered d.machines.items) p.programs (0, a) (1, b) first second is.programs (ap numbered has.machines) programs;
-  program_lost = λ program. lost (IsProgramOf p.named) (numbered d.machines.items) p.programs (0, a) (1, b) program is.programs (ap numbered has.machines);
+  steps = λ first second steps. two (IsProgramOf p.named p.motors) (numbered d.machines.items) (map (λ s. s.items) p.steps.items) (0, a) (1, b) first.items second.items is.steps (ap numbered has.machines) (ap (map (λ s. s.items)) steps);
+  programs = λ first second steps. is.programs ∙ ap (map (λ s. calls_of s.items)) steps;
+  program_lost = λ steps one. lost (IsProgramOf p.named p.motors) (numbered d.machines.items) (map (λ s. s.items) p.steps.items) (0, a) (1, b) steps.items is.steps (ap numbered has.machines) (ap (map (λ s. s.items)) one);
 }
 
 pub plan_rows : PlansSayRows

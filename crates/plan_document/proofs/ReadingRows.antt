@@ -83,6 +83,7 @@ machines_in members row = record {
   name = λ is. ap (get_member (codes "name")) (same_members members is.members is.is_table) ∙ is.name;
   places = λ is. ap (items_at (codes "places")) (same_members members is.members is.is_table) ∙ is.places;
   poses = λ is. subst (λ ms. HasRows IsPoseIn (codes "poses") ms row.poses.items) (sym (same_members members is.members is.is_table)) is.poses;
+  sensors = λ is. ap (items_at (codes "sensors")) (same_members members is.members is.is_table) ∙ is.sensors;
   program = λ is. ap (items_at (codes "program")) (same_members members is.members is.is_table) ∙ is.program;
   no_table = λ text is. no_text text is.members is.is_table;
   unknown = λ value is. impossible (ap (has_only machine_keys) (same_members (member (codes "host") value members) is.members is.is_table) ∙ is.keys);

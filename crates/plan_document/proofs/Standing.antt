@@ -154,11 +154,14 @@ or_cases : (a b : Option ℕ) (v : ℕ) → option_or a b ≡ Some v → (a ≡ 
 or_cases None b v e = inr e
 or_cases (Some w) b v e = inl e
 
-found : (f : ℕ → Option ℕ) (n v : ℕ) → first_below f n ≡ Some v → (k : ℕ) × (f k ≡ Some v)
+found : (f : ℕ → Option ℕ) (n v : ℕ) → first_below f n ≡ Some v → (k : ℕ) × (k < n) × (f k ≡ Some v)
 found f zero v e = absurd (cc)
-found f (suc n) v e = elim (or_cases (first_below f n) (f n) v e) [ inl h ↦ found f n v h | inr h ↦ (n, h) ]
+found f (suc n) v e = elim (or_cases (first_below f n) (f n) v e) [
+  | inl h ↦ let before = found f n v h in (before.0, omega (arith, before.1), before.2)
+  | inr h ↦ (n, omega arith, h)
+]
 
-passed : (test : Bool) (k v : ℕ) → then_some test k ≡ Some v → (test ≡ true) × (k ≡ v)
+pub passed : (test : Bool) (k v : ℕ) → then_some test k ≡ Some v → (test ≡ true) × (k ≡ v)
 passed true k v e = (refl, cc)
 passed false k v e = absurd (cc)
 
@@ -166,8 +169,15 @@ passed false k v e = absurd (cc)
 pub name_of : (names : List Text) (name : Text) (v : ℕ) → number_in names name ≡ Some v → name_in names v ≡ name
 name_of names name v e =
     let h = found (number_if names name) (length names) v e in
-    let p = passed (bytes_eq (name_in names h.0) name) h.0 v h.1 in
+    let p = passed (bytes_eq (name_in names h.0) name) h.0 v h.2 in
     ap (name_in names) (sym p.1) ∙ (bytes_eq-Decides (name_in names h.0) name).0 p.0
+
+-- which is below the count of names
+pub number_below : (names : List Text) (name : Text) (v : ℕ) → number_in names name ≡ Some v → v < length names
+number_below names name v e =
+    let h = found (number_if names name) (length names) v e in
+    let p = passed (bytes_eq (name_in names h.0) name) h.0 v h.2 in
+    omega (arith, h.1, p.1)
 
 -- the name with the number of a row is that of the row
 pub named_at : {A : Type 0} (f : A → Text) (xs : List A) (names : List Text) (i : ℕ) (x : A) → names ≡ map f xs → StandsAt xs i x → name_in names i ≡ f x

@@ -1,5 +1,5 @@
 -- How many rows a plan has, which names they have, and which calls its programs have.
-use Rattle.std.proofs.Common.{◌≡◌, ◌∙◌, ◌+◌, ◌<◌, ◌++◌, ◌∷◌, [], ℕ, Bool, true, false, not, List, length, map, replicate, sum, refl, sym, ap, subst, string_bytes}
+use Rattle.std.proofs.Common.{◌≡◌, ◌≢◌, ◌∙◌, ◌+◌, ◌<◌, ◌++◌, ◌∷◌, [], ℕ, Bool, true, false, not, List, length, map, replicate, sum, refl, sym, ap, subst, string_bytes, arith, codes}
 use Rattle.std.proofs.Common.{Option, Some, None, is_some, option_map}
 use Rattle.std.proofs.lemmas.List.{length-append, length-map, length-replicate}
 use Rattle.std.proofs.lemmas.List.Folds.{list_all_at}
@@ -8,7 +8,9 @@ use Rattle.std.proofs.lemmas.List.Sums.{sum-map, sum_by-cons}
 use Rattle.std.proofs.lemmas.Slice.Zip.{AllZip-long}
 use Rattle.std.specs.List.{AllZip, flat_map, list_all, sum_by}
 use Rattle.plan_types.specs.declared.call.Call.{Call}
-use Rattle.plan_types.specs.declared.call.Call.TheVariants.{SetPose}
+use Rattle.plan_types.specs.declared.call.Call.TheVariants.{Claim, Give, Yield, Take, Release, SetPose}
+use Rattle.plan_controller.specs.declared.step.Step.{Step}
+use Rattle.plan_controller.specs.declared.step.Step.TheVariants.{Do, Await, Run}
 use Rattle.plan_text.specs.Calls.{call_text, own_pose, words}
 use Rattle.plan_text.specs.Laws.{CallsAreToldAsRead, OwnPosesComeFirst}
 use Rattle.plan_text.specs.Named.{Named}
@@ -23,13 +25,15 @@ use Rattle.plan_document.specs.declared.document.PoseRow.{PoseRow}
 use Rattle.plan_document.specs.declared.document.ZoneRow.{ZoneRow}
 use Rattle.plan_document.specs.declared.resolving.ProgrammedPlan.{ProgrammedPlan}
 use Rattle.plan_document.specs.Motors.{IsHazardOf, IsMotorOf}
-use Rattle.plan_document.specs.Names.{AreDistinct, all_poses, identifier, identifiers, identifiers_in, is_title, names_in, numbered, numbered_poses, place_names, places_in, pose_names}
+use Rattle.plan_document.specs.Names.{AreDistinct, all_poses, identifier, identifiers, identifiers_in, is_title, names_in, numbered, numbered_poses, place_names, places_in, pose_names, sensors_in}
 use Rattle.plan_document.specs.PlanLaws.{StandsAt}
-use Rattle.plan_document.specs.Saying.{AreCallsOf, IsCallOf, IsPlanOf, IsPoseOf, IsProgramOf, IsZoneOf, is_free, keepers, own_call}
-use Rattle.plan_document.specs.TableLaws.{NamesAreSpelled, PlansHaveCounts, PlansHaveNames, PosesAreTwoForC, ProgramsHaveLines, RowsAreNamed, TablesHaveCounts}
+use Rattle.plan_document.specs.Laws.{is_line}
+use Rattle.plan_document.specs.Saying.{IsPlanOf, IsPoseOf, IsProgramOf, IsStepOf, IsZoneOf, calls_of, is_free, keepers, own_call}
+use Rattle.plan_document.specs.TableLaws.{HasLine, NamesAreSpelled, PlansHaveCounts, PlansHaveNames, PosesAreTwoForC, ProgramsHaveLines, RowsAreNamed, TablesHaveCounts}
 use Rattle.plan_document.proofs.PlanLaws.{own_place}
 use Rattle.plan_document.proofs.PlanRows.{are_apart, impossible}
-use Rattle.plan_document.proofs.Standing.{as_many, flat_at, mapped, moved, named_at, numbered_at, own_number, same_number, zipped}
+use Rattle.plan_document.proofs.Standing.{as_many, flat_at, mapped, moved, name_of, named_at, number_below, numbered_at, own_number, same_number, zipped}
+use Rattle.plan_document.proofs.StepLines.{call_line, run_line, zone_line}
 
 -- ---- counts
 
@@ -74,11 +78,17 @@ counts_of d p is = record {
       AllZip-long (IsPoseOf p.named.zones) (all_poses d.machines.items) p.named.plan.poses is.named.poses
       ∙ all_pose_total d.machines.items
       ∙ pose_total d.machines.items;
-  programs =
-      AllZip-long (IsProgramOf p.named) (numbered d.machines.items) p.programs is.programs ∙ length-enumerate_from 0 d.machines.items;
+  programs = ap length is.programs ∙ length-map p.steps.items (λ s. calls_of s.items) ∙ steps;
+  steps = steps;
   motors = AllZip-long (IsMotorOf p.named) d.motors.items p.motors.motors.items is.motors.motors;
   hazards = AllZip-long (IsHazardOf p.motors.names) d.hazards.items p.motors.hazards.items is.motors.hazards;
 }
+  where
+    steps : length p.steps.items ≡ length d.machines.items
+    steps =
+        sym (length-map p.steps.items (λ s. s.items))
+        ∙ AllZip-long (IsProgramOf p.named p.motors) (numbered d.machines.items) (map (λ s. s.items) p.steps.items) is.steps
+        ∙ length-enumerate_from 0 d.machines.items
 
 pub counted : PlansHaveCounts
 counted d p is = (
@@ -177,28 +187,55 @@ told_by reads own n machine verbs.Pose name c e = by (own_pose n machine name) r
         let h : Some (SetPose pose) ≡ Some c = sym (ap (option_map SetPose) is) ∙ e in
         reads.same n machine verbs.Pose name c (own.first n machine pose name is ∙ h)
 
--- a call of some line
-one_line : (n : Named) (machine : ℕ) (lines : List Text) (calls : List Call) (call : Call) (i : ℕ) → AllZip (IsCallOf n machine) lines calls → StandsAt calls i call → (line : Text) × IsCallOf n machine line call
-one_line n machine lines calls call i all here =
-    by here.before lines (subst (λ cs. AllZip (IsCallOf n machine) lines cs) here.is all)
-  where
-    by : (before : List Call) (lines : List Text) → AllZip (IsCallOf n machine) lines (before ++ call ∷ here.after) → (line : Text) × IsCallOf n machine line call
-    by [] [] all = absurd all
-    by [] (line ∷ lines) all = (line, all.0)
-    by (c ∷ cs) [] all = absurd all
-    by (c ∷ cs) (line ∷ lines) all = by cs lines all.1
+-- a call that is asked by another verb than to inquire is no inquiry
+from_map : (f : ℕ → Call) (o : Option ℕ) (c : Call) → option_map f o ≡ Some c → ((k : ℕ) → is_line (f k) ≡ true) → is_line c ≡ true
+from_map f None c e all = absurd (cc)
+from_map f (Some k) c e all = let same : f k ≡ c = cc in ap is_line (sym same) ∙ all k
+
+line_of : (n : Named) (machine : ℕ) (verb : Verb) (name : Text) (c : Call) → own_call n machine verb name ≡ Some c → verb ≢ verbs.Inquire → is_line c ≡ true
+line_of n machine verbs.Claim name c e asks = from_map Claim (number_in n.zones name) c e (λ k. refl)
+line_of n machine verbs.Give name c e asks = from_map Give (number_in n.zones name) c e (λ k. refl)
+line_of n machine verbs.Yield name c e asks = from_map Yield (number_in n.zones name) c e (λ k. refl)
+line_of n machine verbs.Take name c e asks = from_map Take (number_in n.zones name) c e (λ k. refl)
+line_of n machine verbs.Release name c e asks = from_map Release (number_in n.zones name) c e (λ k. refl)
+line_of n machine verbs.Inquire name c e asks = absurd (asks refl)
+line_of n machine verbs.Pose name c e asks = from_map SetPose (own_pose n machine name) c e (λ k. refl)
 
 pub lined : CallsAreToldAsRead → OwnPosesComeFirst → ProgramsHaveLines
-lined reads own d p is machine row program here there = record {
-  count = AllZip-long (IsCallOf p.named machine) (map string_bytes row.program.items) program calls ∙ length-map row.program.items string_bytes;
-  text = λ i line call at_line at_call.
-      let one : IsCallOf p.named machine (string_bytes line) call =
-      zipped (IsCallOf p.named machine) (map string_bytes row.program.items) program i (string_bytes line) call calls (mapped string_bytes row.program.items i line at_line) at_call in
-      told_by reads own p.named machine one.verb one.name call one.call_is ∙ sym one.line_is;
-  may = λ i call at_call.
-      let one = one_line p.named machine (map string_bytes row.program.items) program call i calls at_call in
-      one.1.doable;
-}
+lined reads own d p is machine row steps here there = (
+  record {
+    count = AllZip-long (IsStepOf p.named p.motors sensors machine) (map string_bytes row.program.items) steps.items program.steps_are ∙ length-map row.program.items string_bytes;
+    text = λ call line has.
+        let one = call_line p.named p.motors sensors machine line call (at (Do call) line has) in
+        told_by reads own p.named machine one.verb one.name call one.call_is ∙ sym one.line_is;
+    call = λ call line has.
+        let one = call_line p.named p.motors sensors machine line call (at (Do call) line has) in
+        line_of p.named machine one.verb one.name call one.call_is one.asks;
+    may = λ call line has. (call_line p.named p.motors sensors machine line call (at (Do call) line has)).doable;
+    zone = λ zone line has.
+        let one = zone_line p.named p.motors sensors machine line zone (at (Await zone) line has) in
+        one.1 ∙ ap (λ t. codes "await " ++ t) (sym (name_of p.named.zones one.0 zone one.2));
+    party = λ zone line has. (zone_line p.named p.motors sensors machine line zone (at (Await zone) line has)).3;
+    sensor = λ motors until line has.
+        let one = run_line p.named p.motors sensors machine line motors until (at (Run motors until) line has) in
+        (one.0, one.2 ∙ ap (λ t. one.0 ++ codes " " ++ t) (sym (name_of sensors one.1 until one.3)));
+    bit = λ motors until line has.
+        let one = run_line p.named p.motors sensors machine line motors until (at (Run motors until) line has) in
+        omega (arith, number_below sensors one.1 until one.3, program.sensors.few);
+    own = λ motors until motor line has on. (run_line p.named p.motors sensors machine line motors until (at (Run motors until) line has)).4 motor on;
+  },
+  moved p.programs (map (λ s. calls_of s.items) p.steps.items) machine machine (calls_of steps.items) is.programs refl (mapped (λ s. calls_of s.items) p.steps.items machine steps there),
+)
   where
-    calls : AreCallsOf p.named machine row.program.items program
-    calls = zipped (IsProgramOf p.named) (numbered d.machines.items) p.programs machine (machine, row) program is.programs (numbered_at d.machines.items machine row here) there
+    sensors : List Text
+    sensors = sensors_in row
+
+    program : IsProgramOf p.named p.motors (machine, row) steps.items
+    program =
+        zipped (IsProgramOf p.named p.motors) (numbered d.machines.items) (map (λ s. s.items) p.steps.items) machine (machine, row) steps.items is.steps
+        (numbered_at d.machines.items machine row here) (mapped (λ s. s.items) p.steps.items machine steps there)
+
+    at : (step : Step) (line : Text) → HasLine row steps.items step line → IsStepOf p.named p.motors sensors machine line step
+    at step line has =
+        subst (λ t. IsStepOf p.named p.motors sensors machine t step) has.2
+        (zipped (IsStepOf p.named p.motors sensors machine) (map string_bytes row.program.items) steps.items has.0 (string_bytes has.1) step program.steps_are (mapped string_bytes row.program.items has.0 has.1 has.3) has.4)

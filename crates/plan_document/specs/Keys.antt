@@ -7,7 +7,7 @@ use Rattle.plan_text.specs.Names.{Text}
 use Rattle.plan_document.specs.declared.fault.Key.{Key}
 use Rattle.plan_document.specs.declared.fault.Key.TheVariants.{Machine, Zone, Name, Places, Poses, Program, Gives}
 use Rattle.plan_document.specs.declared.fault.Key.TheVariants.{AfterMoving, Host, Guest, Inward, Outward, Motor, Hazard}
-use Rattle.plan_document.specs.declared.fault.Key.TheVariants.{Holds, Stands, Full, Empty, Motors}
+use Rattle.plan_document.specs.declared.fault.Key.TheVariants.{Holds, Stands, Full, Empty, Motors, Sensors}
 use Rattle.plan_document.specs.declared.fault.RowOf.{RowOf}
 use Rattle.plan_document.specs.declared.fault.RowOf.TheVariants as row
 
@@ -17,6 +17,7 @@ key_word Zone = codes "zone"
 key_word Name = codes "name"
 key_word Places = codes "places"
 key_word Poses = codes "poses"
+key_word Sensors = codes "sensors"
 key_word Program = codes "program"
 key_word Gives = codes "gives"
 key_word AfterMoving = codes "after_moving"
@@ -36,7 +37,7 @@ abbrev pub top_keys : List Key
 top_keys = Machine ∷ Zone ∷ Motor ∷ Hazard ∷ []
 
 abbrev pub machine_keys : List Key
-machine_keys = Name ∷ Places ∷ Poses ∷ Program ∷ []
+machine_keys = Name ∷ Places ∷ Poses ∷ Sensors ∷ Program ∷ []
 
 abbrev pub pose_keys : List Key
 pose_keys = Name ∷ Gives ∷ AfterMoving ∷ []

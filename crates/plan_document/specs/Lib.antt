@@ -12,5 +12,6 @@ pub mod TableLaws
 pub mod ReadingLaws
 pub mod WordExamples
 pub mod PlanExamples
+pub mod StepExamples
 pub mod MotorExamples
 pub mod ReadingExamples

@@ -28,6 +28,10 @@ places_in row = map string_bytes row.places.items
 abbrev pub place_names : List MachineRow → List Text
 place_names machines = flat_map places_in machines
 
+-- the names of a machine's sensors, in the order of their bits
+abbrev pub sensors_in : MachineRow → List Text
+sensors_in row = map string_bytes row.sensors.items
+
 -- the names of a machine's poses, and of those of all machines
 abbrev pub names_in : List PoseRow → List Text
 names_in poses = map (λ pose. string_bytes pose.name) poses

@@ -28,7 +28,8 @@ use Rattle.plan_document.specs.Laws.{AcceptedLinesAreTheirs, RefusedLinesAreNeve
 use Rattle.plan_document.specs.NameLaws.{NamedPlansHaveWords, NamesAreWords}
 use Rattle.plan_document.specs.Names.{AreDistinct, AreNames, identifiers, names_in}
 use Rattle.plan_document.specs.Postures.{AreGiven, given}
-use Rattle.plan_document.specs.Saying.{AreCallsOf, IsCallOf, IsNamedPlanOf, IsPlanOf, IsPoseOf, IsWayOf, IsZoneOf}
+use Rattle.plan_document.specs.Saying.{IsCallOf, IsNamedPlanOf, IsPlanOf, IsPoseOf, IsProgramOf, IsWayOf, IsZoneOf}
+use Rattle.plan_document.specs.Saying.{calls_of}
 use Rattle.plan_document.specs.WordExamples.{parked}
 
 -- ---- names
@@ -119,12 +120,6 @@ pub record LinesAreRead : Type 0 where
   pub no_verb : (c : Call) → IsCallOf parked 2 (codes "Give above") c → ⊥
   pub empty : (c : Call) → IsCallOf parked 2 [] c → ⊥
 
-pub record CallsAreOfLines (n : Named) (machine : ℕ) : Type 0 where
-  pub line_lost : (line : String Global) → AreCallsOf n machine (line ∷ []) [] → ⊥
-  pub call_added : (call : Call) → AreCallsOf n machine [] (call ∷ []) → ⊥
-  pub in_order : (a b : String Global) (x y : Call) → AreCallsOf n machine (a ∷ b ∷ []) (x ∷ y ∷ [])
-      → IsCallOf n machine (string_bytes a) x × IsCallOf n machine (string_bytes b) y
-
 pub record DocumentsAreMet : Type 0 where
   pub names : NamesAreTold
   pub words : (n : Named) → NamesAreWords n → AreOneWord n
@@ -133,7 +128,6 @@ pub record DocumentsAreMet : Type 0 where
   pub postures : (a b : PostureRow) → PosturesAreGiven a b
   pub poses : (row : PoseRow) (pose : PlanPose) → PosesAreRead row pose
   pub lines : LinesAreRead
-  pub calls : (n : Named) (machine : ℕ) → CallsAreOfLines n machine
 
 -- ---- plans
 
@@ -171,9 +165,11 @@ pub record PlansHaveRows (d : Document) (a b : MachineRow) (x y : ZoneRow) (n : 
       → n.plan.poses ≢ pose ∷ []
 
 pub record PlansHavePrograms (a b : MachineRow) (p : ProgrammedPlan) : Type 0 where
-  pub programs : (first second : List Call) → p.programs ≡ first ∷ second ∷ []
-      → AreCallsOf p.named 0 a.program.items first × AreCallsOf p.named 1 b.program.items second
-  pub program_lost : (program : List Call) → p.programs ≢ program ∷ []
+  pub steps : (first second : _) → p.steps.items ≡ first ∷ second ∷ []
+      → IsProgramOf p.named p.motors (0, a) first.items × IsProgramOf p.named p.motors (1, b) second.items
+  pub programs : (first second : _) → p.steps.items ≡ first ∷ second ∷ []
+      → p.programs ≡ calls_of first.items ∷ calls_of second.items ∷ []
+  pub program_lost : (steps : _) → p.steps.items ≢ steps ∷ []
 
 pub record PlansSayRows : Type 0 where
   pub names : (d : Document) (n : Named) (is : IsNamedPlanOf d n) → PlansHaveNames d n is

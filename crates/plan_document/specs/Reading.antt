@@ -90,6 +90,7 @@ pub record IsMachineIn (value : Data) (row : MachineRow) : Type 0 where
   pub name : HasText (codes "name") members row.name
   pub places : HasTexts (codes "places") members row.places.items
   pub poses : HasRows IsPoseIn (codes "poses") members row.poses.items
+  pub sensors : HasTexts (codes "sensors") members row.sensors.items
   pub program : HasTexts (codes "program") members row.program.items
 
 pub record IsZoneIn (value : Data) (row : ZoneRow) : Type 0 where

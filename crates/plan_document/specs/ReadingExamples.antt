@@ -58,6 +58,8 @@ pub record MachinesAreIn (members : Members) (row : MachineRow) : Type 0 where
   pub places : IsMachineIn (table members) row
       → items_at (codes "places") members ≡ Some (map written row.places.items)
   pub poses : IsMachineIn (table members) row → HasRows IsPoseIn (codes "poses") members row.poses.items
+  pub sensors : IsMachineIn (table members) row
+      → items_at (codes "sensors") members ≡ Some (map written row.sensors.items)
   pub program : IsMachineIn (table members) row
       → items_at (codes "program") members ≡ Some (map written row.program.items)
   pub no_table : (text : Text) → IsMachineIn (string text) row → ⊥

@@ -1,8 +1,11 @@
 -- What a document says: which plan is its plan. A name stands for the number of its row.
-use Rattle.std.specs.Prelude.{◌≡◌, ℕ, Bool, true, false, ◌||◌, not, nat_eq, List, ◌++◌, map, length}
+use Rattle.std.specs.Prelude.{◌≡◌, ◌≢◌, ◌⊎◌, ◌≤◌, ℕ, Bool, true, false, ◌||◌, not, nat_eq, List, ◌++◌, map, length}
 use Rattle.std.specs.Prelude.{replicate, codes, String, string_bytes, Option, Some, None, option_map, IsTrue, ⊤}
+use Rattle.std.specs.Prelude.{slice_get, is_none, is_some, option_and_then}
 use Rattle.std.specs.declared.alloc.Global.{Global}
-use Rattle.std.specs.List.{AllZip, flat_map, list_all}
+use Rattle.std.specs.Bool.{then_some}
+use Rattle.std.specs.List.{AllZip, filter_map, flat_map, list_all, list_any, slice_split}
+use Rattle.std.specs.Option.{option_eq}
 use Rattle.plan_types.specs.declared.call.Call.{Call}
 use Rattle.plan_types.specs.declared.call.Call.TheVariants.{Claim, Give, Yield, Take, Release, Inquire, SetPose, Stop}
 use Rattle.plan_types.specs.declared.call.Call.TheVariants.{Resume}
@@ -12,6 +15,10 @@ use Rattle.plan_types.specs.declared.table.Way.{Way}
 use Rattle.plan_types.specs.declared.table.PlanZone.{PlanZone}
 use Rattle.plan_types.specs.declared.table.PlanPose.{PlanPose}
 use Rattle.plan_types.specs.Table.{PlanTable, has_pose, is_party, plan_table, transfer_of}
+use Rattle.plan_motors.specs.declared.motor.Motor.{Motor}
+use Rattle.plan_drives.specs.Program.{has_bit}
+use Rattle.plan_controller.specs.declared.step.Step.{Step}
+use Rattle.plan_controller.specs.declared.step.Step.TheVariants.{Do, Await, Run}
 use Rattle.plan_text.specs.Names.{Text, is_reserved, number_in}
 use Rattle.plan_text.specs.Named.{Named, named}
 use Rattle.plan_text.specs.Answers.{posture_of}
@@ -23,12 +30,13 @@ use Rattle.plan_document.specs.declared.document.MachineRow.{MachineRow}
 use Rattle.plan_document.specs.declared.document.PoseRow.{PoseRow}
 use Rattle.plan_document.specs.declared.document.WayRow.{WayRow}
 use Rattle.plan_document.specs.declared.document.ZoneRow.{ZoneRow}
+use Rattle.plan_document.specs.declared.motors.NamedMotors.{NamedMotors}
 use Rattle.plan_document.specs.declared.resolving.ProgrammedPlan.{ProgrammedPlan}
 use Rattle.plan_document.specs.declared.tables.Rows.{Rows}
 use Rattle.plan_document.specs.Motors.{AreNamedMotorsOf}
 use Rattle.plan_document.specs.Postures.{AreGiven}
 use Rattle.plan_document.specs.Names.{AreDistinct, AreNames, all_poses, identifiers, machine_names, numbered}
-use Rattle.plan_document.specs.Names.{place_names, pose_names, zone_names}
+use Rattle.plan_document.specs.Names.{place_names, pose_names, sensors_in, zone_names}
 
 -- ---- zones
 
@@ -96,20 +104,86 @@ may_be_done t machine (Inquire zone) = true
 may_be_done t machine Stop = true
 may_be_done t machine Resume = true
 
--- a line is a verb, a blank and a name
+-- a line that asks is a verb, but no inquiry, a blank and a name
 pub record IsCallOf (n : Named) (machine : ℕ) (line : Text) (call : Call) : Type 0 where
   pub verb : Verb
   pub name : Text
   pub line_is : line ≡ verb_word verb ++ codes " " ++ name
   pub call_is : own_call n machine verb name ≡ Some call
   pub doable : IsTrue (may_be_done n.plan machine call)
+  pub asks : verb ≢ verbs.Inquire
 
--- a program has the call of each line
-abbrev pub AreCallsOf : Named → ℕ → List (String Global) → List Call → Type 0
-AreCallsOf n machine lines calls = AllZip (IsCallOf n machine) (map string_bytes lines) calls
+abbrev pub Asks : Named → ℕ → Text → Step → Type 0
+Asks n machine line step = (call : Call) × (step ≡ Do call) × IsCallOf n machine line call
 
-abbrev pub IsProgramOf : Named → ℕ × MachineRow → List Call → Type 0
-IsProgramOf n (machine, row) program = AreCallsOf n machine row.program.items program
+-- what a machine waits for by a name: a sensor of its own, while no motor runs, or a zone of which it is a party
+abbrev pub Awaits : Named → List Text → ℕ → Text → Step → Type 0
+Awaits n sensors machine name (Do call) = ⊥
+Awaits n sensors machine name (Await zone) =
+    (number_in n.zones name ≡ Some zone) × IsTrue (is_party n.plan machine zone)
+Awaits n sensors machine name (Run motors until) = (motors ≡ 0) × (number_in sensors name ≡ Some until)
+
+-- the words of a text, each parted from the next by one blank
+abbrev pub words_in : Text → List Text
+words_in text = slice_split (λ byte. nat_eq byte 32) text
+
+abbrev pub is_driven_by : ℕ → Option Motor → Bool
+is_driven_by machine None = false
+is_driven_by machine (Some motor) = nat_eq motor.machine machine
+
+-- the number of the motor with this name, if it is the machine's
+abbrev pub own_motor : NamedMotors → ℕ → Text → Option ℕ
+own_motor m machine name =
+    option_and_then (λ motor. then_some (is_driven_by machine (slice_get m.motors.items motor)) motor)
+    (number_in m.names name)
+
+-- each word is the name of a motor of the machine, and these motors have a bit, and no others
+pub record AreMotorsIn (m : NamedMotors) (machine : ℕ) (text : Text) (motors : ℕ) : Type 0 where
+  pub known : IsTrue (list_all (λ name. is_some (own_motor m machine name)) (words_in text))
+  pub bits : (motor : ℕ) → has_bit motors motor
+      ≡ list_any (λ name. option_eq nat_eq (own_motor m machine name) (Some motor)) (words_in text)
+
+-- a machine runs motors of its own until a sensor of its own shows
+pub record Runs (m : NamedMotors) (sensors : List Text) (machine : ℕ) (words : Text) (step : Step) : Type 0 where
+  pub names : Text
+  pub sensor : Text
+  pub words_are : words ≡ names ++ codes " until " ++ sensor
+  pub motors : ℕ
+  pub until : ℕ
+  pub step_is : step ≡ Run motors until
+  pub motors_are : AreMotorsIn m machine names motors
+  pub until_is : number_in sensors sensor ≡ Some until
+
+-- what a line says: a call, a wait, or motors and until when they run
+abbrev pub IsStepOf : Named → NamedMotors → List Text → ℕ → Text → Step → Type 0
+IsStepOf n m sensors machine line step =
+    Asks n machine line step
+    ⊎ (((name : Text) × (line ≡ codes "await " ++ name) × Awaits n sensors machine name step)
+    ⊎ ((words : Text) × (line ≡ codes "run " ++ words) × Runs m sensors machine words step))
+
+-- a program has the step of each line
+abbrev pub AreStepsOf : Named → NamedMotors → List Text → ℕ → List (String Global) → List Step → Type 0
+AreStepsOf n m sensors machine lines steps = AllZip (IsStepOf n m sensors machine) (map string_bytes lines) steps
+
+-- sensors are few enough for their bits, and none has the name of another or of a zone
+pub record AreSensors (zones sensors : List Text) : Type 0 where
+  pub few : length sensors ≤ 32
+  pub spelled : AreNames sensors
+  pub distinct : AreDistinct sensors
+  pub apart : IsTrue (list_all (λ name. is_none (number_in zones name)) sensors)
+
+pub record IsProgramOf (n : Named) (m : NamedMotors) (row : ℕ × MachineRow) (steps : List Step) : Type 0 where
+  pub sensors : AreSensors n.zones (sensors_in row.1)
+  pub steps_are : AreStepsOf n m (sensors_in row.1) row.0 row.1.program.items steps
+
+-- what a machine asks at a step: where it waits for a zone, who owns that; where motors run, nothing
+abbrev pub asked : Step → Option Call
+asked (Do call) = Some call
+asked (Await zone) = Some (Inquire zone)
+asked (Run motors until) = None
+
+abbrev pub calls_of : List Step → List Call
+calls_of steps = filter_map asked steps
 
 -- ---- plans
 
@@ -138,11 +212,13 @@ pub record IsNamedPlanOf (d : Document) (n : Named) : Type 0 where
   pub poses : AllZip (IsPoseOf n.zones) (all_poses d.machines.items) n.plan.poses
   pub places : n.plan.places ≡ keepers d.machines.items
 
--- the plan of a document, what each machine asks, and its motors and hazards
+-- the plan of a document, its motors and hazards, the steps of each machine, and what it asks by them
 pub record IsPlanOf (d : Document) (p : ProgrammedPlan) : Type 0 where
   pub named : IsNamedPlanOf d p.named
-  pub programs : AllZip (IsProgramOf p.named) (numbered d.machines.items) p.programs
   pub motors : AreNamedMotorsOf d p.named p.motors
+  pub steps : AllZip (IsProgramOf p.named p.motors) (numbered d.machines.items)
+      (map (λ steps. steps.items) p.steps.items)
+  pub programs : p.programs ≡ map (λ steps. calls_of steps.items) p.steps.items
 
 -- ---- the rows before they are a plan
 

@@ -3,7 +3,11 @@ use Rattle.std.specs.Prelude.{◌≡◌, ℕ, ◌<◌, ◌+◌, true, false, Lis
 use Rattle.std.specs.Prelude.{String, string_bytes, is_some, IsTrue}
 use Rattle.std.specs.declared.alloc.Global.{Global}
 use Rattle.plan_types.specs.declared.call.Call.{Call}
-use Rattle.plan_types.specs.Table.{place_count, pose_count, zone_count}
+use Rattle.plan_types.specs.Table.{is_party, place_count, pose_count, zone_count}
+use Rattle.plan_motors.specs.OfPlan.{motor_at}
+use Rattle.plan_drives.specs.Program.{has_bit}
+use Rattle.plan_controller.specs.declared.step.Step.{Step}
+use Rattle.plan_controller.specs.declared.step.Step.TheVariants.{Do, Await, Run}
 use Rattle.plan_text.specs.Calls.{call_text}
 use Rattle.plan_text.specs.Named.{Named}
 use Rattle.plan_text.specs.Names.{Text, is_name, is_reserved, name_in, number_in}
@@ -12,10 +16,12 @@ use Rattle.plan_document.specs.declared.document.HazardRow.{HazardRow}
 use Rattle.plan_document.specs.declared.document.MachineRow.{MachineRow}
 use Rattle.plan_document.specs.declared.document.MotorRow.{MotorRow}
 use Rattle.plan_document.specs.declared.document.PoseRow.{PoseRow}
+use Rattle.plan_document.specs.declared.motors.NamedMotors.{NamedMotors}
 use Rattle.plan_document.specs.declared.resolving.ProgrammedPlan.{ProgrammedPlan}
-use Rattle.plan_document.specs.Names.{is_title, pose_names}
+use Rattle.plan_document.specs.Laws.{is_line}
+use Rattle.plan_document.specs.Names.{is_title, pose_names, sensors_in}
 use Rattle.plan_document.specs.PlanLaws.{StandsAt}
-use Rattle.plan_document.specs.Saying.{IsNamedPlanOf, IsPlanOf, may_be_done}
+use Rattle.plan_document.specs.Saying.{IsNamedPlanOf, IsPlanOf, calls_of, may_be_done}
 
 -- ---- counts
 
@@ -26,6 +32,7 @@ pub record TablesHaveCounts (d : Document) (p : ProgrammedPlan) : Type 0 where
   pub places : place_count p.named.plan ≡ sum (map (λ row. length row.places.items) d.machines.items)
   pub poses : pose_count p.named.plan ≡ sum (map (λ row. length row.poses.items) d.machines.items)
   pub programs : length p.programs ≡ length d.machines.items
+  pub steps : length p.steps.items ≡ length d.machines.items
   pub motors : length p.motors.motors.items ≡ length d.motors.items
   pub hazards : length p.motors.hazards.items ≡ length d.hazards.items
 
@@ -91,16 +98,33 @@ PosesAreTwoForC =
 
 -- ---- programs
 
--- a program has a call for each line: the text of the call is the line, and the call isn't refused in every state
-pub record ProgramHasLines (n : Named) (machine : ℕ) (row : MachineRow) (program : List Call) : Type 0 where
-  pub count : length program ≡ length row.program.items
-  pub text : (number : ℕ) (line : String Global) (call : Call) → StandsAt row.program.items number line
-      → StandsAt program number call → call_text n call ≡ string_bytes line
-  pub may : (number : ℕ) (call : Call) → StandsAt program number call → may_be_done n.plan machine call ≡ true
+-- a step has its line, whatever the number of both
+abbrev pub HasLine : MachineRow → List Step → Step → Text → Type 0
+HasLine row steps step text =
+    (number : ℕ) × (line : String Global) × (string_bytes line ≡ text)
+    × StandsAt row.program.items number line × StandsAt steps number step
 
--- the program of each machine, whatever its number
+-- a program has a step for each line
+pub record ProgramHasLines (n : Named) (m : NamedMotors) (machine : ℕ) (row : MachineRow) (steps : List Step) : Type 0
+  where
+    pub count : length steps ≡ length row.program.items
+    -- the text of a call is the line; it is no inquiry, and isn't refused in every state
+    pub text : (call : Call) (line : Text) → HasLine row steps (Do call) line → call_text n call ≡ line
+    pub call : (call : Call) (line : Text) → HasLine row steps (Do call) line → is_line call ≡ true
+    pub may : (call : Call) (line : Text) → HasLine row steps (Do call) line → may_be_done n.plan machine call ≡ true
+    -- a zone that is waited for is named, and may be the machine's
+    pub zone : (zone : ℕ) (line : Text) → HasLine row steps (Await zone) line → line ≡ codes "await " ++ name_in n.zones zone
+    pub party : (zone : ℕ) (line : Text) → HasLine row steps (Await zone) line → is_party n.plan machine zone ≡ true
+    -- a run, or a wait, ends with a sensor of the machine, and has no motors but the machine's
+    pub sensor : (motors until : ℕ) (line : Text) → HasLine row steps (Run motors until) line
+        → (before : Text) × (line ≡ before ++ codes " " ++ name_in (sensors_in row) until)
+    pub bit : (motors until : ℕ) (line : Text) → HasLine row steps (Run motors until) line → until < 32
+    pub own : (motors until motor : ℕ) (line : Text) → HasLine row steps (Run motors until) line
+        → has_bit motors motor ≡ true → (motor_at m.motors.items motor).machine ≡ machine
+
+-- the program of each machine, whatever its number; what it asks is what its steps do
 abbrev pub ProgramsHaveLines : Type 0
 ProgramsHaveLines =
-    (d : Document) (p : ProgrammedPlan) → IsPlanOf d p → (machine : ℕ) (row : MachineRow) (program : List Call)
-    → StandsAt d.machines.items machine row → StandsAt p.programs machine program
-    → ProgramHasLines p.named machine row program
+    (d : Document) (p : ProgrammedPlan) → IsPlanOf d p → (machine : ℕ) (row : MachineRow) (steps : _)
+    → StandsAt d.machines.items machine row → StandsAt p.steps.items machine steps
+    → ProgramHasLines p.named p.motors machine row steps.items × StandsAt p.programs machine (calls_of steps.items)

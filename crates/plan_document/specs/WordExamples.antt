@@ -26,6 +26,7 @@ pub record KeysHaveWords : Type 0 where
   pub name : key_word key.Name ≡ codes "name"
   pub places : key_word key.Places ≡ codes "places"
   pub poses : key_word key.Poses ≡ codes "poses"
+  pub sensors : key_word key.Sensors ≡ codes "sensors"
   pub program : key_word key.Program ≡ codes "program"
   pub gives : key_word key.Gives ≡ codes "gives"
   pub after_moving : key_word key.AfterMoving ≡ codes "after_moving"
@@ -47,14 +48,14 @@ candidates =
     [] ∷ codes "after_moving" ∷ codes "empty" ∷ codes "full" ∷ codes "gives" ∷ codes "guest" ∷ codes "hazard"
     ∷ codes "holds" ∷ codes "host" ∷ codes "inward" ∷ codes "machine" ∷ codes "machines" ∷ codes "motor"
     ∷ codes "motors" ∷ codes "nam" ∷ codes "name" ∷ codes "Name" ∷ codes "outward" ∷ codes "places" ∷ codes "poses"
-    ∷ codes "program" ∷ codes "stands" ∷ codes "zone" ∷ []
+    ∷ codes "program" ∷ codes "sensors" ∷ codes "stands" ∷ codes "zone" ∷ []
 
 -- the keys that a row may have
 pub record RowsHaveKeys : Type 0 where
   pub document : filter (is_word_of (keys_in row.Document)) candidates
       ≡ codes "hazard" ∷ codes "machine" ∷ codes "motor" ∷ codes "zone" ∷ []
   pub machine : filter (is_word_of (keys_in (row.Machine 3))) candidates
-      ≡ codes "name" ∷ codes "places" ∷ codes "poses" ∷ codes "program" ∷ []
+      ≡ codes "name" ∷ codes "places" ∷ codes "poses" ∷ codes "program" ∷ codes "sensors" ∷ []
   pub pose : filter (is_word_of (keys_in (row.Pose 3 1))) candidates
       ≡ codes "after_moving" ∷ codes "gives" ∷ codes "name" ∷ []
   pub zone : filter (is_word_of (keys_in (row.Zone 3))) candidates

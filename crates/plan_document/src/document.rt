@@ -29,7 +29,9 @@ pub struct MachineRow {
     pub places: Vec<String>,
     /// Its poses.
     pub poses: Vec<PoseRow>,
-    /// What it asks in order, again and again: in each text the words of a call.
+    /// The names of its sensors.
+    pub sensors: Vec<String>,
+    /// What it does in order, again and again: in each text the words of a step.
     pub program: Vec<String>,
 }
 

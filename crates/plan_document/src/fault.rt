@@ -41,6 +41,8 @@ pub enum Key {
     Places,
     /// `poses`
     Poses,
+    /// `sensors`
+    Sensors,
     /// `program`
     Program,
     /// `gives`
@@ -82,6 +84,7 @@ impl Key {
             Key::Name => "name",
             Key::Places => "places",
             Key::Poses => "poses",
+            Key::Sensors => "sensors",
             Key::Program => "program",
             Key::Gives => "gives",
             Key::AfterMoving => "after_moving",
@@ -103,7 +106,13 @@ impl Key {
 /// The keys of a document's top, of a machine, of a pose, of a zone, of a motor and of a hazard.
 const TOP_KEYS: [Key; 4] = [Key::Machine, Key::Zone, Key::Motor, Key::Hazard];
 
-const MACHINE_KEYS: [Key; 4] = [Key::Name, Key::Places, Key::Poses, Key::Program];
+const MACHINE_KEYS: [Key; 5] = [
+    Key::Name,
+    Key::Places,
+    Key::Poses,
+    Key::Sensors,
+    Key::Program,
+];
 
 const POSE_KEYS: [Key; 3] = [Key::Name, Key::Gives, Key::AfterMoving];
 
@@ -220,8 +229,8 @@ pub enum WrongText {
     NoPlace,
     /// The machine has no pose with this name.
     NoPose,
-    /// This line of a program is no call.
-    NoCall,
+    /// This line of a program is no step.
+    NoStep,
     /// This line of a program is never done.
     Never(Never),
     /// The machine doesn't host this zone.
@@ -230,6 +239,14 @@ pub enum WrongText {
     NoTitle,
     /// No motor has this name.
     NoMotor,
+    /// No motor of the machine has this name.
+    NoOwnMotor,
+    /// No sensor of the machine has this name.
+    NoSensor,
+    /// No zone has this name, and no sensor of the machine.
+    NoZoneOrSensor,
+    /// A zone has this name, too.
+    ZoneToo,
     /// The machine is neither host nor guest of this zone.
     NoParty,
     /// The machine doesn't keep this place.

@@ -25,9 +25,10 @@ const NO_HELD_POSTURE: &str =
 const NO_TITLE: &str =
     " isn't a hazard's name: printable ASCII without a colon, at most 60 characters";
 
-/// What is said of a text that isn't a call.
-const NO_CALL: &str =
-    " isn't a call: claim, give, yield, take or release with a zone, or pose with a pose";
+/// What is said of a line that isn't a step.
+const NO_STEP: &str =
+    " isn't a step: claim, give, yield, take or release with a zone, pose with a pose, \
+     await with a sensor or a zone, or run with motors, until and a sensor";
 
 /// A text in quotes: its first 40 characters, and `?` for one that isn't printable ASCII.
 #[derive(Clone, Copy)]
@@ -182,6 +183,9 @@ fn before_text(why: WrongText) -> &'static str {
         WrongText::NoPose => "the machine has no pose ",
         WrongText::Foreign => "the machine doesn't host ",
         WrongText::NoMotor => "no motor is named ",
+        WrongText::NoOwnMotor => "no motor of the machine is named ",
+        WrongText::NoSensor => "no sensor of the machine is named ",
+        WrongText::NoZoneOrSensor => "no zone, and no sensor of the machine, is named ",
         WrongText::NoParty => "the machine is neither host nor guest of ",
         WrongText::NotKept => "the machine doesn't keep ",
         _ => "",
@@ -195,7 +199,8 @@ fn after_text(why: WrongText) -> &'static str {
         WrongText::Reserved => " is a word of scripts, and names no machine",
         WrongText::Twice => " is defined twice",
         WrongText::SameInC => ", and so is another pose's",
-        WrongText::NoCall => NO_CALL,
+        WrongText::NoStep => NO_STEP,
+        WrongText::ZoneToo => " is the name of a zone, too",
         WrongText::Never(why) => why.text(),
         WrongText::NoTitle => NO_TITLE,
         _ => "",

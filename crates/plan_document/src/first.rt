@@ -21,7 +21,7 @@ fn first_named(table: &Table, second: Location, name: &str) -> Option<Location> 
             let first = first_row(table, Key::Machine, machine, name)?;
             Some(RowOf::Machine(first).key(Key::Name))
         }
-        (RowOf::Machine(machine), Some(_)) => first_place(table, machine, name),
+        (RowOf::Machine(machine), Some(_)) => first_listed(table, second, machine, name),
         (RowOf::Zone(zone), _) => {
             let first = first_row(table, Key::Zone, zone, name)?;
             Some(RowOf::Zone(first).key(Key::Name))
@@ -52,19 +52,28 @@ fn first_row(table: &Table, key: Key, end: usize, name: &str) -> Option<usize> {
     None
 }
 
+/// Where the first sensor of a machine with this name stands, or the first place with it.
+fn first_listed(table: &Table, second: Location, machine: usize, name: &str) -> Option<Location> {
+    match second.key {
+        Some(Key::Sensors) => item_named(table, machine, Key::Sensors, name),
+        _ => first_place(table, machine, name),
+    }
+}
+
 /// Where the first place with this name stands, of the machines up to one of them.
 fn first_place(table: &Table, last: usize, name: &str) -> Option<Location> {
     for machine in 0..=last {
-        let row = row_at(table, Key::Machine, machine)?;
-        if let Some(item) = place_named(row, name) {
-            return Some(RowOf::Machine(machine).item(Key::Places, item));
+        if let Some(location) = item_named(table, machine, Key::Places, name) {
+            return Some(location);
         }
     }
     None
 }
 
-/// The number of a place among those of a machine.
-fn place_named(machine: &Table, name: &str) -> Option<usize> {
-    let places = value_at(machine, Key::Places)?.as_array()?;
-    places.iter().position(|place| place.as_str() == Some(name))
+/// Where a name stands in the list of a machine's key.
+fn item_named(table: &Table, machine: usize, key: Key, name: &str) -> Option<Location> {
+    let row = row_at(table, Key::Machine, machine)?;
+    let names = value_at(row, key)?.as_array()?;
+    let item = names.iter().position(|other| other.as_str() == Some(name))?;
+    Some(RowOf::Machine(machine).item(key, item))
 }

@@ -7,6 +7,7 @@ ghost use Rattle.plan_document.specs.PlanLaws as plan_laws;
 ghost use Rattle.plan_document.specs.Reading as reading;
 ghost use Rattle.plan_document.specs.ReadingExamples.{RowsAreRead};
 ghost use Rattle.plan_document.specs.ReadingLaws as reading_laws;
+ghost use Rattle.plan_document.specs.StepExamples.{StepsAreMet};
 ghost use Rattle.plan_document.specs.TableLaws as table_laws;
 ghost use Rattle.plan_document.specs.WordExamples as words;
 ghost use Rattle.plan_document.specs.declared.document.PostureRow.{PostureRow};
@@ -55,7 +56,8 @@ pub fn plans_have_counts_and_names()
     ensures for_c { table_laws.PosesAreTwoForC }
 {}
 
-/// The program of each machine has a call for each line of its row, and the text of the call is the line.
+/// The program of each machine has a step for each line of its row: the text of a call is the line, a wait names its
+/// zone or its sensor, and what runs is the machine's. What the machine asks is what its steps do.
 pub fn programs_have_lines()
     ensures { table_laws.ProgramsHaveLines }
 {
@@ -118,6 +120,12 @@ pub fn lines_are_met()
 pub fn plans_are_met()
     ensures rows { plans.DocumentsAreMet }
     ensures plans { plans.PlansSayRows }
+{}
+
+/// Examples of what the lines of a lift and its floors say, by motors and sensors, and of what is asked by steps.
+#[tactic(auto, using(crate::proofs::StepRows::step_rows))]
+pub fn steps_are_met()
+    ensures { StepsAreMet }
 {}
 
 /// Examples of what the rows of motors and hazards say, and of which TOML they are read.

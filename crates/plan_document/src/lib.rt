@@ -6,6 +6,7 @@ pub mod fault;
 mod fault_words;
 mod first;
 pub mod laws;
+mod lines;
 mod locating;
 mod motors;
 mod programs;
@@ -13,6 +14,7 @@ mod reading;
 mod resolving;
 mod row_kinds;
 mod row_names;
+mod sensors;
 mod tables;
 mod values;
 

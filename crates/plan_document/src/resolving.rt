@@ -1,8 +1,7 @@
 //! From the rows of a document to the plan that they say.
 ghost use Rattle.std.specs.Prelude.{IfOk};
-ghost use Rattle.std.specs.List.{AllZip};
-ghost use Rattle.plan_document.specs.Names.{numbered};
-ghost use Rattle.plan_document.specs.Saying.{IsNamedPlanOf, IsPlanOf, IsProgramOf};
+ghost use Rattle.plan_document.specs.Motors.{AreNamedMotorsOf};
+ghost use Rattle.plan_document.specs.Saying.{IsNamedPlanOf, IsPlanOf};
 
 use crate::document::{Document, WayRow};
 use crate::fault::{
@@ -10,9 +9,10 @@ use crate::fault::{
     too_many,
 };
 use crate::motors::{NamedMotors, named_motors_of};
-use crate::programs::programs_of;
+use crate::programs::{check_programs, programs_of};
 use crate::tables::rows_of;
 use crate::values::position_of;
+use plan_controller::Step;
 use plan_explorer::Programs;
 use plan_text::NamedPlan;
 use plan_types::{MAX_MACHINES, MAX_PLACES, MAX_POSES, MAX_ZONES, Plan, PlanFault, Tables};
@@ -25,6 +25,8 @@ pub struct ProgrammedPlan {
     pub named: NamedPlan,
     /// What each machine asks.
     pub programs: Programs,
+    /// The steps of each machine, by its lines.
+    pub steps: Vec<Vec<Step>>,
     /// The motors and the hazards.
     pub motors: NamedMotors,
 }
@@ -37,43 +39,59 @@ pub fn programmed_plan_of(
     ensures { IfOk result (IsPlanOf document.now) }
 {
     let named = named_plan_of(alloc, document)?;
-    match programs_of(alloc, document, &named) {
-        Ok(programs) => with_motors(alloc, document, named, programs),
+    match check_programs(alloc, document, &named) {
+        Ok(()) => with_motors(alloc, document, named),
         Err(fault) => Err(fault_without(named, fault)),
     }
 }
 
-/// A plan with programs, and with the motors and hazards of its document, or the first fault of these.
+/// A plan with the motors, hazards and programs of its document, or the first fault of these.
 fn with_motors(
     alloc: Global,
     document: &Document,
     named: NamedPlan,
-    programs: Programs,
 ) -> Result<ProgrammedPlan, PlanTextFault>
-    requires named { IsNamedPlanOf document.now named }
-    requires programs { AllZip (IsProgramOf named) (numbered document.now.machines.items) programs }
+    requires { IsNamedPlanOf document.now named }
     ensures { IfOk result (IsPlanOf document.now) }
 {
     match named_motors_of(alloc, document, &named) {
-        Ok(motors) => Ok(ProgrammedPlan {
-            named,
-            programs,
-            motors,
-        }),
-        Err(fault) => Err(fault_without_both(named, programs, fault)),
+        Ok(motors) => with_programs(alloc, document, named, motors),
+        Err(fault) => Err(fault_without(named, fault)),
     }
 }
 
-/// The fault of motors, without the plan and the programs, which end here.
+/// A plan with motors, and with the programs of its document, or the first fault of these.
+fn with_programs(
+    alloc: Global,
+    document: &Document,
+    named: NamedPlan,
+    motors: NamedMotors,
+) -> Result<ProgrammedPlan, PlanTextFault>
+    requires named { IsNamedPlanOf document.now named }
+    requires motors { AreNamedMotorsOf document.now named motors }
+    ensures { IfOk result (IsPlanOf document.now) }
+{
+    match programs_of(alloc, document, &named, &motors) {
+        Ok((steps, programs)) => Ok(ProgrammedPlan {
+            named,
+            programs,
+            steps,
+            motors,
+        }),
+        Err(fault) => Err(fault_without_both(named, motors, fault)),
+    }
+}
+
+/// The fault of a program, without the plan and the motors, which end here.
 fn fault_without_both(
     _named: NamedPlan,
-    _programs: Programs,
+    _motors: NamedMotors,
     fault: DocumentFault,
 ) -> PlanTextFault {
     fault.into()
 }
 
-/// The fault of a program, without the plan, which ends here.
+/// A fault without the plan, which ends here.
 fn fault_without(_named: NamedPlan, fault: DocumentFault) -> PlanTextFault {
     fault.into()
 }

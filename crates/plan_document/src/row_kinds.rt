@@ -82,11 +82,13 @@ impl RowKind for Machines {
         let name = text_at(alloc, table, at, Key::Name)?;
         let places = texts_at(alloc, table, at, Key::Places)?;
         let poses = rows_at(alloc, table, at, Key::Poses, PosesOf { machine: number })?;
+        let sensors = texts_at(alloc, table, at, Key::Sensors)?;
         let program = texts_at(alloc, table, at, Key::Program)?;
         Ok(MachineRow {
             name,
             places,
             poses,
+            sensors,
             program,
         })
     }

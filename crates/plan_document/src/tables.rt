@@ -102,6 +102,7 @@ pub fn add_name(
     at: Location,
 ) -> Result<(), DocumentFault>
     ensures name { OnOk result (names.new ≡ names.old ++ name.now ∷ []) }
+    ensures few { OnOk result (length names.old < most) }
     ensures spelled { OnOk result (IsTrue (spec.is_name name.now)) }
     ensures distinct { OnOk result (AreDistinct names.old → AreDistinct names.new) }
 {
@@ -119,6 +120,7 @@ fn check_name(
     at: Location,
 ) -> Result<(), DocumentFault>
     ensures room { OnOk result (length names.now < 64) }
+    ensures few { OnOk result (length names.now < most) }
     ensures spelled { OnOk result (IsTrue (spec.is_name name.now)) }
     ensures other { OnOk result (number_in names.now name.now ≡ None) }
 {

@@ -2,7 +2,7 @@ use Rattle.std.proofs.Common.{◌≡◌, ◌∙◌, ◌++◌, ◌∷◌, [], ap,
 use Rattle.std.proofs.lemmas.Str.Pattern.{split_parts}
 use Rattle.plan_text.specs.Calls.{verb_of, verb_word}
 use Rattle.plan_document.proofs.Written.{word_of_verb}
-use Rattle.plan_document.proofs.programs.verb_and_name.Goals as goal
+use Rattle.plan_document.proofs.lines.verb_and_name.Goals as goal
 
 pub returns : goal.returns
 returns c =

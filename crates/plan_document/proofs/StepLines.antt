@@ -1,0 +1,90 @@
+-- What the line of a step says.
+use Rattle.std.proofs.Common.{◌≡◌, ◌∙◌, ◌++◌, ◌∷◌, [], ℕ, Bool, true, false, nat_eq, List, codes, refl, sym, ap, subst, append_assoc, Option, Some, None, option_map, inl, inr, get_or, slice_get, IsTrue}
+use Rattle.std.proofs.lemmas.Bool.{eqb-true}
+use Rattle.std.proofs.lemmas.Option.{get_or_from_slice_get}
+use Rattle.std.specs.Bool.{then_some}
+use Rattle.std.specs.List.{list_any}
+use Rattle.std.specs.Option.{option_and_then, option_eq}
+use Rattle.plan_types.specs.declared.call.Call.{Call}
+use Rattle.plan_types.specs.Table.{is_party}
+use Rattle.plan_motors.specs.declared.motor.Motor.{Motor}
+use Rattle.plan_motors.specs.OfPlan.{motor_at, no_motor}
+use Rattle.plan_drives.specs.Program.{has_bit}
+use Rattle.plan_controller.specs.declared.step.Step.{Step}
+use Rattle.plan_controller.specs.declared.step.Step.TheVariants.{Do, Await, Run}
+use Rattle.plan_text.specs.Named.{Named}
+use Rattle.plan_text.specs.Names.{Text, number_in}
+use Rattle.plan_document.specs.declared.motors.NamedMotors.{NamedMotors}
+use Rattle.plan_document.specs.Saying.{IsCallOf, IsStepOf, is_driven_by, own_motor, words_in}
+use Rattle.plan_document.proofs.Running.{no_bit}
+use Rattle.plan_document.proofs.Standing.{passed}
+
+pub call_line : (n : Named) (m : NamedMotors) (sensors : List Text) (machine : ℕ) (line : Text) (call : Call) → IsStepOf n m sensors machine line (Do call) → IsCallOf n machine line call
+call_line n m sensors machine line call (inl one) = let same : call ≡ one.0 = cc in subst (IsCallOf n machine line) (sym same) one.2
+call_line n m sensors machine line call (inr (inl one)) = absurd one.2
+call_line n m sensors machine line call (inr (inr one)) = let other = one.2.step_is in absurd (cc)
+
+pub zone_line : (n : Named) (m : NamedMotors) (sensors : List Text) (machine : ℕ) (line : Text) (zone : ℕ) → IsStepOf n m sensors machine line (Await zone)
+    → (name : Text) × (line ≡ codes "await " ++ name) × (number_in n.zones name ≡ Some zone) × (is_party n.plan machine zone ≡ true)
+zone_line n m sensors machine line zone (inl one) = let other = one.1 in absurd (cc)
+zone_line n m sensors machine line zone (inr (inl one)) = (one.0, one.1, one.2.0, one.2.1)
+zone_line n m sensors machine line zone (inr (inr one)) = let other = one.2.step_is in absurd (cc)
+
+-- ---- motors
+
+no_bits : (i : ℕ) → has_bit 0 i ≡ true → ⊥
+no_bits i on = let off = no_bit i in cc
+
+some_motor : (o : Option ℕ) (motor : ℕ) → option_eq nat_eq o (Some motor) ≡ true → o ≡ Some motor
+some_motor None motor e = absurd (cc)
+some_motor (Some k) motor e = ap (λ j. Some j) (eqb-true k motor e)
+
+driven : (machine : ℕ) (o : Option Motor) → is_driven_by machine o ≡ true → (one : Motor) × (o ≡ Some one) × (one.machine ≡ machine)
+driven machine None e = absurd (cc)
+driven machine (Some one) e = (one, refl, eqb-true one.machine machine e)
+
+-- a motor that is found by its name is the machine's
+own_machine : (m : NamedMotors) (machine : ℕ) (name : Text) (motor : ℕ) → own_motor m machine name ≡ Some motor → (motor_at m.motors.items motor).machine ≡ machine
+own_machine m machine name motor is = by (number_in m.names name) is
+  where
+    by : (o : Option ℕ) → option_and_then (λ k. then_some (is_driven_by machine (slice_get m.motors.items k)) k) o ≡ Some motor → (motor_at m.motors.items motor).machine ≡ machine
+    by None e = absurd (cc)
+    by (Some k) e =
+        let p = passed (is_driven_by machine (slice_get m.motors.items k)) k motor e in
+        let one = driven machine (slice_get m.motors.items k) p.0 in
+        ap (λ j. (motor_at m.motors.items j).machine) (sym p.1)
+        ∙ ap (λ (x : Motor). x.machine) (get_or_from_slice_get m.motors.items k one.0 no_motor one.1)
+        ∙ one.2
+
+any_own : (m : NamedMotors) (machine motor : ℕ) (names : List Text) → list_any (λ name. option_eq nat_eq (own_motor m machine name) (Some motor)) names ≡ true → (motor_at m.motors.items motor).machine ≡ machine
+any_own m machine motor [] e = absurd (cc)
+any_own m machine motor (name ∷ names) e = by (any_own m machine motor names) (option_eq nat_eq (own_motor m machine name) (Some motor)) refl
+  where
+    by : (list_any (λ word. option_eq nat_eq (own_motor m machine word) (Some motor)) names ≡ true → (motor_at m.motors.items motor).machine ≡ machine)
+        → (b : Bool) → option_eq nat_eq (own_motor m machine name) (Some motor) ≡ b → (motor_at m.motors.items motor).machine ≡ machine
+    by others true is = own_machine m machine name motor (some_motor (own_motor m machine name) motor is)
+    by others false is = others (rw is at e)
+
+-- a run, or a wait for a sensor: the line up to the last blank, and the sensor; each motor is the machine's
+pub run_line : (n : Named) (m : NamedMotors) (sensors : List Text) (machine : ℕ) (line : Text) (motors until : ℕ) → IsStepOf n m sensors machine line (Run motors until)
+    → (before name : Text) × (line ≡ before ++ codes " " ++ name) × (number_in sensors name ≡ Some until) × ((motor : ℕ) → has_bit motors motor ≡ true → (motor_at m.motors.items motor).machine ≡ machine)
+run_line n m sensors machine line motors until (inl one) = let other = one.1 in absurd (cc)
+run_line n m sensors machine line motors until (inr (inl one)) = (
+  codes "await",
+  one.0,
+  one.1,
+  one.2.1,
+  λ motor on. absurd (no_bits motor (subst (λ bits. has_bit bits motor ≡ true) one.2.0 on)),
+)
+run_line n m sensors machine line motors until (inr (inr one)) =
+    let runs = one.2 in
+    let same_until : until ≡ runs.until = let is = runs.step_is in cc in
+    let same_motors : motors ≡ runs.motors = let is = runs.step_is in cc in (
+      codes "run " ++ runs.names ++ codes " until",
+      runs.sensor,
+      one.1
+          ∙ ap (λ t. codes "run " ++ t) runs.words_are
+          ∙ ap (λ t. codes "run " ++ (t ++ runs.sensor)) (sym (append_assoc runs.names (codes " until") (codes " "))),
+      runs.until_is ∙ ap (λ k. Some k) (sym same_until),
+      λ motor on. any_own m machine motor (words_in runs.names) (sym (runs.motors_are.bits motor) ∙ subst (λ bits. has_bit bits motor ≡ true) same_motors on),
+    )
