@@ -1,5 +1,5 @@
 -- What the line of a step says.
-use Rattle.std.proofs.Common.{◌≡◌, ◌∙◌, ◌++◌, ◌∷◌, [], ℕ, Bool, true, false, nat_eq, List, codes, refl, sym, ap, subst, append_assoc, Option, Some, None, option_map, inl, inr, get_or, slice_get, IsTrue}
+use Rattle.std.proofs.Common.{◌≡◌, ◌∙◌, ◌++◌, ◌∷◌, [], ℕ, Bool, true, false, nat_eq, List, codes, refl, sym, ap, subst, append_assoc, Option, Some, None, inl, inr, slice_get}
 use Rattle.std.proofs.lemmas.Bool.{eqb-true}
 use Rattle.std.proofs.lemmas.Option.{get_or_from_slice_get}
 use Rattle.std.specs.Bool.{then_some}
@@ -10,7 +10,6 @@ use Rattle.plan_types.specs.Table.{is_party}
 use Rattle.plan_motors.specs.declared.motor.Motor.{Motor}
 use Rattle.plan_motors.specs.OfPlan.{motor_at, no_motor}
 use Rattle.plan_drives.specs.Program.{has_bit}
-use Rattle.plan_controller.specs.declared.step.Step.{Step}
 use Rattle.plan_controller.specs.declared.step.Step.TheVariants.{Do, Await, Run}
 use Rattle.plan_text.specs.Named.{Named}
 use Rattle.plan_text.specs.Names.{Text, number_in}

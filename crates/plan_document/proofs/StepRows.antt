@@ -1,10 +1,9 @@
 -- What literal lines of programs say.
-use Rattle.std.proofs.Common.{◌≡◌, ◌≢◌, ◌∙◌, ◌+◌, ◌-◌, ◌<◌, ◌≤◌, ◌⊎◌, ◌++◌, ◌∷◌, [], ℕ, zero, suc, Bool, true, false, nat_eq, List, codes, length, drop, take, filter, slice_get, slice_index, refl, sym, ap, subst, arith, append_assoc, length-append, Option, Some, None, is_some, inl, inr, replicate, string_bytes, IsTrue}
+use Rattle.std.proofs.Common.{◌≡◌, ◌∙◌, ◌-◌, ◌<◌, ◌≤◌, ◌⊎◌, ◌++◌, ◌∷◌, [], ℕ, zero, suc, Bool, true, false, nat_eq, List, codes, length, drop, take, filter, slice_get, slice_index, refl, sym, ap, subst, arith, append_assoc, length-append, Option, Some, None, is_some, inl, inr}
 use Rattle.std.proofs.Math.Seq.{take-append_seam}
 use Rattle.std.specs.Bool.{then_some}
 use Rattle.std.specs.List.{list_all, list_any, range_with_len}
 use Rattle.std.specs.Option.{option_and_then, option_eq}
-use Rattle.plan_types.specs.declared.call.Call.{Call}
 use Rattle.plan_types.specs.declared.call.Call.TheVariants.{Give as GiveCall}
 use Rattle.plan_motors.specs.declared.motor.Motor.{Motor}
 use Rattle.plan_drives.specs.Program.{has_bit}
@@ -17,7 +16,7 @@ use Rattle.plan_text.specs.declared.calls.Verb.{Verb}
 use Rattle.plan_text.specs.declared.calls.Verb.TheVariants.{Claim, Give, Yield, Take, Release, Inquire, Pose}
 use Rattle.plan_document.specs.declared.motors.NamedMotors.{NamedMotors}
 use Rattle.plan_document.specs.StepExamples.{AreOfLift, IsRead, StepsAreMet, StepsAreOfLines, StepsAreRead, StepsAreTold, driven_by}
-use Rattle.plan_document.specs.Saying.{AreMotorsIn, Awaits, IsCallOf, Runs, is_driven_by, own_call, own_motor, words_in}
+use Rattle.plan_document.specs.Saying.{AreMotorsIn, Awaits, Runs, is_driven_by, own_motor, words_in}
 use Rattle.plan_document.specs.WordExamples.{parked}
 use Rattle.plan_document.proofs.PlanRows.{asked, impossible}
 use Rattle.plan_document.proofs.Standing.{name_of, same_number}

@@ -1,7 +1,6 @@
 -- What it means that a plan is a document's, in examples: what each row must have, and what no plan may lack.
 use Rattle.std.specs.Prelude.{◌≡◌, ◌≢◌, ℕ, ◌<◌, List, [], ◌∷◌, ◌++◌, codes, get_or, length, map, replicate}
-use Rattle.std.specs.Prelude.{String, string_bytes, Some, None}
-use Rattle.std.specs.declared.alloc.Global.{Global}
+use Rattle.std.specs.Prelude.{string_bytes, Some, None}
 use Rattle.plan_types.specs.declared.call.Call.{Call}
 use Rattle.plan_types.specs.declared.call.Call.TheVariants.{Claim, Give, Yield, Take, Release, SetPose}
 use Rattle.plan_types.specs.declared.posture.Posture.TheVariants.{Closed, OpenIn, Moving}

@@ -26,8 +26,8 @@ pub const MAX_BYTES: usize = 65_536;
 /// Reads a plan from the bytes that the reader has left. At most 65,537 bytes are taken from it.
 ///
 /// The error is the first fault. Faults come in this order: too many bytes, no TOML, keys and values of rows, names,
-/// tables, the lines of programs, whole programs, and last motors and hazards. The error is `Read` if the reader fails.
-/// `Memory` may come from any allocation.
+/// tables, sensors and lines of programs, whole programs, motors and hazards, and last the motors that lines run. The
+/// error is `Read` if the reader fails. `Memory` may come from any allocation.
 pub fn read_plan<R: Read>(alloc: Global, reader: &mut R) -> Result<ProgrammedPlan, PlanTextFault>
     ensures plan { IfSome (R.remaining reader.old) (λ bytes. IfOk result (IsPlanIn bytes)) }
     ensures taken { TakesAtMost (R.remaining reader.old) (R.remaining reader.new) max_bytes_read }
