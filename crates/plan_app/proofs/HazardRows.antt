@@ -72,4 +72,4 @@ never_both plan start (h ∷ hazards) (f ∷ findings) are kept (suc k) l =
     never_both plan start hazards findings are.1 (both (is_kept f) (list_all is_kept findings) kept).1 k (omega (arith, l))
 
 pub kept-never-both : KeptMotorsAreNeverBoth
-kept-never-both plan start text is k l = never_both plan start plan.motors.hazards.items is.findings is.are is.are_kept k l
+kept-never-both plan start text is k l = never_both plan start plan.motors.hazards.items is.findings is.are (both (are_kept is.findings) (list_all is_none is.drives) is.right).0 k l

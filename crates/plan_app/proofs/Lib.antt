@@ -9,10 +9,12 @@ mod LineRows
 mod ReportsTold
 mod GoingRows
 mod InputRows
+mod DriveLemmas
 mod EventsTold
 mod ScriptsFound
 mod ScreenRows
 mod FailedRows
+mod Numbered
 mod Verdicts
 mod Found
 mod HazardRows

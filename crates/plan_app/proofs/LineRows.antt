@@ -1,6 +1,7 @@
 -- The examples of `report_lines_are_met`, `reports_are_whole` and `rows_are_told`.
 use Rattle.std.proofs.Common.{refl}
 use Rattle.std.specs.Fmt.{digits}
+use Rattle.plan_app.specs.Drives.{drives_text}
 use Rattle.plan_app.specs.Hazards.{motors_text}
 use Rattle.plan_app.specs.LineExamples.{ReportLines, RowsAreTold, WholeReports}
 use Rattle.plan_app.specs.Reports.{report_text}
@@ -23,16 +24,16 @@ report-lines = record {
 }
 
 pub whole-reports : WholeReports
-unfolding digits report_text motors_text
+unfolding digits report_text drives_text motors_text
 whole-reports = record {
   report = refl;
-  complete = λ plan start findings named motors. rw (named, motors) refl;
-  unknown = λ plan start findings named motors. rw (named, motors) refl;
+  complete = λ plan start drives findings named steps motors. rw (named, steps, motors) refl;
+  unknown = λ plan start drives findings named steps motors. rw (named, steps, motors) refl;
 }
 
 pub rows-told : RowsAreTold
 rows-told = record {
   complete = refl;
   unknown = refl;
-  meant = λ plan start kept text tells. (tells.every, tells.rows, tells.findings, tells.told);
+  meant = λ plan start kept text tells. (tells.every, tells.rows, tells.drives, tells.findings, tells.told);
 }

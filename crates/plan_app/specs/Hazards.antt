@@ -23,6 +23,8 @@ use Rattle.plan_text.specs.Answers.{posture_word}
 use Rattle.plan_text.specs.Named.{Named}
 use Rattle.plan_text.specs.Names.{Text, name_in}
 use Rattle.plan_document.specs.declared.resolving.ProgrammedPlan.{ProgrammedPlan}
+use Rattle.plan_drives.specs.declared.undriven.Undriven.{Undriven}
+use Rattle.plan_app.specs.Drives.{AreDrives, drives_text}
 use Rattle.plan_app.specs.Going.{way_text}
 use Rattle.plan_app.specs.Leads.{IsLeadOf, opening_by}
 use Rattle.plan_app.specs.Reports.{names_line, report_text}
@@ -169,21 +171,25 @@ motors_text n ps motors titles start findings =
 
 -- ---- the report
 
--- whether each call that is done has its row, and what is said of each hazard
-abbrev pub whole_report : ProgrammedPlan → Option State → Bool → List Finding → Text
-whole_report plan start every findings =
+-- whether each call that is done has its row, what is said of the motors that programs run, and of each hazard
+abbrev pub whole_report : ProgrammedPlan → Option State → Bool → List (Option Undriven) → List Finding → Text
+whole_report plan start every drives findings =
     report_text plan.named ++ (rows_line every
-    ++ motors_text plan.named plan.programs plan.motors.names plan.motors.hazard_names start findings)
+    ++ (drives_text plan.named plan.motors.names plan.steps.items drives
+    ++ motors_text plan.named plan.programs plan.motors.names plan.motors.hazard_names start findings))
 
--- whether each call that is done has its row, as far as that is known; what is shown of each hazard, with turns from
--- the start if there is one, and whether all motors are kept apart that have to be
+-- whether each call that is done has its row, as far as that is known; what programs run that isn't permitted; what is
+-- shown of each hazard, with turns from the start if there is one; and whether nothing is wrong: all motors are kept
+-- apart that have to be, and each is permitted where its program runs it
 pub record TellsReport (plan : ProgrammedPlan) (start : Option State) (kept : Bool) (text : Text) : Type 0 where
   pub findings : List Finding
   pub are : AreFindings plan start findings
-  pub are_kept : are_kept findings ≡ kept
+  pub drives : List (Option Undriven)
+  pub are_drives : AreDrives plan drives
+  pub right : (are_kept findings && list_all is_none drives) ≡ kept
   pub every : Bool
   pub rows : IsTrue every → HasEveryRow plan.named.plan
-  pub told : text ≡ whole_report plan start every findings
+  pub told : text ≡ whole_report plan start every drives findings
 
 abbrev pub IsReport : ProgrammedPlan → Option State → Report → Type 0
 IsReport plan start (Kept text) = TellsReport plan start true (string_bytes text)

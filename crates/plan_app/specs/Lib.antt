@@ -3,6 +3,7 @@ pub mod Input
 pub mod Words
 pub mod Reports
 pub mod Rows
+pub mod Drives
 pub mod ReportLaws
 pub mod Going
 pub mod Starving

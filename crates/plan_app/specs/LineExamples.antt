@@ -7,6 +7,7 @@ use Rattle.plan_header.specs.HeaderExamples.{gates, lift, lift_machines}
 use Rattle.plan_rules.specs.declared.state.State.{State}
 use Rattle.plan_text.specs.Names.{Text}
 use Rattle.plan_document.specs.declared.resolving.ProgrammedPlan.{ProgrammedPlan}
+use Rattle.plan_drives.specs.declared.undriven.Undriven.{Undriven}
 use Rattle.plan_app.specs.Hazards.{TellsReport, whole_report}
 use Rattle.plan_app.specs.Reports as report
 use Rattle.plan_app.specs.Rows.{HasEveryRow, rows_line}
@@ -41,12 +42,12 @@ gates_report =
 pub record WholeReports : Type 0 where
   pub report : report.report_text gates ≡ gates_report
   -- with what is said of its rows; of a plan without motors nothing follows
-  pub complete : (plan : ProgrammedPlan) (start : Option State) (findings : List Finding)
-      → plan.named ≡ gates → plan.motors.names ≡ []
-      → whole_report plan start true findings ≡ gates_report ++ codes "rows: each call that is done has its row\n"
-  pub unknown : (plan : ProgrammedPlan) (start : Option State) (findings : List Finding)
-      → plan.named ≡ gates → plan.motors.names ≡ []
-      → whole_report plan start false findings
+  pub complete : (plan : ProgrammedPlan) (start : Option State) (drives : List (Option Undriven)) (findings : List Finding)
+      → plan.named ≡ gates → plan.steps.items ≡ [] → plan.motors.names ≡ []
+      → whole_report plan start true drives findings ≡ gates_report ++ codes "rows: each call that is done has its row\n"
+  pub unknown : (plan : ProgrammedPlan) (start : Option State) (drives : List (Option Undriven)) (findings : List Finding)
+      → plan.named ≡ gates → plan.steps.items ≡ [] → plan.motors.names ≡ []
+      → whole_report plan start false drives findings
       ≡ gates_report ++ codes "rows: some calls that are done may have none, and are answered more slowly\n"
 
 -- that each call that is done has its row is said only of a plan where that is so
@@ -56,4 +57,5 @@ pub record RowsAreTold : Type 0 where
       ≡ codes "rows: some calls that are done may have none, and are answered more slowly\n"
   pub meant : (plan : ProgrammedPlan) (start : Option State) (kept : Bool) (text : Text) → TellsReport plan start kept text
       → (every : Bool) × (IsTrue every → HasEveryRow plan.named.plan)
-      × (findings : List Finding) × (text ≡ whole_report plan start every findings)
+      × (drives : List (Option Undriven)) × (findings : List Finding)
+      × (text ≡ whole_report plan start every drives findings)

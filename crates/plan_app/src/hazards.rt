@@ -3,14 +3,17 @@
 ghost use Rattle.std.specs.Prelude.{◌≡◌, ◌++◌, IfOk, IsTrue, OnOk, flat_map, length, string_bytes};
 ghost use Rattle.std.specs.List.{range_with_len};
 ghost use Rattle.plan_motors.specs.OfPlan as of_plan;
+ghost use Rattle.plan_app.specs.Drives.{AreDrives};
 ghost use Rattle.plan_app.specs.Hazards as spec;
 ghost use Rattle.plan_app.specs.Rows.{HasEveryRow};
 
+use crate::drives::{are_driven, drives_of, push_drives};
 use crate::going::push_way;
 use crate::leads::{Lead, is_never, lead_of, opening_by};
 use crate::report::{push_names, push_report};
 use crate::rows::{has_every_row, push_rows};
 use plan_document::ProgrammedPlan;
+use plan_drives::Undriven;
 use plan_header::motor_at;
 use plan_motors::{Cause, Hazard, Verdict, judge};
 use plan_rules::{State, ZoneState};
@@ -46,15 +49,15 @@ pub struct Finding {
 /// What `plan check` prints.
 #[derive(Drop)]
 pub enum Report {
-    /// The motors of each hazard are kept apart.
+    /// The motors of each hazard are kept apart, and each motor is permitted where its program runs it.
     Kept(String),
-    /// Those of some hazard aren't.
+    /// Those of some hazard aren't, or some motor isn't permitted there.
     Unkept(String),
 }
 
-/// What `plan check` prints of a plan: its report, whether each call that is done has its row, and if it has motors,
-/// their names, and what is said of each hazard. Turns are sought from the start, if there is one. An error says that
-/// memory ran out.
+/// What `plan check` prints of a plan: its report, whether each call that is done has its row, whether each motor is
+/// permitted where a program runs it, and if the plan has motors, their names, and what is said of each hazard. Turns are
+/// sought from the start, if there is one. An error says that memory ran out.
 pub fn report_of(
     alloc: Global,
     plan: &ProgrammedPlan,
@@ -62,36 +65,39 @@ pub fn report_of(
 ) -> Result<Report, AllocError>
     ensures { IfOk result (spec.IsReport plan.now start) }
 {
-    let every = every_row_of(alloc, plan)?;
+    let every = has_every_row(plan.named.plan())?;
+    let drives = drives_of(alloc, plan)?;
     let findings = findings_of(alloc, plan, start)?;
-    report_by(alloc, plan, start, every, findings.as_slice())
+    report_by(
+        alloc,
+        plan,
+        start,
+        every,
+        drives.as_slice(),
+        findings.as_slice(),
+    )
 }
 
-/// The report of a plan, by what is shown of its hazards.
+/// The report of a plan, by what is shown of its hazards, and of the motors that programs run.
 fn report_by(
     alloc: Global,
     plan: &ProgrammedPlan,
     start: Option<State>,
     every: bool,
+    drives: &[Option<Undriven>],
     findings: &[Finding],
 ) -> Result<Report, AllocError>
     requires rows { IsTrue every → HasEveryRow plan.now.named.plan }
+    requires drives { AreDrives plan.now drives.now }
     requires findings { spec.AreFindings plan.now start findings.now }
     ensures { IfOk result (spec.IsReport plan.now start) }
 {
-    let text = report_with(alloc, plan, start, every, findings)?;
-    if are_kept(findings) {
+    let text = report_with(alloc, plan, start, every, drives, findings)?;
+    if are_kept(findings) && are_driven(drives) {
         Ok(Report::Kept(text))
     } else {
         Ok(Report::Unkept(text))
     }
-}
-
-/// Whether each call that is done has its row.
-fn every_row_of(alloc: Global, plan: &ProgrammedPlan) -> Result<bool, AllocError>
-    ensures { IfOk result (λ every. IsTrue every → HasEveryRow plan.now.named.plan) }
-{
-    has_every_row(alloc, plan.named.plan())
 }
 
 // ---- findings
@@ -200,13 +206,14 @@ fn report_with(
     plan: &ProgrammedPlan,
     start: Option<State>,
     every: bool,
+    drives: &[Option<Undriven>],
     findings: &[Finding],
 ) -> Result<String, AllocError>
     ensures { IfOk result
-        (λ text. string_bytes text ≡ spec.whole_report plan.now start every findings.now) }
+        (λ text. string_bytes text ≡ spec.whole_report plan.now start every drives.now findings.now) }
 {
     let mut text = String::new(alloc);
-    push_whole_report(&mut text, plan, start, every, findings)?;
+    push_whole_report(&mut text, plan, start, every, drives, findings)?;
     Ok(text)
 }
 
@@ -215,13 +222,15 @@ fn push_whole_report(
     plan: &ProgrammedPlan,
     start: Option<State>,
     every: bool,
+    drives: &[Option<Undriven>],
     findings: &[Finding],
 ) -> Result<(), AllocError>
     ensures { OnOk result (string_bytes text.new
-        ≡ string_bytes text.old ++ spec.whole_report plan.now start every findings.now) }
+        ≡ string_bytes text.old ++ spec.whole_report plan.now start every drives.now findings.now) }
 {
     push_report(text, &plan.named)?;
     push_rows(text, every)?;
+    push_drives(text, &plan.named, &plan.motors.names, &plan.steps, drives)?;
     push_motors(text, plan, start, findings)
 }
 

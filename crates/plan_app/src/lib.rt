@@ -1,6 +1,7 @@
 //! What the program `plan` does, over any words, reader and writer.
 #![tactic(auto)]
 
+mod drives;
 pub mod explore;
 pub mod going;
 pub mod hazards;
