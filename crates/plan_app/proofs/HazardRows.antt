@@ -1,5 +1,5 @@
 -- The examples of `hazard_lines_are_met`, and the law `kept_motors_are_never_both`.
-use Rattle.std.proofs.Common.{◌≡◌, ◌<◌, ℕ, suc, zero, Bool, true, false, ◌&&◌, List, [], ◌∷◌, length, refl, arith, Option}
+use Rattle.std.proofs.Common.{◌≡◌, ◌<◌, ℕ, suc, zero, Bool, true, false, ◌&&◌, List, [], ◌∷◌, length, is_none, refl, arith, Option}
 use Rattle.std.specs.Fmt.{digits}
 use Rattle.std.specs.List.{AllZip, list_all}
 use Rattle.plan_motors.specs.declared.motor.Hazard.{Hazard}
@@ -11,7 +11,7 @@ use Rattle.plan_explorer.specs.Examples.{patient}
 use Rattle.plan_motors.specs.declared.verdict.Verdict.TheVariants.{Possible}
 use Rattle.plan_app.specs.declared.leads.Lead.{Lead}
 use Rattle.plan_app.specs.declared.leads.Lead.TheVariants.{Unsought, Never, Turns, Large}
-use Rattle.plan_app.specs.Hazards.{IsFindingOf, is_kept, lead_text, motors_text, opening}
+use Rattle.plan_app.specs.Hazards.{IsFindingOf, are_kept, is_kept, lead_text, motors_text, opening}
 use Rattle.plan_app.specs.declared.hazards.Finding.{Finding}
 use Rattle.plan_document.specs.declared.resolving.ProgrammedPlan.{ProgrammedPlan}
 use Rattle.plan_rules.specs.declared.state.State.{State}
@@ -54,7 +54,7 @@ lead-lines = record {
 pub are-kept : AreKept
 are-kept = record { all = refl; none = refl; last = refl }
 
-both : (a b : Bool) → (a && b) ≡ true → (a ≡ true) × (b ≡ true)
+pub both : (a b : Bool) → (a && b) ≡ true → (a ≡ true) × (b ≡ true)
 both true b e = (refl, e)
 both false b e = absurd (cc)
 

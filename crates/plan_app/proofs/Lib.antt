@@ -10,6 +10,7 @@ mod ReportsTold
 mod GoingRows
 mod InputRows
 mod DriveLemmas
+mod DriveRows
 mod EventsTold
 mod ScriptsFound
 mod ScreenRows

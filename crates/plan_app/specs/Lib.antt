@@ -20,6 +20,7 @@ pub mod LineExamples
 pub mod GoingExamples
 pub mod GoingLaws
 pub mod HazardExamples
+pub mod DriveExamples
 pub mod InputExamples
 pub mod InputLaws
 pub mod ScreenExamples

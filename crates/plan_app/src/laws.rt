@@ -1,5 +1,6 @@
 //! Laws of what is printed, each the contract of a function that does nothing.
 
+ghost use Rattle.plan_app.specs.DriveExamples.{DriveLines, RightDrivesArePermitted, RunsAreTold};
 ghost use Rattle.plan_app.specs.FailedExamples.{FailedIsMeant, FaultLines};
 ghost use Rattle.plan_app.specs.GoingExamples.{EventLines, MachinesAreTold, WalksAreTold};
 ghost use Rattle.plan_app.specs.GoingLaws.{EventsTell};
@@ -39,6 +40,17 @@ pub fn hazard_lines_are_met()
 /// If the status of `check` says that all is well, the motors of each hazard are never permitted both, from a start on.
 pub fn kept_motors_are_never_both()
     ensures { KeptMotorsAreNeverBoth }
+{}
+
+/// Examples: what is said of motors that programs run, line by line, and which steps run any.
+pub fn drive_lines_are_met()
+    ensures lines { DriveLines }
+    ensures runs { RunsAreTold }
+{}
+
+/// If the status of `check` says that all is well, each machine's program runs its motors only where they are permitted.
+pub fn right_drives_are_permitted()
+    ensures { RightDrivesArePermitted }
 {}
 
 /// Examples: lines of reports, whole.
