@@ -113,7 +113,8 @@ pub record ProgramHasLines (n : Named) (m : NamedMotors) (machine : ℕ) (row : 
     pub call : (call : Call) (line : Text) → HasLine row steps (Do call) line → is_line call ≡ true
     pub may : (call : Call) (line : Text) → HasLine row steps (Do call) line → may_be_done n.plan machine call ≡ true
     -- a zone that is waited for is named, and may be the machine's
-    pub zone : (zone : ℕ) (line : Text) → HasLine row steps (Await zone) line → line ≡ codes "await " ++ name_in n.zones zone
+    pub zone : (zone : ℕ) (line : Text) → HasLine row steps (Await zone) line
+        → line ≡ codes "await " ++ name_in n.zones zone
     pub party : (zone : ℕ) (line : Text) → HasLine row steps (Await zone) line → is_party n.plan machine zone ≡ true
     -- a run, or a wait, ends with a sensor of the machine, and has no motors but the machine's
     pub sensor : (motors until : ℕ) (line : Text) → HasLine row steps (Run motors until) line
