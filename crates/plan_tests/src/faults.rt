@@ -60,7 +60,7 @@ line 2: machine 1: name: it takes a text; put quotes round it
 [[machine]]
 names = \"a\"
 =>
-line 2: machine 1: \"names\" isn't a key here; known: name, places, poses, program
+line 2: machine 1: \"names\" isn't a key here; known: name, places, poses, sensors, program
 --
 [[machine]]
 name = \"A\"
@@ -191,7 +191,7 @@ places = []
 programs = [
 ]
 =>
-line 5: machine a: \"programs\" isn't a key here; known: name, places, poses, program
+line 5: machine a: \"programs\" isn't a key here; known: name, places, poses, sensors, program
 =>
 A key is unknown, and stands below known ones.
 --
@@ -294,7 +294,8 @@ machine = [
   { name = \"b\", program = [\"\"] },
 ]
 =>
-line 3: machine b: program: \"\" isn't a call: claim, give, yield, take or release with a zone, or pose with a pose
+line 3: machine b: program: \"\" isn't a step: claim, give, yield, take or release with a zone, pose with a \
+pose, await with a sensor or a zone, or run with motors, until and a sensor
 =>
 All machines stand in a list.
 --
@@ -322,7 +323,7 @@ fn tells_lines(rt: HostRuntime) -> Result<(), AllocError> {
 const LATER: &str = "\
 zone = 1
 =>
-line 7: machine b: \"zone\" isn't a key here; known: name, places, poses, program
+line 7: machine b: \"zone\" isn't a key here; known: name, places, poses, sensors, program
 --
 [[zone]]
 name = \"z\"
@@ -409,15 +410,15 @@ line 13: machine c: pose x: gives: \"shut\" isn't a posture; known: closed, movi
 name = \"c\"
 program = [\"claim\"]
 =>
-line 13: machine c: program: \"claim\" isn't a call: claim, give, yield, take or release with a zone, or pose with \
-a pose
+line 13: machine c: program: \"claim\" isn't a step: claim, give, yield, take or release with a zone, pose with a \
+pose, await with a sensor or a zone, or run with motors, until and a sensor
 --
 [[machine]]
 name = \"c\"
 program = [\"inquire z\"]
 =>
-line 13: machine c: program: \"inquire z\" isn't a call: claim, give, yield, take or release with a zone, or pose \
-with a pose
+line 13: machine c: program: \"inquire z\" isn't a step: claim, give, yield, take or release with a zone, pose with a \
+pose, await with a sensor or a zone, or run with motors, until and a sensor
 --
 [[machine]]
 name = \"c\"
@@ -430,6 +431,39 @@ name = \"c\"
 program = [\"pose y\"]
 =>
 line 13: machine c: program: the machine has no pose \"y\"
+--
+[[machine]]
+name = \"c\"
+sensors = [\"z\"]
+=>
+line 13: machine c: sensors: \"z\" is the name of a zone, too
+--
+[[machine]]
+name = \"c\"
+sensors = [\"s\"]
+program = [\"await t\"]
+=>
+line 14: machine c: program: no zone, and no sensor of the machine, is named \"t\"
+--
+[[machine]]
+name = \"c\"
+program = [\"await z\"]
+=>
+line 13: machine c: program: \"await z\" is never done: the machine is neither host nor guest of the zone
+--
+[[machine]]
+name = \"c\"
+sensors = [\"s\"]
+program = [\"run ram until t\"]
+=>
+line 14: machine c: program: no sensor of the machine is named \"t\"
+--
+[[machine]]
+name = \"c\"
+sensors = [\"s\"]
+program = [\"run ram until s\"]
+=>
+line 14: machine c: program: no motor of the machine is named \"ram\"
 --
 [[machine]]
 name = \"c\"

@@ -13,6 +13,8 @@ mod compiled;
 #[cfg(test)]
 mod doubles;
 #[cfg(test)]
+mod drives;
+#[cfg(test)]
 mod examples;
 #[cfg(test)]
 mod explorations;

@@ -1,0 +1,116 @@
+//! What `check` says of the motors that programs run.
+
+use super::doubles::is_answered;
+use std::alloc::{AllocError, Global};
+use test_doubles::{count_parts, part};
+
+/// Two machines at a press, before the press's program.
+const BEFORE: &str = "\
+[[machine]]
+name = \"loader\"
+places = [\"hand\"]
+
+[[machine]]
+name = \"press\"
+places = [\"die\"]
+sensors = [\"top\", \"bottom\"]
+poses = [
+  { name = \"load\", gives = { interior = \"openin\" }, after_moving = true },
+  { name = \"travelling\", gives = { interior = \"moving\" } },
+]
+program = [";
+
+/// What comes after the program.
+const AFTER: &str = "]
+
+[[zone]]
+name = \"interior\"
+host = \"press\"
+guest = \"loader\"
+inward = [\"hand\", \"die\"]
+
+[[motor]]
+name = \"ram\"
+machine = \"press\"
+holds = { interior = \"moving\" }
+
+[[motor]]
+name = \"heater\"
+machine = \"press\"
+full = [\"die\"]
+";
+
+/// What `check` says of it before drives.
+const REPORT: &str = "\
+2 machines: loader press
+1 zone: interior
+2 places: hand die
+2 poses: load travelling
+a word of 28 bits
+bit 0, 5 bits: zone interior
+bit 5, 1 bit: place hand
+bit 6, 1 bit: place die
+bit 7, 20 bits: stamp
+bit 27, 1 bit: stop
+rows: each call that is done has its row
+";
+
+/// Programs in which nothing is wrong, each with what is said of it.
+const RIGHT: &str = "\
+\"claim interior\", \"pose travelling\", \"run ram until bottom\"
+=>
+drives: each motor is permitted where its program runs it
+--
+\"await top\", \"claim interior\", \"pose travelling\", \"await interior\", \"run ram until bottom\"
+=>
+drives: each motor is permitted where its program runs it
+--
+\"claim interior\", \"pose travelling\", \"await bottom\"
+=>
+";
+
+/// Programs that run what isn't permitted, each with what is said of it.
+const WRONG: &str = "\
+\"run ram until bottom\"
+=>
+press, line 1: ram needs to hold interior; here it may be another's
+--
+\"claim interior\", \"run ram until bottom\"
+=>
+press, line 2: ram needs interior moving; here its posture isn't known
+--
+\"claim interior\", \"pose travelling\", \"pose load\", \"run ram until bottom\"
+=>
+press, line 4: ram needs interior moving; here it is openin
+--
+\"claim interior\", \"pose travelling\", \"run heater ram until bottom\"
+=>
+press, line 3: heater needs die full; here it may be empty
+";
+
+/// Whether `check` says so of the plan with a row's program.
+fn is_checked(alloc: Global, row: &str, status: u8) -> Result<bool, AllocError> {
+    let program = part(row, "=>\n", 0);
+    let drives = part(row, "=>\n", 1);
+    let document = format!(in alloc; "{BEFORE}{program}{AFTER}")?;
+    let text = format!(in alloc; "{REPORT}{drives}2 motors: ram heater\n")?;
+    Ok(is_answered(alloc, b"check", document.as_str(), status, text.as_str()))
+}
+
+#[test]
+fn tells_that_drives_are_permitted(rt: HostRuntime) -> Result<(), AllocError> {
+    for number in 0..count_parts(RIGHT, "--\n") {
+        let row = part(RIGHT, "--\n", number);
+        assert!(rt; is_checked(rt.alloc(), row, 0)?, "{row}");
+    }
+    Ok(())
+}
+
+#[test]
+fn tells_the_first_line_that_is_not_permitted(rt: HostRuntime) -> Result<(), AllocError> {
+    for number in 0..count_parts(WRONG, "--\n") {
+        let row = part(WRONG, "--\n", number);
+        assert!(rt; is_checked(rt.alloc(), row, 1)?, "{row}");
+    }
+    Ok(())
+}
