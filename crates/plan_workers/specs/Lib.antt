@@ -1,3 +1,4 @@
 pub mod Lines
 pub mod Works
 pub mod Turning
+pub mod Jobs
