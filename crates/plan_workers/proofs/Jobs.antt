@@ -1,5 +1,5 @@
 -- A machine's work, from the beginning of its program, over a line by its pass.
-use Rattle.std.proofs.Common.{◌≡◌, ℕ, Option, None, sym, ap, ◌∙◌, subst}
+use Rattle.std.proofs.Common.{◌≡◌, ℕ, Option, None, ap, subst}
 use Rattle.std.specs.Prelude.{Result, Ok, Err, IfOk}
 use Rattle.plan_controller.specs.Turns.{Control, control}
 use Rattle.plan_workers.specs.declared.run.PlanJob.{PlanJob}

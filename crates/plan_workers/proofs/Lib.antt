@@ -1,3 +1,4 @@
 mod Asking
 mod Turning
 mod Jobs
+mod Passing

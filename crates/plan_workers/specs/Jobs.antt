@@ -5,6 +5,7 @@ use Rattle.plan_controller.specs.Turns.{control}
 use Rattle.plan_interlock.specs.declared.rules.PlanRules.{PlanRules}
 use Rattle.plan_interlock.specs.Book.{plan_of}
 use Rattle.word_interlock.specs.Views.{InterlockView}
+use Rattle.word_interlock.specs.Seen.{IsSamePass}
 use Rattle.plan_workers.specs.declared.run.PlanJob.{PlanJob}
 use Rattle.plan_workers.specs.declared.run.PlanWorked.{PlanWorked}
 use Rattle.plan_workers.specs.Lines.{PlanPassView, LineView, LineAsks}
@@ -33,7 +34,8 @@ module _ {D : Type 0} (reads : D → Option ℕ → D → Type 0) (drives : D �
   }
 
   -- A machine has worked from the beginning of its program, over a line of this interlock by its pass, up to a last
-  -- moment. It gives back the pass and the devices of that moment, and what has stopped its controller.
+  -- moment. It gives back the pass of that moment, which is still this machine's, what has stopped its controller, and
+  -- its devices, with all motors off.
   pub record HasDone (i : PlanInterlockView) (gate : ℕ → GateOf) (limit : ℕ) (job : PlanJob D) (back : PlanWorked D)
       : Type 0 where
     pub line : LineView
@@ -44,7 +46,8 @@ module _ {D : Type 0} (reads : D → Option ℕ → D → Type 0) (drives : D �
     pub worked : HasWorked by_pass (gate job.pass.actor) limit
         (at_work (control job.pass.actor job.steps.items 0 None) line job.devices) last back.turns
     pub pass_back : back.pass ≡ last.line.pass
-    pub devices_back : back.devices ≡ last.devices
+    pub same : IsSamePass job.pass back.pass
+    pub off : drives last.devices 0 back.devices
     pub stopped : back.stopped_by ≡ last.control.stopped
 
   -- so has each of several, in their order

@@ -31,8 +31,8 @@ abbrev pub answer_in : Reply Answer → Option Answer
 answer_in (Settled answer stamp) = Some answer
 answer_in (Busy lost stamp) = None
 
--- a call of a line is one of the interlock, by its pass, with all that the interlock promises of it; the plan stays, and
--- a later call may lose as many exchanges
+-- a call of a line is one of the interlock, by its pass, with all that the interlock promises of it; the plan stays,
+-- and a later call may lose as many exchanges
 pub record LineAsks (l : LineView) (c : Call) (answer : Option Answer) (d : LineView) : Type 0 where
   pub reply : Reply Answer
   pub is : answer ≡ answer_in reply

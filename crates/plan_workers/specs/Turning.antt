@@ -28,8 +28,8 @@ last_of first [] = first
 last_of first (now ∷ later) = last_of now later
 
 module _ {L D : Type 0} (w : Ways L D) where
-  -- a turn of a machine at work: its sensors are read once, its controller takes a turn, and the motors of this turn are
-  -- given once; each is permitted by all that its line has seen
+  -- a turn of a machine at work: its sensors are read once, its controller takes a turn, and the motors of this turn
+  -- are given once; each is permitted by all that its line has seen
   pub record TakesTurn (before now : AtWork L D) : Type 0 where
     pub turn : WorkTurn
     pub devices : ReadsThenDrives w.reads w.drives before.devices turn.sensors turn.taken.motors now.devices

@@ -87,7 +87,8 @@ impl<'a> PlanLine for PlanPassLine<'a> {
 
     ghost plan = { λ l. ∥∥₁_elim l.kept (IsPlan-prop l.plan) (λ k. k.opened.0) };
 
-    ghost sound = { λ l. ∥∥₁_elim l.kept (IsSound-prop l.plan l.pass.opening) (λ k. k.opened.1.sound) };
+    ghost sound = { λ l. ∥∥₁_elim l.kept (IsSound-prop l.plan l.pass.opening)
+        (λ k. k.opened.1.sound) };
 
     ghost legal = { λ l. ∥∥₁_elim l.kept (IsLegal-prop l.plan l.pass.opening l.pass.seen)
         (λ k. legal_here l.plan l.pass.opening l.pass.seen k.legal) };

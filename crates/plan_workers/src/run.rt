@@ -30,7 +30,7 @@ pub struct PlanJob<D> {
 pub struct PlanWorked<D> {
     /// Its pass.
     pub pass: PlanPass,
-    /// Its devices, as they are after its last turn.
+    /// Its devices, with all motors off.
     pub devices: D,
     /// How many turns it took.
     pub turns: u32,
@@ -39,7 +39,7 @@ pub struct PlanWorked<D> {
 }
 
 /// Lets a machine work over an interlock, from the beginning of its program: at most so many turns, each once the gate
-/// lets it begin.
+/// lets it begin. Then all its motors are off.
 pub fn work_by_pass<D: PlanDevices + Drop, G: PlanGate>(
     interlock: &PlanInterlock,
     job: PlanJob<D>,
@@ -70,7 +70,8 @@ pub fn work_by_pass<D: PlanDevices + Drop, G: PlanGate>(
 /// Lets machines work over one interlock, each in a thread of its own where one can be made, and gives what each gives
 /// back, in their order. See [`work_by_pass`].
 ///
-/// Where no thread can be made, machines work one after another. `Err` if memory ran out: then some may not have worked.
+/// Where no thread can be made, machines work one after another. `Err` if memory ran out: then some may not have
+/// worked.
 pub fn work_in_threads<R: Threads + Sync, D: PlanDevices + Send + Drop, G: PlanGate + Sync>(
     rt: &R,
     interlock: &PlanInterlock,
@@ -88,7 +89,8 @@ pub fn work_in_threads<R: Threads + Sync, D: PlanDevices + Send + Drop, G: PlanG
         jobs,
         &|job: PlanJob<D>| -> PlanWorked<D>
             requires { IsJobOf interlock.now job.pass }
-            ensures { HasDone D.reads D.drives interlock.entry.now (G.may_answer gate.entry.now) turns job result }
+            ensures { HasDone D.reads D.drives interlock.entry.now
+                (G.may_answer gate.entry.now) turns job result }
         { work_by_pass(interlock, job, gate, turns) },
     )
 }

@@ -118,16 +118,17 @@ impl<L: PlanLine, D: PlanDevices> PlanWorker<L, D> {
         &self.devices
     }
 
-    /// Ends the machine's turns, and gives back its line and its devices.
+    /// Ends the machine's turns with all motors off, and gives back its line and its devices.
     pub fn into_parts(self) -> (L, D)
         ensures line { result.0 ≡ self.line }
-        ensures devices { result.1 ≡ self.devices }
+        ensures off { D.drives self.devices 0 result.1 }
     {
         let PlanWorker {
             machine: _,
             wired,
-            devices,
+            mut devices,
         } = self;
+        devices.drive(0);
         (wired.into_line(), devices)
     }
 }

@@ -7,5 +7,5 @@ use Rattle.plan_workers.proofs.run.work_in_threads.Goals as goal
 pub returns-clause-each : goal.returns-clause-each
 returns-clause-each g c =
     if_ok _ _ c.map_vec.result c.map_vec.ensures.each (λ backs given. λ k job back below.
-        let gives = (given k back below).1 in
-        subst (λ x. HasDone g.D.PlanDevices.reads g.D.PlanDevices.drives c.args.interlock.now (g.G.PlanGate.may_answer c.args.gate.now) c.args.turns x (slice_index_or backs.items k back)) (sym (gives.job_is job)) gives.call.met)
+    let gives = (given k back below).1 in
+    subst (λ x. HasDone g.D.PlanDevices.reads g.D.PlanDevices.drives c.args.interlock.now (g.G.PlanGate.may_answer c.args.gate.now) c.args.turns x (slice_index_or backs.items k back)) (sym (gives.job_is job)) gives.call.met)
