@@ -5,6 +5,8 @@ pub mod devices;
 pub mod gate;
 pub mod pass_line;
 pub mod run;
+#[cfg(test)]
+mod tests;
 pub mod worker;
 
 pub use devices::PlanDevices;
