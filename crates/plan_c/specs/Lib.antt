@@ -2,6 +2,9 @@ pub mod Given
 pub mod Numbers
 pub mod Replies
 pub mod Starts
+pub mod Lines
+pub mod Turning
+pub mod Courses
 pub mod Laws
 pub mod Examples
 pub mod NumberExamples

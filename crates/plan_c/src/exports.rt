@@ -1,10 +1,11 @@
 //! The functions that C calls. A plan is opened once, and all others answer by it. None takes memory.
-ghost use Rattle.std.specs.Prelude.{◌≡◌, ◌↔◌, ◌≤◌, ◌<◌, List, IsTrue};
+ghost use Rattle.std.specs.Prelude.{◌≡◌, ◌≢◌, ◌↔◌, ◌≤◌, ◌<◌, List, Option, IsTrue, false};
 ghost use Rattle.plan_types.specs.Table.{PlanTable};
 ghost use Rattle.plan_types.specs.Plan.{IsPlan};
 ghost use Rattle.plan_types.specs.Bytes.{IsPlanOf, NoPlan};
 ghost use Rattle.plan_types.specs.declared.call.Call.{Call};
 ghost use Rattle.plan_types.specs.declared.answer.Event.{Event};
+ghost use Rattle.plan_types.specs.declared.answer.Refusal.{Refusal};
 ghost use Rattle.plan_rules.specs.declared.state.State.{State as PlanState};
 ghost use Rattle.plan_rules.specs.State.{last_stamp, start_state};
 ghost use Rattle.plan_rules.specs.Reply as rules;
@@ -15,15 +16,22 @@ ghost use Rattle.plan_motors.specs.Motor.{Permits};
 ghost use Rattle.plan_motors.specs.Mask.{IsMaskOf, allows};
 ghost use Rattle.plan_motors.specs.OfPlan.{IsMotorOf};
 ghost use Rattle.plan_motors.specs.Laws.{KeepsPermission};
+ghost use Rattle.plan_controller.specs.declared.step.Step.{Step};
+ghost use Rattle.plan_controller.specs.Turns.{control};
 ghost use Rattle.plan_c.specs.Given.{IsOpened, IsNotOpened, IsWordOf, NoState, motor_mask};
 ghost use Rattle.plan_c.specs.Numbers.{IsCall, NoCall};
 ghost use Rattle.plan_c.specs.Starts.{IsStartText, places_in};
 ghost use Rattle.plan_c.specs.Replies as replies;
+ghost use Rattle.plan_c.specs.Lines.{HasStep, NoStep};
+ghost use Rattle.plan_c.specs.Turning as turning;
+ghost use Rattle.plan_c.specs.Turning.{IsTurn, Rests};
 
 use crate::by_plan::{NO_STAMP, NO_WORD, reply_by, restamp_by, stamp_by, start_by};
 use crate::calls::call_with;
+use crate::line::ProgramLine;
 use crate::opened::Opened;
 use crate::reply::{NO_CALL, NO_PLAN, Reply, bare_reply};
+use crate::turn::{Place, Turned, resting, sensors_if, turn_by};
 use plan_motors::MotorMask;
 use plan_rules::laws::lawful_histories;
 use plan_types::{Plan, read_plan};
@@ -142,4 +150,44 @@ pub extern "C" fn bagunjoki_plan_may_run(word: u64, mask: u64, pattern: u64) -> 
     lawful_histories();
     words_are_laid_out();
     MotorMask { mask, pattern }.allows(word)
+}
+
+/// One turn of a machine that goes through its program, as `PlanController` of `plan_controller` does: by the word, by
+/// the place that the last turn gave, and by what the sensors show now (a bit for each) if they could be read. It makes
+/// one step: a call, with all motors off, or a run of motors. It changes no shared word: only where the answer is Done
+/// is the word another one, and then the turn has been taken once that word has taken the place of the one given.
+///
+/// Where it rests, all motors are off, and word and place are those that were given. So it does after a refusal has
+/// stopped the machine, with sensors unread, without a plan or a state, and at a line that is no step's.
+#[unsafe(no_mangle)]
+pub extern "C" fn bagunjoki_plan_turn(
+    plan: &Opened,
+    word: u64,
+    machine: u8,
+    program: &[ProgramLine],
+    place: Place,
+    read: bool,
+    sensors: u32,
+) -> Turned
+    ensures turn { (t : PlanTable) (state : PlanState) (steps : List Step)
+        (stopped : Option Refusal)
+        → IsOpened t plan.now → IsWordOf t word state → HasStep program.now steps place.line
+        → place.stopped ≡ turning.stop_number stopped
+        → IsTurn t state word (control machine steps place.line stopped)
+        (turning.sensed read sensors) result }
+    ensures stopped { place.stopped ≢ 0 → Rests word place result }
+    ensures unread { read ≡ false → Rests word place result }
+    ensures no_step { (t : PlanTable) (state : PlanState)
+        → IsOpened t plan.now → IsWordOf t word state → NoStep program.now place.line
+        → result ≡ turning.resting replies.no_call word place }
+    ensures no_state { (t : PlanTable) → IsOpened t plan.now → NoState t word
+        → result ≡ turning.resting replies.no_state word place }
+    ensures no_plan { IsNotOpened plan.now → result ≡ turning.resting replies.no_plan word place }
+{
+    if plan.is_plan {
+        let sensors = sensors_if(read, sensors);
+        turn_by(&plan.compiled, word, machine, program, place, sensors)
+    } else {
+        resting(NO_PLAN, word, place)
+    }
 }

@@ -1,10 +1,12 @@
 //! Laws, each the contract of a function that does nothing.
 ghost use Rattle.std.specs.Prelude.{ℕ};
+ghost use Rattle.plan_c.specs.Courses.{TurnsGoOn};
 ghost use Rattle.plan_c.specs.Examples.{StartsAreJudged};
 ghost use Rattle.plan_c.specs.Laws.{NoStateHasNoWord};
 ghost use Rattle.plan_c.specs.NumberExamples.{CallsAreMet, GivenIsMet};
 ghost use Rattle.plan_c.specs.NumberExamples.{NumbersAreMet, RepliesAreMet};
 
+use plan_rules::laws::lawful_histories;
 use plan_word::laws::words_are_laid_out;
 
 /// No state of a plan has the word that says that there is none.
@@ -38,3 +40,12 @@ pub fn replies_are_met()
 pub fn given_is_met()
     ensures { GivenIsMet }
 {}
+
+/// A turn on a word that a legal history leads to, by which the machine is at its place, makes one call of that history
+/// at most. So it leads to a word, a history and a place of which the same is so. Where the program runs only what it
+/// may, each motor that is on is permitted, whatever others do, until the machine's next call is done.
+pub fn turns_go_on()
+    ensures { TurnsGoOn }
+{
+    lawful_histories();
+}

@@ -6,8 +6,10 @@ mod by_plan;
 mod calls;
 mod exports;
 pub mod laws;
+mod line;
 mod opened;
 mod places;
 mod reply;
 #[cfg(test)]
 mod tests;
+mod turn;

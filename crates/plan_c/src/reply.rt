@@ -22,7 +22,7 @@ pub(crate) const NO_STATE: u8 = 65;
 pub(crate) const NO_PLAN: u8 = 67;
 
 /// Where an answer names nothing, or nobody.
-const NOTHING: u8 = 255;
+pub(crate) const NOTHING: u8 = 255;
 
 /// What C gets back from a call.
 #[repr(C)]
@@ -53,7 +53,8 @@ fn posture_number(posture: Posture) -> u8
     }
 }
 
-fn refusal_number(refusal: Refusal) -> u8
+/// The number of a refusal.
+pub(crate) fn refusal_number(refusal: Refusal) -> u8
     ensures { result ≡ replies.refusal_number refusal }
 {
     match refusal {
@@ -106,6 +107,17 @@ fn refusal_reply(refusal: Refusal, next: u64) -> Reply
         _ => {}
     }
     reply
+}
+
+/// The number of an answer.
+pub(crate) fn answer_number(answer: Answer) -> u8
+    ensures { result ≡ replies.answer_number answer }
+{
+    match answer {
+        Answer::Done => DONE,
+        Answer::Refused(refusal) => refusal_number(refusal),
+        Answer::Shown { .. } => SHOWN,
+    }
 }
 
 /// The reply of an answer and of the word after it.
