@@ -4,11 +4,13 @@
    bagunjoki_plan_open reads them once, and all others take what it gives. The state of the plant is one 64-bit word.
    bagunjoki_plan_step answers a call on such a word, and gives the word after it. bagunjoki_plan_ask makes a call on a
    word that threads or processes share; bagunjoki_plan_settle asks until it is answered. BAGUNJOKI_PLAN_MAY_RUN tells
-   of a word that was loaded whether a motor may run. Nothing takes memory by malloc, or a lock.
+   of a word that was loaded whether a motor may run. bagunjoki_plan_take_turn takes a turn of a machine that goes
+   through a program: it makes the calls, and says which motors are on. Nothing takes memory by malloc, or a lock.
 
-   What is proved (crates/plan_c): what the six functions of the library return. What isn't: the loops of
-   bagunjoki_plan_ask, bagunjoki_plan_settle and bagunjoki_plan_renew, which your compiler translates. They are right if
-     - nothing but these three writes the word after it was set to a start's,
+   What is proved (crates/plan_c): what the seven functions of the library return. What isn't: the loops of
+   bagunjoki_plan_ask, bagunjoki_plan_settle, bagunjoki_plan_take_turn and bagunjoki_plan_renew, which your compiler
+   translates. They are right if
+     - nothing but these four writes the word after it was set to a start's,
      - no two callers call as the same machine,
      - all callers pass the same plan, and
      - nothing but bagunjoki_plan_open makes a bagunjoki_plan_opened, or writes to it. A copy is as good.
@@ -60,6 +62,12 @@ enum bagunjoki_plan_verb {
     BAGUNJOKI_PLAN_RESUME = 10
 };
 
+/* What else a line of a program may be: it awaits a zone, or runs motors. */
+enum bagunjoki_plan_kind {
+    BAGUNJOKI_PLAN_AWAIT = 16,
+    BAGUNJOKI_PLAN_RUN = 17
+};
+
 /* Answers. Only DONE changes the word. 1 to 15 are refusals. */
 enum bagunjoki_plan_answer {
     BAGUNJOKI_PLAN_DONE = 0,
@@ -78,9 +86,9 @@ enum bagunjoki_plan_answer {
     BAGUNJOKI_PLAN_STOPPED = 14,
     BAGUNJOKI_PLAN_NOT_STOPPED = 15,
     BAGUNJOKI_PLAN_SHOWN = 32,    /* the reply has the zone's owner, plate and posture */
-    BAGUNJOKI_PLAN_NO_CALL = 64,  /* verb and object name no call; a machine past the plan's may inquire */
+    BAGUNJOKI_PLAN_NO_CALL = 64,  /* verb and object name no call, or a line no step */
     BAGUNJOKI_PLAN_NO_STATE = 65, /* the word is no state's: something else has written it */
-    BAGUNJOKI_PLAN_BUSY = 66,     /* bagunjoki_plan_ask alone: others made a change before each of its tries */
+    BAGUNJOKI_PLAN_BUSY = 66,     /* bagunjoki_plan_ask, _take_turn: others made a change before each try */
     BAGUNJOKI_PLAN_NO_PLAN = 67   /* the bytes that were opened are no plan's */
 };
 
@@ -101,6 +109,34 @@ typedef struct bagunjoki_plan_reply {
     bool plate;
 } bagunjoki_plan_reply;
 
+/* A line of a machine's program: one step. What a step doesn't have is 0.
+     {0, verb, object, 0}                       a call, made until it is done
+     {0, BAGUNJOKI_PLAN_AWAIT, zone, 0}         a wait until the machine owns the zone
+     {motors, BAGUNJOKI_PLAN_RUN, 0, sensor}    a run: these motors are on until the sensor shows
+   A plan's motors have bits from 0, and so have the machine's sensors, of which there are 32. A run without motors
+   waits for its sensor, as for a motor to be at rest. Any other line is no step. A program has at most 255 lines.
+   After the last comes the first. */
+typedef struct bagunjoki_plan_line {
+    uint64_t motors;
+    uint8_t kind;
+    uint8_t object;
+    uint8_t until;
+} bagunjoki_plan_line;
+
+/* A machine's place in its program: {0, 0} at first. Two bytes to store for a power cut. */
+typedef struct bagunjoki_plan_place {
+    uint8_t line;    /* from 0 */
+    uint8_t stopped; /* the answer that has stopped the machine for good; 0 while it goes on */
+} bagunjoki_plan_place;
+
+/* What a turn gives back. */
+typedef struct bagunjoki_plan_turned {
+    uint64_t word;   /* the word after the turn. Unless the answer is DONE, the one before it */
+    uint64_t motors; /* those that are on. All others of the machine are off */
+    bagunjoki_plan_place place; /* after the turn */
+    uint8_t answer;  /* to the call; NOTHING if none was made */
+} bagunjoki_plan_turned;
+
 /* A plan that was opened, compiled. Its size never changes; what is in it is the library's alone. */
 typedef struct bagunjoki_plan_opened {
     bool is_plan; /* whether the bytes were a plan's */
@@ -108,14 +144,14 @@ typedef struct bagunjoki_plan_opened {
 } bagunjoki_plan_opened;
 
 /* The proved functions. They read nothing but their arguments, keep nothing, and take no memory and no lock. Any thread
-   may call them, and a signal handler too. `bytes` points to `length` bytes, `digits` to `count` of them; neither may
-   be null. */
+   may call them, and a signal handler too. `bytes` points to `length` bytes, `digits` to `count` of them, `program` to
+   `count` lines; none may be null. */
 
-/* Opens a plan. If the bytes are no plan's, `is_plan` is false, and all calls by it are NO_PLAN. It takes some 210 KB of
-   stack, and some milliseconds; the others take half a KB. */
+/* Opens a plan. If the bytes are no plan's, `is_plan` is false, and all calls by it are NO_PLAN. It takes some 210 KB
+   of stack, and some milliseconds; the others take half a KB. */
 bagunjoki_plan_opened bagunjoki_plan_open(const uint8_t *bytes, size_t length);
 
-/* A call on a word. It changes no shared word. */
+/* A call on a word. It changes no shared word. A machine past the plan's may inquire. */
 bagunjoki_plan_reply bagunjoki_plan_step(const bagunjoki_plan_opened *plan, uint64_t word, uint8_t machine,
                                          uint8_t verb, uint8_t object);
 
@@ -139,6 +175,21 @@ bool bagunjoki_plan_may_run(uint64_t word, uint64_t mask, uint64_t pattern);
 
 /* The same by one AND and one comparison. No proof speaks of it, but it says what the function says. */
 #define BAGUNJOKI_PLAN_MAY_RUN(word, mask, pattern) (((uint64_t)(word) & (uint64_t)(mask)) == (uint64_t)(pattern))
+
+/* A turn of a machine that goes through its program, by the word, by its place, and by what the sensors show now (a bit
+   for each), if they could be read. It makes one step: a call, with all motors off, or a run of motors. A run ends by a
+   turn with its motors off; the next step comes in the next turn.
+   All motors are off, and word and place are as before, if the sensors couldn't be read, or a refusal has stopped the
+   machine; also with the answers NO_PLAN, NO_STATE, and NO_CALL, which says that the line is no step. A refusal that
+   others' calls may mend leaves the machine at its line; any other one stops it for good.
+   It changes no shared word. If the answer is DONE, the turn counts only once the word has been exchanged for `word`,
+   as bagunjoki_plan_take_turn does.
+   If the program runs only what it may, and the machine is at its first line, or came to its place by such turns, each
+   motor that is on is permitted, whatever others do, until the machine's next call is done. Your duty, as with
+   bagunjoki_plan_may_run: before its next call a motor is off and at rest. */
+bagunjoki_plan_turned bagunjoki_plan_turn(const bagunjoki_plan_opened *plan, uint64_t word, uint8_t machine,
+                                          const bagunjoki_plan_line *program, size_t count, bagunjoki_plan_place place,
+                                          bool read, uint32_t sensors);
 
 #ifdef __cplusplus
 }
@@ -192,6 +243,37 @@ static inline bagunjoki_plan_reply bagunjoki_plan_settle(const bagunjoki_plan_op
         reply = bagunjoki_plan_ask(plan, shared, machine, verb, object, BAGUNJOKI_PLAN_LAST_STAMP);
     } while (reply.answer == BAGUNJOKI_PLAN_BUSY); /* only if it was renewed meanwhile */
     return reply;
+}
+
+/* Takes a turn on a shared word: one load, and at most `tries` exchanges, all sequentially consistent. It exchanges the
+   word only where a call was done, and where that is lost it takes the turn again, on the word that it found. It sets
+   `*place` to the place after the turn: store that before the next turn. With no try left, a turn whose call would be
+   done is BUSY: it has changed nothing, and its motors are off.
+   No proof speaks of this loop. It takes the proved turn of one word of the interlock, as bagunjoki_plan_ask makes one
+   call, if only one thread takes turns of a machine, always with the same program and the place of its last turn. */
+static inline bagunjoki_plan_turned bagunjoki_plan_take_turn(const bagunjoki_plan_opened *plan,
+                                                             bagunjoki_plan_word *shared, uint8_t machine,
+                                                             const bagunjoki_plan_line *program, size_t count,
+                                                             bagunjoki_plan_place *place, bool read, uint32_t sensors,
+                                                             unsigned tries) {
+    uint64_t word = BAGUNJOKI_PLAN_ATOMIC(load)(shared);
+    for (;;) {
+        bagunjoki_plan_turned turned =
+            bagunjoki_plan_turn(plan, word, machine, program, count, *place, read, sensors);
+        if (turned.answer == BAGUNJOKI_PLAN_DONE) {
+            if (tries == 0) {
+                turned.answer = BAGUNJOKI_PLAN_BUSY;
+                turned.word = word;
+                turned.place = *place;
+                return turned;
+            }
+            tries--;
+            /* (an exchange that is lost puts the word that it found into `word`) */
+            if (!BAGUNJOKI_PLAN_ATOMIC(compare_exchange_strong)(shared, &word, turned.word)) continue;
+        }
+        *place = turned.place;
+        return turned;
+    }
 }
 
 /* Keeps a shared word from wearing out, as bagunjoki_renew: if its stamp is `from` or later, gives it the stamp `to`,

@@ -12,19 +12,26 @@ REPLIES = "crates/plan_c/specs/Replies.antt"
 EXAMPLES = "crates/plan_types/specs/ByteExamples.antt"
 STAMPS = "crates/plan_rules/specs/State.antt"
 WATCH = "crates/plan_types/specs/Table.antt"
-STRUCT = "crates/plan_c/src/reply.rt"
+LINES = "crates/plan_c/specs/Lines.antt"
+STRUCTS = [f"crates/plan_c/src/{it}.rt" for it in ("reply", "line", "turn")]
 EXPORTS = "crates/plan_c/src/exports.rt"
 TESTS = "crates/plan_c/src/tests.rt"
 HEADER = "bindings/bagunjoki_plan.h"
 BUSY = 66
-TYPES = compare.TYPES | {"bagunjoki_plan_reply": "Reply", "bagunjoki_plan_opened": "Opened"}
-SLICE = compare.SLICE | {"&Opened": ["*Opened"]}
+# The structs of the header, by those of the crate.
+KINDS = {"Reply": "reply", "ProgramLine": "line", "Place": "place", "Turned": "turned"}
+TYPES = compare.TYPES | {f"bagunjoki_plan_{name}": kind for kind, name in KINDS.items()}
+TYPES["bagunjoki_plan_opened"] = "Opened"
+SLICE = compare.SLICE | {"&Opened": ["*Opened"], "&[ProgramLine]": ["*ProgramLine", "u64"]}
 # The plans that programs here carry, by the byte examples of plan_types.
-PLANS = [("press", "bindings/examples/plan_press.c")]
+PLANS = [("press", f"bindings/examples/plan_{it}.c") for it in ("press", "turns")]
 PLANS += [("lift", f"bindings/tests/plan_{it}.c") for it in ("walk", "memory")]
 PLANS += [("press", "bindings/tests/settle.c")]
 PRESS = """loader: 3000 calls done, its motor run 2000 times, stopped by 0
 press: 10000 calls done, its motor run 3000 times, stopped by 0
+"""
+TURNS = """loader: 2380 rounds, its motor on in 28572 turns, stopped by 0
+press: 2381 rounds, its motor on in 21429 turns, stopped by 0
 """
 
 
@@ -34,10 +41,13 @@ def of_crates(root):
     answers = table(replies, "refusal_number") | table(replies, "answer_number")
     answers |= {it.upper(): value(replies, it) for it in ("no_call", "no_state", "no_plan")}
     found = {it: table(numbers, f"{it}_number") for it in ("posture", "verb")} | {"answer": answers | {"BUSY": BUSY}}
+    found["kind"] = table(text_of(f"{root}/{LINES}"), "kind_number")
     limits = {it.upper(): value(replies, it) for it in ("nothing", "no_word", "no_stamp")}
     limits["LAST_STAMP"] = value(text_of(f"{root}/{STAMPS}"), "last_stamp")
     limits["WATCH"] = value(text_of(f"{root}/{WATCH}"), "watch")
-    return found, limits, re.findall(r"^    pub (\w+): (\w+),$", text_of(f"{root}/{STRUCT}"), re.M)
+    structs = "".join(text_of(f"{root}/{it}") for it in STRUCTS)
+    bodies = {kind: re.search(rf"^pub struct {kind} \{{(.*?)\n\}}", structs, re.M | re.S)[1] for kind in KINDS}
+    return found, limits, {kind: re.findall(r"^    pub (\w+): (\w+),$", body, re.M) for kind, body in bodies.items()}
 
 
 def of_header(root):
@@ -48,8 +58,9 @@ def of_header(root):
         found[kind] = {name: int(number) for name, number in re.findall(r"BAGUNJOKI_PLAN_(\w+) = (\d+)", cases)}
     most = {"UINT64_MAX": 2**64 - 1, "UINT32_MAX": 2**32 - 1}
     limits = re.findall(r"#define BAGUNJOKI_PLAN_(\w+) (\d+|UINT\d\d_MAX)$", text, re.M)
-    struct = re.search(r"typedef struct bagunjoki_plan_reply \{(.*?)\}", text, re.S)[1]
-    fields = [(name, TYPES.get(kind, kind)) for kind, name in re.findall(r"^    (\w+) (\w+);", struct, re.M)]
+    body = lambda name: re.search(rf"typedef struct bagunjoki_plan_{name} \{{(.*?)\}}", text, re.S)[1]
+    named = {kind: re.findall(r"^    (\w+) (\w+);", body(name), re.M) for kind, name in KINDS.items()}
+    fields = {kind: [(name, TYPES.get(it, it)) for it, name in its] for kind, its in named.items()}
     return found, {name: most.get(number) or int(number) for name, number in limits}, fields
 
 
@@ -98,6 +109,13 @@ def press(trials, compiler, *flags):
     program = trials.compile(compiler, "examples/plan_press.c", *flags, library="bagunjoki_plan")
     said = trials.run([program])
     return "" if said == PRESS else trials.fail(f"it writes\n{said}and not\n{PRESS}")
+
+
+def turns(trials, compiler, *flags):
+    """The same press by turns."""
+    program = trials.compile(compiler, "examples/plan_turns.c", *flags, library="bagunjoki_plan")
+    said = trials.run([program])
+    return "" if said == TURNS else trials.fail(f"it writes\n{said}and not\n{TURNS}")
 
 
 def walk(trials, compiler, *flags):

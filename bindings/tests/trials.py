@@ -373,6 +373,7 @@ def at_other_plants(trials, compilers):
     """The library for any plan."""
     for compiler in compilers:
         trials.attempt(f"plan_press.c by {compiler}", plans.press, trials, compiler)
+        trials.attempt(f"plan_turns.c by {compiler}", plans.turns, trials, compiler)
         trials.attempt(f"settle.c at a press by {compiler}", settled, trials, compiler, "-DPLAN")
         trials.attempt(f"calls at a lift as by the rules, {compiler}", plans.walk, trials, compiler)
         for which in ("address,undefined", "thread"):
