@@ -3,9 +3,12 @@
 use crate::calls::call_with;
 use crate::exports::{
     bagunjoki_plan_may_run, bagunjoki_plan_open, bagunjoki_plan_restamp, bagunjoki_plan_stamp,
-    bagunjoki_plan_start, bagunjoki_plan_step,
+    bagunjoki_plan_start, bagunjoki_plan_step, bagunjoki_plan_turn,
 };
+use crate::line::ProgramLine;
+use crate::opened::Opened;
 use crate::reply::{NO_CALL, Reply, bare_reply, reply_of};
+use crate::turn::Place;
 use plan_rules::{LAST_STAMP, State, apply};
 use plan_types::{Plan, examples, write_plan};
 use plan_word::{Layout, pack};
@@ -95,6 +98,127 @@ fn motors_run_while_they_may(rt: HostRuntime) -> Result<(), Fail> {
         assert!(rt; bagunjoki_plan_may_run(word, RAM.0, RAM.1) == *ram);
         assert!(rt; bagunjoki_plan_may_run(word, ARM.0, ARM.1) == *arm);
     }
+    Ok(())
+}
+
+fn line(motors: u64, kind: u8, object: u8, until: u8) -> ProgramLine {
+    ProgramLine {
+        motors,
+        kind,
+        object,
+        until,
+    }
+}
+
+// The press claims its zone, moves, runs its ram until sensor 4 shows, says that it is open, hands its zone over, and
+// awaits it.
+fn program() -> [ProgramLine; 6] {
+    [
+        line(0, 1, 0, 0),
+        line(0, 6, 3, 0),
+        line(1, 17, 0, 4),
+        line(0, 6, 0, 0),
+        line(0, 3, 0, 0),
+        line(0, 16, 0, 0),
+    ]
+}
+
+// Whether the sensors could be read, and what they show; and then the motors, the place and the answer.
+const TURNS: &[(bool, u32, u64, [u8; 2], u8)] = &[
+    (true, 0, 0, [1, 0], 0),
+    (false, 0, 0, [1, 0], 255),
+    (true, 0, 0, [2, 0], 0),
+    (true, 0, 1, [2, 0], 255),
+    (true, 15, 1, [2, 0], 255),
+    (false, 0, 0, [2, 0], 255),
+    (true, 16, 0, [3, 0], 255),
+    (true, 0, 0, [4, 0], 0),
+    (true, 0, 0, [5, 0], 0),
+    (true, 0, 0, [5, 0], 32),
+];
+
+// The press's turns until it awaits its zone, and once the loader has given it back. Then the press claims what it
+// owns, and stops for good.
+#[test]
+fn the_press_takes_turns(rt: HostRuntime) -> Result<(), Fail> {
+    let press = Plan::new(examples::press(rt.alloc())?).expect(&rt, "a plan");
+    let bytes = write_plan(rt.alloc(), &press)?;
+    let plan = bagunjoki_plan_open(&bytes);
+    let mut word = bagunjoki_plan_start(&plan, b"10", 0);
+    let mut place = Place {
+        line: 0,
+        stopped: 0,
+    };
+    for (read, sensors, motors, wanted, answer) in TURNS {
+        let turned = bagunjoki_plan_turn(&plan, word, 1, &program(), place, *read, *sensors);
+        assert!(rt; turned.motors == *motors && turned.answer == *answer);
+        assert!(rt; [turned.place.line, turned.place.stopped] == *wanted);
+        word = turned.word;
+        place = turned.place;
+    }
+    let given = bagunjoki_plan_step(&plan, word, 0, 2, 0);
+    assert!(rt; given.answer == 0);
+    let owned = bagunjoki_plan_turn(&plan, given.next, 1, &program(), place, true, 0);
+    assert!(rt; owned.answer == 32 && owned.place.line == 0);
+    let refused = bagunjoki_plan_turn(&plan, given.next, 1, &program(), owned.place, true, 0);
+    assert!(rt; refused.answer == 3 && refused.place.stopped == 3 && refused.word == given.next);
+    let stopped = bagunjoki_plan_turn(
+        &plan,
+        start_of(&plan),
+        1,
+        &program(),
+        refused.place,
+        true,
+        0,
+    );
+    assert!(rt; stopped.answer == 255 && stopped.place == refused.place);
+    Ok(())
+}
+
+fn start_of(plan: &Opened) -> u64 {
+    bagunjoki_plan_start(plan, b"10", 0)
+}
+
+// Lines that are no step: no verb, the cell's Advance, a kind past all, a call with a motor, a call with a sensor, an
+// await with a motor, and a run of an object.
+fn no_steps() -> [ProgramLine; 7] {
+    [
+        line(0, 0, 0, 0),
+        line(0, 7, 0, 0),
+        line(0, 18, 0, 0),
+        line(1, 1, 0, 0),
+        line(0, 1, 0, 1),
+        line(1, 16, 0, 0),
+        line(1, 17, 1, 0),
+    ]
+}
+
+#[test]
+fn turns_tell_why_they_rest(rt: HostRuntime) -> Result<(), Fail> {
+    let press = Plan::new(examples::press(rt.alloc())?).expect(&rt, "a plan");
+    let bytes = write_plan(rt.alloc(), &press)?;
+    let plan = bagunjoki_plan_open(&bytes);
+    let word = start_of(&plan);
+    for index in 0..8 {
+        let place = Place {
+            line: index,
+            stopped: 0,
+        };
+        let turned = bagunjoki_plan_turn(&plan, word, 1, &no_steps(), place, true, 0);
+        assert!(rt; turned.answer == 64 && turned.motors == 0 && turned.place == place);
+    }
+    let first = Place {
+        line: 0,
+        stopped: 0,
+    };
+    let no_state = bagunjoki_plan_turn(&plan, u64::MAX, 1, &program(), first, true, 0);
+    assert!(rt; no_state.answer == 65 && no_state.word == u64::MAX);
+    let none = bagunjoki_plan_open(&[]);
+    assert!(rt; bagunjoki_plan_turn(&none, word, 1, &program(), first, true, 0).answer == 67);
+    let most = [line(0, 8, 0, 0); 255];
+    assert!(rt; bagunjoki_plan_turn(&plan, word, 1, &most, first, true, 0).answer == 32);
+    let too_many = [line(0, 8, 0, 0); 256];
+    assert!(rt; bagunjoki_plan_turn(&plan, word, 1, &too_many, first, true, 0).answer == 64);
     Ok(())
 }
 
