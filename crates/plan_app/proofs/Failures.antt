@@ -12,10 +12,11 @@ use Rattle.program_shell.proofs.lemmas.Serving.{if_known}
 use Rattle.plan_rules.specs.declared.state.State.{State}
 use Rattle.plan_document.specs.Reading.{IsPlanIn}
 use Rattle.plan_document.specs.declared.resolving.ProgrammedPlan.{ProgrammedPlan}
-use Rattle.plan_app.specs.Failed.{Fails, FailsBy, FailsIn, WroteFault, WroteScreen, WroteUnread}
+use Rattle.plan_app.specs.Failed.{Fails, FailsBy, FailsIn, WroteFault, WroteReport, WroteScreen, WroteUnread}
 use Rattle.plan_app.specs.Input.{byte_limit, document_in, script_in}
 use Rattle.plan_app.specs.Screens.{TellsGoing}
 use Rattle.plan_app.specs.declared.request.Request.{Request}
+use Rattle.plan_app.specs.declared.request.Request.TheVariants.{Check, Replay, Explore, Header, Module, Help, Version}
 
 -- however a print ended, a prefix was written
 pub printed_prefix : (e : Exit) (old new : Option (List ℕ)) (text : List ℕ) → e ≢ Refused → Prints (exit_status e) old new text → WrotePrefix old new text
@@ -49,6 +50,18 @@ fails_whole request read (Some bytes) old new same more long fails =
 
 pub unread_fails : (request : Request) (input old new : Option (List ℕ)) → WroteUnread old new → Fails request input old new
 unread_fails request input old new unread = if_known (λ bytes. FailsIn request bytes old new) input (λ bytes. inr (inl unread))
+
+-- what isn't asked otherwise is a report
+pub report_fails : (request : Request) (plan : ProgrammedPlan) (script : List ℕ) (old new : Option (List ℕ))
+    → request ≢ Replay → request ≢ Explore → request ≢ Header → request ≢ Module → WroteReport plan script old new
+    → FailsBy request plan script old new
+report_fails Check plan script old new replay explore header python wrote = wrote
+report_fails Replay plan script old new replay explore header python wrote = absurd (replay refl)
+report_fails Explore plan script old new replay explore header python wrote = absurd (explore refl)
+report_fails Header plan script old new replay explore header python wrote = absurd (header refl)
+report_fails Module plan script old new replay explore header python wrote = absurd (python refl)
+report_fails Help plan script old new replay explore header python wrote = wrote
+report_fails Version plan script old new replay explore header python wrote = wrote
 
 -- a document has a plan
 pub by_plan : (request : Request) (bytes : List ℕ) (plan : ProgrammedPlan) (old new : Option (List ℕ)) → IsPlanIn (document_in bytes) plan

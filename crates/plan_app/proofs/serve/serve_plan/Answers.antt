@@ -1,5 +1,6 @@
-use Rattle.std.proofs.Common.{◌⊎◌, subst, sym}
+use Rattle.std.proofs.Common.{◌⊎◌, inl, inr, subst, sym}
 use Rattle.plan_app.specs.Failed.{FailsBy, WroteUnread}
+use Rattle.plan_app.proofs.Failures.{report_fails}
 use Rattle.plan_app.proofs.serve.serve_plan.Goals as goal
 
 pub returns-in-Explore-clause-failed : goal.returns-in-Explore-clause-failed
@@ -8,3 +9,13 @@ returns-in-Explore-clause-failed g c = λ failed.
     let new = g.W.Write.contents c.explore_script.new.writer in
     subst (λ request. WroteUnread old new ⊎ FailsBy request c.args.plan c.args.script.now old new) (sym c.in-Explore.is)
     (c.explore_script.ensures.failed failed)
+
+pub returns-clause-failed : goal.returns-clause-failed
+returns-clause-failed g c = λ failed.
+    elim (c.report_script.ensures.failed failed) [
+      | inl unread ↦ inl unread
+      | inr wrote ↦
+        inr
+        (report_fails c.args.request c.args.plan c.args.script.now _ _ c.in_default.not-Replay c.in_default.not-Explore
+        c.in_default.not-Header c.in_default.not-Module wrote)
+    ]
