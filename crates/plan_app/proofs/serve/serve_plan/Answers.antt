@@ -15,7 +15,7 @@ returns-clause-failed g c = λ failed.
     elim (c.report_script.ensures.failed failed) [
       | inl unread ↦ inl unread
       | inr wrote ↦
-        inr
-        (report_fails c.args.request c.args.plan c.args.script.now _ _ c.in_default.not-Replay c.in_default.not-Explore
-        c.in_default.not-Header c.in_default.not-Module wrote)
+          inr
+          (report_fails c.args.request c.args.plan c.args.script.now _ _ c.in_default.not-Replay c.in_default.not-Explore
+          c.in_default.not-Header c.in_default.not-Module wrote)
     ]
