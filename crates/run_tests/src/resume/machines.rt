@@ -137,13 +137,12 @@ fn state_left_by(feed: Wired<Resumed<FeedProgram>, PassLine<'_>>) -> State {
 pub fn at_start(places: [bool; 10]) -> Result<CheckpointBytes, Fail> {
     let opening = State::start(places, 0)?;
     let points = AxisPoints::new()?;
-    let by_arm = move |raw: u16| position_on_line(&points.arm, raw);
     let gauges = (
-        by_arm,
-        by_arm,
+        move |raw: u16| position_on_line(&points.arm, raw),
+        move |raw: u16| position_on_line(&points.arm, raw),
         move |raw: u16| position_on_line(&points.rotation, raw),
         move |raw: u16| position_on_line(&points.turn, raw),
-        by_arm,
+        move |raw: u16| position_on_line(&points.arm, raw),
     );
     Ok(start_by(&opening, gauges, points))
 }
@@ -212,13 +211,12 @@ pub fn go_on(
 ) -> Result<CheckpointBytes, Fail> {
     let points = AxisPoints::new()?;
     let cell = resume_at(bytes)?;
-    let by_arm = move |raw: u16| position_on_line(&points.arm, raw);
     let gauges = (
-        by_arm,
-        by_arm,
+        move |raw: u16| position_on_line(&points.arm, raw),
+        move |raw: u16| position_on_line(&points.arm, raw),
         move |raw: u16| position_on_line(&points.rotation, raw),
         move |raw: u16| position_on_line(&points.turn, raw),
-        by_arm,
+        move |raw: u16| position_on_line(&points.arm, raw),
     );
     go_on_by(alloc, &cell, gauges, points, plant, first, turns)
 }

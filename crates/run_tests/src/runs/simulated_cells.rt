@@ -72,13 +72,12 @@ pub fn run(
         rotation: scale_to(2000)?,
         turn: scale_to(500)?,
     };
-    let by_arm = move |raw: u16| position_on_line(&scales.arm, raw);
     let gauges = (
-        by_arm,
-        by_arm,
+        move |raw: u16| position_on_line(&scales.arm, raw),
+        move |raw: u16| position_on_line(&scales.arm, raw),
         move |raw: u16| position_on_line(&scales.rotation, raw),
         move |raw: u16| position_on_line(&scales.turn, raw),
-        by_arm,
+        move |raw: u16| position_on_line(&scales.arm, raw),
     );
     Ok(run_by(alloc, start, gauges, scales, turns))
 }

@@ -202,13 +202,12 @@ fn run_until<R: Threads + Wait + Sync>(
         rotation: Points::new(0, 2000, 0, 2000, 5)?,
         turn: Points::new(0, 500, 0, 500, 5)?,
     };
-    let by_arm = move |raw: u16| position_on_line(&points.arm, raw);
     let gauges = (
-        by_arm,
-        by_arm,
+        move |raw: u16| position_on_line(&points.arm, raw),
+        move |raw: u16| position_on_line(&points.arm, raw),
         move |raw: u16| position_on_line(&points.rotation, raw),
         move |raw: u16| position_on_line(&points.turn, raw),
-        by_arm,
+        move |raw: u16| position_on_line(&points.arm, raw),
     );
     let press = Recorder::new(AT_TOP, good, then);
     Ok(run_by(rt, alloc, opening, gauges, points, press, turns, gate))

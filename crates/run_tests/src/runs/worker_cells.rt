@@ -98,13 +98,12 @@ pub fn work<R: Threads + Wait + Sync>(
     let arm = points_of(1000)?;
     let rotation = points_of(2000)?;
     let turn = points_of(500)?;
-    let by_arm = move |raw: u16| position_on_line(&arm, raw);
     let gauges = (
-        by_arm,
-        by_arm,
+        move |raw: u16| position_on_line(&arm, raw),
+        move |raw: u16| position_on_line(&arm, raw),
         move |raw: u16| position_on_line(&rotation, raw),
         move |raw: u16| position_on_line(&turn, raw),
-        by_arm,
+        move |raw: u16| position_on_line(&arm, raw),
     );
     let points = AxisPoints {
         arm,
