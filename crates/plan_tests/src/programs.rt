@@ -46,8 +46,8 @@ fn a_program_has_at_most_255_steps(rt: HostRuntime) {
 }
 
 #[test]
-fn programs_neither_inquire_nor_stop(rt: HostRuntime) {
-    for call in [Call::Inquire(0), Call::Stop, Call::Resume] {
+fn programs_neither_stop_nor_resume(rt: HostRuntime) {
+    for call in [Call::Stop, Call::Resume] {
         let first = vec![in rt.alloc(); Call::Claim(0), call].expect(&rt, "memory");
         let second = vec![in rt.alloc(); call].expect(&rt, "memory");
         let lists = vec![in rt.alloc(); first, second].expect(&rt, "memory");
