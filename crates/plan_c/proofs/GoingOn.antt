@@ -20,9 +20,9 @@ use Rattle.plan_controller.specs.Benches.{IsHistory}
 use Rattle.plan_controller.specs.Seen.{event}
 use Rattle.plan_controller.specs.Steps.{shows, after_call, after_inquiry}
 use Rattle.plan_controller.specs.Turns.{Control, step_in, program_in, place_after, advanced, Performs, TurnsBy}
-use Rattle.plan_controller.proofs.Benching.{history_grows, sees_answer}
-use Rattle.plan_controller.proofs.Leading.{call_leads, inquiry_leads, run_leads}
-use Rattle.plan_controller.proofs.Permitting.{running, permitted}
+use Rattle.plan_controller.proofs.lemmas.Benching.{history_grows, sees_answer}
+use Rattle.plan_controller.proofs.lemmas.Leading.{call_leads, inquiry_leads, run_leads}
+use Rattle.plan_controller.proofs.lemmas.Permitting.{running, permitted}
 use Rattle.plan_c.specs.Turning.{Silent, Asks}
 use Rattle.plan_c.specs.Courses.{InPlace, GoesOn, TurnsGoOn}
 

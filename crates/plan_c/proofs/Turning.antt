@@ -10,7 +10,7 @@ use Rattle.plan_rules.specs.declared.state.State.{State}
 use Rattle.plan_controller.specs.declared.step.Step.{Step}
 use Rattle.plan_controller.specs.declared.outcome.Outcome.{Outcome}
 use Rattle.plan_controller.specs.Turns.{control, advanced, Performs, TurnsBy, Turns}
-use Rattle.plan_controller.proofs.Caring.{careful}
+use Rattle.plan_controller.proofs.lemmas.Caring.{careful}
 use Rattle.plan_c.specs.Replies.{refusal_number, nothing}
 use Rattle.plan_c.specs.Turning.{stop_number, place_of, Silent, Asks, IsTurn, resting}
 use Rattle.plan_c.specs.declared.turn.Place.{Place}

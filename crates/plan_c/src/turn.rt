@@ -116,7 +116,7 @@ fn perform(plan: &Compiled, word: u64, machine: u8, step: Step, sensors: u32) ->
     }
 }
 
-/// The place that a step leads to, in a program of so many lines.
+/// The place that a step leads to, in a program of `count` lines.
 fn place_after(place: Place, count: usize, outcome: Outcome) -> Place
     requires { count ≤ 255 }
     ensures { (c : Control) → place ≡ turning.place_of c → length c.steps ≡ count
@@ -147,7 +147,7 @@ fn is_state(plan: &Compiled, word: u64) -> bool
     }
 }
 
-/// A turn at a step, in a program of so many lines, on the word of a state.
+/// A turn at a step, in a program of `count` lines, on the word of a state.
 fn turn_at(
     plan: &Compiled,
     word: u64,

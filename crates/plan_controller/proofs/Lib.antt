@@ -1,5 +1,2 @@
-pub mod Leading
-pub mod Permitting
-pub mod Caring
-pub mod Benching
+pub mod lemmas
 mod Rows

@@ -49,7 +49,7 @@ module _ {L D : Type 0} (w : Ways L D) where
   AreTaken before [] = ⊤
   AreTaken before (now ∷ later) = TakesTurn before now × AreTaken now later
 
-  -- a machine has gone from one moment to another by so many turns, to each of which its gate has let it in
+  -- a machine has gone from one moment to another by `took` turns, and its gate has let it into each
   pub record HasCome (gate : GateOf) (first last : AtWork L D) (took : ℕ) : Type 0 where
     pub turns : List (AtWork L D)
     pub taken : AreTaken first turns

@@ -38,7 +38,7 @@ pub struct PlanWorked<D> {
     pub stopped_by: Option<Refusal>,
 }
 
-/// Lets a machine work over an interlock, from the beginning of its program: at most so many turns, each once the gate
+/// Lets a machine work over an interlock, from the beginning of its program: at most `turns` turns, each once the gate
 /// lets it begin. Then all its motors are off.
 pub fn work_by_pass<D: PlanDevices + Drop, G: PlanGate>(
     interlock: &PlanInterlock,

@@ -79,7 +79,7 @@ impl<L: PlanLine, D: PlanDevices> PlanWorker<L, D> {
         WorkTurn { sensors, taken }
     }
 
-    /// Takes turns, at most so many, each once the gate lets it begin. Gives the number of turns that it took.
+    /// Takes at most `turns` turns, each once the gate lets it begin. Gives the number of turns that it took.
     pub fn work<G: PlanGate>(&mut self, gate: &G, turns: u32) -> u32
         ensures worked { HasWorked (record {
           table = L.table;

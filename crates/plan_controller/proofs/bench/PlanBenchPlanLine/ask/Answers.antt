@@ -1,5 +1,5 @@
 use Rattle.std.proofs.Math.Logic.{∥∥₁_map}
-use Rattle.plan_controller.proofs.Benching.{history_grows}
+use Rattle.plan_controller.proofs.lemmas.Benching.{history_grows}
 use Rattle.plan_controller.proofs.bench.PlanBenchPlanLine.ask.Goals as goal
 
 pub invariant_of-self : goal.invariant_of-self

@@ -7,7 +7,7 @@ use Rattle.plan_controller.specs.declared.step.Step.TheVariants.{Do, Await, Run}
 use Rattle.plan_controller.specs.Steps.{after_inquiry}
 use Rattle.plan_controller.specs.Seen.{SeenAfter}
 use Rattle.plan_controller.specs.Turns.{step_in, program_in, place_after}
-use Rattle.plan_controller.proofs.Leading.{call_leads, inquiry_leads, run_leads}
+use Rattle.plan_controller.proofs.lemmas.Leading.{call_leads, inquiry_leads, run_leads}
 use Rattle.plan_controller.proofs.controller.PlanController.perform.Goals as goal
 
 pub returns-in-Some-Do-clause-at : goal.returns-in-Some-Do-clause-at

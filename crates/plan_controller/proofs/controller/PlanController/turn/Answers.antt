@@ -1,5 +1,5 @@
-use Rattle.plan_controller.proofs.Caring.{careful}
-use Rattle.plan_controller.proofs.Permitting.{running, permitted}
+use Rattle.plan_controller.proofs.lemmas.Caring.{careful}
+use Rattle.plan_controller.proofs.lemmas.Permitting.{running, permitted}
 use Rattle.plan_controller.proofs.controller.PlanController.turn.Goals as goal
 
 pub returns-clause-running : goal.returns-clause-running

@@ -24,7 +24,7 @@ use Rattle.plan_controller.specs.declared.outcome.Outcome.{Outcome}
 use Rattle.plan_controller.specs.declared.outcome.Outcome.TheVariants as outcome
 use Rattle.plan_controller.specs.Steps.{shows}
 use Rattle.plan_controller.specs.Turns.{Control, step_in, program_in, advanced, Performs, TurnsBy, Turns, AreRunning, ArePermitted}
-use Rattle.plan_controller.proofs.Leading.{step_runs}
+use Rattle.plan_controller.proofs.lemmas.Leading.{step_runs}
 
 -- ---- of no motors none is on
 

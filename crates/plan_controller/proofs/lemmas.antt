@@ -1,0 +1,4 @@
+pub mod Leading
+pub mod Permitting
+pub mod Caring
+pub mod Benching
