@@ -56,8 +56,8 @@ pub enum Report {
 }
 
 /// What `plan check` prints of a plan: its report, whether each call that is done has its row, whether each motor is
-/// permitted where a program runs it, and if the plan has motors, their names, and what is said of each hazard. Turns are
-/// sought from the start, if there is one. An error says that memory ran out.
+/// permitted where a program runs it, and if the plan has motors, their names, and what is said of each hazard. Turns
+/// are sought from the start, if there is one. An error says that memory ran out.
 pub fn report_of(
     alloc: Global,
     plan: &ProgrammedPlan,

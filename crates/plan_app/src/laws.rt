@@ -48,7 +48,8 @@ pub fn drive_lines_are_met()
     ensures runs { RunsAreTold }
 {}
 
-/// If the status of `check` says that all is well, each machine's program runs its motors only where they are permitted.
+/// If the status of `check` says that all is well, each machine's program runs its motors only where they are
+/// permitted.
 pub fn right_drives_are_permitted()
     ensures { RightDrivesArePermitted }
 {}

@@ -370,8 +370,8 @@ fn print_screen<W: Write>(
     }
 }
 
-/// Prints what was found of a standstill, of who starves, or of motors that aren't kept apart. That isn't well, whatever
-/// was written.
+/// Prints what was found of a standstill, of who starves, or of motors that aren't kept apart. That isn't well,
+/// whatever was written.
 fn print_warning<W: Write>(writer: &mut W, text: &str) -> Exit
     ensures status { result ≡ Exit.Failed }
     ensures line { WrotePrefix (W.contents writer.old) (W.contents writer.new) text.now }
@@ -420,8 +420,8 @@ pub fn serve<R: Read, W: Write>(alloc: Global, words: &[&str], reader: &mut R, w
     ensures explore { request_of (texts_of words.now) ≡ Some Request.Explore → result ≡ 0 →
         FindsInputFree (R.remaining reader.old) (W.contents writer.old) (W.contents writer.new) }
 
-    // With `check`: status 0 says that this plan's report was written, and that the motors of each hazard are kept apart.
-    // With `header`: that its header was written, or with `header --python` its module.
+    // With `check`: status 0 says that this plan's report was written, and that the motors of each hazard are kept
+    // apart. With `header`: that its header was written, or with `header --python` its module.
     ensures check { request_of (texts_of words.now) ≡ Some Request.Check → result ≡ 0 →
         Reports (R.remaining reader.old) (W.contents writer.old) (W.contents writer.new) }
     ensures header { request_of (texts_of words.now) ≡ Some Request.Header → result ≡ 0 →

@@ -134,8 +134,8 @@ pub extern "C" fn bagunjoki_plan_stamp(plan: &Opened, word: u64) -> u32
 /// needs no plan.
 ///
 /// If the word is a state's, and mask and pattern are those of a motor of the plan, the state permits the motor exactly
-/// if it may run (`permitted`); and it stays permitted, whatever calls others make, until a call of its own machine loses
-/// the permission (`lasts`).
+/// if it may run (`permitted`); and it stays permitted, whatever calls others make, until a call of its own machine
+/// loses the permission (`lasts`).
 #[unsafe(no_mangle)]
 pub extern "C" fn bagunjoki_plan_may_run(word: u64, mask: u64, pattern: u64) -> bool
     ensures allowed { result ≡ allows (motor_mask mask pattern) word }

@@ -40,8 +40,8 @@ fn step_of(line: ProgramLine) -> Option<Step>
     }
 }
 
-/// The step at a line of a program. `None` if the line is past the program's end, or no step's, or if the program has too
-/// many lines.
+/// The step at a line of a program. `None` if the line is past the program's end, or no step's, or if the program has
+/// too many lines.
 pub(crate) fn step_at(program: &[ProgramLine], line: u8) -> Option<Step>
     ensures step { (steps : List PlanStep) → (has : HasStep program.now steps line)
         → result ≡ Some has.step }

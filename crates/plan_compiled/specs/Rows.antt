@@ -31,8 +31,8 @@ part_in c p f = record {
   set = told c p.set f;
 }
 
--- a row is right: whenever its bits are as wanted, in a state whose stamp isn't the last one, its call is done, and what
--- it writes, with the next stamp, is the word of the state after it
+-- a row is right: whenever its bits are as wanted, in a state whose stamp isn't the last one, its call is done, and
+-- what it writes, with the next stamp, is the word of the state after it
 pub record IsRight (t : PlanTable) (r : Row) : Type 0 where
   pub done : (s : State) → IsOfPlan t s → IsTrue (matches r.part (packed t s)) → s.stamp < last_stamp
       → reply t s r.machine r.call ≡ Done

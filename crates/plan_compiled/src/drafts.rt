@@ -1,7 +1,7 @@
 //! Drafts of rows. Nothing is promised of a draft: `row_of` tests each.
 //!
-//! A field's part is the smallest pattern of all numbers that a call can find there. Where it has others too, it is split
-//! by one of its bits, and each half has a row.
+//! A field's part is the smallest pattern of all numbers that a call can find there. Where it has others too, it is
+//! split by one of its bits, and each half has a row.
 
 use crate::needs::{place_after, place_fits, stop_after, stop_fits, zone_after, zone_fits};
 use crate::part::Part;

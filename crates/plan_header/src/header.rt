@@ -71,8 +71,8 @@ const BYTES: &str =
 /// How the header ends.
 const END: &str = "\n};\n\n#endif\n";
 
-/// What `plan header` prints of a plan: its names' numbers, the parties of its zones, its word's fields, the masks of its
-/// motors and its bytes.
+/// What `plan header` prints of a plan: its names' numbers, the parties of its zones, its word's fields, the masks of
+/// its motors and its bytes.
 pub fn header_of(alloc: Global, plan: &ProgrammedPlan) -> Result<String, AllocError>
     ensures { IfOk result (λ text. string_bytes text
         ≡ spec.header_text plan.now.named plan.now.motors.names plan.now.motors.motors.items) }

@@ -1,5 +1,5 @@
-//! What `plan header --python` prints: a plan's bytes, its names in the order of their numbers, and its motors' masks, as
-//! a module for `bindings/bagunjoki_plan.py`.
+//! What `plan header --python` prints: a plan's bytes, its names in the order of their numbers, and its motors' masks,
+//! as a module for `bindings/bagunjoki_plan.py`.
 ghost use Rattle.std.specs.Prelude.{◌≡◌, ◌++◌, IfOk, OnOk, flat_map, length, string_bytes};
 ghost use Rattle.std.specs.List.{range_with_len};
 ghost use Rattle.plan_header.specs.Modules as spec;

@@ -15,10 +15,10 @@ use word_interlock::Interlock;
 /// The interlock of two machines at a press, with the loader's pass and the press's; the loader has a plate. `None` if
 /// there is no memory.
 ///
-/// It is by the plan of that example (`plan`), and so are the passes (`rules`). At the start only place 0, the loader's,
-/// is full (`opening`). The first pass is that of machine 0, the loader, and the second that of machine 1, the press
-/// (`callers`), both from that start (`starts`) and with nothing seen yet (`unused`). A call may lose 8 exchanges
-/// (`limit`).
+/// It is by the plan of that example (`plan`), and so are the passes (`rules`). At the start only place 0, the
+/// loader's, is full (`opening`). The first pass is that of machine 0, the loader, and the second that of machine 1,
+/// the press (`callers`), both from that start (`starts`) and with nothing seen yet (`unused`). A call may lose 8
+/// exchanges (`limit`).
 pub fn press(alloc: Global) -> Option<(PlanInterlock, PlanPass, PlanPass)>
     ensures loader { IfSome result (λ made. made.1.table ≡ made.0.table) }
     ensures press { IfSome result (λ made. made.2.table ≡ made.0.table) }
