@@ -29,13 +29,13 @@ use Rattle.plan_rules.proofs.Fitting.{no_jump, held, clear, room}
 
 -- ---- refusals that aren't there
 
-none_of_both : (a b : Option Refusal) → a ≡ None → b ≡ None → (a or b) ≡ None
+pub none_of_both : (a b : Option Refusal) → a ≡ None → b ≡ None → (a or b) ≡ None
 none_of_both a b e f = rw (e, f) refl
 
-no_then : (b : Bool) (r : Refusal) → b ≡ false → then_some b r ≡ None
+pub no_then : (b : Bool) (r : Refusal) → b ≡ false → then_some b r ≡ None
 no_then b r e = rw e refl
 
-no_then_not : (b : Bool) (r : Refusal) → b ≡ true → then_some (not b) r ≡ None
+pub no_then_not : (b : Bool) (r : Refusal) → b ≡ true → then_some (not b) r ≡ None
 no_then_not b r e = rw e refl
 
 -- ---- in words
@@ -44,7 +44,7 @@ pub either : (a b : Bool) → (a || b) ≡ true → (a ≡ true) ⊎ (b ≡ true
 either true b e = inl refl
 either false b e = inr e
 
-party_in_words : (t : PlanTable) (m z : ℕ) → Party t m z → IsPartyOf t m z
+pub party_in_words : (t : PlanTable) (m z : ℕ) → Party t m z → IsPartyOf t m z
 party_in_words t m z f =
     (f.there, ⊎_elim (λ h. inl (eqb-true m (host_of t z) h)) (λ g. inr (eqb-true m (guest_of t z) g)) (either (nat_eq m (host_of t z)) (nat_eq m (guest_of t z)) f.party))
 
@@ -66,13 +66,13 @@ is_party_by t m z f =
     let one : (host || guest) ≡ true = ⊎_elim (λ h. first host guest (is_same m (host_of t z) h)) (λ g. second host guest (is_same m (guest_of t z) g)) f.1 in
     no_then_not (nat_lt z (zone_count t) && (host || guest)) NotParty (rw (lt-ltb z (zone_count t) f.0) one)
 
-open_in_words : (q : Posture) → is_open q ≡ true → (q ≡ OpenIn) ⊎ (q ≡ OpenOut)
+pub open_in_words : (q : Posture) → is_open q ≡ true → (q ≡ OpenIn) ⊎ (q ≡ OpenOut)
 open_in_words Closed e = cc
 open_in_words Moving e = cc
 open_in_words OpenIn e = inl refl
 open_in_words OpenOut e = inr refl
 
-is_open_by : (q : Posture) → (q ≡ OpenIn) ⊎ (q ≡ OpenOut) → is_open q ≡ true
+pub is_open_by : (q : Posture) → (q ≡ OpenIn) ⊎ (q ≡ OpenOut) → is_open q ≡ true
 is_open_by q f = ⊎_elim (λ e. ap is_open e) (λ e. ap is_open e) f
 
 fresh_by : (s : State) → HasStampsLeft s → refusals.worn s ≡ None
@@ -81,10 +81,10 @@ fresh_by s l = no_then_not _ _ (lt-ltb s.stamp 1048575 l)
 pub owner_by : (s : State) (m z : ℕ) → owner_of s z ≡ Some m → owns s m z ≡ true
 owner_by s m z e = ap (λ o. is_owned_by o m) e ∙ nat_eq-self m
 
-is_not_moving : (q : Posture) → q ≢ Moving → same_posture q Moving ≡ false
+pub is_not_moving : (q : Posture) → q ≢ Moving → same_posture q Moving ≡ false
 is_not_moving q apart = false_from_ne_true (same_posture q Moving) (λ same. apart (one_posture q Moving same))
 
-opened : (a b : Bool) → (a && not b) ≡ false → a ≡ true → b ≡ true
+pub opened : (a b : Bool) → (a && not b) ≡ false → a ≡ true → b ≡ true
 opened true true e f = refl
 opened true false e f = cc
 opened false b e f = cc
@@ -102,7 +102,7 @@ claim_in_words t s m z e =
       stamps = f.fresh;
     }
 
-guest_by : (t : PlanTable) (s : State) (m z : ℕ) → (m ≡ guest_of t z → IsOpen s z) → (nat_eq m (guest_of t z) && not (is_open (posture_at s z))) ≡ false
+pub guest_by : (t : PlanTable) (s : State) (m z : ℕ) → (m ≡ guest_of t z → IsOpen s z) → (nat_eq m (guest_of t z) && not (is_open (posture_at s z))) ≡ false
 guest_by t s m z f =
     elim (same_or_not m (guest_of t z)) [
       | inl e ↦ rw (is_open_by (posture_at s z) (f e)) (and_none (nat_eq m (guest_of t z)))
@@ -132,7 +132,7 @@ claim_by_words t s m z f =
 holder_in_words : (t : PlanTable) (s : State) (m z : ℕ) (plate : Bool) → Holder t s m z → (zone_at s z).flag ≡ plate → IsHolder t s m z plate
 holder_in_words t s m z plate f flag = record { party = party_in_words t m z f.caller; owner = f.owner; plate_is = flag; stamps = f.fresh }
 
-no_owner_refusal : (s : State) (m z : ℕ) → owner_of s z ≡ Some m → refusals.not_owner s m z ≡ None
+pub no_owner_refusal : (s : State) (m z : ℕ) → owner_of s z ≡ Some m → refusals.not_owner s m z ≡ None
 no_owner_refusal s m z e = no_then_not (owns s m z) _ (owner_by s m z e)
 
 gift_in_words : (t : PlanTable) (s : State) (m z : ℕ) (o : Option Transfer) → transfer_of t z (posture_at s z) ≡ o → (way : Transfer) → refusals.given_by m o ≡ Some way → is_full s way.from ≡ true → refusals.is_taken t s way.to ≡ false → HasGift t s m z

@@ -21,6 +21,7 @@ mod PartRows
 mod FullPlaces
 mod DoneExactly
 mod Truth
+mod RefusedExactly
 mod Lowest
 mod Orders
 mod CallChanges

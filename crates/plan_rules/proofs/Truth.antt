@@ -51,10 +51,10 @@ pub not_both : (b : Bool) → b ≡ true → b ≡ false → ⊥
 not_both true e f = cc
 not_both false e f = cc
 
-not_below : (a b : ℕ) → nat_lt a b ≡ false → b ≤ a
+pub not_below : (a b : ℕ) → nat_lt a b ≡ false → b ≤ a
 not_below a b fails = elim (cases_lt a b) [ inl h ↦ absurd (not_both (nat_lt a b) (lt-ltb a b h) fails) | inr h ↦ h ]
 
-shut_in_words : (q : Posture) → is_open q ≡ false → (q ≡ Closed) ⊎ (q ≡ Moving)
+pub shut_in_words : (q : Posture) → is_open q ≡ false → (q ≡ Closed) ⊎ (q ≡ Moving)
 shut_in_words Closed e = inl refl
 shut_in_words Moving e = inr refl
 shut_in_words OpenIn e = cc
@@ -119,7 +119,7 @@ module _ (t : PlanTable) (s : State) (m : ℕ) (c : Call) where
 some_way : {x y : Transfer} → Some x ≡ Some y → x ≡ y
 some_way e = cc
 
-gift_as : (t : PlanTable) (s : State) (m z : ℕ) (holds : Transfer → Type 0) (o : Option Transfer) → transfer_of t z (posture_at s z) ≡ o → (way : Transfer) → refusals.given_by m o ≡ Some way → holds way → OnGift t s m z holds
+pub gift_as : (t : PlanTable) (s : State) (m z : ℕ) (holds : Transfer → Type 0) (o : Option Transfer) → transfer_of t z (posture_at s z) ≡ o → (way : Transfer) → refusals.given_by m o ≡ Some way → holds way → OnGift t s m z holds
 gift_as t s m z holds None is way given here = cc
 gift_as t s m z holds (Some w) is way given here =
     elim (same_or_not w.giver m) [

@@ -19,5 +19,6 @@ pub mod PartExamples
 pub mod PlaceLaws
 pub mod DoneLaws
 pub mod SayLaws
+pub mod RefusedLaws
 pub mod PoseLaws
 pub mod ChangeLaws

@@ -13,6 +13,7 @@ ghost use Rattle.plan_rules.specs.LiftLaws.{LawsOfLift};
 ghost use Rattle.plan_rules.specs.PlaceLaws.{FullPlaces};
 ghost use Rattle.plan_rules.specs.PoseLaws.{PosesNameLowestZones};
 ghost use Rattle.plan_rules.specs.RefusalLaws.{OrdersAreKept, RefusalsTell};
+ghost use Rattle.plan_rules.specs.RefusedLaws.{CallsAreRefusedExactly};
 ghost use Rattle.plan_rules.specs.SayLaws.{RefusalsAreTrue};
 
 use crate::state::State;
@@ -137,6 +138,12 @@ pub fn calls_are_done_exactly()
 /// hosts.
 pub fn refusals_are_true()
     ensures { RefusalsAreTrue }
+{}
+
+/// In all tables and states each call but a pose is refused for this and nothing else: what the refusal says is so, and
+/// nothing that the call looks for earlier.
+pub fn calls_are_refused_exactly()
+    ensures { CallsAreRefusedExactly }
 {}
 
 /// In all tables and states a refused pose names the lowest zone that bars it: of the zones that it needs, the owner of

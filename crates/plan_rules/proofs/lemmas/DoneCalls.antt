@@ -40,7 +40,7 @@ pub record Party (t : PlanTable) (m z : ℕ) : Type 0 where
   pub party : (nat_eq m (host_of t z) || nat_eq m (guest_of t z)) ≡ true
   pub is : is_party t m z ≡ true
 
-party_of : (t : PlanTable) (m z : ℕ) → refusals.not_party t m z ≡ None → Party t m z
+pub party_of : (t : PlanTable) (m z : ℕ) → refusals.not_party t m z ≡ None → Party t m z
 party_of t m z e =
     let is = none_then_not (is_party t m z) NotParty e in
     let h = both_true (nat_lt z (zone_count t)) (nat_eq m (host_of t z) || nat_eq m (guest_of t z)) is in
