@@ -48,4 +48,4 @@ unfolding digits mask_of pattern_of motors_part
 mask-lines = record { first = refl; second = refl; whole = refl; no_motor = refl }
 
 pub capitals-made : CapitalsAreMade
-capitals-made = record { capital = refl }
+capitals-made = record { alphabet = refl; others = refl; neighbours = refl }

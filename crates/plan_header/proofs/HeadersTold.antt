@@ -1,13 +1,30 @@
 -- The laws of `headers_tell`.
-use Rattle.std.proofs.Common.{◌≡◌, ◌<◌, ◌+◌, ◌*◌, ◌%◌, ℕ, false, List, [], ◌++◌, codes, nat_eq, get_or, refl, ap, ◌∙◌, arith}
+use Rattle.std.proofs.Common.{◌≡◌, ◌<◌, ◌+◌, ◌*◌, ◌%◌, ℕ, false, List, [], ◌∷◌, ◌++◌, codes, nat_eq, get_or, refl, ap, ◌∙◌, arith}
 use Rattle.std.proofs.Common.{if◌then◌else◌}
 use Rattle.std.proofs.lemmas.Bool.{eqb-true, false_from_ne_true, lt-ltb}
+use Rattle.std.proofs.lemmas.Bool.Decides.{nat_tests}
 use Rattle.std.proofs.lemmas.Nat.{mod-mul-add}
+use Rattle.std.specs.Char.{to_ascii_uppercase}
 use Rattle.std.specs.Fmt.{decimal}
 use Rattle.plan_types.specs.Table.{place_count, zone_count}
-use Rattle.plan_text.specs.Names.{name_in}
+use Rattle.plan_text.specs.Names.{Text, name_in}
 use Rattle.plan_header.specs.Headers as header
-use Rattle.plan_header.specs.HeaderLaws.{BitsAreTold, BytesAreTold, HeadersTell, MasksAreTold, ModulesAreTold, NumbersAreTold, stands}
+use Rattle.plan_header.specs.HeaderLaws.{BitsAreTold, BytesAreTold, CapitalsAreTold, HeadersTell, MasksAreTold, ModulesAreTold}
+use Rattle.plan_header.specs.HeaderLaws.{NumbersAreTold, stands}
+use Rattle.plan_header.specs.Words.{capitals}
+
+-- by what becomes of the first byte
+by_byte : (byte into : ℕ) (rest : Text) → to_ascii_uppercase byte ≡ into
+    → capitals (byte ∷ rest) ≡ into ∷ capitals rest
+by_byte byte into rest e = ap (λ c. c ∷ capitals rest) e
+
+capitals-told : CapitalsAreTold
+capitals-told = record {
+  empty = refl;
+  letter = λ k rest few. by_byte (97 + k) (65 + k) rest (grind (arith, nat_tests, few));
+  before = λ byte rest small. by_byte byte byte rest (grind (arith, nat_tests, small));
+  after = λ byte rest great. by_byte byte byte rest (grind (arith, nat_tests, great));
+}
 
 numbers-told : NumbersAreTold
 numbers-told = record {
@@ -86,6 +103,7 @@ modules-told = record {
 
 pub headers-tell : HeadersTell
 headers-tell = record {
+  capitals = capitals-told;
   numbers = numbers-told;
   bits = bits-told;
   bytes = bytes-told;

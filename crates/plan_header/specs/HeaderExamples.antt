@@ -129,6 +129,8 @@ pub record MaskLines : Type 0 where
       ≡ MOTORS.now ++ codes "#define PLAN_MASK_GATE UINT64_C(3)\n" ++ codes "#define PLAN_PATTERN_GATE UINT64_C(2)\n"
   pub no_motor : header.motors_part lift [] [] ≡ []
 
--- names in capitals: the first and the last letter; what is none stays
+-- names in capitals: each letter, and what is none stays
 pub record CapitalsAreMade : Type 0 where
-  pub capital : capitals (codes "az_09{`@Z") ≡ codes "AZ_09{`@Z"
+  pub alphabet : capitals (codes "abcdefghijklmnopqrstuvwxyz") ≡ codes "ABCDEFGHIJKLMNOPQRSTUVWXYZ"
+  pub others : capitals (codes "ABCDEFGHIJKLMNOPQRSTUVWXYZ_0123456789") ≡ codes "ABCDEFGHIJKLMNOPQRSTUVWXYZ_0123456789"
+  pub neighbours : capitals (codes "az_09{`@Z") ≡ codes "AZ_09{`@Z"

@@ -1,5 +1,5 @@
 -- What each line of a header or a module says, for all names, numbers, motors and bytes: in the plan's own words.
-use Rattle.std.specs.Prelude.{◌≡◌, ◌<◌, ℕ, ◌+◌, ◌*◌, List, ◌++◌, codes, flat_map, get_or, length}
+use Rattle.std.specs.Prelude.{◌≡◌, ◌<◌, ℕ, ◌+◌, ◌*◌, List, [], ◌∷◌, ◌++◌, codes, flat_map, get_or, length}
 use Rattle.std.specs.Fmt.{decimal}
 use Rattle.std.specs.List.{range_with_len}
 use Rattle.plan_types.specs.Table.{guest_of, host_of, keeper_of, machine_of, place_count, zone_count}
@@ -14,6 +14,13 @@ use Rattle.plan_header.specs.Modules as python
 use Rattle.plan_header.specs.declared.motors.TheConstants.{MOTORS}
 use Rattle.plan_header.specs.declared.python.TheConstants.{MODULE, PLANT}
 use Rattle.plan_header.specs.Words.{capitals}
+
+-- each byte of a name in capitals: `a` is 97, `z` is 122, and `A` is 65; what is no letter from `a` to `z` stays
+pub record CapitalsAreTold : Type 0 where
+  pub empty : capitals [] ≡ []
+  pub letter : (k : ℕ) (rest : Text) → k < 26 → capitals ((97 + k) ∷ rest) ≡ (65 + k) ∷ capitals rest
+  pub before : (byte : ℕ) (rest : Text) → byte < 97 → capitals (byte ∷ rest) ≡ byte ∷ capitals rest
+  pub after : (byte : ℕ) (rest : Text) → 122 < byte → capitals (byte ∷ rest) ≡ byte ∷ capitals rest
 
 -- a name in capitals, and what stands for it
 abbrev pub stands : Text → Text → Text
@@ -131,6 +138,7 @@ pub record ModulesAreTold : Type 0 where
       → python.bytes_listed n ≡ MODULE.now ++ (header.byte_words (bytes_of n.plan) ++ PLANT.now)
 
 pub record HeadersTell : Type 0 where
+  pub capitals : CapitalsAreTold
   pub numbers : NumbersAreTold
   pub bits : BitsAreTold
   pub bytes : BytesAreTold

@@ -26,7 +26,8 @@ gates_bytes =
     ++ codes "\n    2, 0, 0, 0, 0, 0, 0, 0," ++ codes "\n    0, 0, 0, 0, 1, 1, 0, 2,"
 
 abbrev pub module_end : Text
-module_end = codes "    plan=BYTES,\n)\n" ++ codes "\nif __name__ == \"__main__\":\n    raise SystemExit(PLANT.main())\n"
+module_end =
+    codes "    plan=BYTES,\n)\n" ++ codes "\nif __name__ == \"__main__\":\n    raise SystemExit(PLANT.main())\n"
 
 -- the module of the gates, whole
 pub record WholeModules : Type 0 where

@@ -10,8 +10,9 @@ pub fn header_lines_are_met()
     ensures capitals { CapitalsAreMade }
 {}
 
-/// Each line of a header and of a module, for all names, numbers and bytes: the numbers of names, the machines of
-/// zones, places and poses, the bits of fields, the masks of motors, and the bytes, eight in a line.
+/// Each line of a header and of a module, for all names, numbers and bytes: each byte of a name in capitals, the
+/// numbers of names, the machines of zones, places and poses, the bits of fields, the masks of motors, and the bytes,
+/// eight in a line.
 pub fn headers_tell()
     ensures { HeadersTell }
 {}
