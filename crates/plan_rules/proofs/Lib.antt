@@ -22,6 +22,7 @@ mod FullPlaces
 mod DoneExactly
 mod Truth
 mod RefusedExactly
+mod PosesRefused
 mod Lowest
 mod Orders
 mod CallChanges

@@ -1,5 +1,5 @@
 -- A refused pose names the lowest zone that bars it.
-use Rattle.std.proofs.Common.{◌≡◌, ◌⊎◌, inl, inr, ℕ, zero, suc, ◌<◌, Bool, true, false, ◌&&◌, ◌||◌, not, nat_eq, Option, Some, None, unwrap_or, refl, sym, ap, ◌∙◌, arith, ⊎_elim}
+use Rattle.std.proofs.Common.{◌≡◌, inl, inr, ℕ, zero, suc, ◌<◌, Bool, true, false, ◌&&◌, ◌||◌, not, nat_eq, Option, Some, None, unwrap_or, refl, sym, ap, ◌∙◌, arith, ⊎_elim}
 use Rattle.std.specs.Bool.{then_some}
 use Rattle.std.specs.Option.{option_or}
 use Rattle.std.proofs.lemmas.Bool.{eqb-true}
@@ -70,29 +70,32 @@ module _ (t : PlanTable) (s : State) (m p : ℕ) where
   Lowest _ = Unit
 
   -- of a zone that a test finds, and no lower one
-  chosen : (test : ℕ → Bool) (name : ℕ → Refusal) → ((z : ℕ) → z < zone_count t → test z ≡ true → ((y : ℕ) → y < z → test y ≡ false) → Lowest (name z))
-      → (r : Refusal) → first_below (λ z. then_some (test z) (name z)) (zone_count t) ≡ Some r → Lowest r
-  chosen test name says r e =
+  chosen : (P : Refusal → Type 0) (test : ℕ → Bool) (name : ℕ → Refusal) → ((z : ℕ) → z < zone_count t → test z ≡ true → ((y : ℕ) → y < z → test y ≡ false) → P (name z))
+      → (r : Refusal) → first_below (λ z. then_some (test z) (name z)) (zone_count t) ≡ Some r → P r
+  chosen P test name says r e =
       let k = found_at (λ z. then_some (test z) (name z)) (zone_count t) r e in
-      one_says Lowest (test k.0) (name k.0) (λ yes. says k.0 k.1 yes (λ y l. none_then (test y) (name y) (k.3 y l))) r k.2
+      one_says P (test k.0) (name k.0) (λ yes. says k.0 k.1 yes (λ y l. none_then (test y) (name y) (k.3 y l))) r k.2
 
-  unowned : (r : Refusal) → refusals.first_zone t (refusals.unowned_by_pose t s m p) ≡ Some r → Lowest r
-  unowned = chosen (λ z. concern z && not (owns s m z)) (λ z. NotOwner (owner_of s z)) (λ z l yes lower.
+  pub no_owner_bars : (y : ℕ) → (concern y && not (owns s m y)) ≡ false → ¬ BarsByOwner t s m p y
+  no_owner_bars y none barred = by (owns s m y) refl (sym (ap (λ b. b && not (owns s m y)) (concern_by y barred.0)) ∙ none)
+    where
+      by : (b : Bool) → owns s m y ≡ b → not (owns s m y) ≡ false → ⊥
+      by true own e = barred.1 (owner_is (owner_of s y) m own)
+      by false other e = let h = ap not other in cc
+
+  pub no_plate_bars : (y : ℕ) → (concern y && (zone_at s y).flag) ≡ false → ¬ BarsByPlate t s m p y
+  no_plate_bars y none barred = not_both (concern y && (zone_at s y).flag) (all_true (concern y) (zone_at s y).flag (concern_by y barred.0) barred.1) none
+
+  pub unowned : (P : Refusal → Type 0) → ((z : ℕ) → IsLowest (BarsByOwner t s m p) z → P (NotOwner (owner_of s z))) → (r : Refusal) → refusals.first_zone t (refusals.unowned_by_pose t s m p) ≡ Some r → P r
+  unowned P says = chosen P (λ z. concern z && not (owns s m z)) (λ z. NotOwner (owner_of s z)) (λ z l yes lower.
       let both = both_true (concern z) (not (owns s m z)) yes in
       let bars : BarsByOwner t s m p z = (needed z l both.0, λ own. not_both (owns s m z) (owner_by s m z own) (is_not (owns s m z) both.1)) in
-      (z, (bars, λ y k barred. bars_no_more y barred (lower y k)), refl))
-    where
-      bars_no_more : (y : ℕ) → BarsByOwner t s m p y → (concern y && not (owns s m y)) ≡ false → ⊥
-      bars_no_more y barred none = by (owns s m y) refl (sym (ap (λ b. b && not (owns s m y)) (concern_by y barred.0)) ∙ none)
-        where
-          by : (b : Bool) → owns s m y ≡ b → not (owns s m y) ≡ false → ⊥
-          by true own e = barred.1 (owner_is (owner_of s y) m own)
-          by false other e = let h = ap not other in cc
+      says z (bars, λ y k. no_owner_bars y (lower y k)))
 
-  covered : (r : Refusal) → refusals.first_zone t (refusals.plate_under_pose t s m p) ≡ Some r → Lowest r
-  covered = chosen (λ z. concern z && (zone_at s z).flag) (λ z. PlateInZone z) (λ z l yes lower.
+  pub covered : (P : Refusal → Type 0) → ((z : ℕ) → IsLowest (BarsByPlate t s m p) z → P (PlateInZone z)) → (r : Refusal) → refusals.first_zone t (refusals.plate_under_pose t s m p) ≡ Some r → P r
+  covered P says = chosen P (λ z. concern z && (zone_at s z).flag) (λ z. PlateInZone z) (λ z l yes lower.
       let both = both_true (concern z) (zone_at s z).flag yes in
-      ((needed z l both.0, both.1), λ y k barred. not_both (concern y && (zone_at s y).flag) (all_true (concern y) (zone_at s y).flag (concern_by y barred.0) barred.1) (lower y k)))
+      says z ((needed z l both.0, both.1), λ y k. no_plate_bars y (lower y k)))
 
   lowest : (r : Refusal) → refusals.pose_refusal t s m p ≡ Some r → Lowest r
   lowest =
@@ -110,8 +113,8 @@ module _ (t : PlanTable) (s : State) (m p : ℕ) where
       (both_say Lowest r0 (refusals.moves_while_stopped t s p)
       (one_says Lowest _ NoPose (λ _. tt))
       (one_says Lowest _ Stopped (λ _. tt)))
-      unowned)
-      covered)
+      (unowned Lowest (λ z low. (z, low, refl))))
+      (covered Lowest (λ z low. low)))
       (one_says Lowest _ Jump (λ _. tt)))
       (zones_say Lowest (refusals.opens_onto_plate t s p) (zone_count t) (λ z l. one_says Lowest _ PlaceFull (λ _. tt))))
       (one_says Lowest _ Worn (λ _. tt))

@@ -32,11 +32,11 @@ use Rattle.plan_rules.proofs.Refusing.{refusal_of_reply}
 -- ---- from a refusal to what it says
 
 -- a condition says P by its refusal, or leaves K
-record Sorts (P : Refusal → Type 0) (o : Option Refusal) (K : Type 0) : Type 0 where
-  says : (r : Refusal) → o ≡ Some r → P r
-  leaves : o ≡ None → K
+pub record Sorts (P : Refusal → Type 0) (o : Option Refusal) (K : Type 0) : Type 0 where
+  pub says : (r : Refusal) → o ≡ Some r → P r
+  pub leaves : o ≡ None → K
 
-test : {P : Refusal → Type 0} {K : Type 0} (b : Bool) (q : Refusal) → (b ≡ true → P q) → (b ≡ false → K) → Sorts P (then_some b q) K
+pub test : {P : Refusal → Type 0} {K : Type 0} (b : Bool) (q : Refusal) → (b ≡ true → P q) → (b ≡ false → K) → Sorts P (then_some b q) K
 test {P} true q bars none = record { says = one_says P true q bars; leaves = λ e. cc }
 test {P} false q bars none = record { says = one_says P false q bars; leaves = λ e. none refl }
 
@@ -44,7 +44,7 @@ says_by : {P : Refusal → Type 0} {J K : Type 0} (a b o : Option Refusal) → S
 says_by a b None first next is r e = (next (first.leaves is)).says r e
 says_by a b (Some q) first next is r e = first.says r (is ∙ e)
 
-in_turn : {P : Refusal → Type 0} {J K : Type 0} (a b : Option Refusal) → Sorts P a J → (J → Sorts P b K) → Sorts P (a or b) K
+pub in_turn : {P : Refusal → Type 0} {J K : Type 0} (a b : Option Refusal) → Sorts P a J → (J → Sorts P b K) → Sorts P (a or b) K
 in_turn a b first next = record {
   says = says_by a b a first next refl;
   leaves = λ e. let h = none_or a b e in (next (first.leaves h.0)).leaves h.1;
@@ -59,11 +59,11 @@ abbrev all_or : Option Refusal → List (Option Refusal) → Option Refusal
 all_or a [] = a
 all_or a (b ∷ bs) = all_or (a or b) bs
 
-told : (a : Option Refusal) (bs : List (Option Refusal)) (r : Refusal) → a ≡ Some r → all_or a bs ≡ Some r
+pub told : (a : Option Refusal) (bs : List (Option Refusal)) (r : Refusal) → a ≡ Some r → all_or a bs ≡ Some r
 told a [] r e = e
 told a (b ∷ bs) r e = told (a or b) bs r (ap (λ x. x or b) e)
 
-past : (a b : Option Refusal) (r : Refusal) → a ≡ None → b ≡ Some r → (a or b) ≡ Some r
+pub past : (a b : Option Refusal) (r : Refusal) → a ≡ None → b ≡ Some r → (a or b) ≡ Some r
 past a b r e f = ap (λ x. x or b) e ∙ f
 
 yes_then : (b : Bool) (r : Refusal) → b ≡ true → then_some b r ≡ Some r
@@ -74,7 +74,7 @@ yes_then_not b r e = ap (λ x. then_some (not x) r) e
 
 -- ---- single conditions
 
-no_not : (b : Bool) → not b ≡ false → b ≡ true
+pub no_not : (b : Bool) → not b ≡ false → b ≡ true
 no_not true e = refl
 no_not false e = cc
 
@@ -94,7 +94,7 @@ module _ (t : PlanTable) (s : State) (m z : ℕ) where
           not_none : None ≡ Some NotParty → ⊥
           not_none e = cc
 
-  worn : (P : Refusal → Type 0) → (HasNoStampLeft s → P Worn) → Sorts P (refusals.worn s) Unit
+  pub worn : (P : Refusal → Type 0) → (HasNoStampLeft s → P Worn) → Sorts P (refusals.worn s) Unit
   worn P says = test (not (nat_lt s.stamp last_stamp)) Worn (λ yes. says (not_below s.stamp 1048575 (is_not (nat_lt s.stamp last_stamp) yes))) (λ no. tt)
 
   owner : (P : Refusal → Type 0) → ((o : Option ℕ) → IsOwnedElse s m z o → P (NotOwner o)) → Sorts P (refusals.not_owner s m z) (owner_of s z ≡ Some m)
@@ -122,7 +122,7 @@ module _ (t : PlanTable) (s : State) (m z : ℕ) where
   heard_by : IsHeard t s m z → (refusals.not_party t m z or refusals.while_stopped s) ≡ None
   heard_by f = none_of_both (refusals.not_party t m z) (refusals.while_stopped s) (is_party_by t m z f.0) (no_then s.stopped Stopped f.1)
 
-  worn_by : HasNoStampLeft s → refusals.worn s ≡ Some Worn
+  pub worn_by : HasNoStampLeft s → refusals.worn s ≡ Some Worn
   worn_by f = yes_then_not (nat_lt s.stamp last_stamp) Worn (le-ltb s.stamp 1048575 f)
 
   claim : Sorts (BarsClaim t s m z) (refusals.claim_refusal t s m z) Unit

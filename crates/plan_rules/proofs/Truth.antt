@@ -179,25 +179,29 @@ module _ (t : PlanTable) (s : State) (m p : ℕ) where
       let both = both_true (is_concerned t s m p z) (zone_at s z).flag yes in
       ((l, host_by z both.0), both.1))
 
-  jump_says : (r : Refusal) → refusals.jump t s m p ≡ Some r → Q r
-  jump_says = one_says Q ((pose_row t p).after_moving && any_below (refusals.stands_at t s m) (zone_count t)) Jump (λ yes.
-      let both = both_true (pose_row t p).after_moving (any_below (refusals.stands_at t s m) (zone_count t)) yes in
+  pub jump_in_words : ((pose_row t p).after_moving && any_below (refusals.stands_at t s m) (zone_count t)) ≡ true → Q Jump
+  jump_in_words e =
+      let both = both_true (pose_row t p).after_moving (any_below (refusals.stands_at t s m) (zone_count t)) e in
       let found = some_any (refusals.stands_at t s m) (zone_count t) both.1 in
       let z = found.0 in
       let stands = both_true (nat_eq (host_of t z) m) (not (same_posture (posture_at s z) Moving)) found.2 in
-      (both.0, z, found.1, eqb-true (host_of t z) m stands.0, λ moves. not_both (same_posture (posture_at s z) Moving) (ap (λ q. same_posture q Moving) moves) (is_not (same_posture (posture_at s z) Moving) stands.1)))
+      (both.0, z, found.1, eqb-true (host_of t z) m stands.0, λ moves. not_both (same_posture (posture_at s z) Moving) (ap (λ q. same_posture q Moving) moves) (is_not (same_posture (posture_at s z) Moving) stands.1))
+
+  jump_says : (r : Refusal) → refusals.jump t s m p ≡ Some r → Q r
+  jump_says = one_says Q ((pose_row t p).after_moving && any_below (refusals.stands_at t s m) (zone_count t)) Jump jump_in_words
 
   onto : (z : ℕ) → z < zone_count t → posture_of t p z ≡ Some OpenIn → posture_at s z ≢ OpenIn → (o : Option Transfer) → transfer_of t z OpenIn ≡ o → refusals.is_onto_taken t s o ≡ true → Q PlaceFull
   onto z l given other None is e = cc
   onto z l given other (Some way) is e = (z, l, given, other, way, is, ltb-true 0 (plates_for t s way.to) e)
 
-  room_says : (z : ℕ) → z < zone_count t → (r : Refusal) → refusals.opens_onto_plate t s p z ≡ Some r → Q r
-  room_says z l =
+  -- any P of what such a zone says
+  pub room_says_by : (P : Refusal → Type 0) → (Q PlaceFull → P PlaceFull) → (z : ℕ) → z < zone_count t → (r : Refusal) → refusals.opens_onto_plate t s p z ≡ Some r → P r
+  room_says_by P says z l =
       let now = posture_at s z in
       let opens = same_posture (posture_with t s p z) OpenIn in
       let was = same_posture now OpenIn in
       let taken = refusals.is_onto_taken t s (transfer_of t z OpenIn) in
-      one_says Q (opens && not was && taken) PlaceFull (λ yes.
+      one_says P (opens && not was && taken) PlaceFull (λ yes.
       let both = both_true (opens && not was) taken yes in
       let change = both_true opens (not was) both.0 in
       let other : now ≢ OpenIn = λ e. not_both was (ap (λ q. same_posture q OpenIn) e) (is_not was change.1) in
@@ -205,8 +209,11 @@ module _ (t : PlanTable) (s : State) (m p : ℕ) where
         | inl none ↦ absurd (other (one_posture now OpenIn (sym (ap (λ o. same_posture (unwrap_or o now) OpenIn) none) ∙ change.0)))
         | inr given ↦
             let in_words : given.0 ≡ OpenIn = one_posture given.0 OpenIn (sym (ap (λ o. same_posture (unwrap_or o now) OpenIn) given.1) ∙ change.0) in
-            onto z l (given.1 ∙ ap (λ q. Some q) in_words) other (transfer_of t z OpenIn) refl both.1
+            says (onto z l (given.1 ∙ ap (λ q. Some q) in_words) other (transfer_of t z OpenIn) refl both.1)
       ])
+
+  room_says : (z : ℕ) → z < zone_count t → (r : Refusal) → refusals.opens_onto_plate t s p z ≡ Some r → Q r
+  room_says = room_says_by Q (λ f. f)
 
 -- ---- each call
 

@@ -11,7 +11,7 @@ ghost use Rattle.plan_rules.specs.Laws as law;
 ghost use Rattle.plan_rules.specs.Laws.{Throughout};
 ghost use Rattle.plan_rules.specs.LiftLaws.{LawsOfLift};
 ghost use Rattle.plan_rules.specs.PlaceLaws.{FullPlaces};
-ghost use Rattle.plan_rules.specs.PoseLaws.{PosesNameLowestZones};
+ghost use Rattle.plan_rules.specs.PoseLaws.{PosesAreRefusedExactly, PosesNameLowestZones};
 ghost use Rattle.plan_rules.specs.RefusalLaws.{OrdersAreKept, RefusalsTell};
 ghost use Rattle.plan_rules.specs.RefusedLaws.{CallsAreRefusedExactly};
 ghost use Rattle.plan_rules.specs.SayLaws.{RefusalsAreTrue};
@@ -150,6 +150,12 @@ pub fn calls_are_refused_exactly()
 /// the lowest that isn't its machine's, or the lowest with a plate in it.
 pub fn poses_name_lowest_zones()
     ensures { PosesNameLowestZones }
+{}
+
+/// In all tables and states a pose is refused for this and nothing else: what the refusal says is so, and nothing that
+/// comes earlier in its order.
+pub fn poses_are_refused_exactly()
+    ensures { PosesAreRefusedExactly }
 {}
 
 /// In an order one number comes no later than another exactly if it stands somewhere, and the other there or after it.
