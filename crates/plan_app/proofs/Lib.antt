@@ -12,6 +12,10 @@ mod InputRows
 mod DriveLemmas
 mod DriveRows
 mod EventsTold
+mod GoingTold
+mod CountsTold
+mod DrivesTold
+mod HazardsTold
 mod ScriptsFound
 mod ScreenRows
 mod FailedRows

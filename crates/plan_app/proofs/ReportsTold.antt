@@ -1,7 +1,7 @@
 -- The laws of `reports_tell`.
-use Rattle.std.proofs.Common.{◌+◌, ◌*◌, ◌++◌, [], codes, refl, ap}
+use Rattle.std.proofs.Common.{◌+◌, ◌*◌, ◌++◌, [], codes, nat_eq, refl, ap}
 use Rattle.std.proofs.Common.{if◌then◌else◌}
-use Rattle.std.proofs.lemmas.Bool.{lt-ltb}
+use Rattle.std.proofs.lemmas.Bool.{eqb-true, false_from_ne_true, lt-ltb}
 use Rattle.plan_types.specs.Table.{place_count, zone_count}
 use Rattle.plan_text.specs.Names.{name_in}
 use Rattle.plan_app.specs.ReportLaws.{ReportsTell, has_bits}
@@ -24,6 +24,10 @@ reports-tell = record {
   stamp = λ n. refl;
   stop = λ n. refl;
   width = λ n. refl;
+  first_name = λ names k first. rw first refl;
+  next_name = λ names k later.
+      ap (λ t. (if t then codes ": " else codes " ") ++ name_in names k)
+      (false_from_ne_true (nat_eq k 0) (λ is. later (eqb-true k 0 is)));
   names = λ kind names. refl;
   fields = λ n. refl;
 }

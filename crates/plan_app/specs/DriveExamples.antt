@@ -1,5 +1,5 @@
 -- What is said of motors that programs run, line by line, and what it means that nothing is wrong.
-use Rattle.std.specs.Prelude.{◌≡◌, ℕ, ◌≤◌, ◌^◌, true, false, List, [], ◌∷◌, ◌++◌, codes, length, map, slice_get}
+use Rattle.std.specs.Prelude.{◌≡◌, ℕ, ◌≤◌, ◌^◌, true, false, List, [], ◌∷◌, codes, length, map, slice_get}
 use Rattle.std.specs.Prelude.{Option, Some, None}
 use Rattle.std.specs.Global.{Vec}
 use Rattle.plan_types.specs.declared.call.Call.TheVariants.{Claim}
@@ -40,7 +40,8 @@ pub record DriveLines : Type 0 where
   pub empty : told 1 2 (NotFilled 1 true (Some false)) ≡ codes "press, line 3: ram needs die full; here it is empty\n"
   pub maybe_empty : told 1 2 (NotFilled 1 true None) ≡ codes "press, line 3: ram needs die full; here it may be empty\n"
   pub full : told 1 2 (NotFilled 0 false (Some true)) ≡ codes "press, line 3: ram needs hand empty; here it is full\n"
-  pub maybe_full : told 1 2 (NotFilled 0 false None) ≡ codes "press, line 3: ram needs hand empty; here it may be full\n"
+  pub maybe_full : told 1 2 (NotFilled 0 false None)
+      ≡ codes "press, line 3: ram needs hand empty; here it may be full\n"
   pub other : told 1 2 (OtherMachine 0) ≡ codes "press, line 3: ram is a motor of loader\n"
   pub stranger : told 1 2 NoSuchMotor ≡ codes "press, line 3: ram is no motor of the plan\n"
   -- the machine's own line, if it has one

@@ -1,6 +1,6 @@
 -- What `plan check` says of the motors that programs run.
-use Rattle.std.specs.Prelude.{◌≡◌, ℕ, ◌+◌, ◌<◌, ◌≤◌, Bool, false, not, nat_eq, List, [], ◌++◌, codes, flat_map, length, map, slice_get}
-use Rattle.std.specs.Prelude.{is_none, is_some, Option, Some, None, if◌then◌else◌}
+use Rattle.std.specs.Prelude.{◌≡◌, ℕ, ◌+◌, ◌<◌, ◌≤◌, Bool, false, not, nat_eq, List, [], ◌++◌, codes, flat_map}
+use Rattle.std.specs.Prelude.{length, map, slice_get, is_none, is_some, Option, Some, None, if◌then◌else◌}
 use Rattle.std.specs.Fmt.{decimal}
 use Rattle.std.specs.List.{AllZip, enumerate_from, list_all, list_any, range_with_len}
 use Rattle.std.specs.Global.{Vec}

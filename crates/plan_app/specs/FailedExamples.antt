@@ -43,7 +43,8 @@ pub record FailedIsMeant : Type 0 where
       → (plan : ProgrammedPlan) × IsPlanIn (document_in bytes) plan
       × FailsBy request plan (script_in bytes) (Some []) (Some new)
   -- of an exploration it is a screen, from the start of the script
-  pub explored : (plan : ProgrammedPlan) (script new : Text) → AreNoFault new → WroteEnd plan script (Some []) (Some new)
+  pub explored : (plan : ProgrammedPlan) (script new : Text) → AreNoFault new
+      → WroteEnd plan script (Some []) (Some new)
       → (opening : State) × (script_start plan.named script ≡ Ok opening)
       × WroteScreen plan opening (Some []) (Some new)
   -- where `fault large` was written, turns lead to more than 1,000,000 situations

@@ -19,8 +19,11 @@ pub mod SizeExamples
 pub mod LineExamples
 pub mod GoingExamples
 pub mod GoingLaws
+pub mod CountLaws
 pub mod HazardExamples
+pub mod HazardLaws
 pub mod DriveExamples
+pub mod DriveLaws
 pub mod InputExamples
 pub mod InputLaws
 pub mod ScreenExamples

@@ -42,11 +42,12 @@ gates_report =
 pub record WholeReports : Type 0 where
   pub report : report.report_text gates ≡ gates_report
   -- with what is said of its rows; of a plan without motors nothing follows
-  pub complete : (plan : ProgrammedPlan) (start : Option State) (drives : List (Option Undriven)) (findings : List Finding)
-      → plan.named ≡ gates → plan.steps.items ≡ [] → plan.motors.names ≡ []
-      → whole_report plan start true drives findings ≡ gates_report ++ codes "rows: each call that is done has its row\n"
-  pub unknown : (plan : ProgrammedPlan) (start : Option State) (drives : List (Option Undriven)) (findings : List Finding)
-      → plan.named ≡ gates → plan.steps.items ≡ [] → plan.motors.names ≡ []
+  pub complete : (plan : ProgrammedPlan) (start : Option State) (drives : List (Option Undriven))
+      (findings : List Finding) → plan.named ≡ gates → plan.steps.items ≡ [] → plan.motors.names ≡ []
+      → whole_report plan start true drives findings
+      ≡ gates_report ++ codes "rows: each call that is done has its row\n"
+  pub unknown : (plan : ProgrammedPlan) (start : Option State) (drives : List (Option Undriven))
+      (findings : List Finding) → plan.named ≡ gates → plan.steps.items ≡ [] → plan.motors.names ≡ []
       → whole_report plan start false drives findings
       ≡ gates_report ++ codes "rows: some calls that are done may have none, and are answered more slowly\n"
 
@@ -55,7 +56,7 @@ pub record RowsAreTold : Type 0 where
   pub complete : rows_line true ≡ codes "rows: each call that is done has its row\n"
   pub unknown : rows_line false
       ≡ codes "rows: some calls that are done may have none, and are answered more slowly\n"
-  pub meant : (plan : ProgrammedPlan) (start : Option State) (kept : Bool) (text : Text) → TellsReport plan start kept text
-      → (every : Bool) × (IsTrue every → HasEveryRow plan.named.plan)
+  pub meant : (plan : ProgrammedPlan) (start : Option State) (kept : Bool) (text : Text)
+      → TellsReport plan start kept text → (every : Bool) × (IsTrue every → HasEveryRow plan.named.plan)
       × (drives : List (Option Undriven)) × (findings : List Finding)
       × (text ≡ whole_report plan start every drives findings)

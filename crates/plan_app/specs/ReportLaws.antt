@@ -1,5 +1,5 @@
 -- What each line of a report says, for all names, zones and places: in the plan's own words.
-use Rattle.std.specs.Prelude.{◌≡◌, ◌<◌, ℕ, ◌+◌, ◌*◌, List, ◌++◌, codes, flat_map, length}
+use Rattle.std.specs.Prelude.{◌≡◌, ◌≢◌, ◌<◌, ℕ, ◌+◌, ◌*◌, List, ◌++◌, codes, flat_map, length}
 use Rattle.std.specs.Fmt.{decimal}
 use Rattle.std.specs.List.{range_with_len}
 use Rattle.plan_types.specs.Table.{place_count, zone_count}
@@ -31,6 +31,9 @@ pub record ReportsTell : Type 0 where
   pub width : (n : Named)
       → report.width_line (counts_of n.plan)
       ≡ codes "a word of " ++ (decimal (5 * zone_count n.plan + place_count n.plan + 21) ++ codes " bits\n")
+  -- a colon before the first name of a kind, and a blank before each other one
+  pub first_name : (names : List Text) (k : ℕ) → k ≡ 0 → report.listed names k ≡ codes ": " ++ name_in names k
+  pub next_name : (names : List Text) (k : ℕ) → k ≢ 0 → report.listed names k ≡ codes " " ++ name_in names k
   -- all names of a kind, and the lines of all zones and places
   pub names : (kind : Text) (names : List Text)
       → report.names_line kind names

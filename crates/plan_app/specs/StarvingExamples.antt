@@ -4,7 +4,8 @@ use Rattle.graph_progress.specs.declared.answer.Reason.{Reason}
 use Rattle.plan_types.specs.Table.{PlanTable}
 use Rattle.plan_liveness.specs.declared.answer.FairOrder.{FairOrder}
 use Rattle.plan_liveness.specs.declared.answer.Liveness.{Liveness}
-use Rattle.plan_liveness.specs.declared.answer.Liveness.TheVariants.{Silent, Always, IfOne, IfAll, IfTwo, Starves, Unknown}
+use Rattle.plan_liveness.specs.declared.answer.Liveness.TheVariants.{Silent, Always, IfOne, IfAll, IfTwo}
+use Rattle.plan_liveness.specs.declared.answer.Liveness.TheVariants.{Starves, Unknown}
 use Rattle.plan_liveness.specs.declared.answer.Progress.{Progress}
 use Rattle.plan_liveness.specs.declared.answer.Progress.TheVariants as progress
 use Rattle.plan_text.specs.Named.{Named, named}

@@ -7,7 +7,8 @@ use Rattle.plan_explorer.specs.Programs.{PlanPrograms}
 use Rattle.plan_liveness.specs.declared.answer.Bound.{Bound}
 use Rattle.plan_liveness.specs.declared.answer.FairOrder.{FairOrder}
 use Rattle.plan_liveness.specs.declared.answer.Liveness.{Liveness}
-use Rattle.plan_liveness.specs.declared.answer.Liveness.TheVariants.{Silent, Always, IfOne, IfAll, IfTwo, Starves, Unknown}
+use Rattle.plan_liveness.specs.declared.answer.Liveness.TheVariants.{Silent, Always, IfOne, IfAll, IfTwo}
+use Rattle.plan_liveness.specs.declared.answer.Liveness.TheVariants.{Starves, Unknown}
 use Rattle.plan_liveness.specs.declared.answer.Progress.TheVariants as progress
 use Rattle.plan_liveness.specs.declared.answer.Relay.{Relay}
 use Rattle.plan_text.specs.Names.{Text}

@@ -1,10 +1,13 @@
 //! Laws of what is printed, each the contract of a function that does nothing.
 
+ghost use Rattle.plan_app.specs.CountLaws.{CountsTell};
 ghost use Rattle.plan_app.specs.DriveExamples.{DriveLines, RightDrivesArePermitted, RunsAreTold};
+ghost use Rattle.plan_app.specs.DriveLaws.{DrivesTell};
 ghost use Rattle.plan_app.specs.FailedExamples.{FailedIsMeant, FaultLines};
 ghost use Rattle.plan_app.specs.GoingExamples.{EventLines, MachinesAreTold, WalksAreTold};
-ghost use Rattle.plan_app.specs.GoingLaws.{EventsTell};
+ghost use Rattle.plan_app.specs.GoingLaws.{EventsTell, GoingTells};
 ghost use Rattle.plan_app.specs.HazardExamples.{AreKept, HazardLines, KeptMotorsAreNeverBoth, LeadLines};
+ghost use Rattle.plan_app.specs.HazardLaws.{HazardsTell};
 ghost use Rattle.plan_app.specs.InputExamples.{InputsAreSplit, RequestsAreRead, WordsAreMade};
 ghost use Rattle.plan_app.specs.InputLaws.{ScriptsAreFound};
 ghost use Rattle.plan_app.specs.LineExamples.{ReportLines, RowsAreTold, WholeReports};
@@ -37,6 +40,11 @@ pub fn hazard_lines_are_met()
     ensures kept { AreKept }
 {}
 
+/// What each line says of hazards, for all zones, places, machines and states.
+pub fn hazards_tell()
+    ensures { HazardsTell }
+{}
+
 /// If the status of `check` says that all is well, the motors of each hazard are never permitted both, from a start on.
 pub fn kept_motors_are_never_both()
     ensures { KeptMotorsAreNeverBoth }
@@ -46,6 +54,11 @@ pub fn kept_motors_are_never_both()
 pub fn drive_lines_are_met()
     ensures lines { DriveLines }
     ensures runs { RunsAreTold }
+{}
+
+/// What each line says of motors that programs run, for all machines, lines, motors, zones and places.
+pub fn drives_tell()
+    ensures { DrivesTell }
 {}
 
 /// If the status of `check` says that all is well, each machine's program runs its motors only where they are
@@ -79,9 +92,19 @@ pub fn events_are_told()
     ensures { EventLines }
 {}
 
-/// Each line of what machines ask, for all machines, calls and answers.
+/// Each line of what machines ask, and of why they wait, for all machines, calls and answers.
 pub fn events_tell()
     ensures { EventsTell }
+{}
+
+/// What each line says of machines that go on for ever, and how soon, for all machines and bounds.
+pub fn going_tells()
+    ensures { GoingTells }
+{}
+
+/// What each line says of how many things, turns and situations there are, for all numbers.
+pub fn counts_tell()
+    ensures { CountsTell }
 {}
 
 /// Examples: what the turns of a loader and a press ask, and orders in which one of them starves, whole.
