@@ -3,6 +3,8 @@ mod Counted
 mod Items
 mod LineRows
 mod Numbers
+mod NumberLines
+mod NumberTallies
 mod Played
 mod Screens
 mod Starved

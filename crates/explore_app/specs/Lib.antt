@@ -1,5 +1,6 @@
 pub mod Bounds
 pub mod LineExamples
+pub mod LinesByNumber
 pub mod Liveness
 pub mod Requests
 pub mod Rings
@@ -9,5 +10,6 @@ pub mod Served
 pub mod Starts
 pub mod Starving
 pub mod Tallies
+pub mod TalliesByNumber
 pub mod ScreenExamples
 pub mod Tellings

@@ -47,8 +47,8 @@ abbrev pub WasAnswered : Question → Option Text → Option Text → Option Tex
 WasAnswered question input old new =
     IfSome input (λ bytes. (text : Text) × IsAnswerFor (TellsWell question) bytes text × Appends old new text)
 
--- Else the configuration was refused, or memory ran out, or no schedule was found that leads a simulated cell there, and
--- a prefix of the fault's line was written; or a warning was, or a prefix of it; or the writer failed.
+-- Else a prefix of one of these was written: the line of a fault, if the configuration was refused, memory ran out, or
+-- no schedule was found that leads a simulated cell there; a warning; the whole answer, if the writer failed.
 abbrev pub AnswerFails : Question → Text → Option Text → Option Text → Type 0
 AnswerFails question bytes old new =
     ((fault : ConfigFault) × (Says bytes (Err fault) × WrotePrefix old new (fault_line (config_fault_text fault))))

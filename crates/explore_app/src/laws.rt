@@ -1,8 +1,16 @@
 //! Laws of the starts that are explored, and of what is printed of them, each the contract of a function that does
 //! nothing.
 
+ghost use Rattle.cell_explorer.specs.declared.walk.Walk.{Walk};
+ghost use Rattle.cell_rules.specs.ModelState.{ModelState};
+ghost use Rattle.cell_types.specs.declared.call.Call.{Call};
+ghost use Rattle.cell_types.specs.declared.machine.Machine.{Machine};
+ghost use Rattle.explore_app.specs.declared.tally.Tally.{Tally};
 ghost use Rattle.explore_app.specs.LineExamples.{ChoicesAreMet, LinesAreMet, TalliesAreMet};
+ghost use Rattle.explore_app.specs.LinesByNumber.{LinesByMachine, LinesByNumber, RingsByMachine, RoundsByTurn};
+ghost use Rattle.explore_app.specs.LinesByNumber.{ScreensByLine};
 ghost use Rattle.explore_app.specs.ScreenExamples.{EachIsMet, RequestsAreMet, ScreensAreMet};
+ghost use Rattle.explore_app.specs.TalliesByNumber.{LivenessByNumber, TalliesByNumber, TallyLinesByNumber};
 ghost use Rattle.explore_app.specs.Tellings.{TellingsAreWhole};
 ghost use Rattle.explore_app.specs.Starts.{StartsAreAll, StartsAreCounted};
 
@@ -22,6 +30,24 @@ pub fn lines_are_met()
     ensures lines { LinesAreMet }
     ensures choices { ChoicesAreMet }
     ensures tallies { TalliesAreMet }
+{}
+
+/// The lines of screens, whatever the numbers, machines and calls are: each number stands in its line
+/// as a decimal. Which lines a screen has, and whose.
+pub fn lines_by_number()
+    ensures numbers { LinesByNumber }
+    ensures machines { LinesByMachine }
+    ensures rings { (walk : Walk) → RingsByMachine walk }
+    ensures rounds { (m : Machine) (c : Call) (walk : Walk) → RoundsByTurn m c walk }
+    ensures screens { (s : ModelState) → ScreensByLine s }
+{}
+
+/// Tallies and bounds, whatever their numbers are: what was found of one start, and of the starts of
+/// two tallies; the lines that say it; and whether plates go on, by the answers of the six machines.
+pub fn tallies_by_number()
+    ensures tallies { TalliesByNumber }
+    ensures lines { (t : Tally) → TallyLinesByNumber t }
+    ensures liveness { LivenessByNumber }
 {}
 
 /// Examples: whole screens in literal text; the bound of each machine, the party of each zone, and
