@@ -32,17 +32,17 @@ tallies = record {
   standstill = λ way. refl;
   refusal = λ way. refl;
   both = λ a b. record {
-      starts = count a.starts b.starts;
-      free = count a.free b.free;
-      refused = count a.refused b.refused;
-      bounded = count a.bounded b.bounded;
-      plain = greater a.bound.plain b.bound.plain;
-      helped = greater a.bound.helped b.bound.helped;
-      starving = count a.starving b.starving;
-      most_situations = greater a.most_situations b.most_situations;
-      fewest_turns = smaller a.fewest_turns b.fewest_turns;
-      most_turns = greater a.most_turns b.most_turns;
-    };
+    starts = count a.starts b.starts;
+    free = count a.free b.free;
+    refused = count a.refused b.refused;
+    bounded = count a.bounded b.bounded;
+    plain = greater a.bound.plain b.bound.plain;
+    helped = greater a.bound.helped b.bound.helped;
+    starving = count a.starving b.starving;
+    most_situations = greater a.most_situations b.most_situations;
+    fewest_turns = smaller a.fewest_turns b.fewest_turns;
+    most_turns = greater a.most_turns b.most_turns;
+  };
 }
 
 -- ---- lines
