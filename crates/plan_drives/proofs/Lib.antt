@@ -3,3 +3,4 @@ mod Lasting
 pub mod lemmas
 mod Lacking
 mod Rows
+mod Resumes

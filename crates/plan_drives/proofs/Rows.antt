@@ -1,5 +1,5 @@
 -- Literal calls, programs and histories.
-use Rattle.std.proofs.Common.{◌≡◌, ℕ, Bool, true, false, List, [], ◌∷◌, ◌++◌, Some, None, refl, ap, IsTrue}
+use Rattle.std.proofs.Common.{◌≡◌, inl, ℕ, Bool, true, false, List, [], ◌∷◌, ◌++◌, Some, None, refl, ap, IsTrue}
 use Rattle.std.proofs.lemmas.List.Elements.{All-nil, All-cons, All-head, All-tail}
 use Rattle.plan_types.specs.declared.posture.Posture.TheVariants.{Closed, Moving}
 use Rattle.plan_types.specs.declared.call.Call.{Call}
@@ -43,7 +43,7 @@ programs_are_right = record {
 
 -- ---- histories
 
-false_true : false ≡ true → ⊥
+pub false_true : false ≡ true → ⊥
 false_true e = cc
 
 abbrev Not : ℕ → Event → Type 0
@@ -57,7 +57,7 @@ and m e h none rest = All-cons (Not m) e h (λ is. differ (is_done_by m e) none 
     differ true e f = cc
     differ false e f = cc
 
-none : (m : ℕ) → Stays [] m
+pub none : (m : ℕ) → Stays [] m
 none m = All-nil (Not m)
 
 -- the next done call
@@ -70,7 +70,7 @@ asks = refused 0 (Claim 0) (Held 1) ∷ refused 1 (SetPose 0) (Shut Closed) ∷ 
 abbrev yields : List Event
 yields = did 1 (SetPose 3) ∷ did 1 (SetPose 0) ∷ did 1 (Yield 0) ∷ []
 
-still : Stays opening 0
+pub still : Stays opening 0
 still =
     and 0 (did 1 (Claim 0)) (asks ++ yields) refl
     (and 0 (refused 0 (Claim 0) (Held 1)) (refused 1 (SetPose 0) (Shut Closed) ∷ yields) refl
@@ -84,7 +84,7 @@ owned since = record { before = opening; since = since; split = refl; stays = st
 
 -- ---- and what isn't so
 
-never_empty : (xs : List Event) (e : Event) (ys : List Event) → [] ≡ xs ++ e ∷ ys → ⊥
+pub never_empty : (xs : List Event) (e : Event) (ys : List Event) → [] ≡ xs ++ e ∷ ys → ⊥
 never_empty [] e ys split = cc
 never_empty (x ∷ xs) e ys split = cc
 
@@ -110,8 +110,8 @@ courses_are_right = record {
   own_call = λ stays. All-head (Not 1) (did 1 (SetPose 3)) [] (All-tail (Not 1) (did 0 (Claim 0)) (did 1 (SetPose 3) ∷ []) stays) refl;
   press = (does 1 (Claim 0) [] (asks ++ yields) (none 1), (does 1 (SetPose 3) asks (did 1 (SetPose 0) ∷ did 1 (Yield 0) ∷ []) (and 1 (refused 0 (Claim 0) (Held 1)) (refused 1 (SetPose 0) (Shut Closed) ∷ []) refl (and 1 (refused 1 (SetPose 0) (Shut Closed)) [] refl (none 1))), (does 1 (SetPose 0) [] (did 1 (Yield 0) ∷ []) (none 1), (does 1 (Yield 0) [] [] (none 1), none 1))));
   loader = (owned [], none 0);
-  loader_runs = record { line = 1; at = record { before = []; round = opening; split = refl; goes = (owned [], none 0) }; runs = (Run 2, refl, refl) };
-  press_runs = record { line = 2; at = record { before = []; round = did 1 (Claim 0) ∷ did 1 (SetPose 3) ∷ []; split = refl; goes = (does 1 (Claim 0) [] (did 1 (SetPose 3) ∷ []) (none 1), (does 1 (SetPose 3) [] [] (none 1), none 1)) }; runs = (Run 33, refl, refl) };
+  loader_runs = record { line = 1; at = inl (record { before = []; round = opening; split = refl; goes = (owned [], none 0) }); runs = (Run 2, refl, refl) };
+  press_runs = record { line = 2; at = inl (record { before = []; round = did 1 (Claim 0) ∷ did 1 (SetPose 3) ∷ []; split = refl; goes = (does 1 (Claim 0) [] (did 1 (SetPose 3) ∷ []) (none 1), (does 1 (SetPose 3) [] [] (none 1), none 1)) }); runs = (Run 33, refl, refl) };
   next_round = record { rounds = 1; goes = (owned (did 0 (Yield 0) ∷ []), (does 0 (Yield 0) [] [] (none 0), none 0)) };
   not_yet = λ goes. no_owner goes.0.before goes.0.since goes.0.split goes.0.owned;
   not_done = λ goes. never_empty goes.0.before (done 1 (Claim 0)) goes.0.since goes.0.split;

@@ -1,6 +1,6 @@
 -- How far a machine has come in its program by a history.
-use Rattle.std.specs.Prelude.{◌≡◌, ℕ, zero, suc, ◌+◌, Bool, ◌&&◌, nat_eq, List, [], ◌∷◌, ◌++◌, take, slice_get, All}
-use Rattle.std.specs.Prelude.{Some, IsTrue}
+use Rattle.std.specs.Prelude.{◌≡◌, ℕ, zero, suc, ◌+◌, ◌≤◌, Bool, ◌&&◌, nat_eq, List, [], ◌∷◌, ◌++◌, take, drop, All}
+use Rattle.std.specs.Prelude.{slice_get, Some, IsTrue, ◌⊎◌}
 use Rattle.plan_types.specs.declared.call.Call.{Call}
 use Rattle.plan_types.specs.declared.answer.Event.{Event}
 use Rattle.plan_types.specs.Table.{PlanTable}
@@ -11,6 +11,7 @@ use Rattle.plan_rules.specs.Laws.{done}
 use Rattle.plan_drives.specs.declared.line.Line.{Line}
 use Rattle.plan_drives.specs.declared.line.Line.TheVariants.{Do, Await, Run}
 use Rattle.plan_drives.specs.Program.{Runs}
+use Rattle.plan_drives.specs.InStep.{IsInStep}
 
 abbrev pub is_done_by : ℕ → Event → Bool
 is_done_by m e = nat_eq e.machine m && is_done e
@@ -44,13 +45,26 @@ GoesThrough t s history m (Await z ∷ lines) =
     (x : ComesToOwn t s history m z) × GoesThrough t (after t s x.before) x.since m lines
 GoesThrough t s history m (Run motors ∷ lines) = GoesThrough t s history m lines
 
--- a machine is at a line of its program: from some moment on it has gone through the lines before. What was earlier, as
--- other rounds, doesn't matter
-pub record IsAt (t : PlanTable) (s : State) (history : List Event) (m : ℕ) (program : List Line) (k : ℕ) : Type 0 where
+-- a machine is at a line of its program in a round: from some moment on it has gone through the lines before. What was
+-- earlier, as other rounds, doesn't matter
+pub record IsInRound (t : PlanTable) (s : State) (history : List Event) (m : ℕ) (program : List Line) (k : ℕ)
+    : Type 0 where
   pub before : List Event
   pub round : List Event
   pub split : history ≡ before ++ round
   pub goes : GoesThrough t (after t s before) round m (take k program)
+
+-- a machine has gone on from a line at which it was in step with the opening: it has gone through the lines between
+pub record HasGoneOn (t : PlanTable) (s : State) (history : List Event) (m : ℕ) (program : List Line) (k : ℕ)
+    : Type 0 where
+  pub from : ℕ
+  pub in_step : IsInStep t s m program from
+  pub not_past : from ≤ k
+  pub goes : GoesThrough t s history m (drop from (take k program))
+
+-- a machine is at a line of its program: in a round, or from where it was in step with the opening
+abbrev pub IsAt : PlanTable → State → List Event → ℕ → List Line → ℕ → Type 0
+IsAt t s history m program k = IsInRound t s history m program k ⊎ HasGoneOn t s history m program k
 
 -- a program again and again
 abbrev pub rounds_of : ℕ → List Line → List Line
@@ -64,6 +78,15 @@ pub record HasCome (t : PlanTable) (s : State) (history : List Event) (m : ℕ) 
   pub rounds : ℕ
   pub goes : GoesThrough t s history m (rounds_of rounds program ++ take k program)
 
+-- from the opening on a machine has come from a line of its program to another: it has gone through whole rounds and
+-- then the lines before, but for those before the one where it was
+pub record HasComeFrom (t : PlanTable) (s : State) (history : List Event) (m : ℕ) (program : List Line) (from k : ℕ)
+    : Type 0 where
+  pub rounds : ℕ
+  pub lines : List Line
+  pub between : rounds_of rounds program ++ take k program ≡ take from program ++ lines
+  pub goes : GoesThrough t s history m lines
+
 -- a machine is at a line of its program that runs a motor
 pub record IsRunning (t : PlanTable) (s : State) (history : List Event) (m : ℕ) (program : List Line) (i : ℕ)
     : Type 0 where
@@ -71,14 +94,14 @@ pub record IsRunning (t : PlanTable) (s : State) (history : List Event) (m : ℕ
   pub at : IsAt t s history m program line
   pub runs : Runs program line i
 
--- how a machine goes on: at any moment a round may begin; it stays at its line while none of its calls is done; and it
--- comes to the next line once its call is done, while it owns the zone that it awaits, or after it has run its motors
-pub record CoursesGoOn (t : PlanTable) (s : State) (h : List Event) (m : ℕ) (program : List Line) : Type 0 where
-  pub begins : IsAt t s h m program 0
-  pub stays : (k : ℕ) (more : List Event) → IsAt t s h m program k → Stays more m → IsAt t s (h ++ more) m program k
-  pub does : (k : ℕ) (c : Call) → IsAt t s h m program k → slice_get program k ≡ Some (Do c)
-      → IsAt t s (h ++ done m c ∷ []) m program (k + 1)
-  pub awaits : (k z : ℕ) → IsAt t s h m program k → slice_get program k ≡ Some (Await z)
-      → IsTrue (owns (after t s h) m z) → IsAt t s h m program (k + 1)
-  pub runs : (k motors : ℕ) → IsAt t s h m program k → slice_get program k ≡ Some (Run motors)
-      → IsAt t s h m program (k + 1)
+-- How a machine goes on, by what says that it is at a line: at any moment a round may begin; it stays at its line
+-- while none of its calls is done; and it comes to the next line once its call is done, while it owns the zone that it
+-- awaits, or after it has run its motors.
+pub record CoursesGoOn (At : List Event → ℕ → Type 0) (t : PlanTable) (s : State) (h : List Event) (m : ℕ)
+    (program : List Line) : Type 0 where
+  pub begins : At h 0
+  pub stays : (k : ℕ) (more : List Event) → At h k → Stays more m → At (h ++ more) k
+  pub does : (k : ℕ) (c : Call) → At h k → slice_get program k ≡ Some (Do c) → At (h ++ done m c ∷ []) (k + 1)
+  pub awaits : (k z : ℕ) → At h k → slice_get program k ≡ Some (Await z) → IsTrue (owns (after t s h) m z)
+      → At h (k + 1)
+  pub runs : (k motors : ℕ) → At h k → slice_get program k ≡ Some (Run motors) → At h (k + 1)

@@ -9,6 +9,7 @@ use Rattle.plan_types.specs.declared.answer.Event.{Event}
 use Rattle.plan_types.specs.Examples.{way, zone, pose, two_at, press_table, lift_table}
 use Rattle.plan_types.specs.Table.{PlanTable}
 use Rattle.plan_rules.specs.Examples.{event, did, refused, press_start}
+use Rattle.plan_rules.specs.History.{after}
 use Rattle.plan_motors.specs.declared.motor.Motor.{Motor}
 use Rattle.plan_motors.specs.Motor.{no_need, need_of, place_need}
 use Rattle.plan_motors.specs.MotorPlan.{MotorTables, motor_plan}
@@ -20,7 +21,8 @@ use Rattle.plan_drives.specs.declared.undriven.Lack.TheVariants.{NoSuchMotor, Ot
 use Rattle.plan_drives.specs.declared.undriven.Lack.TheVariants.{NotFilled}
 use Rattle.plan_drives.specs.Facts.{no_facts, zone_facts, place_facts, facts_along}
 use Rattle.plan_drives.specs.Program.{IsDriven}
-use Rattle.plan_drives.specs.Course.{Stays, GoesThrough, IsRunning, HasCome}
+use Rattle.plan_drives.specs.InStep.{IsInStep, AreInStep, IsFirstOutOfStep}
+use Rattle.plan_drives.specs.Course.{Stays, GoesThrough, IsRunning, HasCome, HasComeFrom}
 use Rattle.plan_drives.specs.Lacking.{IsUndriven}
 
 -- what machine m of the press knows of its zone after a call, if it knew nothing; of the loader's place, 0, and of the
@@ -133,3 +135,42 @@ pub record CoursesAreRight : Type 0 where
   pub not_done : ¬ GoesThrough press_table press_start [] 1 (Do (Claim 0) ∷ [])
   -- the press's call is another one
   pub other_call : ¬ GoesThrough press_table press_start (did 1 (Claim 0) ∷ []) 1 (Do (SetPose 3) ∷ [])
+
+-- ---- who is in step, as after a power cut
+
+abbrev pub InStep : List Event → ℕ → List Line → ℕ → Type 0
+InStep history m program k = IsInStep press_table (after press_table press_start history) m program k
+
+-- a program that isn't the loader's: it sets a pose of the press
+abbrev pub meddling : List Line
+meddling = Do (SetPose 2) ∷ Run 0 ∷ []
+
+abbrev pub AreAt : List Event → List ℕ → Type 0
+AreAt history lines = AreInStep press_table (after press_table press_start history) (loading ∷ pressing ∷ []) lines
+
+-- of the two at these lines this one is out of step, and those before it aren't
+abbrev pub FirstOut : List Event → List ℕ → ℕ → Type 0
+FirstOut history lines m =
+    IsFirstOutOfStep press_table (after press_table press_start history) (loading ∷ pressing ∷ []) lines m
+
+pub record ResumesAreRight : Type 0 where
+  pub first_line : InStep [] 1 pressing 0
+  -- the press moves: it is at its run, or past it, and its pose isn't done yet
+  pub press : InStep (did 1 (Claim 0) ∷ did 1 (SetPose 3) ∷ []) 1 pressing 2
+  pub past_its_run : InStep (did 1 (Claim 0) ∷ did 1 (SetPose 3) ∷ []) 1 pressing 3
+  pub too_far : ¬ InStep (did 1 (Claim 0) ∷ did 1 (SetPose 3) ∷ []) 1 pressing 4
+  pub not_moving : ¬ InStep (did 1 (Claim 0) ∷ []) 1 pressing 2
+  -- the loader's zone has come to it, or hasn't
+  pub loader : InStep opening 0 loading 1
+  pub holds_nothing : ¬ InStep [] 0 loading 1
+  pub past_the_end : ¬ InStep opening 0 loading 3
+  pub no_line : ¬ InStep [] 1 [] 0
+  -- the press is closed, as the loader's program tells; but the press may move it
+  pub not_its_own : ¬ InStep [] 0 meddling 1
+  pub both : AreAt opening (1 ∷ 5 ∷ [])
+  pub second_out : FirstOut opening (1 ∷ 6 ∷ []) 1
+  pub both_out : FirstOut opening (3 ∷ 6 ∷ []) 0
+  -- from its first line, and from its run, to the run in the next round
+  pub goes_on : HasComeFrom press_table press_start opening 0 loading 0 1
+  pub next_round : HasComeFrom press_table (after press_table press_start opening) (did 0 (Yield 0) ∷ []) 0 loading 1 0
+  pub not_back : ¬ HasComeFrom press_table (after press_table press_start opening) [] 0 loading 1 0

@@ -1,5 +1,6 @@
 //! Literal facts and programs of the press and of the lift of `plan_types`, with the motors of `plan_motors`.
 ghost use Rattle.plan_drives.specs.Examples.{FactsAreRight, ProgramsAreRight, CoursesAreRight};
+ghost use Rattle.plan_drives.specs.Examples.{ResumesAreRight};
 
 /// What literal calls tell their machine.
 pub fn facts_are_right()
@@ -14,4 +15,9 @@ pub fn programs_are_right()
 /// How far literal histories take a machine in its program.
 pub fn courses_are_right()
     ensures { CoursesAreRight }
+{}
+
+/// Which machine is in step with a literal state at a line of its program, and which isn't.
+pub fn resumes_are_right()
+    ensures { ResumesAreRight }
 {}

@@ -19,7 +19,7 @@ pub fn no_facts(machine: u8) -> Motor
     }
 }
 
-fn is_hosted(plan: &Plan, zone: u8, machine: u8) -> bool
+pub(crate) fn is_hosted(plan: &Plan, zone: u8, machine: u8) -> bool
     ensures { result ≡ table.is_hosted plan.now zone machine }
 {
     zone < plan.zone_count() && plan.zone(zone).host == machine
@@ -69,7 +69,7 @@ fn gives(plan: &Plan, zone: u8, posture: Posture, pose: u8) -> bool
 
 /// Whether some pose of the plan does.
 #[tactic(auto, using(plan_rules::proofs::lemmas::Below::any_below_more))]
-fn some_gives(plan: &Plan, zone: u8, posture: Posture) -> bool
+pub(crate) fn some_gives(plan: &Plan, zone: u8, posture: Posture) -> bool
     ensures { result ≡ facts.some_gives plan.now zone posture }
 {
     let mut some = false;
@@ -251,4 +251,15 @@ pub fn facts_after_line(plan: &Plan, known: &Motor, line: Line) -> Motor
         Line::Await(zone) => facts_after(plan, known, Call::Claim(zone)),
         Line::Run(_) => *known,
     }
+}
+
+/// What it knows at a line of its program, if the round began with nothing known.
+pub fn facts_at(plan: &Plan, machine: u8, program: &[Line], line: usize) -> Motor
+    ensures { result ≡ facts.facts_at plan.now machine program.now line }
+{
+    let mut known = no_facts(machine);
+    for before in 0..line.min(program.len()) {
+        known = facts_after_line(plan, &known, program[before]);
+    }
+    known
 }

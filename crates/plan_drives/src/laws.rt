@@ -1,6 +1,6 @@
 //! Laws of programs with drives, each the contract of a function that does nothing. A history is the list of the events
 //! since the opening, oldest first. `plan.plan().machines()` reads the plan, so the prover knows that it is one.
-ghost use Rattle.std.specs.Prelude.{◌≡◌, [], ◌∷◌, ◌++◌, IsTrue, Some};
+ghost use Rattle.std.specs.Prelude.{◌≡◌, [], ◌∷◌, ◌++◌, ◌<◌, length, IsTrue, Some};
 ghost use Rattle.plan_types.specs.declared.call.Call.TheVariants.{Inquire};
 ghost use Rattle.plan_types.specs.declared.answer.Answer.TheVariants.{Shown};
 ghost use Rattle.plan_rules.specs.Refusals.{owns};
@@ -12,7 +12,9 @@ ghost use Rattle.plan_motors.specs.Decided.{NeverBoth};
 ghost use Rattle.plan_motors.specs.Poses.{NeverFrom};
 ghost use Rattle.plan_drives.specs.Facts.{OpensByPoses};
 ghost use Rattle.plan_drives.specs.Program.{Runs, IsBackedAt, IsDriven};
-ghost use Rattle.plan_drives.specs.Course.{IsAt, HasCome, IsRunning, CoursesGoOn};
+ghost use Rattle.plan_drives.specs.InStep.{IsInStep};
+ghost use Rattle.plan_drives.specs.Course.{IsInRound, IsAt, HasCome, HasComeFrom, IsRunning};
+ghost use Rattle.plan_drives.specs.Course.{CoursesGoOn};
 ghost use Rattle.plan_drives.specs.Lacking.{IsUndriven};
 
 use crate::line::Line;
@@ -67,7 +69,80 @@ pub fn drives_are_permitted_in_each_round(
     lawful_histories();
 }
 
-/// Who has come to a line by its program is at it.
+/// So is one that was in step with the opening at a line, as after a power cut, and has come from there to its line by
+/// its program, also in whole rounds of it.
+pub fn resumed_drives_are_permitted(
+    plan: &MotorPlan,
+    machine: u8,
+    program: &[Line],
+    from: usize,
+    line: usize,
+    motor: usize,
+    opening: &State,
+    history: &[Event],
+)
+    requires driven { IsDriven plan.now machine program.now }
+    requires sound { IsSound plan.now.plan opening.now }
+    requires opens { OpensByPoses plan.now.plan opening.now }
+    requires legal { IsLegal plan.now.plan opening.now history.now }
+    requires in_step { IsInStep plan.now.plan opening.now machine program.now from }
+    requires come { HasComeFrom plan.now.plan opening.now history.now machine program.now from
+        line }
+    requires runs { Runs program.now line motor }
+    ensures { Permits plan.now.plan (after plan.now.plan opening.now history.now)
+        (motor_at plan.now.motors motor) }
+{
+    let _ = plan.plan().machines();
+    lawful_histories();
+}
+
+/// Who was in step with the opening at a line, and has come from there to a line by its program, is at it.
+pub fn who_goes_on_is_there(
+    plan: &Plan,
+    machine: u8,
+    program: &[Line],
+    from: usize,
+    line: usize,
+    opening: &State,
+    history: &[Event],
+)
+    requires in_step { IsInStep plan.now opening.now machine program.now from }
+    requires come { HasComeFrom plan.now opening.now history.now machine program.now from line }
+    ensures { IsAt plan.now opening.now history.now machine program.now line }
+{}
+
+/// Who is at a line of its program is in step there. So each place that was stored, with the state then, is taken back.
+pub fn who_is_there_is_in_step(
+    plan: &Plan,
+    machine: u8,
+    program: &[Line],
+    line: usize,
+    opening: &State,
+    history: &[Event],
+)
+    requires sound { IsSound plan.now opening.now }
+    requires opens { OpensByPoses plan.now opening.now }
+    requires legal { IsLegal plan.now opening.now history.now }
+    requires there { line < length program.now }
+    requires at { IsAt plan.now opening.now history.now machine program.now line }
+    ensures { IsInStep plan.now (after plan.now opening.now history.now) machine program.now line }
+{
+    let _ = plan.machines();
+    lawful_histories();
+}
+
+/// Zones stay open as poses give: so the state of a history may be one to open with.
+pub fn openings_by_poses_last(plan: &Plan, opening: &State, history: &[Event])
+    requires sound { IsSound plan.now opening.now }
+    requires opens { OpensByPoses plan.now opening.now }
+    requires legal { IsLegal plan.now opening.now history.now }
+    ensures { OpensByPoses plan.now (after plan.now opening.now history.now) }
+{
+    let _ = plan.machines();
+    lawful_histories();
+}
+
+/// Who has come to a line by its program is at it, in a round.
 pub fn who_has_come_is_there(
     plan: &Plan,
     machine: u8,
@@ -77,13 +152,16 @@ pub fn who_has_come_is_there(
     history: &[Event],
 )
     requires { HasCome plan.now opening.now history.now machine program.now line }
-    ensures { IsAt plan.now opening.now history.now machine program.now line }
+    ensures { IsInRound plan.now opening.now history.now machine program.now line }
 {}
 
 /// How a machine goes on in its program, event by event: what takes it to the next line, and what leaves it where it
-/// is.
+/// is. So it is also in a round alone.
 pub fn courses_go_on(plan: &Plan, machine: u8, program: &[Line], opening: &State, history: &[Event])
-    ensures { CoursesGoOn plan.now opening.now history.now machine program.now }
+    ensures at { CoursesGoOn (λ h k. IsAt plan.now opening.now h machine program.now k) plan.now
+        opening.now history.now machine program.now }
+    ensures round { CoursesGoOn (λ h k. IsInRound plan.now opening.now h machine program.now k)
+        plan.now opening.now history.now machine program.now }
 {}
 
 /// A machine that an inquiry shows as a zone's owner owns it: so it may go past a line that awaits the zone.

@@ -1,7 +1,9 @@
 -- A machine that has gone through lines knows what they tell, and is permitted what it runs.
-use Rattle.std.proofs.Common.{All, get_or, replicate, zero, suc, ◌+◌, true, false, ◌≡◌, ℕ, Bool, ◌&&◌, Option, Some, None, List, [], ◌∷◌, ◌++◌, take, refl, sym, ap, ◌∙◌, subst, arith, IsTrue}
+use Rattle.std.proofs.Common.{All, get_or, replicate, zero, suc, ◌+◌, true, false, ◌≡◌, ◌<◌, ◌≤◌, inl, inr, ℕ, Bool, ◌&&◌, Option, Some, None, List, [], ◌∷◌, ◌++◌, length, take, drop, refl, sym, ap, ◌∙◌, subst, arith, IsTrue}
 use Rattle.std.proofs.lemmas.Bool.{and_parts, false_from_ne_true}
-use Rattle.std.proofs.lemmas.List.{append_assoc, append-nil}
+use Rattle.std.proofs.Math.ListN.{drop_of_length-le}
+use Rattle.std.proofs.Math.Seq.{drop-append_seam}
+use Rattle.std.proofs.lemmas.List.{append_assoc, append-nil, length-append, length-take, length-take-le, take-append-drop, drop-append-le}
 use Rattle.std.proofs.lemmas.List.Elements.{All-nil, All-cons, All-head, All-tail}
 use Rattle.std.specs.Option.{option_eq}
 use Rattle.std.specs.Prelude.{slice_get}
@@ -35,9 +37,10 @@ use Rattle.plan_motors.specs.Poses.{NeverFrom}
 use Rattle.plan_motors.proofs.lemmas.Lasting.{never_after}
 use Rattle.plan_drives.specs.declared.line.Line.{Line}
 use Rattle.plan_drives.specs.declared.line.Line.TheVariants.{Do, Await, Run}
-use Rattle.plan_drives.specs.Facts.{no_facts, facts_after, facts_along, facts_at, OpensByPoses}
+use Rattle.plan_drives.specs.Facts.{no_facts, facts_after, facts_after_line, facts_along, facts_at, OpensByPoses}
+use Rattle.plan_drives.specs.InStep.{IsKnownIn, IsInStep}
 use Rattle.plan_drives.specs.Program.{posture_follows, zone_follows, is_known_as, place_follows, Backs, Runs, IsDriven}
-use Rattle.plan_drives.specs.Course.{is_done_by, Stays, DoesNext, ComesToOwn, GoesThrough, IsAt, rounds_of, HasCome, IsRunning, CoursesGoOn}
+use Rattle.plan_drives.specs.Course.{is_done_by, Stays, DoesNext, ComesToOwn, GoesThrough, IsInRound, HasGoneOn, IsAt, rounds_of, HasCome, HasComeFrom, IsRunning, CoursesGoOn}
 use Rattle.plan_drives.proofs.Learning.{Knows, knows_nothing, finds}
 use Rattle.plan_drives.proofs.Lasting.{leaves, tells, Live, live_next, live_after}
 
@@ -100,14 +103,64 @@ knows_through laws t s h f (Await z ∷ lines) p k legal goes known =
     subst (λ y. Knows t y (facts_along t (facts_after t f (Claim z)) lines)) (ends_at t s h x.before x.since x.split) end
 knows_through laws t s h f (Run motors ∷ lines) p k legal goes known = knows_through laws t s h f lines p k legal goes known
 
-knows_at : EveryLegalHistoryIsLawful → (t : PlanTable) (s : State) (h : List Event) (m : ℕ) (program : List Line) (k : ℕ) → IsPlan t → Live t s → IsLegal t s h
-    → IsAt t s h m program k → Knows t (after t s h) (facts_at t m program k)
-knows_at laws t s h m program k p live legal at =
+knows_in_round : EveryLegalHistoryIsLawful → (t : PlanTable) (s : State) (h : List Event) (m : ℕ) (program : List Line) (k : ℕ) → IsPlan t → Live t s → IsLegal t s h
+    → IsInRound t s h m program k → Knows t (after t s h) (facts_at t m program k)
+knows_in_round laws t s h m program k p live legal at =
     let whole = subst (IsLegal t s) at.split legal in
     let begun = after t s at.before in
     let since = live_after laws t s at.before p live (legal_left t s at.before at.round whole) in
     let known = knows_through laws t begun at.round (no_facts m) (take k program) p since (legal_right t s at.before at.round whole) at.goes (knows_nothing t begun m p) in
     subst (λ x. Knows t x (facts_at t m program k)) (ends_at t s h at.before at.round at.split) known
+
+-- ---- from a line at which it was in step
+
+machine_along : (t : PlanTable) (f : Motor) (lines : List Line) → (facts_along t f lines).machine ≡ f.machine
+machine_along t f [] = refl
+machine_along t f (Do c ∷ lines) = machine_along t (facts_after t f c) lines
+machine_along t f (Await z ∷ lines) = machine_along t (facts_after t f (Claim z)) lines
+machine_along t f (Run motors ∷ lines) = machine_along t f lines
+
+facts_append : (t : PlanTable) (f : Motor) (a b : List Line) → facts_along t f (a ++ b) ≡ facts_along t (facts_along t f a) b
+facts_append t f [] b = refl
+facts_append t f (line ∷ a) b = facts_append t (facts_after_line t f line) a b
+
+take_less : (xs : List Line) (j k : ℕ) → j ≤ k → take j (take k xs) ≡ take j xs
+take_less xs zero k l = refl
+take_less xs (suc j) zero l = absurd (omega (arith, l))
+take_less [] (suc j) (suc k) l = refl
+take_less (x ∷ xs) (suc j) (suc k) l = ap (λ ys. x ∷ ys) (take_less xs j k (omega (arith, l)))
+
+-- the lines up to a line, and those between it and a later one
+between : (program : List Line) (from k : ℕ) → from ≤ k → take from program ++ drop from (take k program) ≡ take k program
+between program from k l = ap (λ x. x ++ drop from (take k program)) (sym (take_less program from k l)) ∙ take-append-drop from (take k program)
+
+knows_known : (t : PlanTable) (s : State) (f : Motor) → IsKnownIn t s f → Knows t s f
+knows_known t s f k = record { zones = k.is_so.zones; places = k.is_so.places; kept = k.own.postures; own = k.own.places }
+
+known_knows : (t : PlanTable) (s : State) (f : Motor) → Knows t s f → IsKnownIn t s f
+known_knows t s f k = record { is_so = record { zones = k.zones; places = k.places }; own = record { postures = k.kept; places = k.own } }
+
+knows_from : EveryLegalHistoryIsLawful → (t : PlanTable) (s : State) (h : List Event) (m : ℕ) (program : List Line) (k : ℕ) → IsPlan t → Live t s → IsLegal t s h
+    → HasGoneOn t s h m program k → Knows t (after t s h) (facts_at t m program k)
+knows_from laws t s h m program k p live legal on =
+    let first = facts_at t m program on.from in
+    let rest = drop on.from (take k program) in
+    let goes = subst (λ n. GoesThrough t s h n rest) (sym (machine_along t (no_facts m) (take on.from program))) on.goes in
+    let known = knows_through laws t s h first rest p live legal goes (knows_known t s first on.in_step.known) in
+    subst (Knows t (after t s h)) (sym (facts_append t (no_facts m) (take on.from program) rest) ∙ ap (facts_along t (no_facts m)) (between program on.from k on.not_past)) known
+
+knows_at : EveryLegalHistoryIsLawful → (t : PlanTable) (s : State) (h : List Event) (m : ℕ) (program : List Line) (k : ℕ) → IsPlan t → Live t s → IsLegal t s h
+    → IsAt t s h m program k → Knows t (after t s h) (facts_at t m program k)
+knows_at laws t s h m program k p live legal (inl at) = knows_in_round laws t s h m program k p live legal at
+knows_at laws t s h m program k p live legal (inr on) = knows_from laws t s h m program k p live legal on
+
+-- who is at a line is in step there
+pub in_step : EveryLegalHistoryIsLawful → (t : PlanTable) (s : State) (h : List Event) (m : ℕ) (program : List Line) (k : ℕ) → IsPlan t → IsSound t s → OpensByPoses t s → IsLegal t s h
+    → k < length program → IsAt t s h m program k → IsInStep t (after t s h) m program k
+in_step laws t s h m program k p sound opens legal l at = record {
+  line = l;
+  known = known_knows t (after t s h) (facts_at t m program k) (knows_at laws t s h m program k p (record { sound = sound; opens = opens }) legal at);
+}
 
 -- ---- what follows from what is known is so
 
@@ -154,12 +207,6 @@ backed t s known motor b k = record {
   places = λ p l. place_backed (place_need known p) (place_need motor p) (is_full s p) (b.places p l) (k.places p l);
 }
 
-machine_along : (t : PlanTable) (f : Motor) (lines : List Line) → (facts_along t f lines).machine ≡ f.machine
-machine_along t f [] = refl
-machine_along t f (Do c ∷ lines) = machine_along t (facts_after t f c) lines
-machine_along t f (Await z ∷ lines) = machine_along t (facts_after t f (Claim z)) lines
-machine_along t f (Run motors ∷ lines) = machine_along t f lines
-
 pub permitted_at : EveryLegalHistoryIsLawful → (plan : MotorTables) (s : State) (h : List Event) (m : ℕ) (program : List Line) (k i : ℕ) → IsPlan plan.plan → IsSound plan.plan s → OpensByPoses plan.plan s
     → IsLegal plan.plan s h → IsDriven plan m program → IsAt plan.plan s h m program k → Runs program k i → Permits plan.plan (after plan.plan s h) (motor_at plan.motors i)
 permitted_at laws plan s h m program k i p sound opens legal driven at runs =
@@ -199,8 +246,8 @@ part t s h m (Await z ∷ a) b goes =
     join t s h x.before x.since m b x.split (part t (after t s x.before) x.since m a b goes.1)
 part t s h m (Run motors ∷ a) b goes = part t s h m a b goes
 
-pub is_at : (t : PlanTable) (s : State) (h : List Event) (m : ℕ) (program : List Line) (k : ℕ) → HasCome t s h m program k → IsAt t s h m program k
-is_at t s h m program k come =
+pub in_round : (t : PlanTable) (s : State) (h : List Event) (m : ℕ) (program : List Line) (k : ℕ) → HasCome t s h m program k → IsInRound t s h m program k
+in_round t s h m program k come =
     let x = part t s h m (rounds_of come.rounds program) (take k program) come.goes in
     record { before = x.before; round = x.since; split = x.split; goes = x.goes }
 
@@ -238,15 +285,37 @@ goes_on t m end more tail last s h (Await z ∷ lines) is goes =
     (longer, goes_on t m end more tail last (after t s x.before) x.since lines (ends_at t s h x.before x.since x.split ∙ is) goes.1)
 goes_on t m end more tail last s h (Run motors ∷ lines) is goes = goes_on t m end more tail last s h lines is goes
 
-at_longer : (t : PlanTable) (s : State) (h more : List Event) (m : ℕ) (program : List Line) (k n : ℕ) (tail : List Line)
+round_longer : (t : PlanTable) (s : State) (h more : List Event) (m : ℕ) (program : List Line) (k n : ℕ) (tail : List Line)
     → ((s' : State) (h' : List Event) → after t s' h' ≡ after t s h → Stays h' m → GoesThrough t s' (h' ++ more) m tail)
-    → take n program ≡ take k program ++ tail → IsAt t s h m program k → IsAt t s (h ++ more) m program n
-at_longer t s h more m program k n tail last lines at = record {
+    → take n program ≡ take k program ++ tail → IsInRound t s h m program k → IsInRound t s (h ++ more) m program n
+round_longer t s h more m program k n tail last lines at = record {
   before = at.before;
   round = at.round ++ more;
   split = ap (λ l. l ++ more) at.split ∙ append_assoc at.before at.round more;
   goes = subst (GoesThrough t (after t s at.before) (at.round ++ more) m) (sym lines) (goes_on t m (after t s h) more tail last (after t s at.before) at.round (take k program) (ends_at t s h at.before at.round at.split) at.goes);
 }
+
+-- (k < n or k ≡ n)
+on_longer : (t : PlanTable) (s : State) (h more : List Event) (m : ℕ) (program : List Line) (k n : ℕ) (tail : List Line)
+    → ((s' : State) (h' : List Event) → after t s' h' ≡ after t s h → Stays h' m → GoesThrough t s' (h' ++ more) m tail)
+    → take n program ≡ take k program ++ tail → k ≤ n → HasGoneOn t s h m program k → HasGoneOn t s (h ++ more) m program n
+on_longer t s h more m program k n tail last lines later on =
+    let l = on.not_past in
+    let inside = on.in_step.line in
+    let few : on.from ≤ length (take k program) = (let n = length-take k program in omega (arith, n, l, inside)) in
+    let whole = ap (drop on.from) lines ∙ drop-append-le on.from (take k program) tail few in
+    record {
+      from = on.from;
+      in_step = on.in_step;
+      not_past = omega (arith, l, later);
+      goes = subst (GoesThrough t s (h ++ more) m) (sym whole) (goes_on t m (after t s h) more tail last s h (drop on.from (take k program)) refl on.goes);
+    }
+
+at_longer : (t : PlanTable) (s : State) (h more : List Event) (m : ℕ) (program : List Line) (k n : ℕ) (tail : List Line)
+    → ((s' : State) (h' : List Event) → after t s' h' ≡ after t s h → Stays h' m → GoesThrough t s' (h' ++ more) m tail)
+    → take n program ≡ take k program ++ tail → k ≤ n → IsAt t s h m program k → IsAt t s (h ++ more) m program n
+at_longer t s h more m program k n tail last lines later (inl at) = inl (round_longer t s h more m program k n tail last lines at)
+at_longer t s h more m program k n tail last lines later (inr on) = inr (on_longer t s h more m program k n tail last lines later on)
 
 line_more : (program : List Line) (k : ℕ) (line : Line) → slice_get program k ≡ Some line → take (suc k) program ≡ take k program ++ line ∷ []
 line_more [] k line e = cc
@@ -256,28 +325,84 @@ line_more (x ∷ xs) (suc k) line e = ap (λ l. x ∷ l) (line_more xs k line e)
 next_line : (program : List Line) (k : ℕ) (line : Line) → slice_get program k ≡ Some line → take (k + 1) program ≡ take k program ++ line ∷ []
 next_line program k line e = let one : k + 1 ≡ suc k = omega arith in ap (λ n. take n program) one ∙ line_more program k line e
 
-unlengthened : (t : PlanTable) (s : State) (h : List Event) (m : ℕ) (program : List Line) (k : ℕ) → IsAt t s (h ++ []) m program k → IsAt t s h m program k
-unlengthened t s h m program k = subst (λ l. IsAt t s l m program k) (append-nil h)
+-- what says that a machine is at a line says so as lines are added
+abbrev Lengthens : (List Event → ℕ → Type 0) → PlanTable → State → List Event → ℕ → List Line → Type 0
+Lengthens At t s h m program =
+    (more : List Event) (k n : ℕ) (tail : List Line)
+    → ((s' : State) (h' : List Event) → after t s' h' ≡ after t s h → Stays h' m → GoesThrough t s' (h' ++ more) m tail)
+    → take n program ≡ take k program ++ tail → k ≤ n → At h k → At (h ++ more) n
 
-pub courses_go_on : (t : PlanTable) (s : State) (h : List Event) (m : ℕ) (program : List Line) → CoursesGoOn t s h m program
-courses_go_on t s h m program =
+going_on : (At : List Event → ℕ → Type 0) (t : PlanTable) (s : State) (h : List Event) (m : ℕ) (program : List Line) → At h 0 → Lengthens At t s h m program → CoursesGoOn At t s h m program
+going_on At t s h m program first longer =
     let Not : Event → Type 0 = λ e. ¬ IsTrue (is_done_by m e) in
+    let short : (k : ℕ) → At (h ++ []) k → At h k = λ k. subst (λ l. At l k) (append-nil h) in
     record {
-      begins = record { before = h; round = []; split = sym (append-nil h); goes = All-nil Not };
+      begins = first;
       stays = λ k more at stays.
-          at_longer t s h more m program k k [] (λ s' h' is still. all_both Not h' more still stays) (sym (append-nil (take k program))) at;
+          longer more k k [] (λ s' h' is still. all_both Not h' more still stays) (sym (append-nil (take k program))) (omega arith) at;
       does = λ k c at there.
-          at_longer t s h (done m c ∷ []) m program k (k + 1) (Do c ∷ [])
-          (λ s' h' is still. (record { before = h'; since = []; split = refl; stays = still }, All-nil Not)) (next_line program k (Do c) there) at;
+          longer (done m c ∷ []) k (k + 1) (Do c ∷ [])
+          (λ s' h' is still. (record { before = h'; since = []; split = refl; stays = still }, All-nil Not)) (next_line program k (Do c) there) (omega arith) at;
       awaits = λ k z at there owned.
-          unlengthened t s h m program (k + 1)
-          (at_longer t s h [] m program k (k + 1) (Await z ∷ [])
-          (λ s' h' is still. (record { before = h'; since = []; split = refl; stays = still; owned = subst (λ x. IsTrue (owns x m z)) (sym is) owned }, All-nil Not)) (next_line program k (Await z) there) at);
+          short (k + 1)
+          (longer [] k (k + 1) (Await z ∷ [])
+          (λ s' h' is still. (record { before = h'; since = []; split = refl; stays = still; owned = subst (λ x. IsTrue (owns x m z)) (sym is) owned }, All-nil Not)) (next_line program k (Await z) there) (omega arith) at);
       runs = λ k motors at there.
-          unlengthened t s h m program (k + 1)
-          (at_longer t s h [] m program k (k + 1) (Run motors ∷ [])
-          (λ s' h' is still. subst (λ l. Stays l m) (sym (append-nil h')) still) (next_line program k (Run motors) there) at);
+          short (k + 1)
+          (longer [] k (k + 1) (Run motors ∷ [])
+          (λ s' h' is still. subst (λ l. Stays l m) (sym (append-nil h')) still) (next_line program k (Run motors) there) (omega arith) at);
     }
+
+begun : (t : PlanTable) (s : State) (h : List Event) (m : ℕ) (program : List Line) → IsInRound t s h m program 0
+begun t s h m program = record { before = h; round = []; split = sym (append-nil h); goes = All-nil (λ e. ¬ IsTrue (is_done_by m e)) }
+
+pub rounds_go_on : (t : PlanTable) (s : State) (h : List Event) (m : ℕ) (program : List Line) → CoursesGoOn (λ x k. IsInRound t s x m program k) t s h m program
+rounds_go_on t s h m program =
+    going_on (λ x k. IsInRound t s x m program k) t s h m program (begun t s h m program)
+    (λ more k n tail last lines later. round_longer t s h more m program k n tail last lines)
+
+pub courses_go_on : (t : PlanTable) (s : State) (h : List Event) (m : ℕ) (program : List Line) → CoursesGoOn (λ x k. IsAt t s x m program k) t s h m program
+courses_go_on t s h m program =
+    going_on (λ x k. IsAt t s x m program k) t s h m program (inl (begun t s h m program))
+    (λ more k n tail last lines later. at_longer t s h more m program k n tail last lines later)
+
+-- ---- from a line to another
+
+-- what is left of lines of which these are the first
+left_over : (whole program lines : List Line) (from : ℕ) → from < length program → whole ≡ take from program ++ lines → drop from whole ≡ lines
+left_over whole program lines from l e =
+    let n = length-take-le from program (omega (arith, l)) in
+    ap (drop from) e ∙ ap (λ j. drop j (take from program ++ lines)) (sym n) ∙ drop-append_seam (take from program) lines
+
+pub comes_there : (t : PlanTable) (s : State) (h : List Event) (m : ℕ) (program : List Line) (from k : ℕ) → IsInStep t s m program from → HasComeFrom t s h m program from k → IsAt t s h m program k
+comes_there t s h m program from k step come = by come.rounds come.between
+  where
+    by : (n : ℕ) → rounds_of n program ++ take k program ≡ take from program ++ come.lines → IsAt t s h m program k
+    by zero e =
+        let inside = step.line in
+        let has = ap length e ∙ length-append (take from program) come.lines in
+        let few = length-take-le from program (omega (arith, inside)) in
+        let most = length-take k program in
+        inr (record {
+          from = from;
+          in_step = step;
+          not_past = omega (arith, has, few, most);
+          goes = subst (GoesThrough t s h m) (sym (left_over (take k program) program come.lines from inside e)) come.goes;
+        })
+    by (suc n) e =
+        let inside = step.line in
+        let rest = rounds_of n program ++ take k program in
+        let whole : (program ++ rest) ≡ take from program ++ come.lines = sym (append_assoc program (rounds_of n program) (take k program)) ∙ e in
+        let left = sym (left_over (program ++ rest) program come.lines from inside whole) ∙ drop-append-le from program rest (omega (arith, inside)) ∙ sym (append_assoc (drop from program) (rounds_of n program) (take k program)) in
+        let x = part t s h m (drop from program ++ rounds_of n program) (take k program) (subst (GoesThrough t s h m) left come.goes) in
+        inl (record { before = x.before; round = x.since; split = x.split; goes = x.goes })
+
+-- who is in step with the opening is there, while none of its calls is done
+pub stays_in_step : (t : PlanTable) (s : State) (h : List Event) (m : ℕ) (program : List Line) (k : ℕ) → IsInStep t s m program k → Stays h m → IsAt t s h m program k
+stays_in_step t s h m program k step stays =
+    let few = length-take k program in
+    let none : drop k (take k program) ≡ [] = drop_of_length-le (take k program) (omega (arith, few)) in
+    inr (record { from = k; in_step = step; not_past = omega arith; goes = subst (GoesThrough t s h m) (sym none) stays })
 
 -- ---- an inquiry that shows the owner
 
