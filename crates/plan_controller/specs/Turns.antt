@@ -15,6 +15,7 @@ use Rattle.plan_motors.specs.MotorPlan.{MotorTables}
 use Rattle.plan_drives.specs.declared.line.Line.{Line}
 use Rattle.plan_drives.specs.Facts.{OpensByPoses}
 use Rattle.plan_drives.specs.Program.{has_bit, IsDriven}
+use Rattle.plan_drives.specs.InStep.{IsInStep}
 use Rattle.plan_drives.specs.Course.{Stays, IsAt, IsRunning}
 use Rattle.plan_controller.specs.declared.step.Step.{Step}
 use Rattle.plan_controller.specs.declared.step.Step.TheVariants.{Do, Await, Run}
@@ -132,4 +133,11 @@ ArePermitted t opening seen c motors =
 abbrev pub RoundsBeginAnywhere : Type 0
 RoundsBeginAnywhere =
     (t : PlanTable) (opening : State) (seen : List Event) (c : Control) → c.place ≡ 0
+    → IsAt t opening seen c.machine (program_in c) c.place
+
+-- and who is in step with the opening, as after a power cut, while none of its calls is done
+abbrev pub InStepGoesOn : Type 0
+InStepGoesOn =
+    (t : PlanTable) (opening : State) (seen : List Event) (c : Control)
+    → IsInStep t opening c.machine (program_in c) c.place → Stays seen c.machine
     → IsAt t opening seen c.machine (program_in c) c.place

@@ -59,6 +59,24 @@ impl PlanController {
         }
     }
 
+    /// The controller of a machine that goes on at a place in its program, as after a power cut: at this step, or
+    /// stopped by this refusal. Whether the machine may go on there `plan_drives` says (`is_in_step`).
+    pub fn at(
+        machine: u8,
+        steps: Vec<Step>,
+        place: usize,
+        stopped: Option<Refusal>,
+    ) -> PlanController
+        ensures { result ≡ turns.control machine steps.items place stopped }
+    {
+        PlanController {
+            machine,
+            steps,
+            place,
+            stopped,
+        }
+    }
+
     /// Its place in the program: the number of the step that it is at.
     pub fn place(&self) -> usize
         ensures { result ≡ self.now.place }

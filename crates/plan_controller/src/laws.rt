@@ -3,11 +3,17 @@ ghost use Rattle.std.specs.Prelude.{Bool, ℕ};
 ghost use Rattle.plan_types.specs.declared.posture.Posture.{Posture};
 ghost use Rattle.plan_controller.specs.Laws.{LinesAreOfSteps, NamesAreWaitedFor, OwnersGoOn};
 ghost use Rattle.plan_controller.specs.Laws.{PlacesGoRound, RunsAreDriven, SensorsHaveBits};
-ghost use Rattle.plan_controller.specs.Turns.{Control, RoundsBeginAnywhere};
+ghost use Rattle.plan_controller.specs.Turns.{Control, InStepGoesOn, RoundsBeginAnywhere};
 
 /// A controller at its first step is in place, whatever its line has seen.
 pub fn rounds_begin_anywhere()
     ensures { RoundsBeginAnywhere }
+{}
+
+/// A controller at a step where its machine is in step with the opening is in place, while none of the machine's calls
+/// is done.
+pub fn who_is_in_step_goes_on()
+    ensures { InStepGoesOn }
 {}
 
 /// After each step comes the next one, and after the last the first.

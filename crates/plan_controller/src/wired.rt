@@ -1,12 +1,15 @@
 //! A controller at the end of its line.
-ghost use Rattle.std.specs.Prelude.{◌≡◌, None, Some};
+ghost use Rattle.std.specs.Prelude.{◌≡◌, None, Some, [], map};
+ghost use Rattle.plan_drives.specs.InStep.{IsInStep};
+ghost use Rattle.plan_controller.specs.Steps.{line_of};
 ghost use Rattle.plan_controller.specs.Turns as turns;
 ghost use Rattle.plan_controller.specs.Turns.{Turns, IsCareful, ArePermitted, AreRunning};
 
 use crate::controller::{PlanController, TakenTurn};
-use crate::laws::rounds_begin_anywhere;
+use crate::laws::{rounds_begin_anywhere, who_is_in_step_goes_on};
 use crate::line::PlanLine;
 use crate::step::Step;
+use plan_types::Refusal;
 use std::marker::Model;
 
 /// A machine's controller at the end of its line.
@@ -40,6 +43,24 @@ impl<L: PlanLine> PlanWired<L> {
         let machine = line.machine();
         PlanWired {
             controller: PlanController::new(machine, steps),
+            line,
+        }
+    }
+
+    /// The machine of a line that goes on at a place in its program, as after a power cut: it is in step with the state
+    /// that its line opened with, and the line has seen nothing yet.
+    pub fn at(steps: Vec<Step>, place: usize, stopped: Option<Refusal>, line: L) -> PlanWired<L>
+        requires in_step { IsInStep (L.table line) (L.opening line) (L.machine line)
+            (map line_of steps.items) place }
+        requires unseen { L.seen line ≡ [] }
+        ensures control { result.control
+            ≡ turns.control (L.machine line) steps.items place stopped }
+        ensures line { result.line ≡ line }
+    {
+        who_is_in_step_goes_on();
+        let machine = line.machine();
+        PlanWired {
+            controller: PlanController::at(machine, steps, place, stopped),
             line,
         }
     }

@@ -19,13 +19,13 @@ use Rattle.plan_rules.proofs.lemmas.Soundness.{never_done}
 use Rattle.plan_drives.specs.declared.line.Line.{Line}
 use Rattle.plan_drives.specs.declared.line.Line.TheVariants as line
 use Rattle.plan_drives.specs.Course.{is_done_by, Stays, IsAt}
-use Rattle.plan_drives.proofs.lemmas.Going.{courses_go_on, shown_owns}
+use Rattle.plan_drives.proofs.lemmas.Going.{courses_go_on, shown_owns, stays_in_step}
 use Rattle.plan_controller.specs.declared.step.Step.{Step}
 use Rattle.plan_controller.specs.declared.step.Step.TheVariants.{Do, Await, Run}
 use Rattle.plan_controller.specs.declared.outcome.Outcome.TheVariants as outcome
 use Rattle.plan_controller.specs.Steps.{line_of, may_mend, after_refusal, after_call, after_inquiry}
 use Rattle.plan_controller.specs.Seen.{event, SeesOthers, SeesAnswer, SeenAfter}
-use Rattle.plan_controller.specs.Turns.{Control, step_in, program_in, next_place, place_after, RoundsBeginAnywhere}
+use Rattle.plan_controller.specs.Turns.{Control, step_in, program_in, next_place, place_after, InStepGoesOn, RoundsBeginAnywhere}
 
 -- ---- what leaves a machine where it is
 
@@ -87,6 +87,9 @@ refused_at t s h c r at = by (may_mend r)
 
 pub begins_anywhere : RoundsBeginAnywhere
 begins_anywhere t s h c first = subst (At t s h c) (sym first) (courses_go_on t s h c.machine (program_in c)).begins
+
+pub in_step_goes_on : InStepGoesOn
+in_step_goes_on t s h c step stays = stays_in_step t s h c.machine (program_in c) c.place step stays
 
 -- ---- a call, an inquiry, a run
 
