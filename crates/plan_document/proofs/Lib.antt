@@ -13,6 +13,7 @@ mod ReadingRows
 mod MotorRows
 mod Standing
 mod StepLines
+mod Worded
 mod StepRows
 mod PlanLaws
 mod PostureLaws

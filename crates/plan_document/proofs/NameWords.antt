@@ -8,7 +8,7 @@ use Rattle.plan_text.specs.Names.{Text, is_name, is_name_byte}
 use Rattle.plan_document.specs.Names.{AreNames}
 use Rattle.plan_document.specs.NameLaws.{AreWords, NamedPlansHaveWords, is_one_word, parts_words}
 
-both : (a b : Bool) → (a && b) ≡ true → (a ≡ true) × (b ≡ true)
+pub both : (a b : Bool) → (a && b) ≡ true → (a ≡ true) × (b ≡ true)
 both true b e = (refl, e)
 both false b e = absurd (cc)
 
@@ -24,7 +24,7 @@ all-more p q more (x ∷ xs) all =
     joined (q x) (list_all q xs) (more x parts.0) (all-more p q more xs parts.1)
 
 -- a byte of a name is none that isn't
-is-other : (byte other : ℕ) → is_name_byte other ≡ false → is_name_byte byte ≡ true → nat_eq byte other ≡ false
+pub is-other : (byte other : ℕ) → is_name_byte other ≡ false → is_name_byte byte ≡ true → nat_eq byte other ≡ false
 is-other byte other none is = by (nat_eq byte other) refl
   where
     by : (b : Bool) → nat_eq byte other ≡ b → nat_eq byte other ≡ false

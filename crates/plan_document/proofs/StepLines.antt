@@ -1,6 +1,7 @@
 -- What the line of a step says.
-use Rattle.std.proofs.Common.{◌≡◌, ◌∙◌, ◌++◌, ◌∷◌, [], ℕ, Bool, true, false, nat_eq, List, codes, refl, sym, ap, subst, append_assoc, Option, Some, None, inl, inr, slice_get}
+use Rattle.std.proofs.Common.{◌≡◌, ◌∙◌, ◌++◌, ◌∷◌, [], ℕ, Bool, true, false, nat_eq, List, codes, refl, sym, ap, subst, append_assoc, Option, Some, None, inl, inr, slice_get, slice_index}
 use Rattle.std.proofs.lemmas.Bool.{eqb-true}
+use Rattle.std.proofs.lemmas.List.{append_cancel_left, append_cancel_right}
 use Rattle.std.proofs.lemmas.Option.{get_or_from_slice_get}
 use Rattle.std.specs.Bool.{then_some}
 use Rattle.std.specs.List.{list_any}
@@ -12,11 +13,11 @@ use Rattle.plan_motors.specs.OfPlan.{motor_at, no_motor}
 use Rattle.plan_drives.specs.Program.{has_bit}
 use Rattle.plan_controller.specs.declared.step.Step.TheVariants.{Do, Await, Run}
 use Rattle.plan_text.specs.Named.{Named}
-use Rattle.plan_text.specs.Names.{Text, number_in}
+use Rattle.plan_text.specs.Names.{Text, name_in, number_in}
 use Rattle.plan_document.specs.declared.motors.NamedMotors.{NamedMotors}
-use Rattle.plan_document.specs.Saying.{IsCallOf, IsStepOf, is_driven_by, own_motor, words_in}
+use Rattle.plan_document.specs.Saying.{AreMotorsIn, IsCallOf, IsStepOf, is_driven_by, own_motor, words_in}
 use Rattle.plan_document.proofs.Running.{no_bit}
-use Rattle.plan_document.proofs.Standing.{passed}
+use Rattle.plan_document.proofs.Standing.{name_of, passed}
 
 pub call_line : (n : Named) (m : NamedMotors) (sensors : List Text) (machine : ℕ) (line : Text) (call : Call) → IsStepOf n m sensors machine line (Do call) → IsCallOf n machine line call
 call_line n m sensors machine line call (inl one) = let same : call ≡ one.0 = cc in subst (IsCallOf n machine line) (sym same) one.2
@@ -31,10 +32,10 @@ zone_line n m sensors machine line zone (inr (inr one)) = let other = one.2.step
 
 -- ---- motors
 
-no_bits : (i : ℕ) → has_bit 0 i ≡ true → ⊥
+pub no_bits : (i : ℕ) → has_bit 0 i ≡ true → ⊥
 no_bits i on = let off = no_bit i in cc
 
-some_motor : (o : Option ℕ) (motor : ℕ) → option_eq nat_eq o (Some motor) ≡ true → o ≡ Some motor
+pub some_motor : (o : Option ℕ) (motor : ℕ) → option_eq nat_eq o (Some motor) ≡ true → o ≡ Some motor
 some_motor None motor e = absurd (cc)
 some_motor (Some k) motor e = ap (λ j. Some j) (eqb-true k motor e)
 
@@ -87,3 +88,36 @@ run_line n m sensors machine line motors until (inr (inr one)) =
       runs.until_is ∙ ap (λ k. Some k) (sym same_until),
       λ motor on. any_own m machine motor (words_in runs.names) (sym (runs.motors_are.bits motor) ∙ subst (λ bits. has_bit bits motor ≡ true) same_motors on),
     )
+
+-- ---- runs and waits
+
+abbrev begins : ℕ → Text → Bool
+begins byte line = nat_eq (slice_index line 0) byte
+
+apart : true ≡ false → ⊥
+apart e = cc
+
+-- what a run has are the motors between `run` and `until`
+pub run_names : (n : Named) (m : NamedMotors) (sensors : List Text) (machine : ℕ) (line : Text) (motors until : ℕ) (names : Text) → IsStepOf n m sensors machine line (Run motors until)
+    → line ≡ codes "run " ++ names ++ codes " until " ++ name_in sensors until → AreMotorsIn m machine names motors
+run_names n m sensors machine line motors until names (inl one) is = let other = one.1 in absurd (cc)
+run_names n m sensors machine line motors until names (inr (inl one)) is = absurd (apart (sym (ap (begins 97) one.1) ∙ ap (begins 97) is))
+run_names n m sensors machine line motors until names (inr (inr one)) is =
+    let runs = one.2 in
+    let same_until : runs.until ≡ until = let e = runs.step_is in cc in
+    let same_motors : runs.motors ≡ motors = let e = runs.step_is in cc in
+    let sensor : runs.sensor ≡ name_in sensors until = sym (name_of sensors runs.sensor runs.until runs.until_is) ∙ ap (name_in sensors) same_until in
+    let tail = codes " until " ++ name_in sensors until in
+    let rest : one.0 ≡ names ++ codes " until " ++ name_in sensors until = append_cancel_left (codes "run ") one.0 (names ++ codes " until " ++ name_in sensors until) (sym one.1 ∙ is) in
+    let same : runs.names ++ tail ≡ names ++ tail =
+    sym (append_assoc runs.names (codes " until ") (name_in sensors until))
+    ∙ ap (λ t. runs.names ++ codes " until " ++ t) (sym sensor) ∙ sym runs.words_are ∙ rest ∙ append_assoc names (codes " until ") (name_in sensors until) in
+    subst (λ t. AreMotorsIn m machine t motors) (append_cancel_right runs.names names tail same)
+    (subst (λ k. AreMotorsIn m machine runs.names k) same_motors runs.motors_are)
+
+-- a wait has none
+pub wait_still : (n : Named) (m : NamedMotors) (sensors : List Text) (machine : ℕ) (line : Text) (motors until : ℕ) (name : Text) → IsStepOf n m sensors machine line (Run motors until)
+    → line ≡ codes "await " ++ name → motors ≡ 0
+wait_still n m sensors machine line motors until name (inl one) is = let other = one.1 in absurd (cc)
+wait_still n m sensors machine line motors until name (inr (inl one)) is = one.2.0
+wait_still n m sensors machine line motors until name (inr (inr one)) is = absurd (apart (sym (ap (begins 114) one.1) ∙ ap (begins 114) is))

@@ -127,12 +127,12 @@ ending m machine words s runs name until same sensor =
 
 -- by these motors
 abbrev lift_motors : List Motor
-lift_motors = driven_by 0 ∷ driven_by 1 ∷ driven_by 0 ∷ []
+lift_motors = driven_by 0 ∷ driven_by 1 ∷ driven_by 0 ∷ driven_by 0 ∷ []
 
 abbrev own_of_lift : ℕ → Text → Option ℕ
 own_of_lift machine name =
     option_and_then (λ motor. then_some (is_driven_by machine (slice_get lift_motors motor)) motor)
-    (number_in (codes "hoist" ∷ codes "gate" ∷ codes "fan" ∷ []) name)
+    (number_in (codes "hoist" ∷ codes "gate" ∷ codes "fan" ∷ codes "lamp" ∷ []) name)
 
 own_is : (m : NamedMotors) → AreOfLift m → (machine : ℕ) (name : Text) → own_motor m machine name ≡ own_of_lift machine name
 own_is m is machine name =
@@ -162,6 +162,13 @@ both_run : (m : NamedMotors) (is : AreOfLift m) (s : Step) → Runs m sensors 0 
 both_run m is s runs = elim (one_of_two runs.sensor runs.until runs.until_is) [
   | inl top ↦ let end = ending m 0 _ s runs _ 0 top.0 top.1 in (runs.motors, end.2, bits_are m is 0 (codes "fan hoist") runs.motors end.1)
   | inr low ↦ absurd (impossible (sym (ap (has_byte 18 112) (ending m 0 _ s runs _ 1 low.0 low.1).0)))
+]
+
+three_run : (m : NamedMotors) (is : AreOfLift m) (s : Step) → Runs m sensors 0 (codes "lamp fan hoist until top") s
+    → (motors : ℕ) × (s ≡ Run motors 0) × (filter (has_bit motors) (range_with_len 0 64) ≡ 0 ∷ 2 ∷ 3 ∷ [])
+three_run m is s runs = elim (one_of_two runs.sensor runs.until runs.until_is) [
+  | inl top ↦ let end = ending m 0 _ s runs _ 0 top.0 top.1 in (runs.motors, end.2, bits_are m is 0 (codes "lamp fan hoist") runs.motors end.1)
+  | inr low ↦ absurd (impossible (sym (ap (has_byte 23 112) (ending m 0 _ s runs _ 1 low.0 low.1).0)))
 ]
 
 others_motor : (m : NamedMotors) (is : AreOfLift m) (s : Step) → Runs m sensors 0 (codes "gate until top") s → ⊥
@@ -197,6 +204,7 @@ read_rows m is s = record {
   blanks = λ read. waits_for_nothing (codes " top") s refl refl (a_wait m 2 (codes " top") s read);
   runs = λ read. gate_runs m is s (a_run m 1 (codes "gate until until") s read);
   both = λ read. both_run m is s (a_run m 0 (codes "fan hoist until top") s read);
+  three = λ read. three_run m is s (a_run m 0 (codes "lamp fan hoist until top") s read);
   others = λ read. others_motor m is s (a_run m 0 (codes "gate until top") s read);
   no_sensor = λ read. no_sensor m s (a_run m 0 (codes "fan until low") s read);
   no_motor = λ read. too_short m (codes "until top") s (a_run m 0 (codes "until top") s read) (omega arith);

@@ -29,11 +29,12 @@ use Rattle.plan_document.specs.Names.{AreDistinct, all_poses, identifier, identi
 use Rattle.plan_document.specs.PlanLaws.{StandsAt}
 use Rattle.plan_document.specs.Laws.{is_line}
 use Rattle.plan_document.specs.Saying.{IsPlanOf, IsPoseOf, IsProgramOf, IsStepOf, IsZoneOf, calls_of, is_free, keepers, own_call}
-use Rattle.plan_document.specs.TableLaws.{HasLine, NamesAreSpelled, PlansHaveCounts, PlansHaveNames, PosesAreTwoForC, ProgramsHaveLines, RowsAreNamed, TablesHaveCounts}
+use Rattle.plan_document.specs.TableLaws.{AllStepsAsk, HasLine, NamesAreSpelled, PlansHaveCounts, PlansHaveNames, PosesAreTwoForC, ProgramsHaveLines, RowsAreNamed, TablesHaveCounts}
 use Rattle.plan_document.proofs.PlanLaws.{own_place}
 use Rattle.plan_document.proofs.PlanRows.{are_apart, impossible}
 use Rattle.plan_document.proofs.Standing.{as_many, flat_at, mapped, moved, name_of, named_at, number_below, numbered_at, own_number, same_number, zipped}
-use Rattle.plan_document.proofs.StepLines.{call_line, run_line, zone_line}
+use Rattle.plan_document.proofs.StepLines.{call_line, run_line, run_names, wait_still, zone_line}
+use Rattle.plan_document.proofs.Worded.{named_bits}
 
 -- ---- counts
 
@@ -223,6 +224,10 @@ lined reads own d p is machine row steps here there = (
         let one = run_line p.named p.motors sensors machine line motors until (at (Run motors until) line has) in
         omega (arith, number_below sensors one.1 until one.3, program.sensors.few);
     own = λ motors until motor line has on. (run_line p.named p.motors sensors machine line motors until (at (Run motors until) line has)).4 motor on;
+    named = λ motors until motor names line has is_run.
+        named_bits p.motors machine names motors motor (passes is_name p.motors.names motor is.motors.spelled_motors) is.motors.distinct_motors
+        (run_names p.named p.motors sensors machine line motors until names (at (Run motors until) line has) is_run);
+    still = λ motors until name line has. wait_still p.named p.motors sensors machine line motors until name (at (Run motors until) line has);
   },
   moved p.programs (map (λ s. calls_of s.items) p.steps.items) machine machine (calls_of steps.items) is.programs refl (mapped (λ s. calls_of s.items) p.steps.items machine steps there),
 )
@@ -239,3 +244,6 @@ lined reads own d p is machine row steps here there = (
     at step line has =
         subst (λ t. IsStepOf p.named p.motors sensors machine t step) has.2
         (zipped (IsStepOf p.named p.motors sensors machine) (map string_bytes row.program.items) steps.items has.0 (string_bytes has.1) step program.steps_are (mapped string_bytes row.program.items has.0 has.1 has.3) has.4)
+
+pub all_ask : AllStepsAsk
+all_ask steps = record { none = refl; call = λ c. refl; zone = λ z. refl; run = λ motors until. refl }

@@ -14,13 +14,14 @@ use Rattle.plan_document.specs.declared.motors.NamedMotors.{NamedMotors}
 use Rattle.plan_document.specs.Saying.{AreSensors, AreStepsOf, IsStepOf, calls_of}
 use Rattle.plan_document.specs.WordExamples.{parked}
 
--- the lift (0) has the motors hoist and fan, and the lower floor (1) has a gate; each machine has these two sensors
+-- the lift (0) has the motors hoist, fan and lamp, and the lower floor (1) has a gate; each machine has these two
+-- sensors
 abbrev pub driven_by : ℕ → Motor
 driven_by machine = record { machine = machine; zones = replicate 10 no_need; places = replicate 16 None }
 
 pub record AreOfLift (m : NamedMotors) : Type 0 where
-  pub names : m.names ≡ codes "hoist" ∷ codes "gate" ∷ codes "fan" ∷ []
-  pub motors : m.motors.items ≡ driven_by 0 ∷ driven_by 1 ∷ driven_by 0 ∷ []
+  pub names : m.names ≡ codes "hoist" ∷ codes "gate" ∷ codes "fan" ∷ codes "lamp" ∷ []
+  pub motors : m.motors.items ≡ driven_by 0 ∷ driven_by 1 ∷ driven_by 0 ∷ driven_by 0 ∷ []
 
 abbrev pub IsRead : NamedMotors → ℕ → Text → Step → Type 0
 IsRead m machine line step = IsStepOf parked m (codes "top" ∷ codes "until" ∷ []) machine line step
@@ -36,6 +37,8 @@ pub record StepsAreRead (m : NamedMotors) (is : AreOfLift m) (s : Step) : Type 0
       × (filter (has_bit motors) (range_with_len 0 64) ≡ 1 ∷ [])
   pub both : IsRead m 0 (codes "run fan hoist until top") s → (motors : ℕ) × (s ≡ Run motors 0)
       × (filter (has_bit motors) (range_with_len 0 64) ≡ 0 ∷ 2 ∷ [])
+  pub three : IsRead m 0 (codes "run lamp fan hoist until top") s → (motors : ℕ) × (s ≡ Run motors 0)
+      × (filter (has_bit motors) (range_with_len 0 64) ≡ 0 ∷ 2 ∷ 3 ∷ [])
   pub others : IsRead m 0 (codes "run gate until top") s → ⊥
   pub no_sensor : IsRead m 0 (codes "run fan until low") s → ⊥
   pub no_motor : IsRead m 0 (codes "run until top") s → ⊥

@@ -1,8 +1,9 @@
 -- Laws of what plans say of their documents: how many rows each table has, which names they have, and each program.
-use Rattle.std.specs.Prelude.{◌≡◌, ℕ, ◌<◌, ◌+◌, true, false, List, ◌++◌, codes, length, map, sum}
+use Rattle.std.specs.Prelude.{◌≡◌, ◌↔◌, ℕ, ◌<◌, ◌+◌, true, false, List, [], ◌∷◌, ◌++◌, codes, length, map, sum}
 use Rattle.std.specs.Prelude.{String, string_bytes, is_some, IsTrue}
 use Rattle.std.specs.declared.alloc.Global.{Global}
 use Rattle.plan_types.specs.declared.call.Call.{Call}
+use Rattle.plan_types.specs.declared.call.Call.TheVariants.{Inquire}
 use Rattle.plan_types.specs.Table.{is_party, place_count, pose_count, zone_count}
 use Rattle.plan_motors.specs.OfPlan.{motor_at}
 use Rattle.plan_drives.specs.Program.{has_bit}
@@ -104,6 +105,12 @@ HasLine row steps step text =
     (number : ℕ) × (line : String Global) × (string_bytes line ≡ text)
     × StandsAt row.program.items number line × StandsAt steps number step
 
+-- a name stands in a text as a word: before it and after it is a blank, or the text has no more
+abbrev pub IsWordOf : Text → Text → Type 0
+IsWordOf text name =
+    (before after : Text)
+    × (codes " " ++ text ++ codes " " ≡ before ++ codes " " ++ name ++ codes " " ++ after)
+
 -- a program has a step for each line
 pub record ProgramHasLines (n : Named) (m : NamedMotors) (machine : ℕ) (row : MachineRow) (steps : List Step) : Type 0
   where
@@ -122,6 +129,22 @@ pub record ProgramHasLines (n : Named) (m : NamedMotors) (machine : ℕ) (row : 
     pub bit : (motors until : ℕ) (line : Text) → HasLine row steps (Run motors until) line → until < 32
     pub own : (motors until motor : ℕ) (line : Text) → HasLine row steps (Run motors until) line
         → has_bit motors motor ≡ true → (motor_at m.motors.items motor).machine ≡ machine
+    -- which are those that the line of a run names, whatever their numbers and wherever it names them; a wait has none
+    pub named : (motors until motor : ℕ) (names line : Text) → HasLine row steps (Run motors until) line
+        → line ≡ codes "run " ++ names ++ codes " until " ++ name_in (sensors_in row) until
+        → (has_bit motors motor ≡ true) ↔ ((motor < length m.names) × IsWordOf names (name_in m.names motor))
+    pub still : (motors until : ℕ) (name line : Text) → HasLine row steps (Run motors until) line
+        → line ≡ codes "await " ++ name → motors ≡ 0
+
+-- what steps ask, one after another: each call as it is, of each wait for a zone an inquiry about this zone
+pub record StepsAsk (steps : List Step) : Type 0 where
+  pub none : calls_of [] ≡ []
+  pub call : (call : Call) → calls_of (Do call ∷ steps) ≡ call ∷ calls_of steps
+  pub zone : (zone : ℕ) → calls_of (Await zone ∷ steps) ≡ Inquire zone ∷ calls_of steps
+  pub run : (motors until : ℕ) → calls_of (Run motors until ∷ steps) ≡ calls_of steps
+
+abbrev pub AllStepsAsk : Type 0
+AllStepsAsk = (steps : List Step) → StepsAsk steps
 
 -- the program of each machine, whatever its number; what it asks is what its steps do
 abbrev pub ProgramsHaveLines : Type 0

@@ -57,9 +57,11 @@ pub fn plans_have_counts_and_names()
 {}
 
 /// The program of each machine has a step for each line of its row: the text of a call is the line, a wait names its
-/// zone or its sensor, and what runs is the machine's. What the machine asks is what its steps do.
+/// zone or its sensor, and what runs is the machine's and all that the line names. What the machine asks is what its
+/// steps do.
 pub fn programs_have_lines()
-    ensures { table_laws.ProgramsHaveLines }
+    ensures lines { table_laws.ProgramsHaveLines }
+    ensures asks { table_laws.AllStepsAsk }
 {
     calls_are_told_as_read();
     own_poses_come_first();
