@@ -48,9 +48,11 @@ fn unowned_at(
         return None;
     }
     let at = zone_in_word(plan, layout, word, zone);
-    let unowned = is_concerned(plan, moves, machine, pose, zone, at.posture)
-        && at.owner != Some(machine);
-    unowned.then_some(Refusal::NotOwner(at.owner))
+    if at.owner == Some(machine) {
+        return None;
+    }
+    let concerned = is_concerned(plan, moves, machine, pose, zone, at.posture);
+    concerned.then_some(Refusal::NotOwner(at.owner))
 }
 
 fn any_unowned(
@@ -93,8 +95,11 @@ fn plate_at(
         return None;
     }
     let at = zone_in_word(plan, layout, word, zone);
-    let under = is_concerned(plan, moves, machine, pose, zone, at.posture) && at.flag;
-    under.then_some(Refusal::PlateInZone(zone))
+    if !at.flag {
+        return None;
+    }
+    let concerned = is_concerned(plan, moves, machine, pose, zone, at.posture);
+    concerned.then_some(Refusal::PlateInZone(zone))
 }
 
 fn any_plate(
