@@ -21,26 +21,24 @@ fn posture_with(plan: &Plan, pose: u8, zone: u8, posture: Posture) -> Posture
 
 /// Whether a machine must own a zone, and no plate may be in it, for a pose: it hosts the zone, and the pose moves or
 /// gives the zone another posture.
-fn is_concerned(plan: &Plan, moves: bool, machine: u8, pose: u8, zone: u8, posture: Posture) -> bool
-    requires { moves ≡ is_moving_pose plan.now pose }
+fn is_concerned(plan: &Plan, machine: u8, pose: u8, zone: u8, posture: Posture) -> bool
     ensures { let after = unwrap_or (posture_of plan.now pose zone) posture in result
         ≡ (nat_eq (host_of plan.now zone) machine
         && (is_moving_pose plan.now pose || not (same_posture after posture))) }
 {
-    plan.host(zone) == machine && (moves || posture_with(plan, pose, zone, posture) != posture)
+    plan.host(zone) == machine
+        && (plan.is_moving_pose(pose) || posture_with(plan, pose, zone, posture) != posture)
 }
 
 fn unowned_at(
     plan: &Plan,
     layout: &Layout,
     word: u64,
-    moves: bool,
     machine: u8,
     pose: u8,
     zone: u8,
 ) -> Option<Refusal>
-    requires layout { layout.now ≡ counts_of plan.now }
-    requires moves { moves ≡ is_moving_pose plan.now pose }
+    requires { layout.now ≡ counts_of plan.now }
     ensures { let state = state_told plan.now word in
         result ≡ refusals.unowned_by_pose plan.now state machine pose zone }
 {
@@ -51,26 +49,18 @@ fn unowned_at(
     if at.owner == Some(machine) {
         return None;
     }
-    let concerned = is_concerned(plan, moves, machine, pose, zone, at.posture);
+    let concerned = is_concerned(plan, machine, pose, zone, at.posture);
     concerned.then_some(Refusal::NotOwner(at.owner))
 }
 
-fn any_unowned(
-    plan: &Plan,
-    layout: &Layout,
-    word: u64,
-    moves: bool,
-    machine: u8,
-    pose: u8,
-) -> Option<Refusal>
-    requires layout { layout.now ≡ counts_of plan.now }
-    requires moves { moves ≡ is_moving_pose plan.now pose }
+fn any_unowned(plan: &Plan, layout: &Layout, word: u64, machine: u8, pose: u8) -> Option<Refusal>
+    requires { layout.now ≡ counts_of plan.now }
     ensures { let state = state_told plan.now word in
         result
         ≡ refusals.first_zone plan.now (refusals.unowned_by_pose plan.now state machine pose) }
 {
     for zone in 0..plan.zone_count() {
-        if let Some(refusal) = unowned_at(plan, layout, word, moves, machine, pose, zone) {
+        if let Some(refusal) = unowned_at(plan, layout, word, machine, pose, zone) {
             return Some(refusal);
         }
     }
@@ -81,13 +71,11 @@ fn plate_at(
     plan: &Plan,
     layout: &Layout,
     word: u64,
-    moves: bool,
     machine: u8,
     pose: u8,
     zone: u8,
 ) -> Option<Refusal>
-    requires layout { layout.now ≡ counts_of plan.now }
-    requires moves { moves ≡ is_moving_pose plan.now pose }
+    requires { layout.now ≡ counts_of plan.now }
     ensures { let state = state_told plan.now word in
         result ≡ refusals.plate_under_pose plan.now state machine pose zone }
 {
@@ -98,26 +86,18 @@ fn plate_at(
     if !at.flag {
         return None;
     }
-    let concerned = is_concerned(plan, moves, machine, pose, zone, at.posture);
+    let concerned = is_concerned(plan, machine, pose, zone, at.posture);
     concerned.then_some(Refusal::PlateInZone(zone))
 }
 
-fn any_plate(
-    plan: &Plan,
-    layout: &Layout,
-    word: u64,
-    moves: bool,
-    machine: u8,
-    pose: u8,
-) -> Option<Refusal>
-    requires layout { layout.now ≡ counts_of plan.now }
-    requires moves { moves ≡ is_moving_pose plan.now pose }
+fn any_plate(plan: &Plan, layout: &Layout, word: u64, machine: u8, pose: u8) -> Option<Refusal>
+    requires { layout.now ≡ counts_of plan.now }
     ensures { let state = state_told plan.now word in
         result
         ≡ refusals.first_zone plan.now (refusals.plate_under_pose plan.now state machine pose) }
 {
     for zone in 0..plan.zone_count() {
-        if let Some(refusal) = plate_at(plan, layout, word, moves, machine, pose, zone) {
+        if let Some(refusal) = plate_at(plan, layout, word, machine, pose, zone) {
             return Some(refusal);
         }
     }
@@ -183,18 +163,11 @@ fn jumps(plan: &Plan, layout: &Layout, word: u64, machine: u8, pose: u8) -> Opti
     jumps.then_some(Refusal::Jump)
 }
 
-fn moves_while_stopped(
-    plan: &Plan,
-    layout: &Layout,
-    word: u64,
-    moves: bool,
-    pose: u8,
-) -> Option<Refusal>
-    requires layout { layout.now ≡ counts_of plan.now }
-    requires moves { moves ≡ is_moving_pose plan.now pose }
+fn moves_while_stopped(plan: &Plan, layout: &Layout, word: u64, pose: u8) -> Option<Refusal>
+    requires { layout.now ≡ counts_of plan.now }
     ensures { result ≡ refusals.moves_while_stopped plan.now (state_told plan.now word) pose }
 {
-    (moves && is_stopped_in(layout, word)).then_some(Refusal::Stopped)
+    (is_stopped_in(layout, word) && plan.is_moving_pose(pose)).then_some(Refusal::Stopped)
 }
 
 pub(crate) fn pose_refusal(
@@ -210,14 +183,13 @@ pub(crate) fn pose_refusal(
     if !plan.has_pose(machine, pose) {
         return Some(Refusal::NoPose);
     }
-    let moves = plan.is_moving_pose(pose);
-    if let Some(refusal) = moves_while_stopped(plan, layout, word, moves, pose) {
+    if let Some(refusal) = moves_while_stopped(plan, layout, word, pose) {
         return Some(refusal);
     }
-    if let Some(refusal) = any_unowned(plan, layout, word, moves, machine, pose) {
+    if let Some(refusal) = any_unowned(plan, layout, word, machine, pose) {
         return Some(refusal);
     }
-    if let Some(refusal) = any_plate(plan, layout, word, moves, machine, pose) {
+    if let Some(refusal) = any_plate(plan, layout, word, machine, pose) {
         return Some(refusal);
     }
     if let Some(refusal) = jumps(plan, layout, word, machine, pose) {
