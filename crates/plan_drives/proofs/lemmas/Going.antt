@@ -162,6 +162,10 @@ in_step laws t s h m program k p sound opens legal l at = record {
   known = known_knows t (after t s h) (facts_at t m program k) (knows_at laws t s h m program k p (record { sound = sound; opens = opens }) legal at);
 }
 
+-- and zones are open as poses give
+pub opens_later : EveryLegalHistoryIsLawful → (t : PlanTable) (s : State) (h : List Event) → IsPlan t → IsSound t s → OpensByPoses t s → IsLegal t s h → OpensByPoses t (after t s h)
+opens_later laws t s h p sound opens legal = (live_after laws t s h p (record { sound = sound; opens = opens }) legal).opens
+
 -- ---- what follows from what is known is so
 
 known_posture : (known : Option Posture) (needed q : Posture) → option_eq same_posture known (Some needed) ≡ true → has_posture known q ≡ true → same_posture q needed ≡ true
@@ -367,6 +371,10 @@ courses_go_on t s h m program =
     (λ more k n tail last lines later. at_longer t s h more m program k n tail last lines later)
 
 -- ---- from a line to another
+
+-- what is known at the next line
+pub facts_next : (t : PlanTable) (m : ℕ) (program : List Line) (k : ℕ) (line : Line) → slice_get program k ≡ Some line → facts_at t m program (k + 1) ≡ facts_after_line t (facts_at t m program k) line
+facts_next t m program k line e = ap (facts_along t (no_facts m)) (next_line program k line e) ∙ facts_append t (no_facts m) (take k program) (line ∷ [])
 
 -- what is left of lines of which these are the first
 left_over : (whole program lines : List Line) (from : ℕ) → from < length program → whole ≡ take from program ++ lines → drop from whole ≡ lines
