@@ -177,7 +177,11 @@ impl Compiled {
     {
         match self.done_word(word, machine, call) {
             Some(new) => (Answer::Done, new),
-            None => self.step_slowly(word, machine, call),
+            None => {
+                // The pair was written field by field. It is read so too: reading it whole would be slower.
+                let (answer, new) = self.step_slowly(word, machine, call);
+                (answer, new)
+            }
         }
     }
 
@@ -223,7 +227,8 @@ impl Compiled {
         if self.is_state_word(word) {
             Some(self.step_sound(word, machine, call))
         } else {
-            self.step_any(word, machine, call)
+            let (answer, new) = self.step_any(word, machine, call)?;
+            Some((answer, new))
         }
     }
 }
