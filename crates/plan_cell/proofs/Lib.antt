@@ -8,3 +8,6 @@ mod Converse
 mod OwnRules
 mod DoesNoMore
 mod OwnRulesHere
+mod AnyAnswers
+mod LawRows
+mod LastStamp

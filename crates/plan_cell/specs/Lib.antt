@@ -6,3 +6,5 @@ pub mod OwnRuleExamples
 pub mod LawExamples
 pub mod TableExamples
 pub mod OwnRuleLaws
+pub mod LawRows
+pub mod LastStamp

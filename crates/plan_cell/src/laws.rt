@@ -1,5 +1,7 @@
 //! Laws of the cell and its plan, each the contract of a function that does nothing.
+ghost use Rattle.std.specs.Prelude.{◌≡◌};
 ghost use Rattle.plan_types.specs.Plan.{IsPlan};
+ghost use Rattle.plan_rules.specs.declared.state.State.{State};
 ghost use Rattle.plan_cell.specs.CellPlan.{cell_table};
 ghost use Rattle.plan_cell.specs.Laws.{CellRefusesMore, RefusesByItsOwnRules, OwnRulesRefuse};
 ghost use Rattle.plan_cell.specs.Laws.{AdvanceAloneIsMissing, InquiriesAreAlike, SoundByPlan};
@@ -7,6 +9,8 @@ ghost use Rattle.plan_cell.specs.OwnRuleExamples.{OwnRuleExamples};
 ghost use Rattle.plan_cell.specs.OwnRuleLaws.{OwnRulesAreThese};
 ghost use Rattle.plan_cell.specs.LawExamples.{LawExamples, InquiriesTell, NumbersAreRight};
 ghost use Rattle.plan_cell.specs.TableExamples.{TableExamples};
+ghost use Rattle.plan_cell.specs.LawRows.{LawRows};
+ghost use Rattle.plan_cell.specs.LastStamp.{LastStampTells};
 
 /// The tables of the cell are a plan.
 pub fn cell_is_plan()
@@ -64,4 +68,11 @@ pub fn law_examples_are_right()
     ensures inquiries { InquiriesTell }
     ensures numbers { NumbersAreRight }
     ensures tables { TableExamples }
+{}
+
+/// What each of these laws says of the cell's plan, of any state, of literal ones that are stopped and of such with the
+/// last stamp. And what the laws of refusals of `plan_rules` say of it with the last stamp.
+pub fn each_law_is_said()
+    ensures rows { LawRows }
+    ensures stamps { (s : State) (last : s.stamp ≡ 1048575) → LastStampTells s last }
 {}
