@@ -296,10 +296,15 @@ def spoil_drives(r, document, machine, zone, pose):
 
 
 def spoil_for_c(r, document, machine, zone, pose):
-    """Adds poses of two machines that have one name for C, or almost."""
+    """Adds poses, or sensors, of two machines that have one name for C, or almost."""
     if isinstance(document.get("machine"), list) and isinstance(machine.get("name"), str):
-        items(machine, "poses").append({"name": r.choice(("q_p", "q_p", "q_p", "q_r")), "gives": {}})
-        other = {"name": f"{machine['name']}_q", "poses": [{"name": "p", "gives": {}}]}
+        own, other = r.choice(("q_p", "q_p", "q_p", "q_r")), {"name": f"{machine['name']}_q"}
+        if r.randrange(2):
+            items(machine, "poses").append({"name": own, "gives": {}})
+            other["poses"] = [{"name": "p", "gives": {}}]
+        else:
+            machine["sensors"] = [*items(machine, "sensors"), own]
+            other["sensors"] = ["p"]
         document["machine"].insert(r.randrange(len(document["machine"]) + 1), other)
 
 

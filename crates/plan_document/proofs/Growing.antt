@@ -6,7 +6,7 @@ use Rattle.std.proofs.lemmas.List.{flat_map_more, length-take-le, map_more, map_
 use Rattle.std.proofs.lemmas.List.Folds.{list_all-append}
 use Rattle.std.specs.List.{AllZip, enumerate_from, flat_map, list_all}
 use Rattle.plan_text.specs.Names.{Text, is_name}
-use Rattle.plan_document.specs.Names.{AreNames, all_poses, hazard_names, identifier, identifiers, identifiers_in, machine_names, motor_names, names_in, numbered, numbered_poses, place_names, places_in, pose_names, zone_names}
+use Rattle.plan_document.specs.Names.{AreNames, all_poses, hazard_names, identifier, identifiers, identifiers_in, machine_names, motor_names, names_in, numbered, numbered_poses, place_names, places_in, pose_names, sensor_identifiers, sensor_identifiers_in, sensor_names, sensors_in, zone_names}
 use Rattle.plan_document.specs.Saying.{keepers}
 use Rattle.plan_document.specs.declared.document.HazardRow.{HazardRow}
 use Rattle.plan_document.specs.declared.document.MachineRow.{MachineRow}
@@ -70,6 +70,16 @@ identifiers_in_more machine rows i row h is = map_row_more (λ (r : PoseRow). id
 
 pub identifiers_more : (rows : List MachineRow) (i : ℕ) (row : MachineRow) → i < length rows → row ≡ get_or rows i row → identifiers (take (i + 1) rows) ≡ identifiers (take i rows) ++ identifiers_in (string_bytes row.name) row.poses.items
 identifiers_more rows i row h is = flat_row_more (λ (r : MachineRow). identifiers_in (string_bytes r.name) r.poses.items) rows i row h is
+
+pub sensor_names_more : (rows : List MachineRow) (i : ℕ) (row : MachineRow) → i < length rows → row ≡ get_or rows i row → sensor_names (take (i + 1) rows) ≡ sensor_names (take i rows) ++ sensors_in row ∷ []
+sensor_names_more rows i row h is = map_row_more sensors_in rows i row h is
+
+pub sensor_identifiers_in_more : (machine : Text) (names : List (String Global)) (i : ℕ) (name : String Global) → i < length names → name ≡ get_or names i name
+    → map (λ (n : String Global). identifier machine (string_bytes n)) (take (i + 1) names) ≡ map (λ (n : String Global). identifier machine (string_bytes n)) (take i names) ++ identifier machine (string_bytes name) ∷ []
+sensor_identifiers_in_more machine names i name h is = map_row_more (λ (n : String Global). identifier machine (string_bytes n)) names i name h is
+
+pub sensor_identifiers_more : (rows : List MachineRow) (i : ℕ) (row : MachineRow) → i < length rows → row ≡ get_or rows i row → sensor_identifiers (take (i + 1) rows) ≡ sensor_identifiers (take i rows) ++ sensor_identifiers_in row
+sensor_identifiers_more rows i row h is = flat_row_more sensor_identifiers_in rows i row h is
 
 -- a name is free if the names before it are
 pub free_more : (free : Text → Bool) (names : List Text) (name : Text) → list_all free names ≡ true → free name ≡ true → list_all free (names ++ name ∷ []) ≡ true

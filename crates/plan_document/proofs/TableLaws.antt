@@ -1,5 +1,7 @@
 -- How many rows a plan has, which names they have, and which calls its programs have.
 use Rattle.std.proofs.Common.{◌≡◌, ◌≢◌, ◌∙◌, ◌+◌, ◌<◌, ◌++◌, ◌∷◌, [], ℕ, Bool, true, false, not, List, length, map, replicate, sum, refl, sym, ap, subst, string_bytes, arith, codes}
+use Rattle.std.proofs.Common.{String}
+use Rattle.std.specs.declared.alloc.Global.{Global}
 use Rattle.std.proofs.Common.{Option, Some, None, is_some, option_map}
 use Rattle.std.proofs.lemmas.List.{length-append, length-map, length-replicate}
 use Rattle.std.proofs.lemmas.List.Folds.{list_all_at}
@@ -25,11 +27,11 @@ use Rattle.plan_document.specs.declared.document.PoseRow.{PoseRow}
 use Rattle.plan_document.specs.declared.document.ZoneRow.{ZoneRow}
 use Rattle.plan_document.specs.declared.resolving.ProgrammedPlan.{ProgrammedPlan}
 use Rattle.plan_document.specs.Motors.{IsHazardOf, IsMotorOf}
-use Rattle.plan_document.specs.Names.{AreDistinct, all_poses, identifier, identifiers, identifiers_in, is_title, names_in, numbered, numbered_poses, place_names, places_in, pose_names, sensors_in}
+use Rattle.plan_document.specs.Names.{AreDistinct, all_poses, identifier, identifiers, identifiers_in, is_title, names_in, numbered, numbered_poses, place_names, places_in, pose_names, sensor_identifiers, sensor_identifiers_in, sensor_names, sensors_in}
 use Rattle.plan_document.specs.PlanLaws.{StandsAt}
 use Rattle.plan_document.specs.Laws.{is_line}
 use Rattle.plan_document.specs.Saying.{IsPlanOf, IsPoseOf, IsProgramOf, IsStepOf, IsZoneOf, calls_of, is_free, keepers, own_call}
-use Rattle.plan_document.specs.TableLaws.{AllStepsAsk, HasLine, NamesAreSpelled, PlansHaveCounts, PlansHaveNames, PosesAreTwoForC, ProgramsHaveLines, RowsAreNamed, TablesHaveCounts}
+use Rattle.plan_document.specs.TableLaws.{AllStepsAsk, HasLine, NamesAreSpelled, PlansHaveCounts, PlansHaveNames, PosesAreTwoForC, ProgramsHaveLines, RowsAreNamed, SensorsAreTwoForC, TablesHaveCounts}
 use Rattle.plan_document.proofs.PlanLaws.{own_place}
 use Rattle.plan_document.proofs.PlanRows.{are_apart, impossible}
 use Rattle.plan_document.proofs.Standing.{as_many, flat_at, mapped, moved, name_of, named_at, number_below, numbered_at, own_number, same_number, zipped}
@@ -65,6 +67,12 @@ c_total machines =
     (λ row. length-map row.poses.items (λ (p : PoseRow). identifier (string_bytes row.name) (string_bytes p.name))) machines
     ∙ sym (pose_total machines)
 
+sensor_total : (machines : List MachineRow) → length (sensor_identifiers machines) ≡ length (flat_map sensors_in machines)
+sensor_total machines =
+    summed sensor_identifiers_in (λ (row : MachineRow). length row.sensors.items)
+    (λ row. length-map row.sensors.items (λ (n : String Global). identifier (string_bytes row.name) (string_bytes n))) machines
+    ∙ sym (summed sensors_in (λ (row : MachineRow). length row.sensors.items) (λ row. length-map row.sensors.items string_bytes) machines)
+
 all_pose_total : (machines : List MachineRow) → length (all_poses machines) ≡ length (pose_names machines)
 all_pose_total machines =
     as_many (λ (r : ℕ × MachineRow). numbered_poses r.0 r.1.poses.items) (λ (row : MachineRow). names_in row.poses.items)
@@ -80,6 +88,7 @@ counts_of d p is = record {
       ∙ all_pose_total d.machines.items
       ∙ pose_total d.machines.items;
   programs = ap length is.programs ∙ length-map p.steps.items (λ s. calls_of s.items) ∙ steps;
+  sensors = ap length is.sensors ∙ length-map d.machines.items sensors_in;
   steps = steps;
   motors = AllZip-long (IsMotorOf p.named) d.motors.items p.motors.motors.items is.motors.motors;
   hazards = AllZip-long (IsHazardOf p.motors.names) d.hazards.items p.motors.hazards.items is.motors.hazards;
@@ -115,6 +124,11 @@ rows_named d p is = record {
   places = λ i nth row name here named. ap (λ (o : Option ℕ). is_some o) (own_place p.named.places d.machines.items is.named.distinct_places is.named.named_places i row here nth name named);
   motors = λ i row here. named_at (λ (r : MotorRow). string_bytes r.name) d.motors.items p.motors.names i row is.motors.named_motors here;
   hazards = λ i row here. named_at (λ (r : HazardRow). string_bytes r.name) d.hazards.items p.motors.hazard_names i row is.motors.named_hazards here;
+  sensors = λ i k row name here nth. (
+    sensors_in row,
+    moved p.sensors.items (sensor_names d.machines.items) i i (sensors_in row) is.sensors refl (mapped sensors_in d.machines.items i row here),
+    named_at string_bytes row.sensors.items (sensors_in row) k name refl nth,
+  );
 }
 
 -- each name passes the test that all pass
@@ -169,6 +183,23 @@ two_for_c d n is i j a b here there k l p q one other same =
     (sym (c_number d.machines.items is.distinct_poses i a here k p one)
     ∙ ap (number_in (identifiers d.machines.items)) same
     ∙ c_number d.machines.items is.distinct_poses j b there l q other)
+
+-- and so has a sensor's
+sensor_number : (machines : List MachineRow) → AreDistinct (sensor_identifiers machines) → (i : ℕ) (row : MachineRow) (here : StandsAt machines i row) (k : ℕ) (name : String Global) → StandsAt row.sensors.items k name
+    → number_in (sensor_identifiers machines) (identifier (string_bytes row.name) (string_bytes name)) ≡ Some (length (flat_map sensors_in here.before) + k)
+sensor_number machines distinct i row here k name nth =
+    own_number (sensor_identifiers machines) _ _ distinct
+    (moved (sensor_identifiers machines) (sensor_identifiers machines) _ _ (identifier (string_bytes row.name) (string_bytes name)) refl
+    (ap (λ j. j + k) (sensor_total here.before))
+    (flat_at sensor_identifiers_in machines i row here k (identifier (string_bytes row.name) (string_bytes name))
+    (mapped (λ (n : String Global). identifier (string_bytes row.name) (string_bytes n)) row.sensors.items k name nth)))
+
+pub two_sensors_for_c : SensorsAreTwoForC
+two_sensors_for_c d p is i j a b here there k l s t one other same =
+    same_number _ _
+    (sym (sensor_number d.machines.items is.distinct_sensors i a here k s one)
+    ∙ ap (number_in (sensor_identifiers d.machines.items)) same
+    ∙ sensor_number d.machines.items is.distinct_sensors j b there l t other)
 
 -- ---- programs
 

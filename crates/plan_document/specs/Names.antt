@@ -28,9 +28,12 @@ places_in row = map string_bytes row.places.items
 abbrev pub place_names : List MachineRow → List Text
 place_names machines = flat_map places_in machines
 
--- the names of a machine's sensors, in the order of their bits
+-- the names of a machine's sensors, in the order of their bits, and those of each machine
 abbrev pub sensors_in : MachineRow → List Text
 sensors_in row = map string_bytes row.sensors.items
+
+abbrev pub sensor_names : List MachineRow → List (List Text)
+sensor_names machines = map sensors_in machines
 
 -- the names of a machine's poses, and of those of all machines
 abbrev pub names_in : List PoseRow → List Text
@@ -68,12 +71,18 @@ is_title text = nat_lt 0 (length text) && nat_le (length text) 60 && list_all is
 abbrev pub AreDistinct : List Text → Type 0
 AreDistinct names = (number : ℕ) → number < length names → number_in names (name_in names number) ≡ Some number
 
--- the name of a pose for C: its machine's, an underline and its own
+-- the name of a pose or a sensor for C: its machine's, an underline and its own
 abbrev pub identifier : Text → Text → Text
-identifier machine pose = machine ++ codes "_" ++ pose
+identifier machine own = machine ++ codes "_" ++ own
 
 abbrev pub identifiers_in : Text → List PoseRow → List Text
 identifiers_in machine poses = map (λ pose. identifier machine (string_bytes pose.name)) poses
 
 abbrev pub identifiers : List MachineRow → List Text
 identifiers machines = flat_map (λ row. identifiers_in (string_bytes row.name) row.poses.items) machines
+
+abbrev pub sensor_identifiers_in : MachineRow → List Text
+sensor_identifiers_in row = map (λ name. identifier (string_bytes row.name) (string_bytes name)) row.sensors.items
+
+abbrev pub sensor_identifiers : List MachineRow → List Text
+sensor_identifiers machines = flat_map sensor_identifiers_in machines

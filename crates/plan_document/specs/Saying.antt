@@ -36,7 +36,7 @@ use Rattle.plan_document.specs.declared.tables.Rows.{Rows}
 use Rattle.plan_document.specs.Motors.{AreNamedMotorsOf}
 use Rattle.plan_document.specs.Postures.{AreGiven}
 use Rattle.plan_document.specs.Names.{AreDistinct, AreNames, all_poses, identifiers, machine_names, numbered}
-use Rattle.plan_document.specs.Names.{place_names, pose_names, sensors_in, zone_names}
+use Rattle.plan_document.specs.Names.{place_names, pose_names, sensor_identifiers, sensor_names, sensors_in, zone_names}
 
 -- ---- zones
 
@@ -212,10 +212,13 @@ pub record IsNamedPlanOf (d : Document) (n : Named) : Type 0 where
   pub poses : AllZip (IsPoseOf n.zones) (all_poses d.machines.items) n.plan.poses
   pub places : n.plan.places ≡ keepers d.machines.items
 
--- the plan of a document, its motors and hazards, the steps of each machine, and what it asks by them
+-- the plan of a document, its motors and hazards, the sensors and the steps of each machine, and what it asks by them;
+-- no two sensors have one name for C
 pub record IsPlanOf (d : Document) (p : ProgrammedPlan) : Type 0 where
   pub named : IsNamedPlanOf d p.named
   pub motors : AreNamedMotorsOf d p.named p.motors
+  pub sensors : p.sensors.items ≡ sensor_names d.machines.items
+  pub distinct_sensors : AreDistinct (sensor_identifiers d.machines.items)
   pub steps : AllZip (IsProgramOf p.named p.motors) (numbered d.machines.items)
       (map (λ steps. steps.items) p.steps.items)
   pub programs : p.programs ≡ map (λ steps. calls_of steps.items) p.steps.items

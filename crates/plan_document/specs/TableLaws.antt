@@ -2,6 +2,7 @@
 use Rattle.std.specs.Prelude.{◌≡◌, ◌↔◌, ℕ, ◌<◌, ◌+◌, true, false, List, [], ◌∷◌, ◌++◌, codes, length, map, sum}
 use Rattle.std.specs.Prelude.{String, string_bytes, is_some, IsTrue}
 use Rattle.std.specs.declared.alloc.Global.{Global}
+use Rattle.std.specs.List.{flat_map}
 use Rattle.plan_types.specs.declared.call.Call.{Call}
 use Rattle.plan_types.specs.declared.call.Call.TheVariants.{Inquire}
 use Rattle.plan_types.specs.Table.{is_party, place_count, pose_count, zone_count}
@@ -33,6 +34,7 @@ pub record TablesHaveCounts (d : Document) (p : ProgrammedPlan) : Type 0 where
   pub places : place_count p.named.plan ≡ sum (map (λ row. length row.places.items) d.machines.items)
   pub poses : pose_count p.named.plan ≡ sum (map (λ row. length row.poses.items) d.machines.items)
   pub programs : length p.programs ≡ length d.machines.items
+  pub sensors : length p.sensors.items ≡ length d.machines.items
   pub steps : length p.steps.items ≡ length d.machines.items
   pub motors : length p.motors.motors.items ≡ length d.motors.items
   pub hazards : length p.motors.hazards.items ≡ length d.hazards.items
@@ -61,6 +63,9 @@ pub record RowsAreNamed (d : Document) (p : ProgrammedPlan) : Type 0 where
       → name_in p.motors.names motor ≡ string_bytes row.name
   pub hazards : (hazard : ℕ) (row : HazardRow) → StandsAt d.hazards.items hazard row
       → name_in p.motors.hazard_names hazard ≡ string_bytes row.name
+  pub sensors : (machine sensor : ℕ) (row : MachineRow) (name : String Global) → StandsAt d.machines.items machine row
+      → StandsAt row.sensors.items sensor name
+      → (names : List Text) × StandsAt p.sensors.items machine names × (name_in names sensor ≡ string_bytes name)
 
 -- each name is one, whatever its number
 pub record NamesAreSpelled (p : ProgrammedPlan) (number : ℕ) : Type 0 where
@@ -96,6 +101,15 @@ PosesAreTwoForC =
     → StandsAt a.poses.items k p → StandsAt b.poses.items l q
     → string_bytes a.name ++ codes "_" ++ string_bytes p.name ≡ string_bytes b.name ++ codes "_" ++ string_bytes q.name
     → length (pose_names here.before) + k ≡ length (pose_names there.before) + l
+
+-- two sensors, too
+abbrev pub SensorsAreTwoForC : Type 0
+SensorsAreTwoForC =
+    (d : Document) (p : ProgrammedPlan) → IsPlanOf d p → (i j : ℕ) (a b : MachineRow)
+    → (here : StandsAt d.machines.items i a) (there : StandsAt d.machines.items j b) → (k l : ℕ) (s t : String Global)
+    → StandsAt a.sensors.items k s → StandsAt b.sensors.items l t
+    → string_bytes a.name ++ codes "_" ++ string_bytes s ≡ string_bytes b.name ++ codes "_" ++ string_bytes t
+    → length (flat_map sensors_in here.before) + k ≡ length (flat_map sensors_in there.before) + l
 
 -- ---- programs
 

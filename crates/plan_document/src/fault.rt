@@ -221,6 +221,8 @@ pub enum WrongText {
     Twice,
     /// With its machine's name before it, a pose's name is this, and so is another pose's.
     SameInC,
+    /// With its machine's name before it, a sensor's name is this, and so is another sensor's.
+    SensorSameInC,
     /// No machine has this name.
     NoMachine,
     /// No zone has this name.

@@ -176,7 +176,7 @@ fn write_text<W: fmt::Write>(
 /// What is said before a text.
 fn before_text(why: WrongText) -> &'static str {
     match why {
-        WrongText::SameInC => "for C it is ",
+        WrongText::SameInC | WrongText::SensorSameInC => "for C it is ",
         WrongText::NoMachine => "no machine is named ",
         WrongText::NoZone => "no zone is named ",
         WrongText::NoPlace => "no place is named ",
@@ -199,6 +199,7 @@ fn after_text(why: WrongText) -> &'static str {
         WrongText::Reserved => " is a word of scripts, and names no machine",
         WrongText::Twice => " is defined twice",
         WrongText::SameInC => ", and so is another pose's",
+        WrongText::SensorSameInC => ", and so is another sensor's",
         WrongText::NoStep => NO_STEP,
         WrongText::ZoneToo => " is the name of a zone, too",
         WrongText::Never(why) => why.text(),

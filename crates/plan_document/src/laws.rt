@@ -49,11 +49,12 @@ pub fn rows_have_names()
 {}
 
 /// Each table has the rows of the document and no others, and each row a name; all are names, and no two of one kind
-/// are the same, of poses no two for C.
+/// are the same, of poses and of sensors no two for C.
 pub fn plans_have_counts_and_names()
     ensures counts { table_laws.PlansHaveCounts }
     ensures names { table_laws.PlansHaveNames }
     ensures for_c { table_laws.PosesAreTwoForC }
+    ensures sensors_for_c { table_laws.SensorsAreTwoForC }
 {}
 
 /// The program of each machine has a step for each line of its row: the text of a call is the line, a wait names its

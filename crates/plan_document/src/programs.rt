@@ -1,14 +1,14 @@
 //! The machines' programs: the steps in their lines.
 ghost use Rattle.std.specs.Prelude.{◌≡◌, map, IfOk, IfSome};
 ghost use Rattle.std.specs.List.{AllZip, filter_map};
-ghost use Rattle.plan_document.specs.Names.{numbered};
+ghost use Rattle.plan_document.specs.Names.{AreDistinct, numbered, sensor_identifiers, sensor_names};
 ghost use Rattle.plan_document.specs.Saying as saying;
 
 use crate::document::{Document, MachineRow};
 use crate::fault::{DocumentFault, Key, RowOf, Wrong, too_many};
 use crate::lines::step_in;
 use crate::motors::NamedMotors;
-use crate::sensors::sensors_of;
+use crate::sensors::{all_sensors_of, sensors_of};
 use crate::tables::number_of;
 use plan_controller::Step;
 use plan_explorer::{MAX_STEPS, ProgramFault, Programs};
@@ -31,22 +31,28 @@ pub fn check_programs(
     Ok(())
 }
 
-/// The steps of each machine, and what they ask, by the names of a plan and of its motors, or the first fault.
+/// The sensors of each machine, its steps, and what they ask, by the names of a plan and of its motors, or the first
+/// fault.
 pub fn programs_of(
     alloc: Global,
     document: &Document,
     named: &NamedPlan,
     motors: &NamedMotors,
-) -> Result<(Vec<Vec<Step>>, Programs), DocumentFault>
-    ensures steps { IfOk result (λ both. AllZip (saying.IsProgramOf named.now motors.now)
-        (numbered document.now.machines.items) (map (λ steps. steps.items) both.0.items)) }
-    ensures programs { IfOk result (λ both.
-        both.1 ≡ map (λ steps. saying.calls_of steps.items) both.0.items) }
+) -> Result<(Vec<Names>, Vec<Vec<Step>>, Programs), DocumentFault>
+    ensures sensors { IfOk result (λ all.
+        all.0.items ≡ sensor_names document.now.machines.items) }
+    ensures distinct { IfOk result (λ all.
+        AreDistinct (sensor_identifiers document.now.machines.items)) }
+    ensures steps { IfOk result (λ all. AllZip (saying.IsProgramOf named.now motors.now)
+        (numbered document.now.machines.items) (map (λ steps. steps.items) all.1.items)) }
+    ensures programs { IfOk result (λ all.
+        all.2 ≡ map (λ steps. saying.calls_of steps.items) all.1.items) }
 {
+    let sensors = all_sensors_of(alloc, &document.machines, named.zones())?;
     let steps = steps_of(alloc, &document.machines, named, Some(motors))?;
     match Programs::new(all_calls_of(alloc, &steps)?) {
-        Ok(programs) => Ok((steps, programs)),
-        Err(fault) => Err(program_fault(steps, fault)),
+        Ok(programs) => Ok((sensors, steps, programs)),
+        Err(fault) => Err(program_fault(sensors, steps, fault)),
     }
 }
 
@@ -138,8 +144,12 @@ fn asked(step: Step) -> Option<Call>
     }
 }
 
-/// The fault of programs in words of the document, without the steps, which end here.
-fn program_fault(_steps: Vec<Vec<Step>>, fault: ProgramFault) -> DocumentFault {
+/// The fault of programs in words of the document, without the sensors and the steps, which end here.
+fn program_fault(
+    _sensors: Vec<Names>,
+    _steps: Vec<Vec<Step>>,
+    fault: ProgramFault,
+) -> DocumentFault {
     match fault {
         ProgramFault::TooManyPrograms => too_many(Key::Machine, usize::from(MAX_MACHINES)),
         ProgramFault::TooLong { machine } => too_long(machine),

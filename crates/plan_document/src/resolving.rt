@@ -14,7 +14,7 @@ use crate::tables::rows_of;
 use crate::values::position_of;
 use plan_controller::Step;
 use plan_explorer::Programs;
-use plan_text::NamedPlan;
+use plan_text::{NamedPlan, Names};
 use plan_types::{MAX_MACHINES, MAX_PLACES, MAX_POSES, MAX_ZONES, Plan, PlanFault, Tables};
 use std::alloc::Global;
 
@@ -25,6 +25,8 @@ pub struct ProgrammedPlan {
     pub named: NamedPlan,
     /// What each machine asks.
     pub programs: Programs,
+    /// The names of each machine's sensors, in the order of their bits.
+    pub sensors: Vec<Names>,
     /// The steps of each machine, by its lines.
     pub steps: Vec<Vec<Step>>,
     /// The motors and the hazards.
@@ -72,9 +74,10 @@ fn with_programs(
     ensures { IfOk result (IsPlanOf document.now) }
 {
     match programs_of(alloc, document, &named, &motors) {
-        Ok((steps, programs)) => Ok(ProgrammedPlan {
+        Ok((sensors, steps, programs)) => Ok(ProgrammedPlan {
             named,
             programs,
+            sensors,
             steps,
             motors,
         }),

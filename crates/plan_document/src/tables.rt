@@ -438,14 +438,14 @@ fn add_identifiers(
     Ok(())
 }
 
-/// The name of a pose for C: its machine's, an underline and its own.
-fn joined(alloc: Global, machine: &str, pose: &str) -> Result<String, AllocError>
-    ensures { IfOk result (λ name. string_bytes name ≡ identifier machine.now pose.now) }
+/// The name of a pose or a sensor for C: its machine's, an underline and its own.
+pub fn joined(alloc: Global, machine: &str, own: &str) -> Result<String, AllocError>
+    ensures { IfOk result (λ name. string_bytes name ≡ identifier machine.now own.now) }
 {
     let mut name = String::new(alloc);
     name.push_str(machine)?;
     name.push_str("_")?;
-    name.push_str(pose)?;
+    name.push_str(own)?;
     Ok(name)
 }
 

@@ -520,6 +520,15 @@ poses = [{ name = \"x\", gives = {} }]
 =>
 line 16: machine c_d: pose 1: name: for C it is \"c_d_x\", and so is another pose's
 --
+[[machine]]
+name = \"c\"
+sensors = [\"w\", \"d_x\"]
+[[machine]]
+name = \"c_d\"
+sensors = [\"w\", \"x\"]
+=>
+line 16: machine c_d: sensors: for C it is \"c_d_x\", and so is another sensor's
+--
 outward = [
   \"p\",
   \"r\",
