@@ -12,7 +12,7 @@ use Rattle.plan_text.specs.Named.{Named}
 use Rattle.plan_text.specs.Script.{script_answers, script_start}
 use Rattle.plan_document.specs.Reading.{IsPlanIn}
 use Rattle.plan_document.specs.declared.resolving.ProgrammedPlan.{ProgrammedPlan}
-use Rattle.plan_header.specs.Headers.{header_text}
+use Rattle.plan_header.specs.Printed.{header_of}
 use Rattle.plan_header.specs.Modules.{module_text}
 use Rattle.plan_app.specs.Hazards.{TellsReport, start_if}
 use Rattle.plan_app.specs.Input.{byte_limit, document_in, script_in}
@@ -86,8 +86,7 @@ WroteEnd plan script old new =
     ⊎ ((opening : State) × (script_start plan.named script ≡ Ok opening) × WroteEndFrom plan opening old new)
 
 abbrev pub WroteHeader : ProgrammedPlan → Option Text → Option Text → Type 0
-WroteHeader plan old new =
-    WrotePrefix old new (header_text plan.named plan.motors.names plan.motors.motors.items)
+WroteHeader plan old new = WrotePrefix old new (header_of plan)
 
 abbrev pub WroteModule : ProgrammedPlan → Option Text → Option Text → Type 0
 WroteModule plan old new =

@@ -8,7 +8,7 @@ use Rattle.plan_document.specs.Reading.{IsPlanIn}
 use Rattle.plan_document.specs.declared.resolving.ProgrammedPlan.{ProgrammedPlan}
 use Rattle.csv_rows.specs.declared.script_end.Outcome.TheVariants.{Clean}
 use Rattle.plan_text.specs.Script.{script_answers, script_start}
-use Rattle.plan_header.specs.Headers.{header_text}
+use Rattle.plan_header.specs.Printed.{header_of}
 use Rattle.plan_header.specs.Modules.{module_text}
 use Rattle.plan_app.specs.Input.{document_in, script_in}
 use Rattle.plan_app.specs.Hazards.{TellsReport, start_if}
@@ -58,7 +58,7 @@ ReportsIn bytes old new =
 abbrev pub WritesHeaderIn : List ℕ → Option (List ℕ) → Option (List ℕ) → Type 0
 WritesHeaderIn bytes old new =
     (plan : ProgrammedPlan) × IsPlanIn (document_in bytes) plan
-    × Appends old new (header_text plan.named plan.motors.names plan.motors.motors.items)
+    × Appends old new (header_of plan)
 
 -- or its module
 abbrev pub WritesModuleIn : List ℕ → Option (List ℕ) → Option (List ℕ) → Type 0

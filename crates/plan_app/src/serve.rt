@@ -9,7 +9,7 @@ ghost use Rattle.program_shell.specs.Printed.{Prints};
 ghost use Rattle.program_shell.specs.Versions.{version_line};
 ghost use Rattle.program_shell.specs.Words.{texts_of};
 ghost use Rattle.plan_app.specs.Hazards as hazards;
-ghost use Rattle.plan_header.specs.Headers.{header_text};
+ghost use Rattle.plan_header.specs.Printed.{header_of as header_text};
 ghost use Rattle.plan_header.specs.Modules.{module_text};
 ghost use Rattle.plan_app.specs.Failed.{Fails, FailsBy, FailsIn, WroteAnswers, WroteDocumentFault};
 ghost use Rattle.plan_app.specs.Failed.{WroteEnd, WroteEndFrom, WroteFault, WroteHeader};
@@ -189,8 +189,7 @@ fn serve_plan<W: Write>(
     ensures free { request ≡ Request.Explore → result ≡ Exit.Well →
         FindsFree plan script.now (W.contents writer.old) (W.contents writer.new) }
     ensures header { request ≡ Request.Header → result ≡ Exit.Well →
-        Appends (W.contents writer.old) (W.contents writer.new)
-        (header_text plan.named plan.motors.names plan.motors.motors.items) }
+        Appends (W.contents writer.old) (W.contents writer.new) (header_text plan) }
     ensures python { request ≡ Request.Module → result ≡ Exit.Well →
         Appends (W.contents writer.old) (W.contents writer.new)
         (module_text plan.named plan.motors.names plan.motors.motors.items) }
@@ -262,8 +261,7 @@ fn print_report<W: Write>(
 fn print_header<W: Write>(alloc: Global, plan: &ProgrammedPlan, writer: &mut W) -> Exit
     ensures status { result ≢ Exit.Refused }
     ensures header { result ≡ Exit.Well →
-        Appends (W.contents writer.old) (W.contents writer.new)
-        (header_text plan.now.named plan.now.motors.names plan.now.motors.motors.items) }
+        Appends (W.contents writer.old) (W.contents writer.new) (header_text plan.now) }
     ensures failed { result ≡ Exit.Failed →
         WroteUnread (W.contents writer.old) (W.contents writer.new)
         ⊎ WroteHeader plan.now (W.contents writer.old) (W.contents writer.new) }

@@ -2,7 +2,8 @@
 use Rattle.std.proofs.Common.{refl}
 use Rattle.std.specs.Fmt.{digits}
 use Rattle.plan_motors.specs.Mask.{mask_of, pattern_of}
-use Rattle.plan_header.specs.Headers.{header_text, motors_part}
+use Rattle.plan_header.specs.Headers.{motors_part}
+use Rattle.plan_header.specs.Printed.{header_text}
 use Rattle.plan_header.specs.HeaderExamples.{CapitalsAreMade, HeaderLines, MaskLines, PartyLines, WholeHeaders}
 
 pub header-lines : HeaderLines

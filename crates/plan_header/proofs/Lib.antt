@@ -2,3 +2,4 @@ pub mod lemmas
 mod HeaderRows
 mod HeadersTold
 mod ModuleRows
+mod TurnRows

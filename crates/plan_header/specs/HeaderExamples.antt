@@ -4,9 +4,13 @@ use Rattle.plan_types.specs.Table.{PlanTable, plan_table}
 use Rattle.plan_types.specs.Examples.{lift_table, pose, zone}
 use Rattle.plan_rules.specs.Examples.{presses_table}
 use Rattle.plan_motors.specs.Examples.{cabin, fan, lower_gate}
+use Rattle.plan_controller.specs.declared.step.Step.{Step}
+use Rattle.plan_controller.specs.declared.step.Step.TheVariants.{Await}
 use Rattle.plan_text.specs.Names.{Text}
 use Rattle.plan_text.specs.Named.{Named, named}
 use Rattle.plan_header.specs.Headers as header
+use Rattle.plan_header.specs.Printed.{header_text}
+use Rattle.plan_header.specs.Turns as turns
 use Rattle.plan_header.specs.Words.{capitals}
 use Rattle.plan_header.specs.declared.header.TheConstants.{BEGIN, CODES, ZONES}
 use Rattle.plan_header.specs.declared.motors.TheConstants.{MOTORS}
@@ -95,6 +99,13 @@ gates_bytes =
     ++ codes "\n    2, 0, 0, 0, 0, 0, 0, 0," ++ codes "\n    0, 0, 0, 0, 1, 1, 0, 2,"
     ++ codes "\n};\n\n#endif\n"
 
+-- the sea has a sensor, and the lake waits for the first gate
+abbrev pub gates_sensors : List (List Text)
+gates_sensors = [] ∷ [] ∷ (codes "high" ∷ []) ∷ []
+
+abbrev pub gates_programs : List (List Step)
+gates_programs = (Await 0 ∷ []) ∷ []
+
 -- the header of the gates, in its parts
 pub record WholeHeaders : Type 0 where
   pub names : header.names_part gates
@@ -113,11 +124,16 @@ pub record WholeHeaders : Type 0 where
       ++ codes "#define PLAN_BITS_ZONE 5\n" ++ codes "#define PLAN_BITS_PLACE 1\n"
       ++ codes "#define PLAN_BITS_STAMP 20\n" ++ codes "#define PLAN_BITS_STOP 1\n" ++ codes "#define PLAN_BITS 35\n"
   pub bytes : header.bytes_part gates ≡ gates_bytes
-  pub with_motors : header.header_text gates (codes "fan" ∷ []) (fan ∷ [])
-      ≡ header.names_part gates ++ header.parties_part gates ++ header.word_part gates
-      ++ header.motors_part gates (codes "fan" ∷ []) (fan ∷ []) ++ gates_bytes
-  pub header : header.header_text gates [] []
-      ≡ header.names_part gates ++ header.parties_part gates ++ header.word_part gates ++ gates_bytes
+  pub with_motors : header_text gates (codes "fan" ∷ []) (fan ∷ []) [] []
+      ≡ header.names_part gates ++ (header.parties_part gates ++ (header.word_part gates
+      ++ (header.motors_part gates (codes "fan" ∷ []) (fan ∷ [])
+      ++ (turns.lists_part gates (codes "fan" ∷ [])
+      ++ (turns.turns_part gates (codes "fan" ∷ []) [] [] ++ header.bytes_part gates)))))
+  pub header : header_text gates [] [] gates_sensors gates_programs
+      ≡ header.names_part gates ++ (header.parties_part gates ++ (header.word_part gates
+      ++ (header.motors_part gates [] []
+      ++ (turns.lists_part gates []
+      ++ (turns.turns_part gates [] gates_sensors gates_programs ++ header.bytes_part gates)))))
 
 -- two bits of a zone tell its owner, from the lowest, two its posture, from the fourth
 pub record MaskLines : Type 0 where

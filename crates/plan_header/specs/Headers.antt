@@ -119,7 +119,7 @@ byte_word bytes at = byte_gap at ++ (decimal (get_or bytes at 0) ++ codes ",")
 abbrev pub byte_words : List ℕ → Text
 byte_words bytes = flat_map (byte_word bytes) (range_with_len 0 (length bytes))
 
--- ---- the header
+-- ---- the parts of the header
 
 abbrev pub titled : Text → Text → List Text → Text
 titled title kind names = title ++ number_lines kind names
@@ -150,7 +150,3 @@ table_text bytes = BYTES.now ++ (byte_words bytes ++ END.now)
 
 abbrev pub bytes_part : Named → Text
 bytes_part n = table_text (bytes_of n.plan)
-
-unfoldable pub header_text : Named → List Text → List Motor → Text
-header_text n names motors =
-    names_part n ++ (parties_part n ++ (word_part n ++ (motors_part n names motors ++ bytes_part n)))

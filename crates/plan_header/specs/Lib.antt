@@ -1,6 +1,10 @@
 pub mod Words
 pub mod Headers
+pub mod Turns
+pub mod Printed
 pub mod HeaderLaws
 pub mod Modules
 pub mod HeaderExamples
+pub mod TurnLaws
+pub mod TurnExamples
 pub mod ModuleExamples

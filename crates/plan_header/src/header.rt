@@ -4,9 +4,12 @@ ghost use Rattle.std.specs.List.{range_with_len};
 ghost use Rattle.plan_types.specs.Bytes.{bytes_of};
 ghost use Rattle.plan_word.specs.Layout.{counts_of};
 ghost use Rattle.plan_header.specs.Headers as spec;
+ghost use Rattle.plan_header.specs.Printed as printed;
 ghost use Rattle.plan_header.specs.Words as words;
 
+use crate::lists::push_lists_part;
 use crate::motors::push_motors_part;
+use crate::turns::push_turns_part;
 use plan_document::ProgrammedPlan;
 use plan_text::{NamedPlan, Names};
 use plan_types::{Plan, write_plan};
@@ -72,10 +75,9 @@ const BYTES: &str =
 const END: &str = "\n};\n\n#endif\n";
 
 /// What `plan header` prints of a plan: its names' numbers, the parties of its zones, its word's fields, the masks of
-/// its motors and its bytes.
+/// its motors, its names as texts, the bits of its sensors, its programs and its bytes.
 pub fn header_of(alloc: Global, plan: &ProgrammedPlan) -> Result<String, AllocError>
-    ensures { IfOk result (λ text. string_bytes text
-        ≡ spec.header_text plan.now.named plan.now.motors.names plan.now.motors.motors.items) }
+    ensures { IfOk result (λ text. string_bytes text ≡ printed.header_of plan.now) }
 {
     let mut text = String::new(alloc);
     match push_header(alloc, &mut text, plan) {
@@ -84,15 +86,17 @@ pub fn header_of(alloc: Global, plan: &ProgrammedPlan) -> Result<String, AllocEr
     }
 }
 
-#[tactic(auto, unfolding(crate::specs::Headers::header_text))]
+#[tactic(auto, unfolding(crate::specs::Printed::header_text))]
 fn push_header(alloc: Global, text: &mut String, plan: &ProgrammedPlan) -> Result<(), AllocError>
-    ensures { OnOk result (string_bytes text.new ≡ string_bytes text.old
-        ++ spec.header_text plan.now.named plan.now.motors.names plan.now.motors.motors.items) }
+    ensures { OnOk result
+        (string_bytes text.new ≡ string_bytes text.old ++ printed.header_of plan.now) }
 {
     push_names_part(alloc, text, &plan.named)?;
     push_parties_part(alloc, text, &plan.named)?;
     push_word_part(alloc, text, &plan.named)?;
     push_motors_part(alloc, text, &plan.named, &plan.motors)?;
+    push_lists_part(text, &plan.named, &plan.motors)?;
+    push_turns_part(alloc, text, plan)?;
     push_bytes_part(alloc, text, &plan.named)
 }
 
@@ -104,7 +108,7 @@ pub(crate) fn capitals_of(alloc: Global, text: &str) -> Result<String, AllocErro
 }
 
 /// Adds a definition: a name in capitals, and its number.
-fn push_define(
+pub(crate) fn push_define(
     alloc: Global,
     text: &mut String,
     name: &str,
@@ -171,7 +175,7 @@ fn push_titled(
 }
 
 /// Adds the number of each name of a kind, and how many there are.
-fn push_numbers(
+pub(crate) fn push_numbers(
     alloc: Global,
     text: &mut String,
     kind: &str,

@@ -3,6 +3,8 @@
 ghost use Rattle.plan_header.specs.HeaderExamples.{CapitalsAreMade, HeaderLines, MaskLines, PartyLines, WholeHeaders};
 ghost use Rattle.plan_header.specs.HeaderLaws.{HeadersTell};
 ghost use Rattle.plan_header.specs.ModuleExamples.{ModuleLines, WholeModules};
+ghost use Rattle.plan_header.specs.TurnExamples.{TurnLines};
+ghost use Rattle.plan_header.specs.TurnLaws.{TurnsTell};
 
 /// Examples: lines of the header of a lift, whole; and names in capitals.
 pub fn header_lines_are_met()
@@ -36,4 +38,16 @@ pub fn headers_are_whole()
 pub fn modules_are_met()
     ensures lines { ModuleLines }
     ensures whole { WholeModules }
+{}
+
+/// Each line of a header for turns, for all names, sensors and steps: the names of each kind as texts, the bits of
+/// motors and sensors, the kind, the motors, the object and the sensor of each line of a program, and how many lines it
+/// has. Each word in a line is one that the header defines.
+pub fn turns_tell()
+    ensures { TurnsTell }
+{}
+
+/// Examples: the names of a lift, the bits of its motors and sensors, and its programs, whole.
+pub fn turn_lines_are_met()
+    ensures { TurnLines }
 {}

@@ -3,8 +3,10 @@
 
 pub mod header;
 pub mod laws;
+mod lists;
 mod motors;
 pub mod python;
+mod turns;
 
 pub use header::header_of;
 pub use motors::motor_at;

@@ -63,6 +63,59 @@ enum plan_posture {
 #define PLAN_BITS_STOP 1
 #define PLAN_BITS 28
 
+/* The names of each kind, by their numbers. A null comes after the last. */
+static const char *const PLAN_NAMES_OF_MACHINES[] = {
+    \"loader\",
+    \"press\",
+    0,
+};
+static const char *const PLAN_NAMES_OF_ZONES[] = {
+    \"interior\",
+    0,
+};
+static const char *const PLAN_NAMES_OF_PLACES[] = {
+    \"hand\",
+    \"die\",
+    0,
+};
+static const char *const PLAN_NAMES_OF_POSES[] = {
+    \"load\",
+    \"unload\",
+    \"closed\",
+    \"travelling\",
+    0,
+};
+static const char *const PLAN_NAMES_OF_MOTORS[] = {
+    0,
+};
+
+/* Motors and sensors, by machine and name: their bits in the lines of programs, and in what a turn gives and takes. */
+#define PLAN_MOTORS 0
+
+/* The programs, and how many lines each has, for bagunjoki_plan_take_turn. They are here only if bagunjoki_plan.h is
+   included before this header. */
+#ifdef BAGUNJOKI_PLAN_H
+static const bagunjoki_plan_line PLAN_PROGRAM_LOADER[] = {
+    {0, BAGUNJOKI_PLAN_GIVE, PLAN_ZONE_INTERIOR, 0},
+    {0, BAGUNJOKI_PLAN_TAKE, PLAN_ZONE_INTERIOR, 0},
+    {0, BAGUNJOKI_PLAN_RELEASE, PLAN_ZONE_INTERIOR, 0},
+};
+#define PLAN_LINES_LOADER 3
+static const bagunjoki_plan_line PLAN_PROGRAM_PRESS[] = {
+    {0, BAGUNJOKI_PLAN_CLAIM, PLAN_ZONE_INTERIOR, 0},
+    {0, BAGUNJOKI_PLAN_SET_POSE, PLAN_POSE_PRESS_TRAVELLING, 0},
+    {0, BAGUNJOKI_PLAN_SET_POSE, PLAN_POSE_PRESS_LOAD, 0},
+    {0, BAGUNJOKI_PLAN_YIELD, PLAN_ZONE_INTERIOR, 0},
+    {0, BAGUNJOKI_PLAN_TAKE, PLAN_ZONE_INTERIOR, 0},
+    {0, BAGUNJOKI_PLAN_SET_POSE, PLAN_POSE_PRESS_TRAVELLING, 0},
+    {0, BAGUNJOKI_PLAN_SET_POSE, PLAN_POSE_PRESS_CLOSED, 0},
+    {0, BAGUNJOKI_PLAN_SET_POSE, PLAN_POSE_PRESS_TRAVELLING, 0},
+    {0, BAGUNJOKI_PLAN_SET_POSE, PLAN_POSE_PRESS_UNLOAD, 0},
+    {0, BAGUNJOKI_PLAN_GIVE, PLAN_ZONE_INTERIOR, 0},
+};
+#define PLAN_LINES_PRESS 10
+#endif
+
 /* The plan, for bagunjoki_plan.h. */
 static const uint8_t PLAN_BYTES[] = {
     2, 1, 4, 2, 1, 0, 1, 0,
@@ -145,6 +198,76 @@ enum plan_posture {
 #define PLAN_BITS_STAMP 20
 #define PLAN_BITS_STOP 1
 #define PLAN_BITS 34
+
+/* The names of each kind, by their numbers. A null comes after the last. */
+static const char *const PLAN_NAMES_OF_MACHINES[] = {
+    \"lift\",
+    \"below\",
+    \"above\",
+    0,
+};
+static const char *const PLAN_NAMES_OF_ZONES[] = {
+    \"lower\",
+    \"upper\",
+    0,
+};
+static const char *const PLAN_NAMES_OF_PLACES[] = {
+    \"cabin\",
+    \"ground\",
+    \"gallery\",
+    0,
+};
+static const char *const PLAN_NAMES_OF_POSES[] = {
+    \"travelling\",
+    \"load_below\",
+    \"unload_above\",
+    \"unload_below\",
+    \"load_above\",
+    0,
+};
+static const char *const PLAN_NAMES_OF_MOTORS[] = {
+    0,
+};
+
+/* Motors and sensors, by machine and name: their bits in the lines of programs, and in what a turn gives and takes. */
+#define PLAN_MOTORS 0
+
+/* The programs, and how many lines each has, for bagunjoki_plan_take_turn. They are here only if bagunjoki_plan.h is
+   included before this header. */
+#ifdef BAGUNJOKI_PLAN_H
+static const bagunjoki_plan_line PLAN_PROGRAM_LIFT[] = {
+    {0, BAGUNJOKI_PLAN_CLAIM, PLAN_ZONE_LOWER, 0},
+    {0, BAGUNJOKI_PLAN_CLAIM, PLAN_ZONE_UPPER, 0},
+    {0, BAGUNJOKI_PLAN_SET_POSE, PLAN_POSE_LIFT_TRAVELLING, 0},
+    {0, BAGUNJOKI_PLAN_SET_POSE, PLAN_POSE_LIFT_LOAD_BELOW, 0},
+    {0, BAGUNJOKI_PLAN_YIELD, PLAN_ZONE_LOWER, 0},
+    {0, BAGUNJOKI_PLAN_TAKE, PLAN_ZONE_LOWER, 0},
+    {0, BAGUNJOKI_PLAN_SET_POSE, PLAN_POSE_LIFT_TRAVELLING, 0},
+    {0, BAGUNJOKI_PLAN_SET_POSE, PLAN_POSE_LIFT_UNLOAD_ABOVE, 0},
+    {0, BAGUNJOKI_PLAN_GIVE, PLAN_ZONE_UPPER, 0},
+    {0, BAGUNJOKI_PLAN_SET_POSE, PLAN_POSE_LIFT_TRAVELLING, 0},
+    {0, BAGUNJOKI_PLAN_SET_POSE, PLAN_POSE_LIFT_LOAD_ABOVE, 0},
+    {0, BAGUNJOKI_PLAN_YIELD, PLAN_ZONE_UPPER, 0},
+    {0, BAGUNJOKI_PLAN_TAKE, PLAN_ZONE_UPPER, 0},
+    {0, BAGUNJOKI_PLAN_SET_POSE, PLAN_POSE_LIFT_TRAVELLING, 0},
+    {0, BAGUNJOKI_PLAN_SET_POSE, PLAN_POSE_LIFT_UNLOAD_BELOW, 0},
+    {0, BAGUNJOKI_PLAN_GIVE, PLAN_ZONE_LOWER, 0},
+    {0, BAGUNJOKI_PLAN_RELEASE, PLAN_ZONE_UPPER, 0},
+};
+#define PLAN_LINES_LIFT 17
+static const bagunjoki_plan_line PLAN_PROGRAM_BELOW[] = {
+    {0, BAGUNJOKI_PLAN_GIVE, PLAN_ZONE_LOWER, 0},
+    {0, BAGUNJOKI_PLAN_TAKE, PLAN_ZONE_LOWER, 0},
+    {0, BAGUNJOKI_PLAN_RELEASE, PLAN_ZONE_LOWER, 0},
+};
+#define PLAN_LINES_BELOW 3
+static const bagunjoki_plan_line PLAN_PROGRAM_ABOVE[] = {
+    {0, BAGUNJOKI_PLAN_TAKE, PLAN_ZONE_UPPER, 0},
+    {0, BAGUNJOKI_PLAN_YIELD, PLAN_ZONE_UPPER, 0},
+    {0, BAGUNJOKI_PLAN_GIVE, PLAN_ZONE_UPPER, 0},
+};
+#define PLAN_LINES_ABOVE 3
+#endif
 
 /* The plan, for bagunjoki_plan.h. */
 static const uint8_t PLAN_BYTES[] = {

@@ -1,8 +1,8 @@
 -- One line more, after those so far.
-use Rattle.std.proofs.Common.{◌≡◌, ℕ, ◌+◌, suc, zero, List, ◌++◌, flat_map, sym, ap, subst, ◌∙◌, arith}
+use Rattle.std.proofs.Common.{◌≡◌, ◌<◌, ℕ, ◌+◌, suc, zero, List, [], ◌∷◌, ◌++◌, flat_map, get_or, length, take, sym, ap, subst, ◌∙◌, arith}
 use Rattle.std.proofs.Common.{Result, Ok, Err, OnOk}
 use Rattle.std.specs.List.{range_with_len}
-use Rattle.std.proofs.lemmas.List.{append_assoc, append-nil}
+use Rattle.std.proofs.lemmas.List.{append_assoc, append-nil, flat_map_more, take_more}
 
 from_more : (f : ℕ → List ℕ) (a n j : ℕ) → a + n ≡ j
     → flat_map f (range_with_len a (suc n)) ≡ flat_map f (range_with_len a n) ++ f j
@@ -29,3 +29,12 @@ three_parts (Err e) old one two all a b c first second third = tt
 three_parts (Ok x) old one two all a b c first second third =
     third ∙ ap (λ l. l ++ c) (second ∙ ap (λ l. l ++ b) first) ∙ append_assoc (old ++ a) b c
     ∙ append_assoc old a (b ++ c)
+
+-- one item more of a list
+pub item_more : {X : Type 0} (f : X → List ℕ) (xs : List X) (i : ℕ) (d : X) (old before new : List ℕ) → i < length xs
+    → before ≡ old ++ flat_map f (take i xs) → new ≡ before ++ f (get_or xs i d)
+    → new ≡ old ++ flat_map f (take (i + 1) xs)
+item_more f xs i d old before new h so_far next =
+    let x = get_or xs i d in
+    next ∙ ap (λ l. l ++ f x) so_far ∙ append_assoc old (flat_map f (take i xs)) (f x)
+    ∙ ap (λ l. old ++ l) (flat_map_more f [] (take i xs) x ∙ sym (ap (flat_map f) (take_more xs i d h)))
