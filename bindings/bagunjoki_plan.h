@@ -5,12 +5,13 @@
    bagunjoki_plan_step answers a call on such a word, and gives the word after it. bagunjoki_plan_ask makes a call on a
    word that threads or processes share; bagunjoki_plan_settle asks until it is answered. BAGUNJOKI_PLAN_MAY_RUN tells
    of a word that was loaded whether a motor may run. bagunjoki_plan_take_turn takes a turn of a machine that goes
-   through a program: it makes the calls, and says which motors are on. Nothing takes memory by malloc, or a lock.
+   through a program: it makes the calls, and says which motors are on. bagunjoki_plan_resume takes back a word and the
+   places of machines that were stored, after a power cut. Nothing takes memory by malloc, or a lock.
 
-   What is proved (crates/plan_c): what the seven functions of the library return. What isn't: the loops of
-   bagunjoki_plan_ask, bagunjoki_plan_settle, bagunjoki_plan_take_turn and bagunjoki_plan_renew, which your compiler
-   translates. They are right if
-     - nothing but these four writes the word after it was set to a start's,
+   What is proved (crates/plan_c): what the eight functions of the library return. What isn't: the loops of
+   bagunjoki_plan_ask, bagunjoki_plan_settle, bagunjoki_plan_take_turn, bagunjoki_plan_renew and bagunjoki_plan_resume,
+   which your compiler translates. They are right if
+     - nothing but the first four writes the word after it was set to a start's, or taken back,
      - no two callers call as the same machine,
      - all callers pass the same plan, and
      - nothing but bagunjoki_plan_open makes a bagunjoki_plan_opened, or writes to it. A copy is as good.
@@ -123,7 +124,7 @@ typedef struct bagunjoki_plan_line {
     uint8_t until;
 } bagunjoki_plan_line;
 
-/* A machine's place in its program: {0, 0} at first. Two bytes to store for a power cut. */
+/* A machine's place in its program: {0, 0} at first. Two bytes to store for a power cut, with the word. */
 typedef struct bagunjoki_plan_place {
     uint8_t line;    /* from 0 */
     uint8_t stopped; /* the answer that has stopped the machine for good; 0 while it goes on */
@@ -191,6 +192,15 @@ bagunjoki_plan_turned bagunjoki_plan_turn(const bagunjoki_plan_opened *plan, uin
                                           const bagunjoki_plan_line *program, size_t count, bagunjoki_plan_place place,
                                           bool read, uint32_t sensors);
 
+/* Whether a machine may go on at a place that was stored, by the word that was stored with it: the place is at a line
+   of its program, and what the calls of the lines before it tell (zones that it holds, postures) is so in the word's
+   state. Of a place and a word of one moment it always is, if the word came from a start by calls and the machine to
+   its place by turns. False if there is no plan, the word is no state's, or a line is no step.
+   If the program runs only what it may, each motor that is on in the turns that go on there is permitted, as in those
+   from the first line, whatever led to the word. A machine that has stopped stays so. */
+bool bagunjoki_plan_is_in_step(const bagunjoki_plan_opened *plan, uint64_t word, uint8_t machine,
+                               const bagunjoki_plan_line *program, size_t count, bagunjoki_plan_place place);
+
 #ifdef __cplusplus
 }
 typedef std::atomic<uint64_t> bagunjoki_plan_word;
@@ -208,6 +218,21 @@ typedef _Atomic uint64_t bagunjoki_plan_word;
 /* Makes a word that threads or processes share the word of a start. Before the first call, and by one thread. */
 static inline void bagunjoki_plan_begin(bagunjoki_plan_word *shared, uint64_t start) {
     BAGUNJOKI_PLAN_ATOMIC(store)(shared, start);
+}
+
+/* Takes back the word and the places of the machines 0, 1 and so on, `machines` of them, as they were stored. If all
+   are in step, it makes the shared word this one, and gives NOTHING; by one thread, before the first turn. Else it
+   gives the first machine that isn't, and changes nothing: all motors stay off, and the plant is brought to a start by
+   hand. No proof speaks of this loop. */
+static inline uint8_t bagunjoki_plan_resume(const bagunjoki_plan_opened *plan, bagunjoki_plan_word *shared,
+                                            uint64_t word, const bagunjoki_plan_line *const *programs,
+                                            const size_t *counts, const bagunjoki_plan_place *places,
+                                            uint8_t machines) {
+    for (uint8_t machine = 0; machine < machines; machine++)
+        if (!bagunjoki_plan_is_in_step(plan, word, machine, programs[machine], counts[machine], places[machine]))
+            return machine;
+    bagunjoki_plan_begin(shared, word);
+    return BAGUNJOKI_PLAN_NOTHING;
 }
 
 /* Loads a shared word, sequentially consistent, for BAGUNJOKI_PLAN_MAY_RUN. */

@@ -1,6 +1,6 @@
 /* Two machines at a press, by turns: each goes through a program of calls, waits and runs of its motor, and the library
    says in each turn which motors are on (docs/FROM_C.md, "Another plant"). The switches are played here: a motor comes
-   to its next switch after three turns.
+   to its next switch after three turns. After every thousandth turn the machines go on as after a power cut.
    cc plan_turns.c $(pkg-config --cflags --libs bagunjoki_plan) */
 #include <bagunjoki_plan.h>
 #include <stdio.h>
@@ -60,6 +60,14 @@ static void turn(struct machine *machine) {
     machine->rounds += machine->place.line < line;
 }
 
+/* After a power cut: the word and the places are taken back as they were stored, if both machines are in step. */
+static bool comes_back(uint64_t word, bagunjoki_plan_place of_loader, bagunjoki_plan_place of_press) {
+    const bagunjoki_plan_line *programs[] = {loader_program, press_program};
+    const size_t counts[] = {9, 14};
+    const bagunjoki_plan_place places[] = {of_loader, of_press};
+    return bagunjoki_plan_resume(&plan, &plant, word, programs, counts, places, 2) == BAGUNJOKI_PLAN_NOTHING;
+}
+
 int main(void) {
     struct machine loader = {"loader", LOADER, loader_program, 9, 2, 0, 0, {0, 0}};
     struct machine press = {"press", PRESS, press_program, 14, 3, 0, 0, {0, 0}};
@@ -72,6 +80,7 @@ int main(void) {
         turn(&loader);
         turn(&press);
         bagunjoki_plan_renew(&plan, &plant, 1000000, 0, 8);
+        if (k % 1000 == 0 && !comes_back(bagunjoki_plan_load(&plant), loader.place, press.place)) return 1;
     }
     const struct machine *both[] = {&loader, &press};
     for (int k = 0; k < 2; k++)

@@ -1,2 +1,3 @@
 mod Turning
 mod GoingOn
+mod Resuming

@@ -5,6 +5,7 @@ pub mod Starts
 pub mod Lines
 pub mod Turning
 pub mod Courses
+pub mod Resuming
 pub mod Laws
 pub mod Examples
 pub mod NumberExamples

@@ -25,12 +25,14 @@ ghost use Rattle.plan_c.specs.Replies as replies;
 ghost use Rattle.plan_c.specs.Lines.{HasStep, NoStep};
 ghost use Rattle.plan_c.specs.Turning as turning;
 ghost use Rattle.plan_c.specs.Turning.{IsTurn, Rests};
+ghost use Rattle.plan_c.specs.Resuming.{MayGoOn};
 
 use crate::by_plan::{NO_STAMP, NO_WORD, reply_by, restamp_by, stamp_by, start_by};
 use crate::calls::call_with;
 use crate::line::ProgramLine;
 use crate::opened::Opened;
 use crate::reply::{NO_CALL, NO_PLAN, Reply, bare_reply};
+use crate::resume::is_in_step_by;
 use crate::turn::{Place, Turned, resting, sensors_if, turn_by};
 use plan_motors::MotorMask;
 use plan_rules::laws::lawful_histories;
@@ -190,4 +192,25 @@ pub extern "C" fn bagunjoki_plan_turn(
     } else {
         resting(NO_PLAN, word, place)
     }
+}
+
+/// Whether a machine may go on at a place in its program, as after a power cut, by the word that was stored with it:
+/// the lines are a program's, the word is a state's whose zones are open as poses give, the place is at a line at which
+/// the machine is in step with the state, and a stop in it is a refusal's. If the program runs only what it may, each
+/// motor that is on in the turns that go on there is permitted: laws `resumes_go_on` and `turns_go_on`.
+#[unsafe(no_mangle)]
+pub extern "C" fn bagunjoki_plan_is_in_step(
+    plan: &Opened,
+    word: u64,
+    machine: u8,
+    program: &[ProgramLine],
+    place: Place,
+) -> bool
+    ensures in_step { (t : PlanTable) (state : PlanState)
+        → IsOpened t plan.now → IsWordOf t word state
+        → (IsTrue result ↔ MayGoOn t state machine program.now place) }
+    ensures no_state { (t : PlanTable) → IsOpened t plan.now → NoState t word → result ≡ false }
+    ensures no_plan { IsNotOpened plan.now → result ≡ false }
+{
+    plan.is_plan && is_in_step_by(&plan.compiled, word, machine, program, place)
 }

@@ -5,6 +5,7 @@ ghost use Rattle.plan_c.specs.Examples.{StartsAreJudged};
 ghost use Rattle.plan_c.specs.Laws.{NoStateHasNoWord};
 ghost use Rattle.plan_c.specs.NumberExamples.{CallsAreMet, GivenIsMet};
 ghost use Rattle.plan_c.specs.NumberExamples.{NumbersAreMet, RepliesAreMet};
+ghost use Rattle.plan_c.specs.Resuming.{ResumesGoOn};
 
 use plan_rules::laws::lawful_histories;
 use plan_word::laws::words_are_laid_out;
@@ -46,6 +47,15 @@ pub fn given_is_met()
 /// may, each motor that is on is permitted, whatever others do, until the machine's next call is done.
 pub fn turns_go_on()
     ensures { TurnsGoOn }
+{
+    lawful_histories();
+}
+
+/// A machine that may go on at its place, by a word's state, is in place with that state as the opening: so
+/// `turns_go_on` holds from there, whatever led to the word. And the place and the word to which turns have led are
+/// taken back.
+pub fn resumes_go_on()
+    ensures { ResumesGoOn }
 {
     lawful_histories();
 }

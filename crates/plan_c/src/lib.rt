@@ -10,6 +10,7 @@ mod line;
 mod opened;
 mod places;
 mod reply;
+mod resume;
 #[cfg(test)]
 mod tests;
 mod turn;

@@ -13,7 +13,7 @@ const AWAIT: u8 = 16;
 const RUN: u8 = 17;
 
 /// The most lines that a program has.
-const MAX_LINES: usize = 255;
+pub(crate) const MAX_LINES: usize = 255;
 
 /// A line of a machine's program.
 #[repr(C)]
@@ -29,7 +29,8 @@ pub struct ProgramLine {
     pub until: u8,
 }
 
-fn step_of(line: ProgramLine) -> Option<Step>
+/// The step of a line, or `None` if the line is no step's.
+pub(crate) fn step_of(line: ProgramLine) -> Option<Step>
     ensures { (step : PlanStep) → (result ≡ Some step) ↔ (line ≡ row_of step) }
 {
     match (line.kind, line.motors, line.object, line.until) {

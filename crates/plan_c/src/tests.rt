@@ -2,8 +2,8 @@
 
 use crate::calls::call_with;
 use crate::exports::{
-    bagunjoki_plan_may_run, bagunjoki_plan_open, bagunjoki_plan_restamp, bagunjoki_plan_stamp,
-    bagunjoki_plan_start, bagunjoki_plan_step, bagunjoki_plan_turn,
+    bagunjoki_plan_is_in_step, bagunjoki_plan_may_run, bagunjoki_plan_open, bagunjoki_plan_restamp,
+    bagunjoki_plan_stamp, bagunjoki_plan_start, bagunjoki_plan_step, bagunjoki_plan_turn,
 };
 use crate::line::ProgramLine;
 use crate::opened::Opened;
@@ -173,6 +173,45 @@ fn the_press_takes_turns(rt: HostRuntime) -> Result<(), Fail> {
     );
     assert!(rt; stopped.answer == 255 && stopped.place == refused.place);
     Ok(())
+}
+
+// Each place and word that turns lead to are taken back, and others aren't: with the ram running a line that comes after
+// the next call, a line past the end, a number that stops nothing, another word, no plan.
+#[test]
+fn places_are_taken_back(rt: HostRuntime) -> Result<(), Fail> {
+    let press = Plan::new(examples::press(rt.alloc())?).expect(&rt, "a plan");
+    let bytes = write_plan(rt.alloc(), &press)?;
+    let plan = bagunjoki_plan_open(&bytes);
+    let mut word = start_of(&plan);
+    let mut place = place_at(0, 0);
+    for (read, sensors, ..) in TURNS {
+        assert!(rt; bagunjoki_plan_is_in_step(&plan, word, 1, &program(), place));
+        let turned = bagunjoki_plan_turn(&plan, word, 1, &program(), place, *read, *sensors);
+        word = turned.word;
+        place = turned.place;
+    }
+    let claimed = bagunjoki_plan_step(&plan, start_of(&plan), 1, 1, 0).next;
+    let moving = bagunjoki_plan_step(&plan, claimed, 1, 6, 3).next;
+    for (line, stopped, wanted) in [
+        (2, 0, true),
+        (2, 3, true),
+        (2, 11, false),
+        (4, 0, false),
+        (6, 0, false),
+    ] {
+        let at = place_at(line, stopped);
+        assert!(rt; bagunjoki_plan_is_in_step(&plan, moving, 1, &program(), at) == wanted);
+    }
+    let run = place_at(2, 0);
+    assert!(rt; !bagunjoki_plan_is_in_step(&plan, claimed, 1, &program(), run));
+    assert!(rt; !bagunjoki_plan_is_in_step(&plan, u64::MAX, 1, &program(), run));
+    assert!(rt; !bagunjoki_plan_is_in_step(&plan, moving, 1, &no_steps(), run));
+    assert!(rt; !bagunjoki_plan_is_in_step(&bagunjoki_plan_open(&[]), moving, 1, &program(), run));
+    Ok(())
+}
+
+fn place_at(line: u8, stopped: u8) -> Place {
+    Place { line, stopped }
 }
 
 fn start_of(plan: &Opened) -> u64 {
