@@ -1,7 +1,8 @@
 /* The interlock of any plant, by its plan, for C and C++.
 
-   `plan header` prints a plan's bytes, and the numbers of its machines, zones, poses and places, from 0.
-   bagunjoki_plan_open reads them once, and all others take what it gives. The state of the plant is one 64-bit word.
+   `plan header` prints the numbers of a plan's machines, zones, poses and places, from 0, the machines' programs, if this
+   header is included before that one, and the plan's bytes.
+   bagunjoki_plan_open reads these once, and all others take what it gives. The state of the plant is one 64-bit word.
    bagunjoki_plan_step answers a call on such a word, and gives the word after it. bagunjoki_plan_ask makes a call on a
    word that threads or processes share; bagunjoki_plan_settle asks until it is answered. BAGUNJOKI_PLAN_MAY_RUN tells
    of a word that was loaded whether a motor may run. bagunjoki_plan_take_turn takes a turn of a machine that goes

@@ -17,6 +17,7 @@ STRUCTS = [f"crates/plan_c/src/{it}.rt" for it in ("reply", "line", "turn")]
 EXPORTS = "crates/plan_c/src/exports.rt"
 TESTS = "crates/plan_c/src/tests.rt"
 HEADER = "bindings/bagunjoki_plan.h"
+LATHE_HEADER = "bindings/examples/plan_lathe.h"
 BUSY = 66
 # The structs of the header, by those of the crate.
 KINDS = {"Reply": "reply", "ProgramLine": "line", "Place": "place", "Turned": "turned"}
@@ -33,6 +34,9 @@ press: 10000 calls done, its motor run 3000 times, stopped by 0
 TURNS = """loader: 2380 rounds, its motor on in 28572 turns, stopped by 0
 press: 2381 rounds, its motor on in 21429 turns, stopped by 0
 """
+LATHE = "".join(f"{it}: 100 rounds, stopped by 0\n" for it in ("conveyor", "feeder", "lathe", "unloader"))
+LATHE += "no two motors of a hazard were on together\n"
+LATHES = [[], ["processes"], ["cuts"], ["processes", "cuts"]]
 
 
 def of_crates(root):
@@ -116,6 +120,23 @@ def turns(trials, compiler, *flags):
     program = trials.compile(compiler, "examples/plan_turns.c", *flags, library="bagunjoki_plan")
     said = trials.run([program])
     return "" if said == TURNS else trials.fail(f"it writes\n{said}and not\n{TURNS}")
+
+
+def lathe(trials, compiler, *flags):
+    """Four machines at work in threads and in processes, also through power cuts."""
+    program = trials.compile(compiler, "examples/plan_lathe.c", *flags, library="bagunjoki_plan")
+    for words in LATHES:
+        said = trials.run([program, *words])
+        if said != LATHE:
+            trials.fail(f"with {words} it writes\n{said}and not\n{LATHE}")
+    return ""
+
+
+def lathe_header(trials, program):
+    """The header beside plan_lathe.c is the one that the program writes."""
+    written = trials.run([program, "header"], text_of(f"{trials.root}/examples/plans/lathe.toml"))
+    there = written == text_of(f"{trials.root}/{LATHE_HEADER}")
+    return "" if there else trials.fail(f"it differs: ./plan header < examples/plans/lathe.toml > {LATHE_HEADER}")
 
 
 def walk(trials, compiler, *flags):

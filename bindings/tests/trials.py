@@ -337,7 +337,9 @@ def in_all_languages(trials, compilers):
         trials.attempt("interior.rs by cargo", example_by_cargo, trials)
     trials.attempt("interior.py by a wheel", example_by_wheel, trials)
     program = f"{trials.root}/crates/plan/out/plan"
-    if not os.path.exists(program):
+    if os.path.exists(program):
+        trials.attempt("plan_lathe.h", plans.lathe_header, trials, program)
+    else:
         trials.absent.append("./plan")
     for version, path in pythons():
         trials.attempt(f"Python {version}", python, trials, path)
@@ -374,12 +376,14 @@ def at_other_plants(trials, compilers):
     for compiler in compilers:
         trials.attempt(f"plan_press.c by {compiler}", plans.press, trials, compiler)
         trials.attempt(f"plan_turns.c by {compiler}", plans.turns, trials, compiler)
+        trials.attempt(f"plan_lathe.c by {compiler}", plans.lathe, trials, compiler)
         trials.attempt(f"settle.c at a press by {compiler}", settled, trials, compiler, "-DPLAN")
         trials.attempt(f"calls at a lift as by the rules, {compiler}", plans.walk, trials, compiler)
         for which in ("address,undefined", "thread"):
             if can_sanitize(compiler, which):
                 flags = ["-g", f"-fsanitize={which}", "-fno-sanitize-recover=all"]
                 trials.attempt(f"plan_press.c, {which} sanitizer, {compiler}", plans.press, trials, compiler, *flags)
+                trials.attempt(f"plan_lathe.c, {which} sanitizer, {compiler}", plans.lathe, trials, compiler, *flags)
                 trials.attempt(f"no memory, {which}, {compiler}", plans.memory, trials, compiler, *flags)
     for compiler in trials.there("g++", "clang++"):
         trials.attempt(f"calls at a lift, {compiler}", plans.walk, trials, compiler, "-x", "c++")
