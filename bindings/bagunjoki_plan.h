@@ -186,9 +186,9 @@ bool bagunjoki_plan_may_run(uint64_t word, uint64_t mask, uint64_t pattern);
    others' calls may mend leaves the machine at its line; any other one stops it for good.
    It changes no shared word. If the answer is DONE, the turn counts only once the word has been exchanged for `word`,
    as bagunjoki_plan_take_turn does.
-   If the program runs only what it may, and the machine is at its first line, or came to its place by such turns, each
-   motor that is on is permitted, whatever others do, until the machine's next call is done. Your duty, as with
-   bagunjoki_plan_may_run: before its next call a motor is off and at rest. */
+   If the program runs only what it may, and the machine is at its first line, or was in step, or came to its place from
+   there by such turns, each motor that is on is permitted, whatever others do, until the machine's next call is done.
+   Your duty, as with bagunjoki_plan_may_run: before its next call a motor is off and at rest. */
 bagunjoki_plan_turned bagunjoki_plan_turn(const bagunjoki_plan_opened *plan, uint64_t word, uint8_t machine,
                                           const bagunjoki_plan_line *program, size_t count, bagunjoki_plan_place place,
                                           bool read, uint32_t sensors);

@@ -106,9 +106,14 @@ has_step rows steps line program l =
       row = ap (λ x. slice_get x line) program.rows_are ∙ slice_get-map row_of steps line ∙ ap (option_map row_of) at;
     }
 
-resumed : (t : PlanTable) (s : State) (m : ℕ) (rows : List ProgramLine) (place : Place) (on : MayGoOn t s m rows place) → ResumesInPlace t s m rows place on
+resumed : (t : PlanTable) (s : State) (m : ℕ) (rows : List ProgramLine) (place : Place) → MayGoOn t s m rows place → ResumesInPlace t s m rows place
 resumed t s m rows place on = record {
+  steps = on.by.steps;
+  stopped = on.stop.0;
+  rows_are = on.by.program.rows_are;
   step = has_step rows on.by.steps place.line on.by.program (subst (λ n. place.line < n) (length-map on.by.steps line_of) on.by.in_step.line);
+  stop = on.stop.1;
+  opens = on.opens;
   in_place = stays_in_step t s [] m (map line_of on.by.steps) place.line on.by.in_step (All-nil (λ e. ¬ (is_done_by m e ≡ true)));
 }
 

@@ -44,11 +44,16 @@ pub record MayGoOn (t : PlanTable) (s : State) (m : ℕ) (rows : List ProgramLin
   pub opens : OpensByPoses t s
   pub stop : IsStop place.stopped
 
--- a machine that may go on is in place, with the word's state as the opening: so turns go on from there
-pub record ResumesInPlace (t : PlanTable) (s : State) (m : ℕ) (rows : List ProgramLine) (place : Place)
-    (on : MayGoOn t s m rows place) : Type 0 where
-  pub step : HasStep rows on.by.steps place.line
-  pub in_place : InPlace t s [] (control m on.by.steps place.line on.stop.0)
+-- A machine that may go on has all that a turn by `bagunjoki_plan_turn`, and its motors by the law of turns, ask for: a
+-- step at its line and the stop of its place; and it is in place, with the word's state as the opening.
+pub record ResumesInPlace (t : PlanTable) (s : State) (m : ℕ) (rows : List ProgramLine) (place : Place) : Type 0 where
+  pub steps : List Step
+  pub stopped : Option Refusal
+  pub rows_are : rows ≡ map row_of steps
+  pub step : HasStep rows steps place.line
+  pub stop : place.stopped ≡ stop_number stopped
+  pub opens : OpensByPoses t s
+  pub in_place : InPlace t s [] (control m steps place.line stopped)
 
 -- and the place to which turns have led is one to go on at, by the word to which they have led
 abbrev pub PlacesAreTakenBack : Type 0
@@ -59,5 +64,5 @@ PlacesAreTakenBack =
 
 pub record ResumesGoOn : Type 0 where
   pub resumed : (t : PlanTable) (s : State) (m : ℕ) (rows : List ProgramLine) (place : Place)
-      (on : MayGoOn t s m rows place) → ResumesInPlace t s m rows place on
+      → MayGoOn t s m rows place → ResumesInPlace t s m rows place
   pub taken_back : PlacesAreTakenBack
