@@ -1,5 +1,5 @@
 -- What each law of the cell and its plan says of the cell's plan: the law, of a state and a call.
-use Rattle.std.proofs.Common.{◌≡◌, ◌⊎◌, inl, ⊎_elim, true, false, Some, refl, sym, ◌∙◌}
+use Rattle.std.proofs.Common.{◌≡◌, inl, ⊎_elim, true, false, Some, None, refl, sym, ◌∙◌}
 use Rattle.cell_types.specs.declared.machine.Machine.{Machine}
 use Rattle.cell_types.specs.declared.machine.Machine.TheVariants.{Feed, Table, Press, Deposit, Crane, Watch}
 use Rattle.cell_types.specs.declared.zone.Zone.TheVariants.{Z1, Z3, Z6}
@@ -79,6 +79,7 @@ calls s m c d is = record {
   stopped = λ law answered. undone (plan_reply cell_table) law s m c d is Stopped answered (no_stop s m c);
   worn = λ law answered. undone (plan_reply cell_table) law s m c d is Worn answered (no_wear s m c);
   crane = λ law crane done. ⊎_elim (λ e. e) (λ own. absurd (crane_has_none s m c own.0 crane own.2)) (law.refused s m c d is done);
+  has_call = λ law e. let f : None ≡ Some d = sym ((law m c).1 e) ∙ is in cc;
   held_back = λ law rule. belt_moves s m c InUse refl ((law.test s m c InUse).0 rule);
 }
 
@@ -90,8 +91,7 @@ states s m = record {
   inquiry = λ law. law s m Z3 (by_plan.Inquire 2) refl;
   advance = λ law. (law m Advance).1 refl;
   pose = λ p law none. let e : SetPose p ≡ Advance = (law m (SetPose p)).0 none in cc;
-  stop = λ law none. let e : Stop ≡ Advance = (law m Stop).0 none in cc;
-  resume = λ law none. let e : Resume ≡ Advance = (law m Resume).0 none in cc;
+  missing = λ c law. (law m c).0;
 }
 
 literal : LiteralStatesTell

@@ -1,6 +1,6 @@
 -- What the laws of refusals say of the cell's plan, of any state with the last stamp: what would be done, were stamps
--- left, is refused as Worn. Machine 3 is the press, which hosts zone 2; 2 is the robot, its guest; 15 is the watch. Pose
--- 3 of the press moves zone 2.
+-- left, is refused as Worn. Machine 3 is the press, which hosts zone 2; 2 is the robot, its guest; 15 is the watch.
+-- Pose 3 of the press moves zone 2.
 use Rattle.std.specs.Prelude.{◌≡◌, ◌≢◌, ℕ, true, false, Some, None}
 use Rattle.plan_types.specs.declared.posture.Posture.TheVariants.{Closed, OpenIn}
 use Rattle.plan_types.specs.declared.call.Call.{Call}

@@ -58,6 +58,7 @@ pub record AnyCallTells (s : ModelState) (m : Machine) (c : Call) (d : PlanCall)
   pub worn : RefusesByItsOwnRules → reply s m c ≡ Refused Worn → by_plan s m d ≢ PlanDone
   -- the crane has no rule of its own
   pub crane : OwnRulesAreThese → m ≡ Crane → by_plan s m d ≡ PlanDone → reply s m c ≡ Done
+  pub has_call : AdvanceAloneIsMissing → c ≢ Advance
   pub held_back : OwnRulesAreThese → IsTrue (is_own_rule s m c InUse) → (zone_at s Z6).posture ≡ Moving
 
 -- of any state, whoever asks
@@ -70,14 +71,14 @@ pub record AnyStateTells (s : ModelState) (m : Machine) : Type 0 where
   pub inquiry : InquiriesAreAlike → by_plan s m (DoInquire 2) ≡ shown_in s Z3
   pub advance : AdvanceAloneIsMissing → plan_call m Advance ≡ None
   pub pose : (p : Pose) → AdvanceAloneIsMissing → plan_call m (SetPose p) ≢ None
-  pub stop : AdvanceAloneIsMissing → plan_call m Stop ≢ None
-  pub resume : AdvanceAloneIsMissing → plan_call m Resume ≢ None
+  pub missing : (c : Call) → AdvanceAloneIsMissing → plan_call m c ≡ None → c ≡ Advance
 
 -- of literal states, stopped and at the last stamp
 pub record LiteralStatesTell : Type 0 where
   pub done : CellRefusesMore → DoneCalls (plan_reply cell_table) (plan_next cell_table)
   pub undone : RefusesByItsOwnRules → UndoneCalls (plan_reply cell_table)
-  pub resumes : CellRefusesMore → DoneBy (plan_reply cell_table) (plan_next cell_table) stopped_cell Watch Resume DoResume
+  pub resumes : CellRefusesMore
+      → DoneBy (plan_reply cell_table) (plan_next cell_table) stopped_cell Watch Resume DoResume
   pub claims : CellRefusesMore → reply stopped_cell Table (Claim Z1) ≢ Done
   pub leaves : RefusesByItsOwnRules → reply crane_in Crane (Release Z6) ≡ Done
   pub rules : OwnRulesAreThese → reply crane_in Crane (Release Z6) ≡ Done
@@ -87,7 +88,8 @@ pub record LiteralStatesTell : Type 0 where
   pub press : OwnRulesRefuse → reply (worn_cell (insert_place empty PressOut) true) Press (SetPose Middle) ≢ Done
   pub shown : InquiriesAreAlike → by_plan stopped_cell Table (DoInquire 0) ≡ Shown None false IsClosed
   pub worn_shown : InquiriesAreAlike → by_plan (worn_cell empty true) Watch (DoInquire 5) ≡ Shown None false IsClosed
-  pub sound : SoundByPlan → IsSound (worn_cell empty true) → IsSoundByPlan cell_table (plan_state (worn_cell empty true))
+  pub sound : SoundByPlan → IsSound (worn_cell empty true)
+      → IsSoundByPlan cell_table (plan_state (worn_cell empty true))
 
 pub record LawRows : Type 0 where
   pub calls : (s : ModelState) (m : Machine) (c : Call) (d : PlanCall) (is : plan_call m c ≡ Some d)
