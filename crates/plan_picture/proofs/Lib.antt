@@ -1,0 +1,5 @@
+mod Apart
+mod Drawn
+mod Fitting
+mod PictureRows
+pub mod lemmas

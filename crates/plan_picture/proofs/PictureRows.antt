@@ -1,0 +1,31 @@
+-- The examples of `parts_are_met`.
+use Rattle.std.proofs.Common.{refl}
+use Rattle.std.specs.Fmt.{digits}
+use Rattle.plan_picture.specs.PictureExamples.{ElementsAreMet, PartsAreMet}
+
+pub elements-met : ElementsAreMet
+unfolding digits
+elements-met = record {
+  entities = refl;
+  others = refl;
+  unprintable = refl;
+  upright = refl;
+  circle = refl;
+  short = refl;
+  long = refl;
+  slanted = refl;
+}
+
+pub parts-met : PartsAreMet
+unfolding digits
+parts-met = record {
+  machine = refl;
+  place = refl;
+  motor = refl;
+  title = refl;
+  parties = refl;
+  ways = refl;
+  ends = refl;
+  hazard = refl;
+  head = refl;
+}

@@ -1,0 +1,10 @@
+use Rattle.std.proofs.Common.{◌≡◌, ◌≤◌}
+use Rattle.plan_picture.specs.Scenes as spec
+use Rattle.plan_picture.specs.Scenes.{scene}
+use Rattle.plan_picture.proofs.positions.owned.Given as goal
+
+abbrev pub invariant-things : goal.invariant-things
+invariant-things l = record {
+  count : l.count ≡ spec.owned (scene l.plan) l.machine l.thing;
+  below : l.count ≤ l.thing;
+}

@@ -1,0 +1,10 @@
+//! A plan as a picture.
+#![tactic(auto)]
+
+mod elements;
+pub mod laws;
+pub mod picture;
+mod positions;
+mod verdicts;
+
+pub use picture::picture_of;
