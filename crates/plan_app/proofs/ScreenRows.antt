@@ -59,6 +59,7 @@ served-meant = record {
   report = λ bytes old new (plan, is, (text, tells, wrote)). (plan, is, text, tells, wrote);
   header = λ bytes old new said. said;
   python = λ bytes old new said. said;
+  picture = λ bytes old new said. said;
   answers = λ bytes old new (plan, is, (clean, wrote)). (plan, is, clean, wrote);
   free = λ bytes old new (plan, is, (opening, at, (text, tells, wrote))). (plan, is, opening, at, text, tells, wrote);
   silent = λ n ps s (text, tells, all). let e = tells.told in absurd (cc);

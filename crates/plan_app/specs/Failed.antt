@@ -14,12 +14,13 @@ use Rattle.plan_document.specs.Reading.{IsPlanIn}
 use Rattle.plan_document.specs.declared.resolving.ProgrammedPlan.{ProgrammedPlan}
 use Rattle.plan_header.specs.Printed.{header_of}
 use Rattle.plan_header.specs.Modules.{module_text}
+use Rattle.plan_picture.specs.Pictures.{IsPicture}
 use Rattle.plan_app.specs.Hazards.{TellsReport, start_if}
 use Rattle.plan_app.specs.Input.{byte_limit, document_in, script_in}
 use Rattle.plan_app.specs.Screens.{TellsGoing, TellsStandstill}
 use Rattle.plan_app.specs.Sizes.{ComeToMore}
 use Rattle.plan_app.specs.declared.request.Request.{Request}
-use Rattle.plan_app.specs.declared.request.Request.TheVariants.{Explore, Header, Module, Replay}
+use Rattle.plan_app.specs.declared.request.Request.TheVariants.{Draw, Explore, Header, Module, Replay}
 
 -- ---- lines of faults
 
@@ -92,12 +93,16 @@ abbrev pub WroteModule : ProgrammedPlan → Option Text → Option Text → Type
 WroteModule plan old new =
     WrotePrefix old new (module_text plan.named plan.motors.names plan.motors.motors.items)
 
+abbrev pub WrotePicture : ProgrammedPlan → Option Text → Option Text → Type 0
+WrotePicture plan old new = (text : Text) × IsPicture plan text × WrotePrefix old new text
+
 -- what was asked
 abbrev pub FailsBy : Request → ProgrammedPlan → Text → Option Text → Option Text → Type 0
 FailsBy Replay plan script old new = WroteAnswers plan.named script old new
 FailsBy Explore plan script old new = WroteEnd plan script old new
 FailsBy Header plan script old new = WroteHeader plan old new
 FailsBy Module plan script old new = WroteModule plan old new
+FailsBy Draw plan script old new = WrotePicture plan old new
 FailsBy _ plan script old new = WroteReport plan script old new
 
 -- ---- by the plan of the document in these bytes

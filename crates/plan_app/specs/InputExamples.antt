@@ -5,7 +5,8 @@ use Rattle.plan_app.specs.Input.{byte_limit, document_in, max_bytes_read, plan_l
 use Rattle.plan_app.specs.Requests.{request_of}
 use Rattle.plan_app.specs.Words.{counted}
 use Rattle.plan_app.specs.declared.request.Request.{Request}
-use Rattle.plan_app.specs.declared.request.Request.TheVariants.{Check, Replay, Explore, Header, Module, Help, Version}
+use Rattle.plan_app.specs.declared.request.Request.TheVariants.{Check, Replay, Explore, Header, Module, Draw}
+use Rattle.plan_app.specs.declared.request.Request.TheVariants.{Help, Version}
 
 -- a document of one line, and a script of one
 abbrev pub both : List ℕ
@@ -43,6 +44,7 @@ pub record RequestsAreRead : Type 0 where
   pub replay : asked (codes "replay") ≡ Some Replay
   pub explore : asked (codes "explore") ≡ Some Explore
   pub header : asked (codes "header") ≡ Some Header
+  pub draw : asked (codes "draw") ≡ Some Draw
   pub python : asked_with (codes "header") (codes "--python") ≡ Some Module
   pub help : asked (codes "--help") ≡ Some Help
   pub help_short : asked (codes "-h") ≡ Some Help
@@ -54,6 +56,7 @@ pub record RequestsAreRead : Type 0 where
   pub help_of_replay : asked_with (codes "replay") (codes "-h") ≡ Some Help
   pub help_of_explore : asked_with (codes "explore") (codes "-h") ≡ Some Help
   pub help_of_header : asked_with (codes "header") (codes "--help") ≡ Some Help
+  pub help_of_draw : asked_with (codes "draw") (codes "--help") ≡ Some Help
   pub help_of_other : asked_with (codes "explain") (codes "--help") ≡ None
   pub version_of_check : asked_with (codes "check") (codes "--version") ≡ None
   -- no word, or other ones
@@ -66,6 +69,7 @@ pub record RequestsAreRead : Type 0 where
   pub twice : asked_with (codes "check") (codes "check") ≡ None
   -- only a header is written for Python, by this word
   pub check_for_python : asked_with (codes "check") (codes "--python") ≡ None
+  pub draw_for_python : asked_with (codes "draw") (codes "--python") ≡ None
   pub header_for_rust : asked_with (codes "header") (codes "--rust") ≡ None
   pub longer_word : asked_with (codes "header") (codes "--pythons") ≡ None
   pub python_alone : asked (codes "--python") ≡ None

@@ -5,11 +5,12 @@ use Rattle.program_shell.specs.Asked.{asked_of}
 use Rattle.program_shell.specs.declared.asked.Asked.{Asked}
 use Rattle.program_shell.specs.declared.asked.Asked.TheVariants as asked
 use Rattle.plan_app.specs.declared.request.Request.{Request}
-use Rattle.plan_app.specs.declared.request.Request.TheVariants.{Check, Replay, Explore, Header, Module, Help, Version}
+use Rattle.plan_app.specs.declared.request.Request.TheVariants.{Check, Replay, Explore, Header, Module, Draw}
+use Rattle.plan_app.specs.declared.request.Request.TheVariants.{Help, Version}
 
 -- the words of this program alone
 abbrev pub own_words : List (List ℕ)
-own_words = codes "check" ∷ codes "replay" ∷ codes "explore" ∷ codes "header" ∷ []
+own_words = codes "check" ∷ codes "replay" ∷ codes "explore" ∷ codes "header" ∷ codes "draw" ∷ []
 
 -- what each of them asks for
 abbrev pub request_by : List ℕ → Option Request
@@ -18,7 +19,8 @@ request_by word =
     else (if bytes_eq word (codes "replay") then Some Replay
     else (if bytes_eq word (codes "explore") then Some Explore
     else (if bytes_eq word (codes "header") then Some Header
-    else None)))
+    else (if bytes_eq word (codes "draw") then Some Draw
+    else None))))
 
 -- what a word asks for with the name of a language
 abbrev pub request_for : List ℕ → List ℕ → Option Request

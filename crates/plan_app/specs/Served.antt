@@ -10,6 +10,7 @@ use Rattle.csv_rows.specs.declared.script_end.Outcome.TheVariants.{Clean}
 use Rattle.plan_text.specs.Script.{script_answers, script_start}
 use Rattle.plan_header.specs.Printed.{header_of}
 use Rattle.plan_header.specs.Modules.{module_text}
+use Rattle.plan_picture.specs.Pictures.{IsPicture}
 use Rattle.plan_app.specs.Input.{document_in, script_in}
 use Rattle.plan_app.specs.Hazards.{TellsReport, start_if}
 use Rattle.plan_app.specs.Screens.{TellsFree}
@@ -36,6 +37,10 @@ FindsFree plan script old new =
 abbrev pub WritesReport : ProgrammedPlan → List ℕ → Option (List ℕ) → Option (List ℕ) → Type 0
 WritesReport plan script old new =
     (text : List ℕ) × TellsReport plan (start_if (script_start plan.named script)) true text × Appends old new text
+
+-- a picture of the plan was written, and nothing else
+abbrev pub WritesPicture : ProgrammedPlan → Option (List ℕ) → Option (List ℕ) → Type 0
+WritesPicture plan old new = (text : List ℕ) × IsPicture plan text × Appends old new text
 
 -- ---- by the plan of the document in these bytes
 
@@ -66,6 +71,11 @@ WritesModuleIn bytes old new =
     (plan : ProgrammedPlan) × IsPlanIn (document_in bytes) plan
     × Appends old new (module_text plan.named plan.motors.names plan.motors.motors.items)
 
+-- or its picture
+abbrev pub WritesPictureIn : List ℕ → Option (List ℕ) → Option (List ℕ) → Type 0
+WritesPictureIn bytes old new =
+    (plan : ProgrammedPlan) × IsPlanIn (document_in bytes) plan × WritesPicture plan old new
+
 -- ---- by the plan of the document in the input
 
 abbrev pub AnswersInput : Option (List ℕ) → Option (List ℕ) → Option (List ℕ) → Type 0
@@ -82,3 +92,6 @@ WritesHeader input old new = IfSome input (λ bytes. WritesHeaderIn bytes old ne
 
 abbrev pub WritesModule : Option (List ℕ) → Option (List ℕ) → Option (List ℕ) → Type 0
 WritesModule input old new = IfSome input (λ bytes. WritesModuleIn bytes old new)
+
+abbrev pub Draws : Option (List ℕ) → Option (List ℕ) → Option (List ℕ) → Type 0
+Draws input old new = IfSome input (λ bytes. WritesPictureIn bytes old new)

@@ -18,6 +18,8 @@ pub enum Request {
     Header,
     /// Prints a module for Python.
     Module,
+    /// Prints a picture.
+    Draw,
     /// Prints help.
     Help,
     /// Prints the version.
@@ -25,7 +27,7 @@ pub enum Request {
 }
 
 /// The words of this program alone that may follow its name.
-const OWN: &[&str] = &["check", "replay", "explore", "header"];
+const OWN: &[&str] = &["check", "replay", "explore", "header", "draw"];
 
 /// What the words ask for. The first is the program's name, and one of its own words follows; which words ask for help
 /// and for the version is that of every program (`asked_of`). `None` for other words.
@@ -69,6 +71,7 @@ fn request_by(word: &str) -> Option<Request>
         "replay" => Some(Request::Replay),
         "explore" => Some(Request::Explore),
         "header" => Some(Request::Header),
+        "draw" => Some(Request::Draw),
         _ => None,
     }
 }

@@ -13,13 +13,14 @@ ghost use Rattle.plan_header.specs.Printed.{header_of as header_text};
 ghost use Rattle.plan_header.specs.Modules.{module_text};
 ghost use Rattle.plan_app.specs.Failed.{Fails, FailsBy, FailsIn, WroteAnswers, WroteDocumentFault};
 ghost use Rattle.plan_app.specs.Failed.{WroteEnd, WroteEndFrom, WroteFault, WroteHeader};
-ghost use Rattle.plan_app.specs.Failed.{WroteModule, WroteReport, WroteReportFrom, WroteScreen};
-ghost use Rattle.plan_app.specs.Failed.{WroteUnread};
+ghost use Rattle.plan_app.specs.Failed.{WroteModule, WrotePicture, WroteReport, WroteReportFrom};
+ghost use Rattle.plan_app.specs.Failed.{WroteScreen, WroteUnread};
 ghost use Rattle.plan_app.specs.Input.{byte_limit, max_bytes_read};
-ghost use Rattle.plan_app.specs.Served.{AnswersIn, AnswersInput, AnswersScript, FindsFree};
+ghost use Rattle.plan_app.specs.Served.{AnswersIn, AnswersInput, AnswersScript, Draws, FindsFree};
 ghost use Rattle.plan_app.specs.Served.{FindsFreeIn, FindsInputFree, Reports, ReportsIn};
 ghost use Rattle.plan_app.specs.Served.{WritesFree, WritesHeader, WritesHeaderIn, WritesModule};
-ghost use Rattle.plan_app.specs.Served.{WritesModuleIn, WritesReport};
+ghost use Rattle.plan_app.specs.Served.{WritesModuleIn, WritesPicture, WritesPictureIn};
+ghost use Rattle.plan_app.specs.Served.{WritesReport};
 ghost use Rattle.plan_app.specs.Requests.{request_of};
 
 use crate::explore::{Screen, screen_of};
@@ -30,6 +31,7 @@ use crate::request::Request;
 use crate::size::{MAX_SITUATIONS, is_large};
 use plan_document::{PlanTextFault, ProgrammedPlan, plan_of};
 use plan_header::{header_of, module_of};
+use plan_picture::picture_of;
 use plan_rules::State;
 use plan_text::{NamedPlan, Outcome, ScriptAnswers, ScriptFault, answer_script, start_of_script};
 use program_shell::{Exit, fail, print, print_version, refuse_words, with_texts};
@@ -50,6 +52,7 @@ Reads a plan of a plant, in TOML, from standard input.
                   goes on for ever, or in which order it starves
   plan header     prints its names and the layout of its word for C; with --python, a module
                   for Python
+  plan draw       draws it, as SVG: machines, their places and motors, zones, and hazards
   plan --version  prints the version
 A script may follow the plan in each case. At most 1,000,000 situations are explored; more
 are fault large. Exit status: 0 on success, and for help; 2 for bad arguments; otherwise
@@ -65,7 +68,7 @@ const _: () = prove!(MAX_SITUATIONS == 1_000_000);
 
 /// What is printed for other words.
 const OTHER_WORDS: &str =
-    "error: the only argument is check, replay, explore, header, --help or --version\n";
+    "error: the only argument is check, replay, explore, header, draw, --help or --version\n";
 
 /// Reads a plan and a script after it: all bytes, unless there are too many.
 fn read_input<R: Read>(alloc: Global, reader: &mut R) -> Result<Vec<u8>, InputFault>
@@ -135,6 +138,8 @@ fn serve_input<R: Read, W: Write>(
         WritesHeader (R.remaining reader.old) (W.contents writer.old) (W.contents writer.new) }
     ensures python { request ≡ Request.Module → result ≡ Exit.Well →
         WritesModule (R.remaining reader.old) (W.contents writer.old) (W.contents writer.new) }
+    ensures picture { request ≡ Request.Draw → result ≡ Exit.Well →
+        Draws (R.remaining reader.old) (W.contents writer.old) (W.contents writer.new) }
     ensures failed { result ≡ Exit.Failed → Fails request
         (R.remaining reader.old) (W.contents writer.old) (W.contents writer.new) }
     ensures read { TakesAtMost (R.remaining reader.old) (R.remaining reader.new) max_bytes_read }
@@ -160,6 +165,8 @@ fn serve_bytes<W: Write>(alloc: Global, request: Request, bytes: &[u8], writer: 
         WritesHeaderIn bytes.now (W.contents writer.old) (W.contents writer.new) }
     ensures python { request ≡ Request.Module → result ≡ Exit.Well →
         WritesModuleIn bytes.now (W.contents writer.old) (W.contents writer.new) }
+    ensures picture { request ≡ Request.Draw → result ≡ Exit.Well →
+        WritesPictureIn bytes.now (W.contents writer.old) (W.contents writer.new) }
     ensures failed { result ≡ Exit.Failed →
         FailsIn request bytes.now (W.contents writer.old) (W.contents writer.new) }
 {
@@ -193,6 +200,8 @@ fn serve_plan<W: Write>(
     ensures python { request ≡ Request.Module → result ≡ Exit.Well →
         Appends (W.contents writer.old) (W.contents writer.new)
         (module_text plan.named plan.motors.names plan.motors.motors.items) }
+    ensures picture { request ≡ Request.Draw → result ≡ Exit.Well →
+        WritesPicture plan (W.contents writer.old) (W.contents writer.new) }
     ensures failed { result ≡ Exit.Failed →
         WroteUnread (W.contents writer.old) (W.contents writer.new)
         ⊎ FailsBy request plan script.now (W.contents writer.old) (W.contents writer.new) }
@@ -200,6 +209,7 @@ fn serve_plan<W: Write>(
     match request {
         Request::Header => print_header(alloc, &plan, writer),
         Request::Module => print_module(alloc, &plan, writer),
+        Request::Draw => print_picture(alloc, &plan, writer),
         Request::Replay => replay_script(alloc, &plan.named, script, writer),
         Request::Explore => explore_script(alloc, &plan, script, writer),
         _ => report_script(alloc, &plan, script, writer),
@@ -282,6 +292,20 @@ fn print_module<W: Write>(alloc: Global, plan: &ProgrammedPlan, writer: &mut W) 
         ⊎ WroteModule plan.now (W.contents writer.old) (W.contents writer.new) }
 {
     match module_of(alloc, plan) {
+        Ok(text) => print(writer, text.as_bytes()),
+        Err(AllocError) => fail(writer, "memory"),
+    }
+}
+
+fn print_picture<W: Write>(alloc: Global, plan: &ProgrammedPlan, writer: &mut W) -> Exit
+    ensures status { result ≢ Exit.Refused }
+    ensures picture { result ≡ Exit.Well →
+        WritesPicture plan.now (W.contents writer.old) (W.contents writer.new) }
+    ensures failed { result ≡ Exit.Failed →
+        WroteUnread (W.contents writer.old) (W.contents writer.new)
+        ⊎ WrotePicture plan.now (W.contents writer.old) (W.contents writer.new) }
+{
+    match picture_of(alloc, plan) {
         Ok(text) => print(writer, text.as_bytes()),
         Err(AllocError) => fail(writer, "memory"),
     }
@@ -419,13 +443,16 @@ pub fn serve<R: Read, W: Write>(alloc: Global, words: &[&str], reader: &mut R, w
         FindsInputFree (R.remaining reader.old) (W.contents writer.old) (W.contents writer.new) }
 
     // With `check`: status 0 says that this plan's report was written, and that the motors of each hazard are kept
-    // apart. With `header`: that its header was written, or with `header --python` its module.
+    // apart. With `header`: that its header was written, or with `header --python` its module. With `draw`: its
+    // picture.
     ensures check { request_of (texts_of words.now) ≡ Some Request.Check → result ≡ 0 →
         Reports (R.remaining reader.old) (W.contents writer.old) (W.contents writer.new) }
     ensures header { request_of (texts_of words.now) ≡ Some Request.Header → result ≡ 0 →
         WritesHeader (R.remaining reader.old) (W.contents writer.old) (W.contents writer.new) }
     ensures python { request_of (texts_of words.now) ≡ Some Request.Module → result ≡ 0 →
         WritesModule (R.remaining reader.old) (W.contents writer.old) (W.contents writer.new) }
+    ensures draw { request_of (texts_of words.now) ≡ Some Request.Draw → result ≡ 0 →
+        Draws (R.remaining reader.old) (W.contents writer.old) (W.contents writer.new) }
 
     // Status 1 says for each of these what was written, of which the writer may have taken but a prefix: the line of a
     // fault; or, by the plan of the document in the input, what follows.
@@ -440,7 +467,8 @@ pub fn serve<R: Read, W: Write>(alloc: Global, words: &[&str], reader: &mut R, w
         Fails Request.Explore (R.remaining reader.old)
         (W.contents writer.old) (W.contents writer.new) }
 
-    // With `check`: its report. With `header`: its header, or with `header --python` its module.
+    // With `check`: its report. With `header`: its header, or with `header --python` its module. With `draw`: its
+    // picture.
     ensures check_fails { request_of (texts_of words.now) ≡ Some Request.Check → result ≡ 1 →
         Fails Request.Check (R.remaining reader.old)
         (W.contents writer.old) (W.contents writer.new) }
@@ -449,6 +477,9 @@ pub fn serve<R: Read, W: Write>(alloc: Global, words: &[&str], reader: &mut R, w
         (W.contents writer.old) (W.contents writer.new) }
     ensures python_fails { request_of (texts_of words.now) ≡ Some Request.Module → result ≡ 1 →
         Fails Request.Module (R.remaining reader.old)
+        (W.contents writer.old) (W.contents writer.new) }
+    ensures draw_fails { request_of (texts_of words.now) ≡ Some Request.Draw → result ≡ 1 →
+        Fails Request.Draw (R.remaining reader.old)
         (W.contents writer.old) (W.contents writer.new) }
 
     // Status 2 comes exactly for other words, of which a line was printed, or a prefix of it.
@@ -464,6 +495,7 @@ pub fn serve<R: Read, W: Write>(alloc: Global, words: &[&str], reader: &mut R, w
         Some(Request::Check) => serve_input(alloc, Request::Check, reader, writer).status(),
         Some(Request::Header) => serve_input(alloc, Request::Header, reader, writer).status(),
         Some(Request::Module) => serve_input(alloc, Request::Module, reader, writer).status(),
+        Some(Request::Draw) => serve_input(alloc, Request::Draw, reader, writer).status(),
         Some(Request::Replay) => serve_input(alloc, Request::Replay, reader, writer).status(),
         Some(Request::Explore) => serve_input(alloc, Request::Explore, reader, writer).status(),
         Some(Request::Help) => print(writer, HELP.as_bytes()).status(),

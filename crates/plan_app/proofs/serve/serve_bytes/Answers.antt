@@ -28,6 +28,11 @@ returns-in-Ok-clause-python g c =
     let is : IsPlanIn (document_in c.args.bytes.now) c.in-Ok.plan = rw (c.split_at.ensures.front, c.plan_length.ensures.length) at c.in-Ok.ensures.plan in
     λ request well. (c.in-Ok.plan, is, c.serve_plan.ensures.python request well)
 
+pub returns-in-Ok-clause-picture : goal.returns-in-Ok-clause-picture
+returns-in-Ok-clause-picture g c =
+    let is : IsPlanIn (document_in c.args.bytes.now) c.in-Ok.plan = rw (c.split_at.ensures.front, c.plan_length.ensures.length) at c.in-Ok.ensures.plan in
+    λ request well. (c.in-Ok.plan, is, c.serve_plan.ensures.picture request well)
+
 pub returns-in-Ok-clause-failed : goal.returns-in-Ok-clause-failed
 returns-in-Ok-clause-failed g c =
     let is : IsPlanIn (document_in c.args.bytes.now) c.in-Ok.plan = rw (c.split_at.ensures.front, c.plan_length.ensures.length) at c.in-Ok.ensures.plan in

@@ -17,5 +17,5 @@ returns-clause-failed g c = λ failed.
       | inr wrote ↦
           inr
           (report_fails c.args.request c.args.plan c.args.script.now _ _ c.in_default.not-Replay c.in_default.not-Explore
-          c.in_default.not-Header c.in_default.not-Module wrote)
+          c.in_default.not-Header c.in_default.not-Module c.in_default.not-Draw wrote)
     ]
