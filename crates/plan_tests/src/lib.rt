@@ -35,6 +35,8 @@ mod motor_faults;
 #[cfg(test)]
 mod motors;
 #[cfg(test)]
+mod pictures;
+#[cfg(test)]
 mod programs;
 #[cfg(test)]
 mod progress;

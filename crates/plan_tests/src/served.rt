@@ -7,7 +7,7 @@ use std::alloc::{AllocError, Global};
 use test_doubles::{FailingReader, FailingWriter, arguments_in, count_parts, part};
 
 const OTHER_WORDS: &str =
-    "error: the only argument is check, replay, explore, header, --help or --version\n";
+    "error: the only argument is check, replay, explore, header, draw, --help or --version\n";
 
 const NO_TEXT: &str = "error: a word isn't UTF-8\n";
 
@@ -35,6 +35,7 @@ const ASTRAY: &str = "\
     ./plan help|\
     ./plan header --rust|\
     ./plan check --python|\
+    ./plan draw --python|\
     ./plan ";
 
 /// Whether the program answers these arguments and an empty input with this status and text.
@@ -70,7 +71,8 @@ const HELPS: &str = "\
     ./plan check --help|\
     ./plan replay -h|\
     ./plan explore --help --version|\
-    ./plan header --help";
+    ./plan header --help|\
+    ./plan draw --help";
 
 /// Whether these words are answered with the help, and the input is left alone.
 fn is_helped(alloc: Global, line: &str) -> bool {
