@@ -57,12 +57,10 @@ static const struct {
     SENSOR(UNLOADER, WITHDRAWN, 8, 0, MOTOR(UNLOADER_AT_BELT) | MOTOR(UNLOADER_IN_LATHE)),
 };
 
-#define PROGRAM(name) {PLAN_MACHINE_##name, PLAN_LINES_##name, PLAN_PROGRAM_##name}
-
-static const struct machine {
-    uint8_t number, count;
-    const bagunjoki_plan_line *program;
-} machines[PLAN_MACHINES] = {PROGRAM(CONVEYOR), PROGRAM(FEEDER), PROGRAM(LATHE), PROGRAM(UNLOADER)};
+static const bagunjoki_plan_line *const programs[PLAN_MACHINES] = {PLAN_PROGRAM_CONVEYOR, PLAN_PROGRAM_FEEDER,
+                                                                   PLAN_PROGRAM_LATHE, PLAN_PROGRAM_UNLOADER};
+static const size_t counts[PLAN_MACHINES] = {PLAN_LINES_CONVEYOR, PLAN_LINES_FEEDER, PLAN_LINES_LATHE,
+                                             PLAN_LINES_UNLOADER};
 
 /* What outlives a cut: the word, the places, and where the plant stands. */
 static struct kept {
@@ -102,33 +100,45 @@ static void set_motors(uint8_t machine, uint64_t motors, uint64_t turns) {
 /* ---- the machines */
 
 /* A machine's loop: only this thread, or process, takes its turns. */
-static void *run(void *given) {
-    const struct machine *it = given;
-    bagunjoki_plan_place *place = &kept->places[it->number];
+static void run(uint8_t machine) {
+    bagunjoki_plan_place *place = &kept->places[machine];
     for (uint64_t turns = 0; !atomic_load(&kept->over); turns++) {
         uint8_t line = place->line;
-        bagunjoki_plan_turned turned = bagunjoki_plan_take_turn(&plan, &kept->word, it->number, it->program, it->count,
-                                                                place, true, read_sensors(it->number), 8);
-        set_motors(it->number, turned.motors, turns);
-        if (place->line < line) atomic_fetch_add(&kept->rounds[it->number], 1);
+        bagunjoki_plan_turned turned =
+            bagunjoki_plan_take_turn(&plan, &kept->word, machine, programs[machine], counts[machine], place, true,
+                                     read_sensors(machine), 8);
+        set_motors(machine, turned.motors, turns);
+        if (place->line < line) atomic_fetch_add(&kept->rounds[machine], 1);
         if (place->stopped) atomic_store(&kept->over, true);
         wait_for(20);
     }
+}
+
+static void *thread(void *machine) {
+    run(*(const uint8_t *)machine);
     return NULL;
 }
 
-/* After a cut: if the power went between a call and the store of the place, the call would now be refused by an answer
-   that it has at this line at no other time. Then the machine goes on after it. */
-static void go_on(const struct machine *it) {
-    bagunjoki_plan_place *place = &kept->places[it->number];
-    const bagunjoki_plan_line *line = &it->program[place->line];
+/* After a cut: if the power went between a call and the store of the place, the machine isn't in step any more, or the
+   call would now be refused by an answer that it has at this line at no other time. Then it goes on after the call. */
+static void go_on(uint8_t machine, uint64_t word) {
+    bagunjoki_plan_place *place = &kept->places[machine];
+    const bagunjoki_plan_line *line = &programs[machine][place->line];
+    uint8_t answer = bagunjoki_plan_step(&plan, word, machine, line->kind, line->object).answer;
+    if (answer == BAGUNJOKI_PLAN_ALREADY_MINE || answer == BAGUNJOKI_PLAN_NO_PLATE ||
+        !bagunjoki_plan_is_in_step(&plan, word, machine, programs[machine], counts[machine], *place))
+        place->line = (uint8_t)((place->line + 1) % counts[machine]);
+}
+
+/* Takes back the word and the places. At a start, too, all machines are in step. */
+static bool come_back(void) {
     uint64_t word = bagunjoki_plan_load(&kept->word);
-    bool lets_go = line->kind == BAGUNJOKI_PLAN_GIVE || line->kind == BAGUNJOKI_PLAN_YIELD ||
-                   line->kind == BAGUNJOKI_PLAN_RELEASE;
-    uint8_t answer = bagunjoki_plan_step(&plan, word, it->number, line->kind, line->object).answer;
-    if (answer == BAGUNJOKI_PLAN_ALREADY_MINE || answer == BAGUNJOKI_PLAN_JUMP || answer == BAGUNJOKI_PLAN_NO_PLATE ||
-        (answer == BAGUNJOKI_PLAN_NOT_OWNER && lets_go))
-        place->line = (uint8_t)((place->line + 1) % it->count);
+    for (uint8_t k = 0; k < PLAN_MACHINES; k++) {
+        atomic_store(&kept->on[k], 0);
+        go_on(k, word);
+    }
+    return bagunjoki_plan_resume(&plan, &kept->word, word, programs, counts, kept->places, PLAN_MACHINES) ==
+           BAGUNJOKI_PLAN_NOTHING;
 }
 
 /* ---- the watcher */
@@ -165,20 +175,22 @@ static bool watch(void) {
 /* Has the machines at work, and watches them. */
 static bool work(bool processes) {
     pthread_t threads[PLAN_MACHINES];
-    bool started = true;
+    uint8_t numbers[PLAN_MACHINES];
+    bool started = come_back();
     atomic_store(&kept->over, false);
-    for (int k = 0; k < PLAN_MACHINES; k++) {
-        atomic_store(&kept->on[k], 0);
-        go_on(&machines[k]);
-    }
-    for (int k = 0; k < PLAN_MACHINES; k++)
-        if (processes) {
-            pid_t child = fork();
-            if (child == 0) _exit(run((void *)&machines[k]) != NULL);
-            started &= child > 0;
-        } else {
-            started &= pthread_create(&threads[k], NULL, run, (void *)&machines[k]) == 0;
+    for (uint8_t k = 0; k < PLAN_MACHINES && started; k++) {
+        numbers[k] = k;
+        if (!processes) {
+            started = pthread_create(&threads[k], NULL, thread, &numbers[k]) == 0;
+            continue;
         }
+        pid_t child = fork();
+        if (child == 0) {
+            run(k);
+            _exit(0);
+        }
+        started = child > 0;
+    }
     bool safe = started && watch();
     atomic_store(&kept->over, true);
     for (int k = 0; k < PLAN_MACHINES && started; k++) processes ? (void)wait(NULL) : (void)pthread_join(threads[k], NULL);
