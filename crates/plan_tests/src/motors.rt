@@ -223,7 +223,7 @@ const MASKS: &str = "\
 #define PLAN_MASK_LAMP UINT64_C(24)
 #define PLAN_PATTERN_LAMP UINT64_C(24)
 
-/* The plan, for bagunjoki_plan.h. */
+/* The names of each kind, by their numbers. A null comes after the last. */
 ";
 
 #[test]
