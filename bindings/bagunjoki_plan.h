@@ -7,7 +7,8 @@
    word that threads or processes share; bagunjoki_plan_settle asks until it is answered. BAGUNJOKI_PLAN_MAY_RUN tells
    of a word that was loaded whether a motor may run. bagunjoki_plan_take_turn takes a turn of a machine that goes
    through a program: it makes the calls, and says which motors are on. bagunjoki_plan_resume takes back a word and the
-   places of machines that were stored, after a power cut. Nothing takes memory by malloc, or a lock.
+   places of machines that were stored, after a power cut. bagunjoki_plan_log writes calls, as they were answered, as a
+   script. Nothing takes memory by malloc, or a lock.
 
    What is proved (crates/plan_c): what the eight functions of the library return. What isn't: the loops of
    bagunjoki_plan_ask, bagunjoki_plan_settle, bagunjoki_plan_take_turn, bagunjoki_plan_renew and bagunjoki_plan_resume,
@@ -315,6 +316,116 @@ static inline bool bagunjoki_plan_renew(const bagunjoki_plan_opened *plan, bagun
         tries--;
     }
     return true;
+}
+
+/* A log of calls, as a script that `./plan replay` answers as they were answered (docs/FROM_C.md, "A log"). No proof
+   speaks of it. Each thread notes its calls in a log of its own. At the end the entries of all logs are sorted by
+   `order`, and each is written as a record, after the record of the start. That is the order of the one history: calls
+   of one `order` changed nothing, and may stand in any order there, or be left out. Stamps begin again at a renewal: a
+   log goes from a start to the first renewal. */
+
+/* The most bytes that a record takes, with the null after it. */
+#define BAGUNJOKI_PLAN_RECORD 75
+
+/* The names of a plan, as `plan header` prints them:
+   {PLAN_NAMES_OF_MACHINES, PLAN_NAMES_OF_ZONES, PLAN_NAMES_OF_POSES}. */
+typedef struct bagunjoki_plan_names {
+    const char *const *machines;
+    const char *const *zones;
+    const char *const *poses;
+} bagunjoki_plan_names;
+
+/* A call with its answer, as a log keeps it: 8 bytes. */
+typedef struct bagunjoki_plan_entry {
+    uint32_t order; /* twice the stamp after the call, and 1 more unless it was DONE */
+    uint8_t machine;
+    uint8_t verb;
+    uint8_t object;
+    uint8_t answer;
+} bagunjoki_plan_entry;
+
+/* The entry of a call, by its answer and the word after it: `next` of a reply, `word` of a turn. Of a turn, verb and
+   object are kind and object of the line at which the machine was. */
+static inline bagunjoki_plan_entry bagunjoki_plan_note(const bagunjoki_plan_opened *plan, uint8_t machine, uint8_t verb,
+                                                       uint8_t object, uint64_t word, uint8_t answer) {
+    uint32_t order = 2 * bagunjoki_plan_stamp(plan, word) + (answer != BAGUNJOKI_PLAN_DONE);
+    bagunjoki_plan_entry entry = {order, machine, verb, object, answer};
+    return entry;
+}
+
+/* Puts a text behind the `length` letters of a record, as far as it has room, and a null. It gives the length then. */
+static inline size_t bagunjoki_plan_append(char *record, size_t size, size_t length, const char *text) {
+    for (; *text; text++, length++)
+        if (length + 1 < size) record[length] = *text;
+    if (size > 0) record[length < size ? length : size - 1] = 0;
+    return length;
+}
+
+/* The name with a number, or null if there is none. */
+static inline const char *bagunjoki_plan_name(const char *const *names, uint8_t number) {
+    while (*names && number > 0) {
+        names++;
+        number--;
+    }
+    return *names;
+}
+
+/* Whether other poses have the name of this one, too. */
+static inline bool bagunjoki_plan_shares_name(const char *const *poses, const char *name) {
+    unsigned count = 0;
+    for (; *poses; poses++) {
+        size_t at = 0;
+        while (name[at] && name[at] == (*poses)[at]) at++;
+        count += name[at] == (*poses)[at];
+    }
+    return count > 1;
+}
+
+/* Writes the record of an entry, such as "press,claim,interior\n", and gives its length, as snprintf does: without the
+   null after it, and also if `size` bytes are too few, of which it writes no more. A line that awaits a zone is an
+   inquiry. 0, and an empty text, if there is no such record: the entry is of a turn without a call; its answer is none
+   (BUSY, NO_CALL, NO_STATE, NO_PLAN); a number has no name; or it is NO_POSE, and several poses have that name: a script
+   may then mean the machine's own one. */
+static inline size_t bagunjoki_plan_log(char *record, size_t size, const bagunjoki_plan_names *names,
+                                        bagunjoki_plan_entry entry) {
+    static const char *const verbs[] = {0,      "claim", "give",    "yield", "take",  "release",
+                                        "pose", 0,       "inquire", "stop",  "resume"};
+    size_t verb = entry.verb == BAGUNJOKI_PLAN_AWAIT ? (size_t)BAGUNJOKI_PLAN_INQUIRE : entry.verb;
+    bool is_alone = verb == BAGUNJOKI_PLAN_STOP || verb == BAGUNJOKI_PLAN_RESUME;
+    bool is_pose = verb == BAGUNJOKI_PLAN_SET_POSE;
+    bool is_answered = entry.answer <= BAGUNJOKI_PLAN_NOT_STOPPED || entry.answer == BAGUNJOKI_PLAN_SHOWN;
+    bool is_watch = entry.machine == BAGUNJOKI_PLAN_WATCH;
+    const char *caller = is_watch ? "watch" : bagunjoki_plan_name(names->machines, entry.machine);
+    const char *word = verb < sizeof verbs / sizeof *verbs ? verbs[verb] : 0;
+    const char *object = bagunjoki_plan_name(is_pose ? names->poses : names->zones, entry.object);
+    size_t length = bagunjoki_plan_append(record, size, 0, "");
+    if (!is_answered || !caller || !word || (!object && !is_alone)) return length;
+    if (is_pose && entry.answer == BAGUNJOKI_PLAN_NO_POSE && bagunjoki_plan_shares_name(names->poses, object))
+        return length;
+    length = bagunjoki_plan_append(record, size, length, caller);
+    length = bagunjoki_plan_append(record, size, length, ",");
+    length = bagunjoki_plan_append(record, size, length, word);
+    if (!is_alone) {
+        length = bagunjoki_plan_append(record, size, length, ",");
+        length = bagunjoki_plan_append(record, size, length, object);
+    }
+    return bagunjoki_plan_append(record, size, length, "\n");
+}
+
+/* Writes the record of a start, as "start,10\n", or "start,10,7\n" with the first stamp 7: what bagunjoki_plan_start
+   took. It gives the length, as bagunjoki_plan_log does. */
+static inline size_t bagunjoki_plan_log_start(char *record, size_t size, const uint8_t *digits, size_t count,
+                                              uint32_t stamp) {
+    char number[12] = {0}, *first = number + sizeof number - 1;
+    size_t length = bagunjoki_plan_append(record, size, 0, "start,");
+    for (size_t at = 0; at < count; at++) {
+        const char digit[] = {(char)digits[at], 0};
+        length = bagunjoki_plan_append(record, size, length, digit);
+    }
+    for (uint32_t rest = stamp; rest > 0; rest /= 10) *--first = (char)('0' + rest % 10);
+    if (stamp > 0) *--first = ',';
+    length = bagunjoki_plan_append(record, size, length, first);
+    return bagunjoki_plan_append(record, size, length, "\n");
 }
 
 #undef BAGUNJOKI_PLAN_ATOMIC

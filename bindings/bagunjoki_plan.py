@@ -71,6 +71,11 @@ class PlanReply(NamedTuple):
     posture: Optional[Posture] = None
     plate: Optional[bool] = None
 
+    @property
+    def order(self):
+        """The call's place in the history of all calls, until stamps begin again: a log is sorted by it."""
+        return 2 * self.stamp + (self.answer is not Answer.DONE)
+
     def __str__(self):
         words = [word_of(self.answer), self.owner]
         words += [None if self.plate is None else str(int(self.plate)), self.zone]
@@ -99,7 +104,8 @@ class Plant:
 
     def pose(self, machine, name):
         """The number of the pose that a machine means by a name: its own, or else the first with the name."""
-        own = [it for it, pose in enumerate(self.poses) if pose == (machine, name)]
+        caller = self.machine(machine)
+        own = [it for it, (whose, pose) in enumerate(self.poses) if pose == name and self.machine(whose) == caller]
         return own[0] if own else number_in([it for _, it in self.poses], name, "pose")
 
     def machine_name(self, number):
@@ -126,6 +132,13 @@ def number_in(names, name, kind):
     if name not in names:
         raise ValueError(f"{name} is no {kind}")
     return names.index(name)
+
+
+def name_in(names, number, kind):
+    """The name at a place among others."""
+    if number not in range(len(names)):
+        raise ValueError(f"{number} is no {kind}")
+    return names[number]
 
 
 class PlanLibrary:
@@ -178,6 +191,18 @@ class PlanWord(Word):
         else:
             about = 0 if thing is None else number_in(self.plant.zones, thing, "zone")
         return caller, verb, about
+
+    def record(self, machine, verb, thing=None):
+        """A call as the record of a script: by the same words or numbers as `ask`."""
+        (caller, verb, about), plant = self.numbers(machine, verb, thing), self.plant
+        words = ["watch" if caller == WATCH else name_in(plant.machines, caller, "machine"), word_of(verb)]
+        if verb == Verb.SET_POSE:
+            words.append(name_in([it for _, it in plant.poses], about, "pose"))
+            if plant.pose(caller, words[-1]) != about:
+                raise ValueError(f"pose {about} has no record: {words[-1]} means another one")
+        elif verb not in WITHOUT_OBJECT:
+            words.append(name_in(plant.zones, about, "zone"))
+        return ",".join(words)
 
     def reply(self, raw, stamp):
         """The reply, with what its answer names and no more."""

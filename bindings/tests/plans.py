@@ -1,7 +1,9 @@
 """Compares bagunjoki_plan.h with the crates, and tries the library for any plan."""
 
+import os
 import re
 import subprocess
+import sys
 import tempfile
 
 import compare
@@ -13,6 +15,8 @@ EXAMPLES = "crates/plan_types/specs/ByteExamples.antt"
 STAMPS = "crates/plan_rules/specs/State.antt"
 WATCH = "crates/plan_types/specs/Table.antt"
 LINES = "crates/plan_c/specs/Lines.antt"
+NAMES = "crates/plan_text/specs/Names.antt"
+WORDS = "crates/plan_text/specs/Calls.antt"
 STRUCTS = [f"crates/plan_c/src/{it}.rt" for it in ("reply", "line", "turn")]
 EXPORTS = "crates/plan_c/src/exports.rt"
 TESTS = "crates/plan_c/src/tests.rt"
@@ -25,7 +29,7 @@ TYPES = compare.TYPES | {f"bagunjoki_plan_{name}": kind for kind, name in KINDS.
 TYPES["bagunjoki_plan_opened"] = "Opened"
 SLICE = compare.SLICE | {"&Opened": ["*Opened"], "&[ProgramLine]": ["*ProgramLine", "u64"]}
 # The plans that programs here carry, by the byte examples of plan_types.
-PLANS = [("press", f"bindings/examples/plan_{it}.c") for it in ("press", "turns")]
+PLANS = [("press", f"bindings/{it}.c") for it in ("examples/plan_press", "examples/plan_turns", "examples/plan_log", "tests/plan_log")]
 PLANS += [("lift", f"bindings/tests/plan_{it}.c") for it in ("walk", "memory")]
 PLANS += [("press", "bindings/tests/settle.c")]
 PRESS = """loader: 3000 calls done, its motor run 2000 times, stopped by 0
@@ -37,6 +41,62 @@ press: 2381 rounds, its motor on in 21429 turns, stopped by 0
 LATHE = "".join(f"{it}: 100 rounds, stopped by 0\n" for it in ("conveyor", "feeder", "lathe", "unloader"))
 LATHE += "no two motors of a hazard were on together\n"
 LATHES = [[], ["processes"], ["cuts"], ["processes", "cuts"]]
+# What plan_log.c of the tests writes.
+LONGEST = "a2345678901234567890123456789012"
+RECORDS = f"""press,claim,interior
+loader,give,gate
+press,yield,interior
+loader,take,interior
+loader,release,gate
+press,pose,closed
+press,pose,travelling
+loader,pose,closed
+watch,inquire,gate
+loader,inquire,interior
+watch,stop
+press,resume
+watch,resume
+{LONGEST},release,{LONGEST}
+75 of 75
+start,10
+start,0,7
+start,1111111111111111,1048575
+31
+15: 0 2 0: 5
+16: 1 1 0: 0
+17: 1 1 0: 3
+17: 0 1 0: 2
+17: 0 8 0: 32
+18: 1 6 3: 0
+0 records that aren't there, 0 written wrongly
+"""
+# The same in Python: calls by words and by numbers, and those that no record means.
+LOGGED = """from bagunjoki_plan import Plant
+poses = (("loader", "travelling"), ("press", "load"), ("press", "travelling"))
+plan = (2, 1, 3, 2, 1, 0, 1, 0, 1, 1, 1, 0, 0, 0, *[0] * 10, 1, 1, 3, *[0] * 9, 1, 0, 2, *[0] * 9, 0, 1)
+cell = Plant(("loader", "press"), ("interior",), ("hand", "die"), poses, (), plan).word("10")
+calls = [("press", "claim", "interior"), (1, "pose", "travelling"), ("loader", "pose", 0), ("loader", "pose", "load")]
+calls += [("watch", "stop"), (15, "inquire", 0)]
+for call in calls:
+    reply = cell.ask(*call)
+    print(reply.order, cell.record(*call), reply)
+for call in (("loader", "pose", 2), (2, "claim", 0), ("press", "claim", 1), ("press", "pose", 3)):
+    try:
+        print(cell.record(*call))
+    except ValueError as why:
+        print(why)
+"""
+LOGGED_SAID = """2 press,claim,interior done
+4 press,pose,travelling done
+6 loader,pose,travelling done
+7 loader,pose,load nopose
+8 watch,stop done
+9 watch,inquire,interior zone press 0 moving
+pose 2 has no record: travelling means another one
+2 is no machine
+1 is no zone
+3 is no pose
+"""
 
 
 def of_crates(root):
@@ -49,6 +109,9 @@ def of_crates(root):
     limits = {it.upper(): value(replies, it) for it in ("nothing", "no_word", "no_stamp")}
     limits["LAST_STAMP"] = value(text_of(f"{root}/{STAMPS}"), "last_stamp")
     limits["WATCH"] = value(text_of(f"{root}/{WATCH}"), "watch")
+    # (two names and a verb with two commas, a line feed and a null)
+    longest = int(re.search(r"nat_le \(length text\) (\d+)", text_of(f"{root}/{NAMES}"))[1])
+    limits["RECORD"] = 2 * longest + max(map(len, verbs_of_crates(root).values())) + 4
     structs = "".join(text_of(f"{root}/{it}") for it in STRUCTS)
     bodies = {kind: re.search(rf"^pub struct {kind} \{{(.*?)\n\}}", structs, re.M | re.S)[1] for kind in KINDS}
     return found, limits, {kind: re.findall(r"^    pub (\w+): (\w+),$", body, re.M) for kind, body in bodies.items()}
@@ -89,6 +152,21 @@ def functions_of_header(root):
     return found
 
 
+def verbs_of_crates(root):
+    """The words of verbs in scripts, by their numbers."""
+    text = text_of(f"{root}/{WORDS}")
+    said = re.findall(r'^verb_word (\w+) = codes "(\w+)"$', text, re.M) + re.findall(r'call\.(\w+) = codes "(\w+)"$', text, re.M)
+    words = {"SET_POSE" if name == "Pose" else name.upper(): word for name, word in said}
+    return {number: words[name] for name, number in table(text_of(f"{root}/{NUMBERS}"), "verb_number").items()}
+
+
+def verbs_of_header(root):
+    """The same as the header has them."""
+    listed = re.search(r"verbs\[\] = \{(.*?)\};", text_of(f"{root}/{HEADER}"), re.S)[1]
+    words = [it.strip().strip('"') for it in listed.split(",")]
+    return {number: word for number, word in enumerate(words) if word != "0"}
+
+
 def bytes_of(text, begin, end):
     """The numbers that stand between two texts."""
     return [int(it) for it in re.findall(r"\d+", re.search(rf"{begin}(.*?){end}", text, re.S)[1])]
@@ -98,7 +176,8 @@ def differences(root):
     """A line for each difference."""
     said = []
     pairs = zip(("numbers", "limits", "fields"), of_crates(root), of_header(root))
-    for what, wanted, found in (*pairs, ("functions", functions_of_crate(root), functions_of_header(root))):
+    functions = "functions", functions_of_crate(root), functions_of_header(root)
+    for what, wanted, found in (*pairs, functions, ("verbs", verbs_of_crates(root), verbs_of_header(root))):
         if found != wanted:
             said.append(f"{what} are {found} in {HEADER}, and {wanted} in the crates")
     for name, path in PLANS:
@@ -137,6 +216,44 @@ def lathe_header(trials, program):
     written = trials.run([program, "header"], text_of(f"{trials.root}/examples/plans/lathe.toml"))
     there = written == text_of(f"{trials.root}/{LATHE_HEADER}")
     return "" if there else trials.fail(f"it differs: ./plan header < examples/plans/lathe.toml > {LATHE_HEADER}")
+
+
+def records(trials, compiler, *flags):
+    """A log's records, by a plan whose names are made up, and the order of entries."""
+    program = trials.compile(compiler, "tests/plan_log.c", *flags, library="bagunjoki_plan")
+    said = trials.run([program])
+    return "" if said == RECORDS else trials.fail(f"it writes\n{said}and not\n{RECORDS}")
+
+
+def records_in_python(trials, version, module):
+    said = trials.run([version, "-c", LOGGED], **module)
+    return "" if said == LOGGED_SAID else trials.fail(f"it writes\n{said}and not\n{LOGGED_SAID}")
+
+
+def replays(trials):
+    """What answers scripts of plans here: the program, if it is there, and plain Python."""
+    program, plain = f"{trials.root}/crates/plan/out/plan", f"{trials.root}/exercises/plans.py"
+    found = [[program, "replay"]] if os.path.exists(program) else []
+    return found + ([[sys.executable, "-B", plain, "replay"]] if sys.version_info >= (3, 11) else [])
+
+
+def log(trials, compiler, *flags):
+    """The logs of two threads come to a script that is answered as they were, and not one log behind the other."""
+    program = trials.compile(compiler, "examples/plan_log.c", *flags, library="bagunjoki_plan")
+    files = [f"{trials.room}/log.{it}" for it in ("csv", "out")]
+    trials.run([program, *files])
+    plan, script, wanted = map(text_of, (f"{trials.root}/examples/plans/press.toml", *files))
+    start, *rest = script.splitlines(keepends=True)
+    unmerged = start + "".join(sorted(rest, key=lambda it: it.split(",")[0]))
+    if not replays(trials):
+        trials.absent.append("a replay of plan_log.c's script")
+    for words in replays(trials):
+        said, other = ([it.split()[:3] for it in trials.run(words, plan + it).splitlines()] for it in (script, unmerged))
+        if said != [it.split() for it in wanted.splitlines()]:
+            trials.fail(f"{' '.join(words)} answers the script otherwise than the threads were answered")
+        if other == said:
+            trials.fail(f"{' '.join(words)} answers one log behind the other alike")
+    return f"{len(rest)} records"
 
 
 def walk(trials, compiler, *flags):

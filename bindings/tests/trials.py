@@ -227,6 +227,7 @@ def python(trials, version):
     shows = "from bagunjoki import Word; cell = Word(); cell.ask('press', 'claim', 'z3'); cell.show()"
     wants(trials.run([version, "-c", shows], **module), SHOWN)
     wants(trials.run([version, "-c", RENEWALS], **module), "done done done 2\nworn\ndone 8\n8\n8\n")
+    plans.records_in_python(trials, version, module)
     session = "import doctest, sys; sys.exit(doctest.testfile(sys.argv[1], module_relative=False).failed)"
     trials.run([version, "-c", session, f"{trials.root}/docs/FROM_C.md"], **module)
     for call in NO_CALLS:
@@ -377,6 +378,8 @@ def at_other_plants(trials, compilers):
         trials.attempt(f"plan_press.c by {compiler}", plans.press, trials, compiler)
         trials.attempt(f"plan_turns.c by {compiler}", plans.turns, trials, compiler)
         trials.attempt(f"plan_lathe.c by {compiler}", plans.lathe, trials, compiler)
+        trials.attempt(f"plan_log.c by {compiler}", plans.log, trials, compiler)
+        trials.attempt(f"records of a log by {compiler}", plans.records, trials, compiler)
         trials.attempt(f"settle.c at a press by {compiler}", settled, trials, compiler, "-DPLAN")
         trials.attempt(f"calls at a lift as by the rules, {compiler}", plans.walk, trials, compiler)
         for which in ("address,undefined", "thread"):
@@ -384,8 +387,11 @@ def at_other_plants(trials, compilers):
                 flags = ["-g", f"-fsanitize={which}", "-fno-sanitize-recover=all"]
                 trials.attempt(f"plan_press.c, {which} sanitizer, {compiler}", plans.press, trials, compiler, *flags)
                 trials.attempt(f"plan_lathe.c, {which} sanitizer, {compiler}", plans.lathe, trials, compiler, *flags)
+                trials.attempt(f"plan_log.c, {which} sanitizer, {compiler}", plans.log, trials, compiler, *flags)
+                trials.attempt(f"records, {which} sanitizer, {compiler}", plans.records, trials, compiler, *flags)
                 trials.attempt(f"no memory, {which}, {compiler}", plans.memory, trials, compiler, *flags)
     for compiler in trials.there("g++", "clang++"):
+        trials.attempt(f"records of a log, {compiler}", plans.records, trials, compiler, "-x", "c++")
         trials.attempt(f"calls at a lift, {compiler}", plans.walk, trials, compiler, "-x", "c++")
 
 
