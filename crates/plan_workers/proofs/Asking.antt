@@ -14,7 +14,7 @@ use Rattle.word_interlock.proofs.lemmas.Histories.{waits-foreign}
 use Rattle.plan_interlock.specs.Book.{plan_book}
 use Rattle.plan_workers.specs.Lines.{PlanPassView, answer_in}
 
-sees_others : (t : PlanTable) (m : ℕ) (before now : List Event) → Waits (plan_book t) m before now → SeesOthers m before now
+pub sees_others : (t : PlanTable) (m : ℕ) (before now : List Event) → Waits (plan_book t) m before now → SeesOthers m before now
 sees_others t m before now w =
     record { others = w.begins.0; split = w.begins.1; none_own = waits-foreign (plan_book t) m before now w }
 

@@ -12,7 +12,7 @@ pub if_ok : {A E : Type 0} (P Q : A → Type 0) (r : Result A E) → IfOk r P �
 if_ok P Q (Ok v) h f = f v h
 if_ok P Q (Err e) h f = tt
 
-at_work_is : {L D : Type 0} (w : AtWork L D) (k : Control) (l : L) (d : D) → w.control ≡ k → w.line ≡ l → w.devices ≡ d → w ≡ at_work k l d
+pub at_work_is : {L D : Type 0} (w : AtWork L D) (k : Control) (l : L) (d : D) → w.control ≡ k → w.line ≡ l → w.devices ≡ d → w ≡ at_work k l d
 at_work_is w k l d e f h i = record { control = e i; line = f i; devices = h i }
 
 module _ {D : Type 0} (reads : D → Option ℕ → D → Type 0) (drives : D → ℕ → D → Type 0) where

@@ -2,3 +2,14 @@ mod Asking
 mod Turning
 mod Jobs
 mod Passing
+mod Journaling
+mod Auditing
+mod Reading
+mod Counting
+mod States
+mod Noting
+mod Recording
+mod Stuck
+mod Ordering
+mod Closing
+mod AuditRows

@@ -27,13 +27,13 @@ module _ (c now : Control) (same : Type 0) (asks : Call → Option Answer → Ty
   taken_by None None t = stays t.0
   taken_by (Some r) sensors t = stays t.0
 
-  after_turn : (sensors : Option ℕ) → Turns c same asks sensors motors now → Q
+  pub after_turn : (sensors : Option ℕ) → Turns c same asks sensors motors now → Q
   after_turn sensors t = taken_by c.stopped sensors t
 
-same_again : (v : PlanPassView) → IsSamePass v v
+pub same_again : (v : PlanPassView) → IsSamePass v v
 same_again v = record { table = refl; rules = refl; opening = refl; actor = refl }
 
-same_on : (u v w : PlanPassView) → IsSamePass u v → IsSamePass v w → IsSamePass u w
+pub same_on : (u v w : PlanPassView) → IsSamePass u v → IsSamePass v w → IsSamePass u w
 same_on u v w f g = record { table = g.table ∙ f.table; rules = g.rules ∙ f.rules; opening = g.opening ∙ f.opening; actor = g.actor ∙ f.actor }
 
 module _ {D : Type 0} (reads : D → Option ℕ → D → Type 0) (drives : D → ℕ → D → Type 0) where

@@ -4,7 +4,7 @@ use Rattle.std.proofs.lemmas.List.{length-append}
 use Rattle.plan_workers.specs.Works.{AtWork}
 use Rattle.plan_workers.specs.Turning.{Ways, GateOf, TakesTurn, AreTaken, HasCome, HasWorked, last_of}
 
-last_more : {A : Type 0} (first now : A) (turns : List A) → last_of first (turns ++ now ∷ []) ≡ now
+pub last_more : {A : Type 0} (first now : A) (turns : List A) → last_of first (turns ++ now ∷ []) ≡ now
 last_more first now [] = refl
 last_more first now (x ∷ xs) = last_more x now xs
 

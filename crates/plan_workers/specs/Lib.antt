@@ -2,3 +2,10 @@ pub mod Lines
 pub mod Works
 pub mod Turning
 pub mod Jobs
+pub mod Journals
+pub mod Recording
+pub mod Audited
+pub mod Replays
+pub mod AuditExamples
+pub mod Closing
+pub mod Paces

@@ -1,6 +1,7 @@
 //! A gate lets machines begin their turns.
 
-/// Lets a machine begin a turn, or ends its work. It may wait, as for the next tick of a clock.
+/// Lets a machine begin a turn, or ends its work. It may wait, as for the next tick of a clock, or for other machines
+/// ([`crate::PacedPlanGate`]).
 pub trait PlanGate {
     ghost use Rattle.std.specs.Prelude.{⊤, ℕ, Bool};
 

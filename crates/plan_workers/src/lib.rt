@@ -1,16 +1,30 @@
 //! A machine of a plant at work over the interlock that threads share: its line, and its devices.
 #![tactic(auto)]
 
+pub mod audit_fault;
+pub mod audits;
 pub mod devices;
 pub mod gate;
+pub mod journal;
+pub mod journal_line;
+pub mod laws;
+pub mod paced;
 pub mod pass_line;
+pub mod record;
+mod replay;
 pub mod run;
 #[cfg(test)]
 mod tests;
 pub mod worker;
 
+pub use audit_fault::PlanAuditFault;
+pub use audits::audit;
 pub use devices::PlanDevices;
 pub use gate::{OpenPlanGate, PlanGate};
+pub use journal::PlanEntry;
+pub use journal_line::PlanJournalLine;
+pub use paced::PacedPlanGate;
 pub use pass_line::PlanPassLine;
+pub use record::{PlanRecorded, record_by_pass, record_in_threads};
 pub use run::{PlanJob, PlanWorked, work_by_pass, work_in_threads};
 pub use worker::{PlanWorker, WorkTurn};

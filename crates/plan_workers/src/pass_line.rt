@@ -1,5 +1,6 @@
 //! A machine's line to the interlock that threads share, by its pass.
-ghost use Rattle.std.specs.Prelude.{◌≡◌};
+ghost use Rattle.std.specs.Prelude.{◌≡◌, []};
+ghost use Rattle.word_interlock.specs.Asked.{Asked};
 ghost use Rattle.word_interlock.specs.History.{IsLawful};
 ghost use Rattle.plan_interlock.specs.Book.{plan_book, plan_of};
 ghost use Rattle.plan_workers.specs.Lines as lines;
@@ -57,10 +58,20 @@ impl<'a> PlanPassLine<'a> {
         let PlanPassLine { interlock: _, pass } = self;
         pass
     }
+
+    /// Makes one call: what the interlock replies, with the stamp.
+    pub(crate) fn reply_to(&mut self, call: Call) -> Reply<Answer>
+        ensures call { Asked (plan_book self.old.plan) [] self.old.pass call self.old.tries result
+            self.new.pass }
+        ensures plan { self.new.plan ≡ self.old.plan }
+        ensures tries { self.new.tries ≡ self.old.tries }
+    {
+        self.interlock.ask(&mut self.pass, call)
+    }
 }
 
 /// What came back from a call; `None` if it wasn't made.
-fn answer_in(reply: Reply<Answer>) -> Option<Answer>
+pub(crate) fn answer_in(reply: Reply<Answer>) -> Option<Answer>
     ensures { result ≡ lines.answer_in reply }
 {
     match reply {
@@ -98,6 +109,6 @@ impl<'a> PlanLine for PlanPassLine<'a> {
     }
 
     fn ask(&mut self, call: Call) -> Option<Answer> {
-        answer_in(self.interlock.ask(&mut self.pass, call))
+        answer_in(self.reply_to(call))
     }
 }

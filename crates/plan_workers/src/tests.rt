@@ -1,10 +1,17 @@
 //! Two machines at a press at work, with devices that show always the same.
 
-use crate::{OpenPlanGate, PlanDevices, PlanJob, PlanPassLine, PlanWorker, work_in_threads};
-use plan_controller::Step;
+use crate::{
+    OpenPlanGate, PacedPlanGate, PlanAuditFault, PlanDevices, PlanEntry, PlanJob, PlanJournalLine,
+    PlanPassLine, PlanRecorded, PlanWorker, audit, record_in_threads, work_by_pass,
+    work_in_threads,
+};
+use plan_controller::{PlanLine, Step};
 use plan_interlock::examples::press;
-use plan_types::Call;
+use plan_rules::State;
+use plan_types::{Answer, Call, Plan, examples};
 use std::alloc::{AllocError, Global};
+use std::sync::atomic::{AtomicU64, Ordering};
+use std::time::Duration;
 
 /// Sensors that show always the same; the motors that were given last, and those that were ever given.
 #[derive(Drop)]
@@ -96,5 +103,172 @@ fn two_machines_work_in_threads(rt: HostRuntime) -> Result<(), AllocError> {
     );
     assert!(rt; worked[0].devices.ever == 0 && worked[1].devices.ever == 0b1);
     assert!(rt; worked[0].pass.actor() == 0 && worked[1].pass.actor() == 1);
+    Ok(())
+}
+
+/// The loader claims the zone and leaves it, again and again, as far as the press lets it.
+fn steps_of_loader(alloc: Global) -> Result<Vec<Step>, AllocError> {
+    let steps = vec![in alloc; Step::Do(Call::Claim(0)), Step::Do(Call::Release(0))]?;
+    Ok(steps)
+}
+
+/// The plan of the press, and the start of its example.
+fn plan_and_start(alloc: Global) -> Option<(Plan, State)> {
+    let plan = Plan::new(examples::press(alloc).ok()?).ok()?;
+    let mut full = [false; 16];
+    full[0] = true;
+    Some((plan, State::start(full, 0)))
+}
+
+/// The journals that machines gave back.
+fn journals_of(
+    alloc: Global,
+    backs: Vec<PlanRecorded<Shown>>,
+) -> Result<Vec<Vec<PlanEntry>>, AllocError> {
+    let mut journals = Vec::new(alloc);
+    for back in backs {
+        journals.push(back.journal)?;
+    }
+    Ok(journals)
+}
+
+#[test]
+fn a_line_notes_its_calls(rt: HostRuntime) -> Result<(), AllocError> {
+    let Some((interlock, _loader, pass)) = press(rt.alloc()) else {
+        panic!(rt; "no memory");
+    };
+    let mut line = PlanJournalLine::new(rt.alloc(), &interlock, pass);
+    assert!(rt; line.journal().is_empty());
+    let _ = line.ask(Call::Claim(0));
+    let _ = line.ask(Call::Inquire(0));
+    let (_pass, journal) = line.into_parts();
+    assert!(rt; journal.len() == 2 && journal[0].answer == Answer::Done && journal[1].stamp == 1);
+    Ok(())
+}
+
+#[test]
+fn an_audit_accepts_what_threads_noted(rt: HostRuntime) -> Result<(), AllocError> {
+    let Some((interlock, loader, pass)) = press(rt.alloc()) else {
+        panic!(rt; "no memory");
+    };
+    let Some((plan, start)) = plan_and_start(rt.alloc()) else {
+        panic!(rt; "no memory");
+    };
+    let loader = PlanJob {
+        pass: loader,
+        steps: steps_of_loader(rt.alloc())?,
+        devices: Shown::new(Some(0)),
+    };
+    let press = PlanJob {
+        pass,
+        steps: steps_of_press(rt.alloc())?,
+        devices: Shown::new(Some(0)),
+    };
+    let jobs = vec![in rt.alloc(); loader, press]?;
+    let gate = PacedPlanGate::new(&rt, 2, Duration::from_secs(60));
+    let backs = record_in_threads(&rt, rt.alloc(), &interlock, jobs, &gate, 50)?;
+    let journals = journals_of(rt.alloc(), backs)?;
+    let events = audit(rt.alloc(), &plan, &start, &journals, None);
+    assert!(rt; events.is_ok_and(|events| events.len() > 50));
+    Ok(())
+}
+
+/// What is wrong with a journal of the press alone.
+fn fault_of(alloc: Global, entry: PlanEntry, end: Option<&State>) -> Option<PlanAuditFault> {
+    let (plan, start) = plan_and_start(alloc)?;
+    let journal = vec![in alloc; entry].ok()?;
+    let journals = vec![in alloc; Vec::new(alloc), journal].ok()?;
+    audit(alloc, &plan, &start, &journals, end).err()
+}
+
+#[test]
+fn an_audit_tells_what_is_wrong(rt: HostRuntime) {
+    let call = Call::Claim(0);
+    let answer = Answer::Done;
+    let alloc = rt.alloc();
+    let claimed = |stamp: u32| PlanEntry {
+        call,
+        answer,
+        stamp,
+    };
+    let other = PlanEntry {
+        call: Call::Stop,
+        answer,
+        stamp: 1,
+    };
+    assert!(rt; fault_of(alloc, claimed(1), None) == None);
+    assert!(rt; fault_of(alloc, claimed(2), None) == Some(PlanAuditFault::OutOfTurn { stamp: 0 }));
+    let differs = PlanAuditFault::Differs {
+        machine: 1,
+        stamp: 1,
+    };
+    assert!(rt; fault_of(alloc, other, None) == Some(differs));
+    let start = State::start([false; 16], 1);
+    assert!(rt; fault_of(alloc, claimed(1), Some(&start)) == Some(PlanAuditFault::End));
+}
+
+/// Devices that count the turns of their machine, and see whether it runs ahead of another.
+#[derive(Drop)]
+struct Counted<'a> {
+    own: &'a AtomicU64,
+    other: &'a AtomicU64,
+    ran_ahead: bool,
+}
+
+impl PlanDevices for Counted<'_> {
+    fn sensors(&mut self) -> Option<u32> {
+        let had = self.own.fetch_add(1, Ordering::SeqCst);
+        if self.other.load(Ordering::SeqCst) < had {
+            self.ran_ahead = true;
+        }
+        None
+    }
+
+    fn drive(&mut self, _motors: u64) {}
+}
+
+#[test]
+fn no_machine_runs_ahead(rt: HostRuntime) -> Result<(), AllocError> {
+    let Some((interlock, loader, pass)) = press(rt.alloc()) else {
+        panic!(rt; "no memory");
+    };
+    let counts = (AtomicU64::new(0), AtomicU64::new(0));
+    let loader = PlanJob {
+        pass: loader,
+        steps: steps_of_loader(rt.alloc())?,
+        devices: Counted {
+            own: &counts.0,
+            other: &counts.1,
+            ran_ahead: false,
+        },
+    };
+    let press = PlanJob {
+        pass,
+        steps: steps_of_press(rt.alloc())?,
+        devices: Counted {
+            own: &counts.1,
+            other: &counts.0,
+            ran_ahead: false,
+        },
+    };
+    let jobs = vec![in rt.alloc(); loader, press]?;
+    let gate = PacedPlanGate::new(&rt, 2, Duration::from_secs(30));
+    let backs = work_in_threads(&rt, &interlock, jobs, &gate, 1_000)?;
+    assert!(rt; backs.iter().all(|back| !back.devices.ran_ahead));
+    Ok(())
+}
+
+#[test]
+fn a_machine_alone_goes_on(rt: HostRuntime) -> Result<(), AllocError> {
+    let Some((interlock, loader, _press)) = press(rt.alloc()) else {
+        panic!(rt; "no memory");
+    };
+    let loader = PlanJob {
+        pass: loader,
+        steps: steps_of_loader(rt.alloc())?,
+        devices: Shown::new(None),
+    };
+    let gate = PacedPlanGate::new(&rt, 2, Duration::from_millis(10));
+    assert!(rt; work_by_pass(&interlock, loader, &gate, 100).turns == 100);
     Ok(())
 }
