@@ -4,8 +4,8 @@
   bench/fuzz --plans NUMBER [--seed SEED] [--program PROGRAM]
 
 Of NUMBER inputs some six in ten are documents for `plan check`, three are scripts for `plan replay` and one is for `plan explore`. The
-seed decides them all: plan_inputs.py makes the plans, half of them with sensors, runs and waits; it spoils half of the documents by a
-fault of each kind, and changes some bytes.
+seed decides them all: plan_inputs.py makes the plans, half of them with sensors, runs and waits, a third with calls that stop on some
+refusals; it spoils half of the documents by a fault of each kind, and changes some bytes.
 PROGRAM is crates/plan/out/plan if absent, which ./plan builds.
 
 Compared are the status, what `check` and `replay` print, byte by byte, but for which of two lines says of a plan's rows, and of a
@@ -82,6 +82,8 @@ def make_input(seed, index):
         (plan_inputs.rounds if way > 1 else plan_inputs.hand_over)(r, rows)
     if r.randrange(2):
         plan_inputs.drives(r, rows)
+    if r.randrange(3) == 0:
+        plan_inputs.faults(r, rows)
     script = b"" if verb == "check" and r.randrange(10) else plan_inputs.script(r, rows)
     for _ in range(r.choice((0, 1, 1, 2) if verb == "check" else (0,) * 20 + (1,))):
         plan_inputs.spoil(r, rows)

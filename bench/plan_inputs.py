@@ -215,6 +215,15 @@ def drives(r, document):
         row["program"] = lines + (run_line(r, facts, row, document, taken) if row["sensors"] and r.randrange(2) else [])
 
 
+def faults(r, document):
+    """Lets some calls of programs stop their machines on refusals."""
+    for row in document["machine"]:
+        for at, line in enumerate(row["program"]):
+            if r.randrange(4) == 0 and not line.startswith(("await ", "run ")):
+                words = r.sample(plans.FAULTS, r.choice((1, 1, 1, 2, 2, 3, len(plans.FAULTS))))
+                row["program"][at] = f"{line} or stop on {' '.join(words)}"
+
+
 def items(row, key):
     """The list of a key; an empty one where there is none."""
     return row[key] if isinstance(row.get(key), list) else []
@@ -224,13 +233,14 @@ def spoil(r, document):
     """Puts a fault of some kind into the rows, which may have one already."""
     machines, zones = items(document, "machine"), items(document, "zone")
     poses = [it for row in machines for it in items(row, "poses")]
+    machine = r.choice(machines) if machines else {}
     kinds = [spoil_key, spoil_value, spoil_name, spoil_program, spoil_program, spoil_many, spoil_for_c]
     kinds += [spoil_drives] * 4 if any(items(it, "sensors") for it in machines) else []
+    kinds += [spoil_faults] * 2 if items(machine, "program") else []
     kinds += [spoil_zone] * 2 if zones else []
     kinds += [spoil_pose] * 2 if poses else []
     kinds += [spoil_motor] * 4 if items(document, "motor") else []
     kinds += [spoil_hazard] * 2 if items(document, "hazard") else []
-    machine = r.choice(machines) if machines else {}
     r.choice(kinds)(r, document, machine, r.choice(zones) if zones else {}, r.choice(poses) if poses else {})
 
 
@@ -267,6 +277,18 @@ def spoil_program(r, document, machine, zone, pose):
     else:
         found = items(machine, "program")
         found.insert(r.randrange(len(found) + 1), line)
+
+
+def spoil_faults(r, document, machine, zone, pose):
+    """Adds refusals, which may be right, to a line of a program, also to a wait and to a run."""
+    lines, word = items(machine, "program"), r.choice((*plans.FAULTS, *plans.ALWAYS, "heldd", "Held", "done", "", "x" * 45))
+    more = ["", " ", f" {word}", f" {word}", f" held {word}", f" {word} shut", f" {word} {word}", f"  {word}", f" {word} ", f" held  {word}"]
+    more += [f"ly {word}", f" {word} or stop on {word}", " held or stop on", f",{word}", f"\t{word}"]
+    at = r.randrange(len(lines))
+    if isinstance(lines[at], str) and not isinstance(lines[at], Raw):
+        before = lines[at].partition(plans.OR_STOP)[0] if r.randrange(3) else lines[at]
+        between = r.choice((*[plans.OR_STOP] * 6, " or  stop on", " or stop", " stop on"))
+        lines[at] = f"{before}{between}{r.choice(more)}"
 
 
 def spoil_drives(r, document, machine, zone, pose):

@@ -113,17 +113,20 @@ typedef struct bagunjoki_plan_reply {
 } bagunjoki_plan_reply;
 
 /* A line of a machine's program: one step. What a step doesn't have is 0.
-     {0, verb, object, 0}                       a call, made until it is done
-     {0, BAGUNJOKI_PLAN_AWAIT, zone, 0}         a wait until the machine owns the zone
-     {motors, BAGUNJOKI_PLAN_RUN, 0, sensor}    a run: these motors are on until the sensor shows
+     {0, verb, object, 0, faults}                  a call, made until it is done
+     {0, BAGUNJOKI_PLAN_AWAIT, zone, 0, 0}         a wait until the machine owns the zone
+     {motors, BAGUNJOKI_PLAN_RUN, 0, sensor, 0}    a run: these motors are on until the sensor shows
    A plan's motors have bits from 0, and so have the machine's sensors, of which there are 32. A run without motors
-   waits for its sensor, as for a motor to be at rest. Any other line is no step. A program has at most 255 lines.
-   After the last comes the first. */
+   waits for its sensor, as for a motor to be at rest. Faults are refusals that stop the machine at a call, though
+   others' calls may mend them: 1 << BAGUNJOKI_PLAN_HELD | 1 << BAGUNJOKI_PLAN_SHUT, or 0. HELD, SHUT, NOT_OWNER,
+   PLATE_IN_ZONE, NO_PLATE, PLACE_FULL, WRONG_WAY and STOPPED may be faults; all other refusals stop each machine, and
+   have no bit. Any other line is no step. A program has at most 255 lines. After the last comes the first. */
 typedef struct bagunjoki_plan_line {
     uint64_t motors;
     uint8_t kind;
     uint8_t object;
     uint8_t until;
+    uint16_t faults;
 } bagunjoki_plan_line;
 
 /* A machine's place in its program: {0, 0} at first. Two bytes to store for a power cut, with the word. */
@@ -184,7 +187,8 @@ bool bagunjoki_plan_may_run(uint64_t word, uint64_t mask, uint64_t pattern);
    turn with its motors off; the next step comes in the next turn.
    All motors are off, and word and place are as before, if the sensors couldn't be read, or a refusal has stopped the
    machine; also with the answers NO_PLAN, NO_STATE, and NO_CALL, which says that the line is no step. A refusal that
-   others' calls may mend leaves the machine at its line; any other one stops it for good.
+   others' calls may mend leaves the machine at its line, unless it is one of the line's faults; any other one stops the
+   machine for good.
    It changes no shared word. If the answer is DONE, the turn counts only once the word has been exchanged for `word`,
    as bagunjoki_plan_take_turn does.
    If the program runs only what it may, and the machine is at its first line, or was in step, or came to its place from

@@ -26,17 +26,27 @@ BUSY = 66
 # The structs of the header, by those of the crate.
 KINDS = {"Reply": "reply", "ProgramLine": "line", "Place": "place", "Turned": "turned"}
 TYPES = compare.TYPES | {f"bagunjoki_plan_{name}": kind for kind, name in KINDS.items()}
-TYPES["bagunjoki_plan_opened"] = "Opened"
+TYPES |= {"bagunjoki_plan_opened": "Opened", "uint16_t": "u16"}
 SLICE = compare.SLICE | {"&Opened": ["*Opened"], "&[ProgramLine]": ["*ProgramLine", "u64"]}
 # The plans that programs here carry, by the byte examples of plan_types.
 PLANS = [("press", f"bindings/{it}.c") for it in ("examples/plan_press", "examples/plan_turns", "examples/plan_log", "tests/plan_log")]
 PLANS += [("lift", f"bindings/tests/plan_{it}.c") for it in ("walk", "memory")]
-PLANS += [("press", "bindings/tests/settle.c")]
+PLANS += [("press", f"bindings/tests/{it}.c") for it in ("settle", "plan_faults")]
 PRESS = """loader: 3000 calls done, its motor run 2000 times, stopped by 0
 press: 10000 calls done, its motor run 3000 times, stopped by 0
 """
 TURNS = """loader: 2380 rounds, its motor on in 28572 turns, stopped by 0
 press: 2381 rounds, its motor on in 21429 turns, stopped by 0
+"""
+# By hand: 2 is HELD, 64 NO_CALL.
+FAULTS = """faults 0: answer 2, line 0, stopped by 0
+faults 4: answer 2, line 0, stopped by 2
+faults 16400: answer 2, line 0, stopped by 0
+faults 16388: answer 2, line 0, stopped by 2
+faults 2048: answer 64, line 0, stopped by 0
+faults 8192: answer 64, line 0, stopped by 0
+faults 4: answer 64, line 0, stopped by 0
+a line has 16 bytes
 """
 LATHE = "".join(f"{it}: 100 rounds, stopped by 0\n" for it in ("conveyor", "feeder", "lathe", "unloader"))
 LATHE += "no two motors of a hazard were on together\n"
@@ -262,6 +272,13 @@ def walk(trials, compiler, *flags):
     said, wanted = trials.run([program]).strip(), re.search(r"WALKED: u64 = (0x\w+)", text_of(f"{trials.root}/{TESTS}"))
     wanted = wanted[1].replace("_", "")
     return "100,000 calls" if said == wanted else trials.fail(f"the sum is {said} and not {wanted}")
+
+
+def faults(trials, compiler, *flags):
+    """Refusals that stop a machine, and bits that make a line no step."""
+    program = trials.compile(compiler, "tests/plan_faults.c", *flags, library="bagunjoki_plan")
+    said = trials.run([program])
+    return "" if said == FAULTS else trials.fail(f"it writes\n{said}and not\n{FAULTS}")
 
 
 def memory(trials, compiler, *flags):

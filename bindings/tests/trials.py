@@ -382,6 +382,7 @@ def at_other_plants(trials, compilers):
         trials.attempt(f"records of a log by {compiler}", plans.records, trials, compiler)
         trials.attempt(f"settle.c at a press by {compiler}", settled, trials, compiler, "-DPLAN")
         trials.attempt(f"calls at a lift as by the rules, {compiler}", plans.walk, trials, compiler)
+        trials.attempt(f"plan_faults.c by {compiler}", plans.faults, trials, compiler)
         for which in ("address,undefined", "thread"):
             if can_sanitize(compiler, which):
                 flags = ["-g", f"-fsanitize={which}", "-fno-sanitize-recover=all"]
@@ -393,6 +394,7 @@ def at_other_plants(trials, compilers):
     for compiler in trials.there("g++", "clang++"):
         trials.attempt(f"records of a log, {compiler}", plans.records, trials, compiler, "-x", "c++")
         trials.attempt(f"calls at a lift, {compiler}", plans.walk, trials, compiler, "-x", "c++")
+        trials.attempt(f"plan_faults.c by {compiler}", plans.faults, trials, compiler, "-x", "c++")
 
 
 def run(root, prefix, calls):

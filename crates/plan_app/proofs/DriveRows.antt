@@ -1,6 +1,6 @@
 -- The examples of `drive_lines_are_met`, and the law `right_drives_are_permitted`.
-use Rattle.std.proofs.Common.{◌≡◌, ℕ, suc, zero, ◌+◌, true, ◌&&◌, List, [], ◌∷◌, is_none, map, Option, Some, None}
-use Rattle.std.proofs.Common.{refl, sym, subst, ◌∙◌, arith}
+use Rattle.std.proofs.Common.{◌≡◌, ℕ, suc, zero, ◌+◌, true, List, [], ◌∷◌, is_none, map, Option, Some, None}
+use Rattle.std.proofs.Common.{refl, subst, arith}
 use Rattle.std.specs.Prelude.{slice_get}
 use Rattle.std.specs.Fmt.{digits}
 use Rattle.std.specs.Global.{Vec}

@@ -23,3 +23,10 @@ mod Numbered
 mod Verdicts
 mod Found
 mod HazardRows
+mod SimulatedRows
+mod ToldApart
+mod Running
+mod Comments
+mod Replaying
+mod RunLawProofs
+mod RunRows

@@ -32,7 +32,7 @@ found f k x is none (suc n) l =
 no_value : (bytes : List ℕ) (at : ℕ) → is_begin bytes at ≡ false → begin_at bytes at ≡ None
 no_value bytes at unbegun = ap (λ is. then_some is at) unbegun
 
-long : (bytes : List ℕ) (k : ℕ) → k < length bytes → is_begin bytes k ≡ true → ((i : ℕ) → i < k → is_begin bytes i ≡ false)
+pub long : (bytes : List ℕ) (k : ℕ) → k < length bytes → is_begin bytes k ≡ true → ((i : ℕ) → i < k → is_begin bytes i ≡ false)
     → plan_length bytes ≡ k
 long bytes k l here unbegun =
     let first : first_below (begin_at bytes) (length bytes) ≡ Some k =

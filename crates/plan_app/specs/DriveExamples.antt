@@ -15,6 +15,7 @@ use Rattle.plan_drives.specs.declared.undriven.Undriven.{Undriven}
 use Rattle.plan_controller.specs.Steps.{line_of}
 use Rattle.plan_controller.specs.declared.step.Step.{Step}
 use Rattle.plan_controller.specs.declared.step.Step.TheVariants.{Do, Await, Run}
+use Rattle.plan_controller.specs.Faults.{no_faults}
 use Rattle.plan_text.specs.Names.{Text}
 use Rattle.plan_document.specs.declared.resolving.ProgrammedPlan.{ProgrammedPlan}
 use Rattle.plan_app.specs.Drives as drives
@@ -56,7 +57,7 @@ pub record RunsAreTold : Type 0 where
   pub last : drives.is_run (Run (2 ^ 63) 31) ≡ true
   pub waits : drives.is_run (Run 0 0) ≡ false
   pub awaits : drives.is_run (Await 1) ≡ false
-  pub calls : drives.is_run (Do (Claim 1)) ≡ false
+  pub calls : drives.is_run (Do (Claim 1) no_faults) ≡ false
 
 -- if a report says that nothing is wrong, each machine's program runs only what is permitted
 abbrev pub RightDrivesArePermitted : Type 0

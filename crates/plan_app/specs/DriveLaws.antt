@@ -10,6 +10,7 @@ use Rattle.plan_drives.specs.declared.undriven.Lack.TheVariants.{NoSuchMotor, Ot
 use Rattle.plan_drives.specs.declared.undriven.Lack.TheVariants.{NotFilled}
 use Rattle.plan_drives.specs.declared.undriven.Undriven.{Undriven}
 use Rattle.plan_controller.specs.declared.step.Step.{Step}
+use Rattle.plan_controller.specs.declared.faults.Faults.{Faults}
 use Rattle.plan_controller.specs.declared.step.Step.TheVariants.{Do, Await, Run}
 use Rattle.plan_text.specs.Answers.{posture_word}
 use Rattle.plan_text.specs.Named.{Named}
@@ -67,7 +68,7 @@ pub record RunsTell : Type 0 where
   pub runs : (motors until : ℕ) → motors ≢ 0 → is_run (Run motors until) ≡ true
   pub waits : (motors until : ℕ) → motors ≡ 0 → is_run (Run motors until) ≡ false
   pub awaits : (z : ℕ) → is_run (Await z) ≡ false
-  pub calls : (call : Call) → is_run (Do call) ≡ false
+  pub calls : (call : Call) (faults : Faults) → is_run (Do call faults) ≡ false
   pub program : (program : Vec Step) → runs_motors program ≡ list_any is_run program.items
   pub none : (n : Named) (motors : List Text) (programs : List (Vec Step)) (drives : List (Option Undriven))
       → list_any runs_motors programs ≡ false → drives_text n motors programs drives ≡ []

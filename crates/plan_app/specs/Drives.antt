@@ -53,7 +53,7 @@ AreDrives plan drives =
 -- ---- what is said
 
 abbrev pub is_run : Step → Bool
-is_run (Do call) = false
+is_run (Do call faults) = false
 is_run (Await z) = false
 is_run (Run motors until) = not (nat_eq motors 0)
 

@@ -1,6 +1,6 @@
 -- What the program has written where it ended with status 1, by the plan of the document in its input. Of each text a
 -- prefix was written: as much as the writer took.
-use Rattle.std.specs.Prelude.{◌≡◌, ◌⊎◌, ◌<◌, nat_eq, Bool, codes, length, IsTrue, Option, Ok, Err, IfSome}
+use Rattle.std.specs.Prelude.{◌≡◌, ◌⊎◌, ◌<◌, ℕ, nat_eq, Bool, codes, length, IsTrue, Option, Ok, Err, IfSome}
 use Rattle.std.specs.List.{starts_with}
 use Rattle.text_io.specs.Output.{WrotePrefix}
 use Rattle.program_shell.specs.Faults.{fault_line}
@@ -17,10 +17,11 @@ use Rattle.plan_header.specs.Modules.{module_text}
 use Rattle.plan_picture.specs.Pictures.{IsPicture}
 use Rattle.plan_app.specs.Hazards.{TellsReport, start_if}
 use Rattle.plan_app.specs.Input.{byte_limit, document_in, script_in}
+use Rattle.plan_app.specs.Runs.{HasForeignCall, IsTooLong, IsUnexplained, TellsRun}
 use Rattle.plan_app.specs.Screens.{TellsGoing, TellsStandstill}
 use Rattle.plan_app.specs.Sizes.{ComeToMore}
 use Rattle.plan_app.specs.declared.request.Request.{Request}
-use Rattle.plan_app.specs.declared.request.Request.TheVariants.{Draw, Explore, Header, Module, Replay}
+use Rattle.plan_app.specs.declared.request.Request.TheVariants.{Draw, Explore, Header, Module, Replay, Run}
 
 -- ---- lines of faults
 
@@ -96,6 +97,26 @@ WroteModule plan old new =
 abbrev pub WrotePicture : ProgrammedPlan → Option Text → Option Text → Type 0
 WrotePicture plan old new = (text : Text) × IsPicture plan text × WrotePrefix old new text
 
+-- a run has more calls than a script may have, or no history explains it
+abbrev pub WroteRunFault : ProgrammedPlan → ℕ → State → Option Text → Option Text → Type 0
+WroteRunFault plan turns start old new =
+    (IsTooLong plan turns start × WroteFault (codes "long") old new)
+    ⊎ ((IsUnexplained plan turns start ⊎ HasForeignCall plan turns start) × WroteFault (codes "audit") old new)
+
+-- what machines did in a run, and the script of their history
+abbrev pub WroteRunText : ProgrammedPlan → ℕ → State → Option Text → Option Text → Type 0
+WroteRunText plan turns start old new =
+    (fine : Bool) × (text : Text) × TellsRun plan turns start fine text × WrotePrefix old new text
+
+abbrev pub WroteRunFrom : ProgrammedPlan → ℕ → State → Option Text → Option Text → Type 0
+WroteRunFrom plan turns start old new = WroteRunFault plan turns start old new ⊎ WroteRunText plan turns start old new
+
+-- the start is the script's, if it has one
+abbrev pub WroteRun : ProgrammedPlan → ℕ → Text → Option Text → Option Text → Type 0
+WroteRun plan turns script old new =
+    WroteStartFault plan.named script old new
+    ⊎ ((start : State) × (script_start plan.named script ≡ Ok start) × WroteRunFrom plan turns start old new)
+
 -- what was asked
 abbrev pub FailsBy : Request → ProgrammedPlan → Text → Option Text → Option Text → Type 0
 FailsBy Replay plan script old new = WroteAnswers plan.named script old new
@@ -103,6 +124,7 @@ FailsBy Explore plan script old new = WroteEnd plan script old new
 FailsBy Header plan script old new = WroteHeader plan old new
 FailsBy Module plan script old new = WroteModule plan old new
 FailsBy Draw plan script old new = WrotePicture plan old new
+FailsBy (Run turns) plan script old new = WroteRun plan turns script old new
 FailsBy _ plan script old new = WroteReport plan script old new
 
 -- ---- by the plan of the document in these bytes

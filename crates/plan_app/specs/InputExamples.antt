@@ -6,7 +6,7 @@ use Rattle.plan_app.specs.Requests.{request_of}
 use Rattle.plan_app.specs.Words.{counted}
 use Rattle.plan_app.specs.declared.request.Request.{Request}
 use Rattle.plan_app.specs.declared.request.Request.TheVariants.{Check, Replay, Explore, Header, Module, Draw}
-use Rattle.plan_app.specs.declared.request.Request.TheVariants.{Help, Version}
+use Rattle.plan_app.specs.declared.request.Request.TheVariants.{Run, Help, Version}
 
 -- a document of one line, and a script of one
 abbrev pub both : List ℕ
@@ -39,6 +39,9 @@ asked word = request_of (codes "plan" ∷ word ∷ [])
 abbrev pub asked_with : Text → Text → Option Request
 asked_with word next = request_of (codes "plan" ∷ word ∷ next ∷ [])
 
+abbrev pub run_with : Text → Option Request
+run_with number = request_of (codes "plan" ∷ codes "run" ∷ codes "--turns" ∷ number ∷ [])
+
 pub record RequestsAreRead : Type 0 where
   pub check : asked (codes "check") ≡ Some Check
   pub replay : asked (codes "replay") ≡ Some Replay
@@ -57,6 +60,7 @@ pub record RequestsAreRead : Type 0 where
   pub help_of_explore : asked_with (codes "explore") (codes "-h") ≡ Some Help
   pub help_of_header : asked_with (codes "header") (codes "--help") ≡ Some Help
   pub help_of_draw : asked_with (codes "draw") (codes "--help") ≡ Some Help
+  pub help_of_run : asked_with (codes "run") (codes "--help") ≡ Some Help
   pub help_of_other : asked_with (codes "explain") (codes "--help") ≡ None
   pub version_of_check : asked_with (codes "check") (codes "--version") ≡ None
   -- no word, or other ones
@@ -73,6 +77,24 @@ pub record RequestsAreRead : Type 0 where
   pub header_for_rust : asked_with (codes "header") (codes "--rust") ≡ None
   pub longer_word : asked_with (codes "header") (codes "--pythons") ≡ None
   pub python_alone : asked (codes "--python") ≡ None
+  -- a run has its number of turns, from 1 to 1,000,000
+  pub run_once : run_with (codes "1") ≡ Some (Run 1)
+  pub run_most : run_with (codes "1000000") ≡ Some (Run 1000000)
+  pub run_zeros : run_with (codes "0012") ≡ Some (Run 12)
+  pub run_none : run_with (codes "0") ≡ None
+  pub run_more : run_with (codes "1000001") ≡ None
+  pub run_long : run_with (codes "00000001") ≡ None
+  pub run_empty : run_with [] ≡ None
+  pub run_signed : run_with (codes "+5") ≡ None
+  pub run_alone : asked (codes "run") ≡ None
+  pub run_number : asked_with (codes "run") (codes "5") ≡ None
+  pub run_flag : asked_with (codes "run") (codes "--turns") ≡ None
+  pub run_joined : asked_with (codes "run") (codes "--turns=5") ≡ None
+  pub run_for_python : asked_with (codes "run") (codes "--python") ≡ None
+  pub run_tries : request_of (codes "plan" ∷ codes "run" ∷ codes "--tries" ∷ codes "5" ∷ []) ≡ None
+  pub run_more_words
+      : request_of (codes "plan" ∷ codes "run" ∷ codes "--turns" ∷ codes "5" ∷ codes "5" ∷ []) ≡ None
+  pub check_turns : request_of (codes "plan" ∷ codes "check" ∷ codes "--turns" ∷ codes "5" ∷ []) ≡ None
   pub python_twice : request_of (codes "plan" ∷ codes "header" ∷ codes "--python" ∷ codes "--python" ∷ []) ≡ None
 
 -- words that several texts have

@@ -28,3 +28,9 @@ pub mod InputExamples
 pub mod InputLaws
 pub mod ScreenExamples
 pub mod FailedExamples
+pub mod Simulated
+pub mod SimulatedExamples
+pub mod RunTexts
+pub mod Runs
+pub mod RunLaws
+pub mod RunExamples

@@ -1,16 +1,21 @@
 -- What the words of the program ask for.
-use Rattle.std.specs.Prelude.{ℕ, List, [], ◌∷◌, ◌&&◌, codes, Option, Some, None, if◌then◌else◌}
+use Rattle.std.specs.Prelude.{ℕ, List, [], ◌∷◌, ◌&&◌, codes, nat_le, Option, Some, None, option_map}
+use Rattle.std.specs.Prelude.{if◌then◌else◌}
+use Rattle.std.specs.Bool.{then_some}
+use Rattle.std.specs.Option.{option_and_then}
 use Rattle.std.specs.Str.{bytes_eq}
+use Rattle.csv_rows.specs.Numbers.{number_in}
 use Rattle.program_shell.specs.Asked.{asked_of}
 use Rattle.program_shell.specs.declared.asked.Asked.{Asked}
 use Rattle.program_shell.specs.declared.asked.Asked.TheVariants as asked
 use Rattle.plan_app.specs.declared.request.Request.{Request}
 use Rattle.plan_app.specs.declared.request.Request.TheVariants.{Check, Replay, Explore, Header, Module, Draw}
-use Rattle.plan_app.specs.declared.request.Request.TheVariants.{Help, Version}
+use Rattle.plan_app.specs.declared.request.Request.TheVariants.{Run, Help, Version}
 
 -- the words of this program alone
 abbrev pub own_words : List (List ℕ)
-own_words = codes "check" ∷ codes "replay" ∷ codes "explore" ∷ codes "header" ∷ codes "draw" ∷ []
+own_words =
+    codes "check" ∷ codes "replay" ∷ codes "explore" ∷ codes "header" ∷ codes "draw" ∷ codes "run" ∷ []
 
 -- what each of them asks for
 abbrev pub request_by : List ℕ → Option Request
@@ -27,9 +32,19 @@ abbrev pub request_for : List ℕ → List ℕ → Option Request
 request_for word language =
     if bytes_eq word (codes "header") && bytes_eq language (codes "--python") then Some Module else None
 
+-- a number of turns: 1 to 1,000,000
+abbrev pub turns_in : List ℕ → Option ℕ
+turns_in word = option_and_then (λ n. then_some (nat_le 1 n && nat_le n 1000000) n) (number_in word)
+
+-- what a word asks for with a number after a flag
+abbrev pub request_of_turns : List ℕ → List ℕ → List ℕ → Option Request
+request_of_turns word flag number =
+    if bytes_eq word (codes "run") && bytes_eq flag (codes "--turns") then option_map Run (turns_in number) else None
+
 -- what words ask for that aren't two
 abbrev pub request_with : List (List ℕ) → Option Request
 request_with (name ∷ word ∷ language ∷ []) = request_for word language
+request_with (name ∷ word ∷ flag ∷ number ∷ []) = request_of_turns word flag number
 request_with _ = None
 
 -- what words ask for, by what they ask for of every program

@@ -13,6 +13,7 @@ use Rattle.plan_header.specs.Modules.{module_text}
 use Rattle.plan_picture.specs.Pictures.{IsPicture}
 use Rattle.plan_app.specs.Input.{document_in, script_in}
 use Rattle.plan_app.specs.Hazards.{TellsReport, start_if}
+use Rattle.plan_app.specs.Runs.{TellsRun}
 use Rattle.plan_app.specs.Screens.{TellsFree}
 
 -- ---- by a plan
@@ -41,6 +42,16 @@ WritesReport plan script old new =
 -- a picture of the plan was written, and nothing else
 abbrev pub WritesPicture : ProgrammedPlan → Option (List ℕ) → Option (List ℕ) → Type 0
 WritesPicture plan old new = (text : List ℕ) × IsPicture plan text × Appends old new text
+
+-- what machines did in a run from a start, none of them stopped, and the script of their history were written, and
+-- nothing else
+abbrev pub WritesRunFrom : ProgrammedPlan → ℕ → State → Option (List ℕ) → Option (List ℕ) → Type 0
+WritesRunFrom plan turns start old new = (text : List ℕ) × TellsRun plan turns start true text × Appends old new text
+
+-- the start is the script's
+abbrev pub WritesRun : ProgrammedPlan → ℕ → List ℕ → Option (List ℕ) → Option (List ℕ) → Type 0
+WritesRun plan turns script old new =
+    (start : State) × (script_start plan.named script ≡ Ok start) × WritesRunFrom plan turns start old new
 
 -- ---- by the plan of the document in these bytes
 
@@ -76,6 +87,11 @@ abbrev pub WritesPictureIn : List ℕ → Option (List ℕ) → Option (List ℕ
 WritesPictureIn bytes old new =
     (plan : ProgrammedPlan) × IsPlanIn (document_in bytes) plan × WritesPicture plan old new
 
+-- or a run of its machines
+abbrev pub WritesRunIn : ℕ → List ℕ → Option (List ℕ) → Option (List ℕ) → Type 0
+WritesRunIn turns bytes old new =
+    (plan : ProgrammedPlan) × IsPlanIn (document_in bytes) plan × WritesRun plan turns (script_in bytes) old new
+
 -- ---- by the plan of the document in the input
 
 abbrev pub AnswersInput : Option (List ℕ) → Option (List ℕ) → Option (List ℕ) → Type 0
@@ -95,3 +111,6 @@ WritesModule input old new = IfSome input (λ bytes. WritesModuleIn bytes old ne
 
 abbrev pub Draws : Option (List ℕ) → Option (List ℕ) → Option (List ℕ) → Type 0
 Draws input old new = IfSome input (λ bytes. WritesPictureIn bytes old new)
+
+abbrev pub TellsInputRun : ℕ → Option (List ℕ) → Option (List ℕ) → Option (List ℕ) → Type 0
+TellsInputRun turns input old new = IfSome input (λ bytes. WritesRunIn turns bytes old new)

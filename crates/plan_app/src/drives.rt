@@ -129,7 +129,7 @@ fn is_run(step: Step) -> bool
 {
     match step {
         Step::Run { motors, .. } => motors != 0,
-        Step::Do(_) | Step::Await(_) => false,
+        Step::Do(..) | Step::Await(_) => false,
     }
 }
 

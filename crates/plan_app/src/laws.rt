@@ -1,5 +1,7 @@
 //! Laws of what is printed, each the contract of a function that does nothing.
-
+ghost use Rattle.std.specs.Prelude.{ℕ, Bool, List};
+ghost use Rattle.plan_rules.specs.declared.state.State.{State};
+ghost use Rattle.plan_document.specs.declared.resolving.ProgrammedPlan.{ProgrammedPlan};
 ghost use Rattle.plan_app.specs.CountLaws.{CountsTell};
 ghost use Rattle.plan_app.specs.DriveExamples.{DriveLines, RightDrivesArePermitted, RunsAreTold};
 ghost use Rattle.plan_app.specs.DriveLaws.{DrivesTell};
@@ -12,11 +14,16 @@ ghost use Rattle.plan_app.specs.InputExamples.{InputsAreSplit, RequestsAreRead, 
 ghost use Rattle.plan_app.specs.InputLaws.{ScriptsAreFound};
 ghost use Rattle.plan_app.specs.LineExamples.{ReportLines, RowsAreTold, WholeReports};
 ghost use Rattle.plan_app.specs.ReportLaws.{ReportsTell};
+ghost use Rattle.plan_app.specs.RunExamples.{RunTextsAreTold};
+ghost use Rattle.plan_app.specs.RunLaws.{RunsAreReplayed, WritingsAreReplayed};
 ghost use Rattle.plan_app.specs.ScreenExamples.{AnswersAreMeant, KindsOfScreens, ScreensAreMeant};
 ghost use Rattle.plan_app.specs.ScreenExamples.{ServedIsMeant, StandstillLines};
+ghost use Rattle.plan_app.specs.SimulatedExamples.{SimulationsAreMet};
 ghost use Rattle.plan_app.specs.SizeExamples.{SizesAreCounted};
 ghost use Rattle.plan_app.specs.StarvingExamples.{StarvingIsKnown};
 ghost use Rattle.plan_app.specs.WordExamples.{PlatesAreTold, WordsAreTold};
+
+use plan_text::laws::histories_are_answered;
 
 /// Examples: the whole line of each answer to whether a machine goes on for ever.
 pub fn words_are_told()
@@ -175,4 +182,24 @@ pub fn failed_is_meant()
 /// Examples: how many situations small programs come to, by what `is_large` ensures.
 pub fn sizes_are_counted()
     ensures { SizesAreCounted }
+{}
+
+/// Examples: what simulated sensors show, turn by turn.
+pub fn simulations_are_met()
+    ensures { SimulationsAreMet }
+{}
+
+/// A replay answers the script that a run has printed as the machines were answered.
+pub fn runs_are_replayed()
+    ensures runs { (document : List ℕ) (plan : ProgrammedPlan) (turns : ℕ) (start : State)
+        (fine : Bool) (text : List ℕ) → RunsAreReplayed document plan turns start fine text }
+    ensures writings { WritingsAreReplayed }
+{
+    histories_are_answered();
+}
+
+/// Examples: the whole text of a run, and which calls are a machine's own.
+#[tactic(auto, using(crate::proofs::RunRows::run_rows))]
+pub fn run_texts_are_told()
+    ensures { RunTextsAreTold }
 {}

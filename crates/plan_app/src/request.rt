@@ -3,7 +3,11 @@ ghost use Rattle.std.specs.Prelude.{◌≡◌};
 ghost use Rattle.program_shell.specs.Words.{texts_of};
 ghost use Rattle.plan_app.specs.Requests as requests;
 
+use csv_rows::read_number;
 use program_shell::{Asked, asked_of};
+
+/// The most turns of a run.
+pub const MAX_TURNS: u32 = 1_000_000;
 
 /// What the program does.
 #[derive(Clone, Copy, PartialEq, Eq, Debug)]
@@ -20,6 +24,8 @@ pub enum Request {
     Module,
     /// Prints a picture.
     Draw,
+    /// Lets the machines take this many turns each, in threads, and prints what they did.
+    Run(u32),
     /// Prints help.
     Help,
     /// Prints the version.
@@ -27,7 +33,7 @@ pub enum Request {
 }
 
 /// The words of this program alone that may follow its name.
-const OWN: &[&str] = &["check", "replay", "explore", "header", "draw"];
+const OWN: &[&str] = &["check", "replay", "explore", "header", "draw", "run"];
 
 /// What the words ask for. The first is the program's name, and one of its own words follows; which words ask for help
 /// and for the version is that of every program (`asked_of`). `None` for other words.
@@ -48,8 +54,27 @@ fn request_with(words: &[&str]) -> Option<Request>
 {
     match words {
         [_, word, language] => request_for(word, language),
+        [_, word, flag, number] => request_of_turns(word, flag, number),
         _ => None,
     }
+}
+
+/// What a word of this program alone asks for with a number after a flag.
+fn request_of_turns(word: &str, flag: &str, number: &str) -> Option<Request>
+    ensures { result ≡ requests.request_of_turns word.now flag.now number.now }
+{
+    match (word, flag) {
+        ("run", "--turns") => Some(Request::Run(turns_in(number)?)),
+        _ => None,
+    }
+}
+
+/// The number of turns in a word.
+fn turns_in(word: &str) -> Option<u32>
+    ensures { result ≡ requests.turns_in word.now }
+{
+    let turns = read_number(word.as_bytes())?;
+    (1 <= turns && turns <= MAX_TURNS).then_some(turns)
 }
 
 /// What a word of this program alone asks for with the name of a language.

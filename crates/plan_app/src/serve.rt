@@ -9,10 +9,12 @@ ghost use Rattle.program_shell.specs.Printed.{Prints};
 ghost use Rattle.program_shell.specs.Versions.{version_line};
 ghost use Rattle.program_shell.specs.Words.{texts_of};
 ghost use Rattle.plan_app.specs.Hazards as hazards;
+ghost use Rattle.plan_text.specs.HistoryLaws.{IsStartOf};
 ghost use Rattle.plan_header.specs.Printed.{header_of as header_text};
 ghost use Rattle.plan_header.specs.Modules.{module_text};
 ghost use Rattle.plan_app.specs.Failed.{Fails, FailsBy, FailsIn, WroteAnswers, WroteDocumentFault};
 ghost use Rattle.plan_app.specs.Failed.{WroteEnd, WroteEndFrom, WroteFault, WroteHeader};
+ghost use Rattle.plan_app.specs.Failed.{WroteRun, WroteRunFrom};
 ghost use Rattle.plan_app.specs.Failed.{WroteModule, WrotePicture, WroteReport, WroteReportFrom};
 ghost use Rattle.plan_app.specs.Failed.{WroteScreen, WroteUnread};
 ghost use Rattle.plan_app.specs.Input.{byte_limit, max_bytes_read};
@@ -20,24 +22,30 @@ ghost use Rattle.plan_app.specs.Served.{AnswersIn, AnswersInput, AnswersScript, 
 ghost use Rattle.plan_app.specs.Served.{FindsFreeIn, FindsInputFree, Reports, ReportsIn};
 ghost use Rattle.plan_app.specs.Served.{WritesFree, WritesHeader, WritesHeaderIn, WritesModule};
 ghost use Rattle.plan_app.specs.Served.{WritesModuleIn, WritesPicture, WritesPictureIn};
-ghost use Rattle.plan_app.specs.Served.{WritesReport};
+ghost use Rattle.plan_app.specs.Served.{TellsInputRun, WritesReport, WritesRun, WritesRunFrom};
+ghost use Rattle.plan_app.specs.Served.{WritesRunIn};
 ghost use Rattle.plan_app.specs.Requests.{request_of};
 
 use crate::explore::{Screen, screen_of};
 use crate::hazards::{Report, report_of};
 use crate::input::{MAX_BYTES, plan_length};
 use crate::request;
-use crate::request::Request;
+use crate::request::{MAX_TURNS, Request};
+use crate::run::{RunFault, Told, run_and_tell};
 use crate::size::{MAX_SITUATIONS, is_large};
 use plan_document::{PlanTextFault, ProgrammedPlan, plan_of};
 use plan_header::{header_of, module_of};
 use plan_picture::picture_of;
 use plan_rules::State;
+use plan_text::laws::histories_are_answered;
 use plan_text::{NamedPlan, Outcome, ScriptAnswers, ScriptFault, answer_script, start_of_script};
 use program_shell::{Exit, fail, print, print_version, refuse_words, with_texts};
 use std::alloc::{AllocError, Global};
 use std::env::Env;
 use std::io::{Read, Write};
+use std::sync::Wait;
+use std::thread::Threads;
+use std::time::Clock;
 use text_io::{InputFault, read_up_to};
 
 /// The help.
@@ -53,22 +61,28 @@ Reads a plan of a plant, in TOML, from standard input.
   plan header     prints its names and the layout of its word for C; with --python, a module
                   for Python
   plan draw       draws it, as SVG: machines, their places and motors, zones, and hazards
+  plan run --turns N
+                  lets each machine take N turns, 1 to 1000000, in a thread of its own, from the
+                  start after it, with simulated sensors; says what they did, and prints their
+                  history as a script, which plan replay answers as they were answered
   plan --version  prints the version
 A script may follow the plan in each case. At most 1,000,000 situations are explored; more
 are fault large. Exit status: 0 on success, and for help; 2 for bad arguments; otherwise
 1: a fault, motors that aren't kept apart, a standstill, an order in which a machine starves
-or plates rest, or a failed write.
+or plates rest, a machine stopped in a run, or a failed write.
 
 Example:
   cat examples/plans/press.toml examples/plans/press.csv | plan replay
 ";
 
-// The help names this number.
+// The help names these numbers.
 const _: () = prove!(MAX_SITUATIONS == 1_000_000);
+
+const _: () = prove!(MAX_TURNS == 1_000_000);
 
 /// What is printed for other words.
 const OTHER_WORDS: &str =
-    "error: the only argument is check, replay, explore, header, draw, --help or --version\n";
+    "error: the only argument is check, replay, explore, header, draw, run, --help or --version\n";
 
 /// Reads a plan and a script after it: all bytes, unless there are too many.
 fn read_input<R: Read>(alloc: Global, reader: &mut R) -> Result<Vec<u8>, InputFault>
@@ -121,12 +135,15 @@ fn refuse_document<W: Write>(alloc: Global, writer: &mut W, fault: PlanTextFault
 
 /// Reads a plan and a script after it, and prints what the request asks of them: what the plan is, its header, the
 /// answers to the script, or what the machines' programs come to from the start.
-fn serve_input<R: Read, W: Write>(
+fn serve_input<T, R: Read, W: Write>(
+    rt: &T,
     alloc: Global,
     request: Request,
     reader: &mut R,
     writer: &mut W,
 ) -> Exit
+where
+    T: Threads + Wait + Clock + Sync,
     ensures status { result ≢ Exit.Refused }
     ensures reported { request ≡ Request.Check → result ≡ Exit.Well →
         Reports (R.remaining reader.old) (W.contents writer.old) (W.contents writer.new) }
@@ -140,17 +157,28 @@ fn serve_input<R: Read, W: Write>(
         WritesModule (R.remaining reader.old) (W.contents writer.old) (W.contents writer.new) }
     ensures picture { request ≡ Request.Draw → result ≡ Exit.Well →
         Draws (R.remaining reader.old) (W.contents writer.old) (W.contents writer.new) }
+    ensures ran { (turns : ℕ) → request ≡ Request.Run turns → result ≡ Exit.Well →
+        TellsInputRun turns (R.remaining reader.old)
+        (W.contents writer.old) (W.contents writer.new) }
     ensures failed { result ≡ Exit.Failed → Fails request
         (R.remaining reader.old) (W.contents writer.old) (W.contents writer.new) }
     ensures read { TakesAtMost (R.remaining reader.old) (R.remaining reader.new) max_bytes_read }
 {
     match read_input(alloc, reader) {
-        Ok(bytes) => serve_bytes(alloc, request, bytes.as_slice(), writer),
+        Ok(bytes) => serve_bytes(rt, alloc, request, bytes.as_slice(), writer),
         Err(fault) => fail_to_read(writer, fault),
     }
 }
 
-fn serve_bytes<W: Write>(alloc: Global, request: Request, bytes: &[u8], writer: &mut W) -> Exit
+fn serve_bytes<T, W: Write>(
+    rt: &T,
+    alloc: Global,
+    request: Request,
+    bytes: &[u8],
+    writer: &mut W,
+) -> Exit
+where
+    T: Threads + Wait + Clock + Sync,
     ensures status { result ≢ Exit.Refused }
     ensures short { result ≡ Exit.Well → length bytes.now ≤ byte_limit }
     ensures long { byte_limit < length bytes.now →
@@ -167,6 +195,8 @@ fn serve_bytes<W: Write>(alloc: Global, request: Request, bytes: &[u8], writer: 
         WritesModuleIn bytes.now (W.contents writer.old) (W.contents writer.new) }
     ensures picture { request ≡ Request.Draw → result ≡ Exit.Well →
         WritesPictureIn bytes.now (W.contents writer.old) (W.contents writer.new) }
+    ensures ran { (turns : ℕ) → request ≡ Request.Run turns → result ≡ Exit.Well →
+        WritesRunIn turns bytes.now (W.contents writer.old) (W.contents writer.new) }
     ensures failed { result ≡ Exit.Failed →
         FailsIn request bytes.now (W.contents writer.old) (W.contents writer.new) }
 {
@@ -175,19 +205,22 @@ fn serve_bytes<W: Write>(alloc: Global, request: Request, bytes: &[u8], writer: 
     }
     let (document, script) = bytes.split_at(plan_length(bytes));
     match plan_of(alloc, document) {
-        Ok(plan) => serve_plan(alloc, request, plan, script, writer),
+        Ok(plan) => serve_plan(rt, alloc, request, plan, script, writer),
         Err(fault) => refuse_document(alloc, writer, fault),
     }
 }
 
 /// Prints what the request asks of a plan, and of the script after it for `Replay`, `Explore` and `Check`.
-fn serve_plan<W: Write>(
+fn serve_plan<T, W: Write>(
+    rt: &T,
     alloc: Global,
     request: Request,
     plan: ProgrammedPlan,
     script: &[u8],
     writer: &mut W,
 ) -> Exit
+where
+    T: Threads + Wait + Clock + Sync,
     ensures status { result ≢ Exit.Refused }
     ensures reported { request ≡ Request.Check → result ≡ Exit.Well →
         WritesReport plan script.now (W.contents writer.old) (W.contents writer.new) }
@@ -202,6 +235,8 @@ fn serve_plan<W: Write>(
         (module_text plan.named plan.motors.names plan.motors.motors.items) }
     ensures picture { request ≡ Request.Draw → result ≡ Exit.Well →
         WritesPicture plan (W.contents writer.old) (W.contents writer.new) }
+    ensures ran { (turns : ℕ) → request ≡ Request.Run turns → result ≡ Exit.Well →
+        WritesRun plan turns script.now (W.contents writer.old) (W.contents writer.new) }
     ensures failed { result ≡ Exit.Failed →
         WroteUnread (W.contents writer.old) (W.contents writer.new)
         ⊎ FailsBy request plan script.now (W.contents writer.old) (W.contents writer.new) }
@@ -212,6 +247,7 @@ fn serve_plan<W: Write>(
         Request::Draw => print_picture(alloc, &plan, writer),
         Request::Replay => replay_script(alloc, &plan.named, script, writer),
         Request::Explore => explore_script(alloc, &plan, script, writer),
+        Request::Run(turns) => run_script(rt, alloc, &plan, turns, script, writer),
         _ => report_script(alloc, &plan, script, writer),
     }
 }
@@ -392,8 +428,61 @@ fn print_screen<W: Write>(
     }
 }
 
-/// Prints what was found of a standstill, of who starves, or of motors that aren't kept apart. That isn't well,
-/// whatever was written.
+/// Lets the machines run from the start of a script, and prints what they did.
+fn run_script<T, W: Write>(
+    rt: &T,
+    alloc: Global,
+    plan: &ProgrammedPlan,
+    turns: u32,
+    script: &[u8],
+    writer: &mut W,
+) -> Exit
+where
+    T: Threads + Wait + Clock + Sync,
+    ensures status { result ≢ Exit.Refused }
+    ensures ran { result ≡ Exit.Well →
+        WritesRun plan.now turns script.now (W.contents writer.old) (W.contents writer.new) }
+    ensures failed { result ≡ Exit.Failed →
+        WroteUnread (W.contents writer.old) (W.contents writer.new)
+        ⊎ WroteRun plan.now turns script.now (W.contents writer.old) (W.contents writer.new) }
+{
+    histories_are_answered();
+    match start_of_script(alloc, &plan.named, script) {
+        Ok(Ok(start)) => run_from(rt, alloc, plan, turns, &start, writer),
+        Ok(Err(fault)) => refuse_start(alloc, writer, fault),
+        Err(fault) => fail_to_read(writer, fault),
+    }
+}
+
+fn run_from<T, W: Write>(
+    rt: &T,
+    alloc: Global,
+    plan: &ProgrammedPlan,
+    turns: u32,
+    start: &State,
+    writer: &mut W,
+) -> Exit
+where
+    T: Threads + Wait + Clock + Sync,
+    requires { IsStartOf plan.now.named start.now }
+    ensures status { result ≢ Exit.Refused }
+    ensures ran { result ≡ Exit.Well →
+        WritesRunFrom plan.now turns start.now (W.contents writer.old) (W.contents writer.new) }
+    ensures failed { result ≡ Exit.Failed →
+        WroteUnread (W.contents writer.old) (W.contents writer.new)
+        ⊎ WroteRunFrom plan.now turns start.now (W.contents writer.old) (W.contents writer.new) }
+{
+    match run_and_tell(rt, alloc, plan, start, turns) {
+        Ok(Told::Fine(text)) => print(writer, text.as_bytes()),
+        Ok(Told::Stopped(text)) => print_warning(writer, text.as_str()),
+        Err(RunFault::Memory) => fail(writer, "memory"),
+        Err(RunFault::Audit) => fail(writer, "audit"),
+        Err(RunFault::Long) => fail(writer, "long"),
+    }
+}
+
+/// Prints what was found of a standstill, of who starves, of motors that aren't kept apart, or of a machine that was
+/// stopped. That isn't well, whatever was written.
 fn print_warning<W: Write>(writer: &mut W, text: &str) -> Exit
     ensures status { result ≡ Exit.Failed }
     ensures line { WrotePrefix (W.contents writer.old) (W.contents writer.new) text.now }
@@ -420,8 +509,17 @@ fn print_answers<W: Write>(writer: &mut W, answered: &ScriptAnswers) -> Exit
 
 /// Does what the words ask for, and returns the exit status: 0 on success, and for help; 1 for a refused plan or
 /// script, a hazard whose motors aren't kept apart, a standstill, a machine that may starve, plates that may rest, a
-/// failed read or write, and if memory ran out; 2 for other words.
-pub fn serve<R: Read, W: Write>(alloc: Global, words: &[&str], reader: &mut R, writer: &mut W) -> u8
+/// machine that was stopped in a run, a failed read or write, and if memory ran out; 2 for other words. A run waits
+/// until all its threads have ended.
+pub fn serve<T, R: Read, W: Write>(
+    rt: &T,
+    alloc: Global,
+    words: &[&str],
+    reader: &mut R,
+    writer: &mut W,
+) -> u8
+where
+    T: Threads + Wait + Clock + Sync,
     ensures status { result ≤ 2 }
 
     // If they ask for help, status 0 says that help was printed, status 1 that a prefix was. For the version it says
@@ -454,6 +552,13 @@ pub fn serve<R: Read, W: Write>(alloc: Global, words: &[&str], reader: &mut R, w
     ensures draw { request_of (texts_of words.now) ≡ Some Request.Draw → result ≡ 0 →
         Draws (R.remaining reader.old) (W.contents writer.old) (W.contents writer.new) }
 
+    // With `run --turns N`: that each machine took these turns, over one interlock from the script's start, none was
+    // stopped, and one legal history explains what each has noted; and that how many calls of each were done and
+    // refused, and the script of that history, were written.
+    ensures run { (turns : ℕ) → request_of (texts_of words.now) ≡ Some (Request.Run turns) →
+        result ≡ 0 → TellsInputRun turns (R.remaining reader.old)
+        (W.contents writer.old) (W.contents writer.new) }
+
     // Status 1 says for each of these what was written, of which the writer may have taken but a prefix: the line of a
     // fault; or, by the plan of the document in the input, what follows.
     // With `replay`: the answers to the script.
@@ -482,6 +587,12 @@ pub fn serve<R: Read, W: Write>(alloc: Global, words: &[&str], reader: &mut R, w
         Fails Request.Draw (R.remaining reader.old)
         (W.contents writer.old) (W.contents writer.new) }
 
+    // With `run`: what the machines did, also where one was stopped; or that there are more calls than a script may
+    // have records.
+    ensures run_fails { (turns : ℕ) → request_of (texts_of words.now) ≡ Some (Request.Run turns) →
+        result ≡ 1 → Fails (Request.Run turns) (R.remaining reader.old)
+        (W.contents writer.old) (W.contents writer.new) }
+
     // Status 2 comes exactly for other words, of which a line was printed, or a prefix of it.
     ensures refused { result ≡ 2 → request_of (texts_of words.now) ≡ None }
     ensures other { request_of (texts_of words.now) ≡ None → result ≡ 2 }
@@ -492,12 +603,15 @@ pub fn serve<R: Read, W: Write>(alloc: Global, words: &[&str], reader: &mut R, w
     ensures read { TakesAtMost (R.remaining reader.old) (R.remaining reader.new) max_bytes_read }
 {
     match request::request_of(words) {
-        Some(Request::Check) => serve_input(alloc, Request::Check, reader, writer).status(),
-        Some(Request::Header) => serve_input(alloc, Request::Header, reader, writer).status(),
-        Some(Request::Module) => serve_input(alloc, Request::Module, reader, writer).status(),
-        Some(Request::Draw) => serve_input(alloc, Request::Draw, reader, writer).status(),
-        Some(Request::Replay) => serve_input(alloc, Request::Replay, reader, writer).status(),
-        Some(Request::Explore) => serve_input(alloc, Request::Explore, reader, writer).status(),
+        Some(Request::Check) => serve_input(rt, alloc, Request::Check, reader, writer).status(),
+        Some(Request::Header) => serve_input(rt, alloc, Request::Header, reader, writer).status(),
+        Some(Request::Module) => serve_input(rt, alloc, Request::Module, reader, writer).status(),
+        Some(Request::Draw) => serve_input(rt, alloc, Request::Draw, reader, writer).status(),
+        Some(Request::Replay) => serve_input(rt, alloc, Request::Replay, reader, writer).status(),
+        Some(Request::Explore) => serve_input(rt, alloc, Request::Explore, reader, writer).status(),
+        Some(Request::Run(turns)) => {
+            serve_input(rt, alloc, Request::Run(turns), reader, writer).status()
+        }
         Some(Request::Help) => print(writer, HELP.as_bytes()).status(),
         Some(Request::Version) => print_version(writer, "plan").status(),
         None => refuse_words(writer, OTHER_WORDS).status(),
@@ -505,12 +619,15 @@ pub fn serve<R: Read, W: Write>(alloc: Global, words: &[&str], reader: &mut R, w
 }
 
 /// Runs the program with the words that it was started with, and returns the exit status.
-pub fn start<E: Env, R: Read, W: Write>(
+pub fn start<T, E: Env, R: Read, W: Write>(
+    rt: &T,
     alloc: Global,
     env: &E,
     reader: &mut R,
     writer: &mut W,
 ) -> u8
+where
+    T: Threads + Wait + Clock + Sync,
     ensures status { result ≤ 2 }
     ensures read { TakesAtMost (R.remaining reader.old) (R.remaining reader.new) max_bytes_read }
 {
@@ -519,6 +636,6 @@ pub fn start<E: Env, R: Read, W: Write>(
         env,
         writer,
         Exit::status,
-        |texts| serve(alloc, texts, reader, writer)
+        |texts| serve(rt, alloc, texts, reader, writer)
     )
 }

@@ -74,10 +74,10 @@ goes_on laws t s seen c sensors x plan sound legal here turn = by_stopped c.stop
 
     by_step : (read : ℕ) (o : Outcome) (step : Option Step) → step_in c ≡ step → Performs c same asks read step x.motors o → now ≡ advanced c o → GoesOn t s seen c now x
     by_step read o None is p led = quiet p.0 (there seen o outcome.Stays p.2 led here)
-    by_step read o (Some (Do call)) is p led =
+    by_step read o (Some (Do call faults)) is p led =
         let a = reply t state m call in
-        let at = call_leads t s seen (seen ++ event m call a ∷ []) c call (Some a) is (sees_answer m call a seen) here in
-        made call p.1.1 (there (seen ++ event m call a ∷ []) o (after_call (Some a)) (p.3 ∙ ap after_call p.1.0) led at)
+        let at = call_leads t s seen (seen ++ event m call a ∷ []) c call faults (Some a) is (sees_answer m call a seen) here in
+        made call p.1.1 (there (seen ++ event m call a ∷ []) o (after_call (Some a) faults) (p.3 ∙ ap (λ answer. after_call answer faults) p.1.0) led at)
     by_step read o (Some (Await z)) is p led =
         let a = reply t state m (Inquire z) in
         let at = inquiry_leads t s seen (seen ++ event m (Inquire z) a ∷ []) c z (Some a) (grown (Inquire z)).legal is (sees_answer m (Inquire z) a seen) here in

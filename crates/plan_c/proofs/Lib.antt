@@ -1,3 +1,5 @@
 mod Turning
 mod GoingOn
 mod Resuming
+mod FaultBits
+mod LineRows

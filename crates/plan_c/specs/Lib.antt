@@ -9,3 +9,4 @@ pub mod Resuming
 pub mod Laws
 pub mod Examples
 pub mod NumberExamples
+pub mod LineExamples

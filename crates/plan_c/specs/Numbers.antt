@@ -1,10 +1,15 @@
--- The numbers by which C names postures and calls. Machines, zones, poses and places have those of the plan.
-use Rattle.std.specs.Prelude.{◌≡◌, ℕ}
+-- The numbers by which C names postures, calls and faults. Machines, zones, poses and places have those of the plan.
+use Rattle.std.specs.Prelude.{◌≡◌, ℕ, ◌+◌, ◌^◌, if◌then◌else◌}
 use Rattle.plan_types.specs.declared.posture.Posture.{Posture}
 use Rattle.plan_types.specs.declared.posture.Posture.TheVariants.{Closed, Moving, OpenIn, OpenOut}
 use Rattle.plan_types.specs.declared.call.Call.{Call}
 use Rattle.plan_types.specs.declared.call.Call.TheVariants.{Claim, Give, Yield, Take, Release, SetPose, Inquire, Stop}
 use Rattle.plan_types.specs.declared.call.Call.TheVariants.{Resume}
+use Rattle.plan_controller.specs.declared.faults.Faults.{Faults}
+use Rattle.plan_controller.specs.declared.faults.Mendable.{Mendable}
+use Rattle.plan_controller.specs.declared.faults.Mendable.TheVariants.{Held, Shut, NotOwner, PlateInZone, NoPlate}
+use Rattle.plan_controller.specs.declared.faults.Mendable.TheVariants.{PlaceFull, WrongWay, Stopped}
+use Rattle.plan_controller.specs.Faults.{has}
 
 abbrev pub posture_number : Posture → ℕ
 posture_number Closed = 0
@@ -23,6 +28,26 @@ verb_number (SetPose _) = 6
 verb_number (Inquire _) = 8
 verb_number Stop = 9
 verb_number Resume = 10
+
+-- that of the refusal
+abbrev pub mendable_number : Mendable → ℕ
+mendable_number Held = 2
+mendable_number Shut = 4
+mendable_number NotOwner = 5
+mendable_number PlateInZone = 6
+mendable_number NoPlate = 7
+mendable_number PlaceFull = 8
+mendable_number WrongWay = 9
+mendable_number Stopped = 14
+
+abbrev pub bit_of : Faults → Mendable → ℕ
+bit_of faults r = if has faults r then 2 ^ mendable_number r else 0
+
+-- the faults of a line are a number, in which each has the bit of its own
+abbrev pub faults_number : Faults → ℕ
+faults_number f =
+    bit_of f Held + bit_of f Shut + bit_of f NotOwner + bit_of f PlateInZone + bit_of f NoPlate + bit_of f PlaceFull
+    + bit_of f WrongWay + bit_of f Stopped
 
 -- 0 for a call without object
 abbrev pub object_number : Call → ℕ

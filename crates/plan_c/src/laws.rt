@@ -3,6 +3,7 @@ ghost use Rattle.std.specs.Prelude.{ℕ};
 ghost use Rattle.plan_c.specs.Courses.{TurnsGoOn};
 ghost use Rattle.plan_c.specs.Examples.{StartsAreJudged};
 ghost use Rattle.plan_c.specs.Laws.{NoStateHasNoWord};
+ghost use Rattle.plan_c.specs.LineExamples.{FaultsHaveNumbers, LinesAreMet};
 ghost use Rattle.plan_c.specs.NumberExamples.{CallsAreMet, GivenIsMet};
 ghost use Rattle.plan_c.specs.NumberExamples.{NumbersAreMet, RepliesAreMet};
 ghost use Rattle.plan_c.specs.Resuming.{ResumesGoOn};
@@ -30,6 +31,12 @@ pub fn numbers_are_met()
 /// The numbers of each call, and numbers of none.
 pub fn calls_are_met()
     ensures { CallsAreMet }
+{}
+
+/// The number of each fault and of all of them together; rows of literal steps, and rows of none.
+pub fn lines_are_met()
+    ensures faults { FaultsHaveNumbers }
+    ensures rows { LinesAreMet }
 {}
 
 /// What C gets of each answer, whatever it names.

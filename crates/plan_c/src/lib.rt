@@ -5,6 +5,7 @@
 mod by_plan;
 mod calls;
 mod exports;
+mod faults;
 pub mod laws;
 mod line;
 mod opened;

@@ -4,6 +4,7 @@ ghost use Rattle.plan_controller.specs.declared.step.Step.{Step as PlanStep};
 ghost use Rattle.plan_c.specs.Lines.{row_of, HasStep, NoStep};
 
 use crate::calls::call_with;
+use crate::faults::faults_with;
 use plan_controller::Step;
 
 /// The kind of a line that awaits a zone.
@@ -27,16 +28,22 @@ pub struct ProgramLine {
     pub object: u8,
     /// The sensor until which motors run; otherwise 0.
     pub until: u8,
+    /// The refusals that stop the machine at a call, though others' calls may mend them: of each the bit of its number.
+    pub faults: u16,
 }
 
 /// The step of a line, or `None` if the line is no step's.
 pub(crate) fn step_of(line: ProgramLine) -> Option<Step>
     ensures { (step : PlanStep) → (result ≡ Some step) ↔ (line ≡ row_of step) }
 {
-    match (line.kind, line.motors, line.object, line.until) {
-        (RUN, motors, 0, until) => Some(Step::Run { motors, until }),
-        (AWAIT, 0, zone, 0) => Some(Step::Await(zone)),
-        (verb, 0, object, 0) => call_with(verb, object).map(Step::Do),
+    match (line.kind, line.motors, line.object, line.until, line.faults) {
+        (RUN, motors, 0, until, 0) => Some(Step::Run { motors, until }),
+        (AWAIT, 0, zone, 0, 0) => Some(Step::Await(zone)),
+        (verb, 0, object, 0, bits) => {
+            let call = call_with(verb, object)?;
+            let faults = faults_with(bits)?;
+            Some(Step::Do(call, faults))
+        }
         _ => None,
     }
 }

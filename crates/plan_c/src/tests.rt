@@ -107,7 +107,12 @@ fn line(motors: u64, kind: u8, object: u8, until: u8) -> ProgramLine {
         kind,
         object,
         until,
+        faults: 0,
     }
+}
+
+fn with_faults(faults: u16, line: ProgramLine) -> ProgramLine {
+    ProgramLine { faults, ..line }
 }
 
 // The press claims its zone, moves, runs its ram until sensor 4 shows, says that it is open, hands its zone over, and
@@ -210,6 +215,36 @@ fn places_are_taken_back(rt: HostRuntime) -> Result<(), Fail> {
     Ok(())
 }
 
+// The press's zone is the loader's, so its claim is refused: Held. Which faults of its line stop it, and with what.
+const FAULTS: &[(u16, u8)] = &[
+    (0, 0),
+    (1 << 2, 2),
+    (1 << 4, 0),
+    (1 << 2 | 1 << 14, 2),
+    (17_392, 0),
+    (17_396, 2),
+];
+
+#[test]
+fn faults_stop_the_press(rt: HostRuntime) -> Result<(), Fail> {
+    let press = Plan::new(examples::press(rt.alloc())?).expect(&rt, "a plan");
+    let bytes = write_plan(rt.alloc(), &press)?;
+    let plan = bagunjoki_plan_open(&bytes);
+    let mut word = start_of(&plan);
+    for call in [[1, 1, 0], [1, 6, 3], [1, 6, 0], [1, 3, 0]] {
+        word = bagunjoki_plan_step(&plan, word, call[0], call[1], call[2]).next;
+    }
+    for (faults, stopped) in FAULTS {
+        let lines = [with_faults(*faults, line(0, 1, 0, 0)), line(0, 1, 0, 0)];
+        let turned = bagunjoki_plan_turn(&plan, word, 1, &lines, place_at(0, 0), true, 0);
+        assert!(rt; turned.answer == 2 && turned.place == place_at(0, *stopped));
+        assert!(rt; bagunjoki_plan_is_in_step(&plan, word, 1, &lines, turned.place));
+        let next = bagunjoki_plan_turn(&plan, word, 1, &lines, place_at(1, 0), true, 0);
+        assert!(rt; next.answer == 2 && next.place == place_at(1, 0));
+    }
+    Ok(())
+}
+
 fn place_at(line: u8, stopped: u8) -> Place {
     Place { line, stopped }
 }
@@ -219,8 +254,9 @@ fn start_of(plan: &Opened) -> u64 {
 }
 
 // Lines that are no step: no verb, the cell's Advance, a kind past all, a call with a motor, a call with a sensor, an
-// await with a motor, and a run of an object.
-fn no_steps() -> [ProgramLine; 7] {
+// await with a motor, and a run of an object; a bit of no refusal, one of a refusal that always stops, and faults of a
+// wait and of a run.
+fn no_steps() -> [ProgramLine; 12] {
     [
         line(0, 0, 0, 0),
         line(0, 7, 0, 0),
@@ -229,6 +265,11 @@ fn no_steps() -> [ProgramLine; 7] {
         line(0, 1, 0, 1),
         line(1, 16, 0, 0),
         line(1, 17, 1, 0),
+        with_faults(1 << 11, line(0, 1, 0, 0)),
+        with_faults(1 | 1 << 2, line(0, 1, 0, 0)),
+        with_faults(1 << 13, line(0, 1, 0, 0)),
+        with_faults(1 << 2, line(0, 16, 0, 0)),
+        with_faults(1 << 2, line(1, 17, 0, 0)),
     ]
 }
 
@@ -238,7 +279,7 @@ fn turns_tell_why_they_rest(rt: HostRuntime) -> Result<(), Fail> {
     let bytes = write_plan(rt.alloc(), &press)?;
     let plan = bagunjoki_plan_open(&bytes);
     let word = start_of(&plan);
-    for index in 0..8 {
+    for index in 0..13 {
         let place = Place {
             line: index,
             stopped: 0,

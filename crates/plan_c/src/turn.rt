@@ -82,13 +82,13 @@ fn perform(plan: &Compiled, word: u64, machine: u8, step: Step, sensors: u32) ->
         sensors (Some step) result.motors result.outcome }
 {
     match step {
-        Step::Do(call) => {
+        Step::Do(call, faults) => {
             let (answer, next) = plan.step_sound(word, machine, call);
             Performed {
                 word: next,
                 motors: 0,
                 answer: answer_number(answer),
-                outcome: after_call(Some(answer)),
+                outcome: after_call(Some(answer), faults),
             }
         }
         Step::Await(zone) => {

@@ -1,3 +1,4 @@
+pub mod Kinds
 pub mod Leading
 pub mod Permitting
 pub mod Caring

@@ -10,20 +10,22 @@ use Rattle.plan_types.specs.declared.answer.Refusal.TheVariants.{NotParty, Held,
 use Rattle.plan_types.specs.declared.answer.Refusal.TheVariants.{PlateInZone, NoPlate, PlaceFull, WrongWay, Jump}
 use Rattle.plan_types.specs.declared.answer.Refusal.TheVariants.{NoPose, Worn, Stopped, NotStopped}
 use Rattle.plan_drives.specs.declared.line.Line.TheVariants as line
+use Rattle.plan_controller.specs.declared.faults.Faults.{Faults}
 use Rattle.plan_controller.specs.declared.step.Step.{Step}
 use Rattle.plan_controller.specs.declared.step.Step.TheVariants.{Do, Await, Run}
 use Rattle.plan_controller.specs.declared.outcome.Outcome.{Outcome}
 use Rattle.plan_controller.specs.declared.outcome.Outcome.TheVariants.{Stays, GoesOn, Stops}
+use Rattle.plan_controller.specs.Faults.{no_faults}
 use Rattle.plan_controller.specs.Steps.{shows, after_call, after_inquiry}
 use Rattle.plan_controller.specs.Turns.{Control, control, Turns, program_in}
 
 abbrev pub refusal_leads : Refusal → Outcome → Type 0
-refusal_leads r o = (after_call (Some (Refused r)) ≡ o) × (after_inquiry 1 (Some (Refused r)) ≡ o)
+refusal_leads r o = (after_call (Some (Refused r)) no_faults ≡ o) × (after_inquiry 1 (Some (Refused r)) ≡ o)
 
 pub record OutcomesAreRight : Type 0 where
-  pub done : after_call (Some Done) ≡ GoesOn
-  pub not_made : after_call None ≡ Stays
-  pub shown : after_call (Some (Shown (Some 1) false OpenIn)) ≡ Stays
+  pub done : after_call (Some Done) no_faults ≡ GoesOn
+  pub not_made : after_call None no_faults ≡ Stays
+  pub shown : after_call (Some (Shown (Some 1) false OpenIn)) no_faults ≡ Stays
   pub mine : after_inquiry 1 (Some (Shown (Some 1) false OpenIn)) ≡ GoesOn
   pub with_plate : after_inquiry 1 (Some (Shown (Some 1) true OpenIn)) ≡ GoesOn
   pub others : after_inquiry 1 (Some (Shown (Some 0) false OpenIn)) ≡ Stays
@@ -55,10 +57,20 @@ pub record OutcomesAreRight : Type 0 where
 
 -- the press claims its zone, moves, runs its ram until sensor 4 shows, and awaits its zone
 abbrev pub steps : List Step
-steps = Do (Claim 0) ∷ Do (SetPose 3) ∷ Run 1 4 ∷ Await 0 ∷ []
+steps = Do (Claim 0) no_faults ∷ Do (SetPose 3) no_faults ∷ Run 1 4 ∷ Await 0 ∷ []
 
 abbrev pub at : ℕ → Control
 at place = control 1 steps place None
+
+-- it gives its zone back, unless that is held, and then claims it
+abbrev pub if_held : Faults
+if_held = record no_faults { held = true }
+
+abbrev pub faulty : List Step
+faulty = Do (Yield 0) if_held ∷ Do (Claim 0) no_faults ∷ []
+
+abbrev pub at_faulty : ℕ → Option Refusal → Control
+at_faulty place stopped = control 1 faulty place stopped
 
 -- the turn of a line that gives this answer to this call, and of one that isn't asked
 abbrev pub Answered : Control → Call → Option Answer → Option ℕ → ℕ → Control → Type 0
@@ -81,6 +93,14 @@ pub record TurnsAreRight : Type 0 where
   pub unread : Silent (at 2) None 0 (at 2)
   pub stopped : Silent (control 1 steps 2 (Some Worn)) (Some 0) 0 (control 1 steps 2 (Some Worn))
   pub no_program : Silent (control 1 [] 0 None) (Some 0) 0 (control 1 [] 0 None)
+  -- a fault of its own line stops it, and no other refusal that others' calls may mend does, nor the next line's
+  pub fault : Answered (at_faulty 0 None) (Yield 0) (Some (Refused (Held 0))) (Some 0) 0 (at_faulty 0 (Some (Held 0)))
+  pub no_fault : Answered (at_faulty 0 None) (Yield 0) (Some (Refused (NotOwner None))) (Some 0) 0 (at_faulty 0 None)
+  pub next_line : Answered (at_faulty 1 None) (Claim 0) (Some (Refused (Held 0))) (Some 0) 0 (at_faulty 1 None)
+  pub not_asked_again : ¬ Answered (at_faulty 0 None) (Yield 0) (Some (Refused (Held 0))) (Some 0) 0 (at_faulty 0 None)
+  pub not_stopped_so : ¬ Answered (at_faulty 1 None) (Claim 0) (Some (Refused (Held 0))) (Some 0) 0
+      (at_faulty 1 (Some (Held 0)))
+  pub by_fault : Silent (at_faulty 0 (Some (Held 0))) (Some 0) 0 (at_faulty 0 (Some (Held 0)))
   -- a turn that leaves the ram on when its sensor shows, one with the ram off before, one that asks while it runs, and
   -- one that asks another call
   pub not_on : ¬ Silent (at 2) (Some 16) 1 (at 2)

@@ -1,3 +1,4 @@
+pub mod Faults
 pub mod Steps
 pub mod Seen
 pub mod Turns
@@ -5,4 +6,5 @@ pub mod Wiring
 pub mod Benches
 pub mod BenchView
 pub mod Examples
+pub mod FaultExamples
 pub mod Laws

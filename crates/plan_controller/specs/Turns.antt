@@ -62,8 +62,8 @@ advanced c o = record c { place = place_after c o; stopped = stopped_after c o }
 -- it was asked this call once, and what came back. A call is made with all motors off.
 abbrev pub Performs : Control → Type 0 → (Call → Option Answer → Type 0) → ℕ → Option Step → ℕ → Outcome → Type 0
 Performs c same asks sensors None motors o = same × (motors ≡ 0) × (o ≡ outcome.Stays)
-Performs c same asks sensors (Some (Do call)) motors o =
-    (answer : Option Answer) × asks call answer × (motors ≡ 0) × (o ≡ after_call answer)
+Performs c same asks sensors (Some (Do call faults)) motors o =
+    (answer : Option Answer) × asks call answer × (motors ≡ 0) × (o ≡ after_call answer faults)
 Performs c same asks sensors (Some (Await z)) motors o =
     (answer : Option Answer) × asks (Inquire z) answer × (motors ≡ 0) × (o ≡ after_inquiry c.machine answer)
 Performs c same asks sensors (Some (Run run until)) motors o =

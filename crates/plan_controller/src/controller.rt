@@ -127,12 +127,12 @@ impl PlanController {
                 motors: 0,
                 outcome: Outcome::Stays,
             },
-            Some(Step::Do(call)) => {
+            Some(Step::Do(call, faults)) => {
                 let answer = line.ask(call);
                 Performed {
                     asked: Some((call, answer)),
                     motors: 0,
-                    outcome: after_call(answer),
+                    outcome: after_call(answer, faults),
                 }
             }
             Some(Step::Await(zone)) => {

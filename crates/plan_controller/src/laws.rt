@@ -1,6 +1,9 @@
 //! Laws of controllers, each the contract of a function that does nothing.
 ghost use Rattle.std.specs.Prelude.{Bool, ℕ};
+ghost use Rattle.plan_types.specs.declared.answer.Refusal.{Refusal};
 ghost use Rattle.plan_types.specs.declared.posture.Posture.{Posture};
+ghost use Rattle.plan_controller.specs.declared.faults.Faults.{Faults};
+ghost use Rattle.plan_controller.specs.Laws.{FaultsGrow, FaultsStop, FaultsStopTurns};
 ghost use Rattle.plan_controller.specs.Laws.{LinesAreOfSteps, NamesAreWaitedFor, OwnersGoOn};
 ghost use Rattle.plan_controller.specs.Laws.{PlacesGoRound, RunsAreDriven, SensorsHaveBits};
 ghost use Rattle.plan_controller.specs.Turns.{Control, InStepGoesOn, RoundsBeginAnywhere};
@@ -31,9 +34,21 @@ pub fn owners_go_on()
     ensures { (m : ℕ) (plate : Bool) (q : Posture) → OwnersGoOn m plate q }
 {}
 
-/// A refusal that names a machine, a zone or a posture is one to wait for, whatever it names.
+/// A refusal that names a machine, a zone or a posture is one to wait for, whatever it names, and one fault of a line.
 pub fn names_are_waited_for()
     ensures { NamesAreWaitedFor }
+{}
+
+/// A refusal that is a fault at a line stops its machine there, whatever it names; another one that others' calls may
+/// mend leaves it at its line.
+pub fn faults_stop()
+    ensures outcomes { (r : Refusal) (faults : Faults) → FaultsStop r faults }
+    ensures turns { FaultsStopTurns }
+{}
+
+/// Faults with one more have that one, and else the same.
+pub fn faults_grow()
+    ensures { (faults : Faults) → FaultsGrow faults }
 {}
 
 /// A step's line has its call, its zone and its motors.

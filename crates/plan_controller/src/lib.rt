@@ -4,6 +4,7 @@
 pub mod bench;
 pub mod controller;
 pub mod examples;
+pub mod faults;
 pub mod laws;
 pub mod line;
 pub mod outcome;
@@ -12,6 +13,7 @@ pub mod wired;
 
 pub use bench::PlanBench;
 pub use controller::{PlanController, TakenTurn};
+pub use faults::{Faults, Mendable};
 pub use line::PlanLine;
 pub use outcome::Outcome;
 pub use step::{Step, lines_of};

@@ -2,6 +2,7 @@
 ghost use Rattle.std.specs.Prelude.{◌≡◌};
 ghost use Rattle.plan_controller.specs.Steps as steps;
 
+use crate::faults::{Faults, Mendable};
 use plan_types::{Answer, Refusal};
 
 /// What a step leads to.
@@ -11,50 +12,28 @@ pub enum Outcome {
     Stays,
     /// It goes on to the next one, after the last to the first.
     GoesOn,
-    /// It stops for good: waiting would never mend this refusal.
+    /// It stops for good: waiting would never mend this refusal, or the line has it as a fault.
     Stops(Refusal),
 }
 
-/// Whether waiting may mend a refusal, since others' calls can.
-pub(crate) fn may_mend(refusal: Refusal) -> bool
-    ensures { result ≡ steps.may_mend refusal }
+/// What a refusal leads to, where these are faults.
+fn after_refusal(refusal: Refusal, faults: Faults) -> Outcome
+    ensures { result ≡ steps.after_refusal refusal faults }
 {
-    match refusal {
-        Refusal::Held(_)
-        | Refusal::Shut(_)
-        | Refusal::NotOwner(_)
-        | Refusal::PlateInZone(_)
-        | Refusal::NoPlate
-        | Refusal::PlaceFull
-        | Refusal::WrongWay
-        | Refusal::Stopped => true,
-        Refusal::NotParty
-        | Refusal::AlreadyMine
-        | Refusal::Jump
-        | Refusal::NoPose
-        | Refusal::Worn
-        | Refusal::NotStopped => false,
+    match Mendable::of(refusal) {
+        Some(kind) if !faults.has(kind) => Outcome::Stays,
+        _ => Outcome::Stops(refusal),
     }
 }
 
-fn after_refusal(refusal: Refusal) -> Outcome
-    ensures { result ≡ steps.after_refusal refusal }
-{
-    if may_mend(refusal) {
-        Outcome::Stays
-    } else {
-        Outcome::Stops(refusal)
-    }
-}
-
-/// What a call leads to, by its answer; `None` if it wasn't made.
-pub fn after_call(answer: Option<Answer>) -> Outcome
-    ensures { result ≡ steps.after_call answer }
+/// What a call leads to, by its answer, where these are faults. The answer is `None` if the call wasn't made.
+pub fn after_call(answer: Option<Answer>, faults: Faults) -> Outcome
+    ensures { result ≡ steps.after_call answer faults }
 {
     match answer {
         None | Some(Answer::Shown { .. }) => Outcome::Stays,
         Some(Answer::Done) => Outcome::GoesOn,
-        Some(Answer::Refused(refusal)) => after_refusal(refusal),
+        Some(Answer::Refused(refusal)) => after_refusal(refusal, faults),
     }
 }
 
@@ -71,6 +50,6 @@ pub fn after_inquiry(machine: u8, answer: Option<Answer>) -> Outcome
                 Outcome::Stays
             }
         }
-        Some(Answer::Refused(refusal)) => after_refusal(refusal),
+        Some(Answer::Refused(refusal)) => after_refusal(refusal, Faults::none()),
     }
 }

@@ -2,6 +2,7 @@
 ghost use Rattle.std.specs.Prelude.{◌≡◌, map, IfOk};
 ghost use Rattle.plan_controller.specs.Steps as steps;
 
+use crate::faults::Faults;
 use plan_drives::Line;
 use plan_types::Call;
 use std::alloc::{AllocError, Global};
@@ -9,8 +10,8 @@ use std::alloc::{AllocError, Global};
 /// A step of a machine's program.
 #[derive(Clone, Copy, Debug, PartialEq, Eq)]
 pub enum Step {
-    /// To make a call, until it is done.
-    Do(Call),
+    /// To make a call, until it is done, or refused by one of these faults.
+    Do(Call, Faults),
     /// To wait until the machine owns a zone.
     Await(u8),
     /// To run motors, those of the plan that have a bit here, until a sensor shows. Without motors, to wait for the
@@ -24,12 +25,12 @@ pub enum Step {
 }
 
 impl Step {
-    /// The line of the program, as `plan_drives` checks it: it knows no sensors.
+    /// The line of the program, as `plan_drives` checks it: it knows no faults and no sensors.
     pub fn line(self) -> Line
         ensures { result ≡ steps.line_of self }
     {
         match self {
-            Step::Do(call) => Line::Do(call),
+            Step::Do(call, _) => Line::Do(call),
             Step::Await(zone) => Line::Await(zone),
             Step::Run { motors, .. } => Line::Run(motors),
         }

@@ -14,6 +14,9 @@ mod MotorRows
 mod Standing
 mod StepLines
 mod Worded
+mod FaultWords
+mod FaultLines
+mod FaultRows
 mod StepRows
 mod PlanLaws
 mod PostureLaws

@@ -67,10 +67,10 @@ plain : (word : Text) → LacksBlank word → All (λ byte. nat_eq byte 32 ≡ f
 plain word lacks =
     All-from_get_or (λ byte. nat_eq byte 32 ≡ false) word 0 (λ i within. ne_eqb (get_or word i 0) 32 (lacks i within))
 
-words_more : (rest word more : Text) → rest ≡ word ++ 32 ∷ more → LacksBlank word → words_in rest ≡ word ∷ words_in more
+pub words_more : (rest word more : Text) → rest ≡ word ++ 32 ∷ more → LacksBlank word → words_in rest ≡ word ∷ words_in more
 words_more rest word more is lacks = ap words_in is ∙ slice_split_at (λ byte. nat_eq byte 32) word 32 more (plain word lacks) refl
 
-last_word : (rest : Text) → LacksBlank rest → words_in rest ≡ rest ∷ []
+pub last_word : (rest : Text) → LacksBlank rest → words_in rest ≡ rest ∷ []
 last_word rest lacks = slice_split_none (λ byte. nat_eq byte 32) rest (plain rest lacks)
 
 -- ---- motors

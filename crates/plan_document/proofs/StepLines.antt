@@ -11,22 +11,28 @@ use Rattle.plan_types.specs.Table.{is_party}
 use Rattle.plan_motors.specs.declared.motor.Motor.{Motor}
 use Rattle.plan_motors.specs.OfPlan.{motor_at, no_motor}
 use Rattle.plan_drives.specs.Program.{has_bit}
+use Rattle.plan_controller.specs.declared.faults.Faults.{Faults}
 use Rattle.plan_controller.specs.declared.step.Step.TheVariants.{Do, Await, Run}
 use Rattle.plan_text.specs.Named.{Named}
 use Rattle.plan_text.specs.Names.{Text, name_in, number_in}
 use Rattle.plan_document.specs.declared.motors.NamedMotors.{NamedMotors}
-use Rattle.plan_document.specs.Saying.{AreMotorsIn, IsCallOf, IsStepOf, is_driven_by, own_motor, words_in}
+use Rattle.plan_document.specs.Saying.{AreMotorsIn, HasFaults, IsCallOf, IsStepOf, is_driven_by, own_motor, words_in}
 use Rattle.plan_document.proofs.Running.{no_bit}
 use Rattle.plan_document.proofs.Standing.{name_of, passed}
 
-pub call_line : (n : Named) (m : NamedMotors) (sensors : List Text) (machine : ℕ) (line : Text) (call : Call) → IsStepOf n m sensors machine line (Do call) → IsCallOf n machine line call
-call_line n m sensors machine line call (inl one) = let same : call ≡ one.0 = cc in subst (IsCallOf n machine line) (sym same) one.2
-call_line n m sensors machine line call (inr (inl one)) = absurd one.2
-call_line n m sensors machine line call (inr (inr one)) = let other = one.2.step_is in absurd (cc)
+pub call_line : (n : Named) (m : NamedMotors) (sensors : List Text) (machine : ℕ) (line : Text) (call : Call) (faults : Faults) → IsStepOf n m sensors machine line (Do call faults)
+    → (ask : Text) × IsCallOf n machine ask call × HasFaults line ask faults
+call_line n m sensors machine line call faults (inl one) =
+    let is = one.step_is in
+    let same_call : call ≡ one.call = cc in
+    let same_faults : faults ≡ one.faults = cc in
+    (one.ask, subst (IsCallOf n machine one.ask) (sym same_call) one.call_is, subst (HasFaults line one.ask) (sym same_faults) one.faults_are)
+call_line n m sensors machine line call faults (inr (inl one)) = absurd one.2
+call_line n m sensors machine line call faults (inr (inr one)) = let other = one.2.step_is in absurd (cc)
 
 pub zone_line : (n : Named) (m : NamedMotors) (sensors : List Text) (machine : ℕ) (line : Text) (zone : ℕ) → IsStepOf n m sensors machine line (Await zone)
     → (name : Text) × (line ≡ codes "await " ++ name) × (number_in n.zones name ≡ Some zone) × (is_party n.plan machine zone ≡ true)
-zone_line n m sensors machine line zone (inl one) = let other = one.1 in absurd (cc)
+zone_line n m sensors machine line zone (inl one) = let other = one.step_is in absurd (cc)
 zone_line n m sensors machine line zone (inr (inl one)) = (one.0, one.1, one.2.0, one.2.1)
 zone_line n m sensors machine line zone (inr (inr one)) = let other = one.2.step_is in absurd (cc)
 
@@ -68,7 +74,7 @@ any_own m machine motor (name ∷ names) e = by (any_own m machine motor names) 
 -- a run, or a wait for a sensor: the line up to the last blank, and the sensor; each motor is the machine's
 pub run_line : (n : Named) (m : NamedMotors) (sensors : List Text) (machine : ℕ) (line : Text) (motors until : ℕ) → IsStepOf n m sensors machine line (Run motors until)
     → (before name : Text) × (line ≡ before ++ codes " " ++ name) × (number_in sensors name ≡ Some until) × ((motor : ℕ) → has_bit motors motor ≡ true → (motor_at m.motors.items motor).machine ≡ machine)
-run_line n m sensors machine line motors until (inl one) = let other = one.1 in absurd (cc)
+run_line n m sensors machine line motors until (inl one) = let other = one.step_is in absurd (cc)
 run_line n m sensors machine line motors until (inr (inl one)) = (
   codes "await",
   one.0,
@@ -100,7 +106,7 @@ apart e = cc
 -- what a run has are the motors between `run` and `until`
 pub run_names : (n : Named) (m : NamedMotors) (sensors : List Text) (machine : ℕ) (line : Text) (motors until : ℕ) (names : Text) → IsStepOf n m sensors machine line (Run motors until)
     → line ≡ codes "run " ++ names ++ codes " until " ++ name_in sensors until → AreMotorsIn m machine names motors
-run_names n m sensors machine line motors until names (inl one) is = let other = one.1 in absurd (cc)
+run_names n m sensors machine line motors until names (inl one) is = let other = one.step_is in absurd (cc)
 run_names n m sensors machine line motors until names (inr (inl one)) is = absurd (apart (sym (ap (begins 97) one.1) ∙ ap (begins 97) is))
 run_names n m sensors machine line motors until names (inr (inr one)) is =
     let runs = one.2 in
@@ -118,6 +124,6 @@ run_names n m sensors machine line motors until names (inr (inr one)) is =
 -- a wait has none
 pub wait_still : (n : Named) (m : NamedMotors) (sensors : List Text) (machine : ℕ) (line : Text) (motors until : ℕ) (name : Text) → IsStepOf n m sensors machine line (Run motors until)
     → line ≡ codes "await " ++ name → motors ≡ 0
-wait_still n m sensors machine line motors until name (inl one) is = let other = one.1 in absurd (cc)
+wait_still n m sensors machine line motors until name (inl one) is = let other = one.step_is in absurd (cc)
 wait_still n m sensors machine line motors until name (inr (inl one)) is = one.2.0
 wait_still n m sensors machine line motors until name (inr (inr one)) is = absurd (apart (sym (ap (begins 114) one.1) ∙ ap (begins 114) is))

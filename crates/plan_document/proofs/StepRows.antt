@@ -7,8 +7,10 @@ use Rattle.std.specs.Option.{option_and_then, option_eq}
 use Rattle.plan_types.specs.declared.call.Call.TheVariants.{Give as GiveCall}
 use Rattle.plan_motors.specs.declared.motor.Motor.{Motor}
 use Rattle.plan_drives.specs.Program.{has_bit}
+use Rattle.plan_controller.specs.declared.faults.Faults.{Faults}
 use Rattle.plan_controller.specs.declared.step.Step.{Step}
 use Rattle.plan_controller.specs.declared.step.Step.TheVariants.{Do, Await, Run}
+use Rattle.plan_controller.specs.Faults.{no_faults}
 use Rattle.plan_text.specs.Calls.{verb_word}
 use Rattle.plan_text.specs.Named.{Named}
 use Rattle.plan_text.specs.Names.{Text, number_in}
@@ -16,7 +18,7 @@ use Rattle.plan_text.specs.declared.calls.Verb.{Verb}
 use Rattle.plan_text.specs.declared.calls.Verb.TheVariants.{Claim, Give, Yield, Take, Release, Inquire, Pose}
 use Rattle.plan_document.specs.declared.motors.NamedMotors.{NamedMotors}
 use Rattle.plan_document.specs.StepExamples.{AreOfLift, IsRead, StepsAreMet, StepsAreOfLines, StepsAreRead, StepsAreTold, driven_by}
-use Rattle.plan_document.specs.Saying.{AreMotorsIn, Awaits, Runs, is_driven_by, own_motor, words_in}
+use Rattle.plan_document.specs.Saying.{AreMotorsIn, Asks, Awaits, HasFaults, IsCallOf, Runs, is_driven_by, own_motor, words_in}
 use Rattle.plan_document.specs.WordExamples.{parked}
 use Rattle.plan_document.proofs.PlanRows.{asked, impossible}
 use Rattle.plan_document.proofs.Standing.{name_of, same_number}
@@ -48,33 +50,54 @@ no_run Release name rest e = impossible (sym (ap (has_byte 1 117) e))
 no_run Inquire name rest e = impossible (sym (ap (has_byte 1 117) e))
 no_run Pose name rest e = impossible (sym (ap (has_byte 1 117) e))
 
+-- what a line asks begins with a verb, also where faults come after it
+as_asked : (line ask name : Text) (v : Verb) (faults : Faults) → ask ≡ verb_word v ++ codes " " ++ name → HasFaults line ask faults → (rest : Text) × (line ≡ verb_word v ++ codes " " ++ rest)
+as_asked line ask name v faults is (inl one) = (name, one.0 ∙ is)
+as_asked line ask name v faults is (inr one) = (
+  name ++ codes " or stop on " ++ one.0,
+  one.1
+      ∙ ap (λ t. t ++ codes " or stop on " ++ one.0) is
+      ∙ ap (λ t. t ++ one.0) (append_assoc (verb_word v ++ codes " ") name (codes " or stop on "))
+      ∙ append_assoc (verb_word v ++ codes " ") (name ++ codes " or stop on ") one.0,
+)
+
+begun : (m : NamedMotors) (machine : ℕ) (line : Text) (s : Step) → Asks parked machine line s → (v : Verb) × (rest : Text) × (line ≡ verb_word v ++ codes " " ++ rest)
+begun m machine line s one =
+    let at = as_asked line one.ask one.call_is.name one.call_is.verb one.faults one.call_is.line_is one.faults_are in
+    (one.call_is.verb, at.0, at.1)
+
 a_wait : (m : NamedMotors) (machine : ℕ) (rest : Text) (s : Step) → IsRead m machine (codes "await " ++ rest) s → Awaits parked sensors machine rest s
-a_wait m machine rest s (inl one) = absurd (no_await one.2.verb one.2.name rest one.2.line_is)
+a_wait m machine rest s (inl one) = let b = begun m machine _ s one in absurd (no_await b.0 b.1 rest b.2)
 a_wait m machine rest s (inr (inl one)) = subst (λ name. Awaits parked sensors machine name s) (sym (ap (drop 6) one.1)) one.2
 a_wait m machine rest s (inr (inr one)) = absurd (impossible (sym (ap (has_byte 0 97) one.1)))
 
 a_run : (m : NamedMotors) (machine : ℕ) (rest : Text) (s : Step) → IsRead m machine (codes "run " ++ rest) s → Runs m sensors machine rest s
-a_run m machine rest s (inl one) = absurd (no_run one.2.verb one.2.name rest one.2.line_is)
+a_run m machine rest s (inl one) = let b = begun m machine _ s one in absurd (no_run b.0 b.1 rest b.2)
 a_run m machine rest s (inr (inl one)) = absurd (impossible (sym (ap (has_byte 0 114) one.1)))
 a_run m machine rest s (inr (inr one)) = subst (λ words. Runs m sensors machine words s) (sym (ap (drop 4) one.1)) one.2
 
-a_call : (m : NamedMotors) (s : Step) → IsRead m 2 (codes "give above") s → s ≡ Do (GiveCall 1)
-a_call m s (inl one) =
-    let h : Some (GiveCall 1) ≡ Some one.0 = asked 2 (codes "above") one.0 one.2 in
-    let same : one.0 ≡ GiveCall 1 = cc in
-    one.1 ∙ ap (λ c. Do c) same
+a_call : (m : NamedMotors) (s : Step) → IsRead m 2 (codes "give above") s → s ≡ Do (GiveCall 1) no_faults
+a_call m s (inl one) = by one.faults_are
+  where
+    by : HasFaults (codes "give above") one.ask one.faults → s ≡ Do (GiveCall 1) no_faults
+    by (inl bare) =
+        let h : Some (GiveCall 1) ≡ Some one.call = asked 2 (codes "above") one.call (subst (λ t. IsCallOf parked 2 t one.call) (sym bare.0) one.call_is) in
+        let same : one.call ≡ GiveCall 1 = cc in
+        one.step_is ∙ ap (λ c. Do c one.faults) same ∙ ap (Do (GiveCall 1)) bare.1
+    by (inr more) =
+        absurd (omega (arith, ap length more.1, length-append (one.ask ++ codes " or stop on ") more.0, length-append one.ask (codes " or stop on ")))
 a_call m s (inr (inl one)) = absurd (impossible (sym (ap (has_byte 0 103) one.1)))
 a_call m s (inr (inr one)) = absurd (impossible (sym (ap (has_byte 0 103) one.1)))
 
 -- ---- waits
 
 waits_for_zone : (s : Step) → Awaits parked sensors 2 (codes "above") s → s ≡ Await 1
-waits_for_zone (Do c) is = absurd is
+waits_for_zone (Do c faults) is = absurd is
 waits_for_zone (Await z) is = let h : Some 1 ≡ Some z = is.0 in ap (λ k. Await k) (let same : z ≡ 1 = cc in same)
 waits_for_zone (Run motors until) is = let h : None ≡ Some until = is.1 in absurd (cc)
 
 strangers : (s : Step) → Awaits parked sensors 1 (codes "above") s → ⊥
-strangers (Do c) is = is
+strangers (Do c faults) is = is
 strangers (Await z) is =
     let h : Some 1 ≡ Some z = is.0 in
     let same : z ≡ 1 = cc in
@@ -83,7 +106,7 @@ strangers (Await z) is =
 strangers (Run motors until) is = let h : None ≡ Some until = is.1 in (cc)
 
 waits_for_sensor : (s : Step) → Awaits parked sensors 2 (codes "until") s → s ≡ Run 0 1
-waits_for_sensor (Do c) is = absurd is
+waits_for_sensor (Do c faults) is = absurd is
 waits_for_sensor (Await z) is = let h : None ≡ Some z = is.0 in absurd (cc)
 waits_for_sensor (Run motors until) is =
     let h : Some 1 ≡ Some until = is.1 in
@@ -92,7 +115,7 @@ waits_for_sensor (Run motors until) is =
     cc
 
 waits_for_nothing : (name : Text) (s : Step) → number_in parked.zones name ≡ None → number_in sensors name ≡ None → Awaits parked sensors 2 name s → ⊥
-waits_for_nothing name (Do c) no_zone no_sensor is = is
+waits_for_nothing name (Do c faults) no_zone no_sensor is = is
 waits_for_nothing name (Await z) no_zone no_sensor is = let h = is.0 in (cc)
 waits_for_nothing name (Run motors until) no_zone no_sensor is = let h = is.1 in (cc)
 
@@ -201,6 +224,7 @@ read_rows m is s = record {
   strangers = λ read. strangers s (a_wait m 1 (codes "above") s read);
   sensor = λ read. waits_for_sensor s (a_wait m 2 (codes "until") s read);
   nothing = λ read. waits_for_nothing (codes "attic") s refl refl (a_wait m 2 (codes "attic") s read);
+  waits_on_faults = λ read. waits_for_nothing (codes "above or stop on held") s refl refl (a_wait m 2 (codes "above or stop on held") s read);
   blanks = λ read. waits_for_nothing (codes " top") s refl refl (a_wait m 2 (codes " top") s read);
   runs = λ read. gate_runs m is s (a_run m 1 (codes "gate until until") s read);
   both = λ read. both_run m is s (a_run m 0 (codes "fan hoist until top") s read);

@@ -35,6 +35,7 @@ use Rattle.plan_document.specs.TableLaws.{AllStepsAsk, HasLine, NamesAreSpelled,
 use Rattle.plan_document.proofs.PlanLaws.{own_place}
 use Rattle.plan_document.proofs.PlanRows.{are_apart, impossible}
 use Rattle.plan_document.proofs.Standing.{as_many, flat_at, mapped, moved, name_of, named_at, number_below, numbered_at, own_number, same_number, zipped}
+use Rattle.plan_document.proofs.FaultLines.{names_faults}
 use Rattle.plan_document.proofs.StepLines.{call_line, run_line, run_names, wait_still, zone_line}
 use Rattle.plan_document.proofs.Worded.{named_bits}
 
@@ -237,13 +238,14 @@ pub lined : CallsAreToldAsRead → OwnPosesComeFirst → ProgramsHaveLines
 lined reads own d p is machine row steps here there = (
   record {
     count = AllZip-long (IsStepOf p.named p.motors sensors machine) (map string_bytes row.program.items) steps.items program.steps_are ∙ length-map row.program.items string_bytes;
-    text = λ call line has.
-        let one = call_line p.named p.motors sensors machine line call (at (Do call) line has) in
-        told_by reads own p.named machine one.verb one.name call one.call_is ∙ sym one.line_is;
-    call = λ call line has.
-        let one = call_line p.named p.motors sensors machine line call (at (Do call) line has) in
+    text = λ call faults line has.
+        let one = call_line p.named p.motors sensors machine line call faults (at (Do call faults) line has) in
+        let told = one.1.line_is ∙ sym (told_by reads own p.named machine one.1.verb one.1.name call one.1.call_is) in
+        names_faults line one.0 (call_text p.named call) faults told one.2;
+    call = λ call faults line has.
+        let one = (call_line p.named p.motors sensors machine line call faults (at (Do call faults) line has)).1 in
         line_of p.named machine one.verb one.name call one.call_is one.asks;
-    may = λ call line has. (call_line p.named p.motors sensors machine line call (at (Do call) line has)).doable;
+    may = λ call faults line has. (call_line p.named p.motors sensors machine line call faults (at (Do call faults) line has)).1.doable;
     zone = λ zone line has.
         let one = zone_line p.named p.motors sensors machine line zone (at (Await zone) line has) in
         one.1 ∙ ap (λ t. codes "await " ++ t) (sym (name_of p.named.zones one.0 zone one.2));
@@ -277,4 +279,4 @@ lined reads own d p is machine row steps here there = (
         (zipped (IsStepOf p.named p.motors sensors machine) (map string_bytes row.program.items) steps.items has.0 (string_bytes has.1) step program.steps_are (mapped string_bytes row.program.items has.0 has.1 has.3) has.4)
 
 pub all_ask : AllStepsAsk
-all_ask steps = record { none = refl; call = λ c. refl; zone = λ z. refl; run = λ motors until. refl }
+all_ask steps = record { none = refl; call = λ c faults. refl; zone = λ z. refl; run = λ motors until. refl }

@@ -30,7 +30,7 @@ onto_more : (x : ℕ) (ws vs : List Text) → 0 < length ws → onto_first x (ws
 onto_more x [] vs l = absurd (omega (arith, l))
 onto_more x (w ∷ ws) vs l = refl
 
-some_words : (text : Text) → 0 < length (words_in text)
+pub some_words : (text : Text) → 0 < length (words_in text)
 some_words text = omega (arith, length-slice_split blank text)
 
 parts : (a b : Text) → words_in (a ++ 32 ∷ b) ≡ words_in a ++ words_in b
@@ -74,7 +74,7 @@ lead_is [] = refl
 lead_is (w ∷ words) =
     ap (λ t. 32 ∷ t) (append_assoc w (codes " ") (spaced words)) ∙ ap (λ t. (32 ∷ w) ++ t) (lead_is words) ∙ sym (append_assoc (32 ∷ w) (lead words) (codes " "))
 
-word_stands : (text word : Text) (i : ℕ) → StandsAt (words_in text) i word → IsWordOf text word
+pub word_stands : (text word : Text) (i : ℕ) → StandsAt (words_in text) i word → IsWordOf text word
 word_stands text word i here = (
   lead here.before,
   spaced here.after,
@@ -86,7 +86,7 @@ word_stands text word i here = (
 
 -- ---- from where it stands to a word
 
-some_at : {A : Type 0} (test : A → Bool) (xs : List A) → list_any test xs ≡ true → (i : ℕ) × (x : A) × StandsAt xs i x × (test x ≡ true)
+pub some_at : {A : Type 0} (test : A → Bool) (xs : List A) → list_any test xs ≡ true → (i : ℕ) × (x : A) × StandsAt xs i x × (test x ≡ true)
 some_at test [] e = absurd (let f = e in cc)
 some_at {A} test (x ∷ xs) e = by (some_at test xs) (test x) refl
   where
@@ -94,7 +94,7 @@ some_at {A} test (x ∷ xs) e = by (some_at test xs) (test x) refl
     by others true is = (0, x, begins x xs, is)
     by others false is = let f = others (sym (ap (λ b. b || list_any test xs) is) ∙ e) in (f.0 + 1, f.1, later x xs f.0 f.1 f.2, f.3)
 
-any_by : {A : Type 0} (test : A → Bool) (xs : List A) (i : ℕ) (x : A) → StandsAt xs i x → test x ≡ true → list_any test xs ≡ true
+pub any_by : {A : Type 0} (test : A → Bool) (xs : List A) (i : ℕ) (x : A) → StandsAt xs i x → test x ≡ true → list_any test xs ≡ true
 any_by test xs i x here is =
     ap (list_any test) here.is ∙ list_any-append test here.before (x ∷ here.after) ∙ ap (λ b. list_any test here.before || (b || list_any test here.after)) is ∙ or_true (list_any test here.before)
   where
@@ -103,7 +103,7 @@ any_by test xs i x here is =
     or_true false = refl
 
 -- what stands in a text as a word is one of its words
-stands_word : (text name : Text) → is_name name ≡ true → IsWordOf text name → (i : ℕ) × StandsAt (words_in text) i name
+pub stands_word : (text name : Text) → is_name name ≡ true → IsWordOf text name → (i : ℕ) × StandsAt (words_in text) i name
 stands_word text name named w =
     let test : Text → Bool = λ word. bytes_eq word name in
     let around : list_any test (words_in (codes " " ++ text ++ codes " ")) ≡ (list_any test (words_in text) || false) = (

@@ -89,7 +89,7 @@ gives_more (first ∷ rows) row others = ap (member (string_bytes first.zone) (w
 
 -- ---- verbs
 
-first_passes : {X : Type 0} (p : X → Bool) (xs : List X) (x : X) → find p xs ≡ Some x → p x ≡ true
+pub first_passes : {X : Type 0} (p : X → Bool) (xs : List X) (x : X) → find p xs ≡ Some x → p x ≡ true
 first_passes p [] x e = absurd (cc)
 first_passes p (y ∷ ys) x e = elim (cases_Bool (p y)) [
   | inl holds ↦ passed holds

@@ -3,6 +3,7 @@ pub mod Names
 pub mod Keys
 pub mod Postures
 pub mod Motors
+pub mod Refusals
 pub mod Saying
 pub mod Reading
 pub mod Laws
@@ -13,5 +14,6 @@ pub mod ReadingLaws
 pub mod WordExamples
 pub mod PlanExamples
 pub mod StepExamples
+pub mod FaultExamples
 pub mod MotorExamples
 pub mod ReadingExamples

@@ -17,8 +17,10 @@ use Rattle.plan_types.specs.declared.table.PlanPose.{PlanPose}
 use Rattle.plan_types.specs.Table.{PlanTable, has_pose, is_party, plan_table, transfer_of}
 use Rattle.plan_motors.specs.declared.motor.Motor.{Motor}
 use Rattle.plan_drives.specs.Program.{has_bit}
+use Rattle.plan_controller.specs.declared.faults.Faults.{Faults}
 use Rattle.plan_controller.specs.declared.step.Step.{Step}
 use Rattle.plan_controller.specs.declared.step.Step.TheVariants.{Do, Await, Run}
+use Rattle.plan_controller.specs.Faults.{no_faults}
 use Rattle.plan_text.specs.Names.{Text, is_reserved, number_in}
 use Rattle.plan_text.specs.Named.{Named, named}
 use Rattle.plan_text.specs.Answers.{posture_of}
@@ -35,6 +37,7 @@ use Rattle.plan_document.specs.declared.resolving.ProgrammedPlan.{ProgrammedPlan
 use Rattle.plan_document.specs.declared.tables.Rows.{Rows}
 use Rattle.plan_document.specs.Motors.{AreNamedMotorsOf}
 use Rattle.plan_document.specs.Postures.{AreGiven}
+use Rattle.plan_document.specs.Refusals.{AreFaults}
 use Rattle.plan_document.specs.Names.{AreDistinct, AreNames, all_poses, identifiers, machine_names, numbered}
 use Rattle.plan_document.specs.Names.{place_names, pose_names, sensor_identifiers, sensor_names, sensors_in, zone_names}
 
@@ -104,7 +107,7 @@ may_be_done t machine (Inquire zone) = true
 may_be_done t machine Stop = true
 may_be_done t machine Resume = true
 
--- a line that asks is a verb, but no inquiry, a blank and a name
+-- what asks is a verb, but no inquiry, a blank and a name
 pub record IsCallOf (n : Named) (machine : ℕ) (line : Text) (call : Call) : Type 0 where
   pub verb : Verb
   pub name : Text
@@ -113,19 +116,31 @@ pub record IsCallOf (n : Named) (machine : ℕ) (line : Text) (call : Call) : Ty
   pub doable : IsTrue (may_be_done n.plan machine call)
   pub asks : verb ≢ verbs.Inquire
 
-abbrev pub Asks : Named → ℕ → Text → Step → Type 0
-Asks n machine line step = (call : Call) × (step ≡ Do call) × IsCallOf n machine line call
-
--- what a machine waits for by a name: a sensor of its own, while no motor runs, or a zone of which it is a party
-abbrev pub Awaits : Named → List Text → ℕ → Text → Step → Type 0
-Awaits n sensors machine name (Do call) = ⊥
-Awaits n sensors machine name (Await zone) =
-    (number_in n.zones name ≡ Some zone) × IsTrue (is_party n.plan machine zone)
-Awaits n sensors machine name (Run motors until) = (motors ≡ 0) × (number_in sensors name ≡ Some until)
-
 -- the words of a text, each parted from the next by one blank
 abbrev pub words_in : Text → List Text
 words_in text = slice_split (λ byte. nat_eq byte 32) text
+
+-- a line has no faults, or names them after what it asks
+abbrev pub HasFaults : Text → Text → Faults → Type 0
+HasFaults line ask faults =
+    ((line ≡ ask) × (faults ≡ no_faults))
+    ⊎ ((words : Text) × (line ≡ ask ++ codes " or stop on " ++ words) × AreFaults (words_in words) faults)
+
+-- a machine asks a call, and stops on the faults that its line names
+pub record Asks (n : Named) (machine : ℕ) (line : Text) (step : Step) : Type 0 where
+  pub call : Call
+  pub faults : Faults
+  pub step_is : step ≡ Do call faults
+  pub ask : Text
+  pub call_is : IsCallOf n machine ask call
+  pub faults_are : HasFaults line ask faults
+
+-- what a machine waits for by a name: a sensor of its own, while no motor runs, or a zone of which it is a party
+abbrev pub Awaits : Named → List Text → ℕ → Text → Step → Type 0
+Awaits n sensors machine name (Do call faults) = ⊥
+Awaits n sensors machine name (Await zone) =
+    (number_in n.zones name ≡ Some zone) × IsTrue (is_party n.plan machine zone)
+Awaits n sensors machine name (Run motors until) = (motors ≡ 0) × (number_in sensors name ≡ Some until)
 
 abbrev pub is_driven_by : ℕ → Option Motor → Bool
 is_driven_by machine None = false
@@ -178,7 +193,7 @@ pub record IsProgramOf (n : Named) (m : NamedMotors) (row : ℕ × MachineRow) (
 
 -- what a machine asks at a step: where it waits for a zone, who owns that; where motors run, nothing
 abbrev pub asked : Step → Option Call
-asked (Do call) = Some call
+asked (Do call faults) = Some call
 asked (Await zone) = Some (Inquire zone)
 asked (Run motors until) = None
 

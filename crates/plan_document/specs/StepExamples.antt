@@ -1,5 +1,5 @@
 -- What literal lines of programs say, and which sensors a machine may have.
-use Rattle.std.specs.Prelude.{◌≡◌, ℕ, List, [], ◌∷◌, codes, filter, replicate, String, string_bytes, None}
+use Rattle.std.specs.Prelude.{◌≡◌, ℕ, List, [], ◌∷◌, codes, filter, replicate, true, String, string_bytes, None}
 use Rattle.std.specs.declared.alloc.Global.{Global}
 use Rattle.std.specs.List.{range_with_len}
 use Rattle.plan_types.specs.declared.call.Call.TheVariants.{Give, Take, Inquire}
@@ -8,6 +8,7 @@ use Rattle.plan_motors.specs.Motor.{no_need}
 use Rattle.plan_drives.specs.Program.{has_bit}
 use Rattle.plan_controller.specs.declared.step.Step.{Step}
 use Rattle.plan_controller.specs.declared.step.Step.TheVariants.{Do, Await, Run}
+use Rattle.plan_controller.specs.Faults.{no_faults}
 use Rattle.plan_text.specs.Named.{Named}
 use Rattle.plan_text.specs.Names.{Text}
 use Rattle.plan_document.specs.declared.motors.NamedMotors.{NamedMotors}
@@ -27,11 +28,12 @@ abbrev pub IsRead : NamedMotors → ℕ → Text → Step → Type 0
 IsRead m machine line step = IsStepOf parked m (codes "top" ∷ codes "until" ∷ []) machine line step
 
 pub record StepsAreRead (m : NamedMotors) (is : AreOfLift m) (s : Step) : Type 0 where
-  pub call : IsRead m 2 (codes "give above") s → s ≡ Do (Give 1)
+  pub call : IsRead m 2 (codes "give above") s → s ≡ Do (Give 1) no_faults
   pub zone : IsRead m 2 (codes "await above") s → s ≡ Await 1
   pub strangers : IsRead m 1 (codes "await above") s → ⊥
   pub sensor : IsRead m 2 (codes "await until") s → s ≡ Run 0 1
   pub nothing : IsRead m 2 (codes "await attic") s → ⊥
+  pub waits_on_faults : IsRead m 2 (codes "await above or stop on held") s → ⊥
   pub blanks : IsRead m 2 (codes "await  top") s → ⊥
   pub runs : IsRead m 1 (codes "run gate until until") s → (motors : ℕ) × (s ≡ Run motors 1)
       × (filter (has_bit motors) (range_with_len 0 64) ≡ 1 ∷ [])
@@ -56,7 +58,9 @@ pub record StepsAreTold (zones : List Text) : Type 0 where
   pub twice : AreSensors zones (codes "top" ∷ codes "top" ∷ []) → ⊥
   pub no_name : AreSensors zones (codes "at top" ∷ []) → ⊥
   pub few : AreSensors zones (replicate 33 (codes "top")) → ⊥
-  pub asked : calls_of (Do (Give 1) ∷ Run 4 0 ∷ Await 1 ∷ Run 0 1 ∷ Do (Take 1) ∷ []) ≡ Give 1 ∷ Inquire 1 ∷ Take 1 ∷ []
+  pub asked : calls_of
+      (Do (Give 1) no_faults ∷ Run 4 0 ∷ Await 1 ∷ Run 0 1 ∷ Do (Take 1) (record no_faults { held = true }) ∷ [])
+      ≡ Give 1 ∷ Inquire 1 ∷ Take 1 ∷ []
 
 pub record StepsAreMet : Type 0 where
   pub read : (m : NamedMotors) (is : AreOfLift m) (s : Step) → StepsAreRead m is s

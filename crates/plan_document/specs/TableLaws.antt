@@ -1,5 +1,5 @@
 -- Laws of what plans say of their documents: how many rows each table has, which names they have, and each program.
-use Rattle.std.specs.Prelude.{◌≡◌, ◌↔◌, ℕ, ◌<◌, ◌+◌, true, false, List, [], ◌∷◌, ◌++◌, codes, length, map, sum}
+use Rattle.std.specs.Prelude.{◌≡◌, ◌≢◌, ◌↔◌, ℕ, ◌<◌, ◌+◌, true, false, List, [], ◌∷◌, ◌++◌, codes, length, map, sum}
 use Rattle.std.specs.Prelude.{String, string_bytes, is_some, IsTrue}
 use Rattle.std.specs.declared.alloc.Global.{Global}
 use Rattle.std.specs.List.{flat_map}
@@ -8,8 +8,11 @@ use Rattle.plan_types.specs.declared.call.Call.TheVariants.{Inquire}
 use Rattle.plan_types.specs.Table.{is_party, place_count, pose_count, zone_count}
 use Rattle.plan_motors.specs.OfPlan.{motor_at}
 use Rattle.plan_drives.specs.Program.{has_bit}
+use Rattle.plan_controller.specs.declared.faults.Faults.{Faults}
+use Rattle.plan_controller.specs.declared.faults.Mendable.{Mendable}
 use Rattle.plan_controller.specs.declared.step.Step.{Step}
 use Rattle.plan_controller.specs.declared.step.Step.TheVariants.{Do, Await, Run}
+use Rattle.plan_controller.specs.Faults.{has, no_faults}
 use Rattle.plan_text.specs.Calls.{call_text}
 use Rattle.plan_text.specs.Named.{Named}
 use Rattle.plan_text.specs.Names.{Text, is_name, is_reserved, name_in, number_in}
@@ -23,6 +26,7 @@ use Rattle.plan_document.specs.declared.resolving.ProgrammedPlan.{ProgrammedPlan
 use Rattle.plan_document.specs.Laws.{is_line}
 use Rattle.plan_document.specs.Names.{is_title, pose_names, sensors_in}
 use Rattle.plan_document.specs.PlanLaws.{StandsAt}
+use Rattle.plan_document.specs.Refusals.{fault_word}
 use Rattle.plan_document.specs.Saying.{IsNamedPlanOf, IsPlanOf, calls_of, may_be_done}
 
 -- ---- counts
@@ -125,14 +129,23 @@ IsWordOf text name =
     (before after : Text)
     × (codes " " ++ text ++ codes " " ≡ before ++ codes " " ++ name ++ codes " " ++ after)
 
+-- a line is a call's text alone, or after it the faults stand as words, and no other refusal does
+pub record NamesFaults (line call : Text) (faults : Faults) : Type 0 where
+  pub none : faults ≡ no_faults → line ≡ call
+  pub some : faults ≢ no_faults → (words : Text) × (line ≡ call ++ codes " or stop on " ++ words)
+      × ((fault : Mendable) → (has faults fault ≡ true) ↔ IsWordOf words (fault_word fault))
+
 -- a program has a step for each line
 pub record ProgramHasLines (n : Named) (m : NamedMotors) (machine : ℕ) (row : MachineRow) (steps : List Step) : Type 0
   where
     pub count : length steps ≡ length row.program.items
-    -- the text of a call is the line; it is no inquiry, and isn't refused in every state
-    pub text : (call : Call) (line : Text) → HasLine row steps (Do call) line → call_text n call ≡ line
-    pub call : (call : Call) (line : Text) → HasLine row steps (Do call) line → is_line call ≡ true
-    pub may : (call : Call) (line : Text) → HasLine row steps (Do call) line → may_be_done n.plan machine call ≡ true
+    -- the text of a call is the line, up to its faults; it is no inquiry, and isn't refused in every state
+    pub text : (call : Call) (faults : Faults) (line : Text) → HasLine row steps (Do call faults) line
+        → NamesFaults line (call_text n call) faults
+    pub call : (call : Call) (faults : Faults) (line : Text) → HasLine row steps (Do call faults) line
+        → is_line call ≡ true
+    pub may : (call : Call) (faults : Faults) (line : Text) → HasLine row steps (Do call faults) line
+        → may_be_done n.plan machine call ≡ true
     -- a zone that is waited for is named, and may be the machine's
     pub zone : (zone : ℕ) (line : Text) → HasLine row steps (Await zone) line
         → line ≡ codes "await " ++ name_in n.zones zone
@@ -153,7 +166,7 @@ pub record ProgramHasLines (n : Named) (m : NamedMotors) (machine : ℕ) (row : 
 -- what steps ask, one after another: each call as it is, of each wait for a zone an inquiry about this zone
 pub record StepsAsk (steps : List Step) : Type 0 where
   pub none : calls_of [] ≡ []
-  pub call : (call : Call) → calls_of (Do call ∷ steps) ≡ call ∷ calls_of steps
+  pub call : (call : Call) (faults : Faults) → calls_of (Do call faults ∷ steps) ≡ call ∷ calls_of steps
   pub zone : (zone : ℕ) → calls_of (Await zone ∷ steps) ≡ Inquire zone ∷ calls_of steps
   pub run : (motors until : ℕ) → calls_of (Run motors until ∷ steps) ≡ calls_of steps
 

@@ -235,6 +235,16 @@ pub enum WrongText {
     NoStep,
     /// This line of a program is never done.
     Never(Never),
+    /// This is no refusal on which a line may stop its machine.
+    NoRefusal,
+    /// This refusal stops each machine, since waiting never mends it.
+    StopsAlways,
+    /// The line names this refusal twice.
+    NamedTwice,
+    /// This line of a program would stop its machine on refusals, but names none.
+    NoRefusals,
+    /// This line of a program names refusals, but is no call.
+    NoCall,
     /// The machine doesn't host this zone.
     Foreign,
     /// It is no name of a hazard.

@@ -30,6 +30,11 @@ const NO_STEP: &str =
     " isn't a step: claim, give, yield, take or release with a zone, pose with a pose, \
      await with a sensor or a zone, or run with motors, until and a sensor";
 
+/// What is said of a word that isn't a refusal on which a line may stop its machine.
+const NO_REFUSAL: &str =
+    " isn't a refusal to stop on; known: held, shut, notowner, platein, noplate, placefull, \
+     wrongway, stopped";
+
 /// A text in quotes: its first 40 characters, and `?` for one that isn't printable ASCII.
 #[derive(Clone, Copy)]
 struct Quoted<'a> {
@@ -203,6 +208,11 @@ fn after_text(why: WrongText) -> &'static str {
         WrongText::NoStep => NO_STEP,
         WrongText::ZoneToo => " is the name of a zone, too",
         WrongText::Never(why) => why.text(),
+        WrongText::NoRefusal => NO_REFUSAL,
+        WrongText::StopsAlways => " stops the machine anyway: waiting never mends it",
+        WrongText::NamedTwice => " is named twice",
+        WrongText::NoRefusals => " names no refusal to stop on",
+        WrongText::NoCall => " isn't a call, and only a call stops on refusals",
         WrongText::NoTitle => NO_TITLE,
         _ => "",
     }

@@ -1,4 +1,5 @@
 //! Laws of documents. Each function's contract is one.
+ghost use Rattle.plan_document.specs.FaultExamples.{FaultsAreMet};
 ghost use Rattle.plan_document.specs.Laws as laws;
 ghost use Rattle.plan_document.specs.MotorExamples.{MotorsAreMet};
 ghost use Rattle.plan_document.specs.NameLaws.{NamedPlansHaveWords};
@@ -57,9 +58,9 @@ pub fn plans_have_counts_and_names()
     ensures sensors_for_c { table_laws.SensorsAreTwoForC }
 {}
 
-/// The program of each machine has a step for each line of its row: the text of a call is the line, a wait names its
-/// zone or its sensor, and what runs is the machine's and all that the line names. What the machine asks is what its
-/// steps do.
+/// The program of each machine has a step for each line of its row: the text of a call is the line, up to the refusals
+/// that stop the machine, and these are all that the line names; a wait names its zone or its sensor, and what runs is
+/// the machine's and all that the line names. What the machine asks is what its steps do.
 pub fn programs_have_lines()
     ensures lines { table_laws.ProgramsHaveLines }
     ensures asks { table_laws.AllStepsAsk }
@@ -129,6 +130,12 @@ pub fn plans_are_met()
 #[tactic(auto, using(crate::proofs::StepRows::step_rows))]
 pub fn steps_are_met()
     ensures { StepsAreMet }
+{}
+
+/// Examples of the refusals that stop a machine at a line: their words, which are those of answers, and what they name.
+#[tactic(auto, using(crate::proofs::FaultRows::fault_rows))]
+pub fn faults_are_met()
+    ensures { FaultsAreMet }
 {}
 
 /// Examples of what the rows of motors and hazards say, and of which TOML they are read.

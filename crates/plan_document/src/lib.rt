@@ -11,6 +11,7 @@ mod locating;
 mod motors;
 mod programs;
 mod reading;
+mod refusals;
 mod resolving;
 mod row_kinds;
 mod row_names;

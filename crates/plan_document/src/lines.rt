@@ -5,7 +5,8 @@ ghost use Rattle.plan_document.specs.Saying as saying;
 
 use crate::fault::{DocumentFault, Location, Never, WrongText};
 use crate::motors::NamedMotors;
-use plan_controller::Step;
+use crate::refusals::faults_in;
+use plan_controller::{Faults, Step};
 use plan_motors::MAX_MOTORS;
 use plan_text::calls::Verb;
 use plan_text::{NamedPlan, Names};
@@ -20,6 +21,12 @@ const RUN: &str = "run ";
 
 /// What stands between the motors of a line and its sensor.
 const UNTIL: &str = " until ";
+
+/// What stands between a call and the refusals that stop its machine.
+const OR_STOP_ON: &str = " or stop on ";
+
+/// How a line ends that has none after it.
+const OR_STOP: &str = " or stop on";
 
 /// The step in a line of a program. Motors are looked up only if they are given; without them a step runs none.
 pub fn step_in(
@@ -40,7 +47,7 @@ pub fn step_in(
     if let Some(words) = line.strip_prefix(RUN) {
         return run_in(alloc, line, words, machine, sensors, motors, at);
     }
-    Ok(Step::Do(call_in(alloc, line, machine, named, at)?))
+    asks_in(alloc, line, machine, named, at)
 }
 
 // ---- waits and runs
@@ -63,6 +70,7 @@ fn await_in(
     match named.zones().number_of(name.as_bytes()) {
         Some(zone) if named.plan().is_party(machine, zone) => Ok(Step::Await(zone)),
         Some(_) => Err(at.text_fault(alloc, WrongText::Never(Never::NoParty), line)),
+        None if names_faults(name) => Err(at.text_fault(alloc, WrongText::NoCall, line)),
         None => Err(at.text_fault(alloc, WrongText::NoZoneOrSensor, name)),
     }
 }
@@ -84,13 +92,22 @@ fn run_in(
         return Err(at.text_fault(alloc, WrongText::NoStep, line));
     };
     let Some(until) = sensors.number_of(sensor.as_bytes()) else {
-        return Err(at.text_fault(alloc, WrongText::NoSensor, sensor));
+        return Err(no_sensor(alloc, line, sensor, at));
     };
     let motors = match motors {
         Some(motors) => motors_in(alloc, names, machine, motors, at)?,
         None => 0,
     };
     Ok(Step::Run { motors, until })
+}
+
+/// The fault of a line that runs motors until no sensor of the machine shows.
+fn no_sensor(alloc: Global, line: &str, sensor: &str, at: Location) -> DocumentFault {
+    if names_faults(sensor) {
+        at.text_fault(alloc, WrongText::NoCall, line)
+    } else {
+        at.text_fault(alloc, WrongText::NoSensor, sensor)
+    }
 }
 
 /// The motors that a line runs, and its sensor: what stands before the last `until` and after it.
@@ -150,7 +167,45 @@ fn own_motor(motors: &NamedMotors, machine: u8, name: &str) -> Option<u8>
 
 // ---- calls
 
-/// The call in a line of a program. No program inquires.
+/// The step of a line that asks: a call, and the refusals that stop its machine.
+fn asks_in(
+    alloc: Global,
+    line: &str,
+    machine: u8,
+    named: &NamedPlan,
+    at: Location,
+) -> Result<Step, DocumentFault>
+    ensures { IfOk result (saying.Asks named.now machine line.now) }
+{
+    if let Some((ask, words)) = ask_and_words(line) {
+        let call = call_in(alloc, ask, machine, named, at)?;
+        if words.is_empty() {
+            return Err(at.text_fault(alloc, WrongText::NoRefusals, line));
+        }
+        let faults = faults_in(alloc, words, at)?;
+        return Ok(Step::Do(call, faults));
+    }
+    if let Some(ask) = line.strip_suffix(OR_STOP) {
+        call_in(alloc, ask, machine, named, at)?;
+        return Err(at.text_fault(alloc, WrongText::NoRefusals, line));
+    }
+    let call = call_in(alloc, line, machine, named, at)?;
+    Ok(Step::Do(call, Faults::none()))
+}
+
+/// What a line asks, and the words after that for the refusals that stop its machine.
+fn ask_and_words(line: &str) -> Option<(&str, &str)>
+    ensures { IfSome result (λ found. line.now ≡ found.0.now ++ codes " or stop on " ++ found.1.now) }
+{
+    line.split_once(OR_STOP_ON)
+}
+
+/// Whether a text says that refusals stop a machine.
+fn names_faults(text: &str) -> bool {
+    text.contains(OR_STOP_ON) || text.ends_with(OR_STOP)
+}
+
+/// The call that a line of a program asks. No program inquires.
 fn call_in(
     alloc: Global,
     line: &str,

@@ -138,7 +138,7 @@ fn asked(step: Step) -> Option<Call>
     ensures { result ≡ saying.asked step }
 {
     match step {
-        Step::Do(call) => Some(call),
+        Step::Do(call, _) => Some(call),
         Step::Await(zone) => Some(Call::Inquire(zone)),
         Step::Run { .. } => None,
     }

@@ -1,11 +1,14 @@
 -- What each line says that `plan header` prints for turns, for all names, sensors and steps: in the words of
 -- `bagunjoki_plan.h`.
-use Rattle.std.specs.Prelude.{◌≡◌, ℕ, List, [], ◌∷◌, ◌++◌, codes, get_or, length}
+use Rattle.std.specs.Prelude.{◌≡◌, ℕ, true, false, List, [], ◌∷◌, ◌++◌, codes, filter, get_or, length}
 use Rattle.std.specs.Fmt.{decimal}
 use Rattle.plan_types.specs.declared.call.Call.TheVariants.{Claim, Give, Yield, Take, Release, SetPose, Inquire, Stop}
 use Rattle.plan_types.specs.declared.call.Call.TheVariants.{Resume}
+use Rattle.plan_controller.specs.declared.faults.Faults.{Faults}
+use Rattle.plan_controller.specs.declared.faults.Mendable.{Mendable}
 use Rattle.plan_controller.specs.declared.step.Step.{Step}
 use Rattle.plan_controller.specs.declared.step.Step.TheVariants.{Do, Await, Run}
+use Rattle.plan_controller.specs.Faults.{all_mendable, has}
 use Rattle.plan_text.specs.Names.{Text, name_in}
 use Rattle.plan_text.specs.Named.{Named}
 use Rattle.plan_header.specs.Headers as header
@@ -60,11 +63,11 @@ pub record WordsAreDefined : Type 0 where
 
 -- ---- lines
 
--- a line of a program: motors, kind, object, and until which sensor
-abbrev pub four : Text → Text → Text → Text → Text
-four motors kind object until =
+-- a line of a program: motors, kind, object, until which sensor, and faults
+abbrev pub five : Text → Text → Text → Text → Text → Text
+five motors kind object until faults =
     codes "    {" ++ (motors ++ (codes ", BAGUNJOKI_PLAN_" ++ (kind ++ (codes ", " ++ (object
-    ++ (codes ", " ++ (until ++ codes "},\n")))))))
+    ++ (codes ", " ++ (until ++ (codes ", " ++ (faults ++ codes "},\n")))))))))
 
 -- what a step doesn't have is 0
 abbrev pub nothing : Text
@@ -72,28 +75,39 @@ nothing = codes "0"
 
 -- the step of a machine, of any plan
 pub record LinesAreTold (n : Named) (sensors : List (List Text)) (m : ℕ) : Type 0 where
-  pub claim : (z : ℕ) → turns.step_row n sensors m (Do (Claim z))
-      ≡ four nothing (codes "CLAIM") (turns.zone_word n z) nothing
-  pub give : (z : ℕ) → turns.step_row n sensors m (Do (Give z))
-      ≡ four nothing (codes "GIVE") (turns.zone_word n z) nothing
-  pub yield : (z : ℕ) → turns.step_row n sensors m (Do (Yield z))
-      ≡ four nothing (codes "YIELD") (turns.zone_word n z) nothing
-  pub take : (z : ℕ) → turns.step_row n sensors m (Do (Take z))
-      ≡ four nothing (codes "TAKE") (turns.zone_word n z) nothing
-  pub release : (z : ℕ) → turns.step_row n sensors m (Do (Release z))
-      ≡ four nothing (codes "RELEASE") (turns.zone_word n z) nothing
-  pub pose : (p : ℕ) → turns.step_row n sensors m (Do (SetPose p))
-      ≡ four nothing (codes "SET_POSE") (turns.pose_word n p) nothing
-  pub inquire : (z : ℕ) → turns.step_row n sensors m (Do (Inquire z))
-      ≡ four nothing (codes "INQUIRE") (turns.zone_word n z) nothing
-  pub stop : turns.step_row n sensors m (Do Stop) ≡ four nothing (codes "STOP") nothing nothing
-  pub resume : turns.step_row n sensors m (Do Resume) ≡ four nothing (codes "RESUME") nothing nothing
+  pub claim : (z : ℕ) (f : Faults) → turns.step_row n sensors m (Do (Claim z) f)
+      ≡ five nothing (codes "CLAIM") (turns.zone_word n z) nothing (turns.faults_word f)
+  pub give : (z : ℕ) (f : Faults) → turns.step_row n sensors m (Do (Give z) f)
+      ≡ five nothing (codes "GIVE") (turns.zone_word n z) nothing (turns.faults_word f)
+  pub yield : (z : ℕ) (f : Faults) → turns.step_row n sensors m (Do (Yield z) f)
+      ≡ five nothing (codes "YIELD") (turns.zone_word n z) nothing (turns.faults_word f)
+  pub take : (z : ℕ) (f : Faults) → turns.step_row n sensors m (Do (Take z) f)
+      ≡ five nothing (codes "TAKE") (turns.zone_word n z) nothing (turns.faults_word f)
+  pub release : (z : ℕ) (f : Faults) → turns.step_row n sensors m (Do (Release z) f)
+      ≡ five nothing (codes "RELEASE") (turns.zone_word n z) nothing (turns.faults_word f)
+  pub pose : (p : ℕ) (f : Faults) → turns.step_row n sensors m (Do (SetPose p) f)
+      ≡ five nothing (codes "SET_POSE") (turns.pose_word n p) nothing (turns.faults_word f)
+  pub inquire : (z : ℕ) (f : Faults) → turns.step_row n sensors m (Do (Inquire z) f)
+      ≡ five nothing (codes "INQUIRE") (turns.zone_word n z) nothing (turns.faults_word f)
+  pub stop : (f : Faults) → turns.step_row n sensors m (Do Stop f)
+      ≡ five nothing (codes "STOP") nothing nothing (turns.faults_word f)
+  pub resume : (f : Faults) → turns.step_row n sensors m (Do Resume f)
+      ≡ five nothing (codes "RESUME") nothing nothing (turns.faults_word f)
   pub await : (z : ℕ) → turns.step_row n sensors m (Await z)
-      ≡ four nothing (codes "AWAIT") (turns.zone_word n z) nothing
+      ≡ five nothing (codes "AWAIT") (turns.zone_word n z) nothing nothing
   -- the motors are those that have a bit
   pub run : (motors until : ℕ) → turns.step_row n sensors m (Run motors until)
-      ≡ four (codes "UINT64_C(" ++ (decimal motors ++ codes ")")) (codes "RUN") nothing
-      (turns.sensor_word n sensors m until)
+      ≡ five (codes "UINT64_C(" ++ (decimal motors ++ codes ")")) (codes "RUN") nothing
+      (turns.sensor_word n sensors m until) nothing
+
+-- the faults of a line, one after the other: of each the bit of its answer
+pub record FaultsAreTold : Type 0 where
+  pub none : turns.fault_bits [] ≡ codes "0"
+  pub one : (fault : Mendable) → turns.fault_bits (fault ∷ []) ≡ turns.fault_bit fault
+  pub later : (first next : Mendable) (later : List Mendable)
+      → turns.fault_bits (first ∷ next ∷ later)
+      ≡ turns.fault_bit first ++ (codes " | " ++ turns.fault_bits (next ∷ later))
+  pub all : (f : Faults) → turns.faults_word f ≡ turns.fault_bits (filter (has f) all_mendable)
 
 -- ---- programs
 
@@ -110,17 +124,28 @@ pub record ProgramsAreTold (n : Named) (sensors : List (List Text)) : Type 0 whe
       ++ (capitals (codes "program_" ++ name_in n.machines m) ++ codes "[] = {\n"))
       ++ (turns.step_rows n sensors m (step ∷ later)
       ++ (codes "};\n" ++ stands (codes "lines_" ++ name_in n.machines m) (decimal (length (step ∷ later)))))
-  pub all : (programs : List (List Step))
+  pub some : (programs : List (List Step)) → turns.have_lines programs ≡ true
       → turns.all_programs n sensors programs
       ≡ PROGRAMS.now
       ++ (for_each (length n.machines) (λ m. turns.program_lines n sensors m (get_or programs m []))
       ++ codes "#endif\n")
+  pub without : (programs : List (List Step)) → turns.have_lines programs ≡ false
+      → turns.all_programs n sensors programs ≡ []
+
+-- some machine has a line
+pub record LinesAreThere : Type 0 where
+  pub nobody : turns.have_lines [] ≡ false
+  pub not_first : (later : List (List Step)) → turns.have_lines ([] ∷ later) ≡ turns.have_lines later
+  pub first : (step : Step) (steps : List Step) (later : List (List Step))
+      → turns.have_lines ((step ∷ steps) ∷ later) ≡ true
 
 pub record TurnsTell : Type 0 where
   pub lists : ListsAreTold
   pub words : WordsAreDefined
   pub lines : (n : Named) (sensors : List (List Text)) (m : ℕ) → LinesAreTold n sensors m
+  pub faults : FaultsAreTold
   pub programs : (n : Named) (sensors : List (List Text)) → ProgramsAreTold n sensors
+  pub there : LinesAreThere
   pub whole : (n : Named) (motors : List Text) (sensors : List (List Text)) (programs : List (List Step))
       → turns.turns_part n motors sensors programs
       ≡ turns.motor_lines motors ++ (turns.all_sensors n sensors ++ turns.all_programs n sensors programs)

@@ -1,14 +1,20 @@
 -- What `plan header` prints for those who run a plan: the names of each kind as texts, the bits of motors and sensors,
 -- and the machines' programs as lines of `bagunjoki_plan.h`.
-use Rattle.std.specs.Prelude.{ℕ, nat_eq, [], ◌++◌, codes, flat_map, get_or, length, List, if◌then◌else◌}
+use Rattle.std.specs.Prelude.{ℕ, Bool, nat_eq, nat_lt, [], ◌∷◌, ◌++◌, codes, filter, flat_map, get_or, length, List}
+use Rattle.std.specs.Prelude.{if◌then◌else◌}
 use Rattle.std.specs.Fmt.{decimal}
-use Rattle.std.specs.List.{range_with_len}
+use Rattle.std.specs.List.{join_by, list_any, range_with_len}
 use Rattle.plan_types.specs.Table.{machine_of}
 use Rattle.plan_types.specs.declared.call.Call.{Call}
 use Rattle.plan_types.specs.declared.call.Call.TheVariants.{Claim, Give, Yield, Take, Release, SetPose, Inquire, Stop}
 use Rattle.plan_types.specs.declared.call.Call.TheVariants.{Resume}
+use Rattle.plan_controller.specs.declared.faults.Faults.{Faults}
+use Rattle.plan_controller.specs.declared.faults.Mendable.{Mendable}
+use Rattle.plan_controller.specs.declared.faults.Mendable.TheVariants.{Held, Shut, NotOwner, PlateInZone, NoPlate}
+use Rattle.plan_controller.specs.declared.faults.Mendable.TheVariants.{PlaceFull, WrongWay, Stopped}
 use Rattle.plan_controller.specs.declared.step.Step.{Step}
 use Rattle.plan_controller.specs.declared.step.Step.TheVariants.{Do, Await, Run}
+use Rattle.plan_controller.specs.Faults.{all_mendable, has}
 use Rattle.plan_text.specs.Names.{Text, name_in}
 use Rattle.plan_text.specs.Named.{Named}
 use Rattle.plan_header.specs.Words.{capitals, machine_name, zone_name}
@@ -97,37 +103,59 @@ sensor_word n sensors machine sensor = defined_word (sensor_own n sensors machin
 abbrev pub bits_word : ℕ → Text
 bits_word motors = codes "UINT64_C(" ++ (decimal motors ++ codes ")")
 
--- motors, kind, object and sensor of a line
-abbrev pub row : Text → Text → Text → Text → Text
-row motors kind object until =
+-- the bit of a fault is that of its answer
+abbrev pub fault_bit : Mendable → Text
+fault_bit Held = codes "1 << BAGUNJOKI_PLAN_HELD"
+fault_bit Shut = codes "1 << BAGUNJOKI_PLAN_SHUT"
+fault_bit NotOwner = codes "1 << BAGUNJOKI_PLAN_NOT_OWNER"
+fault_bit PlateInZone = codes "1 << BAGUNJOKI_PLAN_PLATE_IN_ZONE"
+fault_bit NoPlate = codes "1 << BAGUNJOKI_PLAN_NO_PLATE"
+fault_bit PlaceFull = codes "1 << BAGUNJOKI_PLAN_PLACE_FULL"
+fault_bit WrongWay = codes "1 << BAGUNJOKI_PLAN_WRONG_WAY"
+fault_bit Stopped = codes "1 << BAGUNJOKI_PLAN_STOPPED"
+
+abbrev pub barred_bit : Faults → Mendable → Text
+barred_bit faults fault = if has faults fault then codes " | " ++ fault_bit fault else []
+
+-- a bar between each two
+abbrev pub fault_bits : List Mendable → Text
+fault_bits [] = codes "0"
+fault_bits (fault ∷ faults) = join_by fault_bit (codes " | ") (fault ∷ faults)
+
+abbrev pub faults_word : Faults → Text
+faults_word faults = fault_bits (filter (has faults) all_mendable)
+
+-- motors, kind, object, sensor and faults of a line
+abbrev pub row : Text → Text → Text → Text → Text → Text
+row motors kind object until faults =
     codes "    {" ++ (motors ++ (codes ", BAGUNJOKI_PLAN_" ++ (kind ++ (codes ", " ++ (object
-    ++ (codes ", " ++ (until ++ codes "},\n")))))))
+    ++ (codes ", " ++ (until ++ (codes ", " ++ (faults ++ codes "},\n")))))))))
 
 -- a line of a call has no motors and no sensor
-abbrev pub bare : Text → Text → Text
-bare kind object = row (codes "0") kind object (codes "0")
+abbrev pub bare : Text → Text → Text → Text
+bare kind object faults = row (codes "0") kind object (codes "0") faults
 
-abbrev pub pose_row : Named → ℕ → Text
-pose_row n pose = bare (codes "SET_POSE") (pose_word n pose)
+abbrev pub pose_row : Named → ℕ → Text → Text
+pose_row n pose faults = bare (codes "SET_POSE") (pose_word n pose) faults
 
 abbrev pub run_row : Named → List (List Text) → ℕ → ℕ → ℕ → Text
 run_row n sensors machine motors until =
-    row (bits_word motors) (codes "RUN") (codes "0") (sensor_word n sensors machine until)
+    row (bits_word motors) (codes "RUN") (codes "0") (sensor_word n sensors machine until) (codes "0")
 
-abbrev pub call_row : Named → Call → Text
-call_row n (Claim zone) = bare (codes "CLAIM") (zone_word n zone)
-call_row n (Give zone) = bare (codes "GIVE") (zone_word n zone)
-call_row n (Yield zone) = bare (codes "YIELD") (zone_word n zone)
-call_row n (Take zone) = bare (codes "TAKE") (zone_word n zone)
-call_row n (Release zone) = bare (codes "RELEASE") (zone_word n zone)
-call_row n (SetPose pose) = pose_row n pose
-call_row n (Inquire zone) = bare (codes "INQUIRE") (zone_word n zone)
-call_row n Stop = bare (codes "STOP") (codes "0")
-call_row n Resume = bare (codes "RESUME") (codes "0")
+abbrev pub call_row : Named → Call → Text → Text
+call_row n (Claim zone) faults = bare (codes "CLAIM") (zone_word n zone) faults
+call_row n (Give zone) faults = bare (codes "GIVE") (zone_word n zone) faults
+call_row n (Yield zone) faults = bare (codes "YIELD") (zone_word n zone) faults
+call_row n (Take zone) faults = bare (codes "TAKE") (zone_word n zone) faults
+call_row n (Release zone) faults = bare (codes "RELEASE") (zone_word n zone) faults
+call_row n (SetPose pose) faults = pose_row n pose faults
+call_row n (Inquire zone) faults = bare (codes "INQUIRE") (zone_word n zone) faults
+call_row n Stop faults = bare (codes "STOP") (codes "0") faults
+call_row n Resume faults = bare (codes "RESUME") (codes "0") faults
 
 abbrev pub step_row : Named → List (List Text) → ℕ → Step → Text
-step_row n sensors machine (Do call) = call_row n call
-step_row n sensors machine (Await zone) = bare (codes "AWAIT") (zone_word n zone)
+step_row n sensors machine (Do call faults) = call_row n call (faults_word faults)
+step_row n sensors machine (Await zone) = bare (codes "AWAIT") (zone_word n zone) (codes "0")
 step_row n sensors machine (Run motors until) = run_row n sensors machine motors until
 
 abbrev pub step_rows : Named → List (List Text) → ℕ → List Step → Text
@@ -167,9 +195,17 @@ steps_of steps machine = get_or steps machine []
 abbrev pub own_program : Named → List (List Text) → List (List Step) → ℕ → Text
 own_program n sensors steps machine = program_lines n sensors machine (steps_of steps machine)
 
-abbrev pub all_programs : Named → List (List Text) → List (List Step) → Text
-all_programs n sensors steps =
+abbrev pub some_programs : Named → List (List Text) → List (List Step) → Text
+some_programs n sensors steps =
     PROGRAMS.now ++ (flat_map (own_program n sensors steps) (range_with_len 0 (length n.machines)) ++ END.now)
+
+-- some machine has a program
+abbrev pub have_lines : List (List Step) → Bool
+have_lines steps = list_any (λ own. nat_lt 0 (length own)) steps
+
+-- where none has, nothing
+abbrev pub all_programs : Named → List (List Text) → List (List Step) → Text
+all_programs n sensors steps = if have_lines steps then some_programs n sensors steps else []
 
 -- ---- all of it
 

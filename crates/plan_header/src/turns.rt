@@ -1,11 +1,13 @@
 //! What `plan header` prints for turns: the bits of motors and sensors, and the machines' programs.
-ghost use Rattle.std.specs.Prelude.{◌≡◌, ◌≤◌, ◌++◌, [], IfOk, OnOk, flat_map, get_or, length, map, string_bytes};
+ghost use Rattle.std.specs.Prelude.{◌≡◌, ◌≤◌, ◌++◌, IfOk, OnOk, flat_map, length, map, string_bytes};
 ghost use Rattle.std.specs.List.{range_with_len};
+ghost use Rattle.plan_controller.specs.Faults.{all_mendable};
 ghost use Rattle.plan_text.specs.Names.{name_in};
 ghost use Rattle.plan_header.specs.Turns as spec;
 
 use crate::header::{capitals_of, push_define, push_numbers};
-use plan_controller::Step;
+use plan_controller::faults::ALL_MENDABLE;
+use plan_controller::{Faults, Mendable, Step};
 use plan_document::ProgrammedPlan;
 use plan_text::{NamedPlan, Names};
 use plan_types::Call;
@@ -22,6 +24,9 @@ const PROGRAMS: &str = "
    included before this header. */
 #ifdef BAGUNJOKI_PLAN_H
 ";
+
+/// What stands between two faults of a line.
+const BAR: &str = " | ";
 
 /// How the programs end.
 const END: &str = "#endif\n";
@@ -162,7 +167,14 @@ fn sensor_own(
 
 // ---- the programs
 
-/// Adds the programs.
+/// Whether some machine has a program.
+fn have_lines(steps: &[Vec<Step>]) -> bool
+    ensures { result ≡ spec.have_lines (map (λ own. own.items) steps.now) }
+{
+    steps.iter().any(|own| own.len() > 0)
+}
+
+/// Adds the programs; nothing if no machine has one.
 fn push_all_programs(
     alloc: Global,
     text: &mut String,
@@ -172,6 +184,24 @@ fn push_all_programs(
 ) -> Result<(), AllocError>
     ensures { OnOk result (string_bytes text.new ≡ string_bytes text.old
         ++ spec.all_programs named.now sensors.now (map (λ own. own.items) steps.now)) }
+{
+    if have_lines(steps) {
+        push_some_programs(alloc, text, named, sensors, steps)
+    } else {
+        Ok(())
+    }
+}
+
+/// Adds the programs, between what stands before them and how they end.
+fn push_some_programs(
+    alloc: Global,
+    text: &mut String,
+    named: &NamedPlan,
+    sensors: &[Names],
+    steps: &[Vec<Step>],
+) -> Result<(), AllocError>
+    ensures { OnOk result (string_bytes text.new ≡ string_bytes text.old
+        ++ spec.some_programs named.now sensors.now (map (λ own. own.items) steps.now)) }
 {
     text.push_str(PROGRAMS)?;
     push_each_program(alloc, text, named, sensors, steps)?;
@@ -352,8 +382,8 @@ fn push_step(
         ≡ string_bytes text.old ++ spec.step_row named.now sensors.now machine step) }
 {
     match step {
-        Step::Do(call) => push_call(alloc, text, named, call),
-        Step::Await(zone) => push_of_zone(alloc, text, named, "AWAIT", zone),
+        Step::Do(call, faults) => push_call(alloc, text, named, call, faults),
+        Step::Await(zone) => push_of_zone(alloc, text, named, "AWAIT", zone, "0"),
         Step::Run { motors, until } => push_run(
             alloc, text, named, sensors, machine, motors, until,
         ),
@@ -366,19 +396,88 @@ fn push_call(
     text: &mut String,
     named: &NamedPlan,
     call: Call,
+    faults: Faults,
 ) -> Result<(), AllocError>
-    ensures { OnOk result (string_bytes text.new ≡ string_bytes text.old ++ spec.call_row named.now call) }
+    ensures { OnOk result (string_bytes text.new
+        ≡ string_bytes text.old ++ spec.call_row named.now call (spec.faults_word faults)) }
+{
+    let word = faults_word(alloc, faults)?;
+    push_call_with(alloc, text, named, call, word.as_str())
+}
+
+/// Adds the line of a call, by the word for its faults.
+fn push_call_with(
+    alloc: Global,
+    text: &mut String,
+    named: &NamedPlan,
+    call: Call,
+    faults: &str,
+) -> Result<(), AllocError>
+    ensures { OnOk result (string_bytes text.new
+        ≡ string_bytes text.old ++ spec.call_row named.now call faults.now) }
 {
     match call {
-        Call::Claim(zone) => push_of_zone(alloc, text, named, "CLAIM", zone),
-        Call::Give(zone) => push_of_zone(alloc, text, named, "GIVE", zone),
-        Call::Yield(zone) => push_of_zone(alloc, text, named, "YIELD", zone),
-        Call::Take(zone) => push_of_zone(alloc, text, named, "TAKE", zone),
-        Call::Release(zone) => push_of_zone(alloc, text, named, "RELEASE", zone),
-        Call::SetPose(pose) => push_of_pose(alloc, text, named, pose),
-        Call::Inquire(zone) => push_of_zone(alloc, text, named, "INQUIRE", zone),
-        Call::Stop => push_row(text, "0", "STOP", "0", "0"),
-        Call::Resume => push_row(text, "0", "RESUME", "0", "0"),
+        Call::Claim(zone) => push_of_zone(alloc, text, named, "CLAIM", zone, faults),
+        Call::Give(zone) => push_of_zone(alloc, text, named, "GIVE", zone, faults),
+        Call::Yield(zone) => push_of_zone(alloc, text, named, "YIELD", zone, faults),
+        Call::Take(zone) => push_of_zone(alloc, text, named, "TAKE", zone, faults),
+        Call::Release(zone) => push_of_zone(alloc, text, named, "RELEASE", zone, faults),
+        Call::SetPose(pose) => push_of_pose(alloc, text, named, pose, faults),
+        Call::Inquire(zone) => push_of_zone(alloc, text, named, "INQUIRE", zone, faults),
+        Call::Stop => push_row(text, "0", "STOP", "0", "0", faults),
+        Call::Resume => push_row(text, "0", "RESUME", "0", "0", faults),
+    }
+}
+
+/// The word for faults: the bits of their answers, or 0 for none.
+fn faults_word(alloc: Global, faults: Faults) -> Result<String, AllocError>
+    ensures { IfOk result (λ word. string_bytes word ≡ spec.faults_word faults) }
+{
+    let bits = barred_bits(alloc, faults)?;
+    match bits.strip_prefix(BAR) {
+        Some(bits) => String::from_str(alloc, bits),
+        None => String::from_str(alloc, "0"),
+    }
+}
+
+/// The bits of faults, one after the other, with a bar before each.
+fn barred_bits(alloc: Global, faults: Faults) -> Result<String, AllocError>
+    ensures { IfOk result (λ word. string_bytes word
+        ≡ flat_map (spec.barred_bit faults) all_mendable) }
+{
+    let mut word = String::new(alloc);
+    'faults: for fault in ALL_MENDABLE {
+        push_barred(&mut word, faults, fault)?;
+    }
+    Ok(word)
+}
+
+/// Adds the bit of a refusal and a bar before it, if it is a fault.
+fn push_barred(word: &mut String, faults: Faults, fault: Mendable) -> Result<(), AllocError>
+    ensures { OnOk result
+        (string_bytes word.new ≡ string_bytes word.old ++ spec.barred_bit faults fault) }
+{
+    if faults.has(fault) {
+        word.push_str(BAR)?;
+        word.push_str(fault_bit(fault))
+    } else {
+        Ok(())
+    }
+}
+
+/// The bit of a fault, in C.
+fn fault_bit(fault: Mendable) -> &'static str
+    ensures { result.now ≡ spec.fault_bit fault }
+{
+    match fault {
+        Mendable::Held => "1 << BAGUNJOKI_PLAN_HELD",
+        Mendable::Shut => "1 << BAGUNJOKI_PLAN_SHUT",
+        Mendable::NotOwner => "1 << BAGUNJOKI_PLAN_NOT_OWNER",
+        Mendable::PlateInZone => "1 << BAGUNJOKI_PLAN_PLATE_IN_ZONE",
+        Mendable::NoPlate => "1 << BAGUNJOKI_PLAN_NO_PLATE",
+        Mendable::PlaceFull => "1 << BAGUNJOKI_PLAN_PLACE_FULL",
+        Mendable::WrongWay => "1 << BAGUNJOKI_PLAN_WRONG_WAY",
+        Mendable::Stopped => "1 << BAGUNJOKI_PLAN_STOPPED",
     }
 }
 
@@ -389,12 +488,13 @@ fn push_of_zone(
     named: &NamedPlan,
     kind: &str,
     zone: u8,
+    faults: &str,
 ) -> Result<(), AllocError>
-    ensures { OnOk result (string_bytes text.new
-        ≡ string_bytes text.old ++ spec.bare kind.now (spec.zone_word named.now zone)) }
+    ensures { OnOk result (string_bytes text.new ≡ string_bytes text.old
+        ++ spec.bare kind.now (spec.zone_word named.now zone) faults.now) }
 {
     let word = zone_word(alloc, named, zone)?;
-    push_row(text, "0", kind, word.as_str(), "0")
+    push_row(text, "0", kind, word.as_str(), "0", faults)
 }
 
 /// The word for a zone.
@@ -412,12 +512,13 @@ fn push_of_pose(
     text: &mut String,
     named: &NamedPlan,
     pose: u8,
+    faults: &str,
 ) -> Result<(), AllocError>
     ensures { OnOk result (string_bytes text.new
-        ≡ string_bytes text.old ++ spec.pose_row named.now pose) }
+        ≡ string_bytes text.old ++ spec.pose_row named.now pose faults.now) }
 {
     let word = pose_word(alloc, named, pose)?;
-    push_row(text, "0", "SET_POSE", word.as_str(), "0")
+    push_row(text, "0", "SET_POSE", word.as_str(), "0", faults)
 }
 
 /// The word for a pose.
@@ -445,7 +546,7 @@ fn push_run(
 {
     let bits = bits_word(alloc, motors)?;
     let sensor = sensor_word(alloc, named, sensors, machine, until)?;
-    push_row(text, bits.as_str(), "RUN", "0", sensor.as_str())
+    push_row(text, bits.as_str(), "RUN", "0", sensor.as_str(), "0")
 }
 
 /// The word for motors: their bits.
@@ -485,19 +586,20 @@ fn prefixed(alloc: Global, capitals: &str) -> Result<String, AllocError>
     format!(in alloc; "PLAN_{capitals}")
 }
 
-/// Adds a line by its motors, its kind, its object and its sensor.
+/// Adds a line by its motors, its kind, its object, its sensor and its faults.
 fn push_row(
     text: &mut String,
     motors: &str,
     kind: &str,
     object: &str,
     until: &str,
+    faults: &str,
 ) -> Result<(), AllocError>
-    ensures { OnOk result (string_bytes text.new
-        ≡ string_bytes text.old ++ spec.row motors.now kind.now object.now until.now) }
+    ensures { OnOk result (string_bytes text.new ≡ string_bytes text.old
+        ++ spec.row motors.now kind.now object.now until.now faults.now) }
 {
     writeln!(
         text,
-        "    {{{motors}, BAGUNJOKI_PLAN_{kind}, {object}, {until}}},"
+        "    {{{motors}, BAGUNJOKI_PLAN_{kind}, {object}, {until}, {faults}}},"
     )
 }

@@ -100,11 +100,11 @@ rows: each call that is done has its row
 
 #[test]
 fn checks_the_press(rt: HostRuntime) -> Result<(), AllocError> {
-    assert!(rt; is_answered(rt.alloc(), b"check", PRESS, 0, REPORT));
+    assert!(rt; is_answered(&rt, rt.alloc(), b"check", PRESS, 0, REPORT));
     // its script may follow
     let input = format!(in rt.alloc(); "{PRESS}{SCRIPT}")?;
-    assert!(rt; is_answered(rt.alloc(), b"check", input.as_str(), 0, REPORT));
-    assert!(rt; is_answered(rt.alloc(), b"header", input.as_str(), 0, HEADER));
+    assert!(rt; is_answered(&rt, rt.alloc(), b"check", input.as_str(), 0, REPORT));
+    assert!(rt; is_answered(&rt, rt.alloc(), b"header", input.as_str(), 0, HEADER));
     Ok(())
 }
 
@@ -181,7 +181,7 @@ fn answers_scripts(rt: HostRuntime) -> Result<(), AllocError> {
     for (script, status, answers) in SCRIPTS {
         let input = format!(in rt.alloc(); "{PRESS}{script}")?;
         assert!(rt;
-            is_answered(rt.alloc(), b"replay", input.as_str(), *status, answers),
+            is_answered(&rt, rt.alloc(), b"replay", input.as_str(), *status, answers),
             "{script}"
         );
     }
@@ -201,7 +201,7 @@ fn writes_all_answers_before_a_fault(rt: HostRuntime) -> Result<(), AllocError> 
     }
     input.push_str("press,claim,door\n")?;
     text.push_str("record 301, field 3: no zone has this name\nfault badrow 301\n")?;
-    assert!(rt; is_answered(rt.alloc(), b"replay", input.as_str(), 1, text.as_str()));
+    assert!(rt; is_answered(&rt, rt.alloc(), b"replay", input.as_str(), 1, text.as_str()));
     Ok(())
 }
 
@@ -248,7 +248,7 @@ const OWN_ANSWERS: &str = "\
 
 #[test]
 fn each_takes_its_own_pose(rt: HostRuntime) {
-    assert!(rt; is_answered(rt.alloc(), b"replay", NAMESAKES, 0, OWN_ANSWERS));
+    assert!(rt; is_answered(&rt, rt.alloc(), b"replay", NAMESAKES, 0, OWN_ANSWERS));
 }
 
 /// A press whose loader may claim the interior before the press has claimed it back, and a start.
@@ -305,7 +305,7 @@ turns:
 
 #[test]
 fn explores_a_standstill(rt: HostRuntime) {
-    assert!(rt; is_answered(rt.alloc(), b"explore", STANDS, 1, STANDSTILL));
+    assert!(rt; is_answered(&rt, rt.alloc(), b"explore", STANDS, 1, STANDSTILL));
 }
 
 /// A press that waits for a plate, alone.
@@ -344,9 +344,18 @@ a machine isn't passed over for ever if it goes on wherever it could at k turns,
 #[test]
 fn counts_one(rt: HostRuntime) -> Result<(), AllocError> {
     let input = format!(in rt.alloc(); "{WAITS}start,10\n")?;
-    assert!(rt; is_answered(rt.alloc(), b"explore", input.as_str(), 1, WAITS_AT_ONCE));
+    assert!(rt;
+        is_answered(
+            &rt,
+            rt.alloc(),
+            b"explore",
+            input.as_str(),
+            1,
+            WAITS_AT_ONCE
+        )
+    );
     let alone = "[[machine]]\nname = \"a\"\nstart,\n";
-    assert!(rt; is_answered(rt.alloc(), b"explore", alone, 0, RESTS));
+    assert!(rt; is_answered(&rt, rt.alloc(), b"explore", alone, 0, RESTS));
     Ok(())
 }
 
@@ -364,15 +373,16 @@ fn explores_from_a_start_alone(rt: HostRuntime) -> Result<(), AllocError> {
     for row in UNEXPLORED {
         let (input, text) = *row;
         assert!(rt;
-            is_answered(rt.alloc(), b"explore", input, 1, text),
+            is_answered(&rt, rt.alloc(), b"explore", input, 1, text),
             "{row:?}"
         );
     }
     let without = "fault nostart\n";
-    assert!(rt; is_answered(rt.alloc(), b"explore", PRESS, 1, without));
+    assert!(rt; is_answered(&rt, rt.alloc(), b"explore", PRESS, 1, without));
     let input = format!(in rt.alloc(); "{PRESS}start,1\n")?;
     assert!(rt;
         is_answered(
+            &rt,
             rt.alloc(),
             b"explore",
             input.as_str(),

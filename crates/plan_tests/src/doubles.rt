@@ -4,23 +4,35 @@ use plan_app::serve::start;
 use std::alloc::{AllocError, Global};
 use std::io::{Read, Write};
 use std::process::Abort;
+use std::sync::Wait;
+use std::thread::Threads;
+use std::time::Clock;
 use test_doubles::{Given, count_parts, part};
 
 /// The exit status of the program that is started with these arguments. It has no clauses, so the rows don't carry
 /// those of `start`.
-pub fn run<R: Read, W: Write>(
+pub fn run<T: Threads + Wait + Clock + Sync, R: Read, W: Write>(
+    rt: &T,
     alloc: Global,
     arguments: &[&[u8]],
     reader: &mut R,
     writer: &mut W,
 ) -> u8 {
-    start(alloc, &Given { arguments }, reader, writer)
+    start(rt, alloc, &Given { arguments }, reader, writer)
 }
 
 /// Whether the program answers an input with this status and this text.
-pub fn is_answered(alloc: Global, word: &[u8], input: &str, status: u8, text: &str) -> bool {
+pub fn is_answered<T: Threads + Wait + Clock + Sync>(
+    rt: &T,
+    alloc: Global,
+    word: &[u8],
+    input: &str,
+    status: u8,
+    text: &str,
+) -> bool {
     let mut written = Vec::new(alloc);
     let found = run(
+        rt,
         alloc,
         &[b"./plan", word],
         &mut input.as_bytes(),
@@ -30,20 +42,30 @@ pub fn is_answered(alloc: Global, word: &[u8], input: &str, status: u8, text: &s
 }
 
 /// Whether `check` refuses this beginning and then the row's document, with the row's fault.
-fn is_told(alloc: Global, head: &str, row: &str) -> Result<bool, AllocError> {
+fn is_told<T: Threads + Wait + Clock + Sync>(
+    rt: &T,
+    alloc: Global,
+    head: &str,
+    row: &str,
+) -> Result<bool, AllocError> {
     let rest = part(row, "=>\n", 0);
     let words = part(row, "=>\n", 1);
     let document = format!(in alloc; "{head}{rest}")?;
     let text = format!(in alloc; "fault plan {words}")?;
-    Ok(is_answered(alloc, b"check", document.as_str(), 1, text.as_str()))
+    Ok(is_answered(rt, alloc, b"check", document.as_str(), 1, text.as_str()))
 }
 
 /// Checks that each row's document is refused so. A row has a document, an arrow and its fault, and perhaps another
 /// arrow and what it shows; a line of dashes stands between two rows.
-pub fn are_told(rt: &impl Abort, alloc: Global, head: &str, rows: &str) -> Result<(), AllocError> {
+pub fn are_told<T: Abort + Threads + Wait + Clock + Sync>(
+    rt: &T,
+    alloc: Global,
+    head: &str,
+    rows: &str,
+) -> Result<(), AllocError> {
     for number in 0..count_parts(rows, "--\n") {
         let row = part(rows, "--\n", number);
-        assert!(rt; is_told(alloc, head, row)?, "{row}");
+        assert!(rt; is_told(rt, alloc, head, row)?, "{row}");
     }
     Ok(())
 }

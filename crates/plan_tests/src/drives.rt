@@ -2,6 +2,9 @@
 
 use super::doubles::is_answered;
 use std::alloc::{AllocError, Global};
+use std::sync::Wait;
+use std::thread::Threads;
+use std::time::Clock;
 use test_doubles::{count_parts, part};
 
 /// Two machines at a press, before the press's program.
@@ -89,19 +92,31 @@ press, line 3: heater needs die full; here it may be empty
 ";
 
 /// Whether `check` says so of the plan with a row's program.
-fn is_checked(alloc: Global, row: &str, status: u8) -> Result<bool, AllocError> {
+fn is_checked<T: Threads + Wait + Clock + Sync>(
+    rt: &T,
+    alloc: Global,
+    row: &str,
+    status: u8,
+) -> Result<bool, AllocError> {
     let program = part(row, "=>\n", 0);
     let drives = part(row, "=>\n", 1);
     let document = format!(in alloc; "{BEFORE}{program}{AFTER}")?;
     let text = format!(in alloc; "{REPORT}{drives}2 motors: ram heater\n")?;
-    Ok(is_answered(alloc, b"check", document.as_str(), status, text.as_str()))
+    Ok(is_answered(
+        rt,
+        alloc,
+        b"check",
+        document.as_str(),
+        status,
+        text.as_str(),
+    ))
 }
 
 #[test]
 fn tells_that_drives_are_permitted(rt: HostRuntime) -> Result<(), AllocError> {
     for number in 0..count_parts(RIGHT, "--\n") {
         let row = part(RIGHT, "--\n", number);
-        assert!(rt; is_checked(rt.alloc(), row, 0)?, "{row}");
+        assert!(rt; is_checked(&rt, rt.alloc(), row, 0)?, "{row}");
     }
     Ok(())
 }
@@ -110,7 +125,7 @@ fn tells_that_drives_are_permitted(rt: HostRuntime) -> Result<(), AllocError> {
 fn tells_the_first_line_that_is_not_permitted(rt: HostRuntime) -> Result<(), AllocError> {
     for number in 0..count_parts(WRONG, "--\n") {
         let row = part(WRONG, "--\n", number);
-        assert!(rt; is_checked(rt.alloc(), row, 1)?, "{row}");
+        assert!(rt; is_checked(&rt, rt.alloc(), row, 1)?, "{row}");
     }
     Ok(())
 }

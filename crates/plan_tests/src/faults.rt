@@ -434,6 +434,88 @@ line 13: machine c: program: the machine has no pose \"y\"
 --
 [[machine]]
 name = \"c\"
+program = [\"claim w or stop on held heldd\"]
+[[zone]]
+name = \"w\"
+host = \"c\"
+guest = \"a\"
+=>
+line 13: machine c: program: \"heldd\" isn't a refusal to stop on; known: held, shut, notowner, platein, noplate, \
+placefull, wrongway, stopped
+--
+[[machine]]
+name = \"c\"
+program = [\"claim w or stop on worn\"]
+[[zone]]
+name = \"w\"
+host = \"c\"
+guest = \"a\"
+=>
+line 13: machine c: program: \"worn\" stops the machine anyway: waiting never mends it
+--
+[[machine]]
+name = \"c\"
+program = [\"claim w or stop on held shut held\"]
+[[zone]]
+name = \"w\"
+host = \"c\"
+guest = \"a\"
+=>
+line 13: machine c: program: \"held\" is named twice
+--
+[[machine]]
+name = \"c\"
+program = [\"claim w or stop on\"]
+[[zone]]
+name = \"w\"
+host = \"c\"
+guest = \"a\"
+=>
+line 13: machine c: program: \"claim w or stop on\" names no refusal to stop on
+--
+[[machine]]
+name = \"c\"
+program = [\"claim w or stop on \"]
+[[zone]]
+name = \"w\"
+host = \"c\"
+guest = \"a\"
+=>
+line 13: machine c: program: \"claim w or stop on \" names no refusal to stop on
+--
+[[machine]]
+name = \"c\"
+program = [\"claim y or stop on worn\"]
+[[zone]]
+name = \"w\"
+host = \"c\"
+guest = \"a\"
+=>
+line 13: machine c: program: no zone is named \"y\"
+--
+[[machine]]
+name = \"c\"
+program = [\"await w or stop on held\"]
+[[zone]]
+name = \"w\"
+host = \"c\"
+guest = \"a\"
+=>
+line 13: machine c: program: \"await w or stop on held\" isn't a call, and only a call stops on refusals
+--
+[[machine]]
+name = \"c\"
+sensors = [\"s\"]
+program = [\"run ram until s or stop on held\"]
+[[zone]]
+name = \"w\"
+host = \"c\"
+guest = \"a\"
+=>
+line 14: machine c: program: \"run ram until s or stop on held\" isn't a call, and only a call stops on refusals
+--
+[[machine]]
+name = \"c\"
 sensors = [\"z\"]
 =>
 line 13: machine c: sensors: \"z\" is the name of a zone, too
@@ -600,7 +682,7 @@ fn tells_a_long_program(rt: HostRuntime) -> Result<(), AllocError> {
         }
         input.push_str("]\n[[zone]]\nname = \"y\"\nhost = \"c\"\nguest = \"a\"\nstart,00\n")?;
         assert!(rt;
-            is_answered(rt.alloc(), word, input.as_str(), status, text),
+            is_answered(&rt, rt.alloc(), word, input.as_str(), status, text),
             "{row:?}"
         );
     }
@@ -678,7 +760,14 @@ fn numbers_rows_without_names(rt: HostRuntime) -> Result<(), AllocError> {
             document.push_str(last)?;
             let text = format!(in rt.alloc(); "fault plan {words}\n")?;
             assert!(rt;
-                is_answered(rt.alloc(), b"check", document.as_str(), 1, text.as_str()),
+                is_answered(
+                    &rt,
+                    rt.alloc(),
+                    b"check",
+                    document.as_str(),
+                    1,
+                    text.as_str()
+                ),
                 "{words}"
             );
         }

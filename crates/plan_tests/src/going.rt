@@ -2,7 +2,10 @@
 
 use super::answered_examples::PRESS;
 use super::doubles::is_answered;
-use std::alloc::AllocError;
+use std::alloc::{AllocError, Global};
+use std::sync::Wait;
+use std::thread::Threads;
+use std::time::Clock;
 
 /// What is printed at the end.
 const FAIRNESS: &str = "\
@@ -141,7 +144,7 @@ poses = [
      true },
 ]
 program = [
-  \"claim lower\", \"claim upper\", \"pose travelling\", \"pose load_below\", \"yield lower\", \
+  \"claim lower or stop on shut notowner\", \"claim upper\", \"pose travelling\", \"pose load_below\", \"yield lower\", \
      \"take lower\",
   \"pose travelling\", \"pose unload_above\", \"give upper\",
   \"pose travelling\", \"pose load_above\", \"yield upper\", \"take upper\",
@@ -616,22 +619,17 @@ plates may rest for ever
 ";
 
 /// Whether this status comes of a plan and a start, with these words and what is meant by fair orders.
-fn is_explored(
-    rt: &HostRuntime,
+fn is_explored<T: Threads + Wait + Clock + Sync>(
+    rt: &T,
+    alloc: Global,
     plan: &str,
     start: &str,
     status: u8,
     screen: &str,
 ) -> Result<bool, AllocError> {
-    let input = format!(in rt.alloc(); "{plan}{start}\n")?;
-    let text = format!(in rt.alloc(); "{screen}{FAIRNESS}")?;
-    Ok(is_answered(
-        rt.alloc(),
-        b"explore",
-        input.as_str(),
-        status,
-        text.as_str(),
-    ))
+    let input = format!(in alloc; "{plan}{start}\n")?;
+    let text = format!(in alloc; "{screen}{FAIRNESS}")?;
+    Ok(is_answered(rt, alloc, b"explore", input.as_str(), status, text.as_str()))
 }
 
 /// The small example plans, their starts, and the status and what is printed of them. Status 1 says that a machine may
@@ -645,35 +643,56 @@ const EXAMPLES: &[(&str, &str, u8, &str)] = &[
 #[test]
 fn explores_small_examples(rt: HostRuntime) -> Result<(), AllocError> {
     for (plan, start, status, screen) in EXAMPLES {
-        assert!(rt; is_explored(&rt, plan, start, *status, screen)?, "{start}");
+        assert!(rt;
+            is_explored(&rt, rt.alloc(), plan, start, *status, screen)?,
+            "{start}"
+        );
     }
     Ok(())
 }
 
 #[test]
 fn explores_the_cell(rt: HostRuntime) -> Result<(), AllocError> {
-    assert!(rt; is_explored(&rt, CELL, "start,1000000", 0, CELL_GOES)?);
+    assert!(rt; is_explored(&rt, rt.alloc(), CELL, "start,1000000", 0, CELL_GOES)?);
     Ok(())
 }
 
 #[test]
 fn explores_two_presses(rt: HostRuntime) -> Result<(), AllocError> {
     let both = format!(in rt.alloc(); "{PRESSES_BEGIN}{LEFT_PROGRAM}{PRESSES_END}")?;
-    assert!(rt; is_explored(&rt, both.as_str(), "start,1100", 1, TWO_PRESSES_GO)?);
+    assert!(rt;
+        is_explored(
+            &rt,
+            rt.alloc(),
+            both.as_str(),
+            "start,1100",
+            1,
+            TWO_PRESSES_GO
+        )?
+    );
     let one = format!(in rt.alloc(); "{PRESSES_BEGIN}program = []\n{PRESSES_END}")?;
-    assert!(rt; is_explored(&rt, one.as_str(), "start,1100", 1, ONE_PRESS_GOES)?);
+    assert!(rt;
+        is_explored(
+            &rt,
+            rt.alloc(),
+            one.as_str(),
+            "start,1100",
+            1,
+            ONE_PRESS_GOES
+        )?
+    );
     Ok(())
 }
 
 #[test]
 fn explores_a_dock(rt: HostRuntime) -> Result<(), AllocError> {
-    assert!(rt; is_explored(&rt, DOCK, "start,", 1, DOCK_GOES)?);
+    assert!(rt; is_explored(&rt, rt.alloc(), DOCK, "start,", 1, DOCK_GOES)?);
     Ok(())
 }
 
 #[test]
 fn explores_a_fan(rt: HostRuntime) -> Result<(), AllocError> {
-    assert!(rt; is_explored(&rt, FAN, "start,1", 1, FAN_GOES)?);
+    assert!(rt; is_explored(&rt, rt.alloc(), FAN, "start,1", 1, FAN_GOES)?);
     Ok(())
 }
 

@@ -5,6 +5,8 @@
 #[cfg(test)]
 mod answered_examples;
 #[cfg(test)]
+mod at_work;
+#[cfg(test)]
 mod cell;
 #[cfg(test)]
 mod cell_plan;
@@ -24,6 +26,8 @@ mod faults;
 mod going;
 #[cfg(test)]
 mod headers;
+#[cfg(test)]
+mod histories;
 #[cfg(test)]
 mod limits;
 #[cfg(test)]

@@ -3,6 +3,9 @@
 use super::doubles::{is_answered, run};
 use std::alloc::{AllocError, Global};
 use std::str;
+use std::sync::Wait;
+use std::thread::Threads;
+use std::time::Clock;
 
 /// How large a document is.
 #[derive(Clone, Copy)]
@@ -63,9 +66,16 @@ fn document_of(alloc: Global, size: Size) -> Result<String, AllocError> {
 }
 
 /// Whether a document is checked with this status, and a text that has this part.
-fn is_told(alloc: Global, document: &str, status: u8, part: &str) -> bool {
+fn is_told<T: Threads + Wait + Clock + Sync>(
+    rt: &T,
+    alloc: Global,
+    document: &str,
+    status: u8,
+    part: &str,
+) -> bool {
     let mut written = Vec::new(alloc);
     let found = run(
+        rt,
         alloc,
         &[b"./plan", b"check"],
         &mut document.as_bytes(),
@@ -199,7 +209,10 @@ fn accepts_the_largest(rt: HostRuntime) -> Result<(), AllocError> {
     for row in ACCEPTED {
         let (size, part) = *row;
         let document = document_of(rt.alloc(), size)?;
-        assert!(rt; is_told(rt.alloc(), document.as_str(), 0, part), "{part}");
+        assert!(rt;
+            is_told(&rt, rt.alloc(), document.as_str(), 0, part),
+            "{part}"
+        );
     }
     Ok(())
 }
@@ -211,7 +224,14 @@ fn refuses_larger_ones(rt: HostRuntime) -> Result<(), AllocError> {
         let document = document_of(rt.alloc(), size)?;
         let text = format!(in rt.alloc(); "fault plan {words}\n")?;
         assert!(rt;
-            is_answered(rt.alloc(), b"check", document.as_str(), 1, text.as_str()),
+            is_answered(
+                &rt,
+                rt.alloc(),
+                b"check",
+                document.as_str(),
+                1,
+                text.as_str()
+            ),
             "{words}"
         );
     }
@@ -225,10 +245,10 @@ fn counts_bytes(rt: HostRuntime) -> Result<(), AllocError> {
     for _ in document.len()..65_536 {
         document.push('#')?;
     }
-    assert!(rt; is_told(rt.alloc(), document.as_str(), 0, "1 machine: m0\n"));
+    assert!(rt; is_told(&rt, rt.alloc(), document.as_str(), 0, "1 machine: m0\n"));
     document.push('#')?;
     let long = "fault plan long: it has more than 65536 bytes\n";
-    assert!(rt; is_answered(rt.alloc(), b"check", document.as_str(), 1, long));
+    assert!(rt; is_answered(&rt, rt.alloc(), b"check", document.as_str(), 1, long));
     Ok(())
 }
 
@@ -254,7 +274,7 @@ fn a_pose_may_give_all_zones(rt: HostRuntime) -> Result<(), AllocError> {
         document,
         "[[motor]]\nname = \"ram\"\nmachine = \"m0\"\nholds = {{ {ALL_EIGHT} }}\n"
     )?;
-    assert!(rt; is_told(rt.alloc(), document.as_str(), 0, "1 motor: ram\n"));
+    assert!(rt; is_told(&rt, rt.alloc(), document.as_str(), 0, "1 motor: ram\n"));
     Ok(())
 }
 
@@ -289,5 +309,5 @@ guest = \"a\"
 #[test]
 fn zones_may_be_named_by_words(rt: HostRuntime) {
     let zones = "5 zones: watch free start pose claim\n";
-    assert!(rt; is_told(rt.alloc(), NAMED_BY_WORDS, 0, zones));
+    assert!(rt; is_told(&rt, rt.alloc(), NAMED_BY_WORDS, 0, zones));
 }

@@ -61,6 +61,7 @@ fn prints_a_module(rt: HostRuntime) {
     let mut written = Vec::new(rt.alloc());
     let words: &[&[u8]] = &[b"./plan", b"header", b"--python"];
     let status = run(
+        &rt,
         rt.alloc(),
         words,
         &mut plan.as_str().as_bytes(),

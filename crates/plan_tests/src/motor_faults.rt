@@ -280,6 +280,7 @@ fn counts_motors_and_hazards(rt: HostRuntime) -> Result<(), AllocError> {
         }
         let mut written = Vec::new(rt.alloc());
         let found = run(
+            &rt,
             rt.alloc(),
             &[b"./plan", b"check"],
             &mut input.as_bytes(),

@@ -109,7 +109,7 @@ const HAZARDS: &[(&str, u8, &str)] = &[
 #[test]
 fn judges_hazards(rt: HostRuntime) -> Result<(), AllocError> {
     let press = format!(in rt.alloc(); "{MACHINES}{ROWS}")?;
-    assert!(rt; is_answered(rt.alloc(), b"check", press.as_str(), 0, REPORT));
+    assert!(rt; is_answered(&rt, rt.alloc(), b"check", press.as_str(), 0, REPORT));
     for (motors, status, words) in HAZARDS {
         let hazard = format!(in rt.alloc();
             "[[hazard]]\nname = \"arm hurt\"\nmotors = [{motors}]\n"
@@ -118,6 +118,7 @@ fn judges_hazards(rt: HostRuntime) -> Result<(), AllocError> {
         let text = format!(in rt.alloc(); "{REPORT}arm hurt: {words}\n")?;
         assert!(rt;
             is_answered(
+                &rt,
                 rt.alloc(),
                 b"check",
                 document.as_str(),
@@ -152,7 +153,16 @@ Arm (2) crushed!: kept apart by interior
 fn one_hazard_may_come(rt: HostRuntime) -> Result<(), AllocError> {
     let document = format!(in rt.alloc(); "{MACHINES}{ROWS}{BOTH}")?;
     let text = format!(in rt.alloc(); "{REPORT}{LINES}")?;
-    assert!(rt; is_answered(rt.alloc(), b"check", document.as_str(), 1, text.as_str()));
+    assert!(rt;
+        is_answered(
+            &rt,
+            rt.alloc(),
+            b"check",
+            document.as_str(),
+            1,
+            text.as_str()
+        )
+    );
     Ok(())
 }
 
@@ -191,11 +201,21 @@ const STARTS: &[(&str, &str)] = &[
 fn calls_lead_to_a_hazard(rt: HostRuntime) -> Result<(), AllocError> {
     let document = format!(in rt.alloc(); "{MACHINES}{PROGRAM}{ROWS}{BOTH}")?;
     let text = format!(in rt.alloc(); "{REPORT}{LED}")?;
-    assert!(rt; is_answered(rt.alloc(), b"check", document.as_str(), 1, text.as_str()));
+    assert!(rt;
+        is_answered(
+            &rt,
+            rt.alloc(),
+            b"check",
+            document.as_str(),
+            1,
+            text.as_str()
+        )
+    );
     for (script, words) in STARTS {
         let input = format!(in rt.alloc(); "{document}{script}")?;
         let mut written = Vec::new(rt.alloc());
         let status = run(
+            &rt,
             rt.alloc(),
             &[b"./plan", b"check"],
             &mut input.as_bytes(),
@@ -231,6 +251,7 @@ fn prints_masks(rt: HostRuntime) -> Result<(), AllocError> {
     let press = format!(in rt.alloc(); "{MACHINES}{ROWS}")?;
     let mut header = Vec::new(rt.alloc());
     let status = run(
+        &rt,
         rt.alloc(),
         &[b"./plan", b"header"],
         &mut press.as_bytes(),

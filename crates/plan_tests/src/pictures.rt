@@ -93,5 +93,5 @@ line.hazard { marker-start: url(#danger); marker-end: url(#danger); }
 #[test]
 fn draws_a_press(rt: HostRuntime) {
     let plan = format!(in rt.alloc(); "{PRESS}{HAZARD}").expect(&rt, "memory");
-    assert!(rt; is_answered(rt.alloc(), b"draw", plan.as_str(), 0, PICTURE));
+    assert!(rt; is_answered(&rt, rt.alloc(), b"draw", plan.as_str(), 0, PICTURE));
 }

@@ -4,6 +4,9 @@ use super::answered_examples::PRESS;
 use super::doubles::run;
 use super::going::{CELL, JUNCTION, LEFT_PROGRAM, LIFT, PRESSES_BEGIN, PRESSES_END};
 use std::alloc::{AllocError, Global};
+use std::sync::Wait;
+use std::thread::Threads;
+use std::time::Clock;
 
 const COMPLETE: &str = "\nrows: each call that is done has its row\n";
 
@@ -31,9 +34,15 @@ guest = \"visitor\"
 ";
 
 /// Whether a plan is checked with status 0, and its report has a line.
-fn is_said(alloc: Global, plan: &str, line: &str) -> bool {
+fn is_said<T: Threads + Wait + Clock + Sync>(
+    rt: &T,
+    alloc: Global,
+    plan: &str,
+    line: &str,
+) -> bool {
     let mut written = Vec::new(alloc);
     let status = run(
+        rt,
         alloc,
         &[b"./plan", b"check"],
         &mut plan.as_bytes(),
@@ -47,24 +56,24 @@ fn is_said(alloc: Global, plan: &str, line: &str) -> bool {
 
 #[test]
 fn the_small_examples_have_all_rows(rt: HostRuntime) {
-    assert!(rt; is_said(rt.alloc(), PRESS, COMPLETE));
-    assert!(rt; is_said(rt.alloc(), JUNCTION, COMPLETE));
-    assert!(rt; is_said(rt.alloc(), LIFT, COMPLETE));
+    assert!(rt; is_said(&rt, rt.alloc(), PRESS, COMPLETE));
+    assert!(rt; is_said(&rt, rt.alloc(), JUNCTION, COMPLETE));
+    assert!(rt; is_said(&rt, rt.alloc(), LIFT, COMPLETE));
 }
 
 #[test]
 fn two_presses_have_all_rows(rt: HostRuntime) -> Result<(), AllocError> {
     let both = format!(in rt.alloc(); "{PRESSES_BEGIN}{LEFT_PROGRAM}{PRESSES_END}")?;
-    assert!(rt; is_said(rt.alloc(), both.as_str(), COMPLETE));
+    assert!(rt; is_said(&rt, rt.alloc(), both.as_str(), COMPLETE));
     Ok(())
 }
 
 #[test]
 fn the_cell_has_all_rows(rt: HostRuntime) {
-    assert!(rt; is_said(rt.alloc(), CELL, COMPLETE));
+    assert!(rt; is_said(&rt, rt.alloc(), CELL, COMPLETE));
 }
 
 #[test]
 fn of_a_pose_that_opens_two_zones_it_is_not_known(rt: HostRuntime) {
-    assert!(rt; is_said(rt.alloc(), HALL, UNKNOWN));
+    assert!(rt; is_said(&rt, rt.alloc(), HALL, UNKNOWN));
 }

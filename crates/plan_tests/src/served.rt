@@ -4,10 +4,13 @@ use super::answered_examples::PRESS;
 use super::doubles::run;
 use program_shell::VERSION;
 use std::alloc::{AllocError, Global};
+use std::sync::Wait;
+use std::thread::Threads;
+use std::time::Clock;
 use test_doubles::{FailingReader, FailingWriter, arguments_in, count_parts, part};
 
 const OTHER_WORDS: &str =
-    "error: the only argument is check, replay, explore, header, draw, --help or --version\n";
+    "error: the only argument is check, replay, explore, header, draw, run, --help or --version\n";
 
 const NO_TEXT: &str = "error: a word isn't UTF-8\n";
 
@@ -36,19 +39,36 @@ const ASTRAY: &str = "\
     ./plan header --rust|\
     ./plan check --python|\
     ./plan draw --python|\
+    ./plan run|\
+    ./plan run 5|\
+    ./plan run --turns|\
+    ./plan run --turns 0|\
+    ./plan run --turns 1000001|\
+    ./plan run --turns -5|\
+    ./plan run --turns=5|\
+    ./plan run --turns five|\
+    ./plan run --tries 5|\
+    ./plan run --turns 5 5|\
+    ./plan check --turns 5|\
     ./plan ";
 
 /// Whether the program answers these arguments and an empty input with this status and text.
-fn is_served(alloc: Global, arguments: &[&[u8]], status: u8, text: &str) -> bool {
+fn is_served<T: Threads + Wait + Clock + Sync>(
+    rt: &T,
+    alloc: Global,
+    arguments: &[&[u8]],
+    status: u8,
+    text: &str,
+) -> bool {
     let mut written = Vec::new(alloc);
-    let found = run(alloc, arguments, &mut "".as_bytes(), &mut written);
+    let found = run(rt, alloc, arguments, &mut "".as_bytes(), &mut written);
     found == status && written.as_slice() == text.as_bytes()
 }
 
 /// Whether these words are refused.
-fn is_refused(alloc: Global, line: &str) -> bool {
+fn is_refused<T: Threads + Wait + Clock + Sync>(rt: &T, alloc: Global, line: &str) -> bool {
     match arguments_in(alloc, line) {
-        Ok(arguments) => is_served(alloc, arguments.as_slice(), 2, OTHER_WORDS),
+        Ok(arguments) => is_served(rt, alloc, arguments.as_slice(), 2, OTHER_WORDS),
         Err(_) => false,
     }
 }
@@ -56,11 +76,14 @@ fn is_refused(alloc: Global, line: &str) -> bool {
 #[test]
 fn serves(rt: HostRuntime) {
     for (arguments, status, text) in ROWS {
-        assert!(rt; is_served(rt.alloc(), arguments, *status, text), "{text}");
+        assert!(rt;
+            is_served(&rt, rt.alloc(), arguments, *status, text),
+            "{text}"
+        );
     }
     for number in 0..count_parts(ASTRAY, "|") {
         let line = part(ASTRAY, "|", number);
-        assert!(rt; is_refused(rt.alloc(), line), "{line}");
+        assert!(rt; is_refused(&rt, rt.alloc(), line), "{line}");
     }
 }
 
@@ -72,16 +95,17 @@ const HELPS: &str = "\
     ./plan replay -h|\
     ./plan explore --help --version|\
     ./plan header --help|\
-    ./plan draw --help";
+    ./plan draw --help|\
+    ./plan run --help";
 
 /// Whether these words are answered with the help, and the input is left alone.
-fn is_helped(alloc: Global, line: &str) -> bool {
+fn is_helped<T: Threads + Wait + Clock + Sync>(rt: &T, alloc: Global, line: &str) -> bool {
     let Ok(arguments) = arguments_in(alloc, line) else {
         return false;
     };
     let mut reader = PRESS.as_bytes();
     let mut written = Vec::new(alloc);
-    let status = run(alloc, arguments.as_slice(), &mut reader, &mut written);
+    let status = run(rt, alloc, arguments.as_slice(), &mut reader, &mut written);
     let is_help = written
         .as_slice()
         .starts_with(b"Reads a plan of a plant, in TOML");
@@ -92,7 +116,7 @@ fn is_helped(alloc: Global, line: &str) -> bool {
 fn helps(rt: HostRuntime) {
     for number in 0..count_parts(HELPS, "|") {
         let line = part(HELPS, "|", number);
-        assert!(rt; is_helped(rt.alloc(), line), "{line}");
+        assert!(rt; is_helped(&rt, rt.alloc(), line), "{line}");
     }
 }
 
@@ -101,23 +125,40 @@ fn prints_its_version(rt: HostRuntime) -> Result<(), AllocError> {
     let wanted = format!(in rt.alloc(); "plan {VERSION}\n")?;
     let mut written = Vec::new(rt.alloc());
     let arguments: &[&[u8]] = &[b"./plan", b"--version"];
-    let status = run(rt.alloc(), arguments, &mut PRESS.as_bytes(), &mut written);
+    let status = run(
+        &rt,
+        rt.alloc(),
+        arguments,
+        &mut PRESS.as_bytes(),
+        &mut written,
+    );
     assert!(rt; status == 0 && written.as_slice() == wanted.as_bytes());
     Ok(())
 }
 
-fn is_failed_read(alloc: Global, word: &[u8], left: usize) -> bool {
+fn is_failed_read<T: Threads + Wait + Clock + Sync>(
+    rt: &T,
+    alloc: Global,
+    word: &[u8],
+    left: usize,
+) -> bool {
     let mut reader = FailingReader::new(PRESS.as_bytes(), left);
     let mut written = Vec::new(alloc);
-    let status = run(alloc, &[b"./plan", word], &mut reader, &mut written);
+    let status = run(rt, alloc, &[b"./plan", word], &mut reader, &mut written);
     status == 1 && written.as_slice() == b"fault read\n".as_slice()
 }
 
 #[test]
 fn tells_a_failed_read(rt: HostRuntime) {
     for left in 0..=PRESS.len() {
-        assert!(rt; is_failed_read(rt.alloc(), b"check", left), "after {left}");
-        assert!(rt; is_failed_read(rt.alloc(), b"replay", left), "after {left}");
+        assert!(rt;
+            is_failed_read(&rt, rt.alloc(), b"check", left),
+            "after {left}"
+        );
+        assert!(rt;
+            is_failed_read(&rt, rt.alloc(), b"replay", left),
+            "after {left}"
+        );
     }
 }
 
@@ -137,6 +178,7 @@ fn writes_a_prefix(rt: HostRuntime) {
     for (word, input) in WRITTEN {
         let mut whole = Vec::new(rt.alloc());
         run(
+            &rt,
             rt.alloc(),
             &[b"./plan", word],
             &mut input.as_bytes(),
@@ -145,6 +187,7 @@ fn writes_a_prefix(rt: HostRuntime) {
         for left in 0..=whole.len() {
             let mut writer = FailingWriter::new(rt.alloc(), left);
             let status = run(
+                &rt,
                 rt.alloc(),
                 &[b"./plan", word],
                 &mut input.as_bytes(),

@@ -6,3 +6,7 @@ mod ScriptLaws
 mod TextLaws
 mod RecordLaws
 mod RequestRows
+mod Growing
+mod Recorded
+mod Retold
+mod HistoryRows

@@ -1,5 +1,5 @@
 -- Which texts are names and words, of all.
-use Rattle.std.proofs.Common.{◌≡◌, ◌≢◌, ◌∙◌, inl, inr, ℕ, ◌<◌, Bool, true, false, ◌&&◌, ◌||◌, cond, List, [], ◌∷◌, ◌++◌, codes, length, nat_eq, nat_le, Option, Some, None, option_map, refl, sym, ap, arith}
+use Rattle.std.proofs.Common.{◌≡◌, ◌≢◌, ◌∙◌, inl, inr, ℕ, Bool, true, false, ◌&&◌, ◌||◌, cond, List, [], ◌∷◌, ◌++◌, codes, length, nat_eq, nat_le, Some, None, option_map, refl, sym, ap, arith}
 use Rattle.std.specs.Prelude.{slice_index}
 use Rattle.std.specs.Bool.{then_some}
 use Rattle.std.specs.Char.{is_ascii_digit, is_ascii_lowercase}
@@ -12,12 +12,11 @@ use Rattle.std.proofs.lemmas.List.Folds.{list_all-append}
 use Rattle.std.proofs.lemmas.List.Sums.{list_all-from_AllPass}
 use Rattle.std.proofs.lemmas.Option.{same_Some}
 use Rattle.std.proofs.lemmas.Slice.Eq.{bytes_eq-Decides}
-use Rattle.plan_types.specs.Below.{first_below}
 use Rattle.plan_types.specs.Table.{machine_of}
 use Rattle.plan_types.specs.declared.call.Call.TheVariants as call
 use Rattle.plan_types.specs.declared.posture.Posture.{Posture}
 use Rattle.plan_types.specs.declared.posture.Posture.TheVariants as posture
-use Rattle.plan_types.proofs.lemmas.Below.{IsFirst, first_of}
+use Rattle.plan_types.proofs.lemmas.Below.{first_of}
 use Rattle.plan_text.specs.Answers.{all_postures, posture_of, posture_word}
 use Rattle.plan_text.specs.Calls.{all_verbs, call_of, pose_if, verb_of, verb_word}
 use Rattle.plan_text.specs.Named.{Named}

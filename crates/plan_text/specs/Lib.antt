@@ -13,3 +13,6 @@ pub mod ScriptExamples
 pub mod ScriptLaws
 pub mod TextLaws
 pub mod RecordLaws
+pub mod Histories
+pub mod HistoryLaws
+pub mod HistoryExamples

@@ -3,6 +3,8 @@ ghost use Rattle.std.specs.Prelude.{ℕ, List};
 ghost use Rattle.plan_types.specs.declared.call.Call.{Call};
 ghost use Rattle.plan_types.specs.declared.posture.Posture.{Posture};
 ghost use Rattle.plan_text.specs.Examples as examples;
+ghost use Rattle.plan_text.specs.HistoryExamples as histories;
+ghost use Rattle.plan_text.specs.HistoryLaws as history_laws;
 ghost use Rattle.plan_text.specs.Laws as laws;
 ghost use Rattle.plan_text.specs.Named.{Named};
 ghost use Rattle.plan_text.specs.Names.{Text};
@@ -101,6 +103,14 @@ pub fn any_records_are_read()
         (verb : Verb) → record_laws.ReasonsAreOfFields n row rest who word name machine verb }
 {}
 
+/// The record of an event has its caller and its call; so the script of a legal history, of at most 65,536 events that
+/// machines may ask, is answered as the history says. And the start that a script has is a start by the plan.
+pub fn histories_are_answered()
+    ensures read { history_laws.EventsAreRead }
+    ensures answered { history_laws.HistoriesAreAnswered }
+    ensures starts { history_laws.StartsAreOfPlans }
+{}
+
 /// Examples: the whole text of each answer.
 pub fn answers_are_told()
     ensures { examples.AnswersAreTold }
@@ -155,4 +165,10 @@ pub fn scripts_are_met()
 #[tactic(auto, using(crate::proofs::ScriptRows::mark_rows))]
 pub fn marks_are_left_out()
     ensures { scripts.MarksAreLeftOut }
+{}
+
+/// Examples: the scripts of histories, and how they are answered.
+#[tactic(auto, using(crate::proofs::HistoryRows::history_rows))]
+pub fn scripts_of_histories_are_met()
+    ensures { histories.ScriptsOfHistories }
 {}

@@ -3,6 +3,7 @@
 
 pub mod answers;
 pub mod calls;
+pub mod history;
 pub mod laws;
 pub mod named_plan;
 pub mod names;
@@ -15,6 +16,7 @@ pub mod start;
 pub mod words;
 
 pub use csv_rows::{MAX_RECORDS, Outcome, ScriptFault};
+pub use history::script_of;
 pub use named_plan::NamedPlan;
 pub use names::{MAX_NAMES, Names};
 pub use opening::start_of_script;

@@ -18,7 +18,7 @@ use Rattle.plan_workers.specs.Jobs.{by_pass}
 module _ (c now : Control) (same : Type 0) (asks : Call → Option Answer → Type 0) (motors : ℕ) (Q : Type 0) (stays : same → Q) (called : (call : Call) (a : Option Answer) → asks call a → Q) where
   performed : (read : ℕ) (o : Outcome) (s : Option Step) → Performs c same asks read s motors o → Q
   performed read o None p = stays p.0
-  performed read o (Some (Do call)) p = called call p.0 p.1
+  performed read o (Some (Do call faults)) p = called call p.0 p.1
   performed read o (Some (Await z)) p = called (Inquire z) p.0 p.1
   performed read o (Some (Run run until)) p = stays p.0
 

@@ -5,7 +5,7 @@ use crate::{
     PlanPassLine, PlanRecorded, PlanWorker, audit, record_in_threads, work_by_pass,
     work_in_threads,
 };
-use plan_controller::{PlanLine, Step};
+use plan_controller::{Faults, PlanLine, Step};
 use plan_interlock::examples::press;
 use plan_rules::State;
 use plan_types::{Answer, Call, Plan, examples};
@@ -52,8 +52,8 @@ impl PlanDevices for Shown {
 /// The press claims its zone, moves, and runs its ram.
 fn steps_of_press(alloc: Global) -> Result<Vec<Step>, AllocError> {
     let steps = vec![in alloc;
-        Step::Do(Call::Claim(0)),
-        Step::Do(Call::SetPose(3)),
+        Step::Do(Call::Claim(0), Faults::none()),
+        Step::Do(Call::SetPose(3), Faults::none()),
         Step::Run {
             motors: 0b1,
             until: 4,
@@ -86,7 +86,7 @@ fn two_machines_work_in_threads(rt: HostRuntime) -> Result<(), AllocError> {
     };
     let loader = PlanJob {
         pass: loader,
-        steps: vec![in rt.alloc(); Step::Do(Call::Claim(0))]?,
+        steps: vec![in rt.alloc(); Step::Do(Call::Claim(0), Faults::none())]?,
         devices: Shown::new(None),
     };
     let press = PlanJob {
@@ -108,7 +108,10 @@ fn two_machines_work_in_threads(rt: HostRuntime) -> Result<(), AllocError> {
 
 /// The loader claims the zone and leaves it, again and again, as far as the press lets it.
 fn steps_of_loader(alloc: Global) -> Result<Vec<Step>, AllocError> {
-    let steps = vec![in alloc; Step::Do(Call::Claim(0)), Step::Do(Call::Release(0))]?;
+    let steps = vec![in alloc;
+        Step::Do(Call::Claim(0), Faults::none()),
+        Step::Do(Call::Release(0), Faults::none()),
+    ]?;
     Ok(steps)
 }
 

@@ -72,7 +72,7 @@ runs c now read motors run until false running is shown are led =
 step : (c now : Control) (same : Type 0) (asks : Call → Option Answer → Type 0) (read motors : ℕ) (o : Outcome) (s : Option Step) → c.stopped ≡ None → step_in c ≡ s
     → Performs c same asks read s motors o → now ≡ advanced c o → IsCareful c (Some read) motors now
 step c now same asks read motors o None running is x led = silent c now read motors o running x.1 led
-step c now same asks read motors o (Some (Do call)) running is x led = silent c now read motors o running x.2 led
+step c now same asks read motors o (Some (Do call faults)) running is x led = silent c now read motors o running x.2 led
 step c now same asks read motors o (Some (Await z)) running is x led = silent c now read motors o running x.2 led
 step c now same asks read motors o (Some (Run run until)) running is x led =
     runs c now read motors run until (shows read until) running is refl x.1 (led ∙ ap (advanced c) x.2)

@@ -23,7 +23,9 @@ use Rattle.plan_drives.proofs.lemmas.Going.{courses_go_on, shown_owns, stays_in_
 use Rattle.plan_controller.specs.declared.step.Step.{Step}
 use Rattle.plan_controller.specs.declared.step.Step.TheVariants.{Do, Await, Run}
 use Rattle.plan_controller.specs.declared.outcome.Outcome.TheVariants as outcome
-use Rattle.plan_controller.specs.Steps.{line_of, may_mend, after_refusal, after_call, after_inquiry}
+use Rattle.plan_controller.specs.declared.faults.Faults.{Faults}
+use Rattle.plan_controller.specs.Faults.{is_waited_out, mendable, no_faults}
+use Rattle.plan_controller.specs.Steps.{line_of, after_refusal, after_call, after_inquiry}
 use Rattle.plan_controller.specs.Seen.{event, SeesOthers, SeesAnswer, SeenAfter}
 use Rattle.plan_controller.specs.Turns.{Control, step_in, program_in, next_place, place_after, InStepGoesOn, RoundsBeginAnywhere}
 
@@ -78,8 +80,8 @@ event_at : (t : PlanTable) (s : State) (point now : List Event) (c : Control) (k
 event_at t s point now c k call a none ends at =
     subst (λ l. At t s l c k) (sym ends) ((courses_go_on t s point c.machine (program_in c)).stays k (event c.machine call a ∷ []) at (event_stays c.machine call a none))
 
-refused_at : (t : PlanTable) (s : State) (h : List Event) (c : Control) (r : Refusal) → At t s h c c.place → At t s h c (place_after c (after_refusal r))
-refused_at t s h c r at = by (may_mend r)
+refused_at : (t : PlanTable) (s : State) (h : List Event) (c : Control) (r : Refusal) (faults : Faults) → At t s h c c.place → At t s h c (place_after c (after_refusal r faults))
+refused_at t s h c r faults at = by (is_waited_out faults (mendable r))
   where
     by : (b : Bool) → At t s h c (place_after c (if b then outcome.Stays else outcome.Stops r))
     by true = at
@@ -93,17 +95,17 @@ in_step_goes_on t s h c step stays = stays_in_step t s h c.machine (program_in c
 
 -- ---- a call, an inquiry, a run
 
-pub call_leads : (t : PlanTable) (s : State) (before now : List Event) (c : Control) (call : Call) (a : Option Answer) → step_in c ≡ Some (Do call)
-    → SeenAfter c.machine call a before now → At t s before c c.place → At t s now c (place_after c (after_call a))
-call_leads t s before now c call None is seen at = point_at t s before now c c.place seen at
-call_leads t s before now c call (Some Done) is seen at =
+pub call_leads : (t : PlanTable) (s : State) (before now : List Event) (c : Control) (call : Call) (faults : Faults) (a : Option Answer) → step_in c ≡ Some (Do call faults)
+    → SeenAfter c.machine call a before now → At t s before c c.place → At t s now c (place_after c (after_call a faults))
+call_leads t s before now c call faults None is seen at = point_at t s before now c c.place seen at
+call_leads t s before now c call faults (Some Done) is seen at =
     let there = point_at t s before seen.point c c.place seen.sees at in
-    let on = (courses_go_on t s seen.point c.machine (program_in c)).does c.place call there (mapped c.steps c.place (Do call) is) in
+    let on = (courses_go_on t s seen.point c.machine (program_in c)).does c.place call there (mapped c.steps c.place (Do call faults) is) in
     next_at t s now c (subst (λ l. At t s l c (c.place + 1)) (sym seen.ends) on)
-call_leads t s before now c call (Some (Shown owner flag posture)) is seen at =
+call_leads t s before now c call faults (Some (Shown owner flag posture)) is seen at =
     event_at t s seen.point now c c.place call (Shown owner flag posture) refl seen.ends (point_at t s before seen.point c c.place seen.sees at)
-call_leads t s before now c call (Some (Refused r)) is seen at =
-    refused_at t s now c r (event_at t s seen.point now c c.place call (Refused r) refl seen.ends (point_at t s before seen.point c c.place seen.sees at))
+call_leads t s before now c call faults (Some (Refused r)) is seen at =
+    refused_at t s now c r faults (event_at t s seen.point now c c.place call (Refused r) refl seen.ends (point_at t s before seen.point c c.place seen.sees at))
 
 legal_end : (t : PlanTable) (s : State) (h : List Event) (e : Event) → IsLegal t s (h ++ e ∷ []) → e.answer ≡ reply t (after t s h) e.machine e.call
 legal_end t s [] e l = l.0
@@ -137,7 +139,7 @@ inquiry_leads t s before now c z (Some Done) legal is seen at =
     never_done t (after t s seen.point) c.machine z (sym (legal_end t s seen.point (event c.machine (Inquire z) Done) whole))
 inquiry_leads t s before now c z (Some (Shown owner flag posture)) legal is seen at = shown_at t s before now c z owner flag posture legal is seen at
 inquiry_leads t s before now c z (Some (Refused r)) legal is seen at =
-    refused_at t s now c r (event_at t s seen.point now c c.place (Inquire z) (Refused r) refl seen.ends (point_at t s before seen.point c c.place seen.sees at))
+    refused_at t s now c r no_faults (event_at t s seen.point now c c.place (Inquire z) (Refused r) refl seen.ends (point_at t s before seen.point c c.place seen.sees at))
 
 pub run_leads : (t : PlanTable) (s : State) (h : List Event) (c : Control) (motors until : ℕ) (ends : Bool) → step_in c ≡ Some (Run motors until)
     → At t s h c c.place → At t s h c (place_after c (if ends then outcome.GoesOn else outcome.Stays))

@@ -58,7 +58,7 @@ running t s seen c now same asks sensors motors turn at = by_stopped c.stopped s
 
     by_step : (sensors : ℕ) (o : Outcome) (step : Option Step) → step_in c ≡ step → Performs c same asks sensors step motors o → now ≡ advanced c o → AreRunning t s seen now motors
     by_step sensors o None is x led = off t s seen now motors x.1
-    by_step sensors o (Some (Do call)) is x led = off t s seen now motors x.2
+    by_step sensors o (Some (Do call faults)) is x led = off t s seen now motors x.2
     by_step sensors o (Some (Await z)) is x led = off t s seen now motors x.2
     by_step sensors o (Some (Run runs until)) is x led = run (shows sensors until) runs until is x.1 (led ∙ ap (advanced c) x.2)
 

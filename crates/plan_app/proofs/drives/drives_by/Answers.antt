@@ -1,4 +1,4 @@
-use Rattle.std.proofs.Common.{◌≡◌, List, arith, subst}
+use Rattle.std.proofs.Common.{List, arith, subst}
 use Rattle.plan_controller.specs.declared.step.Step.{Step}
 use Rattle.plan_app.specs.Drives.{IsDrive, IsDriveOf}
 use Rattle.plan_app.proofs.Numbered.{numbered_more, numbered_all}

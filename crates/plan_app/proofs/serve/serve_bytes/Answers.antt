@@ -33,6 +33,11 @@ returns-in-Ok-clause-picture g c =
     let is : IsPlanIn (document_in c.args.bytes.now) c.in-Ok.plan = rw (c.split_at.ensures.front, c.plan_length.ensures.length) at c.in-Ok.ensures.plan in
     λ request well. (c.in-Ok.plan, is, c.serve_plan.ensures.picture request well)
 
+pub returns-in-Ok-clause-ran : goal.returns-in-Ok-clause-ran
+returns-in-Ok-clause-ran g c =
+    let is : IsPlanIn (document_in c.args.bytes.now) c.in-Ok.plan = rw (c.split_at.ensures.front, c.plan_length.ensures.length) at c.in-Ok.ensures.plan in
+    λ turns request well. (c.in-Ok.plan, is, rw (c.split_at.ensures.back, c.plan_length.ensures.length) at (c.serve_plan.ensures.ran turns request well))
+
 pub returns-in-Ok-clause-failed : goal.returns-in-Ok-clause-failed
 returns-in-Ok-clause-failed g c =
     let is : IsPlanIn (document_in c.args.bytes.now) c.in-Ok.plan = rw (c.split_at.ensures.front, c.plan_length.ensures.length) at c.in-Ok.ensures.plan in

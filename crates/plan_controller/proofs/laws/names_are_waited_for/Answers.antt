@@ -7,4 +7,8 @@ returns _ = record {
   shut = λ q. (refl, refl);
   not_owner = λ owner. (refl, refl);
   plate_in_zone = λ z. (refl, refl);
+  by_machine = λ m. refl;
+  by_posture = λ q. refl;
+  by_owner = λ owner. refl;
+  by_zone = λ z. refl;
 }

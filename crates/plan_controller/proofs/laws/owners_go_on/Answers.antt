@@ -8,5 +8,5 @@ returns _ = λ m plate q. record {
   mine = ap (λ b. if b then GoesOn else Stays) (eq-eqb m m refl);
   others = λ other apart. ap (λ b. if b then GoesOn else Stays) (ne_eqb other m apart);
   nobodys = refl;
-  of_call = λ owner. refl;
+  of_call = λ owner faults. refl;
 }

@@ -17,9 +17,10 @@ returns-in-Some-Do-clause-at g c =
     let new = c.ask-answer.new.self in
     let x = c.args.self.now in
     let call = c.in-Some-Do.call in
-    let is : step_in x ≡ Some (Do call) = sym c.step.ensures ∙ c.in-Some-Do.is ∙ ap (λ (s : Step). Some s) c.in-Some-Do.field-0-is in
+    let faults = c.in-Some-Do.faults in
+    let is : step_in x ≡ Some (Do call faults) = sym c.step.ensures ∙ c.in-Some-Do.is ∙ ap (λ (s : Step). Some s) c.in-Some-Do.field-0-is in
     let seen = subst (λ m. SeenAfter m call c.ask-answer.result (l.seen old) (l.seen new)) c.requires.own c.ask-answer.ensures.seen in
-    let led = call_leads (l.table old) (l.opening old) (l.seen old) (l.seen new) x call c.ask-answer.result is seen c.requires.at in
+    let led = call_leads (l.table old) (l.opening old) (l.seen old) (l.seen new) x call faults c.ask-answer.result is seen c.requires.at in
     subst (λ o. IsAt (l.table new) (l.opening new) (l.seen new) x.machine (program_in x) (place_after x o)) (sym c.after_call.ensures)
     (rw (c.ask-answer.ensures.table, c.ask-answer.ensures.opening) led)
 

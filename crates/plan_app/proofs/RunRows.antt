@@ -1,0 +1,21 @@
+-- The examples of `run_texts_are_told`.
+use Rattle.std.proofs.Common.{refl}
+use Rattle.std.specs.Fmt.{digits}
+use Rattle.plan_app.specs.RunExamples.{RunTextsAreTold}
+
+pub run_rows : RunTextsAreTold
+unfolding digits
+run_rows = record {
+  whole = refl;
+  nothing = refl;
+  one = refl;
+  one_call = refl;
+  of_lift = refl;
+  stopped = refl;
+  fine = refl;
+  own = refl;
+  all_own = refl;
+  foreign = refl;
+  stranger = refl;
+  of_watch = refl;
+}
