@@ -1,7 +1,6 @@
-//! Tables, words, states and calibrations: what no clause says, and the literal words and readings of the rules.
+//! Texts of faults, masks, a calibration and a bench: what no clause says, and literal masks.
 
 mod benches;
-mod curves;
 mod names;
 mod readings;
 mod words;

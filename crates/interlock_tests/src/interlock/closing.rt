@@ -1,12 +1,9 @@
 //! Interlocks that are closed, and the states that they leave.
-ghost use Rattle.std.specs.Prelude.{◌≡◌};
-ghost use Rattle.cell_interlock.specs.Ends.{ArePassesOf};
 
 use super::played::{Taken, state_left};
 use super::steps::{ABANDONED, OVERTAKEN, PRESS_CLAIMS};
-use cell_interlock::{Interlock, Passes};
 use cell_rules::{Places, State, ZoneState, Zones};
-use cell_types::{Answer, Call, Machine, Posture, Refusal, Reply, Zone};
+use cell_types::{Answer, Call, Machine, Posture, Zone};
 use test_callers::callers::{Step, StepOutcome};
 
 pub(super) type Owned = (Zone, Machine);
@@ -55,40 +52,4 @@ fn interlocks_close(rt: HostRuntime) {
         assert!(rt; left.is_some(), "{shown}");
         assert!(rt; state_left(rt.alloc(), 0, *tries, steps) == left, "{shown}");
     }
-}
-
-/// Whether an interlock closes after press and robot have asked for a zone and met.
-fn is_closed_after_meeting(interlock: Interlock, mut passes: Passes) -> bool
-    requires { ArePassesOf interlock passes }
-{
-    let claim = Call::Claim(Zone::Z3);
-    let shown = Answer::Shown {
-        owner: Some(Machine::Press),
-        flag: false,
-        posture: Posture::Closed,
-    };
-    let held = Answer::Refused(Refusal::Held(Machine::Press));
-    let first = interlock.ask(&mut passes.press, claim);
-    let second = interlock.ask(&mut passes.press, Call::Inquire(Zone::Z3));
-    let third = interlock.ask(&mut passes.robot, claim);
-    let (press, robot) = interlock.meet(passes.press, passes.robot);
-    let passes = Passes {
-        press,
-        robot,
-        ..passes
-    };
-    let wanted = state_of(1, PRESS_3, false);
-    first == Reply::Settled(Answer::Done, 1)
-        && second == Reply::Settled(shown, 1)
-        && third == Reply::Settled(held, 1)
-        && wanted == Some(interlock.close(passes).state)
-}
-
-#[test]
-fn an_interlock_closes_after_a_meeting(rt: HostRuntime) {
-    let opening = State::start([false; 10], 0).expect(&rt, "a start without plates");
-    let Ok((interlock, passes)) = Interlock::new(rt.alloc(), opening, 1) else {
-        panic!(rt; "no interlock");
-    };
-    assert!(rt; is_closed_after_meeting(interlock, passes));
 }

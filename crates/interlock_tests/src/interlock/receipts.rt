@@ -1,55 +1,19 @@
-//! Receipts, in one thread and between two.
+//! Receipts between threads.
 ghost use Rattle.std.specs.Prelude.{◌≡◌};
 ghost use Rattle.std.specs.Thread.{IsSync};
 ghost use Rattle.cell_types.specs.declared.answer.Answer.TheVariants.{Done};
 ghost use Rattle.cell_rules.specs.Seen.{event};
 ghost use Rattle.cell_interlock.specs.Ends.{ArePassesOf};
 
-use super::closing::{PRESS_3, state_of};
+use super::opened;
 use cell_interlock::{Interlock, Pass, Passes};
-use cell_rules::State;
-use cell_types::{Answer, Call, Machine, Refusal, Reply, Zone};
+use cell_types::{Answer, Call, Reply, Zone};
 use std::alloc::Global;
 use std::marker::Brand;
 use std::sync::Wait;
 use std::thread::Threads;
 use test_callers::letters::{News, two_threads};
 use test_callers::ring::{OfTable, three_threads};
-
-const PRESS_HAS_IT: Reply = Reply::Settled(Answer::Refused(Refusal::Held(Machine::Press)), 1);
-
-/// Whether a receipt and its copy are accepted, and an interlock closes while one more receipt is
-/// alive, and after one was dropped. Nobody accepts these two.
-fn are_accepted(interlock: Interlock, mut passes: Passes) -> bool
-    requires { ArePassesOf interlock passes }
-{
-    let claim = Call::Claim(Zone::Z3);
-    let claimed = interlock.ask(&mut passes.press, claim);
-    let mut receipt = interlock.receipt(&mut passes.press);
-    let copy = interlock.copy_receipt(&mut receipt);
-    interlock.accept(&mut passes.robot, receipt);
-    let refused = interlock.ask(&mut passes.robot, claim);
-    interlock.accept(&mut passes.crane, copy);
-    let surveyed = interlock.survey(&mut passes.crane);
-    let unread = interlock.receipt(&mut passes.deposit);
-    drop(unread);
-    let left_over = interlock.receipt(&mut passes.table);
-    let ended = interlock.close(passes);
-    drop(left_over);
-    claimed == Reply::Settled(Answer::Done, 1)
-        && refused == PRESS_HAS_IT
-        && Some(surveyed) == state_of(1, PRESS_3, false)
-        && ended.state == surveyed
-}
-
-#[test]
-fn receipts_are_accepted(rt: HostRuntime) {
-    let opening = State::start([false; 10], 0).expect(&rt, "a start without plates");
-    let Ok((interlock, passes)) = Interlock::new(rt.alloc(), opening, 1) else {
-        panic!(rt; "no interlock");
-    };
-    assert!(rt; are_accepted(interlock, passes));
-}
 
 /// Whether a caller in one thread hears of the other's call in another, and then gets a higher
 /// stamp.
@@ -75,13 +39,9 @@ fn is_heard<N: News + Send + Sync, R: Threads + Wait + Sync>(
 
 #[test]
 fn a_letter_is_heard(rt: HostRuntime) {
-    let opening = State::start([false; 10], 0).expect(&rt, "a start without plates");
-    let Ok((interlock, passes)) = Interlock::new(rt.alloc(), opening, 2) else {
-        panic!(rt; "no interlock");
-    };
-    let Passes { table, press, .. } = passes;
-    let first = (press, Call::Claim(Zone::Z3));
-    let second = (table, Call::Claim(Zone::Z1));
+    let (interlock, passes) = opened(&rt, rt.alloc(), 2);
+    let first = (passes.press, Call::Claim(Zone::Z3));
+    let second = (passes.table, Call::Claim(Zone::Z1));
     assert!(rt; is_heard::<Brand, HostRuntime>(&rt, rt.alloc(), &interlock, first, second));
 }
 
@@ -109,9 +69,6 @@ fn go_round<N: OfTable + Send + Sync, R: Threads + Wait + Sync>(
 
 #[test]
 fn letters_go_round(rt: HostRuntime) {
-    let opening = State::start([false; 10], 0).expect(&rt, "a start without plates");
-    let Ok((interlock, passes)) = Interlock::new(rt.alloc(), opening, 64) else {
-        panic!(rt; "no interlock");
-    };
+    let (interlock, passes) = opened(&rt, rt.alloc(), 64);
     assert!(rt; go_round::<Brand, HostRuntime>(&rt, rt.alloc(), &interlock, passes));
 }

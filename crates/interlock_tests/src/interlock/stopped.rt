@@ -11,21 +11,27 @@ const PRESS_AND_TABLE: &[Owned] = &[(Zone::Z1, Machine::Table), (Zone::Z3, Machi
 
 const STOPPED: Answer = Answer::Refused(Refusal::Stopped);
 
+const REPLIES: [Reply; 4] = [
+    Reply::Settled(STOPPED, 7),
+    Reply::Settled(STOPPED, 7),
+    Reply::Settled(Answer::Done, 8),
+    Reply::Settled(Answer::Done, 9),
+];
+
 /// Whether a stopped interlock of the stamp 7, in which the press has its interior, refuses a claim as
 /// stopped until the watch resumes it, and then lets it be.
 fn goes_on(interlock: Interlock, mut passes: Passes) -> bool
     requires { ArePassesOf interlock passes }
 {
     let claim = Call::Claim(Zone::Z1);
-    let before = interlock.ask(&mut passes.table, claim);
-    let again = interlock.ask(&mut passes.watch, Call::Stop);
-    let resumed = interlock.ask(&mut passes.watch, Call::Resume);
-    let after = interlock.ask(&mut passes.table, claim);
-    before == Reply::Settled(STOPPED, 7)
-        && again == Reply::Settled(STOPPED, 7)
-        && resumed == Reply::Settled(Answer::Done, 8)
-        && after == Reply::Settled(Answer::Done, 9)
-        && Some(interlock.close(passes).state) == state_of(9, PRESS_AND_TABLE, false)
+    let replies = [
+        interlock.ask(&mut passes.table, claim),
+        interlock.ask(&mut passes.watch, Call::Stop),
+        interlock.ask(&mut passes.watch, Call::Resume),
+        interlock.ask(&mut passes.table, claim),
+    ];
+    let left = interlock.close(passes).state;
+    replies == REPLIES && state_of(9, PRESS_AND_TABLE, false) == Some(left)
 }
 
 /// Whether an interlock opens with a state, if there is memory, and goes on.
@@ -34,12 +40,22 @@ fn opens(alloc: Global, opening: State, tries: u8) -> Result<bool, MakeFault> {
     Ok(goes_on(interlock, passes))
 }
 
+// A number of exchanges that a call may lose, and what comes of it.
+const TRIES: &[(u8, Result<bool, MakeFault>)] = &[
+    (0, Err(MakeFault::Tries)),
+    (1, Ok(true)),
+    (2, Ok(true)),
+    (8, Ok(true)),
+    (63, Ok(true)),
+    (64, Ok(true)),
+    (65, Err(MakeFault::Tries)),
+    (255, Err(MakeFault::Tries)),
+];
+
 #[test]
 fn stopped_interlocks_open_and_go_on(rt: HostRuntime) {
-    let Some(opening) = state_of(7, PRESS_3, true) else {
-        panic!(rt; "no stopped state");
-    };
-    for tries in [1, 2, 8, 63, 64] {
-        assert!(rt; opens(rt.alloc(), opening, tries) == Ok(true), "{tries}");
+    let opening = state_of(7, PRESS_3, true).expect(&rt, "a stopped state");
+    for (tries, wanted) in TRIES {
+        assert!(rt; opens(rt.alloc(), opening, *tries) == *wanted, "{tries}");
     }
 }

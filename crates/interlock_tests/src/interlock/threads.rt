@@ -1,13 +1,13 @@
 //! Threads that share one interlock, each with its own line. The audit has to accept the journals
 //! of their lines: there is one legal history with exactly these calls, answers and stamps.
-ghost use Rattle.std.specs.Prelude.{◌≡◌, ◌<◌};
+ghost use Rattle.std.specs.Prelude.{◌<◌};
 ghost use Rattle.std.specs.Thread.{IsSync};
 ghost use Rattle.cell_interlock.specs.Fresh.{AreFresh};
 
-use cell_interlock::{Interlock, Pass, PassLine, Passes};
+use cell_interlock::{Interlock, PassLine, Passes};
 use cell_report::audit;
 use cell_rules::{Line, State};
-use cell_types::{Answer, Call, Entry, Event, Journals, Machine, Pose, Reply, Zone};
+use cell_types::{Answer, Call, Entry, Event, Journals, Machine, Pose, Zone};
 use std::alloc::Global;
 use std::thread::{Threads, join};
 
@@ -199,27 +199,4 @@ fn six_threads_make_one_legal_history(rt: HostRuntime) {
             load.tries
         );
     }
-}
-
-fn claim(interlock: &Interlock, mut pass: Pass, zone: Zone) -> Reply
-    requires { pass.table ≡ interlock.now.table }
-{
-    interlock.ask(&mut pass, Call::Claim(zone))
-}
-
-#[test]
-fn two_threads_share_an_interlock(rt: HostRuntime) {
-    let opening = State::start([false; 10], 0).expect(&rt, "a start without plates");
-    let Ok((interlock, passes)) = Interlock::new(rt.alloc(), opening, 2) else {
-        panic!(rt; "no interlock");
-    };
-    let Passes { table, press, .. } = passes;
-    let replies = join(
-        &rt,
-        || claim(&interlock, table, Zone::Z1),
-        || claim(&interlock, press, Zone::Z3),
-    );
-    let first = Reply::Settled(Answer::Done, 1);
-    let second = Reply::Settled(Answer::Done, 2);
-    assert!(rt; replies == (first, second) || replies == (second, first));
 }

@@ -1,11 +1,11 @@
 //! Each call of the interlock, by callers who may not wait. No handle is among their parameters and bounds: if a call
-//! were given leave to wait, as for a lock, they wouldn't compile. (`close` is called so in `receipts`.)
+//! were given leave to wait, as for a lock, they wouldn't compile.
 ghost use Rattle.std.specs.Prelude.{◌≡◌};
 ghost use Rattle.cell_interlock.specs.Ends.{ArePassesOf};
 
-use super::closing::{PRESS_3, state_of};
+use super::closing::{Owned, PRESS_3, state_of};
+use super::opened;
 use cell_interlock::{Interlock, Look, Pass, Passes, Tried};
-use cell_rules::State;
 use cell_types::{Answer, Call, Machine, Posture, Refusal, Reply, Zone};
 
 const PRESS_HAS_IT: Answer = Answer::Refused(Refusal::Held(Machine::Press));
@@ -16,9 +16,23 @@ const FEED_HAS_IT: Answer = Answer::Shown {
     posture: Posture::Closed,
 };
 
-/// Whether whole calls are answered as in one thread.
-fn are_answered(interlock: &Interlock, mut passes: Passes) -> bool
-    requires { ArePassesOf interlock.now passes }
+const REPLIES: [Reply; 4] = [
+    Reply::Settled(Answer::Done, 1),
+    Reply::Settled(PRESS_HAS_IT, 1),
+    Reply::Settled(Answer::Done, 3),
+    Reply::Settled(FEED_HAS_IT, 3),
+];
+
+const THREE_ZONES: &[Owned] = &[
+    (Zone::Z1, Machine::Table),
+    (Zone::Z3, Machine::Press),
+    (Zone::Z6, Machine::Feed),
+];
+
+/// Whether whole calls are answered as in one thread, and then the interlock closes, while a receipt
+/// is alive that nobody accepts, and after one was dropped.
+fn are_answered(interlock: Interlock, mut passes: Passes) -> bool
+    requires { ArePassesOf interlock passes }
 {
     let claim = Call::Claim(Zone::Z3);
     let asked = interlock.ask(&mut passes.press, claim);
@@ -30,12 +44,14 @@ fn are_answered(interlock: &Interlock, mut passes: Passes) -> bool
     let settled = interlock.settle(&mut passes.table, Call::Claim(Zone::Z1));
     let (claims, inquires) = (Call::Claim(Zone::Z6), Call::Inquire(Zone::Z6));
     let told = interlock.tell(&mut passes.feed, claims, &mut passes.watch, inquires);
-    asked == Reply::Settled(Answer::Done, 1)
-        && after == Reply::Settled(PRESS_HAS_IT, 1)
-        && Some(surveyed) == state_of(1, PRESS_3, false)
+    drop(interlock.receipt(&mut passes.deposit));
+    let left_over = interlock.receipt(&mut passes.table);
+    let ended = interlock.close(passes);
+    drop(left_over);
+    [asked, after, told.0, told.1] == REPLIES
         && settled == (Answer::Done, 2)
-        && told.0 == Reply::Settled(Answer::Done, 3)
-        && told.1 == Reply::Settled(FEED_HAS_IT, 3)
+        && state_of(1, PRESS_3, false) == Some(surveyed)
+        && state_of(3, THREE_ZONES, false) == Some(ended.state)
 }
 
 /// Whether calls in steps are answered so: the press claims z3, the robot hears of it and is refused, they meet, and
@@ -67,13 +83,8 @@ fn are_answered_in_steps(interlock: &Interlock, press: Pass, robot: Pass) -> boo
 
 #[test]
 fn callers_do_not_wait(rt: HostRuntime) {
-    let opening = State::start([false; 10], 0).expect(&rt, "a start without plates");
-    let Ok((interlock, passes)) = Interlock::new(rt.alloc(), opening, 1) else {
-        panic!(rt; "no interlock");
-    };
-    assert!(rt; are_answered(&interlock, passes));
-    let Ok((interlock, passes)) = Interlock::new(rt.alloc(), opening, 1) else {
-        panic!(rt; "no interlock");
-    };
+    let (interlock, passes) = opened(&rt, rt.alloc(), 1);
+    assert!(rt; are_answered(interlock, passes));
+    let (interlock, passes) = opened(&rt, rt.alloc(), 1);
     assert!(rt; are_answered_in_steps(&interlock, passes.press, passes.robot));
 }

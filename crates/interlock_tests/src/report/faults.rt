@@ -47,18 +47,17 @@ fn is_written(
     let mut reader = InterruptedReader::new(SCRIPT.as_bytes(), usize::MAX, 1);
     replay(alloc, &mut SCRIPT.as_bytes(), &mut at_once) == wanted
         && replay(alloc, &mut reader, &mut bytewise) == wanted
-        && [at_once, bytewise].iter().all(|writer| {
-            writer.taken.len() == room.min(TEXT.len())
-                && TEXT.as_bytes().starts_with(writer.taken.as_slice())
-        })
+        && at_once.taken.len() == room.min(TEXT.len())
+        && TEXT.as_bytes().starts_with(at_once.taken.as_slice())
+        && bytewise.taken.as_slice() == at_once.taken.as_slice()
 }
 
-/// How many lines are written before a flush fails, if they are the first lines of the text.
-fn lines_before_failed_flush<R: Read>(alloc: Global, reader: &mut R) -> Option<usize> {
+/// Whether a flush that fails leads to a failed write, after this many first lines of the text.
+fn fails_to_flush<R: Read>(alloc: Global, reader: &mut R, lines: usize) -> bool {
     let mut writer = InterruptedWriter::new(alloc, usize::MAX, 3, Failure::Flush);
-    let failed = replay(alloc, reader, &mut writer) == Err(ReplayFault::Write);
+    let got = replay(alloc, reader, &mut writer);
     let written = writer.taken.as_slice();
-    (failed && is_whole_lines(written)).then(|| count_lines(written))
+    got == Err(ReplayFault::Write) && is_whole_lines(written) && count_lines(written) == lines
 }
 
 /// Whether the replay is as ever if its reader and its writer are interrupted so often before each
@@ -92,14 +91,9 @@ fn fails_with_its_reader(rt: HostRuntime) {
 fn fails_with_its_writer(rt: HostRuntime) {
     let failed = Err(ReplayFault::Write);
     for room in 0..TEXT.len() {
-        assert!(rt;
-            is_written(rt.alloc(), room, Failure::Write, failed),
-            "{room}"
-        );
-        assert!(rt;
-            is_written(rt.alloc(), room, Failure::Full, failed),
-            "{room}"
-        );
+        let is_told = is_written(rt.alloc(), room, Failure::Write, failed)
+            && is_written(rt.alloc(), room, Failure::Full, failed);
+        assert!(rt; is_told, "{room}");
     }
     assert!(rt; is_written(rt.alloc(), usize::MAX, Failure::Write, Ok(Outcome::Clean)));
     for times in [0, 1, 1_000, 100_000] {
@@ -113,8 +107,8 @@ fn fails_with_its_writer(rt: HostRuntime) {
 fn fails_with_its_flush(rt: HostRuntime) {
     let alloc = rt.alloc();
     let mut bytewise = InterruptedReader::new(SCRIPT.as_bytes(), usize::MAX, 1);
-    assert!(rt; lines_before_failed_flush(alloc, &mut SCRIPT.as_bytes()) == Some(5));
-    assert!(rt; lines_before_failed_flush(alloc, &mut bytewise) == Some(1));
+    assert!(rt; fails_to_flush(alloc, &mut SCRIPT.as_bytes(), 5));
+    assert!(rt; fails_to_flush(alloc, &mut bytewise, 1));
 }
 
 // The run chooses which allocation is refused. The writer allocates nothing.

@@ -1,10 +1,8 @@
-//! Readings by calibrations, the limits of points, and switches that clash.
+//! Readings by a calibration whose closure is a table. What it reads and refuses is what the clauses of `cell_sensors`
+//! say, with figures in its laws; here a program's own closure meets the bound.
 ghost use Rattle.std.specs.Prelude.{◌≡◌, ◌≤◌, slice_get};
 
-use cell_sensors::{
-    Calibration, Gauge, Points, PointsFault, SensorFault, SensorVector, position_on_line,
-    switches_agree,
-};
+use cell_sensors::{Calibration, Gauge, Points, SensorFault};
 use std::process::Abort;
 
 // Uses a calibration as a controller does: keeps it in a struct of its own, and reads.
@@ -45,30 +43,6 @@ fn expect_readings<F: Gauge>(
     meter.faults
 }
 
-// Raw values and readings.
-const BY_LINE: &[(u16, Result<i32, SensorFault>)] = &[
-    (100, Ok(0)),
-    (101, Ok(0)),
-    (104, Ok(1)),
-    (2050, Ok(500)),
-    (3999, Ok(999)),
-    (4000, Ok(1000)),
-    (99, Err(SensorFault::Low)),
-    (4001, Err(SensorFault::High)),
-];
-
-#[test]
-fn reads_by_the_line(rt: HostRuntime) {
-    let points = Points::new(100, 4000, 0, 1000, 1).expect(&rt, "points");
-    let faults = expect_readings(
-        &rt,
-        move |raw: u16| position_on_line(&points, raw),
-        points,
-        BY_LINE,
-    );
-    assert!(rt; faults == 2);
-}
-
 const BY_TABLE: &[(u16, Result<i32, SensorFault>)] = &[
     (0, Ok(-200)),
     (1, Ok(-97)),
@@ -91,72 +65,4 @@ fn reads_by_a_table(rt: HostRuntime) {
         points,
         BY_TABLE,
     );
-}
-
-// The lowest and the highest raw value, the positions at them, and the tolerance.
-const NO_POINTS: &[(u16, u16, i32, i32, i32)] = &[
-    (100, 100, 0, 1, 1),
-    (0, 10, 0, 1, 0),
-    (0, 10, 1, 1, 1),
-    (0, 10, 0, 1, 11),
-    (0, 10, -100_001, 1, 1),
-    (0, 10, 0, 100_001, 1),
-];
-
-fn is_refused(raw_lo: u16, raw_hi: u16, at_lo: i32, at_hi: i32, tol: i32) -> bool {
-    Points::new(raw_lo, raw_hi, at_lo, at_hi, tol) == Err(PointsFault::Range)
-}
-
-#[test]
-fn keeps_points_within_their_limits(rt: HostRuntime) {
-    for (raw_lo, raw_hi, at_lo, at_hi, tol) in NO_POINTS {
-        assert!(rt;
-            is_refused(*raw_lo, *raw_hi, *at_lo, *at_hi, *tol),
-            "{raw_lo} {raw_hi} {at_lo} {at_hi} {tol}"
-        );
-    }
-}
-
-fn both_ends_of_the_table() -> SensorVector {
-    SensorVector {
-        table_bottom: true,
-        table_top: true,
-        ..SensorVector::default()
-    }
-}
-
-fn two_positions_of_the_press() -> SensorVector {
-    SensorVector {
-        press_middle: true,
-        press_top: true,
-        ..SensorVector::default()
-    }
-}
-
-fn both_ends_of_the_crane() -> SensorVector {
-    SensorVector {
-        crane_deposit: true,
-        crane_feed: true,
-        ..SensorVector::default()
-    }
-}
-
-fn one_switch_each() -> SensorVector {
-    SensorVector {
-        press_top: true,
-        table_bottom: true,
-        crane_feed: true,
-        feed_barrier: true,
-        deposit_barrier: true,
-        ..SensorVector::default()
-    }
-}
-
-#[test]
-fn finds_switches_that_clash(rt: HostRuntime) {
-    let clash = Err(SensorFault::Clash);
-    assert!(rt; switches_agree(&both_ends_of_the_table()) == clash);
-    assert!(rt; switches_agree(&two_positions_of_the_press()) == clash);
-    assert!(rt; switches_agree(&both_ends_of_the_crane()) == clash);
-    assert!(rt; switches_agree(&one_switch_each()) == Ok(()));
 }
