@@ -1,13 +1,10 @@
-//! Rows of explorations: screens, the lines of who waits and who is refused, tallies, words, exit statuses.
+//! Rows of explorations: screens, words, exit statuses, times.
 
 mod doubles;
 mod explorations;
 mod memory;
 mod refusals;
-mod requests;
-mod rings;
 mod screens;
 mod served;
 mod starts;
-mod tallies;
 mod times;

@@ -51,30 +51,36 @@ pub fn run_by<T: Threads + Sync, R: Read, W: Write, P: Write>(
     )
 }
 
-/// A clock that shows these times one after another, in thousandths of a second. At `None`, and
-/// after the last, it can't be read.
+/// A clock that shows these times one after another, in thousandths of a second. At `None` it can't
+/// be read.
 #[derive(Drop)]
 pub struct GivenClock {
-    next: Cell<usize>,
-    times: [Option<u64>; 2],
+    is_begun: Cell<bool>,
+    first: Option<u64>,
+    second: Option<u64>,
 }
 
 impl GivenClock {
     pub fn new(times: [Option<u64>; 2]) -> GivenClock {
+        let [first, second] = times;
         GivenClock {
-            next: Cell::new(0),
-            times,
+            is_begun: Cell::new(false),
+            first,
+            second,
         }
     }
 }
 
 impl Clock for GivenClock {
     fn monotonic(&self) -> io::Result<Duration> {
-        let at = self.next.get();
-        self.next.set(at.saturating_add(1));
-        match self.times.get(at) {
-            Some(Some(time)) => Ok(Duration::from_millis(*time)),
-            _ => Err(io::Error::from(ErrorKind::Other)),
+        let time = if self.is_begun.replace(true) {
+            self.second
+        } else {
+            self.first
+        };
+        match time {
+            Some(time) => Ok(Duration::from_millis(time)),
+            None => Err(io::Error::from(ErrorKind::Other)),
         }
     }
 

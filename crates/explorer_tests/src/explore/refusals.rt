@@ -3,11 +3,11 @@
 
 use cell_config::read_config;
 use cell_explorer::Prospect::{Acts, Stops, Waits};
-use cell_explorer::{Explored, NextTurn, Prospect, Walk, take_turns};
+use cell_explorer::{NextTurn, Prospect, Walk, take_turns};
 use cell_types::Machine;
 use explore_app::ending::Ending;
 use explore_app::schedule::ScheduleFault;
-use explore_app::screen::{screen_by, walk_screen};
+use explore_app::screen::walk_screen;
 use std::alloc::{AllocError, Global};
 use std::test::Fail;
 
@@ -70,50 +70,52 @@ fn expect(walk: &mut Walk, prospects: &[Prospect; 6]) {
     }
 }
 
+/// The screen of a refusal after these turns, by the schedule of those, in an empty cell.
+fn screen_after(
+    alloc: Global,
+    letters: &str,
+    scheduled: &str,
+    prospects: &[Prospect; 6],
+) -> Result<Result<String, ScheduleFault>, Fail> {
+    let config = read_config(alloc, &mut b"start = \"0000000000\"\n".as_slice())?;
+    let mut walk = take_turns(alloc, &config.start, machines(alloc, letters)?.as_slice())?;
+    expect(&mut walk, prospects);
+    let way = machines(alloc, scheduled)?;
+    Ok(walk_screen(alloc, &config, Ending::Refusal, way.as_slice(), &walk))
+}
+
+fn is_told(alloc: Global, row: &(&str, [Prospect; 6], &str)) -> Result<bool, Fail> {
+    let (letters, prospects, wanted) = row;
+    let found = screen_after(alloc, letters, letters, prospects)?;
+    Ok(matches!(&found, Ok(screen) if screen.as_str() == *wanted))
+}
+
 #[test]
 fn tells_a_refusal(rt: HostRuntime) -> Result<(), Fail> {
-    let config = read_config(rt.alloc(), &mut b"start = \"0000000000\"\n".as_slice())?;
-    for (letters, prospects, wanted) in ROWS {
-        let way = machines(rt.alloc(), letters)?;
-        let mut walk = take_turns(rt.alloc(), &config.start, way.as_slice())?;
-        expect(&mut walk, prospects);
-        let found = walk_screen(rt.alloc(), &config, Ending::Refusal, way.as_slice(), &walk)?;
-        assert!(rt; found.as_str() == *wanted, "{found}");
+    for row in ROWS {
+        assert!(rt; is_told(rt.alloc(), row)?, "{row:?}");
     }
     Ok(())
 }
 
+/// Turns, those of the schedule, and what the next turn of each machine would do after them: the machine isn't refused;
+/// it has one turn more than the schedule; another drives on meanwhile.
+const APART: &[(&str, &str, [Prospect; 6])] = &[
+    ("fff", "fff", [Acts, Acts, Acts, Stops, Acts, Acts]),
+    ("fff", "ff", [Stops, Acts, Acts, Acts, Acts, Acts]),
+    ("tt", "t", [Acts, Stops, Acts, Acts, Acts, Acts]),
+    ("rppppp", "rppppp", [Acts, Acts, Acts, Stops, Acts, Acts]),
+    // nobody is refused
+    (WAY, WAY, [Waits; 6]),
+    ("", "", [Acts; 6]),
+];
+
 // Where turns don't lead a simulated cell to what is told, there is no screen.
 #[test]
 fn tells_nothing_that_is_apart(rt: HostRuntime) -> Result<(), Fail> {
-    let config = read_config(rt.alloc(), &mut b"start = \"0000000000\"\n".as_slice())?;
-    // at the end of these turns nobody is refused
-    let waiting = screen_by(
-        rt.alloc(),
-        &config,
-        &Explored::Refusal(machines(rt.alloc(), WAY)?),
-    );
-    assert!(rt; waiting == Err(ScheduleFault::Apart));
-    // at the end of those nobody waits
-    let acting = screen_by(
-        rt.alloc(),
-        &config,
-        &Explored::Standstill(machines(rt.alloc(), "")?),
-    );
-    assert!(rt; acting == Err(ScheduleFault::Apart));
-    // the machine isn't refused; it has one turn more than the schedule; another drives on meanwhile
-    for (letters, scheduled, prospects) in [
-        ("fff", "fff", [Acts, Acts, Acts, Stops, Acts, Acts]),
-        ("fff", "ff", [Stops, Acts, Acts, Acts, Acts, Acts]),
-        ("tt", "t", [Acts, Stops, Acts, Acts, Acts, Acts]),
-        ("rppppp", "rppppp", [Acts, Acts, Acts, Stops, Acts, Acts]),
-    ] {
-        let walked = machines(rt.alloc(), letters)?;
-        let mut walk = take_turns(rt.alloc(), &config.start, walked.as_slice())?;
-        expect(&mut walk, &prospects);
-        let way = machines(rt.alloc(), scheduled)?;
-        let found = walk_screen(rt.alloc(), &config, Ending::Refusal, way.as_slice(), &walk);
-        assert!(rt; found == Err(ScheduleFault::Apart), "{letters}: {found:?}");
+    for (letters, scheduled, prospects) in APART {
+        let found = screen_after(rt.alloc(), letters, scheduled, prospects)?;
+        assert!(rt; found == Err(ScheduleFault::Apart), "{letters}");
     }
     Ok(())
 }

@@ -1,55 +1,13 @@
-//! Screens of starts: with no standstill in any schedule, and with a standstill. The numbers of turns and situations
-//! are those that plain Rust finds, written apart from the proved program.
+//! Screens of starts with a standstill, and of how plates starve. The numbers of turns are those that plain Rust finds,
+//! written apart from the proved program.
 
 use cell_config::read_config;
 use cell_configured::simulate_configured;
-use cell_types::Journals;
+use cell_types::{Answer, Call, Entry, Machine, Posture, Refusal, Zone};
 use explore_app::screen::{Screen, screen_of};
 use explore_app::starve::starving_screen;
 use std::alloc::Global;
 use std::test::Fail;
-
-/// Starts with their screens, and whether these are warnings.
-const ROWS: &[(&str, bool, &str)] = &[
-    (
-        "start = \"0000000000\"\nschedule = \"ftrpdcw\"\n",
-        true,
-        "\
-# plates 0
-# a standstill after 21 turns, and no fewer
-# feed waits for crane: take z6: notowner free
-# table waits for feed: take z1: notowner free
-# robot waits for table: inquire z2: zone table 0 closed
-# press waits for robot: take z3: notowner free
-# deposit waits for robot: take z4: notowner free
-# crane waits for deposit: inquire z5: zone deposit 0 closed
-start = \"0000000000\"
-schedule = \"fffttttttppppppppppppppppppppppppppppppddddftrrpdccc\"
-",
-    ),
-    (
-        "start = \"1000000000\"\n",
-        false,
-        "\
-# plates 1
-# no standstill in any schedule before the last stamp: 49902 situations
-# plates go on: a plate moves within k * 26 + k * k * 2 steps of a fair schedule
-# each machine moves a plate within k * 96 + k * k * 2 steps
-start = \"1000000000\"
-",
-    ),
-    (
-        "stamp = 1048575\nstart = \"0000000001\"\n",
-        false,
-        "\
-# plates 1
-# no standstill in any schedule before the last stamp: 53918 situations
-# plates go on: a plate moves within k * 26 + k * k * 2 steps of a fair schedule
-# each machine moves a plate within k * 96 + k * k * 2 steps
-start = \"0000000001\"
-",
-    ),
-];
 
 /// Starts that come to a standstill, and their screens' first lines: how many turns lead there, and
 /// the ring.
@@ -102,71 +60,62 @@ start = \"1000000000\"
 schedule = \"f",
 );
 
-/// The screen of a configuration's start.
-fn screen(alloc: Global, text: &str) -> Result<Screen, Fail> {
+/// What each of the six machines asks last in a simulation of that schedule, and what it is answered.
+const LAST: [Option<(Call, Answer)>; 6] = [
+    Some((Call::Take(Zone::Z6), UNOWNED)),
+    Some((Call::Take(Zone::Z1), UNOWNED)),
+    Some((Call::Release(Zone::Z3), Answer::Done)),
+    Some((
+        Call::Claim(Zone::Z3),
+        Answer::Refused(Refusal::Held(Machine::Robot)),
+    )),
+    Some((Call::Take(Zone::Z4), UNOWNED)),
+    Some((Call::Inquire(Zone::Z5), DEPOSITS)),
+];
+
+const UNOWNED: Answer = Answer::Refused(Refusal::NotOwner(None));
+
+const DEPOSITS: Answer = Answer::Shown {
+    owner: Some(Machine::Deposit),
+    flag: false,
+    posture: Posture::Closed,
+};
+
+/// Whether the screen of a configuration's start is a warning that begins so.
+fn is_warned(alloc: Global, text: &str, wanted: &str) -> Result<bool, Fail> {
     let config = read_config(alloc, &mut text.as_bytes())?;
-    Ok(screen_of(alloc, &config)?)
+    let screen = screen_of(alloc, &config)?;
+    Ok(matches!(&screen, Screen::Warning(found) if found.as_str().starts_with(wanted)))
 }
 
-/// Whether it is a warning with this text.
-fn warns(screen: &Screen, text: &str) -> bool {
-    matches!(screen, Screen::Warning(found) if found.as_str() == text)
-}
-
-/// What each of the six machines asked last, and what it was answered.
-fn last_answers(alloc: Global, journals: &Journals) -> Result<Vec<String>, Fail> {
-    let mut answers = Vec::new(alloc);
-    for journal in [
-        &journals.feed,
-        &journals.table,
-        &journals.robot,
-        &journals.press,
-        &journals.deposit,
-        &journals.crane,
-    ] {
-        let entry = journal.last().ok_or("no entry")?;
-        let call = entry.call;
-        let answer = entry.answer;
-        answers.push(format!(in alloc; ": {call}: {answer}")?)?;
-    }
-    Ok(answers)
-}
-
-#[test]
-fn shows_starts(rt: HostRuntime) -> Result<(), Fail> {
-    for (text, warning, wanted) in ROWS {
-        let found = screen(rt.alloc(), text)?;
-        let shown = found.text();
-        assert!(rt;
-            shown == *wanted && warns(&found, wanted) == *warning,
-            "{shown}"
-        );
-    }
-    Ok(())
-}
-
-// A simulation of the schedule ends with the answers of the ring.
 #[test]
 fn shows_a_ring_and_its_schedule(rt: HostRuntime) -> Result<(), Fail> {
     for (text, wanted) in RINGS {
-        let screen = screen(rt.alloc(), text)?;
-        let found = screen.text();
-        assert!(rt;
-            found.starts_with(wanted) && warns(&screen, found),
-            "{found}"
-        );
-        let mut again = String::from_str(rt.alloc(), found)?;
-        if text.contains("turn") {
-            again.push_str("turn = { raw = [100, 3800] }\n")?;
-        }
-        let config = read_config(rt.alloc(), &mut again.as_bytes())?;
-        let record = simulate_configured(rt.alloc(), &config)?;
-        let answers = last_answers(rt.alloc(), &record.journals)?;
-        for (line, answer) in found.lines().skip(2).zip(&answers) {
-            assert!(rt; line.ends_with(answer.as_str()), "{line}: {answer}");
-        }
+        assert!(rt; is_warned(rt.alloc(), text, wanted)?, "{text}");
     }
     Ok(())
+}
+
+fn last(journal: &[Entry]) -> Option<(Call, Answer)> {
+    match journal.last() {
+        Some(entry) => Some((entry.call, entry.answer)),
+        None => None,
+    }
+}
+
+/// What each of the six machines asked last in a simulation by a configuration, and was answered.
+fn last_of_each(alloc: Global, config: &str) -> Result<[Option<(Call, Answer)>; 6], Fail> {
+    let config = read_config(alloc, &mut config.as_bytes())?;
+    let run = simulate_configured(alloc, &config)?;
+    let journals = &run.journals;
+    Ok([
+        last(&journals.feed),
+        last(&journals.table),
+        last(&journals.robot),
+        last(&journals.press),
+        last(&journals.deposit),
+        last(&journals.crane),
+    ])
 }
 
 // A simulation of the schedule goes round four times: the press has claimed its zone four times, and was refused.
@@ -175,34 +124,7 @@ fn shows_how_plates_starve(rt: HostRuntime) -> Result<(), Fail> {
     let (text, wanted) = STARVING;
     let config = read_config(rt.alloc(), &mut text.as_bytes())?;
     let screen = starving_screen(rt.alloc(), &config)?;
-    let found = screen.text();
-    assert!(rt;
-        found.starts_with(wanted) && warns(&screen, found),
-        "{found}"
-    );
-    let config = read_config(rt.alloc(), &mut found.as_bytes())?;
-    let record = simulate_configured(rt.alloc(), &config)?;
-    let answers = last_answers(rt.alloc(), &record.journals)?;
-    let wanted = [
-        ": take z6: notowner free",
-        ": take z1: notowner free",
-        ": release z3: done",
-        ": claim z3: held robot",
-        ": take z4: notowner free",
-        ": inquire z5: zone deposit 0 closed",
-    ];
-    for (answer, wanted) in answers.iter().zip(&wanted) {
-        assert!(rt; answer.as_str() == *wanted, "{answer}");
-    }
-    Ok(())
-}
-
-// Where turns lead to a standstill, plates starve there.
-#[test]
-fn shows_a_standstill_in_place_of_a_round(rt: HostRuntime) -> Result<(), Fail> {
-    let config = read_config(rt.alloc(), &mut ROWS[0].0.as_bytes())?;
-    let screen = starving_screen(rt.alloc(), &config)?;
-    let found = screen.text();
-    assert!(rt; found == ROWS[0].2 && warns(&screen, found), "{found}");
+    assert!(rt; screen.text().starts_with(wanted), "{screen:?}");
+    assert!(rt; last_of_each(rt.alloc(), screen.text())? == LAST);
     Ok(())
 }

@@ -57,6 +57,16 @@ const FREE_SCREEN: &str = "\
 start = \"1000000000\"
 ";
 
+const LAST_STAMP: &str = "stamp = 1048575\nstart = \"0000000001\"\n";
+
+const LAST_SCREEN: &str = "\
+# plates 1
+# no standstill in any schedule before the last stamp: 53918 situations
+# plates go on: a plate moves within k * 26 + k * k * 2 steps of a fair schedule
+# each machine moves a plate within k * 96 + k * k * 2 steps
+start = \"0000000001\"
+";
+
 /// The arguments that ask for an exploration.
 const EXPLORE: &[&[u8]] = &[b"./explore"];
 
@@ -67,6 +77,7 @@ const ROWS: &[Row<'static>] = &[
     (EXPLORE, EMPTY, 1, SCREEN, 0),
     (&[b"./explore", b"--starve"], EMPTY, 1, SCREEN, 0),
     (EXPLORE, ONE_PLATE, 0, FREE_SCREEN, 0),
+    (EXPLORE, LAST_STAMP, 0, LAST_SCREEN, 0),
     (
         &[b"./explore", b"--starve"],
         BAD_LETTER,
@@ -153,20 +164,7 @@ fn serves_words(rt: HostRuntime) {
 #[test]
 fn prints_its_version(rt: HostRuntime) -> Result<(), AllocError> {
     let wanted = format!(in rt.alloc(); "explore {VERSION}\n")?;
-    let arguments: &[&[u8]] = &[b"./explore", b"--version"];
-    let mut reader = EMPTY.as_bytes();
-    let mut written = Vec::new(rt.alloc());
-    let mut progress = Vec::new(rt.alloc());
-    let status = run(
-        &rt,
-        rt.alloc(),
-        arguments,
-        &mut reader,
-        &mut written,
-        &mut progress,
-    );
-    assert!(rt; status == 0 && written.as_slice() == wanted.as_bytes());
-    assert!(rt; reader.len() == EMPTY.len() && progress.is_empty());
+    assert!(rt; is_told(&rt, rt.alloc(), "./explore --version", 0, wanted.as_str()));
     Ok(())
 }
 
@@ -222,35 +220,26 @@ const CUT: &[(&[&[u8]], &str, u8, usize)] = &[
     (EXPLORE, EMPTY, 1, 97),
 ];
 
+/// The whole text.
+fn text_of<T: Threads + Sync>(rt: &T, alloc: Global, arguments: &[&[u8]], input: &str) -> Vec<u8> {
+    let mut whole = Vec::new(alloc);
+    let mut progress = Vec::new(alloc);
+    let mut reader = input.as_bytes();
+    run(rt, alloc, arguments, &mut reader, &mut whole, &mut progress);
+    whole
+}
+
 // A writer that fails after the last byte fails at its flush.
 #[test]
 fn writes_a_prefix(rt: HostRuntime) {
     for (arguments, input, status, step) in CUT {
-        let mut whole = Vec::new(rt.alloc());
-        let mut progress = Vec::new(rt.alloc());
-        run(
-            &rt,
-            rt.alloc(),
-            arguments,
-            &mut input.as_bytes(),
-            &mut whole,
-            &mut progress,
-        );
-        for left in 0..=whole.len() {
-            let is_tried = left % step == 0 || left.saturating_add(4) > whole.len();
-            assert!(rt;
-                !is_tried
-                    || is_cut(
-                        &rt,
-                        rt.alloc(),
-                        arguments,
-                        input,
-                        *status,
-                        whole.as_slice(),
-                        left
-                    ),
-                "after {left}"
-            );
+        let whole = text_of(&rt, rt.alloc(), arguments, input);
+        let text = whole.as_slice();
+        for left in 0..=text.len() {
+            let is_tried = left % step == 0 || left.saturating_add(4) > text.len();
+            let is_right = !is_tried
+                || is_cut(&rt, rt.alloc(), arguments, input, *status, text, left);
+            assert!(rt; is_right, "after {left}");
         }
     }
 }

@@ -2,7 +2,8 @@
 
 use super::doubles::{GivenClock, run_by};
 use explore_app::timing::tell_time;
-use std::alloc::AllocError;
+use std::alloc::Global;
+use std::thread::Threads;
 use std::time::Instant;
 use test_doubles::FailingWriter;
 
@@ -32,64 +33,77 @@ fn tells_how_long_it_took(rt: HostRuntime) {
     }
 }
 
+/// Arguments, an input, the status, and what is told.
+type Run<'a> = (&'a [&'a [u8]], &'a str, u8, &'a str);
+
+const RUNS: &[Run<'static>] = &[
+    (
+        &[b"./explore"],
+        "start = \"0000000000\"\n",
+        1,
+        "took 2.500 s\n",
+    ),
+    (&[b"./explore"], "start = 5\n", 1, "took 2.500 s\n"),
+    (&[b"./explore", b"--help"], "", 0, ""),
+    (&[b"./explore", b"--version"], "", 0, ""),
+    (&[b"./explore", b"-V"], "", 2, ""),
+    (&[b"./explore", b"\xff"], "", 2, ""),
+];
+
+/// Whether a run that takes 2.5 s tells `progress` so, and not the writer.
+fn is_told<T: Threads + Sync>(rt: &T, alloc: Global, row: &Run<'_>) -> bool {
+    let (arguments, input, status, wanted) = *row;
+    let clock = GivenClock::new([Some(100), Some(2_600)]);
+    let mut reader = input.as_bytes();
+    let mut written = Vec::new(alloc);
+    let mut told = Vec::new(alloc);
+    let found = run_by(
+        rt,
+        &clock,
+        alloc,
+        arguments,
+        &mut reader,
+        &mut written,
+        &mut told,
+    );
+    found == status
+        && told.as_slice() == wanted.as_bytes()
+        && !written.as_slice().starts_with(b"took")
+}
+
 #[test]
-fn tells_progress_and_not_the_writer(rt: HostRuntime) -> Result<(), AllocError> {
-    const ROWS: &[(&[&[u8]], &str, u8, &str)] = &[
-        (
-            &[b"./explore"],
-            "start = \"0000000000\"\n",
-            1,
-            "took 2.500 s\n",
-        ),
-        (&[b"./explore"], "start = 5\n", 1, "took 2.500 s\n"),
-        (&[b"./explore", b"--help"], "", 0, ""),
-        (&[b"./explore", b"--version"], "", 0, ""),
-        (&[b"./explore", b"-V"], "", 2, ""),
-        (&[b"./explore", b"\xff"], "", 2, ""),
-    ];
-    for (arguments, input, status, wanted) in ROWS {
-        let clock = GivenClock::new([Some(100), Some(2_600)]);
-        let mut written = Vec::new(rt.alloc());
-        let mut told = Vec::new(rt.alloc());
-        let found = run_by(
-            &rt,
-            &clock,
-            rt.alloc(),
-            arguments,
-            &mut input.as_bytes(),
-            &mut written,
-            &mut told,
-        );
-        assert!(rt;
-            found == *status && told.as_slice() == wanted.as_bytes(),
-            "{arguments:?}"
-        );
-        assert!(rt; !written.as_slice().starts_with(b"took"), "{arguments:?}");
+fn tells_progress_and_not_the_writer(rt: HostRuntime) {
+    for row in RUNS {
+        assert!(rt; is_told(&rt, rt.alloc(), row), "{row:?}");
     }
-    Ok(())
+}
+
+/// Whether a run answers as ever, if what is told fails after these bytes.
+fn is_answered<T: Threads + Sync>(rt: &T, alloc: Global, left: usize) -> bool {
+    let clock = GivenClock::new([Some(100), Some(2_600)]);
+    let mut reader = b"start = 5\n".as_slice();
+    let mut written = Vec::new(alloc);
+    let mut told = FailingWriter::new(alloc, left);
+    let arguments: &[&[u8]] = &[b"./explore"];
+    let status = run_by(
+        rt,
+        &clock,
+        alloc,
+        arguments,
+        &mut reader,
+        &mut written,
+        &mut told,
+    );
+    status == 1
+        && written.as_slice() == b"fault config kind\n".as_slice()
+        && told.taken.len() == left
+        && b"took 2.500 s\n".starts_with(told.taken.as_slice())
 }
 
 // What can't be told changes neither the text nor the status.
 #[test]
 fn needs_no_progress(rt: HostRuntime) {
     for left in 0..12 {
-        let clock = GivenClock::new([Some(100), Some(2_600)]);
-        let mut written = Vec::new(rt.alloc());
-        let mut told = FailingWriter::new(rt.alloc(), left);
-        let status = run_by(
-            &rt,
-            &clock,
-            rt.alloc(),
-            &[b"./explore"],
-            &mut b"start = 5\n".as_slice(),
-            &mut written,
-            &mut told,
-        );
-        let wanted = b"fault config kind\n".as_slice();
-        assert!(rt; status == 1 && written.as_slice() == wanted, "after {left}");
-        assert!(rt;
-            told.taken.as_slice() == &b"took 2.500 s\n"[..left],
-            "after {left}"
-        );
+        assert!(rt; is_answered(&rt, rt.alloc(), left), "after {left}");
     }
 }

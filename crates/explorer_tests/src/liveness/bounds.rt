@@ -1,6 +1,6 @@
 //! Bounds of a start with one plate.
 
-use cell_liveness::{Plates, Progress, explore_machines, explore_progress};
+use cell_liveness::{Plates, Progress, explore_machines};
 use cell_rules::State;
 use cell_types::Machine;
 
@@ -54,22 +54,12 @@ fn each_machine_moves_plates_if_the_press_gets_a_strong_turn(rt: HostRuntime) {
     );
 }
 
-#[test]
-fn one_question_alone_is_answered_the_same(rt: HostRuntime) {
-    let start = State::start(ONE, 0).expect(&rt, "a start");
-    let answer = explore_progress(rt.alloc(), &start, None, Some(Machine::Press)).expect(
-        &rt, "memory",
-    );
-    assert!(rt; bound_of(&answer) == Some((26, 2)), "{answer:?}");
-}
-
 // From more plates each machine has a bound too.
 #[test]
 fn each_machine_moves_four_plates(rt: HostRuntime) {
     let start = State::start(FOUR, 0).expect(&rt, "a start");
     let plates = explore_machines(rt.alloc(), &start, Some(Machine::Press)).expect(&rt, "memory");
-    assert!(rt;
-        bounds_of(&plates).iter().all(|bound| bound.is_some()),
-        "{plates:?}"
-    );
+    for bound in &bounds_of(&plates) {
+        assert!(rt; bound.is_some(), "{plates:?}");
+    }
 }
