@@ -1,11 +1,9 @@
-//! Rows of films: the lines of the examples, what an observer sees, and what the program answers. The lines come from
+//! Rows of films: the lines of the examples and what the program answers. The lines come from
 //! plain Rust.
 
 mod doubles;
 mod examples;
 mod expected;
-mod frames;
-mod keeper;
 mod lines;
 mod memory;
 mod pages;

@@ -12,16 +12,24 @@ pub struct Example {
 
 /// The text of a configuration.
 pub fn config_text(alloc: Global, example: &Example) -> Result<String, AllocError> {
+    let mut text = String::new(alloc);
+    match push_config(&mut text, example) {
+        Ok(()) => Ok(text),
+        Err(error) => Err(error),
+    }
+}
+
+// Adds the text of a configuration.
+fn push_config(text: &mut String, example: &Example) -> Result<(), AllocError> {
     let start = example.start;
     let others = example.others;
-    let mut text = format!(in alloc; "{others}start = \"{start}\"\nschedule = \"")?;
+    write!(text, "{others}start = \"{start}\"\nschedule = \"")?;
     for (count, letters) in example.schedule {
         for _ in 0..*count {
             text.push_str(letters)?;
         }
     }
-    text.push_str("\"\n")?;
-    Ok(text)
+    text.push_str("\"\n")
 }
 
 /// `examples/press.toml`
@@ -93,21 +101,6 @@ rotation = { raw = [7, 4094], tol = 1 }
 turn = { raw = [1, 1000], tol = 1 }
 gripper = { raw = [5, 1508], tol = 10 }
 ",
-};
-
-/// All machines ask, the press and the feed belt also in busy turns; the watch stops the cell and
-/// resumes it.
-pub const STOPPED: Example = Example {
-    start: "0100000000",
-    schedule: &[(1, "fpPfpwtrdcftpwFfff")],
-    others: "",
-};
-
-/// The second call takes the last stamp. Machines that are worn then have further turns.
-pub const WORN: Example = Example {
-    start: "0100000000",
-    schedule: &[(1, "fpPtwfpPrrw")],
-    others: "stamp = 1048574\n",
 };
 
 /// Busy turns of the deposit belt, the crane and the watch.

@@ -10,7 +10,7 @@ use std::alloc::Global;
 use std::test::Fail;
 
 /// The lines of a configuration.
-pub fn lines_of(alloc: Global, example: &Example) -> Result<String, Fail> {
+fn lines_of(alloc: Global, example: &Example) -> Result<String, Fail> {
     let text = config_text(alloc, example)?;
     let config = read_config(alloc, &mut text.as_bytes())?;
     Ok(lines_configured(alloc, &config)?)
@@ -30,10 +30,10 @@ pub struct Figures {
     pub last: &'static str,
 }
 
-/// The 64-bit checksum FNV-1a of all bytes of a text.
-pub fn checksum_of(text: &str) -> u64 {
+/// The 64-bit checksum FNV-1a of bytes.
+pub fn checksum_of(bytes: &[u8]) -> u64 {
     let mut sum = 0xcbf2_9ce4_8422_2325u64;
-    for byte in text.as_bytes() {
+    for byte in bytes {
         sum = (sum ^ u64::from(*byte)).wrapping_mul(0x0100_0000_01b3);
     }
     sum
@@ -43,7 +43,7 @@ pub fn checksum_of(text: &str) -> u64 {
 pub fn has_figures(text: &str, figures: &Figures) -> bool {
     text.lines().count() == figures.lines
         && text.len() == figures.bytes
-        && checksum_of(text) == figures.checksum
+        && checksum_of(text.as_bytes()) == figures.checksum
         && text.lines().last() == Some(figures.last)
 }
 

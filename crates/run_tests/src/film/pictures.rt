@@ -3,7 +3,7 @@
 use super::doubles::run;
 use super::examples::{CARRIED_ROUND, Example, PRESS, STOP_AND_RESUME, THREE_PLATES, config_text};
 use super::lines::checksum_of;
-use std::test::Fail;
+use std::alloc::{AllocError, Global};
 
 /// The arguments that ask for a picture.
 const LOOP: &[&[u8]] = &[b"./film", b"--loop"];
@@ -16,15 +16,22 @@ const PICTURES: &[(&Example, usize, u64)] = &[
     (&THREE_PLATES, 16784, 0x602ea8aef5738ada),
 ];
 
+// Whether a configuration's picture has this number of bytes, and this checksum.
+fn is_drawn(alloc: Global, input: &str, bytes: usize, checksum: u64) -> bool {
+    let mut written = Vec::new(alloc);
+    let status = run(alloc, LOOP, &mut input.as_bytes(), &mut written);
+    let picture = written.as_slice();
+    status == 0 && picture.len() == bytes && checksum_of(picture) == checksum
+}
+
 #[test]
-fn draws_the_examples(rt: HostRuntime) -> Result<(), Fail> {
+fn draws_the_examples(rt: HostRuntime) -> Result<(), AllocError> {
     for (example, bytes, checksum) in PICTURES {
         let input = config_text(rt.alloc(), example)?;
-        let mut written = Vec::new(rt.alloc());
-        let status = run(rt.alloc(), LOOP, &mut input.as_bytes(), &mut written);
-        let picture = str::from_utf8(written.as_slice())?;
-        assert!(rt; status == 0 && picture.len() == *bytes, "{bytes} bytes");
-        assert!(rt; checksum_of(picture) == *checksum, "{bytes} bytes");
+        assert!(rt;
+            is_drawn(rt.alloc(), &input, *bytes, *checksum),
+            "{bytes} bytes"
+        );
     }
     Ok(())
 }

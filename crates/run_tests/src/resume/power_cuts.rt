@@ -1,16 +1,15 @@
 //! A run that is cut again and again, and goes on each time from its 14 bytes, comes to the same
 //! end as one that isn't cut.
 
-use crate::resume::machines::{at_start, go_on};
+use crate::resume::machines::go_on;
 use crate::resume::plant::Plant;
 use cell_resume::{CheckpointBytes, resume_at};
 use std::alloc::Global;
 use std::test::Fail;
 
-// A plate is at the feed belt's entry. In these turns it gets round once.
-const PLACES: [bool; 10] = [
-    true, false, false, false, false, false, false, false, false, false,
-];
+// A plate is at the feed belt's entry, each machine at the first step of its program. In these turns
+// the plate gets round once.
+const START: CheckpointBytes = [0, 0, 0, 0x40, 0, 0, 0, 0, 0, 0, 0, 0, 0, 0];
 
 const TURNS: u32 = 6_000;
 
@@ -21,7 +20,7 @@ const CHANGES: u32 = 59;
 // is cut.
 fn run(alloc: Global, parts: u32, turns: u32) -> Result<(CheckpointBytes, Plant), Fail> {
     let mut plant = Plant::new();
-    let mut bytes = at_start(PLACES)?;
+    let mut bytes = START;
     for part in 0..parts {
         let first = part.wrapping_mul(turns);
         bytes = go_on(alloc, bytes, &mut plant, first, turns)?;

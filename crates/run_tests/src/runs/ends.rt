@@ -1,15 +1,16 @@
 //! The run in which the feed belt hands a plate to the table: with busy turns, and without memory.
 
-use crate::runs::simulated_cells::{places_of, run};
+use crate::runs::simulated_cells::run;
 use cell_plant::{RunRecord, Status, Turn};
 use cell_types::{Machine, Place};
 use std::process::Abort;
-use std::test::Fail;
 
 const FINE: [Status; 7] = [Status::Fine; 7];
 
 // A plate is at the feed belt's end.
-const START: &[u8; 10] = b"0100000000";
+const START: &str = "start = \"0100000000\"";
+
+const EMPTY: &str = "start = \"0000000000\"";
 
 fn turn_of(machine: Machine) -> Turn {
     Turn {
@@ -26,16 +27,22 @@ fn first_turns() -> [Turn; 18] {
     turns
 }
 
+// Whether there is a record, and no machine was stopped.
+fn stops_nobody(record: Option<RunRecord>) -> bool {
+    match record {
+        Some(record) => record.status == FINE,
+        None => false,
+    }
+}
+
 // One turn of the feed belt after another is busy: no machine stops.
 #[test]
-fn busy_turns_stop_nobody(rt: HostRuntime) -> Result<(), Fail> {
+fn busy_turns_stop_nobody(rt: HostRuntime) {
     for busy in 6..17usize {
         let mut turns = first_turns();
         turns[busy].busy = true;
-        let record = run(rt.alloc(), places_of(START), 0, &turns)??;
-        assert!(rt; record.status == FINE, "{busy}");
+        assert!(rt; stops_nobody(run(rt.alloc(), START, &turns)), "{busy}");
     }
-    Ok(())
 }
 
 // Two turns of each machine. The watch stops the cell, and soon resumes.
@@ -99,13 +106,14 @@ fn ends_or_lacks(record: &RunRecord) -> bool {
 
 // Whichever allocation fails, each run has a record, or the fault says why not.
 #[test]
-fn a_run_without_memory(rt: HostRuntime) -> Result<(), Fail> {
-    if let Ok(record) = run(rt.alloc(), places_of(START), 0, &first_turns())? {
-        assert!(rt; ends_or_lacks(&record));
-    }
-    let turns = TWICE.map(turn_of);
-    if let Ok(record) = run(rt.alloc(), [false; 10], 0, &turns)? {
-        assert!(rt; lacks_but_memory(&record));
-    }
-    Ok(())
+fn a_run_without_memory(rt: HostRuntime) {
+    let is_first_right = match run(rt.alloc(), START, &first_turns()) {
+        Some(record) => ends_or_lacks(&record),
+        None => true,
+    };
+    let is_other_right = match run(rt.alloc(), EMPTY, &TWICE.map(turn_of)) {
+        Some(record) => lacks_but_memory(&record),
+        None => true,
+    };
+    assert!(rt; is_first_right && is_other_right);
 }

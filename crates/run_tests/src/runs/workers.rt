@@ -1,25 +1,17 @@
 //! Runs of six workers, and what their records say: of the machines, and of the interlock's end.
 
-use crate::runs::worker_cells::{Limits, work};
+use crate::runs::worker_cells::work;
 use cell_notes::{Counts, RunRecord, Status};
 use cell_report::audit;
 use cell_rules::{State, apply};
-use cell_threads::RunFault;
 use cell_types::{Machine, Posture, Zone};
 use std::alloc::Global;
 use std::test::Fail;
 
-const EMPTY: [bool; 10] = [false; 10];
+const EMPTY: &str = "start = \"0000000000\"";
 
 // Plates at FeedEntry, Table, PressIn and Crane.
-const FOUR: [bool; 10] = [
-    true, false, true, false, true, false, false, false, false, true,
-];
-
-const THREE_TURNS: Limits = Limits {
-    tries: 64,
-    turns: 3,
-};
+const FOUR: &str = "start = \"1010100001\"";
 
 // A machine's calls in three turns: the number of done calls, and of inquiries.
 fn three_turns(done: u64, read: u64) -> Counts {
@@ -72,26 +64,20 @@ fn is_first_steps(record: &RunRecord) -> bool {
         && record.end.is_some_and(|end| ends_so(&end))
 }
 
-#[test]
-fn first_steps_are_always_the_same(rt: HostRuntime) -> Result<(), Fail> {
-    for round in 0..100u32 {
-        let record = work(&rt, rt.alloc(), EMPTY, THREE_TURNS)??;
-        assert!(rt; is_first_steps(&record), "{round}");
+// Whether there is a record, and it is that of the first steps.
+fn takes_first_steps(record: Option<RunRecord>) -> bool {
+    match record {
+        Some(record) => is_first_steps(&record),
+        None => false,
     }
-    Ok(())
 }
 
 #[test]
-fn tries_have_limits(rt: HostRuntime) -> Result<(), Fail> {
-    for tries in [0, 65] {
-        let limits = Limits { tries, turns: 3 };
-        let worked = work(&rt, rt.alloc(), EMPTY, limits)?;
-        assert!(rt;
-            worked.is_err_and(|fault| fault == RunFault::Tries),
-            "{tries}"
-        );
+fn first_steps_are_always_the_same(rt: HostRuntime) {
+    for round in 0..100u32 {
+        let record = work(&rt, rt.alloc(), EMPTY, 64, 3);
+        assert!(rt; takes_first_steps(record), "{round}");
     }
-    Ok(())
 }
 
 // Whether an audit finds a history from the start to the end, with the journals, and its events lead
@@ -105,41 +91,51 @@ fn is_audited(alloc: Global, record: &RunRecord) -> Result<bool, Fail> {
     Ok(record.end == Some(state))
 }
 
-// No machine stops, and the number of plates stays the same.
+// Whether there is a record, no machine has stopped, and the number of plates stays the same.
+fn keeps_plates(alloc: Global, record: Option<RunRecord>) -> Result<bool, Fail> {
+    match record {
+        Some(record) => Ok(
+            record.status == [Status::Fine; 7]
+                && record.counts.map(|counts| counts.turns)[..6] == [20_000; 6]
+                && record.end.is_some_and(|end| end.plates() == 4)
+                && is_audited(alloc, &record)?,
+        ),
+        None => Ok(false),
+    }
+}
+
 #[test]
 fn long_runs_keep_their_plates(rt: HostRuntime) -> Result<(), Fail> {
     for tries in [1, 8] {
-        let limits = Limits {
-            tries,
-            turns: 20_000,
-        };
-        let record = work(&rt, rt.alloc(), FOUR, limits)??;
-        assert!(rt; record.status == [Status::Fine; 7], "{tries}");
-        assert!(rt;
-            record.counts.map(|counts| counts.turns)[..6] == [20_000; 6],
-            "{tries}"
-        );
-        assert!(rt; is_audited(rt.alloc(), &record)?, "{tries}");
-        assert!(rt; record.end.is_some_and(|end| end.plates() == 4), "{tries}");
+        let record = work(&rt, rt.alloc(), FOUR, tries, 20_000);
+        assert!(rt; keeps_plates(rt.alloc(), record)?, "{tries}");
     }
     Ok(())
 }
 
-// Whichever allocation fails, the record shows which machines it stopped, or the fault says why
-// there is no record.
-#[test]
-fn workers_without_memory(rt: HostRuntime) -> Result<(), Fail> {
-    match work(&rt, rt.alloc(), EMPTY, THREE_TURNS)? {
-        Ok(record) => {
-            let wanted = first_steps().map(|counts| (counts.done, counts.read));
-            let asked = record.counts.map(|counts| (counts.done, counts.read));
-            for (machine, status) in record.status.iter().enumerate() {
-                let is_whole = asked[machine] == wanted[machine];
-                assert!(rt; is_whole == (*status == Status::Fine), "{machine}");
-                assert!(rt; is_whole || *status == Status::Memory, "{machine}");
-            }
+// Whether each machine has asked all that it should and is fine, or was stopped for memory.
+fn lacks_but_memory(record: &RunRecord) -> bool {
+    let wanted = first_steps();
+    for machine in 0..7usize {
+        let (found, all) = (record.counts[machine], wanted[machine]);
+        let ends = if (found.done, found.read) == (all.done, all.read) {
+            Status::Fine
+        } else {
+            Status::Memory
+        };
+        if record.status[machine] != ends {
+            return false;
         }
-        Err(fault) => assert!(rt; fault != RunFault::Tries),
     }
-    Ok(())
+    true
+}
+
+// Whichever allocation fails, the record shows which machines it stopped, or there is none.
+#[test]
+fn workers_without_memory(rt: HostRuntime) {
+    let is_right = match work(&rt, rt.alloc(), EMPTY, 64, 3) {
+        Some(record) => lacks_but_memory(&record),
+        None => true,
+    };
+    assert!(rt; is_right);
 }
