@@ -83,7 +83,7 @@ fn perform(plan: &Compiled, word: u64, machine: u8, step: Step, sensors: u32) ->
 {
     match step {
         Step::Do(call, faults) => {
-            let (answer, next) = plan.step_sound(word, machine, call);
+            let (answer, next) = plan.step_state_word(word, machine, call);
             Performed {
                 word: next,
                 motors: 0,
@@ -92,7 +92,7 @@ fn perform(plan: &Compiled, word: u64, machine: u8, step: Step, sensors: u32) ->
             }
         }
         Step::Await(zone) => {
-            let (answer, next) = plan.step_sound(word, machine, Call::Inquire(zone));
+            let (answer, next) = plan.step_state_word(word, machine, Call::Inquire(zone));
             Performed {
                 word: next,
                 motors: 0,

@@ -20,7 +20,7 @@ use crate::row::Row;
 use crate::told::{Ends, are_sound, table_of};
 use plan_rules::LAST_STAMP;
 use plan_types::{Answer, Call, MAX_ZONES, Plan};
-use plan_word::{Layout, step_sound, step_word};
+use plan_word::{Layout, step_state_word, step_word};
 use std::marker::Model;
 
 /// The lowest bit of the stamp.
@@ -161,13 +161,13 @@ impl Compiled {
               packed self.now.table (next self.now.table state machine call),
             ) }
     {
-        step_sound(&self.plan, &self.layout(), word, machine, call)
+        step_state_word(&self.plan, &self.layout(), word, machine, call)
     }
 
     /// Makes a call on the word of a state of the plan. Returns the interlock's answer and the word of the state after
     /// it: the same word unless the answer is Done.
     #[inline(always)]
-    pub fn step_sound(&self, word: u64, machine: u8, call: Call) -> (Answer, u64)
+    pub fn step_state_word(&self, word: u64, machine: u8, call: Call) -> (Answer, u64)
         requires { (state : State) × IsOfPlan self.now.table state × (packed self.now.table state ≡ word) }
         ensures { (state : State) → IsOfPlan self.now.table state → packed self.now.table state ≡ word
             → result ≡ (
@@ -225,7 +225,7 @@ impl Compiled {
             ↔ ((state : State) → IsOfPlan self.now.table state → packed self.now.table state ≢ word) }
     {
         if self.is_state_word(word) {
-            Some(self.step_sound(word, machine, call))
+            Some(self.step_state_word(word, machine, call))
         } else {
             let (answer, new) = self.step_any(word, machine, call)?;
             Some((answer, new))

@@ -49,7 +49,7 @@ impl Rules for PlanRules {
     ghost book = { λ rules. plan_book rules.plan.table };
 
     fn step(&self, word: u64, actor: u8, call: Call) -> (Answer, u64) {
-        self.plan.step_sound(word, actor, call)
+        self.plan.step_state_word(word, actor, call)
     }
 
     fn is_done(&self, answer: Answer) -> bool {

@@ -1,4 +1,4 @@
-mod Told
+mod CallTexts
 mod Answering
 mod OwnPoses
 mod ScriptRows

@@ -12,7 +12,7 @@ use Rattle.plan_text.specs.Names.{Text, name_in, number_if, number_in}
 use Rattle.plan_text.specs.Named.{Named}
 use Rattle.plan_text.specs.Calls.{call_of, caller_of, own_pose, pose_if}
 use Rattle.plan_text.specs.declared.calls.Verb.TheVariants.{Pose}
-use Rattle.plan_text.proofs.Told.{found, passed}
+use Rattle.plan_text.proofs.CallTexts.{found, passed}
 
 pub comes_first : (n : Named) (machine pose : ℕ) (name : Text) → own_pose n machine name ≡ Some pose → call_of n machine Pose name ≡ Some (SetPose pose)
 comes_first n machine pose name e = ap (λ o. option_map SetPose (option_or o (number_in n.poses name))) e

@@ -24,7 +24,7 @@ use Rattle.plan_text.specs.Names.{Text, is_name_byte, is_reserved, name_in, numb
 use Rattle.plan_text.specs.TextLaws.{FirstOwnPosesCount, FirstsHaveNumbers, IsLetter, IsOfNames, IsTaken, TextsAreNames, TextsAreTaken, UnknownNamesCallNothing, WordsAreOfOne}
 use Rattle.plan_text.specs.declared.calls.Verb.{Verb}
 use Rattle.plan_text.specs.declared.calls.Verb.TheVariants.{Claim, Give, Yield, Take, Release, Inquire, Pose}
-use Rattle.plan_text.proofs.Told.{passed}
+use Rattle.plan_text.proofs.CallTexts.{passed}
 
 -- ---- names
 

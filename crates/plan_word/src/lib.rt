@@ -16,5 +16,5 @@ pub use answer::answer_word;
 pub use codes::{zone_code, zone_of_code};
 pub use layout::{Field, Layout};
 pub use sound::is_lawful_zone;
-pub use step::{step_sound, step_word};
+pub use step::{step_state_word, step_word};
 pub use word::{pack, stamp_of, unpack};

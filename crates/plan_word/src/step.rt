@@ -39,7 +39,13 @@ pub fn step_word(
 
 /// Makes a call on the word of a state of the plan, as `step_word` does. A refusal, or what an inquiry is shown, is
 /// read off the fields that the call looks at; the word is unpacked only for a call that is done.
-pub fn step_sound(plan: &Plan, layout: &Layout, word: u64, machine: u8, call: Call) -> (Answer, u64)
+pub fn step_state_word(
+    plan: &Plan,
+    layout: &Layout,
+    word: u64,
+    machine: u8,
+    call: Call,
+) -> (Answer, u64)
     requires layout { layout.now ≡ counts_of plan.now }
     requires word { (state : State) × IsOfPlan plan.now state × (packed plan.now state ≡ word) }
     ensures { (state : State) → IsOfPlan plan.now state → packed plan.now state ≡ word

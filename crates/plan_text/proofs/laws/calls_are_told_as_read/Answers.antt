@@ -1,4 +1,4 @@
-use Rattle.plan_text.proofs.Told.{told_as_read}
+use Rattle.plan_text.proofs.CallTexts.{told_as_read}
 use Rattle.plan_text.proofs.laws.calls_are_told_as_read.Goals as goal
 
 pub returns : goal.returns

@@ -6,7 +6,7 @@ use Rattle.plan_types.specs.Table.{PlanTable}
 use Rattle.plan_rules.specs.declared.state.State.{State}
 use Rattle.plan_rules.specs.Reply.{next, next_by}
 use Rattle.plan_word.specs.Packed.{packed}
-use Rattle.plan_word.proofs.step.step_sound.Goals as goal
+use Rattle.plan_word.proofs.step.step_state_word.Goals as goal
 
 unchanged : (t : PlanTable) (s : State) (m : ℕ) (c : Call) (a : Answer) → a ≢ Done → next_by a t s m c ≡ s
 unchanged t s m c Done n = absurd (n refl)
