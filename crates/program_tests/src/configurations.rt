@@ -2,19 +2,10 @@
 
 use super::doubles::read;
 use cell_config::{Config, ConfigFault};
-use cell_plant::Turn;
-use cell_rules::State;
-use cell_sensors::{Curve, Points};
-use cell_types::Machine;
+use cell_types::Place;
 use std::alloc::{AllocError, Global};
-use std::process::Abort;
 use std::test::Fail;
 use test_doubles::{FailingReader, count_parts, part};
-
-/// The points of an axis from 0 to `end`.
-fn axis(raw_lo: u16, raw_hi: u16, end: i32, tol: i32) -> Result<Points, Fail> {
-    Ok(Points::new(raw_lo, raw_hi, 0, end, tol)?)
-}
 
 /// What the fault line says of a text after `fault`, or `well`.
 fn judgement_of(alloc: Global, bytes: &[u8]) -> &'static str {
@@ -25,26 +16,15 @@ fn judgement_of(alloc: Global, bytes: &[u8]) -> &'static str {
     }
 }
 
-/// Checks how the text of each row is judged after this beginning. Bars separate the rows; in a row an arrow separates
-/// the text from its judgement.
-fn are_judged_after(
-    rt: &impl Abort,
-    alloc: Global,
-    begin: &str,
-    rows: &str,
-) -> Result<(), AllocError> {
-    for number in 0..count_parts(rows, "|") {
-        let row = part(rows, "|", number);
-        let mut text = String::from_str(alloc, begin)?;
-        text.push_str(part(row, " => ", 0))?;
-        let judgement = judgement_of(alloc, text.as_bytes());
-        assert!(rt; judgement == part(row, " => ", 1), "{row}");
-    }
-    Ok(())
+/// Whether the text of a row is judged so after this beginning. In a row an arrow separates the text from its
+/// judgement.
+fn is_judged_after(alloc: Global, begin: &str, row: &str) -> Result<bool, AllocError> {
+    let mut text = String::from_str(alloc, begin)?;
+    text.push_str(part(row, " => ", 0))?;
+    Ok(judgement_of(alloc, text.as_bytes()) == part(row, " => ", 1))
 }
 
-const START: &str = "start = \"0000000000\"\n";
-
+/// Whole texts. Bars separate the rows.
 const TEXTS: &str = "\
     \u{20}=> config missing|\
     stamp = -1 => config missing|\
@@ -68,13 +48,9 @@ const TEXTS: &str = "\
     start = \"0000110000\"\nstamp = \"0\" => config kind|\
     schedule = 5\nstart = \"0000110000\" => config start";
 
-#[test]
-fn refuses_texts(rt: HostRuntime) -> Result<(), AllocError> {
-    assert!(rt; judgement_of(rt.alloc(), b"\xff") == "config text");
-    are_judged_after(&rt, rt.alloc(), "", TEXTS)
-}
-
-const VALUES: &str = "\
+/// What stands beside a start: values that are refused, where arrays may be 80 deep, and not 81; values that are
+/// accepted; the forms of TOML 1.1, and their limits.
+const BESIDE_START: &str = "\
     stamp = 9223372036854775808 => config text|\
     stamp = 1e400 => config text|\
     stamp = 1.0 => config kind|\
@@ -120,9 +96,11 @@ const VALUES: &str = "\
         [40, 10], [44, 11], [48, 12], [52, 13], [56, 14], [60, 15], [64, 16], [68, 17], [72, 18], [76, 19], \
         [80, 20], [84, 21], [88, 22], [92, 23], [96, 24], [100, 25], [104, 26], [108, 27], [112, 28], [116, \
         29], [120, 30], [124, 31], [4000, 1000]] \
-        => config range";
-
-const LIMITS: &str = "\
+        => config range|\
+    arm1.raw = [[[[[[[[[[[[[[[[[[[[[[[[[[[[[[[[[[[[[[[[[[[[[[[[[[[[[[[[[[[[[[[[[[[[[[[[[[[[[[[[\
+        ]]]]]]]]]]]]]]]]]]]]]]]]]]]]]]]]]]]]]]]]]]]]]]]]]]]]]]]]]]]]]]]]]]]]]]]]]]]]]]]] => config kind|\
+    arm1.raw = [[[[[[[[[[[[[[[[[[[[[[[[[[[[[[[[[[[[[[[[[[[[[[[[[[[[[[[[[[[[[[[[[[[[[[[[[[[[[[[[[\
+        ]]]]]]]]]]]]]]]]]]]]]]]]]]]]]]]]]]]]]]]]]]]]]]]]]]]]]]]]]]]]]]]]]]]]]]]]]]]]]]]]] => config text|\
     \u{20}=> well|\
     stamp = 1048575 => well|\
     schedule = \"\" => well|\
@@ -138,15 +116,7 @@ const LIMITS: &str = "\
         [40, 10], [44, 11], [48, 12], [52, 13], [56, 14], [60, 15], [64, 16], [68, 17], [72, 18], [76, 19], \
         [80, 20], [84, 21], [88, 22], [92, 23], [96, 24], [100, 25], [104, 26], [108, 27], [112, 28], [116, \
         29], [120, 30], [4000, 1000]] \
-        => well";
-
-#[test]
-fn accepts_limits(rt: HostRuntime) -> Result<(), AllocError> {
-    are_judged_after(&rt, rt.alloc(), START, LIMITS)
-}
-
-// The forms of TOML 1.1, and their limits.
-const FORMS: &str = "\
+        => well|\
     stamp = 0x_7 => config text|\
     stamp = 0xF_F => well|\
     stamp = 0o17 => well|\
@@ -174,256 +144,211 @@ const FORMS: &str = "\
     arm1.raw = [[[[0]]]] => config kind|\
     # only a comment => well";
 
-#[test]
-fn judges_what_stands_beside_a_start(rt: HostRuntime) -> Result<(), AllocError> {
-    are_judged_after(&rt, rt.alloc(), START, VALUES)?;
-    are_judged_after(&rt, rt.alloc(), START, FORMS)
-}
+const START: &str = "start = \"0000000000\"\n";
 
-/// The judgement of a value with this depth of nested arrays.
-fn judgement_of_nested(rt: &impl Abort, alloc: Global, depth: usize) -> &'static str {
-    let text = String::from_str(alloc, "start = \"0000000000\"\narm1.raw = ");
-    let mut text = text.expect(rt, "memory");
-    for _ in 0..depth {
-        text.push_str("[").expect(rt, "memory");
+#[test]
+fn judges_texts(rt: HostRuntime) {
+    for number in 0..count_parts(TEXTS, "|") {
+        let row = part(TEXTS, "|", number);
+        assert!(rt; is_judged_after(rt.alloc(), "", row) == Ok(true), "{row}");
     }
-    for _ in 0..depth {
-        text.push_str("]").expect(rt, "memory");
-    }
-    judgement_of(alloc, text.as_bytes())
+    assert!(rt; judgement_of(rt.alloc(), b"\xff") == "config text");
 }
 
 #[test]
-fn reads_values_that_are_not_too_deep(rt: HostRuntime) {
-    assert!(rt; judgement_of_nested(&rt, rt.alloc(), 80) == "config kind");
-    assert!(rt; judgement_of_nested(&rt, rt.alloc(), 81) == "config text");
-}
-
-/// Whether a text gives this configuration.
-fn is_read_as(alloc: Global, text: &str, wanted: &Config) -> bool {
-    match read(alloc, &mut text.as_bytes()) {
-        Ok(config) => config == *wanted,
-        Err(_) => false,
+fn judges_what_stands_beside_a_start(rt: HostRuntime) {
+    for number in 0..count_parts(BESIDE_START, "|") {
+        let row = part(BESIDE_START, "|", number);
+        assert!(rt;
+            is_judged_after(rt.alloc(), START, row) == Ok(true),
+            "{row}"
+        );
     }
 }
 
-/// The configuration of a start, these turns, and curves that are the lines of these points.
-fn config_of(
-    alloc: Global,
-    start: State,
-    turns: &[Turn],
-    points: [Points; 5],
-) -> Result<Config, AllocError> {
-    let [arm1, arm2, rotation, turn, gripper] = points;
-    Ok(Config {
-        start,
-        schedule: turns.to_vec(alloc)?,
-        points,
-        curves: [
-            Curve::of_line(arm1),
-            Curve::of_line(arm2),
-            Curve::of_line(rotation),
-            Curve::of_line(turn),
-            Curve::of_line(gripper),
-        ],
-    })
+/// What a configuration says: the places with plates, the stamp, the turns, with a mark those that get Busy, and of
+/// each potentiometer both raw values, both positions and the tolerance.
+fn summary_of(alloc: Global, config: &Config) -> Result<String, AllocError> {
+    let mut text = String::new(alloc);
+    for place in &Place::ALL {
+        text.push_str(if config.start.is_full(*place) {
+            "1"
+        } else {
+            "0"
+        })?;
+    }
+    write!(text, " {}", config.start.stamp())?;
+    for turn in &config.schedule {
+        write!(
+            text,
+            " {}{}",
+            turn.machine.word(),
+            if turn.busy { "!" } else { "" }
+        )?;
+    }
+    for points in &config.points {
+        let (raw_lo, raw_hi, at_lo, at_hi) = (
+            points.raw_lo(),
+            points.raw_hi(),
+            points.at_lo(),
+            points.at_hi(),
+        );
+        write!(
+            text,
+            ", {raw_lo} to {raw_hi} {at_lo} to {at_hi} {}",
+            points.tol()
+        )?;
+    }
+    Ok(text)
 }
 
-#[test]
-fn gives_defaults(rt: HostRuntime) -> Result<(), Fail> {
-    let alloc = rt.alloc();
-    let points = [
-        axis(0, 4000, 1000, 5)?,
-        axis(0, 4000, 1000, 5)?,
-        axis(0, 4000, 2000, 5)?,
-        axis(0, 4000, 500, 5)?,
-        axis(0, 4000, 1000, 5)?,
-    ];
-    let wanted = config_of(alloc, State::start([false; 10], 0)?, &[], points)?;
-    assert!(rt; is_read_as(alloc, "start = \"0000000000\"", &wanted));
-    // A byte order mark at the beginning is dropped.
-    assert!(rt; is_read_as(alloc, "\u{feff}start = \"0000000000\"\n", &wanted));
-    Ok(())
-}
+/// Configurations, each with what it says: the defaults, also after a byte order mark; values; letters.
+const GIVEN: &str = "\
+    start = \"0000000000\" => 0000000000 0, 0 to 4000 0 to 1000 5, 0 to 4000 0 to 1000 5, \
+        0 to 4000 0 to 2000 5, 0 to 4000 0 to 500 5, 0 to 4000 0 to 1000 5|\
+    \u{feff}start = \"0000000000\"\n => 0000000000 0, 0 to 4000 0 to 1000 5, 0 to 4000 0 to 1000 5, \
+        0 to 4000 0 to 2000 5, 0 to 4000 0 to 500 5, 0 to 4000 0 to 1000 5|\
+    gripper.tol = 9\nschedule = \"pTf\"\nstamp = 7\nstart = \"0100000001\"\n\
+        [arm1]\nraw = [10, 1010]\n[arm2]\ntol = 2\n[rotation]\nraw = [0, 65535]\ntol = 3\n\
+        [turn]\ntol = 4\nraw = [100, 600]\n \
+        => 0100000001 7 press table! feed, 10 to 1010 0 to 1000 5, 0 to 4000 0 to 1000 2, \
+        0 to 65535 0 to 2000 3, 100 to 600 0 to 500 4, 0 to 4000 0 to 1000 9|\
+    start = \"0000000000\"\nschedule = \"ftrpdcwFTRPDCW\" \
+        => 0000000000 0 feed table robot press deposit crane watch \
+        feed! table! robot! press! deposit! crane! watch!, 0 to 4000 0 to 1000 5, 0 to 4000 0 to 1000 5, \
+        0 to 4000 0 to 2000 5, 0 to 4000 0 to 500 5, 0 to 4000 0 to 1000 5";
 
-/// The turn of a machine.
-fn turn(machine: Machine, busy: bool) -> Turn {
-    Turn { machine, busy }
+/// Whether a row's text says what the row has.
+fn is_given(alloc: Global, row: &str) -> Result<bool, Fail> {
+    let config = read(alloc, &mut part(row, " => ", 0).as_bytes())?;
+    Ok(summary_of(alloc, &config)?.as_str() == part(row, " => ", 1))
 }
 
 #[test]
 fn gives_what_is_written(rt: HostRuntime) -> Result<(), Fail> {
-    let alloc = rt.alloc();
-    let text = "gripper.tol = 9\nschedule = \"pTf\"\nstamp = 7\nstart = \"0100000001\"\n\
-        [arm1]\nraw = [10, 1010]\n[arm2]\ntol = 2\n[rotation]\nraw = [0, 65535]\ntol = 3\n\
-        [turn]\ntol = 4\nraw = [100, 600]\n";
-    let full = [
-        false, true, false, false, false, false, false, false, false, true,
-    ];
-    let turns = [
-        turn(Machine::Press, false),
-        turn(Machine::Table, true),
-        turn(Machine::Feed, false),
-    ];
-    let points = [
-        axis(10, 1010, 1000, 5)?,
-        axis(0, 4000, 1000, 2)?,
-        axis(0, 65535, 2000, 3)?,
-        axis(100, 600, 500, 4)?,
-        axis(0, 4000, 1000, 9)?,
-    ];
-    let wanted = config_of(alloc, State::start(full, 7)?, &turns, points)?;
-    assert!(rt; is_read_as(alloc, text, &wanted));
+    for number in 0..count_parts(GIVEN, "|") {
+        let row = part(GIVEN, "|", number);
+        assert!(rt; is_given(rt.alloc(), row)?, "{row}");
+    }
     Ok(())
 }
 
-/// The turns of the letters `ftrpdcwFTRPDCW`: in the last seven the machine gets Busy.
-const LETTERED: &[(Machine, bool)] = &[
-    (Machine::Feed, false),
-    (Machine::Table, false),
-    (Machine::Robot, false),
-    (Machine::Press, false),
-    (Machine::Deposit, false),
-    (Machine::Crane, false),
-    (Machine::Watch, false),
-    (Machine::Feed, true),
-    (Machine::Table, true),
-    (Machine::Robot, true),
-    (Machine::Press, true),
-    (Machine::Deposit, true),
-    (Machine::Crane, true),
-    (Machine::Watch, true),
-];
+/// Letters, each with the judgement of a schedule that has it so often. The last two are characters of two bytes.
+const LETTERS: &str = "\
+    p => well|\
+    p => config range|\
+    x => config range|\
+    é => config letter|\
+    é => config range";
 
-/// Whether turns are those of the letters.
-fn are_lettered(turns: &[Turn]) -> bool {
-    if turns.len() != LETTERED.len() {
-        return false;
-    }
-    for at in 0..LETTERED.len() {
-        let (machine, busy) = LETTERED[at];
-        if turns[at] != turn(machine, busy) {
-            return false;
-        }
-    }
-    true
-}
+const COUNTS: [usize; 5] = [1_000_000, 1_000_001, 1_000_001, 1_000_000, 1_000_001];
 
-#[test]
-fn reads_letters(rt: HostRuntime) {
-    let text = "start = \"0000000000\"\nschedule = \"ftrpdcwFTRPDCW\"";
-    let config = read(rt.alloc(), &mut text.as_bytes()).expect(&rt, "a configuration");
-    assert!(rt; are_lettered(config.schedule.as_slice()));
-}
-
-/// The number of turns that a schedule of one repeated letter gives, or its fault.
-fn count_turns(
-    rt: &impl Abort,
+/// The judgement of a schedule of one repeated letter. It is well only if it gives so many turns.
+fn judgement_of_letters(
     alloc: Global,
     letter: &str,
     count: usize,
-) -> Result<usize, ConfigFault> {
-    let text = String::from_str(alloc, "start = \"0000000000\"\nschedule = \"");
-    let mut text = text.expect(rt, "memory");
-    let letters = letter.repeat(alloc, count).expect(rt, "memory");
-    text.push_str(letters.as_str()).expect(rt, "memory");
-    text.push_str("\"").expect(rt, "memory");
-    match read(alloc, &mut text.as_bytes()) {
-        Ok(config) => Ok(config.schedule.len()),
-        Err(fault) => Err(fault),
-    }
+) -> Result<&'static str, AllocError> {
+    let letters = letter.repeat(alloc, count)?;
+    let text = format!(in alloc; "start = \"0000000000\"\nschedule = \"{letters}\"")?;
+    Ok(match read(alloc, &mut text.as_bytes()) {
+        Ok(config) => {
+            if config.schedule.len() == count {
+                "well"
+            } else {
+                "other turns"
+            }
+        }
+        Err(fault) => fault.text(),
+    })
 }
-
-// A letter, how often the schedule has it, and the number of turns that it gives.
-const COUNTED: &[(&str, usize, Result<usize, ConfigFault>)] = &[
-    ("p", 1_000_000, Ok(1_000_000)),
-    ("p", 1_000_001, Err(ConfigFault::Range)),
-    ("x", 1_000_001, Err(ConfigFault::Range)),
-    // Characters of two bytes each.
-    ("é", 1_000_000, Err(ConfigFault::Letter)),
-    ("é", 1_000_001, Err(ConfigFault::Range)),
-];
 
 #[test]
 fn counts_letters(rt: HostRuntime) {
-    for (letter, count, wanted) in COUNTED {
-        let counted = count_turns(&rt, rt.alloc(), letter, *count);
-        assert!(rt; counted == *wanted, "{count} {letter}");
+    for (number, count) in COUNTS.iter().enumerate() {
+        let row = part(LETTERS, "|", number);
+        let judgement = judgement_of_letters(rt.alloc(), part(row, " => ", 0), *count);
+        assert!(rt; judgement == Ok(part(row, " => ", 1)), "{count} {row}");
     }
 }
 
-/// A start, then this number of spaces, and then the last text.
-fn text_with_spaces(rt: &impl Abort, alloc: Global, spaces: usize, last: &str) -> String {
-    let mut text = String::from_str(alloc, "start = \"0000000000\"\n").expect(rt, "memory");
-    let blanks = " ".repeat(alloc, spaces).expect(rt, "memory");
-    text.push_str(blanks.as_str()).expect(rt, "memory");
-    text.push_str(last).expect(rt, "memory");
-    text
-}
-
-/// Whether a text is refused as too long, and all of it but this rest is read.
-fn is_read_up_to(alloc: Global, text: &str, rest: &str) -> bool {
+/// Whether a start, then this number of spaces, and then the last text are judged so, and all but this rest is read.
+fn is_read_up_to(alloc: Global, spaces: usize, last: &str, judgement: &str) -> Result<bool, Fail> {
+    let blanks = " ".repeat(alloc, spaces)?;
+    let text = format!(in alloc; "{START}{blanks}{last}")?;
     let mut reader = text.as_bytes();
-    let fault = read(alloc, &mut reader).err();
-    fault == Some(ConfigFault::Long) && reader == rest.as_bytes()
+    let found = match read(alloc, &mut reader) {
+        Ok(_) => "well",
+        Err(fault) => fault.text(),
+    };
+    Ok(found == judgement && reader == last.as_bytes())
 }
 
-/// Whether a text is as long as one may be, and is read, at once and a byte at a time.
-fn is_longest(alloc: Global, text: &str) -> bool {
+/// Whether the longest text is read a byte at a time.
+fn is_read_bytewise(alloc: Global) -> Result<bool, Fail> {
+    let blanks = " ".repeat(alloc, 2_097_131)?;
+    let text = format!(in alloc; "{START}{blanks}")?;
     let mut bytewise = FailingReader::new(text.as_bytes(), usize::MAX);
-    text.len() == 2_097_152
-        && judgement_of(alloc, text.as_bytes()) == "well"
-        && read(alloc, &mut bytewise).is_ok()
+    Ok(text.len() == 2_097_152 && read(alloc, &mut bytewise).is_ok())
 }
 
 #[test]
-fn reads_no_more_than_it_may(rt: HostRuntime) {
-    let longest = text_with_spaces(&rt, rt.alloc(), 2_097_131, "");
-    assert!(rt; is_longest(rt.alloc(), longest.as_str()));
-    let longer = text_with_spaces(&rt, rt.alloc(), 2_097_132, "");
-    assert!(rt; judgement_of(rt.alloc(), longer.as_bytes()) == "config long");
-    let after = text_with_spaces(&rt, rt.alloc(), 2_097_132, "after");
-    assert!(rt; is_read_up_to(rt.alloc(), after.as_str(), "after"));
+fn reads_no_more_than_it_may(rt: HostRuntime) -> Result<(), Fail> {
+    assert!(rt;
+        is_read_bytewise(rt.alloc())?
+            && is_read_up_to(rt.alloc(), 2_097_131, "", "well")?
+            && is_read_up_to(rt.alloc(), 2_097_132, "", "config long")?
+            && is_read_up_to(rt.alloc(), 2_097_132, "after", "config long")?
+    );
+    Ok(())
 }
 
-/// Whether a configuration is the one that was written, or memory ran out.
-fn is_read_or_memory(read: &Result<Config, ConfigFault>) -> bool {
-    match read {
+/// Whether a configuration is the one that is written, or memory runs out.
+fn is_read_or_memory(alloc: Global, text: &str) -> bool {
+    match read(alloc, &mut text.as_bytes()) {
         Ok(config) => {
             config.start.stamp() == 3
                 && config.start.plates() == 1
                 && config.schedule.len() == 2
                 && config.points[0].tol() == 2
         }
-        Err(fault) => *fault == ConfigFault::Memory,
+        Err(fault) => fault == ConfigFault::Memory,
     }
 }
 
 #[test]
 fn reads_without_memory(rt: HostRuntime) {
     let text = "start = \"0100000000\"\nstamp = 3\nschedule = \"pP\"\narm1.tol = 2\n";
-    assert!(rt; is_read_or_memory(&read(rt.alloc(), &mut text.as_bytes())));
     let other = judgement_of(rt.alloc(), b"start = \"0100000000\"\nschedule = \"pPx\"\n");
-    assert!(rt; other == "config letter" || other == "memory");
+    let is_told = other == "config letter" || other == "memory";
+    assert!(rt; is_told && is_read_or_memory(rt.alloc(), text));
 }
 
-const FAULTS: &[(ConfigFault, &str)] = &[
-    (ConfigFault::Read, "read"),
-    (ConfigFault::Long, "config long"),
-    (ConfigFault::Text, "config text"),
-    (ConfigFault::Unknown, "config unknown"),
-    (ConfigFault::Missing, "config missing"),
-    (ConfigFault::Kind, "config kind"),
-    (ConfigFault::Start, "config start"),
-    (ConfigFault::Range, "config range"),
-    (ConfigFault::Letter, "config letter"),
-    (ConfigFault::Memory, "memory"),
+/// All faults, in the order of their texts.
+const FAULTS: [ConfigFault; 10] = [
+    ConfigFault::Read,
+    ConfigFault::Long,
+    ConfigFault::Text,
+    ConfigFault::Unknown,
+    ConfigFault::Missing,
+    ConfigFault::Kind,
+    ConfigFault::Start,
+    ConfigFault::Range,
+    ConfigFault::Letter,
+    ConfigFault::Memory,
 ];
 
+const FAULT_TEXTS: &str = "\
+read|config long|config text|config unknown|config missing|config kind|config start|config range|config letter|memory";
+
 #[test]
-fn prints_faults(rt: HostRuntime) {
-    for (fault, text) in FAULTS {
-        let printed = fault.to_string(rt.alloc()).expect(&rt, "memory");
-        assert!(rt; printed.as_str() == *text, "{text}");
+fn prints_faults(rt: HostRuntime) -> Result<(), AllocError> {
+    for (number, fault) in FAULTS.iter().enumerate() {
+        let printed = fault.to_string(rt.alloc())?;
+        assert!(rt;
+            printed.as_str() == part(FAULT_TEXTS, "|", number),
+            "{printed}"
+        );
     }
+    Ok(())
 }

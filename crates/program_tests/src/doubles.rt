@@ -1,4 +1,4 @@
-//! The calls of the rows, a reader that counts lines, and a writer that fails at a flush.
+//! The calls of the rows, the inputs of the program, a reader that counts lines, and a writer that fails at a flush.
 
 use cell_app::serve::serve;
 use cell_config::{Config, ConfigFault, read_config};
@@ -7,7 +7,33 @@ use std::io;
 use std::io::{ErrorKind, Read, Write};
 use std::sync::Wait;
 use std::thread::Threads;
-use test_doubles::words_in;
+use test_doubles::{part, words_in};
+
+/// A script.
+pub const SCRIPT: &str =
+    "start,0000000000\npress,claim,z3\nrobot,claim,z3\npress,release,z3\nrobot,claim,z3\nwatch,inquire,z3\n";
+
+/// The configuration of a run of the press alone.
+pub const PRESS: &str = "start = \"0000000000\"\nschedule = \"ppppppppppppppppppppppppppppppp\"\n";
+
+/// A configuration without plates.
+pub const EMPTY: &str = "start = \"0000000000\"\n";
+
+/// The line of words of a run whose report doesn't depend on the order of the workers' turns: no call can lose 64
+/// exchanges in three turns.
+pub const RUN: &str = "cell run --turns 3 --tries 64";
+
+/// An input that is taken for a line of words: the press's schedule is simulated, an empty cell is run, and a script is
+/// replayed.
+pub fn input_of(line: &str) -> &'static str {
+    if line.starts_with("cell sim") {
+        PRESS
+    } else if line == RUN {
+        EMPTY
+    } else {
+        SCRIPT
+    }
+}
 
 /// The exit status of a run of the program. It has no clauses, so the rows don't carry those of
 /// `serve`.
@@ -35,30 +61,39 @@ pub fn run_line<T: Threads + Wait + Sync, R: Read, W: Write>(
     }
 }
 
-/// Whether the program answers these words and what a reader gives with this status and this text.
+/// The status and the text of a line of words and an input.
+pub fn printed<T: Threads + Wait + Sync>(
+    rt: &T,
+    alloc: Global,
+    line: &str,
+    input: &str,
+) -> (u8, Vec<u8>) {
+    let mut written = Vec::new(alloc);
+    let status = run_line(rt, alloc, line, &mut input.as_bytes(), &mut written);
+    (status, written)
+}
+
+/// Whether the program answers a line of words and what a reader gives with this status and this text.
 pub fn is_answered<T: Threads + Wait + Sync, R: Read>(
     rt: &T,
     alloc: Global,
-    words: &[&str],
+    line: &str,
     reader: &mut R,
     status: u8,
     text: &str,
 ) -> bool {
     let mut written = Vec::new(alloc);
-    let answered = run(rt, alloc, words, reader, &mut written);
+    let answered = run_line(rt, alloc, line, reader, &mut written);
     answered == status && written.as_slice() == text.as_bytes()
 }
 
-/// Whether the program answers these words and this input with this status and this text.
-pub fn is_served<T: Threads + Wait + Sync>(
-    rt: &T,
-    alloc: Global,
-    words: &[&str],
-    input: &str,
-    status: u8,
-    text: &str,
-) -> bool {
-    is_answered(rt, alloc, words, &mut input.as_bytes(), status, text)
+/// Whether the program answers a row: a line of words, the status as a digit, an input, and the text, with arrows
+/// between them.
+pub fn is_row<T: Threads + Wait + Sync>(rt: &T, alloc: Global, row: &str) -> bool {
+    let (status, written) = printed(rt, alloc, part(row, " => ", 0), part(row, " => ", 2));
+    let digit = [b'0'.wrapping_add(status)];
+    part(row, " => ", 1).as_bytes() == digit.as_slice()
+        && written.as_slice() == part(row, " => ", 3).as_bytes()
 }
 
 /// The configuration that a reader gives, or its first fault; also without clauses.

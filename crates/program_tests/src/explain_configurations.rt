@@ -1,6 +1,8 @@
 //! Configurations as people write them: texts that are no TOML, the keys `start`, `stamp` and
 //! `schedule`. Bars separate the rows; in a row arrows separate the text, its explanation, and what it shows.
 
+use super::explain_keys::KEYS;
+use super::explain_sections::SECTIONS;
 use cell_replay::ReplayFault;
 use explain_app::{Verdict, explain_configuration};
 use std::alloc::{AllocError, Global};
@@ -95,21 +97,8 @@ const NO_TOML: &str = "\
         => config text: line 4: it is no TOML: missing comma between key-value pairs, expected `,` or `}`; \
         the value of \"tol\" begins on line 3\n";
 
-/// What is no UTF-8.
-const RAW: &[(&[u8], &str)] = &[
-    (
-        b"start = \"0100000000\"\nschedule = \"t\xff\"\n",
-        "config text: line 2: it is no TOML: invalid UTF-8\n",
-    ),
-    // a carriage return alone ends no line
-    (
-        b"# \r\nstart = \"0100000000\" # \r\n# \rschedule = \"t\xff\"\n",
-        "config text: line 3: it is no TOML: invalid UTF-8\n",
-    ),
-];
-
 /// Whether the configuration of a row gets the row's explanation, if this stands before it.
-pub fn is_row(alloc: Global, begin: &str, row: &str) -> Result<bool, AllocError> {
+fn is_row(alloc: Global, begin: &str, row: &str) -> Result<bool, AllocError> {
     let mut text = String::from_str(alloc, begin)?;
     text.push_str(part(row, " => ", 0))?;
     Ok(is_explained(alloc, text.as_bytes(), part(row, " => ", 1)))
@@ -117,13 +106,31 @@ pub fn is_row(alloc: Global, begin: &str, row: &str) -> Result<bool, AllocError>
 
 #[test]
 fn explains_configurations(rt: HostRuntime) {
-    for rows in [ROWS, LETTERS, NO_TOML] {
+    let start = "start = \"0100000000\"\n";
+    for (begin, rows) in [
+        ("", ROWS),
+        ("", LETTERS),
+        ("", NO_TOML),
+        ("", KEYS),
+        (start, SECTIONS),
+    ] {
         for number in 0..count_parts(rows, "|") {
             let row = part(rows, "|", number);
-            assert!(rt; is_row(rt.alloc(), "", row) == Ok(true), "{row}");
+            assert!(rt; is_row(rt.alloc(), begin, row) == Ok(true), "{row}");
         }
     }
-    for (text, wanted) in RAW {
-        assert!(rt; is_explained(rt.alloc(), text, wanted), "{wanted}");
-    }
+    // a carriage return alone ends no line
+    let raw = b"start = \"0100000000\"\nschedule = \"t\xff\"\n".as_slice();
+    let other = b"# \r\nstart = \"0100000000\" # \r\n# \rschedule = \"t\xff\"\n".as_slice();
+    assert!(rt;
+        is_explained(
+            rt.alloc(),
+            raw,
+            "config text: line 2: it is no TOML: invalid UTF-8\n"
+        ) && is_explained(
+            rt.alloc(),
+            other,
+            "config text: line 3: it is no TOML: invalid UTF-8\n"
+        )
+    );
 }

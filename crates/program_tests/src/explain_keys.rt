@@ -1,10 +1,7 @@
 //! Keys that are unknown where they stand.
 
-use super::explain_configurations::is_row;
-use test_doubles::{count_parts, part};
-
 /// Configurations, each with its explanation.
-const ROWS: &str = "\
+pub const KEYS: &str = "\
     start = \"0100000000\"\nt = 3\n \
         => config unknown: line 2: \"t\" is no key here; known are: start stamp schedule arm1 arm2 rotation \
         turn gripper\n \
@@ -37,11 +34,3 @@ const ROWS: &str = "\
         => config unknown: line 4: stamp stands in the section turn; move it above the first section\n|\
     start = \"0100000000\"\n[arm1]\narm2.tol = 5\n \
         => config unknown: line 3: arm2 stands in the section arm1; its own head is [arm2]\n";
-
-#[test]
-fn explains_keys(rt: HostRuntime) {
-    for number in 0..count_parts(ROWS, "|") {
-        let row = part(ROWS, "|", number);
-        assert!(rt; is_row(rt.alloc(), "", row) == Ok(true), "{row}");
-    }
-}

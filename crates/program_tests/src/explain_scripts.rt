@@ -2,7 +2,7 @@
 
 use explain_app::{Verdict, explain_script};
 use std::alloc::Global;
-use test_doubles::{count_parts, part};
+use test_doubles::{bytes_in, count_parts, part};
 
 /// Scripts, each with its explanation; empty for one that isn't refused.
 const ROWS: &str = "\
@@ -176,27 +176,19 @@ const BYTES: &str = "\
         script: it has bytes 0; is the file UTF-16? Save it as UTF-8; known are: start start2; a script \
         begins with a start, such as start,0000000000\n";
 
-/// Scripts that aren't UTF-8.
-const RAW: &[(&[u8], &str)] = &[
-    (
-        b"start,0000000000\n\xffaaaaaaaaaaaaaaaaaaaaaaaaaaaaaaaaaaaaaaa,claim,z3\n",
-        "record 1, line 2, field 1: \"\\xffaaaaaaaaaaaaaaaaaaaaaaaaaaaaaaaaaaaaaaa\" is no machine; known \
-        are: feed table robot press deposit crane watch\n",
-    ),
-    (
-        b"start,0000000000\n\xffaaaaaaaaaaaaaaaaaaaaaaaaaaaaaaaaaaaaaaaa,claim,z3\n",
-        "record 1, line 2, field 1: \"\\xffaaaaaaaaaaaaaaaaaaaaaaaaaaaaaaaaaaaaaaa..\" is no machine; known \
-        are: feed table robot press deposit crane watch\n",
-    ),
-    (
-        b"start,0000000000\npress,claim,z\xff\n",
-        "record 1, line 2, field 3: \"z\\xff\" is no zone; known are: z1 z2 z3 z4 z5 z6\n",
-    ),
-    (
-        b"\xff\xfes\0t\0",
-        "record 0, line 1: the script seems to be UTF-16; save it as UTF-8\n",
-    ),
-];
+const ALL: &[&str] = &[ROWS, LINES, STARTS, CALLS, LOOKS, BYTES];
+
+/// Scripts that aren't UTF-8: each character stands for a byte.
+const RAW: &str = "\
+    start,0000000000\n\u{ff}aaaaaaaaaaaaaaaaaaaaaaaaaaaaaaaaaaaaaaa,claim,z3\n \
+        => record 1, line 2, field 1: \"\\xffaaaaaaaaaaaaaaaaaaaaaaaaaaaaaaaaaaaaaaa\" is no machine; known \
+        are: feed table robot press deposit crane watch\n|\
+    start,0000000000\n\u{ff}aaaaaaaaaaaaaaaaaaaaaaaaaaaaaaaaaaaaaaaa,claim,z3\n \
+        => record 1, line 2, field 1: \"\\xffaaaaaaaaaaaaaaaaaaaaaaaaaaaaaaaaaaaaaaa..\" is no machine; known \
+        are: feed table robot press deposit crane watch\n|\
+    start,0000000000\npress,claim,z\u{ff}\n \
+        => record 1, line 2, field 3: \"z\\xff\" is no zone; known are: z1 z2 z3 z4 z5 z6\n|\
+    \u{ff}\u{fe}s\0t\0 => record 0, line 1: the script seems to be UTF-16; save it as UTF-8\n";
 
 /// Whether a script gets this explanation; empty for one that isn't refused.
 pub fn is_explained(alloc: Global, script: &[u8], wanted: &str) -> bool {
@@ -213,15 +205,24 @@ fn is_row(alloc: Global, row: &str) -> bool {
     is_explained(alloc, script.as_bytes(), part(row, " => ", 1))
 }
 
+/// The same, if each character stands for a byte.
+fn is_row_of_bytes(alloc: Global, row: &str) -> bool {
+    match bytes_in(alloc, part(row, " => ", 0)) {
+        Ok(script) => is_explained(alloc, script.as_slice(), part(row, " => ", 1)),
+        Err(_) => false,
+    }
+}
+
 #[test]
 fn explains_scripts(rt: HostRuntime) {
-    for rows in [ROWS, LINES, STARTS, CALLS, LOOKS, BYTES] {
+    for rows in ALL {
         for number in 0..count_parts(rows, "|") {
             let row = part(rows, "|", number);
             assert!(rt; is_row(rt.alloc(), row), "{row:?}");
         }
     }
-    for (script, wanted) in RAW {
-        assert!(rt; is_explained(rt.alloc(), script, wanted), "{wanted}");
+    for number in 0..count_parts(RAW, "|") {
+        let row = part(RAW, "|", number);
+        assert!(rt; is_row_of_bytes(rt.alloc(), row), "{row:?}");
     }
 }

@@ -1,10 +1,7 @@
 //! Sections that are refused. Each text stands below a line with a good start.
 
-use super::explain_configurations::is_row;
-use test_doubles::{count_parts, part};
-
 /// A section's text, and what is said of it.
-const ROWS: &str = "\
+pub const SECTIONS: &str = "\
     [arm1]\nraw = [0, 4000]\n[turn]\nraw = [0, 499]\n \
         => config range: line 5: raw of turn is out of range: it takes two numbers from 0 to 65535, the \
         second greater by 500 or more\n \
@@ -80,12 +77,3 @@ const ROWS: &str = "\
         => config range: line 5: tol of turn is out of range: it takes 1 to 10\n|\
     [arm1]\npoints = [ # ] \"\n  [0, 0], # '''\n  [4000, 1000],\n]\n[turn]\ntol = 0\n \
         => config range: line 8: tol of turn is out of range: it takes 1 to 10\n";
-
-#[test]
-fn explains_sections(rt: HostRuntime) {
-    for number in 0..count_parts(ROWS, "|") {
-        let row = part(ROWS, "|", number);
-        let is_right = is_row(rt.alloc(), "start = \"0100000000\"\n", row);
-        assert!(rt; is_right == Ok(true), "{row}");
-    }
-}

@@ -3,77 +3,95 @@
 use explain_app::serve::{serve, start};
 use program_shell::VERSION;
 use std::alloc::Global;
+use std::io::{Read, Write};
 use std::test::Fail;
-use test_doubles::{FailingReader, FailingWriter, Given, count_parts, part, words_in};
+use test_doubles::{
+    FailingReader, FailingWriter, Given, arguments_in, count_parts, part, words_in,
+};
 
-/// A script that is taken. As a configuration it is no TOML.
-const SCRIPT: &str = "start,0000000000\npress,claim,z3\n";
+/// Lines of words with semicolons between them, an input, and its explanation; empty for one that isn't refused. Each
+/// line explains the input so. A script that is taken is no TOML as a configuration, and a configuration that is taken
+/// has no start as a script.
+const ROWS: &str = "\
+    explain;explain replay => start,0000000000\npress,claim,z3\n => |\
+    explain;explain replay => start,0000000000\npress,clam,z3\n \
+        => record 1, line 2, field 2: \"clam\" is no verb; did you mean \"claim\"?\n|\
+    explain;explain replay => start = \"0100000000\"\n \
+        => record 0, line 1, field 1: \"start = \\\"0100000000\\\"\" is no word that begins a script: it has a \
+        quote; known are: start start2; a script begins with a start, such as start,0000000000\n|\
+    explain sim;explain run => start = \"0100000000\"\n => |\
+    explain sim;explain run;explain run --turns 3 => start = \"0100000000\"\nstamp = -1\n \
+        => config range: line 2: stamp is out of range: it takes 0 to 1048575\n|\
+    explain sim;explain run;explain run --turns 3 => start,0000000000\npress,claim,z3\n \
+        => config text: line 1: it is no TOML: key with no value, expected `=`\n";
 
-/// A script that is refused.
-const BAD_SCRIPT: &str = "start,0000000000\npress,clam,z3\n";
+/// The status of a line of words; 255 if there is no memory for them.
+fn status_of<R: Read, W: Write>(alloc: Global, line: &str, reader: &mut R, writer: &mut W) -> u8 {
+    match words_in(alloc, line) {
+        Ok(words) => serve(alloc, words.as_slice(), reader, writer),
+        Err(_) => 255,
+    }
+}
 
-const OF_BAD_SCRIPT: &str =
-    "record 1, line 2, field 2: \"clam\" is no verb; did you mean \"claim\"?\n";
+/// The status of the program that is started by a line of words with this name in place of the first.
+fn status_of_start<'a>(
+    alloc: Global,
+    name: &'a [u8],
+    line: &'a str,
+    input: &str,
+    written: &mut Vec<u8>,
+) -> u8 {
+    match arguments_in(alloc, line) {
+        Ok(mut arguments) => {
+            if let Some(first) = arguments.first_mut() {
+                *first = name;
+            }
+            let arguments = arguments.as_slice();
+            start(alloc, &Given { arguments }, &mut input.as_bytes(), written)
+        }
+        Err(_) => 255,
+    }
+}
 
-/// A configuration that is taken. As a script it has no start.
-const CONFIG: &str = "start = \"0100000000\"\n";
-
-const CONFIG_AS_SCRIPT: &str =
-    "record 0, line 1, field 1: \"start = \\\"0100000000\\\"\" is no word that begins a script: \
-    it has a quote; known are: start start2; a script begins with a start, such as start,0000000000\n";
-
-const SCRIPT_AS_CONFIG: &str =
-    "config text: line 1: it is no TOML: key with no value, expected `=`\n";
-
-/// A configuration that is refused.
-const BAD_CONFIG: &str = "start = \"0100000000\"\nstamp = -1\n";
-
-const OF_BAD_CONFIG: &str = "config range: line 2: stamp is out of range: it takes 0 to 1048575\n";
-
-/// Words, an input, the exit status and the text.
-const SERVED: &[(&[&str], &str, u8, &str)] = &[
-    (&["explain"], SCRIPT, 0, ""),
-    (&["explain"], BAD_SCRIPT, 1, OF_BAD_SCRIPT),
-    (&["explain"], CONFIG, 1, CONFIG_AS_SCRIPT),
-    (&["explain", "replay"], SCRIPT, 0, ""),
-    (&["explain", "replay"], BAD_SCRIPT, 1, OF_BAD_SCRIPT),
-    (&["explain", "replay"], CONFIG, 1, CONFIG_AS_SCRIPT),
-    (&["explain", "sim"], CONFIG, 0, ""),
-    (&["explain", "sim"], BAD_CONFIG, 1, OF_BAD_CONFIG),
-    (&["explain", "sim"], SCRIPT, 1, SCRIPT_AS_CONFIG),
-    (&["explain", "run"], CONFIG, 0, ""),
-    (&["explain", "run"], BAD_CONFIG, 1, OF_BAD_CONFIG),
-    (&["explain", "run"], SCRIPT, 1, SCRIPT_AS_CONFIG),
-    (
-        &["explain", "run", "--turns", "3"],
-        BAD_CONFIG,
-        1,
-        OF_BAD_CONFIG,
-    ),
-];
-
-/// Whether words and an input are answered with this status and this text.
-fn is_served(alloc: Global, words: &[&str], input: &str, status: u8, text: &str) -> bool {
-    let mut reader = input.as_bytes();
+/// Whether a line of words and an input are answered with this explanation, and so is the program that is started by
+/// them, whatever its name is.
+fn is_explained(alloc: Global, line: &str, input: &str, text: &str) -> bool {
     let mut written = Vec::new(alloc);
-    let answered = serve(alloc, words, &mut reader, &mut written);
-    answered == status && written.as_slice() == text.as_bytes()
+    let mut started = Vec::new(alloc);
+    let status = status_of(alloc, line, &mut input.as_bytes(), &mut written);
+    status == u8::from(!text.is_empty())
+        && status == status_of_start(alloc, b"bad\xff", line, input, &mut started)
+        && written.as_slice() == text.as_bytes()
+        && started.as_slice() == text.as_bytes()
+}
+
+/// Whether each line of a row explains its input so.
+fn is_row(alloc: Global, row: &str) -> bool {
+    let lines = part(row, " => ", 0);
+    for number in 0..count_parts(lines, ";") {
+        let line = part(lines, ";", number);
+        if !is_explained(alloc, line, part(row, " => ", 1), part(row, " => ", 2)) {
+            return false;
+        }
+    }
+    true
 }
 
 #[test]
 fn serves(rt: HostRuntime) {
-    for (words, input, status, text) in SERVED {
-        assert!(rt;
-            is_served(rt.alloc(), words, input, *status, text),
-            "{words:?} {input}"
-        );
+    for number in 0..count_parts(ROWS, "|") {
+        let row = part(ROWS, "|", number);
+        assert!(rt; is_row(rt.alloc(), row), "{row}");
     }
 }
+
+/// A script that is refused.
+const SCRIPT: &str = "start,0000000000\npress,clam,z3\n";
 
 const OTHER_WORDS: &str =
     "error: the only arguments are replay, sim, run, --turns N, --tries N, --help and --version\n";
 
-/// Lines of words that explain nothing, with bars between the lines; the exit status, and how the text begins.
+/// Lines of words that explain nothing, the exit status, and how the text begins.
 const OTHERS: [(&str, u8, &str); 3] = [
     (
         HELPED,
@@ -103,13 +121,10 @@ const ASTRAY: &str = "\
 
 /// Whether a line of words is answered with this status and a text that begins so, and nothing is read.
 fn is_told(alloc: Global, line: &str, status: u8, begins: &str) -> bool {
-    let Ok(words) = words_in(alloc, line) else {
-        return false;
-    };
-    let mut reader = BAD_SCRIPT.as_bytes();
+    let mut reader = SCRIPT.as_bytes();
     let mut written = Vec::new(alloc);
-    let answered = serve(alloc, words.as_slice(), &mut reader, &mut written);
-    let is_unread = reader.len() == BAD_SCRIPT.len();
+    let answered = status_of(alloc, line, &mut reader, &mut written);
+    let is_unread = reader.len() == SCRIPT.len();
     answered == status && is_unread && written.as_slice().starts_with(begins.as_bytes())
 }
 
@@ -124,103 +139,61 @@ fn serves_other_words(rt: HostRuntime) {
 }
 
 #[test]
-fn prints_its_version(rt: HostRuntime) -> Result<(), Fail> {
-    let wanted = format!(in rt.alloc(); "explain {VERSION}\n")?;
-    assert!(rt;
-        is_served(
-            rt.alloc(),
-            &["explain", "--version"],
-            BAD_SCRIPT,
-            0,
-            &wanted
-        )
+fn prints_its_version_or_refuses_bytes(rt: HostRuntime) -> Result<(), Fail> {
+    let version = format!(in rt.alloc(); "explain {VERSION}\n")?;
+    let env = Given {
+        arguments: &[b"./explain", b"\xff"],
+    };
+    let mut written = Vec::new(rt.alloc());
+    let mut refused = Vec::new(rt.alloc());
+    let of_version = status_of(
+        rt.alloc(),
+        "explain --version",
+        &mut "".as_bytes(),
+        &mut written,
     );
+    let of_bytes = start(rt.alloc(), &env, &mut SCRIPT.as_bytes(), &mut refused);
+    assert!(rt; of_version == 0 && written.as_slice() == version.as_bytes());
+    assert!(rt; of_bytes == 2 && refused.as_slice() == b"error: a word isn't UTF-8\n".as_slice());
     Ok(())
 }
 
-/// The status and the text after a read that fails when these bytes are read.
-fn is_silent(alloc: Global, words: &[&str], bytes: &str) -> bool {
-    let mut reader = FailingReader::new(bytes.as_bytes(), bytes.len());
-    let mut written = Vec::new(alloc);
-    let answered = serve(alloc, words, &mut reader, &mut written);
-    answered == 3 && written.is_empty()
-}
-
-/// Words, an input and a status, with which something is written: all that a writer takes that takes
-/// less.
-const WRITTEN: &[(&[&str], &str, u8, &str)] = &[
-    (&["explain"], BAD_SCRIPT, 3, OF_BAD_SCRIPT),
-    (&["explain", "sim"], BAD_CONFIG, 3, OF_BAD_CONFIG),
-    (
-        &["explain", "--help"],
-        "",
-        3,
-        "Says what is wrong with an input",
-    ),
-    (&["explain", "--version"], "", 3, "explain "),
-    (&["explain", "simulate"], "", 2, OTHER_WORDS),
-];
-
-/// Whether the status is this for a writer that takes this number of bytes, and it got the first of
-/// this text.
-fn is_cut(alloc: Global, words: &[&str], input: &str, status: u8, text: &str, left: usize) -> bool {
+/// Whether a writer that fails after this number of bytes leads to the status of a failure, or of refused words, and
+/// has taken as many bytes of the text.
+fn is_cut(alloc: Global, line: &str, input: &str, left: usize) -> bool {
+    let mut whole = Vec::new(alloc);
     let mut writer = FailingWriter::new(alloc, left);
-    let answered = serve(alloc, words, &mut input.as_bytes(), &mut writer);
-    answered == status
-        && writer.taken.len() == left
-        && text.as_bytes().starts_with(writer.taken.as_slice())
+    let status = status_of(alloc, line, &mut input.as_bytes(), &mut whole);
+    let answered = status_of(alloc, line, &mut input.as_bytes(), &mut writer);
+    let taken = writer.taken.as_slice();
+    answered == (if status == 2 { 2 } else { 3 })
+        && taken.len() == left
+        && whole.as_slice().starts_with(taken)
 }
+
+/// Whether a read that fails when these bytes are read leads to the status of a failure, and nothing is written.
+fn is_silent(alloc: Global, line: &str, input: &str) -> bool {
+    let mut reader = FailingReader::new(input.as_bytes(), input.len());
+    let mut written = Vec::new(alloc);
+    status_of(alloc, line, &mut reader, &mut written) == 3 && written.is_empty()
+}
+
+/// Lines of words, and an input for those that read one.
+const WRITTEN: &str = "\
+    explain => start,0000000000\npress,clam,z3\n|\
+    explain sim => start = \"0100000000\"\nstamp = -1\n|\
+    explain --help => |\
+    explain --version => |\
+    explain simulate => ";
 
 #[test]
 fn fails_with_reader_and_writer(rt: HostRuntime) {
-    assert!(rt; is_silent(rt.alloc(), &["explain"], BAD_SCRIPT));
-    assert!(rt; is_silent(rt.alloc(), &["explain", "sim"], BAD_CONFIG));
-    for (words, input, status, text) in WRITTEN {
-        assert!(rt;
-            is_cut(rt.alloc(), words, input, *status, text, 0),
-            "{words:?}"
-        );
-        assert!(rt;
-            is_cut(rt.alloc(), words, input, *status, text, 7),
-            "{words:?}"
-        );
-    }
-}
-
-/// Arguments, an input, the exit status and the text.
-const STARTED: &[(&[&[u8]], &str, u8, &str)] = &[
-    (&[b"./explain"], SCRIPT, 0, ""),
-    (&[b"bad\xff", b"replay"], BAD_SCRIPT, 1, OF_BAD_SCRIPT),
-    (&[b"./explain", b"sim"], CONFIG, 0, ""),
-    (&[b"./explain", b"sim"], BAD_CONFIG, 1, OF_BAD_CONFIG),
-    (
-        &[b"./explain", b"run", b"--turns", b"3"],
-        SCRIPT,
-        1,
-        SCRIPT_AS_CONFIG,
-    ),
-    (
-        &[b"./explain", b"\xff"],
-        BAD_SCRIPT,
-        2,
-        "error: a word isn't UTF-8\n",
-    ),
-];
-
-/// Whether the program, started with these arguments, answers so.
-fn is_started(alloc: Global, arguments: &[&[u8]], input: &str, status: u8, text: &str) -> bool {
-    let mut written = Vec::new(alloc);
-    let env = Given { arguments };
-    let answered = start(alloc, &env, &mut input.as_bytes(), &mut written);
-    answered == status && written.as_slice() == text.as_bytes()
-}
-
-#[test]
-fn starts(rt: HostRuntime) {
-    for (arguments, input, status, text) in STARTED {
-        assert!(rt;
-            is_started(rt.alloc(), arguments, input, *status, text),
-            "{arguments:?}"
-        );
+    for number in 0..count_parts(WRITTEN, "|") {
+        let row = part(WRITTEN, "|", number);
+        let (line, input) = (part(row, " => ", 0), part(row, " => ", 1));
+        let is_failed = is_cut(rt.alloc(), line, input, 0)
+            && is_cut(rt.alloc(), line, input, 7)
+            && (input.is_empty() || is_silent(rt.alloc(), line, input));
+        assert!(rt; is_failed, "{row}");
     }
 }

@@ -6,11 +6,11 @@ ghost use Rattle.cell_rules.specs.Start.{IsStartState};
 
 use super::gates::{Doorkeeper, NOTES, Rule};
 use cell_notes::{RunRecord, Status};
-use cell_plant::Cell;
+use cell_plant::{Cell, Turn, simulate};
 use cell_rules::State;
 use cell_sensors::{Calibration, Gauge, Points, PointsFault, position_on_line};
 use cell_types::Machine;
-use cell_workers::{Gate, RunFault, run_cell};
+use cell_workers::run_cell;
 use std::alloc::Global;
 use std::sync::Wait;
 use std::sync::atomic::{AtomicU64, Ordering};
@@ -34,16 +34,33 @@ struct AxisPoints {
     turn: Points,
 }
 
-// A run of a cell with these closures. A call may lose eight exchanges.
-fn run_by<R, F1, F2, F3, F4, F5, G>(
+const WORKING: [Machine; 6] = [
+    Machine::Feed,
+    Machine::Table,
+    Machine::Robot,
+    Machine::Press,
+    Machine::Deposit,
+    Machine::Crane,
+];
+
+fn turn_of(machine: Machine) -> Turn {
+    Turn {
+        machine,
+        busy: false,
+    }
+}
+
+// A run of a cell with these closures: by six workers with a gate and this number of turns, where a call may lose eight
+// exchanges; or without a number a simulation in which each machine has one turn. `None` is a fault.
+fn run_by<R, F1, F2, F3, F4, F5>(
     rt: &R,
     alloc: Global,
     start: State,
     gauges: (F1, F2, F3, F4, F5),
     points: AxisPoints,
-    turns: u32,
-    gate: &G,
-) -> Result<RunRecord, RunFault>
+    turns: Option<u32>,
+    gate: &Doorkeeper,
+) -> Option<RunRecord>
 where
     R: Threads + Wait + Sync,
     F1: Gauge + Send,
@@ -51,7 +68,6 @@ where
     F3: Gauge + Send,
     F4: Gauge + Send,
     F5: Gauge + Send,
-    G: Gate + Sync,
     requires start { IsStartState start }
     requires arm1 { F1.keeps gauges.0 points.arm }
     requires arm2 { F2.keeps gauges.1 points.arm }
@@ -71,17 +87,20 @@ where
         Calibration::new(turn, points.turn),
         Calibration::new(gripper, points.arm),
     );
-    run_cell(rt, alloc, cell, start, 8, turns, gate)
+    match turns {
+        Some(turns) => run_cell(rt, alloc, cell, start, 8, turns, gate).ok(),
+        None => simulate(alloc, cell, start, &WORKING.map(turn_of)).ok(),
+    }
 }
 
-// A run of a cell without plates from this stamp on; its closures count their calls.
+// Such a run of a cell without plates from this stamp on; its closures count their calls.
 fn run_counted<R: Threads + Wait + Sync>(
     rt: &R,
     alloc: Global,
     stamp: u32,
-    turns: u32,
+    turns: Option<u32>,
     gate: &Doorkeeper,
-) -> Result<Result<RunRecord, RunFault>, Fail> {
+) -> Result<Option<RunRecord>, Fail> {
     let start = State::start([false; 10], stamp)?;
     let arm = points_of(1000)?;
     let rotation = points_of(2000)?;
@@ -145,7 +164,6 @@ fn outcome(taken: u32, turns: u32) -> (Status, u64) {
 fn is_gated<R: Threads + Wait + Sync>(rt: &R, alloc: Global, row: &Row) -> Result<bool, Fail> {
     let (turns, rule, taken) = *row;
     let gate = Doorkeeper::new(rule);
-    let record = run_counted(rt, alloc, 0, turns, &gate)??;
     let mut status = [Status::Fine; 7];
     let mut notes = [0; 6];
     for machine in 0..6usize {
@@ -153,18 +171,20 @@ fn is_gated<R: Threads + Wait + Sync>(rt: &R, alloc: Global, row: &Row) -> Resul
         status[machine] = ends;
         notes[machine] = noted;
     }
-    let has_ended = record.status == status && record.end.is_some();
-    Ok(has_ended && has_taken(&record, &taken) && gate.has_noted(&notes))
+    let record = run_counted(rt, alloc, 0, Some(turns), &gate)?;
+    Ok(has_ended(record, &status, &taken) && gate.has_noted(&notes))
 }
 
-// Whether the six machines have taken these turns, and the watch none.
-fn has_taken(record: &RunRecord, taken: &[u32; 6]) -> bool {
+// Whether a run has ended with these statuses, and the six machines have taken these turns and the watch none.
+fn has_ended(record: Option<RunRecord>, status: &[Status; 7], taken: &[u32; 6]) -> bool {
+    let Some(record) = record else {
+        return false;
+    };
+    let mut are_taken = record.counts[6].turns == 0;
     for machine in 0..6usize {
-        if record.counts[machine].turns != u64::from(taken[machine]) {
-            return false;
-        }
+        are_taken = are_taken && record.counts[machine].turns == u64::from(taken[machine]);
     }
-    record.counts[6].turns == 0
+    are_taken && record.status == *status && record.end.is_some()
 }
 
 #[test]
@@ -194,9 +214,9 @@ fn one_machine_is_shut_out(rt: HostRuntime) -> Result<(), Fail> {
 #[test]
 fn nothing_is_left_running(rt: HostRuntime) -> Result<(), Fail> {
     let gate = Doorkeeper::new(Rule::First([9; 6]));
-    match run_counted(&rt, rt.alloc(), 0, 3, &gate)? {
-        Ok(record) => assert!(rt; record.end.is_some()),
-        Err(_) => assert!(rt; gate.has_let_in_the_first(NOTES[3])),
+    match run_counted(&rt, rt.alloc(), 0, Some(3), &gate)? {
+        Some(record) => assert!(rt; record.end.is_some()),
+        None => assert!(rt; gate.has_let_in_the_first(NOTES[3])),
     }
     Ok(())
 }
@@ -206,10 +226,19 @@ fn nothing_is_left_running(rt: HostRuntime) -> Result<(), Fail> {
 #[test]
 fn worn_machines_ask_no_more(rt: HostRuntime) -> Result<(), Fail> {
     let gate = Doorkeeper::new(Rule::First([9; 6]));
-    let record = run_counted(&rt, rt.alloc(), 1_048_575, 6, &gate)??;
+    let record = run_counted(&rt, rt.alloc(), 1_048_575, Some(6), &gate)?;
     let (worn, fine) = (Status::Worn, Status::Fine);
     let status = [worn, worn, fine, worn, worn, fine, fine];
-    assert!(rt; record.status == status && has_taken(&record, &[1, 1, 6, 1, 1, 6]));
+    assert!(rt; has_ended(record, &status, &[1, 1, 6, 1, 1, 6]));
     assert!(rt; gate.has_noted(&[1, 1, 123_456, 1, 1, 123_456]));
+    Ok(())
+}
+
+// A simulation by closures of its own asks each once in its machine's turn.
+#[test]
+fn simulates_by_closures(rt: HostRuntime) -> Result<(), Fail> {
+    let gate = Doorkeeper::new(Rule::First([0; 6]));
+    let record = run_counted(&rt, rt.alloc(), 0, None, &gate)?;
+    assert!(rt; has_ended(record, &[Status::Fine; 7], &[1; 6]) && gate.are_called_once());
     Ok(())
 }

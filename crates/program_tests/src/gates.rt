@@ -57,6 +57,15 @@ impl Doorkeeper {
             && are_noted(&self.found, &[robot, robot, robot, table, crane])
     }
 
+    /// Whether each closure was called once.
+    pub fn are_called_once(&self) -> bool {
+        let mut are_once = true;
+        for calls in &self.calls {
+            are_once = are_once && calls.load(Ordering::SeqCst) == 1;
+        }
+        are_once
+    }
+
     /// Whether some first machines have asked for these turns, and the others for none.
     pub fn has_let_in_the_first(&self, notes: u64) -> bool {
         let mut are_first = true;

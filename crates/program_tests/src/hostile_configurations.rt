@@ -1,22 +1,18 @@
 //! Configurations as people and tools send them: other line ends and encodings, zero bytes, other
 //! formats. What `cell sim` answers.
 
-use super::doubles::run;
-use super::simulations::SIM;
+use super::doubles::run_line;
 use std::alloc::Global;
 use std::sync::Wait;
 use std::thread::Threads;
-use test_doubles::{count_parts, part};
-
-/// How a report begins if no place is full and the first stamp is 0.
-const NO_PLATES: &str = "version 2\nstart 0000000000 0\n";
+use test_doubles::{bytes_in, count_parts, part};
 
 /// Whether `cell sim` refuses a configuration with this word, or answers it with a report that begins
 /// with this text.
 fn is_told<T: Threads + Wait + Sync>(rt: &T, alloc: Global, config: &[u8], wanted: &str) -> bool {
     let mut reader = config;
     let mut written = Vec::new(alloc);
-    let status = run(rt, alloc, SIM, &mut reader, &mut written);
+    let status = run_line(rt, alloc, "cell sim", &mut reader, &mut written);
     says(status, written.as_slice(), wanted)
 }
 
@@ -138,41 +134,46 @@ const SENT: [&str; 8] = [
     FORMATS,
 ];
 
-/// Whole configurations that aren't UTF-8, or have more bytes than characters.
-const BYTES: &[(&[u8], &str)] = &[
-    (b"\xff", "text"),
-    (b"colour = 1\n\xff", "text"),
-    (b"start = \"0000000000\"\n\xff", "text"),
-    // UTF-16, with its mark and without.
-    (b"\xff\xfes\x00t\x00a\x00r\x00t\x00", "text"),
-    (b"\xfe\xff\x00s\x00t\x00a\x00r\x00t", "text"),
-    (b"s\x00t\x00a\x00r\x00t\x00", "text"),
-    // A part of a mark, a letter of Latin-1, a zero in two bytes, a half of a pair, no character.
-    (b"\xef\xbbstart = \"0000000000\"", "text"),
-    (b"start = \"0000000000\" # \xe9", "text"),
-    (b"start = \"0000000000\" # \xc0\x80", "text"),
-    (b"start = \"0000000000\" # \xed\xa0\x80", "text"),
-    (b"start = \"0000000000\" # \xf4\x90\x80\x80", "text"),
-    // A character that is cut, and the whole of it.
-    (b"start = \"0000000000\" # \xe2\x82", "text"),
-    (b"start = \"0000000000\" # \xe2\x82\xac", NO_PLATES),
-];
+/// Whole configurations that aren't UTF-8, or have more bytes than characters; each character stands for a byte. They
+/// are UTF-16, with its mark and without; a part of a mark, a letter of Latin-1, a zero in two bytes, a half of a
+/// pair, no character; a character that is cut, and the whole of it.
+const BYTES: &str = "\
+    \u{ff} => text|\
+    colour = 1\n\u{ff} => text|\
+    start = \"0000000000\"\n\u{ff} => text|\
+    \u{ff}\u{fe}s\0t\0a\0r\0t\0 => text|\
+    \u{fe}\u{ff}\0s\0t\0a\0r\0t => text|\
+    s\0t\0a\0r\0t\0 => text|\
+    \u{ef}\u{bb}start = \"0000000000\" => text|\
+    start = \"0000000000\" # \u{e9} => text|\
+    start = \"0000000000\" # \u{c0}\u{80} => text|\
+    start = \"0000000000\" # \u{ed}\u{a0}\u{80} => text|\
+    start = \"0000000000\" # \u{f4}\u{90}\u{80}\u{80} => text|\
+    start = \"0000000000\" # \u{e2}\u{82} => text|\
+    start = \"0000000000\" # \u{e2}\u{82}\u{ac} => version 2\nstart 0000000000 0\n";
+
+/// Whether the configuration of a row is answered so, if each character stands for a byte.
+fn is_row_of_bytes<T: Threads + Wait + Sync>(rt: &T, alloc: Global, row: &str) -> bool {
+    match bytes_in(alloc, part(row, " => ", 0)) {
+        Ok(config) => is_told(rt, alloc, config.as_slice(), part(row, " => ", 1)),
+        Err(_) => false,
+    }
+}
 
 #[test]
 fn takes_what_is_sent(rt: HostRuntime) {
     for rows in SENT {
         for number in 0..count_parts(rows, "|") {
             let row = part(rows, "|", number);
-            let config = part(row, " => ", 0);
-            let is_right = is_told(&rt, rt.alloc(), config.as_bytes(), part(row, " => ", 1));
-            assert!(rt; is_right, "{row}");
+            let config = part(row, " => ", 0).as_bytes();
+            assert!(rt;
+                is_told(&rt, rt.alloc(), config, part(row, " => ", 1)),
+                "{row}"
+            );
         }
     }
-}
-
-#[test]
-fn takes_what_is_no_text(rt: HostRuntime) {
-    for (config, wanted) in BYTES {
-        assert!(rt; is_told(&rt, rt.alloc(), config, wanted), "{config:?}");
+    for number in 0..count_parts(BYTES, "|") {
+        let row = part(BYTES, "|", number);
+        assert!(rt; is_row_of_bytes(&rt, rt.alloc(), row), "{row:?}");
     }
 }

@@ -6,8 +6,6 @@
 #[cfg(test)]
 mod arguments;
 #[cfg(test)]
-mod by_hand;
-#[cfg(test)]
 mod configurations;
 #[cfg(test)]
 mod doubles;
@@ -43,7 +41,5 @@ mod runs;
 mod served;
 #[cfg(test)]
 mod simulations;
-#[cfg(test)]
-mod six_machines;
 #[cfg(test)]
 mod streams;

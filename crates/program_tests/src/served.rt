@@ -1,42 +1,51 @@
 //! Words of the program, exit statuses, fault lines and help.
 
-use super::doubles::{is_served, run_line};
+use super::doubles::{SCRIPT, is_answered, is_row, printed, run_line};
 use cell_words::{Mode, read_words};
-use program_shell::{Exit, VERSION, refuse_bytes};
+use program_shell::VERSION;
 use std::alloc::Global;
 use std::sync::Wait;
 use std::test::Fail;
 use std::thread::Threads;
 use test_doubles::{count_parts, part, words_in};
 
-pub const SCRIPT: &str =
-    "start,0000000000\npress,claim,z3\nrobot,claim,z3\npress,release,z3\nrobot,claim,z3\nwatch,inquire,z3\n";
-
+/// What is answered to the script.
 pub const TEXT: &str =
     "0 0 start 0\n1 1 done\n2 1 held press\n3 2 done\n4 2 shut closed\n5 2 zone free 0 closed\n";
 
-// Words, an input, the status and the text.
-const SERVED: &[(&[&str], &str, u8, &str)] = &[
-    (&["cell"], SCRIPT, 0, TEXT),
-    (&["cell", "replay"], SCRIPT, 0, TEXT),
-    (&["cell", "--"], SCRIPT, 0, TEXT),
-    (&["cell"], "", 1, "fault nostart\n"),
-    (&["cell", "replay"], "start,1\n", 1, "fault badstart\n"),
-    (
-        &["cell"],
-        "start2,0000000000\nwatch,stop\n",
-        0,
-        "0 0 start2 0\n1 1 done\n",
-    ),
-];
+/// Lines of words that ask for a replay.
+const REPLAYS: &str = "cell|cell replay|cell --";
+
+/// Words, the status, an input and the text. The words that are refused have the whole text, as `clap` writes it of any
+/// program: an unknown option, a number out of range, a number that is none, a second script, and an unknown command.
+const ROWS: &str = "\
+    cell => 1 =>  => fault nostart\n|\
+    cell replay => 1 => start,1\n => fault badstart\n|\
+    cell => 0 => start2,0000000000\nwatch,stop\n => 0 0 start2 0\n1 1 done\n|\
+    cell --nope => 2 =>  => error: unexpected argument '--nope' found\n\nUsage: cell [COMMAND]\n\n\
+        For more information, try '--help'.\n|\
+    cell run --turns 0 => 2 =>  => error: invalid value '0' for '--turns <N>': 0 is not in 1..=100000\n\n\
+        For more information, try '--help'.\n|\
+    cell run --tries=x => 2 =>  => error: invalid value 'x' for '--tries <N>': invalid digit found in string\n\n\
+        For more information, try '--help'.\n|\
+    cell replay other.csv => 2 =>  => error: unexpected argument 'other.csv' found\n\nUsage: cell replay\n\n\
+        For more information, try '--help'.\n|\
+    cell go => 2 =>  => error: unrecognized subcommand 'go'\n\nUsage: cell [COMMAND]\n\n\
+        For more information, try '--help'.\n";
 
 #[test]
 fn serves(rt: HostRuntime) {
-    for (words, input, status, text) in SERVED {
+    for number in 0..count_parts(REPLAYS, "|") {
+        let line = part(REPLAYS, "|", number);
+        let mut reader = SCRIPT.as_bytes();
         assert!(rt;
-            is_served(&rt, rt.alloc(), words, input, *status, text),
-            "{text}"
+            is_answered(&rt, rt.alloc(), line, &mut reader, 0, TEXT),
+            "{line}"
         );
+    }
+    for number in 0..count_parts(ROWS, "|") {
+        let row = part(ROWS, "|", number);
+        assert!(rt; is_row(&rt, rt.alloc(), row), "{row}");
     }
 }
 
@@ -93,7 +102,14 @@ const ASTRAY: &str = "\
     cell sim --turns 3|\
     cell --turns 3 run|\
     cell replay replay|\
-    cell --turns 3";
+    cell --turns 3|\
+    cell --nope|\
+    cell run --tries=x|\
+    cell replay other.csv|\
+    cell simulate|\
+    cell run 3|\
+    cell Replay|\
+    cell ";
 
 #[test]
 fn serves_other_words(rt: HostRuntime) {
@@ -105,99 +121,23 @@ fn serves_other_words(rt: HostRuntime) {
     }
 }
 
-// Words that are refused, and the whole text, as `clap` writes it of any program: an unknown option, a
-// number out of range, a number that is none, a second script, and an unknown command.
-const REFUSED: &[(&[&str], &str)] = &[
-    (
-        &["cell", "--nope"],
-        "error: unexpected argument '--nope' found\n\nUsage: cell [COMMAND]\n\n\
-        For more information, try '--help'.\n",
-    ),
-    (
-        &["cell", "run", "--turns", "0"],
-        "error: invalid value '0' for '--turns <N>': 0 is not in 1..=100000\n\n\
-        For more information, try '--help'.\n",
-    ),
-    (
-        &["cell", "run", "--tries=x"],
-        "error: invalid value 'x' for '--tries <N>': invalid digit found in string\n\n\
-        For more information, try '--help'.\n",
-    ),
-    (
-        &["cell", "replay", "other.csv"],
-        "error: unexpected argument 'other.csv' found\n\nUsage: cell replay\n\n\
-        For more information, try '--help'.\n",
-    ),
-    (
-        &["cell", "go"],
-        "error: unrecognized subcommand 'go'\n\nUsage: cell [COMMAND]\n\n\
-        For more information, try '--help'.\n",
-    ),
-];
-
-#[test]
-fn says_which_words_are_refused(rt: HostRuntime) {
-    for (words, text) in REFUSED {
-        assert!(rt;
-            is_served(&rt, rt.alloc(), words, SCRIPT, 2, text),
-            "{words:?}"
-        );
-    }
-}
-
-const RUN_BY_DEFAULT: Option<Mode> = Some(Mode::Run {
-    turns: 1000,
-    tries: 8,
-});
-
-const RUN_3_64: Option<Mode> = Some(Mode::Run {
-    turns: 3,
-    tries: 64,
-});
-
-const RUN_LONGEST: Option<Mode> = Some(Mode::Run {
-    turns: 100_000,
-    tries: 8,
-});
-
-const RUN_ONE_TRY: Option<Mode> = Some(Mode::Run {
-    turns: 1000,
-    tries: 1,
-});
-
-// Lines of words.
-const MODES: &str = "\
-    cell|\
-    cell replay|\
-    cell sim|\
+/// Lines of words that ask for a run.
+const RUNS: &str = "\
     cell run|\
     cell run --turns 3 --tries 64|\
     cell run --tries=64 --turns=3|\
     cell run --turns +0003 --tries 064|\
     cell run --turns 100000|\
-    cell run --tries 1|\
-    cell simulate|\
-    cell run 3|\
-    cell Replay|\
-    cell --version|\
-    cell ";
+    cell run --tries 1";
 
-/// What each of these lines asks for, if anything.
-const WANTED: [Option<Mode>; 14] = [
-    Some(Mode::Replay),
-    Some(Mode::Replay),
-    Some(Mode::Sim),
-    RUN_BY_DEFAULT,
-    RUN_3_64,
-    RUN_3_64,
-    RUN_3_64,
-    RUN_LONGEST,
-    RUN_ONE_TRY,
-    None,
-    None,
-    None,
-    None,
-    None,
+/// The turns and tries of each.
+const NUMBERS: [(u32, u8); 6] = [
+    (1000, 8),
+    (3, 64),
+    (3, 64),
+    (3, 64),
+    (100_000, 8),
+    (1000, 1),
 ];
 
 /// What these words ask for, if anything.
@@ -208,17 +148,22 @@ fn mode_of(alloc: Global, line: &str) -> Option<Mode> {
 
 #[test]
 fn reads_words(rt: HostRuntime) {
-    for number in 0..WANTED.len() {
-        let line = part(MODES, "|", number);
-        assert!(rt; mode_of(rt.alloc(), line) == WANTED[number], "{line}");
+    for (number, (turns, tries)) in NUMBERS.iter().enumerate() {
+        let line = part(RUNS, "|", number);
+        let wanted = Mode::Run {
+            turns: *turns,
+            tries: *tries,
+        };
+        assert!(rt; mode_of(rt.alloc(), line) == Some(wanted), "{line}");
     }
+    assert!(rt; mode_of(rt.alloc(), "cell sim") == Some(Mode::Sim));
 }
 
-/// Whether a text has these parts, in this order. Bars separate them.
+/// Whether a text has these parts, in this order. Semicolons separate them.
 fn has_in_order(text: &str, parts: &str) -> bool {
     let mut rest = text;
-    for number in 0..count_parts(parts, "|") {
-        match rest.split_once(part(parts, "|", number)) {
+    for number in 0..count_parts(parts, ";") {
+        match rest.split_once(part(parts, ";", number)) {
             Some((_, after)) => rest = after,
             None => return false,
         }
@@ -226,82 +171,42 @@ fn has_in_order(text: &str, parts: &str) -> bool {
     true
 }
 
-/// Whether the help that these words ask for has these parts, in this order.
-fn is_helped<T: Threads + Wait + Sync>(rt: &T, alloc: Global, line: &str, parts: &str) -> bool {
-    let mut written = Vec::new(alloc);
-    let status = run_line(rt, alloc, line, &mut "".as_bytes(), &mut written);
+/// Lines of words that ask for help, and what that has.
+const HELPS: &str = "\
+    cell --help => Usage: cell [COMMAND];replay;sim;run;docs/FORMATS.md;`explain`;\
+        cell replay < examples/interior.csv;cell sim < examples/press.toml;\
+        cell run --turns 3 --tries 64 < examples/six_workers.toml|\
+    cell -h => Usage: cell [COMMAND];replay;sim;run;docs/FORMATS.md;`explain`;\
+        cell replay < examples/interior.csv;cell sim < examples/press.toml;\
+        cell run --turns 3 --tries 64 < examples/six_workers.toml|\
+    cell replay --help => Usage: cell replay;Reads a script;Writes a line for each record;\
+        `explain replay < FILE`;docs/FORMATS.md;cell replay < examples/interior.csv|\
+    cell sim --help => Usage: cell sim;Reads a configuration;Writes a report;\
+        `explain sim < FILE`;docs/FORMATS.md;cell sim < examples/press.toml|\
+    cell run --help => Usage: cell run [OPTIONS];--turns <N>;[default: 1000];--tries <N>;[default: 8];\
+        Reads a configuration;Writes a;docs/FORMATS.md;cell run --turns 3 --tries 64 < examples/six_workers.toml";
+
+/// Whether the help that a row's words ask for has the row's parts, in this order.
+fn is_helped<T: Threads + Wait + Sync>(rt: &T, alloc: Global, row: &str) -> bool {
+    let (status, written) = printed(rt, alloc, part(row, " => ", 0), "");
     match str::from_utf8(written.as_slice()) {
-        Ok(text) => status == 0 && has_in_order(text, parts),
+        Ok(text) => status == 0 && has_in_order(text, part(row, " => ", 1)),
         Err(_) => false,
     }
 }
 
-const OF_THE_WHOLE: &str = "\
-    Usage: cell [COMMAND]|\
-    replay|\
-    sim|\
-    run|\
-    docs/FORMATS.md|\
-    `explain`|\
-    cell replay < examples/interior.csv|\
-    cell sim < examples/press.toml|\
-    cell run --turns 3 --tries 64 < examples/six_workers.toml";
-
-const OF_REPLAY: &str = "\
-    Usage: cell replay|\
-    Reads a script|\
-    Writes a line for each record|\
-    `explain replay < FILE`|\
-    docs/FORMATS.md|\
-    cell replay < examples/interior.csv";
-
-const OF_SIM: &str = "\
-    Usage: cell sim|\
-    Reads a configuration|\
-    Writes a report|\
-    `explain sim < FILE`|\
-    docs/FORMATS.md|\
-    cell sim < examples/press.toml";
-
-const OF_RUN: &str = "\
-    Usage: cell run [OPTIONS]|\
-    --turns <N>|\
-    [default: 1000]|\
-    --tries <N>|\
-    [default: 8]|\
-    Reads a configuration|\
-    Writes a|\
-    docs/FORMATS.md|\
-    cell run --turns 3 --tries 64 < examples/six_workers.toml";
-
-// Words that ask for help, and what it has.
-const HELPS: [(&str, &str); 5] = [
-    ("cell --help", OF_THE_WHOLE),
-    ("cell -h", OF_THE_WHOLE),
-    ("cell replay --help", OF_REPLAY),
-    ("cell sim --help", OF_SIM),
-    ("cell run --help", OF_RUN),
-];
-
 // Help says what is read, what is written, what explains a refusal, where the formats are described, and an example.
 #[test]
 fn helps(rt: HostRuntime) {
-    for (line, parts) in HELPS {
-        assert!(rt; is_helped(&rt, rt.alloc(), line, parts), "{line}");
+    for number in 0..count_parts(HELPS, "|") {
+        let row = part(HELPS, "|", number);
+        assert!(rt; is_helped(&rt, rt.alloc(), row), "{row}");
     }
 }
 
 #[test]
 fn prints_its_version(rt: HostRuntime) -> Result<(), Fail> {
-    let wanted = format!(in rt.alloc(); "cell {VERSION}\n")?;
-    let words = ["cell", "--version"];
-    assert!(rt; is_served(&rt, rt.alloc(), &words, SCRIPT, 0, &wanted));
+    let row = format!(in rt.alloc(); "cell --version => 0 =>  => cell {VERSION}\n")?;
+    assert!(rt; is_row(&rt, rt.alloc(), row.as_str()));
     Ok(())
-}
-
-#[test]
-fn refuses_words_that_are_no_text(rt: HostRuntime) {
-    let mut written = Vec::new(rt.alloc());
-    assert!(rt; refuse_bytes(&mut written) == Exit::Refused);
-    assert!(rt; written.as_slice() == b"error: a word isn't UTF-8\n".as_slice());
 }

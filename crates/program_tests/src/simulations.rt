@@ -1,100 +1,82 @@
 //! Simulations: configurations, the reports of their runs, and exit statuses.
 
-use super::doubles::{is_answered, is_served};
-use super::reports::{
-    BUSY, HANDS_OVER, LONGEST, ONE_TURN_EACH, PRESS, PRESS_REPORT, STILL, STOP_AND_RESUME, WAITS,
-    WORN,
-};
+use super::doubles::{is_answered, is_row, printed};
+use super::reports::{LONGEST, REPORTS};
 use std::alloc::{AllocError, Global};
 use std::sync::Wait;
-use std::test::Fail;
 use std::thread::Threads;
+use test_doubles::{count_parts, part};
 
-pub const SIM: &[&str] = &["cell", "sim"];
-
-/// Runs that go well, with their reports.
-pub const REPORTS: &[(&str, &str)] = &[
-    ("start = \"0000000000\"", STILL),
-    (
-        "start = \"0000000000\"\nschedule = \"ftrpdcFTRPDC\"",
-        ONE_TURN_EACH,
-    ),
-    ("start = \"0000000000\"\nschedule = \"P\"", BUSY),
-    (
-        "start = \"0000000000\"\nschedule = \"wpwp\"",
-        STOP_AND_RESUME,
-    ),
-    ("start = \"0000000000\"\nschedule = \"ttttttt\"", WAITS),
-    (
-        "start = \"0010000000\"\nschedule = \"ttttttttttttttttttttttttttttttttttttt\"",
-        HANDS_OVER,
-    ),
-    (PRESS, PRESS_REPORT),
-];
-
-/// Configurations that are refused, with the program's line; and one of which a machine stops.
-const FAULTS: &[(&str, &str)] = &[
-    (
-        "start = \"0000000000\"\nstamp = 1048575\nschedule = \"ttP\"",
-        WORN,
-    ),
-    ("", "fault config missing\n"),
-    ("colour = 1", "fault config unknown\n"),
-    ("start = \"00", "fault config text\n"),
-    ("start = 5", "fault config kind\n"),
-    ("start = \"0000110000\"", "fault config start\n"),
-    ("start = \"0000000000\"\nstamp = -1", "fault config range\n"),
-    (
-        "start = \"0000000000\"\nschedule = \"x\"",
-        "fault config letter\n",
-    ),
-];
+/// Configurations that are refused, with the program's line.
+const FAULTS: &str = "\
+    cell sim => 1 =>  => fault config missing\n|\
+    cell sim => 1 => colour = 1 => fault config unknown\n|\
+    cell sim => 1 => start = \"00 => fault config text\n|\
+    cell sim => 1 => start = 5 => fault config kind\n|\
+    cell sim => 1 => start = \"0000110000\" => fault config start\n|\
+    cell sim => 1 => start = \"0000000000\"\nstamp = -1 => fault config range\n|\
+    cell sim => 1 => start = \"0000000000\"\nschedule = \"x\" => fault config letter\n";
 
 /// Whether a configuration with one byte too many is refused as too long.
 fn is_too_long<T: Threads + Wait + Sync>(rt: &T, alloc: Global) -> bool {
     let Ok(long) = vec![in alloc; b' '; 2_097_153] else {
         return false;
     };
-    let fault = "fault config long\n";
-    is_answered(rt, alloc, SIM, &mut long.as_slice(), 1, fault)
+    is_answered(
+        rt,
+        alloc,
+        "cell sim",
+        &mut long.as_slice(),
+        1,
+        "fault config long\n",
+    )
 }
 
 #[test]
 fn simulates_and_reports(rt: HostRuntime) {
-    for (config, text) in REPORTS {
-        assert!(rt;
-            is_served(&rt, rt.alloc(), SIM, config, 0, text),
-            "{config}"
-        );
-    }
-    for (config, text) in FAULTS {
-        assert!(rt;
-            is_served(&rt, rt.alloc(), SIM, config, 1, text),
-            "{config}"
-        );
+    for rows in [REPORTS, FAULTS] {
+        for number in 0..count_parts(rows, "|") {
+            let row = part(rows, "|", number);
+            assert!(rt; is_row(&rt, rt.alloc(), row), "{row}");
+        }
     }
     assert!(rt; is_too_long(&rt, rt.alloc()));
 }
 
-/// A configuration with this start and this schedule.
-pub fn config_with_schedule(
-    alloc: Global,
-    start: &str,
-    schedule: &str,
-) -> Result<String, AllocError> {
-    let mut config = String::from_str(alloc, "start = \"")?;
-    config.push_str(start)?;
-    config.push_str("\"\nschedule = \"")?;
-    config.push_str(schedule)?;
-    config.push_str("\"\n")?;
-    Ok(config)
-}
-
 // A schedule as long as one may be. Nearly every turn asks, so nearly as many entries are audited.
 #[test]
-fn simulates_the_longest_schedule(rt: HostRuntime) -> Result<(), Fail> {
+fn simulates_the_longest_schedule(rt: HostRuntime) -> Result<(), AllocError> {
     let schedule = "tp".repeat(rt.alloc(), 500_000)?;
-    let config = config_with_schedule(rt.alloc(), "0010000000", schedule.as_str())?;
-    assert!(rt; is_served(&rt, rt.alloc(), SIM, config.as_str(), 0, LONGEST));
+    let config = format!(in rt.alloc(); "start = \"0010000000\"\nschedule = \"{schedule}\"\n")?;
+    let mut reader = config.as_bytes();
+    assert!(rt; is_answered(&rt, rt.alloc(), "cell sim", &mut reader, 0, LONGEST));
+    Ok(())
+}
+
+/// Turns of the feed belt. In one after another the interlock is busy.
+const BUSY: &str = "\
+    Fffffffffff|\
+    fFfffffffff|\
+    ffFffffffff|\
+    fffFfffffff|\
+    ffffFffffff|\
+    fffffFfffff|\
+    ffffffFffff|\
+    fffffffFfff|\
+    ffffffffFff|\
+    fffffffffFf|\
+    ffffffffffF";
+
+// The feed belt hands its plate to the table. No machine is stopped by a busy turn.
+#[test]
+fn a_busy_turn_stops_nobody(rt: HostRuntime) -> Result<(), AllocError> {
+    for number in 0..count_parts(BUSY, "|") {
+        let turns = part(BUSY, "|", number);
+        let config = format!(in rt.alloc();
+            "start = \"0100000000\"\nschedule = \"tttttt{turns}t\"\n"
+        )?;
+        let (status, _) = printed(&rt, rt.alloc(), "cell sim", config.as_str());
+        assert!(rt; status == 0, "{turns}");
+    }
     Ok(())
 }

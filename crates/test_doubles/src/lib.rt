@@ -10,4 +10,4 @@ pub mod parts;
 pub use failing::{FailingReader, FailingWriter};
 pub use given::Given;
 pub use interrupted::{Failure, InterruptedReader, InterruptedWriter};
-pub use parts::{arguments_in, count_parts, part, words_in};
+pub use parts::{arguments_between, arguments_in, bytes_in, count_parts, part, words_in};
