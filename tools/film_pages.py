@@ -1,10 +1,11 @@
 """Puts the pages of films together, from their parts in crates/film_app/src: page.html, page.css, drawing.js and player.js, which
-all films share, and a plant's own style and script."""
+all films share, and a plant's own style and script: of plans crates/plan_app/src/plan.js."""
 
 import os
 
 ROOT = os.path.realpath(f"{os.path.dirname(os.path.realpath(__file__))}/..")
 SOURCES = f"{ROOT}/crates/film_app/src"
+PLAN_SCRIPT = f"{ROOT}/crates/plan_app/src/plan.js"
 MARK = "@LINES@\n"
 # In a simulation of the cell nobody calls at the same time.
 BUSY = """In a simulation nobody calls at the same time: a capital letter in the schedule makes the interlock answer busy.
@@ -37,3 +38,23 @@ def cell_parts():
 def cell_page(lines):
     head, tail = cell_parts()
     return head + lines + tail
+
+
+def of_plans(page):
+    """A part of the page with the name that `plan check` has for the word's last bit."""
+    return page.replace("mark: the watch", "stop: the watch").replace('"stopped" : "mark"', '"stopped" : "stop"')
+
+
+def plan_parts():
+    """The head, the middle and the tail of a page of a plan: before its data, between data and lines, and after its lines."""
+    rows = '<script id="plan" type="application/json">\n@ROWS@\n</script>\n'
+    head, tail = parts_of("A plan", "", text_of(PLAN_SCRIPT), rows)
+    head, mark, middle = of_plans(head).partition("@ROWS@\n")
+    if not mark:
+        raise ValueError("the data of a page of a plan has no place")
+    return head, middle, of_plans(tail)
+
+
+def plan_page(data, lines):
+    head, middle, tail = plan_parts()
+    return head + data + middle + lines + tail

@@ -12,7 +12,7 @@ use Rattle.plan_text.specs.Names.{Text}
 use Rattle.plan_text.specs.Script.{script_start}
 use Rattle.plan_document.specs.Reading.{IsPlanIn}
 use Rattle.plan_document.specs.declared.resolving.ProgrammedPlan.{ProgrammedPlan}
-use Rattle.plan_app.specs.Failed.{Fails, FailsBy, IsOfDocument, TellsEnd, WroteEnd, WroteFault, WroteScreen}
+use Rattle.plan_app.specs.Failed.{Fails, FailsBy, IsOfDocument, TellsEnd, WroteEnd, WroteFault, WrotePage, WrotePageText, WroteScreen}
 use Rattle.plan_app.specs.FailedExamples.{AreNoFault, FailedIsMeant, FaultLines}
 use Rattle.plan_app.specs.Input.{document_in, script_in}
 use Rattle.plan_app.specs.Sizes.{ComeToMore}
@@ -45,6 +45,13 @@ explored : (plan : ProgrammedPlan) (script new : Text) → AreNoFault new → Wr
 explored plan script new none (inl (fault, is, wrote)) = absurd (begins (fault_text fault) new none wrote)
 explored plan script new none (inr (opening, is, inl wrote)) = absurd (begins (codes "large") new none wrote.1)
 explored plan script new none (inr (opening, is, inr wrote)) = (opening, is, wrote)
+
+paged : (plan : ProgrammedPlan) (script new : Text) → AreNoFault new → WrotePage plan script (Some []) (Some new)
+    → (opening : State) × (script_start plan.named script ≡ Ok opening) × WrotePageText plan opening (Some []) (Some new)
+paged plan script new none (inl (fault, is, wrote)) = absurd (begins (fault_text fault) new none wrote)
+paged plan script new none (inr (opening, is, inl wrote)) = absurd (begins (codes "large") new none wrote.1)
+paged plan script new none (inr (opening, is, inr (inl wrote))) = absurd (begins (codes "long") new none wrote.1)
+paged plan script new none (inr (opening, is, inr (inr wrote))) = (opening, is, wrote)
 
 -- ---- `fault large`
 
@@ -106,7 +113,7 @@ is_large bytes (inr (inr (inr (plan, is, fails)))) =
     (plan, is, opening, begun, more)
 
 pub failed-meant : FailedIsMeant
-failed-meant = record { asked = asked; explored = explored; large = is_large }
+failed-meant = record { asked = asked; explored = explored; paged = paged; large = is_large }
 
 pub fault-lines : FaultLines
 fault-lines = record {

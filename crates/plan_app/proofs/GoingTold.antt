@@ -107,7 +107,7 @@ one_starves (a ∷ answers) zero found there starves =
 one_starves (a ∷ answers) (suc m) found there starves =
     by_cases (may_starve a) (list_any may_starve answers) (one_starves answers m found there starves)
 
-none_starves : (answers : List Liveness) → NoneStarves answers → list_any may_starve answers ≡ false
+pub none_starves : (answers : List Liveness) → NoneStarves answers → list_any may_starve answers ≡ false
 none_starves [] none = refl
 none_starves (a ∷ answers) none =
     rw (none 0 a refl) (none_starves answers (λ m found there. none (suc m) found there))

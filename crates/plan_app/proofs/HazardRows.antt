@@ -11,7 +11,8 @@ use Rattle.plan_explorer.specs.Examples.{patient}
 use Rattle.plan_motors.specs.declared.verdict.Verdict.TheVariants.{Possible}
 use Rattle.plan_app.specs.declared.leads.Lead.{Lead}
 use Rattle.plan_app.specs.declared.leads.Lead.TheVariants.{Unsought, Never, Turns, Large}
-use Rattle.plan_app.specs.Hazards.{IsFindingOf, are_kept, is_kept, lead_text, motors_text, opening}
+use Rattle.plan_picture.specs.Pictures.{opening}
+use Rattle.plan_app.specs.Hazards.{IsFindingOf, are_kept, is_kept, lead_text, motors_text}
 use Rattle.plan_app.specs.declared.hazards.Finding.{Finding}
 use Rattle.plan_document.specs.declared.resolving.ProgrammedPlan.{ProgrammedPlan}
 use Rattle.plan_rules.specs.declared.state.State.{State}

@@ -13,6 +13,7 @@ mod DriveLemmas
 mod DriveRows
 mod EventsTold
 mod GoingTold
+mod Paging
 mod CountsTold
 mod DrivesTold
 mod HazardsTold
@@ -30,3 +31,5 @@ mod Comments
 mod Replaying
 mod RunLawProofs
 mod RunRows
+mod PageRows
+mod PageLegal

@@ -1,7 +1,8 @@
--- The examples of `run_texts_are_told`.
+-- The examples of `run_texts_are_told` and `run_notes_are_told`.
 use Rattle.std.proofs.Common.{refl}
 use Rattle.std.specs.Fmt.{digits}
 use Rattle.plan_app.specs.RunExamples.{RunTextsAreTold}
+use Rattle.plan_app.specs.RunPageExamples.{RunNotes}
 
 pub run_rows : RunTextsAreTold
 unfolding digits
@@ -19,3 +20,7 @@ run_rows = record {
   stranger = refl;
   of_watch = refl;
 }
+
+pub run_notes : RunNotes
+unfolding digits
+run_notes = record { none = refl; last = refl; two = refl }

@@ -1,5 +1,5 @@
 -- The jobs of a run, one for each machine, and what machines give back.
-use Rattle.std.proofs.Common.{◌≡◌, ◌<◌, ◌≤◌, ◌+◌, ◌-◌, ◌∙◌, ◌⊎◌, ℕ, suc, List, [], ◌∷◌, ◌++◌, All, inl, inr, length, map, min, ap, sym, subst, refl, arith}
+use Rattle.std.proofs.Common.{◌≡◌, ◌<◌, ◌≤◌, ◌+◌, ◌-◌, ◌∙◌, ◌⊎◌, ℕ, suc, List, [], ◌∷◌, ◌++◌, All, inl, inr, length, map, min, None, ap, sym, subst, refl, arith}
 use Rattle.std.specs.Prelude.{slice_index_or}
 use Rattle.std.specs.List.{range_with_len}
 use Rattle.std.proofs.Math.Nat.{min-eq_left}
@@ -9,9 +9,10 @@ use Rattle.plan_types.proofs.lemmas.Below.{below_next}
 use Rattle.plan_rules.specs.declared.state.State.{State}
 use Rattle.plan_types.specs.declared.answer.Event.{Event}
 use Rattle.plan_document.specs.declared.resolving.ProgrammedPlan.{ProgrammedPlan}
+use Rattle.plan_controller.specs.Turns.{control}
 use Rattle.plan_interlock.specs.Book.{callers_of, plan_of}
 use Rattle.plan_interlock.specs.declared.rules.PlanRules.{PlanRules}
-use Rattle.plan_workers.specs.Jobs.{PlanInterlockView}
+use Rattle.plan_workers.specs.Jobs.{IsJobOf, IsReady, PlanInterlockView}
 use Rattle.plan_workers.specs.Lines.{PlanPassView}
 use Rattle.plan_workers.specs.Recording.{HaveRecorded}
 use Rattle.plan_workers.specs.Turning.{GateOf}
@@ -65,14 +66,11 @@ taken i k n pass actors more left few took =
 -- ---- jobs
 
 pub is_job : (plan : ProgrammedPlan) (i : PlanInterlockView) (k : ℕ) (pass : PlanPassView) (job : PlanJob Simulation) → pass.rules ≡ i.rules → pass.actor ≡ k → pass.table ≡ i.table → job.pass ≡ pass
-    → job.steps.items ≡ program_of plan k → job.devices ≡ new_simulation (program_of plan k) → IsJobFor plan i k job
-is_job plan i k pass job rules actor table is steps devices = record {
-  own = record {
-    table = ap (λ (v : PlanPassView). v.table) is ∙ table;
-    plan = ap (λ (v : PlanPassView). plan_of v.rules) is ∙ ap plan_of rules;
-  };
+    → job.controller ≡ control pass.actor (program_of plan k) 0 None → job.devices ≡ new_simulation (program_of plan k) → ((j : PlanInterlockView) → IsJobOf j pass → IsReady j job) → IsJobFor plan i k job
+is_job plan i k pass job rules actor table is controller devices ready = record {
+  ready = ready i (record { table = table; plan = ap plan_of rules });
   machine = ap (λ (v : PlanPassView). v.actor) is ∙ actor;
-  steps = steps;
+  controller = controller ∙ ap (λ m. control m (program_of plan k) 0 None) actor;
   devices = devices;
 }
 
@@ -96,4 +94,4 @@ same_tables plan i gate turns jobs [] all done many = λ k d few. absurd (omega 
 same_tables plan i gate turns [] (b ∷ backs) all done many = absurd (omega (arith, many))
 same_tables plan i gate turns (j ∷ jobs) (b ∷ backs) all done many = λ k d few.
     let within : k < length (j ∷ jobs) = omega (arith, few, many) in
-    (done k j d within).same.table ∙ (all k j within).own.table
+    (done k j d within).same.table ∙ (all k j within).ready.own.table

@@ -17,11 +17,14 @@ use Rattle.plan_header.specs.Modules.{module_text}
 use Rattle.plan_picture.specs.Pictures.{IsPicture}
 use Rattle.plan_app.specs.Hazards.{TellsReport, start_if}
 use Rattle.plan_app.specs.Input.{byte_limit, document_in, script_in}
+use Rattle.plan_app.specs.Pages.{IsLongPage, TellsPage}
+use Rattle.plan_app.specs.RunPages.{ShowsRun}
 use Rattle.plan_app.specs.Runs.{HasForeignCall, IsTooLong, IsUnexplained, TellsRun}
-use Rattle.plan_app.specs.Screens.{TellsGoing, TellsStandstill}
+use Rattle.plan_app.specs.Screens.{TellsFree, TellsGoing, TellsStandstill}
 use Rattle.plan_app.specs.Sizes.{ComeToMore}
 use Rattle.plan_app.specs.declared.request.Request.{Request}
-use Rattle.plan_app.specs.declared.request.Request.TheVariants.{Draw, Explore, Header, Module, Replay, Run}
+use Rattle.plan_app.specs.declared.request.Request.TheVariants.{Draw, Explore, Header, Module, Page, Replay}
+use Rattle.plan_app.specs.declared.request.Request.TheVariants.{Run, RunPage}
 
 -- ---- lines of faults
 
@@ -87,6 +90,30 @@ WroteEnd plan script old new =
     WroteStartFault plan.named script old new
     ⊎ ((opening : State) × (script_start plan.named script ≡ Ok opening) × WroteEndFrom plan opening old new)
 
+-- a text is the page of a standstill, or of an order in which a machine starves or plates rest; or it says that there
+-- is no such order
+abbrev pub TellsPageEnd : ProgrammedPlan → State → Text → Type 0
+TellsPageEnd plan opening text = TellsPage plan opening text ⊎ TellsFree plan.named plan.programs opening text
+
+-- such an order has more turns than a page shows
+abbrev pub WroteLongPage : ProgrammedPlan → State → Option Text → Option Text → Type 0
+WroteLongPage plan opening old new = IsLongPage plan opening × WroteFault (codes "long") old new
+
+abbrev pub WrotePageText : ProgrammedPlan → State → Option Text → Option Text → Type 0
+WrotePageText plan opening old new = (text : Text) × TellsPageEnd plan opening text × WrotePrefix old new text
+
+abbrev pub WroteFound : ProgrammedPlan → State → Option Text → Option Text → Type 0
+WroteFound plan opening old new = WroteLongPage plan opening old new ⊎ WrotePageText plan opening old new
+
+abbrev pub WrotePageFrom : ProgrammedPlan → State → Option Text → Option Text → Type 0
+WrotePageFrom plan opening old new = WroteLarge plan opening old new ⊎ WroteFound plan opening old new
+
+-- the start is the script's, if it has one
+abbrev pub WrotePage : ProgrammedPlan → Text → Option Text → Option Text → Type 0
+WrotePage plan script old new =
+    WroteStartFault plan.named script old new
+    ⊎ ((opening : State) × (script_start plan.named script ≡ Ok opening) × WrotePageFrom plan opening old new)
+
 abbrev pub WroteHeader : ProgrammedPlan → Option Text → Option Text → Type 0
 WroteHeader plan old new = WrotePrefix old new (header_of plan)
 
@@ -117,14 +144,30 @@ WroteRun plan turns script old new =
     WroteStartFault plan.named script old new
     ⊎ ((start : State) × (script_start plan.named script ≡ Ok start) × WroteRunFrom plan turns start old new)
 
+-- the same with the page of their history
+abbrev pub WroteRunPageText : ProgrammedPlan → ℕ → State → Option Text → Option Text → Type 0
+WroteRunPageText plan turns start old new =
+    (fine : Bool) × (text : Text) × ShowsRun plan turns start fine text × WrotePrefix old new text
+
+abbrev pub WroteRunPageFrom : ProgrammedPlan → ℕ → State → Option Text → Option Text → Type 0
+WroteRunPageFrom plan turns start old new =
+    WroteRunFault plan turns start old new ⊎ WroteRunPageText plan turns start old new
+
+abbrev pub WroteRunPage : ProgrammedPlan → ℕ → Text → Option Text → Option Text → Type 0
+WroteRunPage plan turns script old new =
+    WroteStartFault plan.named script old new
+    ⊎ ((start : State) × (script_start plan.named script ≡ Ok start) × WroteRunPageFrom plan turns start old new)
+
 -- what was asked
 abbrev pub FailsBy : Request → ProgrammedPlan → Text → Option Text → Option Text → Type 0
 FailsBy Replay plan script old new = WroteAnswers plan.named script old new
 FailsBy Explore plan script old new = WroteEnd plan script old new
+FailsBy Page plan script old new = WrotePage plan script old new
 FailsBy Header plan script old new = WroteHeader plan old new
 FailsBy Module plan script old new = WroteModule plan old new
 FailsBy Draw plan script old new = WrotePicture plan old new
 FailsBy (Run turns) plan script old new = WroteRun plan turns script old new
+FailsBy (RunPage turns) plan script old new = WroteRunPage plan turns script old new
 FailsBy _ plan script old new = WroteReport plan script old new
 
 -- ---- by the plan of the document in these bytes

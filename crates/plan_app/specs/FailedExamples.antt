@@ -6,6 +6,7 @@ use Rattle.plan_text.specs.Script.{script_start}
 use Rattle.plan_document.specs.Reading.{IsPlanIn}
 use Rattle.plan_document.specs.declared.resolving.ProgrammedPlan.{ProgrammedPlan}
 use Rattle.plan_app.specs.Failed.{Fails, FailsBy, IsOfDocument, WroteEnd, WroteFault, WroteScreen}
+use Rattle.plan_app.specs.Failed.{WrotePage, WrotePageText}
 use Rattle.plan_app.specs.Input.{document_in, script_in}
 use Rattle.plan_app.specs.Sizes.{ComeToMore}
 use Rattle.plan_app.specs.declared.request.Request.{Request}
@@ -47,6 +48,11 @@ pub record FailedIsMeant : Type 0 where
       → WroteEnd plan script (Some []) (Some new)
       → (opening : State) × (script_start plan.named script ≡ Ok opening)
       × WroteScreen plan opening (Some []) (Some new)
+  -- of its page it is the page, or what is printed without one
+  pub paged : (plan : ProgrammedPlan) (script new : Text) → AreNoFault new
+      → WrotePage plan script (Some []) (Some new)
+      → (opening : State) × (script_start plan.named script ≡ Ok opening)
+      × WrotePageText plan opening (Some []) (Some new)
   -- where `fault large` was written, turns lead to more than 1,000,000 situations
   pub large : (bytes : Text) → Fails Explore (Some bytes) (Some []) (Some (codes "fault large\n"))
       → (plan : ProgrammedPlan) × IsPlanIn (document_in bytes) plan

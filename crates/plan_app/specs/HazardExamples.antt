@@ -12,7 +12,8 @@ use Rattle.plan_motors.specs.OfPlan.{hazard_at, motor_at}
 use Rattle.plan_motors.specs.Poses.{NeverFromPostures}
 use Rattle.plan_text.specs.Names.{Text}
 use Rattle.plan_document.specs.declared.resolving.ProgrammedPlan.{ProgrammedPlan}
-use Rattle.plan_app.specs.Hazards.{TellsReport, are_kept, hazard_line, lead_text, led_text, motors_text, opening}
+use Rattle.plan_picture.specs.Pictures.{opening}
+use Rattle.plan_app.specs.Hazards.{TellsReport, are_kept, hazard_line, lead_text, led_text, motors_text}
 use Rattle.plan_app.specs.Hazards.{verdict_words}
 use Rattle.plan_app.specs.Leads.{opening_by}
 use Rattle.plan_app.specs.declared.hazards.Finding.{Finding}

@@ -1,24 +1,20 @@
 -- What `plan check` says of the hazards of a plan.
-use Rattle.std.specs.Prelude.{◌≡◌, ℕ, Bool, ◌&&◌, nat_eq, List, [], ◌++◌, codes, flat_map, length, replicate, slice_get}
+use Rattle.std.specs.Prelude.{◌≡◌, ℕ, Bool, ◌&&◌, nat_eq, List, [], ◌++◌, codes, flat_map, length, slice_get}
 use Rattle.std.specs.Prelude.{true, false, is_none, Option, Some, None, string_bytes, IsTrue, if◌then◌else◌}
 use Rattle.std.specs.Prelude.{Result, Ok, Err}
 use Rattle.std.specs.List.{AllZip, list_all, range_with_len}
 use Rattle.csv_rows.specs.declared.script_end.ScriptFault.{ScriptFault}
 use Rattle.plan_types.specs.declared.posture.Posture.TheVariants.{Closed}
 use Rattle.plan_types.specs.Same.{same_posture}
-use Rattle.plan_types.specs.Table.{PlanTable}
 use Rattle.plan_rules.specs.declared.state.State.{State}
 use Rattle.plan_rules.specs.declared.state.ZoneState.{ZoneState}
-use Rattle.plan_rules.specs.State.{is_full, start_state, zone_at}
+use Rattle.plan_rules.specs.State.{is_full, zone_at}
 use Rattle.plan_explorer.specs.Programs.{PlanPrograms}
-use Rattle.plan_motors.specs.declared.exclusion.Cause.TheVariants.{Zone, Place}
 use Rattle.plan_motors.specs.declared.motor.Hazard.{Hazard}
-use Rattle.plan_motors.specs.declared.motor.Motor.{Motor}
 use Rattle.plan_motors.specs.declared.verdict.Verdict.{Verdict}
 use Rattle.plan_motors.specs.declared.verdict.Verdict.TheVariants.{Excluded, ByPoses, Possible}
 use Rattle.plan_motors.specs.OfPlan.{motor_at}
-use Rattle.plan_motors.specs.Poses.{NeverFromPostures}
-use Rattle.plan_motors.specs.Verdict.{IsShownBy, is_never}
+use Rattle.plan_motors.specs.Verdict.{is_never}
 use Rattle.plan_text.specs.Answers.{posture_word}
 use Rattle.plan_text.specs.Named.{Named}
 use Rattle.plan_text.specs.Names.{Text, name_in}
@@ -30,6 +26,8 @@ use Rattle.plan_app.specs.Leads.{IsLeadOf, opening_by}
 use Rattle.plan_app.specs.Reports.{names_line, report_text}
 use Rattle.plan_app.specs.Rows.{HasEveryRow, rows_line}
 use Rattle.plan_header.specs.Words.{machine_name, zone_name}
+use Rattle.plan_picture.specs.Pictures as picture
+use Rattle.plan_picture.specs.Pictures.{IsVerdictOf}
 use Rattle.plan_app.specs.declared.hazards.Finding.{Finding}
 use Rattle.plan_app.specs.declared.hazards.TheConstants.{LARGE, LED, UNKEPT, UNLED, UNSOUGHT}
 use Rattle.plan_app.specs.declared.hazards.Report.{Report}
@@ -38,16 +36,6 @@ use Rattle.plan_app.specs.declared.leads.Lead.{Lead}
 use Rattle.plan_app.specs.declared.leads.Lead.TheVariants.{Unsought, Never, Turns, Large}
 
 -- ---- verdicts
-
--- all starts have the same postures
-abbrev pub opening : State
-opening = start_state (replicate 16 false) 0
-
--- what is shown of the two motors of a hazard; if they are kept apart, they are never permitted both after a legal
--- history from a sound opening with the postures of a start
-pub record IsVerdictOf (t : PlanTable) (motors : List Motor) (h : Hazard) (v : Verdict) : Type 0 where
-  pub shown : IsShownBy t (motor_at motors h.first) (motor_at motors h.second) opening v
-  pub never : IsTrue (is_never v) → NeverFromPostures t opening (motor_at motors h.first) (motor_at motors h.second)
 
 abbrev pub IsHazardLead : ProgrammedPlan → Option State → Hazard → Verdict → Lead → Type 0
 IsHazardLead plan start h v lead =
@@ -96,9 +84,8 @@ state_words n s =
     ++ flat_map (place_part n s) (range_with_len 0 (length n.places))
 
 abbrev pub verdict_words : Named → Verdict → Text
-verdict_words n (Excluded (Zone zone)) = codes "kept apart by " ++ zone_name n zone
-verdict_words n (Excluded (Place place)) = codes "kept apart by place " ++ name_in n.places place
-verdict_words n (ByPoses machine) = codes "kept apart by the poses of " ++ machine_name n machine
+verdict_words n (Excluded cause) = picture.verdict_words n (Excluded cause)
+verdict_words n (ByPoses machine) = picture.verdict_words n (ByPoses machine)
 verdict_words n (Possible s) = UNKEPT.now ++ state_words n s
 
 -- `start 10`: a digit for each place, as in scripts

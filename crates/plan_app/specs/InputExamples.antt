@@ -5,8 +5,8 @@ use Rattle.plan_app.specs.Input.{byte_limit, document_in, max_bytes_read, plan_l
 use Rattle.plan_app.specs.Requests.{request_of}
 use Rattle.plan_app.specs.Words.{counted}
 use Rattle.plan_app.specs.declared.request.Request.{Request}
-use Rattle.plan_app.specs.declared.request.Request.TheVariants.{Check, Replay, Explore, Header, Module, Draw}
-use Rattle.plan_app.specs.declared.request.Request.TheVariants.{Run, Help, Version}
+use Rattle.plan_app.specs.declared.request.Request.TheVariants.{Check, Replay, Explore, Page, Header, Module, Draw}
+use Rattle.plan_app.specs.declared.request.Request.TheVariants.{Run, RunPage, Help, Version}
 
 -- a document of one line, and a script of one
 abbrev pub both : List ℕ
@@ -49,6 +49,7 @@ pub record RequestsAreRead : Type 0 where
   pub header : asked (codes "header") ≡ Some Header
   pub draw : asked (codes "draw") ≡ Some Draw
   pub python : asked_with (codes "header") (codes "--python") ≡ Some Module
+  pub page : asked_with (codes "explore") (codes "--page") ≡ Some Page
   pub help : asked (codes "--help") ≡ Some Help
   pub help_short : asked (codes "-h") ≡ Some Help
   pub version : asked (codes "--version") ≡ Some Version
@@ -77,10 +78,28 @@ pub record RequestsAreRead : Type 0 where
   pub header_for_rust : asked_with (codes "header") (codes "--rust") ≡ None
   pub longer_word : asked_with (codes "header") (codes "--pythons") ≡ None
   pub python_alone : asked (codes "--python") ≡ None
+  -- only what was explored has a page, by this word
+  pub page_of_check : asked_with (codes "check") (codes "--page") ≡ None
+  pub page_of_replay : asked_with (codes "replay") (codes "--page") ≡ None
+  pub page_of_header : asked_with (codes "header") (codes "--page") ≡ None
+  pub explore_for_python : asked_with (codes "explore") (codes "--python") ≡ None
+  pub longer_page : asked_with (codes "explore") (codes "--pages") ≡ None
+  pub page_alone : asked (codes "--page") ≡ None
+  pub page_first : asked_with (codes "--page") (codes "explore") ≡ None
+  pub page_twice : request_of (codes "plan" ∷ codes "explore" ∷ codes "--page" ∷ codes "--page" ∷ []) ≡ None
   -- a run has its number of turns, from 1 to 1,000,000
   pub run_once : run_with (codes "1") ≡ Some (Run 1)
   pub run_most : run_with (codes "1000000") ≡ Some (Run 1000000)
   pub run_zeros : run_with (codes "0012") ≡ Some (Run 12)
+  pub run_page : request_of (codes "plan" ∷ codes "run" ∷ codes "--turns" ∷ codes "12" ∷ codes "--page" ∷ [])
+      ≡ Some (RunPage 12)
+  pub page_before : request_of (codes "plan" ∷ codes "run" ∷ codes "--page" ∷ codes "--turns" ∷ codes "12" ∷ [])
+      ≡ None
+  pub page_of_none : request_of (codes "plan" ∷ codes "run" ∷ codes "--turns" ∷ codes "0" ∷ codes "--page" ∷ [])
+      ≡ None
+  pub page_of_turns : request_of (codes "plan" ∷ codes "explore" ∷ codes "--turns" ∷ codes "5" ∷ codes "--page" ∷ [])
+      ≡ None
+  pub run_page_alone : asked_with (codes "run") (codes "--page") ≡ None
   pub run_none : run_with (codes "0") ≡ None
   pub run_more : run_with (codes "1000001") ≡ None
   pub run_long : run_with (codes "00000001") ≡ None

@@ -11,6 +11,9 @@ pub mod Sizes
 pub mod Leads
 pub mod Hazards
 pub mod Screens
+pub mod PageData
+pub mod Films
+pub mod Pages
 pub mod Served
 pub mod Failed
 pub mod WordExamples
@@ -32,5 +35,9 @@ pub mod Simulated
 pub mod SimulatedExamples
 pub mod RunTexts
 pub mod Runs
+pub mod RunPages
 pub mod RunLaws
 pub mod RunExamples
+pub mod PageExamples
+pub mod RunPageExamples
+pub mod PageLaws

@@ -9,8 +9,8 @@ use Rattle.program_shell.specs.Asked.{asked_of}
 use Rattle.program_shell.specs.declared.asked.Asked.{Asked}
 use Rattle.program_shell.specs.declared.asked.Asked.TheVariants as asked
 use Rattle.plan_app.specs.declared.request.Request.{Request}
-use Rattle.plan_app.specs.declared.request.Request.TheVariants.{Check, Replay, Explore, Header, Module, Draw}
-use Rattle.plan_app.specs.declared.request.Request.TheVariants.{Run, Help, Version}
+use Rattle.plan_app.specs.declared.request.Request.TheVariants.{Check, Replay, Explore, Page, Header, Module, Draw}
+use Rattle.plan_app.specs.declared.request.Request.TheVariants.{Run, RunPage, Help, Version}
 
 -- the words of this program alone
 abbrev pub own_words : List (List ℕ)
@@ -27,24 +27,34 @@ request_by word =
     else (if bytes_eq word (codes "draw") then Some Draw
     else None))))
 
--- what a word asks for with the name of a language
+-- what a word asks for with a flag after it
 abbrev pub request_for : List ℕ → List ℕ → Option Request
-request_for word language =
-    if bytes_eq word (codes "header") && bytes_eq language (codes "--python") then Some Module else None
+request_for word flag =
+    if bytes_eq word (codes "header") && bytes_eq flag (codes "--python") then Some Module
+    else (if bytes_eq word (codes "explore") && bytes_eq flag (codes "--page") then Some Page else None)
 
 -- a number of turns: 1 to 1,000,000
 abbrev pub turns_in : List ℕ → Option ℕ
 turns_in word = option_and_then (λ n. then_some (nat_le 1 n && nat_le n 1000000) n) (number_in word)
 
--- what a word asks for with a number after a flag
+-- the number of turns of a run, after its flag
+abbrev pub turns_of_run : List ℕ → List ℕ → List ℕ → Option ℕ
+turns_of_run word flag number =
+    if bytes_eq word (codes "run") && bytes_eq flag (codes "--turns") then turns_in number else None
+
+-- what a word asks for with a number after a flag, and with another flag after that
 abbrev pub request_of_turns : List ℕ → List ℕ → List ℕ → Option Request
-request_of_turns word flag number =
-    if bytes_eq word (codes "run") && bytes_eq flag (codes "--turns") then option_map Run (turns_in number) else None
+request_of_turns word flag number = option_map Run (turns_of_run word flag number)
+
+abbrev pub request_of_page : List ℕ → List ℕ → List ℕ → List ℕ → Option Request
+request_of_page word flag number last =
+    if bytes_eq last (codes "--page") then option_map RunPage (turns_of_run word flag number) else None
 
 -- what words ask for that aren't two
 abbrev pub request_with : List (List ℕ) → Option Request
-request_with (name ∷ word ∷ language ∷ []) = request_for word language
+request_with (name ∷ word ∷ flag ∷ []) = request_for word flag
 request_with (name ∷ word ∷ flag ∷ number ∷ []) = request_of_turns word flag number
+request_with (name ∷ word ∷ flag ∷ number ∷ last ∷ []) = request_of_page word flag number last
 request_with _ = None
 
 -- what words ask for, by what they ask for of every program

@@ -1,15 +1,16 @@
 -- A run of a plan's machines, and what is told of it.
 use Rattle.std.specs.Prelude.{◌≡◌, ◌⊎◌, ℕ, ◌<◌, ◌≤◌, Bool, true, false, List, [], get_or, length, map, slice_index_or}
-use Rattle.std.specs.Prelude.{string_bytes, Option, Some, IsTrue, ⊤}
+use Rattle.std.specs.Prelude.{string_bytes, Option, Some, None, IsTrue, ⊤}
 use Rattle.csv_rows.specs.ScriptEnd.{max_records}
 use Rattle.plan_types.specs.declared.answer.Refusal.{Refusal}
 use Rattle.plan_types.specs.declared.answer.Event.{Event}
 use Rattle.plan_rules.specs.declared.state.State.{State}
 use Rattle.plan_controller.specs.declared.step.Step.{Step}
+use Rattle.plan_controller.specs.Turns.{control}
 use Rattle.plan_interlock.specs.Book.{plan_of}
 use Rattle.plan_document.specs.declared.resolving.ProgrammedPlan.{ProgrammedPlan}
 use Rattle.plan_workers.specs.Audited.{IsAudited, HasNoHistory, Journals, journals_in}
-use Rattle.plan_workers.specs.Jobs.{IsJobOf, PlanInterlockView}
+use Rattle.plan_workers.specs.Jobs.{IsReady, PlanInterlockView}
 use Rattle.plan_workers.specs.Recording.{HaveRecorded}
 use Rattle.plan_workers.specs.declared.record.PlanRecorded.{PlanRecorded}
 use Rattle.plan_workers.specs.declared.run.PlanJob.{PlanJob}
@@ -25,11 +26,11 @@ use Rattle.plan_app.specs.declared.run.Told.TheVariants.{Fine, Stopped}
 abbrev pub program_of : ProgrammedPlan → ℕ → List Step
 program_of plan m = get_or (map (λ steps. steps.items) plan.steps.items) m []
 
--- a machine's job: by its own pass, and its program, with simulated devices
+-- a machine's job: by its own pass, from the beginning of its program, with simulated devices
 pub record IsJobFor (plan : ProgrammedPlan) (i : PlanInterlockView) (m : ℕ) (job : PlanJob Simulation) : Type 0 where
-  pub own : IsJobOf i job.pass
+  pub ready : IsReady i job
   pub machine : job.pass.actor ≡ m
-  pub steps : job.steps.items ≡ program_of plan m
+  pub controller : job.controller ≡ control m (program_of plan m) 0 None
   pub devices : job.devices ≡ new_simulation (program_of plan m)
 
 -- each of these by its number

@@ -13,6 +13,7 @@ use Rattle.plan_header.specs.Modules.{module_text}
 use Rattle.plan_picture.specs.Pictures.{IsPicture}
 use Rattle.plan_app.specs.Input.{document_in, script_in}
 use Rattle.plan_app.specs.Hazards.{TellsReport, start_if}
+use Rattle.plan_app.specs.RunPages.{ShowsRun}
 use Rattle.plan_app.specs.Runs.{TellsRun}
 use Rattle.plan_app.specs.Screens.{TellsFree}
 
@@ -53,6 +54,15 @@ abbrev pub WritesRun : ProgrammedPlan → ℕ → List ℕ → Option (List ℕ)
 WritesRun plan turns script old new =
     (start : State) × (script_start plan.named script ≡ Ok start) × WritesRunFrom plan turns start old new
 
+-- or the page of that history
+abbrev pub WritesRunPageFrom : ProgrammedPlan → ℕ → State → Option (List ℕ) → Option (List ℕ) → Type 0
+WritesRunPageFrom plan turns start old new =
+    (text : List ℕ) × ShowsRun plan turns start true text × Appends old new text
+
+abbrev pub WritesRunPage : ProgrammedPlan → ℕ → List ℕ → Option (List ℕ) → Option (List ℕ) → Type 0
+WritesRunPage plan turns script old new =
+    (start : State) × (script_start plan.named script ≡ Ok start) × WritesRunPageFrom plan turns start old new
+
 -- ---- by the plan of the document in these bytes
 
 -- the script after it was answered
@@ -92,6 +102,11 @@ abbrev pub WritesRunIn : ℕ → List ℕ → Option (List ℕ) → Option (List
 WritesRunIn turns bytes old new =
     (plan : ProgrammedPlan) × IsPlanIn (document_in bytes) plan × WritesRun plan turns (script_in bytes) old new
 
+-- or the page of one
+abbrev pub WritesRunPageIn : ℕ → List ℕ → Option (List ℕ) → Option (List ℕ) → Type 0
+WritesRunPageIn turns bytes old new =
+    (plan : ProgrammedPlan) × IsPlanIn (document_in bytes) plan × WritesRunPage plan turns (script_in bytes) old new
+
 -- ---- by the plan of the document in the input
 
 abbrev pub AnswersInput : Option (List ℕ) → Option (List ℕ) → Option (List ℕ) → Type 0
@@ -114,3 +129,6 @@ Draws input old new = IfSome input (λ bytes. WritesPictureIn bytes old new)
 
 abbrev pub TellsInputRun : ℕ → Option (List ℕ) → Option (List ℕ) → Option (List ℕ) → Type 0
 TellsInputRun turns input old new = IfSome input (λ bytes. WritesRunIn turns bytes old new)
+
+abbrev pub ShowsInputRun : ℕ → Option (List ℕ) → Option (List ℕ) → Option (List ℕ) → Type 0
+ShowsInputRun turns input old new = IfSome input (λ bytes. WritesRunPageIn turns bytes old new)

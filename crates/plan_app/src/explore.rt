@@ -83,7 +83,7 @@ fn free_screen(
 }
 
 /// Whether each machine goes on for ever.
-fn machines_of(
+pub(crate) fn machines_of(
     alloc: Global,
     plan: &ProgrammedPlan,
     opening: &State,
@@ -97,7 +97,11 @@ fn machines_of(
 }
 
 /// Whether plates move for ever.
-fn plates_of(alloc: Global, plan: &ProgrammedPlan, opening: &State) -> Result<Progress, AllocError>
+pub(crate) fn plates_of(
+    alloc: Global,
+    plan: &ProgrammedPlan,
+    opening: &State,
+) -> Result<Progress, AllocError>
     ensures moving { IfOk result (λ plates. spec.MoveOn plan.now.named plan.now.programs opening.now plates) }
     ensures resting { IfOk result (λ plates. spec.MayRest plan.now.named plan.now.programs opening.now plates) }
 {
@@ -127,7 +131,7 @@ fn free_text(
 }
 
 /// Adds the line of the situations, and what is said of machines that go on.
-fn push_free(
+pub(crate) fn push_free(
     text: &mut String,
     plan: &ProgrammedPlan,
     opening: &State,

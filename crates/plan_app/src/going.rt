@@ -433,7 +433,11 @@ fn push_step(
 }
 
 /// What the machine that is named asks in a situation, and is answered.
-fn outlook_of(plan: &ProgrammedPlan, at: &Situation, machine: Option<u8>) -> Option<Event>
+pub(crate) fn outlook_of(
+    plan: &ProgrammedPlan,
+    at: &Situation,
+    machine: Option<u8>,
+) -> Option<Event>
     ensures { result ≡ spec.outlook_at plan.now.named plan.now.programs machine at.now }
 {
     match machine {
@@ -443,7 +447,7 @@ fn outlook_of(plan: &ProgrammedPlan, at: &Situation, machine: Option<u8>) -> Opt
 }
 
 /// What a machine asks in a situation, if it has a program, and what it is answered.
-fn event_of(plan: &ProgrammedPlan, at: &Situation, machine: u8) -> Option<Event>
+pub(crate) fn event_of(plan: &ProgrammedPlan, at: &Situation, machine: u8) -> Option<Event>
     ensures { result ≡ walks.event_of plan.now.named.plan plan.now.programs at.now machine }
 {
     let call = call_of(&plan.programs, at, machine)?;

@@ -15,11 +15,12 @@ use crate::rows::{has_every_row, push_rows};
 use plan_document::ProgrammedPlan;
 use plan_drives::Undriven;
 use plan_header::motor_at;
-use plan_motors::{Cause, Hazard, Verdict, judge};
+use plan_motors::{Hazard, Verdict};
+use plan_picture::{push_verdict, verdict_of};
 use plan_rules::{State, ZoneState};
 use plan_text::NamedPlan;
 use plan_text::words::posture_word;
-use plan_types::{MAX_PLACES, Posture};
+use plan_types::Posture;
 use std::alloc::{AllocError, Global};
 
 /// What is said of a hazard whose motors aren't kept apart, before a state that permits both.
@@ -131,20 +132,6 @@ fn finding_of(
     let verdict = verdict_of(plan, hazard);
     let lead = hazard_lead(alloc, plan, start, verdict, hazard)?;
     Ok(Finding { verdict, lead })
-}
-
-/// What keeps the motors of a hazard apart, from a start on, or a state that permits both.
-fn verdict_of(plan: &ProgrammedPlan, hazard: Hazard) -> Verdict
-    ensures { spec.IsVerdictOf plan.now.named.plan plan.now.motors.motors.items hazard result }
-{
-    let first = motor_at(&plan.motors.motors, hazard.first);
-    let second = motor_at(&plan.motors.motors, hazard.second);
-    judge(
-        plan.named.plan(),
-        &first,
-        &second,
-        &State::start([false; MAX_PLACES], 0),
-    )
 }
 
 /// What a search for turns that lead to a state which permits both motors of a hazard finds.
@@ -325,7 +312,7 @@ fn push_lead(
 fn push_unsought(text: &mut String, named: &NamedPlan, verdict: Verdict) -> Result<(), AllocError>
     ensures { OnOk result (string_bytes text.new ≡ string_bytes text.old ++ spec.unsought_line named.now verdict) }
 {
-    push_verdict(text, named, verdict)?;
+    push_shown(text, named, verdict)?;
     text.push_str("\n")
 }
 
@@ -339,7 +326,7 @@ fn push_unled(
     ensures { OnOk result (string_bytes text.new ≡ string_bytes text.old
         ++ spec.unled_line named.now opening.now verdict) }
 {
-    push_verdict(text, named, verdict)?;
+    push_shown(text, named, verdict)?;
     text.push_str(UNLED)?;
     push_start(text, named, opening)?;
     text.push_str("\n")
@@ -355,7 +342,7 @@ fn push_large(
     ensures { OnOk result (string_bytes text.new ≡ string_bytes text.old
         ++ spec.large_line named.now opening.now verdict) }
 {
-    push_verdict(text, named, verdict)?;
+    push_shown(text, named, verdict)?;
     text.push_str(UNSOUGHT)?;
     push_start(text, named, opening)?;
     text.push_str(LARGE)
@@ -443,22 +430,12 @@ fn push_digit(text: &mut String, opening: &State, place: u8) -> Result<(), Alloc
 }
 
 /// Adds what keeps two motors apart, or the state that permits both.
-fn push_verdict(text: &mut String, named: &NamedPlan, verdict: Verdict) -> Result<(), AllocError>
+fn push_shown(text: &mut String, named: &NamedPlan, verdict: Verdict) -> Result<(), AllocError>
     ensures { OnOk result (string_bytes text.new ≡ string_bytes text.old ++ spec.verdict_words named.now verdict) }
 {
     match verdict {
-        Verdict::Excluded(Cause::Zone(zone)) => {
-            push_two(text, "kept apart by ", named.zones().name(zone))
-        }
-        Verdict::Excluded(Cause::Place(place)) => {
-            push_two(text, "kept apart by place ", named.places().name(place))
-        }
-        Verdict::ByPoses(machine) => push_two(
-            text,
-            "kept apart by the poses of ",
-            named.machines().name(machine),
-        ),
         Verdict::Possible(state) => push_unkept(text, named, &state),
+        Verdict::Excluded(_) | Verdict::ByPoses(_) => push_verdict(text, named, verdict),
     }
 }
 

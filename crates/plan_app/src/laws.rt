@@ -13,8 +13,11 @@ ghost use Rattle.plan_app.specs.HazardLaws.{HazardsTell};
 ghost use Rattle.plan_app.specs.InputExamples.{InputsAreSplit, RequestsAreRead, WordsAreMade};
 ghost use Rattle.plan_app.specs.InputLaws.{ScriptsAreFound};
 ghost use Rattle.plan_app.specs.LineExamples.{ReportLines, RowsAreTold, WholeReports};
+ghost use Rattle.plan_app.specs.PageExamples.{DataIsTold, LinesAreShown, OrdersAreChosen, OrdersAreShown};
+ghost use Rattle.plan_app.specs.PageLaws.{PagesTell};
 ghost use Rattle.plan_app.specs.ReportLaws.{ReportsTell};
 ghost use Rattle.plan_app.specs.RunExamples.{RunTextsAreTold};
+ghost use Rattle.plan_app.specs.RunPageExamples.{RunNotes};
 ghost use Rattle.plan_app.specs.RunLaws.{RunsAreReplayed, WritingsAreReplayed};
 ghost use Rattle.plan_app.specs.ScreenExamples.{AnswersAreMeant, KindsOfScreens, ScreensAreMeant};
 ghost use Rattle.plan_app.specs.ScreenExamples.{ServedIsMeant, StandstillLines};
@@ -202,4 +205,24 @@ pub fn runs_are_replayed()
 #[tactic(auto, using(crate::proofs::RunRows::run_rows))]
 pub fn run_texts_are_told()
     ensures { RunTextsAreTold }
+{}
+
+/// Examples: the data and the lines of pages, what is shown of a standstill and of an order in which a machine starves,
+/// and which order is shown.
+pub fn pages_are_shown()
+    ensures told { DataIsTold }
+    ensures lines { LinesAreShown }
+    ensures orders { OrdersAreShown }
+    ensures chosen { OrdersAreChosen }
+{}
+
+/// What a page has is so: its data and lines, each answer, and the turns that lead somewhere.
+pub fn pages_tell()
+    ensures { PagesTell }
+{}
+
+/// Examples: the notes on the pages of runs.
+#[tactic(auto, using(crate::proofs::RunRows::run_notes))]
+pub fn run_notes_are_told()
+    ensures { RunNotes }
 {}

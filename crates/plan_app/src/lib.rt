@@ -3,17 +3,25 @@
 
 mod drives;
 pub mod explore;
+mod film;
 pub mod going;
 pub mod hazards;
 pub mod input;
 pub mod laws;
 pub mod leads;
+pub mod page;
+mod page_data;
+mod page_head;
+mod page_middle;
+mod page_tail;
 pub mod report;
 pub mod request;
 mod rows;
 pub mod run;
+pub mod run_page;
 pub mod run_text;
 pub mod serve;
+mod serve_page;
 pub mod simulated;
 pub mod size;
 mod starving;

@@ -18,6 +18,8 @@ pub enum Request {
     Replay,
     /// Explores the machines' programs: for standstills, and whether each machine goes on for ever.
     Explore,
+    /// Prints the page of what it explored: a standstill, or an order in which a machine starves.
+    Page,
     /// Prints a header for C.
     Header,
     /// Prints a module for Python.
@@ -26,6 +28,8 @@ pub enum Request {
     Draw,
     /// Lets the machines take this many turns each, in threads, and prints what they did.
     Run(u32),
+    /// The same, and prints the page of what they did.
+    RunPage(u32),
     /// Prints help.
     Help,
     /// Prints the version.
@@ -53,8 +57,9 @@ fn request_with(words: &[&str]) -> Option<Request>
     ensures { result ≡ requests.request_with (texts_of words.now) }
 {
     match words {
-        [_, word, language] => request_for(word, language),
+        [_, word, flag] => request_for(word, flag),
         [_, word, flag, number] => request_of_turns(word, flag, number),
+        [_, word, flag, number, last] => request_of_page(word, flag, number, last),
         _ => None,
     }
 }
@@ -63,8 +68,25 @@ fn request_with(words: &[&str]) -> Option<Request>
 fn request_of_turns(word: &str, flag: &str, number: &str) -> Option<Request>
     ensures { result ≡ requests.request_of_turns word.now flag.now number.now }
 {
+    Some(Request::Run(turns_of_run(word, flag, number)?))
+}
+
+/// The same with another flag after that.
+fn request_of_page(word: &str, flag: &str, number: &str, last: &str) -> Option<Request>
+    ensures { result ≡ requests.request_of_page word.now flag.now number.now last.now }
+{
+    match last {
+        "--page" => Some(Request::RunPage(turns_of_run(word, flag, number)?)),
+        _ => None,
+    }
+}
+
+/// The number of turns of a run, after its flag.
+fn turns_of_run(word: &str, flag: &str, number: &str) -> Option<u32>
+    ensures { result ≡ requests.turns_of_run word.now flag.now number.now }
+{
     match (word, flag) {
-        ("run", "--turns") => Some(Request::Run(turns_in(number)?)),
+        ("run", "--turns") => turns_in(number),
         _ => None,
     }
 }
@@ -77,12 +99,13 @@ fn turns_in(word: &str) -> Option<u32>
     (1 <= turns && turns <= MAX_TURNS).then_some(turns)
 }
 
-/// What a word of this program alone asks for with the name of a language.
-fn request_for(word: &str, language: &str) -> Option<Request>
-    ensures { result ≡ requests.request_for word.now language.now }
+/// What a word of this program alone asks for with a flag after it.
+fn request_for(word: &str, flag: &str) -> Option<Request>
+    ensures { result ≡ requests.request_for word.now flag.now }
 {
-    match (word, language) {
+    match (word, flag) {
         ("header", "--python") => Some(Request::Module),
+        ("explore", "--page") => Some(Request::Page),
         _ => None,
     }
 }

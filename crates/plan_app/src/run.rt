@@ -1,9 +1,11 @@
 //! Lets the machines of a plan work in threads, with simulated devices, and tells what they did.
-ghost use Rattle.std.specs.Prelude.{◌≡◌, IfOk, IfErr, All, Some, length, map};
+ghost use Rattle.std.specs.Prelude.{◌≡◌, IfOk, IfErr, All, Some, None, length, map};
 ghost use Rattle.plan_rules.specs.declared.state.State.{State};
 ghost use Rattle.plan_interlock.specs.Book.{plan_book, plan_of};
 ghost use Rattle.plan_text.specs.HistoryLaws.{IsStartOf};
+ghost use Rattle.plan_controller.specs.Turns.{control};
 ghost use Rattle.plan_workers.specs.Audited.{IsAudited};
+ghost use Rattle.plan_workers.specs.Jobs.{IsJobOf, IsReady, PlanInterlockView};
 ghost use Rattle.word_interlock.specs.Bunches.{fresh_passes};
 ghost use Rattle.plan_app.specs.Simulated.{new_simulation};
 ghost use Rattle.plan_app.specs.Runs as spec;
@@ -35,7 +37,7 @@ const TRIES: u8 = 64;
 const PATIENCE: u64 = 60;
 
 /// The most calls that are told.
-const MAX_CALLS: usize = MAX_RECORDS as usize;
+pub(crate) const MAX_CALLS: usize = MAX_RECORDS as usize;
 
 /// Why a run isn't told.
 #[derive(Clone, Copy, PartialEq, Eq, Debug)]
@@ -104,17 +106,16 @@ fn job_of(
     pass: PlanPass,
 ) -> Result<PlanJob<SimulatedDevices>, AllocError>
     ensures pass { IfOk result (λ job. job.pass ≡ pass) }
-    ensures steps { IfOk result (λ job. job.steps.items ≡ spec.program_of plan.now machine) }
+    ensures controller { IfOk result
+        (λ job. job.controller ≡ control pass.actor (spec.program_of plan.now machine) 0 None) }
     ensures devices { IfOk result
         (λ job. job.devices ≡ new_simulation (spec.program_of plan.now machine)) }
+    ensures ready { IfOk result
+        (λ job. (i : PlanInterlockView) → IsJobOf i pass → IsReady i job) }
 {
     let steps = copy_of(alloc, steps_of(plan, machine))?;
     let devices = SimulatedDevices::new(copy_of(alloc, steps_of(plan, machine))?);
-    Ok(PlanJob {
-        pass,
-        steps,
-        devices,
-    })
+    Ok(PlanJob::new(pass, steps, devices))
 }
 
 /// The jobs of all machines, by the passes of a new interlock. The watch's pass stays.

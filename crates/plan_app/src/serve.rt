@@ -22,8 +22,8 @@ ghost use Rattle.plan_app.specs.Served.{AnswersIn, AnswersInput, AnswersScript, 
 ghost use Rattle.plan_app.specs.Served.{FindsFreeIn, FindsInputFree, Reports, ReportsIn};
 ghost use Rattle.plan_app.specs.Served.{WritesFree, WritesHeader, WritesHeaderIn, WritesModule};
 ghost use Rattle.plan_app.specs.Served.{WritesModuleIn, WritesPicture, WritesPictureIn};
-ghost use Rattle.plan_app.specs.Served.{TellsInputRun, WritesReport, WritesRun, WritesRunFrom};
-ghost use Rattle.plan_app.specs.Served.{WritesRunIn};
+ghost use Rattle.plan_app.specs.Served.{ShowsInputRun, TellsInputRun, WritesReport, WritesRun, WritesRunFrom};
+ghost use Rattle.plan_app.specs.Served.{WritesRunIn, WritesRunPage, WritesRunPageIn};
 ghost use Rattle.plan_app.specs.Requests.{request_of};
 
 use crate::explore::{Screen, screen_of};
@@ -32,6 +32,7 @@ use crate::input::{MAX_BYTES, plan_length};
 use crate::request;
 use crate::request::{MAX_TURNS, Request};
 use crate::run::{RunFault, Told, run_and_tell};
+use crate::serve_page::{page_script, run_page_script};
 use crate::size::{MAX_SITUATIONS, is_large};
 use plan_document::{PlanTextFault, ProgrammedPlan, plan_of};
 use plan_header::{header_of, module_of};
@@ -57,14 +58,16 @@ Reads a plan of a plant, in TOML, from standard input.
   plan replay     answers the script after it, which begins with the line start,..
   plan explore    says whether some order of turns of its programs leads from the start
                   after it, a line start,.., to a standstill; and else whether each machine
-                  goes on for ever, or in which order it starves
+                  goes on for ever, or in which order it starves; with --page a page on which
+                  such a standstill, or the first such order, is played, to open in a browser
   plan header     prints its names and the layout of its word for C; with --python, a module
                   for Python
   plan draw       draws it, as SVG: machines, their places and motors, zones, and hazards
   plan run --turns N
                   lets each machine take N turns, 1 to 1000000, in a thread of its own, from the
                   start after it, with simulated sensors; says what they did, and prints their
-                  history as a script, which plan replay answers as they were answered
+                  history as a script, which plan replay answers as they were answered; with
+                  --page after N a page on which that history is played
   plan --version  prints the version
 A script may follow the plan in each case. At most 1,000,000 situations are explored; more
 are fault large. Exit status: 0 on success, and for help; 2 for bad arguments; otherwise
@@ -96,7 +99,7 @@ fn read_input<R: Read>(alloc: Global, reader: &mut R) -> Result<Vec<u8>, InputFa
 }
 
 /// Prints that the input wasn't read.
-fn fail_to_read<W: Write>(writer: &mut W, fault: InputFault) -> Exit
+pub(crate) fn fail_to_read<W: Write>(writer: &mut W, fault: InputFault) -> Exit
     ensures status { result ≡ Exit.Failed }
     ensures line { WroteUnread (W.contents writer.old) (W.contents writer.new) }
 {
@@ -107,7 +110,7 @@ fn fail_to_read<W: Write>(writer: &mut W, fault: InputFault) -> Exit
 }
 
 /// Prints the line of a fault of a script's start.
-fn refuse_start<W: Write>(alloc: Global, writer: &mut W, fault: ScriptFault) -> Exit
+pub(crate) fn refuse_start<W: Write>(alloc: Global, writer: &mut W, fault: ScriptFault) -> Exit
     ensures status { result ≡ Exit.Failed }
     ensures line { WroteUnread (W.contents writer.old) (W.contents writer.new)
         ⊎ WroteFault (fault_text fault) (W.contents writer.old) (W.contents writer.new) }
@@ -151,6 +154,8 @@ where
         AnswersInput (R.remaining reader.old) (W.contents writer.old) (W.contents writer.new) }
     ensures free { request ≡ Request.Explore → result ≡ Exit.Well →
         FindsInputFree (R.remaining reader.old) (W.contents writer.old) (W.contents writer.new) }
+    ensures paged { request ≡ Request.Page → result ≡ Exit.Well →
+        FindsInputFree (R.remaining reader.old) (W.contents writer.old) (W.contents writer.new) }
     ensures header { request ≡ Request.Header → result ≡ Exit.Well →
         WritesHeader (R.remaining reader.old) (W.contents writer.old) (W.contents writer.new) }
     ensures python { request ≡ Request.Module → result ≡ Exit.Well →
@@ -159,6 +164,9 @@ where
         Draws (R.remaining reader.old) (W.contents writer.old) (W.contents writer.new) }
     ensures ran { (turns : ℕ) → request ≡ Request.Run turns → result ≡ Exit.Well →
         TellsInputRun turns (R.remaining reader.old)
+        (W.contents writer.old) (W.contents writer.new) }
+    ensures shown { (turns : ℕ) → request ≡ Request.RunPage turns → result ≡ Exit.Well →
+        ShowsInputRun turns (R.remaining reader.old)
         (W.contents writer.old) (W.contents writer.new) }
     ensures failed { result ≡ Exit.Failed → Fails request
         (R.remaining reader.old) (W.contents writer.old) (W.contents writer.new) }
@@ -189,6 +197,8 @@ where
         AnswersIn bytes.now (W.contents writer.old) (W.contents writer.new) }
     ensures free { request ≡ Request.Explore → result ≡ Exit.Well →
         FindsFreeIn bytes.now (W.contents writer.old) (W.contents writer.new) }
+    ensures paged { request ≡ Request.Page → result ≡ Exit.Well →
+        FindsFreeIn bytes.now (W.contents writer.old) (W.contents writer.new) }
     ensures header { request ≡ Request.Header → result ≡ Exit.Well →
         WritesHeaderIn bytes.now (W.contents writer.old) (W.contents writer.new) }
     ensures python { request ≡ Request.Module → result ≡ Exit.Well →
@@ -197,6 +207,8 @@ where
         WritesPictureIn bytes.now (W.contents writer.old) (W.contents writer.new) }
     ensures ran { (turns : ℕ) → request ≡ Request.Run turns → result ≡ Exit.Well →
         WritesRunIn turns bytes.now (W.contents writer.old) (W.contents writer.new) }
+    ensures shown { (turns : ℕ) → request ≡ Request.RunPage turns → result ≡ Exit.Well →
+        WritesRunPageIn turns bytes.now (W.contents writer.old) (W.contents writer.new) }
     ensures failed { result ≡ Exit.Failed →
         FailsIn request bytes.now (W.contents writer.old) (W.contents writer.new) }
 {
@@ -210,7 +222,7 @@ where
     }
 }
 
-/// Prints what the request asks of a plan, and of the script after it for `Replay`, `Explore` and `Check`.
+/// Prints what the request asks of a plan, and of the script after it, but for its header, its module and its picture.
 fn serve_plan<T, W: Write>(
     rt: &T,
     alloc: Global,
@@ -228,6 +240,8 @@ where
         AnswersScript plan.named script.now (W.contents writer.old) (W.contents writer.new) }
     ensures free { request ≡ Request.Explore → result ≡ Exit.Well →
         FindsFree plan script.now (W.contents writer.old) (W.contents writer.new) }
+    ensures paged { request ≡ Request.Page → result ≡ Exit.Well →
+        FindsFree plan script.now (W.contents writer.old) (W.contents writer.new) }
     ensures header { request ≡ Request.Header → result ≡ Exit.Well →
         Appends (W.contents writer.old) (W.contents writer.new) (header_text plan) }
     ensures python { request ≡ Request.Module → result ≡ Exit.Well →
@@ -237,6 +251,8 @@ where
         WritesPicture plan (W.contents writer.old) (W.contents writer.new) }
     ensures ran { (turns : ℕ) → request ≡ Request.Run turns → result ≡ Exit.Well →
         WritesRun plan turns script.now (W.contents writer.old) (W.contents writer.new) }
+    ensures shown { (turns : ℕ) → request ≡ Request.RunPage turns → result ≡ Exit.Well →
+        WritesRunPage plan turns script.now (W.contents writer.old) (W.contents writer.new) }
     ensures failed { result ≡ Exit.Failed →
         WroteUnread (W.contents writer.old) (W.contents writer.new)
         ⊎ FailsBy request plan script.now (W.contents writer.old) (W.contents writer.new) }
@@ -247,7 +263,9 @@ where
         Request::Draw => print_picture(alloc, &plan, writer),
         Request::Replay => replay_script(alloc, &plan.named, script, writer),
         Request::Explore => explore_script(alloc, &plan, script, writer),
+        Request::Page => page_script(alloc, &plan, script, writer),
         Request::Run(turns) => run_script(rt, alloc, &plan, turns, script, writer),
+        Request::RunPage(turns) => run_page_script(rt, alloc, &plan, turns, script, writer),
         _ => report_script(alloc, &plan, script, writer),
     }
 }
@@ -483,7 +501,7 @@ where
 
 /// Prints what was found of a standstill, of who starves, of motors that aren't kept apart, or of a machine that was
 /// stopped. That isn't well, whatever was written.
-fn print_warning<W: Write>(writer: &mut W, text: &str) -> Exit
+pub(crate) fn print_warning<W: Write>(writer: &mut W, text: &str) -> Exit
     ensures status { result ≡ Exit.Failed }
     ensures line { WrotePrefix (W.contents writer.old) (W.contents writer.new) text.now }
 {
@@ -540,6 +558,10 @@ where
     ensures explore { request_of (texts_of words.now) ≡ Some Request.Explore → result ≡ 0 →
         FindsInputFree (R.remaining reader.old) (W.contents writer.old) (W.contents writer.new) }
 
+    // With `explore --page`: status 0 says and writes the same; there is no page then.
+    ensures page { request_of (texts_of words.now) ≡ Some Request.Page → result ≡ 0 →
+        FindsInputFree (R.remaining reader.old) (W.contents writer.old) (W.contents writer.new) }
+
     // With `check`: status 0 says that this plan's report was written, and that the motors of each hazard are kept
     // apart. With `header`: that its header was written, or with `header --python` its module. With `draw`: its
     // picture.
@@ -559,6 +581,11 @@ where
         result ≡ 0 → TellsInputRun turns (R.remaining reader.old)
         (W.contents writer.old) (W.contents writer.new) }
 
+    // With `run --turns N --page`: the same, and that the page of that history was written.
+    ensures run_page { (turns : ℕ) → request_of (texts_of words.now) ≡ Some (Request.RunPage turns) →
+        result ≡ 0 → ShowsInputRun turns (R.remaining reader.old)
+        (W.contents writer.old) (W.contents writer.new) }
+
     // Status 1 says for each of these what was written, of which the writer may have taken but a prefix: the line of a
     // fault; or, by the plan of the document in the input, what follows.
     // With `replay`: the answers to the script.
@@ -570,6 +597,12 @@ where
     // explorations answer of machines and plates.
     ensures explore_fails { request_of (texts_of words.now) ≡ Some Request.Explore → result ≡ 1 →
         Fails Request.Explore (R.remaining reader.old)
+        (W.contents writer.old) (W.contents writer.new) }
+
+    // With `explore --page`: the page of such a standstill, or of a fair order in which a machine starves or plates
+    // rest; or that there is none; or that it has more turns than a page shows.
+    ensures page_fails { request_of (texts_of words.now) ≡ Some Request.Page → result ≡ 1 →
+        Fails Request.Page (R.remaining reader.old)
         (W.contents writer.old) (W.contents writer.new) }
 
     // With `check`: its report. With `header`: its header, or with `header --python` its module. With `draw`: its
@@ -593,6 +626,11 @@ where
         result ≡ 1 → Fails (Request.Run turns) (R.remaining reader.old)
         (W.contents writer.old) (W.contents writer.new) }
 
+    // With `run --turns N --page`: the page of what they did, also where one was stopped; or the same.
+    ensures run_page_fails { (turns : ℕ) → request_of (texts_of words.now) ≡ Some (Request.RunPage turns) →
+        result ≡ 1 → Fails (Request.RunPage turns) (R.remaining reader.old)
+        (W.contents writer.old) (W.contents writer.new) }
+
     // Status 2 comes exactly for other words, of which a line was printed, or a prefix of it.
     ensures refused { result ≡ 2 → request_of (texts_of words.now) ≡ None }
     ensures other { request_of (texts_of words.now) ≡ None → result ≡ 2 }
@@ -609,8 +647,12 @@ where
         Some(Request::Draw) => serve_input(rt, alloc, Request::Draw, reader, writer).status(),
         Some(Request::Replay) => serve_input(rt, alloc, Request::Replay, reader, writer).status(),
         Some(Request::Explore) => serve_input(rt, alloc, Request::Explore, reader, writer).status(),
+        Some(Request::Page) => serve_input(rt, alloc, Request::Page, reader, writer).status(),
         Some(Request::Run(turns)) => {
             serve_input(rt, alloc, Request::Run(turns), reader, writer).status()
+        }
+        Some(Request::RunPage(turns)) => {
+            serve_input(rt, alloc, Request::RunPage(turns), reader, writer).status()
         }
         Some(Request::Help) => print(writer, HELP.as_bytes()).status(),
         Some(Request::Version) => print_version(writer, "plan").status(),

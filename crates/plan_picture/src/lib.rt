@@ -8,3 +8,4 @@ mod positions;
 mod verdicts;
 
 pub use picture::picture_of;
+pub use verdicts::{push_verdict, verdict_of};

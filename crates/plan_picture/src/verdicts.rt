@@ -1,5 +1,5 @@
 //! What keeps the motors of each hazard apart.
-ghost use Rattle.std.specs.Prelude.{◌≡◌, ◌++◌, IfOk, string_bytes};
+ghost use Rattle.std.specs.Prelude.{◌≡◌, ◌++◌, IfOk, OnOk, string_bytes};
 ghost use Rattle.std.specs.List.{AllZip};
 ghost use Rattle.plan_motors.specs.OfPlan as of_plan;
 ghost use Rattle.plan_picture.specs.Pictures as spec;
@@ -41,8 +41,8 @@ fn verdict_at(plan: &ProgrammedPlan, hazard: usize) -> Verdict
     }
 }
 
-/// What keeps the motors of a hazard apart, from a start on, or a state that permits both.
-fn verdict_of(plan: &ProgrammedPlan, hazard: Hazard) -> Verdict
+/// What keeps the motors of a hazard apart, from each start on, or a state that permits both.
+pub fn verdict_of(plan: &ProgrammedPlan, hazard: Hazard) -> Verdict
     ensures { spec.IsVerdictOf plan.now.named.plan plan.now.motors.motors.items hazard result }
 {
     let first = motor_at(&plan.motors.motors, hazard.first);
@@ -63,26 +63,42 @@ pub(crate) fn verdict_words(
 ) -> Result<String, AllocError>
     ensures { IfOk result (λ words. string_bytes words ≡ spec.verdict_words named.now verdict) }
 {
+    let mut words = String::new(alloc);
+    push_verdict(&mut words, named, verdict)?;
+    Ok(words)
+}
+
+/// Adds what keeps two motors apart, in words, as `kept apart by interior`; or `NOT kept apart`. Out of memory, a part
+/// of it may have been added.
+pub fn push_verdict(
+    text: &mut String,
+    named: &NamedPlan,
+    verdict: Verdict,
+) -> Result<(), AllocError>
+    ensures { OnOk result (string_bytes text.new
+        ≡ string_bytes text.old ++ spec.verdict_words named.now verdict) }
+{
     match verdict {
         Verdict::Excluded(Cause::Zone(zone)) => {
-            joined(alloc, "kept apart by ", named.zones().name(zone))
+            push_two(text, "kept apart by ", named.zones().name(zone))
         }
         Verdict::Excluded(Cause::Place(place)) => {
-            joined(alloc, "kept apart by place ", named.places().name(place))
+            push_two(text, "kept apart by place ", named.places().name(place))
         }
-        Verdict::ByPoses(machine) => joined(
-            alloc,
+        Verdict::ByPoses(machine) => push_two(
+            text,
             "kept apart by the poses of ",
             named.machines().name(machine),
         ),
-        Verdict::Possible(_) => joined(alloc, "NOT kept apart", ""),
+        Verdict::Possible(_) => text.push_str("NOT kept apart"),
     }
 }
 
-fn joined(alloc: Global, first: &str, second: &str) -> Result<String, AllocError>
-    ensures { IfOk result (λ words. string_bytes words ≡ first.now ++ second.now) }
+fn push_two(text: &mut String, first: &str, second: &str) -> Result<(), AllocError>
+    ensures { OnOk result (string_bytes text.new ≡ string_bytes text.old ++ (first.now ++ second.now)) }
 {
-    format!(in alloc; "{first}{second}")
+    text.push_str(first)?;
+    text.push_str(second)
 }
 
 /// The class of what is said of two motors.

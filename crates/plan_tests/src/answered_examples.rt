@@ -1,6 +1,6 @@
 //! Example plans: what is said of them, and the answers to their scripts.
 
-use super::doubles::is_answered;
+use super::doubles::{are_answered, is_answered};
 use super::headers::HEADER;
 use std::alloc::AllocError;
 
@@ -98,115 +98,219 @@ bit 27, 1 bit: stop
 rows: each call that is done has its row
 ";
 
-#[test]
-fn checks_the_press(rt: HostRuntime) -> Result<(), AllocError> {
-    assert!(rt; is_answered(&rt, rt.alloc(), b"check", PRESS, 0, REPORT));
-    // its script may follow
-    let input = format!(in rt.alloc(); "{PRESS}{SCRIPT}")?;
-    assert!(rt; is_answered(&rt, rt.alloc(), b"check", input.as_str(), 0, REPORT));
-    assert!(rt; is_answered(&rt, rt.alloc(), b"header", input.as_str(), 0, HEADER));
-    Ok(())
-}
+/// Scripts of the press, with the answers.
+const SCRIPTS: &str = "\
+1: ./plan replay
+=>
+=>
+fault nostart
+--
+1: ./plan replay
+=>
+start,
+=>
+fault badstart
+--
+1: ./plan replay
+=>
+start,101
+=>
+fault badstart
+--
+1: ./plan replay
+=>
+start,1x
+=>
+fault badstart
+--
+1: ./plan replay
+=>
+start,11,1048576
+=>
+fault badstart
+--
+1: ./plan replay
+=>
+start,11,7,
+=>
+fault badstart
+--
+0: ./plan replay
+=>
+start,11,1048575
+watch,stop
+=>
+0 1048575 start 2
+1 1048575 worn
+--
+1: ./plan replay
+=>
+start,00
+press,claim,door
+=>
+0 0 start 0
+record 1, field 3: no zone has this name
+fault badrow 1
+--
+1: ./plan replay
+=>
+start,00
+press,claim
+=>
+0 0 start 0
+record 1, field 3: a name is missing
+fault badrow 1
+--
+1: ./plan replay
+=>
+start,00
+press,pose,open
+=>
+0 0 start 0
+record 1, field 3: no pose has this name
+fault badrow 1
+--
+1: ./plan replay
+=>
+start,00
+robot,claim,interior
+=>
+0 0 start 0
+record 1, field 1: no machine has this name
+fault badrow 1
+--
+1: ./plan replay
+=>
+start,00
+press,claim,interior,
+=>
+0 0 start 0
+record 1, field 4: a record has at most three fields
+fault badrow 1
+--
+1: ./plan replay
+=>
+start,00
+press
+=>
+0 0 start 0
+record 1, field 2: a verb is missing
+fault badrow 1
+--
+1: ./plan replay
+=>
+start,00
+watch,stop
+press,clam
+=>
+0 0 start 0
+1 1 done
+record 2, field 2: this isn't a verb; known: stop, resume, and with a name claim, give, yield, take, release, \
+    inquire, pose
+fault badrow 2
+--
+1: ./plan replay
+=>
+start,00
+watch,stop,interior
+=>
+0 0 start 0
+record 1, field 2: this isn't a verb that takes a name; known: claim, give, yield, take, release, inquire, pose
+fault badrow 1
+--
+0: ./plan replay
+=>
+start,00
 
-/// Scripts of the press, the status and the answers.
-const SCRIPTS: &[(&str, u8, &str)] = &[
-    (SCRIPT, 0, ANSWERS),
-    ("", 1, "fault nostart\n"),
-    ("start,\n", 1, "fault badstart\n"),
-    ("start,101\n", 1, "fault badstart\n"),
-    ("start,1x\n", 1, "fault badstart\n"),
-    ("start,11,1048576\n", 1, "fault badstart\n"),
-    ("start,11,7,\n", 1, "fault badstart\n"),
-    (
-        "start,11,1048575\nwatch,stop\n",
-        0,
-        "0 1048575 start 2\n1 1048575 worn\n",
-    ),
-    (
-        "start,00\npress,claim,door\n",
-        1,
-        "0 0 start 0\nrecord 1, field 3: no zone has this name\nfault badrow 1\n",
-    ),
-    (
-        "start,00\npress,claim\n",
-        1,
-        "0 0 start 0\nrecord 1, field 3: a name is missing\nfault badrow 1\n",
-    ),
-    (
-        "start,00\npress,pose,open\n",
-        1,
-        "0 0 start 0\nrecord 1, field 3: no pose has this name\nfault badrow 1\n",
-    ),
-    (
-        "start,00\nrobot,claim,interior\n",
-        1,
-        "0 0 start 0\nrecord 1, field 1: no machine has this name\nfault badrow 1\n",
-    ),
-    (
-        "start,00\npress,claim,interior,\n",
-        1,
-        "0 0 start 0\nrecord 1, field 4: a record has at most three fields\nfault badrow 1\n",
-    ),
-    (
-        "start,00\npress\n",
-        1,
-        "0 0 start 0\nrecord 1, field 2: a verb is missing\nfault badrow 1\n",
-    ),
-    (
-        "start,00\nwatch,stop\npress,clam\n",
-        1,
-        "0 0 start 0\n1 1 done\nrecord 2, field 2: this isn't a verb; known: stop, resume, \
-         and with a name claim, give, yield, take, release, inquire, pose\nfault badrow 2\n",
-    ),
-    (
-        "start,00\nwatch,stop,interior\n",
-        1,
-        "0 0 start 0\nrecord 1, field 2: this isn't a verb that takes a name; known: \
-         claim, give, yield, take, release, inquire, pose\nfault badrow 1\n",
-    ),
-    (
-        "start,00\n\nwatch,claim,interior\nloader,stop\n",
-        0,
-        "0 0 start 0\n1 0 notparty\n2 0 notparty\n",
-    ),
-    (
-        "start,00\nwatch,resume\nloader,pose,load\n",
-        0,
-        "0 0 start 0\n1 0 notstopped\n2 0 nopose\n",
-    ),
-];
+watch,claim,interior
+loader,stop
+=>
+0 0 start 0
+1 0 notparty
+2 0 notparty
+--
+0: ./plan replay
+=>
+start,00
+watch,resume
+loader,pose,load
+=>
+0 0 start 0
+1 0 notstopped
+2 0 nopose
+--
+1: ./plan explore
+=>
+=>
+fault nostart
+--
+1: ./plan explore
+=>
+start,1
+=>
+fault badstart
+";
 
-#[test]
-fn answers_scripts(rt: HostRuntime) -> Result<(), AllocError> {
-    for (script, status, answers) in SCRIPTS {
-        let input = format!(in rt.alloc(); "{PRESS}{script}")?;
-        assert!(rt;
-            is_answered(&rt, rt.alloc(), b"replay", input.as_str(), *status, answers),
-            "{script}"
-        );
-    }
-    Ok(())
-}
+/// A press whose loader may claim the interior before the press has claimed it back.
+pub const STANDS: &str = "\
+[[machine]]
+name = \"loader\"
+places = [\"hand\"]
+program = [\"claim interior\", \"give interior\", \"take interior\", \"release interior\"]
 
-/// How many records come before the one that is refused: their answers are longer than a writer may take at once.
-const RECORDS: usize = 300;
+[[machine]]
+name = \"press\"
+places = [\"die\"]
+poses = [
+  { name = \"load\", gives = { interior = \"openin\" }, after_moving = true },
+  { name = \"unload\", gives = { interior = \"openout\" }, after_moving = true },
+  { name = \"closed\", gives = { interior = \"closed\" }, after_moving = true },
+  { name = \"travelling\", gives = { interior = \"moving\" } },
+]
+program = [
+  \"claim interior\", \"pose travelling\", \"pose load\", \"release interior\", \"take interior\",
+  \"pose travelling\", \"pose closed\", \"pose travelling\", \"pose unload\", \"give interior\",
+]
 
-#[test]
-fn writes_all_answers_before_a_fault(rt: HostRuntime) -> Result<(), AllocError> {
-    let mut input = format!(in rt.alloc(); "{PRESS}start,00\n")?;
-    let mut text = String::from_str(rt.alloc(), "0 0 start 0\n")?;
-    for record in 1..=RECORDS {
-        input.push_str("watch,inquire,interior\n")?;
-        write!(text, "{record} 0 zone free 0 closed\n")?;
-    }
-    input.push_str("press,claim,door\n")?;
-    text.push_str("record 301, field 3: no zone has this name\nfault badrow 301\n")?;
-    assert!(rt; is_answered(&rt, rt.alloc(), b"replay", input.as_str(), 1, text.as_str()));
-    Ok(())
-}
+[[zone]]
+name = \"interior\"
+host = \"press\"
+guest = \"loader\"
+inward = [\"hand\", \"die\"]
+outward = [\"die\", \"hand\"]
+";
 
-/// Two machines, each with a pose of the same name, and what each does with its own.
-const NAMESAKES: &str = "\
+/// Where it comes to a standstill.
+const STANDSTILL: &str = "\
+1: ./plan explore
+=>
+start,10
+=>
+a standstill after 15 turns, and no fewer
+loader waits: give interior: wrongway
+press waits: claim interior: held loader
+turns:
+  press asks: claim interior: done
+  press asks: pose travelling: done
+  press asks: pose load: done
+  press asks: release interior: done
+  loader asks: claim interior: done
+  loader asks: give interior: done
+  press asks: take interior: done
+  press asks: pose travelling: done
+  press asks: pose closed: done
+  press asks: pose travelling: done
+  press asks: pose unload: done
+  press asks: give interior: done
+  loader asks: take interior: done
+  loader asks: release interior: done
+  loader asks: claim interior: done
+";
+
+/// Other plans, with scripts and starts.
+const OTHERS: &str = "\
+0: ./plan replay
+=>
 [[machine]]
 name = \"left\"
 poses = [{ name = \"open\", gives = { table = \"openin\" } }]
@@ -233,9 +337,7 @@ watch,inquire,table
 watch,inquire,rack
 left,pose,open
 watch,inquire,table
-";
-
-const OWN_ANSWERS: &str = "\
+=>
 0 0 start 0
 1 1 done
 2 2 done
@@ -244,72 +346,11 @@ const OWN_ANSWERS: &str = "\
 5 3 zone right 0 openin
 6 4 done
 7 4 zone left 0 openin
-";
-
-#[test]
-fn each_takes_its_own_pose(rt: HostRuntime) {
-    assert!(rt; is_answered(&rt, rt.alloc(), b"replay", NAMESAKES, 0, OWN_ANSWERS));
-}
-
-/// A press whose loader may claim the interior before the press has claimed it back, and a start.
-const STANDS: &str = "\
-[[machine]]
-name = \"loader\"
-places = [\"hand\"]
-program = [\"claim interior\", \"give interior\", \"take interior\", \"release interior\"]
-
-[[machine]]
-name = \"press\"
-places = [\"die\"]
-poses = [
-  { name = \"load\", gives = { interior = \"openin\" }, after_moving = true },
-  { name = \"unload\", gives = { interior = \"openout\" }, after_moving = true },
-  { name = \"closed\", gives = { interior = \"closed\" }, after_moving = true },
-  { name = \"travelling\", gives = { interior = \"moving\" } },
-]
-program = [
-  \"claim interior\", \"pose travelling\", \"pose load\", \"release interior\", \"take interior\",
-  \"pose travelling\", \"pose closed\", \"pose travelling\", \"pose unload\", \"give interior\",
-]
-
-[[zone]]
-name = \"interior\"
-host = \"press\"
-guest = \"loader\"
-inward = [\"hand\", \"die\"]
-outward = [\"die\", \"hand\"]
-start,10
-";
-
-const STANDSTILL: &str = "\
-a standstill after 15 turns, and no fewer
-loader waits: give interior: wrongway
-press waits: claim interior: held loader
-turns:
-  press asks: claim interior: done
-  press asks: pose travelling: done
-  press asks: pose load: done
-  press asks: release interior: done
-  loader asks: claim interior: done
-  loader asks: give interior: done
-  press asks: take interior: done
-  press asks: pose travelling: done
-  press asks: pose closed: done
-  press asks: pose travelling: done
-  press asks: pose unload: done
-  press asks: give interior: done
-  loader asks: take interior: done
-  loader asks: release interior: done
-  loader asks: claim interior: done
-";
-
-#[test]
-fn explores_a_standstill(rt: HostRuntime) {
-    assert!(rt; is_answered(&rt, rt.alloc(), b"explore", STANDS, 1, STANDSTILL));
-}
-
-/// A press that waits for a plate, alone.
-const WAITS: &str = "\
+=>
+Two machines, each with a pose of the same name: each takes its own.
+--
+1: ./plan explore
+=>
 [[machine]]
 name = \"loader\"
 places = [\"hand\"]
@@ -325,70 +366,68 @@ name = \"interior\"
 host = \"press\"
 guest = \"loader\"
 inward = [\"hand\", \"die\"]
-";
-
-const WAITS_AT_ONCE: &str = "\
+start,10
+=>
 a standstill after 1 turn, and no fewer
 press waits: take interior: noplate
 turns:
   press asks: claim interior: done
-";
-
-const RESTS: &str = "\
+=>
+A press that waits for a plate, alone.
+--
+0: ./plan explore
+=>
+[[machine]]
+name = \"a\"
+start,
+=>
 no standstill in any order of turns before the last stamp: 1 situation
 a asks nothing
 in an order that is fair with bound k, each machine that could go on at k turns on end goes on;
 a machine isn't passed over for ever if it goes on wherever it could at k turns, on end or not
+--
+1: ./plan explore
+=>
+=>
+fault plan the document: there is no [[machine]]
+--
+1: ./plan explore
+=>
+start,10
+=>
+fault plan the document: there is no [[machine]]
 ";
 
 #[test]
-fn counts_one(rt: HostRuntime) -> Result<(), AllocError> {
-    let input = format!(in rt.alloc(); "{WAITS}start,10\n")?;
-    assert!(rt;
-        is_answered(
-            &rt,
-            rt.alloc(),
-            b"explore",
-            input.as_str(),
-            1,
-            WAITS_AT_ONCE
-        )
-    );
-    let alone = "[[machine]]\nname = \"a\"\nstart,\n";
-    assert!(rt; is_answered(&rt, rt.alloc(), b"explore", alone, 0, RESTS));
+fn answers_scripts(rt: HostRuntime) -> Result<(), AllocError> {
+    // the script of a plan may follow it
+    let followed = format!(in rt.alloc(); "{PRESS}{SCRIPT}")?;
+    for plan in [PRESS, followed.as_str()] {
+        assert!(rt;
+            is_answered(&rt, rt.alloc(), b"check", plan, 0, REPORT)
+                && is_answered(&rt, rt.alloc(), b"header", plan, 0, HEADER)
+        );
+    }
+    assert!(rt; is_answered(&rt, rt.alloc(), b"replay", followed.as_str(), 0, ANSWERS));
+    for (head, rows) in [(PRESS, SCRIPTS), (STANDS, STANDSTILL), ("", OTHERS)] {
+        are_answered(&rt, rt.alloc(), head, rows)?;
+    }
     Ok(())
 }
 
-/// Inputs that aren't explored, and why.
-const UNEXPLORED: &[(&str, &str)] = &[
-    ("", "fault plan the document: there is no [[machine]]\n"),
-    (
-        "start,10\n",
-        "fault plan the document: there is no [[machine]]\n",
-    ),
-];
+/// How many records come before the one that is refused: their answers are longer than a writer may take at once.
+const RECORDS: usize = 300;
 
 #[test]
-fn explores_from_a_start_alone(rt: HostRuntime) -> Result<(), AllocError> {
-    for row in UNEXPLORED {
-        let (input, text) = *row;
-        assert!(rt;
-            is_answered(&rt, rt.alloc(), b"explore", input, 1, text),
-            "{row:?}"
-        );
+fn writes_all_answers_before_a_fault(rt: HostRuntime) -> Result<(), AllocError> {
+    let mut input = format!(in rt.alloc(); "{PRESS}start,00\n")?;
+    let mut text = String::from_str(rt.alloc(), "0 0 start 0\n")?;
+    for record in 1..=RECORDS {
+        input.push_str("watch,inquire,interior\n")?;
+        write!(text, "{record} 0 zone free 0 closed\n")?;
     }
-    let without = "fault nostart\n";
-    assert!(rt; is_answered(&rt, rt.alloc(), b"explore", PRESS, 1, without));
-    let input = format!(in rt.alloc(); "{PRESS}start,1\n")?;
-    assert!(rt;
-        is_answered(
-            &rt,
-            rt.alloc(),
-            b"explore",
-            input.as_str(),
-            1,
-            "fault badstart\n"
-        )
-    );
+    input.push_str("press,claim,door\n")?;
+    text.push_str("record 301, field 3: no zone has this name\nfault badrow 301\n")?;
+    assert!(rt; is_answered(&rt, rt.alloc(), b"replay", input.as_str(), 1, text.as_str()));
     Ok(())
 }

@@ -7,7 +7,7 @@ use std::process::Abort;
 use std::sync::Wait;
 use std::thread::Threads;
 use std::time::Clock;
-use test_doubles::{Given, count_parts, part};
+use test_doubles::{Given, arguments_in, count_parts, part};
 
 /// The exit status of the program that is started with these arguments. It has no clauses, so the rows don't carry
 /// those of `start`.
@@ -39,6 +39,52 @@ pub fn is_answered<T: Threads + Wait + Clock + Sync>(
         &mut written,
     );
     found == status && written.as_slice() == text.as_bytes()
+}
+
+/// The status and the text of a line of words and an input.
+pub fn printed<T: Threads + Wait + Clock + Sync>(
+    rt: &T,
+    alloc: Global,
+    line: &str,
+    input: &str,
+) -> Result<(u8, Vec<u8>), AllocError> {
+    let arguments = arguments_in(alloc, line)?;
+    let mut written = Vec::new(alloc);
+    let mut reader = input.as_bytes();
+    let status = run(rt, alloc, arguments.as_slice(), &mut reader, &mut written);
+    Ok((status, written))
+}
+
+/// Whether the program answers a row, if this stands before the row's input.
+fn is_row<T: Threads + Wait + Clock + Sync>(
+    rt: &T,
+    alloc: Global,
+    head: &str,
+    row: &str,
+) -> Result<bool, AllocError> {
+    let first = part(row, "\n", 0);
+    let rest = part(row, "=>\n", 1);
+    let input = format!(in alloc; "{head}{rest}")?;
+    let (status, written) = printed(rt, alloc, part(first, ": ", 1), input.as_str())?;
+    let digit = [b'0'.wrapping_add(status)];
+    let is_status = part(first, ": ", 0).as_bytes() == digit.as_slice();
+    Ok(is_status && written.as_slice() == part(row, "=>\n", 2).as_bytes())
+}
+
+/// Checks what the program answers to each row, if this stands before the row's input. A row has a line with the
+/// status, a colon and the words, and after arrows the input, the text, and perhaps what it shows; a line of dashes
+/// stands between two rows.
+pub fn are_answered<T: Abort + Threads + Wait + Clock + Sync>(
+    rt: &T,
+    alloc: Global,
+    head: &str,
+    rows: &str,
+) -> Result<(), AllocError> {
+    for number in 0..count_parts(rows, "--\n") {
+        let row = part(rows, "--\n", number);
+        assert!(rt; is_row(rt, alloc, head, row)?, "{row}");
+    }
+    Ok(())
 }
 
 /// Whether `check` refuses this beginning and then the row's document, with the row's fault.

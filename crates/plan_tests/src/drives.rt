@@ -58,8 +58,9 @@ bit 27, 1 bit: stop
 rows: each call that is done has its row
 ";
 
-/// Programs in which nothing is wrong, each with what is said of it.
-const RIGHT: &str = "\
+/// Programs, each with what is said of it: first those in which nothing is wrong, then those that run what isn't
+/// permitted.
+const ROWS: &str = "\
 \"claim interior\", \"pose travelling\", \"run ram until bottom\"
 =>
 drives: each motor is permitted where its program runs it
@@ -70,10 +71,7 @@ drives: each motor is permitted where its program runs it
 --
 \"claim interior\", \"pose travelling\", \"await bottom\"
 =>
-";
-
-/// Programs that run what isn't permitted, each with what is said of it.
-const WRONG: &str = "\
+--
 \"run ram until bottom\"
 =>
 press, line 1: ram needs to hold interior; here it may be another's
@@ -91,17 +89,17 @@ press, line 4: ram needs interior moving; here it is openin
 press, line 3: heater needs die full; here it may be empty
 ";
 
-/// Whether `check` says so of the plan with a row's program.
+/// Whether `check` says so of the plan with a row's program. The status is 1 if the program is wrong on some line.
 fn is_checked<T: Threads + Wait + Clock + Sync>(
     rt: &T,
     alloc: Global,
     row: &str,
-    status: u8,
 ) -> Result<bool, AllocError> {
     let program = part(row, "=>\n", 0);
     let drives = part(row, "=>\n", 1);
     let document = format!(in alloc; "{BEFORE}{program}{AFTER}")?;
     let text = format!(in alloc; "{REPORT}{drives}2 motors: ram heater\n")?;
+    let status = u8::from(drives.contains("line "));
     Ok(is_answered(
         rt,
         alloc,
@@ -113,19 +111,10 @@ fn is_checked<T: Threads + Wait + Clock + Sync>(
 }
 
 #[test]
-fn tells_that_drives_are_permitted(rt: HostRuntime) -> Result<(), AllocError> {
-    for number in 0..count_parts(RIGHT, "--\n") {
-        let row = part(RIGHT, "--\n", number);
-        assert!(rt; is_checked(&rt, rt.alloc(), row, 0)?, "{row}");
-    }
-    Ok(())
-}
-
-#[test]
-fn tells_the_first_line_that_is_not_permitted(rt: HostRuntime) -> Result<(), AllocError> {
-    for number in 0..count_parts(WRONG, "--\n") {
-        let row = part(WRONG, "--\n", number);
-        assert!(rt; is_checked(&rt, rt.alloc(), row, 1)?, "{row}");
+fn tells_whether_drives_are_permitted(rt: HostRuntime) -> Result<(), AllocError> {
+    for number in 0..count_parts(ROWS, "--\n") {
+        let row = part(ROWS, "--\n", number);
+        assert!(rt; is_checked(&rt, rt.alloc(), row)?, "{row}");
     }
     Ok(())
 }

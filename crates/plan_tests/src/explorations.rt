@@ -1,187 +1,164 @@
 //! Explorations of a press and of a lift.
 
-use plan_explorer::{Explored, Programs, explore, take_turns};
+use super::answered_examples::PRESS;
+use super::doubles::are_answered;
+use plan_document::{ProgrammedPlan, plan_of};
+use plan_explorer::{Explored, explore};
 use plan_rules::{LAST_STAMP, State};
-use plan_types::{Answer, Call, Plan, Refusal, examples};
-use std::alloc::Global;
-
-/// The loader, 0, waits until the press, 1, hands the zone over to it.
-pub const YIELDING: &[&[Call]] = &[
-    &[Call::Give(0), Call::Take(0), Call::Release(0)],
-    &[
-        Call::Claim(0),
-        Call::SetPose(3),
-        Call::SetPose(0),
-        Call::Yield(0),
-        Call::Take(0),
-        Call::SetPose(3),
-        Call::SetPose(2),
-        Call::SetPose(3),
-        Call::SetPose(1),
-        Call::Give(0),
-    ],
-];
-
-/// The loader claims the zone, and may do so again before the press has taken it back.
-pub const CLAIMING: &[&[Call]] = &[
-    &[
-        Call::Claim(0),
-        Call::Give(0),
-        Call::Take(0),
-        Call::Release(0),
-    ],
-    &[
-        Call::Claim(0),
-        Call::SetPose(3),
-        Call::SetPose(0),
-        Call::Release(0),
-        Call::Take(0),
-        Call::SetPose(3),
-        Call::SetPose(2),
-        Call::SetPose(3),
-        Call::SetPose(1),
-        Call::Give(0),
-    ],
-];
+use std::alloc::{AllocError, Global};
 
 /// A loader and a press that ask nothing.
-pub const SILENT: &[&[Call]] = &[&[], &[]];
+pub const SILENT: &str = "\
+[[machine]]
+name = \"loader\"
+places = [\"hand\"]
 
-/// The lift, 0, brings a plate from the lower floor, 1, to the upper one, 2, and another one down.
-const LIFTING: &[&[Call]] = &[
-    &[
-        Call::Claim(0),
-        Call::Claim(1),
-        Call::SetPose(0),
-        Call::SetPose(1),
-        Call::Yield(0),
-        Call::Take(0),
-        Call::SetPose(0),
-        Call::SetPose(2),
-        Call::Give(1),
-        Call::Claim(1),
-        Call::SetPose(0),
-        Call::SetPose(4),
-        Call::Yield(1),
-        Call::Take(1),
-        Call::SetPose(0),
-        Call::SetPose(3),
-        Call::Give(0),
-        Call::Release(1),
-    ],
-    &[Call::Give(0), Call::Take(0), Call::Release(0)],
-    &[Call::Take(1), Call::Release(1), Call::Give(1)],
-];
+[[machine]]
+name = \"press\"
+places = [\"die\"]
+poses = [
+  { name = \"load\", gives = { interior = \"openin\" }, after_moving = true },
+  { name = \"unload\", gives = { interior = \"openout\" }, after_moving = true },
+  { name = \"closed\", gives = { interior = \"closed\" }, after_moving = true },
+  { name = \"travelling\", gives = { interior = \"moving\" } },
+]
 
-/// The plan, the programs, and the opening with plates in these places. Two programs are those of a press, three those
-/// of a lift. `None` if memory runs out.
+[[zone]]
+name = \"interior\"
+host = \"press\"
+guest = \"loader\"
+inward = [\"hand\", \"die\"]
+outward = [\"die\", \"hand\"]
+";
+
+/// The lift brings a plate from below, where the ground is, to the gallery above, and another one down.
+const LIFTING: &str = "\
+[[machine]]
+name = \"lift\"
+places = [\"cabin\"]
+poses = [
+  { name = \"travelling\", gives = { lower = \"moving\", upper = \"moving\" } },
+  { name = \"load_below\", gives = { lower = \"openin\", upper = \"closed\" }, after_moving = \
+     true },
+  { name = \"unload_above\", gives = { lower = \"closed\", upper = \"openout\" }, after_moving \
+     = true },
+  { name = \"unload_below\", gives = { lower = \"openout\", upper = \"closed\" }, after_moving \
+     = true },
+  { name = \"load_above\", gives = { lower = \"closed\", upper = \"openin\" }, after_moving = \
+     true },
+]
+program = [
+  \"claim lower\", \"claim upper\", \"pose travelling\", \"pose load_below\", \"yield lower\", \"take lower\",
+  \"pose travelling\", \"pose unload_above\", \"give upper\", \"claim upper\", \"pose travelling\",
+  \"pose load_above\", \"yield upper\", \"take upper\", \"pose travelling\", \"pose unload_below\",
+  \"give lower\", \"release upper\",
+]
+
+[[machine]]
+name = \"below\"
+places = [\"ground\"]
+program = [\"give lower\", \"take lower\", \"release lower\"]
+
+[[machine]]
+name = \"above\"
+places = [\"gallery\"]
+program = [\"take upper\", \"release upper\", \"give upper\"]
+
+[[zone]]
+name = \"lower\"
+host = \"lift\"
+guest = \"below\"
+inward = [\"ground\", \"cabin\"]
+outward = [\"cabin\", \"ground\"]
+
+[[zone]]
+name = \"upper\"
+host = \"lift\"
+guest = \"above\"
+inward = [\"gallery\", \"cabin\"]
+outward = [\"cabin\", \"gallery\"]
+";
+
+/// The plan of a document, with its programs, and the opening with this stamp and with plates where there are digits 1.
+/// `None` if memory runs out.
 pub fn plant_of(
     alloc: Global,
-    lists: &[&[Call]],
-    full: &[usize],
+    document: &str,
+    places: &str,
     stamp: u32,
-) -> Option<(Plan, Programs, State)> {
-    let tables = if lists.len() == 2 {
-        examples::press(alloc)
-    } else {
-        examples::lift(alloc)
-    };
-    let mut programs = Vec::new(alloc);
-    for list in lists {
-        programs.push(list.to_vec(alloc).ok()?).ok()?;
+) -> Option<(ProgrammedPlan, State)> {
+    let plan = plan_of(alloc, document.as_bytes()).ok()?;
+    let mut full = [false; 16];
+    for (is_full, digit) in full.iter_mut().zip(places.as_bytes().iter()) {
+        *is_full = *digit == b'1';
     }
-    let mut places = [false; 16];
-    for place in 0..16 {
-        places[place] = full.contains(&place);
-    }
-    let plan = Plan::new(tables.ok()?).ok()?;
-    Some((
-        plan,
-        Programs::new(programs).ok()?,
-        State::start(places, stamp),
-    ))
+    Some((plan, State::start(full, stamp)))
 }
 
-/// Programs, the places with plates, the stamp, and the number of situations, of which none is a standstill.
-const FREE: &[(&[&[Call]], &[usize], u32, usize)] = &[
-    (YIELDING, &[0], 0, 15),
-    (YIELDING, &[0], 7, 15),
-    (YIELDING, &[0], LAST_STAMP, 15),
-    (LIFTING, &[1], 0, 29),
-    (SILENT, &[], 0, 1),
-];
+/// Whether an exploration has found this number of situations, of which none is a standstill.
+fn is_free(found: &Result<Explored, AllocError>, situations: usize) -> bool {
+    matches!(found, Ok(Explored::Free(count)) if *count == situations)
+}
+
+/// Whether there are so many situations, of which none is a standstill.
+fn goes_on_by(alloc: Global, document: &str, places: &str, stamp: u32, situations: usize) -> bool {
+    match plant_of(alloc, document, places, stamp) {
+        Some((plan, opening)) => {
+            let found = explore(alloc, plan.named.plan(), &opening, &plan.programs);
+            is_free(&found, situations)
+        }
+        None => false,
+    }
+}
 
 #[test]
 fn goes_on(rt: HostRuntime) {
-    for row in FREE {
-        let (lists, full, stamp, situations) = *row;
-        let (plan, programs, opening) = plant_of(rt.alloc(), lists, full, stamp).expect(
-            &rt, "a plant",
-        );
-        let found = explore(rt.alloc(), &plan, &opening, &programs).expect(&rt, "memory");
-        assert!(rt;
-            matches!(&found, Explored::Free(count) if *count == situations),
-            "{row:?}"
-        );
+    for stamp in [0, 7, LAST_STAMP] {
+        assert!(rt; goes_on_by(rt.alloc(), PRESS, "10", stamp, 15), "{stamp}");
     }
+    assert!(rt;
+        goes_on_by(rt.alloc(), LIFTING, "010", 0, 29) && goes_on_by(rt.alloc(), SILENT, "00", 0, 1)
+    );
 }
 
-/// Programs, the places with plates, the turns into a standstill, and what each machine is refused there.
-const STANDSTILLS: &[(&[&[Call]], &[usize], &[u8], &[(u8, Call, Refusal)])] = &[
-    (
-        YIELDING,
-        &[0, 1],
-        &[1, 1],
-        &[
-            (0, Call::Give(0), Refusal::NotOwner(Some(1))),
-            (1, Call::SetPose(0), Refusal::PlaceFull),
-        ],
-    ),
-    (
-        CLAIMING,
-        &[0],
-        &[1, 1, 1, 1, 0, 0, 1, 1, 1, 1, 1, 1, 0, 0, 0],
-        &[
-            (0, Call::Give(0), Refusal::WrongWay),
-            (1, Call::Claim(0), Refusal::Held(0)),
-        ],
-    ),
-    (
-        LIFTING,
-        &[1, 2],
-        &[0, 0, 0, 0, 0, 1, 0, 0, 0],
-        &[
-            (0, Call::Give(1), Refusal::PlaceFull),
-            (1, Call::Take(0), Refusal::NotOwner(Some(0))),
-            (2, Call::Take(1), Refusal::NotOwner(Some(0))),
-        ],
-    ),
-];
+/// Where the press with two plates comes to a standstill.
+const PRESS_STANDS: &str = "\
+1: ./plan explore
+=>
+start,11
+=>
+a standstill after 2 turns, and no fewer
+loader waits: give interior: notowner press
+press waits: pose load: placefull
+turns:
+  press asks: claim interior: done
+  press asks: pose travelling: done
+";
+
+/// Where the lift with two plates does.
+const LIFT_STANDS: &str = "\
+1: ./plan explore
+=>
+start,011
+=>
+a standstill after 9 turns, and no fewer
+lift waits: give upper: placefull
+below waits: take lower: notowner lift
+above waits: take upper: notowner lift
+turns:
+  lift asks: claim lower: done
+  lift asks: claim upper: done
+  lift asks: pose travelling: done
+  lift asks: pose load_below: done
+  lift asks: yield lower: done
+  below asks: give lower: done
+  lift asks: take lower: done
+  lift asks: pose travelling: done
+  lift asks: pose unload_above: done
+";
 
 #[test]
-fn stands_still(rt: HostRuntime) {
-    for row in STANDSTILLS {
-        let (lists, full, turns, waits) = *row;
-        let (plan, programs, opening) = plant_of(rt.alloc(), lists, full, 0).expect(&rt, "a plant");
-        let found = explore(rt.alloc(), &plan, &opening, &programs).expect(&rt, "memory");
-        assert!(rt;
-            matches!(&found, Explored::Standstill(all) if all.as_slice() == turns),
-            "{row:?}"
-        );
-        let walk = take_turns(rt.alloc(), &plan, &opening, &programs, turns).expect(&rt, "memory");
-        let all_done = walk.events.iter().all(|event| event.answer == Answer::Done);
-        assert!(rt; all_done && walk.events.len() == turns.len(), "{row:?}");
-        assert!(rt; walk.outlook.len() == waits.len(), "{row:?}");
-        for (event, (machine, call, refusal)) in walk.outlook.iter().zip(waits) {
-            assert!(rt; event.machine == *machine && event.call == *call, "{row:?}");
-            assert!(rt; event.answer == Answer::Refused(*refusal), "{row:?}");
-        }
-    }
-}
-
-#[test]
-fn takes_turns_of_nobody(rt: HostRuntime) {
-    let (plan, programs, opening) = plant_of(rt.alloc(), SILENT, &[], 0).expect(&rt, "a plant");
-    let walk = take_turns(rt.alloc(), &plan, &opening, &programs, &[0, 1, 2, 200]);
-    assert!(rt; walk.is_ok_and(|walk| walk.events.is_empty() && walk.outlook.is_empty()));
+fn stands_still(rt: HostRuntime) -> Result<(), AllocError> {
+    are_answered(&rt, rt.alloc(), PRESS, PRESS_STANDS)?;
+    are_answered(&rt, rt.alloc(), LIFTING, LIFT_STANDS)
 }

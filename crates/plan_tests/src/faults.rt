@@ -1,7 +1,12 @@
 //! Each fault of a plan, in words.
 
 use super::doubles::{are_told, is_answered};
-use std::alloc::AllocError;
+use super::motor_faults::{HAZARDS, MOTOR, MOTORS, PLAN};
+use std::alloc::{AllocError, Global};
+use std::sync::Wait;
+use std::thread::Threads;
+use std::time::Clock;
+use test_doubles::part;
 
 const MACHINES: &str = "\
 [[machine]]
@@ -126,11 +131,6 @@ poses = [{ name = \"x\", gives = { z = \"shut\" } }]
 =>
 line 3: machine a: pose x: gives: no zone is named \"z\"
 ";
-
-#[test]
-fn tells_faults(rt: HostRuntime) -> Result<(), AllocError> {
-    are_told(&rt, rt.alloc(), "", ROWS)
-}
 
 /// Documents of several lines, each with its fault after `fault plan `, and what it shows.
 const PLACED: &str = "\
@@ -314,11 +314,6 @@ name = \"b\"
 line 3: this isn't TOML: duplicate key
 ";
 
-#[test]
-fn tells_lines(rt: HostRuntime) -> Result<(), AllocError> {
-    are_told(&rt, rt.alloc(), "", PLACED)
-}
-
 /// What comes after two machines, each with its fault after `fault plan `.
 const LATER: &str = "\
 zone = 1
@@ -351,11 +346,6 @@ guest = \"a\"
 =>
 line 10: zone z: guest: the host is its own guest
 ";
-
-#[test]
-fn tells_faults_of_zones(rt: HostRuntime) -> Result<(), AllocError> {
-    are_told(&rt, rt.alloc(), MACHINES, LATER)
-}
 
 /// What comes after two machines and a zone of the first, each with its fault after `fault plan `.
 const LAST: &str = "\
@@ -652,123 +642,117 @@ line 14: machine c: pose x: gives: the machine doesn't host \"z\"
 ";
 
 #[test]
-fn tells_later_faults(rt: HostRuntime) -> Result<(), AllocError> {
-    are_told(&rt, rt.alloc(), WITH_ZONE, LAST)
+fn tells_faults(rt: HostRuntime) -> Result<(), AllocError> {
+    let with_motor = format!(in rt.alloc(); "{PLAN}{MOTOR}")?;
+    for (head, rows) in [
+        ("", ROWS),
+        ("", PLACED),
+        (MACHINES, LATER),
+        (WITH_ZONE, LAST),
+        (PLAN, MOTORS),
+        (with_motor.as_str(), HAZARDS),
+    ] {
+        are_told(&rt, rt.alloc(), head, rows)?;
+    }
+    Ok(())
 }
 
-/// The fault of a program whose line 256 is line 269 of the document.
-const LONG: &str = "fault plan line 269: machine c: program: it has more than 255 lines\n";
-
-/// How many lines the program of a third machine has, a word, the status and the text.
-const PROGRAMS: &[(usize, &[u8], u8, &str)] = &[
-    (
-        255,
-        b"explore",
-        1,
-        "a standstill after 1 turn, and no fewer\nc waits: claim y: already\nturns:\n  c asks: claim y: done\n",
-    ),
-    (256, b"explore", 1, LONG),
-    (257, b"replay", 1, LONG),
+/// What comes before and after the program of a third machine.
+const LONG: [&str; 2] = [
+    "[[machine]]\nname = \"c\"\nprogram = [\n",
+    "]\n[[zone]]\nname = \"y\"\nhost = \"c\"\nguest = \"a\"\nstart,00\n",
 ];
+
+/// A word, and what is printed of a program with 255 lines, and with more: its line 256 is line 269 of the document.
+const PROGRAMS: &str = "\
+explore
+=>
+a standstill after 1 turn, and no fewer
+c waits: claim y: already
+turns:
+  c asks: claim y: done
+--
+explore
+=>
+fault plan line 269: machine c: program: it has more than 255 lines
+--
+replay
+=>
+fault plan line 269: machine c: program: it has more than 255 lines
+";
 
 #[test]
 fn tells_a_long_program(rt: HostRuntime) -> Result<(), AllocError> {
-    for row in PROGRAMS {
-        let (lines, word, status, text) = *row;
-        let mut input = format!(in rt.alloc(); "{WITH_ZONE}")?;
-        input.push_str("[[machine]]\nname = \"c\"\nprogram = [\n")?;
-        for _ in 0..lines {
-            input.push_str("  \"claim y\",\n")?;
-        }
-        input.push_str("]\n[[zone]]\nname = \"y\"\nhost = \"c\"\nguest = \"a\"\nstart,00\n")?;
+    let [before, after] = LONG;
+    for number in 0..3usize {
+        let row = part(PROGRAMS, "--\n", number);
+        let lines = "  \"claim y\",\n".repeat(rt.alloc(), number.saturating_add(255))?;
+        let input = format!(in rt.alloc(); "{WITH_ZONE}{before}{lines}{after}")?;
+        let word = part(row, "\n", 0).as_bytes();
+        let text = part(row, "=>\n", 1);
         assert!(rt;
-            is_answered(&rt, rt.alloc(), word, input.as_str(), status, text),
-            "{row:?}"
+            is_answered(&rt, rt.alloc(), word, input.as_str(), 1, text),
+            "{row}"
         );
     }
     Ok(())
 }
 
-/// What comes before rows of a kind; a row, before its number and after it; the last row, which has no name; and how
-/// many rows come before that, with the fault after `fault plan `.
-const NAMELESS: &[(&str, &str, &str, &str, &[(usize, &str)])] = &[
-    (
-        "",
-        "[[machine]]\nname = \"m",
-        "\"\n",
-        "[[machine]]\n",
-        &[
-            (6, "line 13: machine 7: name: it is missing"),
-            (8, "line 17: machine 9: name: it is missing"),
-            (9, "line 19: machine 10: name: it is missing"),
-        ],
-    ),
-    (
-        "[[machine]]\nname = \"a\"\nposes = [",
-        "{ name = \"x",
-        "\", gives = {} }, ",
-        "{ gives = {} }]\n",
-        &[
-            (6, "line 3: machine a: pose 7: name: it is missing"),
-            (8, "line 3: machine a: pose 9: name: it is missing"),
-            (9, "line 3: machine a: pose 10: name: it is missing"),
-        ],
-    ),
-    (
-        MACHINES,
-        "[[zone]]\nname = \"z",
-        "\"\nhost = \"a\"\nguest = \"b\"\n",
-        "[[zone]]\n",
-        &[
-            (6, "line 31: zone 7: name: it is missing"),
-            (8, "line 39: zone 9: name: it is missing"),
-            (9, "line 43: zone 10: name: it is missing"),
-        ],
-    ),
-    (
-        MACHINES,
-        "[[motor]]\nname = \"r",
-        "\"\nmachine = \"a\"\n",
-        "[[motor]]\n",
-        &[
-            (6, "line 25: motor 7: name: it is missing"),
-            (8, "line 31: motor 9: name: it is missing"),
-            (9, "line 34: motor 10: name: it is missing"),
-        ],
-    ),
-    (
-        MACHINES,
-        "[[hazard]]\nname = \"h",
-        "\"\nmotors = [\"r\", \"s\"]\n",
-        "[[hazard]]\n",
-        &[
-            (6, "line 25: hazard 7: name: it is missing"),
-            (8, "line 31: hazard 9: name: it is missing"),
-            (9, "line 34: hazard 10: name: it is missing"),
-        ],
-    ),
+/// Rows of a kind, the last without a name. Of each kind there is a row, before its number and after it; the last row;
+/// and where it has no name, if six, eight and nine rows come before it.
+const NAMELESS: &str = "\
+    [[machine]]\nname = \"m => \"\n => [[machine]]\n \
+        => line 13: machine 7 => line 17: machine 9 => line 19: machine 10|\
+    { name = \"x => \", gives = {} },  => { gives = {} }]\n \
+        => line 3: machine a: pose 7 => line 3: machine a: pose 9 => line 3: machine a: pose 10|\
+    [[zone]]\nname = \"z => \"\nhost = \"a\"\nguest = \"b\"\n => [[zone]]\n \
+        => line 31: zone 7 => line 39: zone 9 => line 43: zone 10|\
+    [[motor]]\nname = \"r => \"\nmachine = \"a\"\n => [[motor]]\n \
+        => line 25: motor 7 => line 31: motor 9 => line 34: motor 10|\
+    [[hazard]]\nname = \"h => \"\nmotors = [\"r\", \"s\"]\n => [[hazard]]\n \
+        => line 25: hazard 7 => line 31: hazard 9 => line 34: hazard 10";
+
+/// What comes before the rows of each kind.
+const BEFORE: [&str; 5] = [
+    "",
+    "[[machine]]\nname = \"a\"\nposes = [",
+    MACHINES,
+    MACHINES,
+    MACHINES,
 ];
+
+/// Whether a kind's row without a name is told, if this stands before the rows, and so many of them before it.
+fn is_nameless<T: Threads + Wait + Clock + Sync>(
+    rt: &T,
+    alloc: Global,
+    before: &str,
+    kind: &str,
+    rows: usize,
+    place: &str,
+) -> Result<bool, AllocError> {
+    let mut document = String::from_str(alloc, before)?;
+    for row in 0..rows {
+        write!(
+            document,
+            "{}{row}{}",
+            part(kind, " => ", 0),
+            part(kind, " => ", 1)
+        )?;
+    }
+    document.push_str(part(kind, " => ", 2))?;
+    let text = format!(in alloc; "fault plan {place}: name: it is missing\n")?;
+    Ok(is_answered(rt, alloc, b"check", document.as_str(), 1, text.as_str()))
+}
 
 #[test]
 fn numbers_rows_without_names(rt: HostRuntime) -> Result<(), AllocError> {
-    for (before, begin, end, last, faults) in NAMELESS {
-        for (rows, words) in *faults {
-            let mut document = String::from_str(rt.alloc(), before)?;
-            for row in 0..*rows {
-                write!(document, "{begin}{row}{end}")?;
-            }
-            document.push_str(last)?;
-            let text = format!(in rt.alloc(); "fault plan {words}\n")?;
+    for (number, before) in BEFORE.iter().enumerate() {
+        let kind = part(NAMELESS, "|", number);
+        for (rows, at) in [(6, 3), (8, 4), (9, 5)] {
+            let place = part(kind, " => ", at);
             assert!(rt;
-                is_answered(
-                    &rt,
-                    rt.alloc(),
-                    b"check",
-                    document.as_str(),
-                    1,
-                    text.as_str()
-                ),
-                "{words}"
+                is_nameless(&rt, rt.alloc(), before, kind, rows, place)?,
+                "{place}"
             );
         }
     }

@@ -1,24 +1,21 @@
 //! Whether the machines of plans go on for ever: what is printed of it.
 
 use super::answered_examples::PRESS;
-use super::doubles::is_answered;
+use super::doubles::are_answered;
 use std::alloc::{AllocError, Global};
-use std::sync::Wait;
-use std::thread::Threads;
-use std::time::Clock;
 
-/// What is printed at the end.
-const FAIRNESS: &str = "\
-in an order that is fair with bound k, each machine that could go on at k turns on end goes on;
-a machine isn't passed over for ever if it goes on wherever it could at k turns, on end or not
-";
-
-/// Of the press.
+/// What is printed of the press, if a plate is in the loader's hand.
 const PRESS_GOES: &str = "\
+0: ./plan explore
+=>
+start,10
+=>
 no standstill in any order of turns before the last stamp: 15 situations
 loader goes on for ever in each fair order: within k * 7 turns
 press goes on for ever in each fair order: within k * 3 turns
 plates move for ever in each fair order: within k * 6 turns
+in an order that is fair with bound k, each machine that could go on at k turns on end goes on;
+a machine isn't passed over for ever if it goes on wherever it could at k turns, on end or not
 ";
 
 /// The example of a junction.
@@ -66,6 +63,10 @@ guest = \"south_train\"
 
 /// Of a junction.
 const JUNCTION_GOES: &str = "\
+1: ./plan explore
+=>
+start,
+=>
 no standstill in any order of turns before the last stamp: 17 situations
 points goes on for ever if it isn't passed over for ever: within k * 1 + k * k * 1 turns
   a fair order in which it starves: first
@@ -125,6 +126,8 @@ south_train goes on for ever if neither it nor points is passed over for ever: w
   points asks: claim south_road: done
   south_train waits: claim south_road: held points
   points asks: pose switching: done
+in an order that is fair with bound k, each machine that could go on at k turns on end goes on;
+a machine isn't passed over for ever if it goes on wherever it could at k turns, on end or not
 ";
 
 /// The example of a lift.
@@ -178,15 +181,21 @@ outward = [\"cabin\", \"gallery\"]
 
 /// Of a lift.
 const LIFT_GOES: &str = "\
+0: ./plan explore
+=>
+start,010,100
+=>
 no standstill in any order of turns before the last stamp: 28 situations
 lift goes on for ever in each fair order: within k * 3 turns
 below goes on for ever in each fair order: within k * 16 turns
 above goes on for ever in each fair order: within k * 18 turns
 plates move for ever in each fair order: within k * 8 turns
+in an order that is fair with bound k, each machine that could go on at k turns on end goes on;
+a machine isn't passed over for ever if it goes on wherever it could at k turns, on end or not
 ";
 
 /// The example of two presses, up to the program of the left one.
-pub const PRESSES_BEGIN: &str = "\
+const PRESSES_BEGIN: &str = "\
 [[machine]]
 name = \"left_arm\"
 places = [\"left_hand\"]
@@ -218,7 +227,7 @@ program = [\"claim left\", \"pose travelling\", \"pose load\", \"yield left\", \
 ";
 
 /// What comes after it.
-pub const PRESSES_END: &str = "\
+const PRESSES_END: &str = "\
 
 [[machine]]
 name = \"right_press\"
@@ -255,6 +264,10 @@ outward = [\"right_die\", \"right_hand\"]
 
 /// Of two presses.
 const TWO_PRESSES_GO: &str = "\
+1: ./plan explore
+=>
+start,1100
+=>
 no standstill in any order of turns before the last stamp: 860 situations
 left_arm goes on for ever if it isn't passed over for ever: within k * 22 + k * k * 5 turns
   a fair order in which it starves: first
@@ -401,6 +414,8 @@ right_press goes on for ever if right_arm isn't passed over for ever: within k *
   left_arm asks: pose sharing: done
   left_press asks: pose travelling: done
 plates move for ever in each fair order: within k * 16 turns
+in an order that is fair with bound k, each machine that could go on at k turns on end goes on;
+a machine isn't passed over for ever if it goes on wherever it could at k turns, on end or not
 ";
 
 /// The example of the production cell.
@@ -507,6 +522,10 @@ inward = [\"gripper\", \"feed_belt\"]
 
 /// Of the production cell.
 const CELL_GOES: &str = "\
+0: ./plan explore
+=>
+start,1000000
+=>
 no standstill in any order of turns before the last stamp: 8622 situations
 feed goes on for ever in each fair order: within k * 50 turns
 table goes on for ever in each fair order: within k * 51 turns
@@ -515,6 +534,8 @@ press goes on for ever in each fair order: within k * 54 turns
 deposit goes on for ever in each fair order: within k * 53 turns
 crane goes on for ever in each fair order: within k * 60 turns
 plates move for ever in each fair order: within k * 23 turns
+in an order that is fair with bound k, each machine that could go on at k turns on end goes on;
+a machine isn't passed over for ever if it goes on wherever it could at k turns, on end or not
 ";
 
 /// A cart and a door that take a dock and let it go.
@@ -539,6 +560,10 @@ guest = \"cart\"
 
 /// Of the dock: each of both may keep the other one out.
 const DOCK_GOES: &str = "\
+1: ./plan explore
+=>
+start,
+=>
 no standstill in any order of turns before the last stamp: 7 situations
 cart goes on for ever if it isn't passed over for ever: within k * 3 + k * k * 3 turns
   a fair order in which it starves: first
@@ -563,10 +588,16 @@ door goes on for ever if it isn't passed over for ever: within k * 1 + k * k * 1
   cart asks: claim dock: done
   door waits: claim dock: held cart
   cart asks: release dock: done
+in an order that is fair with bound k, each machine that could go on at k turns on end goes on;
+a machine isn't passed over for ever if it goes on wherever it could at k turns, on end or not
 ";
 
 /// Of the two presses if the left one is out of use.
 const ONE_PRESS_GOES: &str = "\
+1: ./plan explore
+=>
+start,1100
+=>
 no standstill in any order of turns before the last stamp: 44 situations
 left_arm may starve though no machine is passed over for ever
   a fair order in which it starves: first
@@ -596,6 +627,8 @@ right_arm goes on for ever in each fair order: within k * 8 turns
 left_press asks nothing
 right_press goes on for ever in each fair order: within k * 7 turns
 plates move for ever in each fair order: within k * 10 turns
+in an order that is fair with bound k, each machine that could go on at k turns on end goes on;
+a machine isn't passed over for ever if it goes on wherever it could at k turns, on end or not
 ";
 
 /// A fan that turns to and fro. The plate in its tray rests.
@@ -609,6 +642,10 @@ program = [\"pose left\", \"pose right\"]
 
 /// Of the fan: status 1 comes of the plate alone.
 const FAN_GOES: &str = "\
+1: ./plan explore
+=>
+start,1
+=>
 no standstill in any order of turns before the last stamp: 2 situations
 fan goes on for ever in each fair order: within k * 1 turns
 plates may rest for ever
@@ -616,96 +653,39 @@ plates may rest for ever
   and then again and again
   fan asks: pose left: done
   fan asks: pose right: done
+in an order that is fair with bound k, each machine that could go on at k turns on end goes on;
+a machine isn't passed over for ever if it goes on wherever it could at k turns, on end or not
 ";
 
-/// Whether this status comes of a plan and a start, with these words and what is meant by fair orders.
-fn is_explored<T: Threads + Wait + Clock + Sync>(
-    rt: &T,
-    alloc: Global,
-    plan: &str,
-    start: &str,
-    status: u8,
-    screen: &str,
-) -> Result<bool, AllocError> {
-    let input = format!(in alloc; "{plan}{start}\n")?;
-    let text = format!(in alloc; "{screen}{FAIRNESS}")?;
-    Ok(is_answered(rt, alloc, b"explore", input.as_str(), status, text.as_str()))
+/// The two presses, if this is the program of the left one.
+pub fn two_presses(alloc: Global, program: &str) -> Result<String, AllocError> {
+    Ok(format!(in alloc; "{PRESSES_BEGIN}{program}{PRESSES_END}")?)
 }
 
-/// The small example plans, their starts, and the status and what is printed of them. Status 1 says that a machine may
-/// starve.
-const EXAMPLES: &[(&str, &str, u8, &str)] = &[
-    (PRESS, "start,10", 0, PRESS_GOES),
-    (JUNCTION, "start,", 1, JUNCTION_GOES),
-    (LIFT, "start,010,100", 0, LIFT_GOES),
-];
-
+// Status 1 says that a machine may starve, or that plates may rest.
 #[test]
-fn explores_small_examples(rt: HostRuntime) -> Result<(), AllocError> {
-    for (plan, start, status, screen) in EXAMPLES {
-        assert!(rt;
-            is_explored(&rt, rt.alloc(), plan, start, *status, screen)?,
-            "{start}"
-        );
+fn explores_small_plans(rt: HostRuntime) -> Result<(), AllocError> {
+    for (plan, row) in [
+        (PRESS, PRESS_GOES),
+        (JUNCTION, JUNCTION_GOES),
+        (LIFT, LIFT_GOES),
+        (DOCK, DOCK_GOES),
+        (FAN, FAN_GOES),
+    ] {
+        are_answered(&rt, rt.alloc(), plan, row)?;
     }
     Ok(())
 }
 
 #[test]
 fn explores_the_cell(rt: HostRuntime) -> Result<(), AllocError> {
-    assert!(rt; is_explored(&rt, rt.alloc(), CELL, "start,1000000", 0, CELL_GOES)?);
-    Ok(())
+    are_answered(&rt, rt.alloc(), CELL, CELL_GOES)
 }
 
 #[test]
 fn explores_two_presses(rt: HostRuntime) -> Result<(), AllocError> {
-    let both = format!(in rt.alloc(); "{PRESSES_BEGIN}{LEFT_PROGRAM}{PRESSES_END}")?;
-    assert!(rt;
-        is_explored(
-            &rt,
-            rt.alloc(),
-            both.as_str(),
-            "start,1100",
-            1,
-            TWO_PRESSES_GO
-        )?
-    );
-    let one = format!(in rt.alloc(); "{PRESSES_BEGIN}program = []\n{PRESSES_END}")?;
-    assert!(rt;
-        is_explored(
-            &rt,
-            rt.alloc(),
-            one.as_str(),
-            "start,1100",
-            1,
-            ONE_PRESS_GOES
-        )?
-    );
-    Ok(())
-}
-
-#[test]
-fn explores_a_dock(rt: HostRuntime) -> Result<(), AllocError> {
-    assert!(rt; is_explored(&rt, rt.alloc(), DOCK, "start,", 1, DOCK_GOES)?);
-    Ok(())
-}
-
-#[test]
-fn explores_a_fan(rt: HostRuntime) -> Result<(), AllocError> {
-    assert!(rt; is_explored(&rt, rt.alloc(), FAN, "start,1", 1, FAN_GOES)?);
-    Ok(())
-}
-
-/// What is printed of all five examples.
-const SCREENS: &[&str] = &[
-    PRESS_GOES,
-    JUNCTION_GOES,
-    LIFT_GOES,
-    TWO_PRESSES_GO,
-    CELL_GOES,
-];
-
-#[test]
-fn of_each_machine_of_the_examples_it_is_known(rt: HostRuntime) {
-    assert!(rt; SCREENS.iter().all(|screen| !screen.contains("known")));
+    let two = two_presses(rt.alloc(), LEFT_PROGRAM)?;
+    let one = two_presses(rt.alloc(), "program = []\n")?;
+    are_answered(&rt, rt.alloc(), two.as_str(), TWO_PRESSES_GO)?;
+    are_answered(&rt, rt.alloc(), one.as_str(), ONE_PRESS_GOES)
 }

@@ -1,8 +1,14 @@
 //! The headers of the press and of the lift, and the lift's report, whole.
 
 use super::answered_examples::PRESS;
-use super::doubles::is_answered;
+use super::doubles::printed;
 use super::going::LIFT;
+use super::modules::{MODULE, RAM};
+use super::pictures::{HAZARD, PICTURE};
+use std::alloc::{AllocError, Global};
+use std::sync::Wait;
+use std::thread::Threads;
+use std::time::Clock;
 
 /// The header of the press.
 pub const HEADER: &str = "\
@@ -304,16 +310,30 @@ bit 33, 1 bit: stop
 rows: each call that is done has its row
 ";
 
-/// A word, a plan, and what is printed of it.
-const ROWS: &[(&[u8], &str, &str)] = &[
-    (b"header", PRESS, HEADER),
-    (b"header", LIFT, LIFT_HEADER),
-    (b"check", LIFT, LIFT_REPORT),
-];
+/// Whether a line of words and a plan are answered with status 0 and this text.
+fn is_printed<T: Threads + Wait + Clock + Sync>(
+    rt: &T,
+    alloc: Global,
+    line: &str,
+    plan: &str,
+    text: &str,
+) -> Result<bool, AllocError> {
+    let (status, written) = printed(rt, alloc, line, plan)?;
+    Ok(status == 0 && written.as_slice() == text.as_bytes())
+}
 
 #[test]
-fn prints_headers_and_a_report(rt: HostRuntime) {
-    for (word, plan, text) in ROWS {
-        assert!(rt; is_answered(&rt, rt.alloc(), word, plan, 0, text), "{text}");
+fn prints_headers_reports_modules_and_pictures(rt: HostRuntime) -> Result<(), AllocError> {
+    let with_ram = format!(in rt.alloc(); "{PRESS}{RAM}")?;
+    let with_hazard = format!(in rt.alloc(); "{PRESS}{HAZARD}")?;
+    for (line, plan, text) in [
+        ("./plan header", PRESS, HEADER),
+        ("./plan header", LIFT, LIFT_HEADER),
+        ("./plan check", LIFT, LIFT_REPORT),
+        ("./plan header --python", with_ram.as_str(), MODULE),
+        ("./plan draw", with_hazard.as_str(), PICTURE),
+    ] {
+        assert!(rt; is_printed(&rt, rt.alloc(), line, plan, text)?, "{line}");
     }
+    Ok(())
 }

@@ -100,25 +100,29 @@ fn a_start_without_a_stamp_has_two_fields(rt: HostRuntime) {
     assert!(rt; script.as_str() == "start,10\n");
 }
 
-/// How a script ends that has this many inquiries.
-fn end_of(alloc: Global, count: u32) -> Option<Outcome> {
-    let (plan, start) = press(alloc, 0)?;
-    let one = history_of(alloc, &plan, &start, &[(0, Call::Inquire(0))]).ok()?;
-    let mut history = Vec::new(alloc);
-    for _ in 0..count {
-        history.push(*one.first()?).ok()?;
+/// The press's script of this many inquiries.
+fn inquiries(alloc: Global, count: usize) -> Result<String, AllocError> {
+    let mut script = "loader,inquire,interior\n".repeat(alloc, count)?;
+    script.insert_str(0, "start,10\n")?;
+    Ok(script)
+}
+
+/// Whether a script of the press with this many inquiries ends so.
+fn ends_so(alloc: Global, plan: &ProgrammedPlan, count: usize, end: Outcome) -> bool {
+    match inquiries(alloc, count) {
+        Ok(script) => match answer_script(alloc, &plan.named, script.as_bytes()) {
+            Ok(answered) => answered.outcome() == end,
+            Err(_) => false,
+        },
+        Err(_) => false,
     }
-    let script = script_of(alloc, &plan.named, &start, &history).ok()?;
-    Some(
-        answer_script(alloc, &plan.named, script.as_bytes())
-            .ok()?
-            .outcome(),
-    )
 }
 
 #[test]
 fn a_script_takes_so_many_records(rt: HostRuntime) {
-    assert!(rt; end_of(rt.alloc(), MAX_RECORDS) == Some(Outcome::Clean));
+    let (plan, _) = press(rt.alloc(), 0).expect(&rt, "a plan");
+    let most = MAX_RECORDS as usize;
     let long = Outcome::Refused(ScriptFault::Long);
-    assert!(rt; end_of(rt.alloc(), MAX_RECORDS + 1) == Some(long));
+    assert!(rt; ends_so(rt.alloc(), &plan, most, Outcome::Clean));
+    assert!(rt; ends_so(rt.alloc(), &plan, most + 1, long));
 }

@@ -17,8 +17,6 @@ mod doubles;
 #[cfg(test)]
 mod drives;
 #[cfg(test)]
-mod examples;
-#[cfg(test)]
 mod explorations;
 #[cfg(test)]
 mod faults;
@@ -39,9 +37,9 @@ mod motor_faults;
 #[cfg(test)]
 mod motors;
 #[cfg(test)]
-mod pictures;
+mod pages;
 #[cfg(test)]
-mod programs;
+mod pictures;
 #[cfg(test)]
 mod progress;
 #[cfg(test)]
@@ -52,8 +50,6 @@ mod runs;
 mod served;
 #[cfg(test)]
 mod sizes;
-#[cfg(test)]
-mod word_answers;
 #[cfg(test)]
 mod word_calls;
 #[cfg(test)]

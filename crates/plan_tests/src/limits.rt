@@ -1,34 +1,16 @@
 //! The largest documents of plans that are accepted, and the smallest that are refused.
 
-use super::doubles::{is_answered, run};
+use super::doubles::{is_answered, printed};
 use std::alloc::{AllocError, Global};
 use std::str;
 use std::sync::Wait;
 use std::thread::Threads;
 use std::time::Clock;
+use test_doubles::part;
 
-/// How large a document is.
-#[derive(Clone, Copy)]
-struct Size {
-    machines: usize,
-    /// Of each machine.
-    poses: usize,
-    /// Of the first machine.
-    places: usize,
-    /// Of the first machine's program.
-    lines: usize,
-    /// Between the first two machines.
-    zones: usize,
-}
-
-/// One machine.
-const ONE: Size = Size {
-    machines: 1,
-    poses: 0,
-    places: 0,
-    lines: 0,
-    zones: 0,
-};
+/// How large a document is: how many machines, poses of each machine, places and lines of the first machine, and zones
+/// between the first two machines.
+type Size = [usize; 5];
 
 /// Adds the poses of a machine.
 fn push_poses(text: &mut String, poses: usize) -> Result<(), AllocError> {
@@ -41,22 +23,23 @@ fn push_poses(text: &mut String, poses: usize) -> Result<(), AllocError> {
 
 /// A document of this size. Each machine has three lines, and the first one two more.
 fn document_of(alloc: Global, size: Size) -> Result<String, AllocError> {
+    let [machines, poses, places, lines, zones] = size;
     let mut text = String::from_str(alloc, "[[machine]]\nname = \"m0\"\n")?;
-    push_poses(&mut text, size.poses)?;
+    push_poses(&mut text, poses)?;
     text.push_str("places = [")?;
-    for place in 0..size.places {
+    for place in 0..places {
         write!(text, "\"p{place}\", ")?;
     }
     text.push_str("]\nprogram = [")?;
-    for _ in 0..size.lines {
+    for _ in 0..lines {
         text.push_str("\"pose x0\", ")?;
     }
     text.push_str("]\n")?;
-    for machine in 1..size.machines {
+    for machine in 1..machines {
         write!(text, "[[machine]]\nname = \"m{machine}\"\n")?;
-        push_poses(&mut text, size.poses)?;
+        push_poses(&mut text, poses)?;
     }
-    for zone in 0..size.zones {
+    for zone in 0..zones {
         write!(
             text,
             "[[zone]]\nname = \"z{zone}\"\nhost = \"m0\"\nguest = \"m1\"\n"
@@ -72,168 +55,64 @@ fn is_told<T: Threads + Wait + Clock + Sync>(
     document: &str,
     status: u8,
     part: &str,
-) -> bool {
-    let mut written = Vec::new(alloc);
-    let found = run(
-        rt,
-        alloc,
-        &[b"./plan", b"check"],
-        &mut document.as_bytes(),
-        &mut written,
-    );
-    match str::from_utf8(written.as_slice()) {
+) -> Result<bool, AllocError> {
+    let (found, written) = printed(rt, alloc, "./plan check", document)?;
+    Ok(match str::from_utf8(written.as_slice()) {
         Ok(text) => found == status && text.contains(part),
         Err(_) => false,
-    }
+    })
 }
 
-/// Documents that are accepted, and a part of what is said of them.
-const ACCEPTED: &[(Size, &str)] = &[
-    (
-        Size {
-            machines: 15,
-            ..ONE
-        },
-        "15 machines: m0 ",
-    ),
-    (Size { poses: 64, ..ONE }, "64 poses: x0 "),
-    (
-        Size {
-            machines: 2,
-            poses: 32,
-            ..ONE
-        },
-        "64 poses: x0 ",
-    ),
-    (Size { places: 16, ..ONE }, "16 places: p0 "),
-    (
-        Size {
-            poses: 1,
-            lines: 255,
-            ..ONE
-        },
-        "1 pose: x0\n",
-    ),
-    (
-        Size {
-            machines: 2,
-            places: 3,
-            zones: 8,
-            ..ONE
-        },
-        "a word of 64 bits\n",
-    ),
-    (
-        Size {
-            machines: 2,
-            places: 16,
-            zones: 5,
-            ..ONE
-        },
-        "a word of 62 bits\n",
-    ),
+/// Sizes that are accepted, and larger ones that aren't.
+const SIZES: [Size; 16] = [
+    [15, 0, 0, 0, 0],
+    [1, 64, 0, 0, 0],
+    [2, 32, 0, 0, 0],
+    [1, 0, 16, 0, 0],
+    [1, 1, 0, 255, 0],
+    [2, 0, 3, 0, 8],
+    [2, 0, 16, 0, 5],
+    [16, 0, 0, 0, 0],
+    [1, 65, 0, 0, 0],
+    [2, 33, 0, 0, 0],
+    [1, 0, 17, 0, 0],
+    [1, 1, 0, 256, 0],
+    [2, 0, 0, 0, 11],
+    [2, 0, 4, 0, 8],
+    [2, 0, 10, 0, 7],
+    [2, 0, 1, 0, 10],
 ];
 
-/// Documents that are refused, and their faults after `fault plan `.
-const REFUSED: &[(Size, &str)] = &[
-    (
-        Size {
-            machines: 16,
-            ..ONE
-        },
-        "line 49: machine 16: name: there are more than 15",
-    ),
-    (
-        Size { poses: 65, ..ONE },
-        "line 3: machine m0: pose 65: name: there are more than 64",
-    ),
-    (
-        Size {
-            machines: 2,
-            poses: 33,
-            ..ONE
-        },
-        "line 8: machine m1: pose 32: name: there are more than 64",
-    ),
-    (
-        Size { places: 17, ..ONE },
-        "line 4: machine m0: places: there are more than 16",
-    ),
-    (
-        Size {
-            poses: 1,
-            lines: 256,
-            ..ONE
-        },
-        "line 5: machine m0: program: it has more than 255 lines",
-    ),
-    (
-        Size {
-            machines: 2,
-            zones: 11,
-            ..ONE
-        },
-        "line 50: zone 11: name: there are more than 10",
-    ),
-    (
-        Size {
-            machines: 2,
-            places: 4,
-            zones: 8,
-            ..ONE
-        },
-        "wide: 8 zones and 4 places need 65 bits, and 64 fit: leave out 1 place or 1 zone",
-    ),
-    (
-        Size {
-            machines: 2,
-            places: 10,
-            zones: 7,
-            ..ONE
-        },
-        "wide: 7 zones and 10 places need 66 bits, and 64 fit: leave out 2 places or 1 zone",
-    ),
-    (
-        Size {
-            machines: 2,
-            places: 1,
-            zones: 10,
-            ..ONE
-        },
-        "wide: 10 zones and 1 place need 72 bits, and 64 fit: leave out 2 zones",
-    ),
-];
+/// A part of what is said of each, or its whole fault.
+const SAID: &str = "\
+    15 machines: m0 |\
+    64 poses: x0 |\
+    64 poses: x0 |\
+    16 places: p0 |\
+    1 pose: x0\n|\
+    a word of 64 bits\n|\
+    a word of 62 bits\n|\
+    fault plan line 49: machine 16: name: there are more than 15\n|\
+    fault plan line 3: machine m0: pose 65: name: there are more than 64\n|\
+    fault plan line 8: machine m1: pose 32: name: there are more than 64\n|\
+    fault plan line 4: machine m0: places: there are more than 16\n|\
+    fault plan line 5: machine m0: program: it has more than 255 lines\n|\
+    fault plan line 50: zone 11: name: there are more than 10\n|\
+    fault plan wide: 8 zones and 4 places need 65 bits, and 64 fit: leave out 1 place or 1 zone\n|\
+    fault plan wide: 7 zones and 10 places need 66 bits, and 64 fit: leave out 2 places or 1 zone\n|\
+    fault plan wide: 10 zones and 1 place need 72 bits, and 64 fit: leave out 2 zones\n";
 
 #[test]
 fn accepts_the_largest(rt: HostRuntime) -> Result<(), AllocError> {
-    for row in ACCEPTED {
-        let (size, part) = *row;
-        let document = document_of(rt.alloc(), size)?;
-        assert!(rt;
-            is_told(&rt, rt.alloc(), document.as_str(), 0, part),
-            "{part}"
-        );
-    }
-    Ok(())
-}
-
-#[test]
-fn refuses_larger_ones(rt: HostRuntime) -> Result<(), AllocError> {
-    for row in REFUSED {
-        let (size, words) = *row;
-        let document = document_of(rt.alloc(), size)?;
-        let text = format!(in rt.alloc(); "fault plan {words}\n")?;
-        assert!(rt;
-            is_answered(
-                &rt,
-                rt.alloc(),
-                b"check",
-                document.as_str(),
-                1,
-                text.as_str()
-            ),
-            "{words}"
-        );
+    for (number, size) in SIZES.iter().enumerate() {
+        let document = document_of(rt.alloc(), *size)?;
+        let said = part(SAID, "|", number);
+        let is_right = if said.starts_with("fault ") {
+            is_answered(&rt, rt.alloc(), b"check", document.as_str(), 1, said)
+        } else {
+            is_told(&rt, rt.alloc(), document.as_str(), 0, said)?
+        };
+        assert!(rt; is_right, "{said}");
     }
     Ok(())
 }
@@ -241,42 +120,64 @@ fn refuses_larger_ones(rt: HostRuntime) -> Result<(), AllocError> {
 /// A comment fills the document.
 #[test]
 fn counts_bytes(rt: HostRuntime) -> Result<(), AllocError> {
-    let mut document = document_of(rt.alloc(), ONE)?;
+    let mut document = document_of(rt.alloc(), [1, 0, 0, 0, 0])?;
     for _ in document.len()..65_536 {
         document.push('#')?;
     }
-    assert!(rt; is_told(&rt, rt.alloc(), document.as_str(), 0, "1 machine: m0\n"));
+    let is_taken = is_told(&rt, rt.alloc(), document.as_str(), 0, "1 machine: m0\n")?;
     document.push('#')?;
     let long = "fault plan long: it has more than 65536 bytes\n";
-    assert!(rt; is_answered(&rt, rt.alloc(), b"check", document.as_str(), 1, long));
+    let is_refused = is_answered(&rt, rt.alloc(), b"check", document.as_str(), 1, long);
+    assert!(rt; is_taken && is_refused);
     Ok(())
 }
 
-/// What a pose gives all eight zones.
-const ALL_EIGHT: &str = "z0 = \"moving\", z1 = \"moving\", z2 = \"moving\", z3 = \"moving\", \
-     z4 = \"moving\", z5 = \"moving\", z6 = \"moving\", z7 = \"moving\"";
-
-/// The same zones are those that a motor needs.
-#[test]
-fn a_pose_may_give_all_zones(rt: HostRuntime) -> Result<(), AllocError> {
-    let mut document = format!(in rt.alloc(); "[[machine]]\nname = \"m0\"\n")?;
-    write!(
-        document,
-        "poses = [{{ name = \"x\", gives = {{ {ALL_EIGHT} }} }}]\n[[machine]]\nname = \"m1\"\n"
-    )?;
-    for zone in 0..8usize {
-        write!(
-            document,
-            "[[zone]]\nname = \"z{zone}\"\nhost = \"m0\"\nguest = \"m1\"\n"
-        )?;
-    }
-    write!(
-        document,
-        "[[motor]]\nname = \"ram\"\nmachine = \"m0\"\nholds = {{ {ALL_EIGHT} }}\n"
-    )?;
-    assert!(rt; is_told(&rt, rt.alloc(), document.as_str(), 0, "1 motor: ram\n"));
-    Ok(())
-}
+/// Two machines, of which a pose gives all eight zones, and a motor needs them.
+const ALL_ZONES: &str = "\
+[[machine]]
+name = \"m0\"
+poses = [{ name = \"x\", gives = { z0 = \"moving\", z1 = \"moving\", z2 = \"moving\", z3 = \"moving\", \
+    z4 = \"moving\", z5 = \"moving\", z6 = \"moving\", z7 = \"moving\" } }]
+[[machine]]
+name = \"m1\"
+[[zone]]
+name = \"z0\"
+host = \"m0\"
+guest = \"m1\"
+[[zone]]
+name = \"z1\"
+host = \"m0\"
+guest = \"m1\"
+[[zone]]
+name = \"z2\"
+host = \"m0\"
+guest = \"m1\"
+[[zone]]
+name = \"z3\"
+host = \"m0\"
+guest = \"m1\"
+[[zone]]
+name = \"z4\"
+host = \"m0\"
+guest = \"m1\"
+[[zone]]
+name = \"z5\"
+host = \"m0\"
+guest = \"m1\"
+[[zone]]
+name = \"z6\"
+host = \"m0\"
+guest = \"m1\"
+[[zone]]
+name = \"z7\"
+host = \"m0\"
+guest = \"m1\"
+[[motor]]
+name = \"ram\"
+machine = \"m0\"
+holds = { z0 = \"moving\", z1 = \"moving\", z2 = \"moving\", z3 = \"moving\", \
+    z4 = \"moving\", z5 = \"moving\", z6 = \"moving\", z7 = \"moving\" }
+";
 
 /// Zones that are named by words of scripts.
 const NAMED_BY_WORDS: &str = "\
@@ -307,7 +208,11 @@ guest = \"a\"
 ";
 
 #[test]
-fn zones_may_be_named_by_words(rt: HostRuntime) {
+fn zones_may_be_many_or_named_by_words(rt: HostRuntime) -> Result<(), AllocError> {
     let zones = "5 zones: watch free start pose claim\n";
-    assert!(rt; is_told(&rt, rt.alloc(), NAMED_BY_WORDS, 0, zones));
+    assert!(rt;
+        is_told(&rt, rt.alloc(), ALL_ZONES, 0, "1 motor: ram\n")?
+            && is_told(&rt, rt.alloc(), NAMED_BY_WORDS, 0, zones)?
+    );
+    Ok(())
 }

@@ -1,9 +1,7 @@
 //! The module of the press for Python, whole.
 
-use super::answered_examples::PRESS;
-use super::doubles::run;
-
-const MODULE: &str = "\
+/// The module.
+pub const MODULE: &str = "\
 # A plan, as `plan header --python` prints it, for bagunjoki_plan.py: its bytes, its names in the order of their numbers, and
 # its motors with the bits of a word that each looks at and what these have to be.
 from bagunjoki_plan import Plant
@@ -48,24 +46,9 @@ if __name__ == \"__main__\":
 ";
 
 /// A motor of the press, which runs only while the press holds the interior and that moves.
-const RAM: &str = "
+pub const RAM: &str = "
 [[motor]]
 name = \"ram\"
 machine = \"press\"
 holds = { interior = \"moving\" }
 ";
-
-#[test]
-fn prints_a_module(rt: HostRuntime) {
-    let plan = format!(in rt.alloc(); "{PRESS}{RAM}").expect(&rt, "memory");
-    let mut written = Vec::new(rt.alloc());
-    let words: &[&[u8]] = &[b"./plan", b"header", b"--python"];
-    let status = run(
-        &rt,
-        rt.alloc(),
-        words,
-        &mut plan.as_str().as_bytes(),
-        &mut written,
-    );
-    assert!(rt; status == 0 && written.as_slice() == MODULE.as_bytes());
-}

@@ -1,10 +1,11 @@
 //! Each fault of a motor and of a hazard, in words.
 
-use super::doubles::{are_told, run};
-use std::alloc::AllocError;
+use super::doubles::printed;
+use std::alloc::{AllocError, Global};
+use test_doubles::part;
 
 /// Three machines and two zones, up to line 18.
-const PLAN: &str = "\
+pub const PLAN: &str = "\
 [[machine]]
 name = \"loader\"
 places = [\"hand\"]
@@ -26,7 +27,7 @@ guest = \"loader\"
 ";
 
 /// What comes after the plan, each with its fault after `fault plan `. A line of dashes ends a row.
-const MOTORS: &str = "\
+pub const MOTORS: &str = "\
 [motor]
 name = \"ram\"
 =>
@@ -179,10 +180,10 @@ line 19: motor arm: no state of the plan permits it
 ";
 
 /// A motor, up to line 21.
-const MOTOR: &str = "[[motor]]\nname = \"ram\"\nmachine = \"press\"\n";
+pub const MOTOR: &str = "[[motor]]\nname = \"ram\"\nmachine = \"press\"\n";
 
 /// What comes after the plan and a motor, each with its fault after `fault plan `.
-const HAZARDS: &str = "\
+pub const HAZARDS: &str = "\
 [[hazard]]
 =>
 line 22: hazard 1: name: it is missing
@@ -232,63 +233,43 @@ motors = [\"ram\", \"ram\"]
 line 26: hazard 2: name: \"x y\" is defined twice, first on line 23
 ";
 
-#[test]
-fn tells_faults_of_motors(rt: HostRuntime) -> Result<(), AllocError> {
-    are_told(&rt, rt.alloc(), PLAN, MOTORS)
-}
+/// How many motors there are, and how many hazards.
+const COUNTS: [(usize, usize); 3] = [(64, 64), (65, 0), (2, 65)];
 
-#[test]
-fn tells_faults_of_hazards(rt: HostRuntime) -> Result<(), AllocError> {
-    let head = format!(in rt.alloc(); "{PLAN}{MOTOR}")?;
-    are_told(&rt, rt.alloc(), head.as_str(), HAZARDS)
-}
+/// How each text ends. The first is accepted.
+const ENDS: &str = "\
+    hazard 63: kept apart by interior\n|\
+    fault plan line 276: motor 65: name: there are more than 64\n|\
+    fault plan line 220: hazard 65: name: there are more than 64\n";
 
-/// How many motors there are, and how many hazards; the status, and how the text ends.
-const COUNTS: &[(usize, usize, u8, &str)] = &[
-    (64, 64, 0, "hazard 63: kept apart by interior\n"),
-    (
-        65,
-        0,
-        1,
-        "fault plan line 276: motor 65: name: there are more than 64\n",
-    ),
-    (
-        2,
-        65,
-        1,
-        "fault plan line 220: hazard 65: name: there are more than 64\n",
-    ),
-];
+/// The plan with so many motors, of which the first is another machine's, and so many hazards.
+fn document_of(alloc: Global, motors: usize, hazards: usize) -> Result<String, AllocError> {
+    let mut text = String::from_str(alloc, PLAN)?;
+    for motor in 0..motors {
+        let machine = if motor == 0 { "loader" } else { "press" };
+        write!(
+            text,
+            "[[motor]]\nname = \"m{motor}\"\nmachine = \"{machine}\"\nholds.interior = \"any\"\n"
+        )?;
+    }
+    for hazard in 0..hazards {
+        write!(
+            text,
+            "[[hazard]]\nname = \"hazard {hazard}\"\nmotors = [\"m0\", \"m1\"]\n"
+        )?;
+    }
+    Ok(text)
+}
 
 #[test]
 fn counts_motors_and_hazards(rt: HostRuntime) -> Result<(), AllocError> {
-    for row in COUNTS {
-        let (motors, hazards, status, end) = *row;
-        let mut input = format!(in rt.alloc(); "{PLAN}")?;
-        for motor in 0..motors {
-            let machine = if motor == 0 { "loader" } else { "press" };
-            write!(
-                input,
-                "[[motor]]\nname = \"m{motor}\"\nmachine = \"{machine}\"\nholds.interior = \"any\"\n"
-            )?;
-        }
-        for hazard in 0..hazards {
-            write!(
-                input,
-                "[[hazard]]\nname = \"hazard {hazard}\"\nmotors = [\"m0\", \"m1\"]\n"
-            )?;
-        }
-        let mut written = Vec::new(rt.alloc());
-        let found = run(
-            &rt,
-            rt.alloc(),
-            &[b"./plan", b"check"],
-            &mut input.as_bytes(),
-            &mut written,
-        );
+    for (number, (motors, hazards)) in COUNTS.iter().enumerate() {
+        let end = part(ENDS, "|", number);
+        let input = document_of(rt.alloc(), *motors, *hazards)?;
+        let (status, written) = printed(&rt, rt.alloc(), "./plan check", input.as_str())?;
         assert!(rt;
-            found == status && written.ends_with(end.as_bytes()),
-            "{row:?}"
+            status == u8::from(number > 0) && written.ends_with(end.as_bytes()),
+            "{end}"
         );
     }
     Ok(())

@@ -1,9 +1,13 @@
 //! What is printed of motors and hazards: what keeps the motors apart, or a state that permits both and the calls that
 //! lead there, and the masks.
 
-use super::doubles::{is_answered, run};
-use std::alloc::AllocError;
+use super::doubles::{is_answered, printed};
+use std::alloc::{AllocError, Global};
 use std::str;
+use std::sync::Wait;
+use std::thread::Threads;
+use std::time::Clock;
+use test_doubles::{count_parts, part};
 
 /// Two machines at a press: the machines.
 const MACHINES: &str = "\
@@ -71,62 +75,50 @@ rows: each call that is done has its row
 5 motors: ram arm_in_press heater valve lamp
 ";
 
-/// The two motors of a hazard, the status, and what is said of it.
-const HAZARDS: &[(&str, u8, &str)] = &[
-    ("\"ram\", \"arm_in_press\"", 0, "kept apart by interior"),
-    ("\"arm_in_press\", \"ram\"", 0, "kept apart by interior"),
-    ("\"arm_in_press\", \"heater\"", 0, "kept apart by interior"),
-    ("\"heater\", \"valve\"", 0, "kept apart by place die"),
-    (
-        "\"lamp\", \"arm_in_press\"",
-        0,
-        "kept apart by the poses of press",
-    ),
-    (
-        "\"valve\", \"arm_in_press\"",
-        1,
-        "NOT kept apart: a state permits both; interior held by loader, openin; \
-        none of the programs leads there from start 00",
-    ),
-    (
-        "\"heater\", \"heater\"",
-        1,
-        "NOT kept apart: start 01 permits both",
-    ),
-    (
-        "\"ram\", \"valve\"",
-        1,
-        "NOT kept apart: a state permits both; interior held by press, moving; \
-        none of the programs leads there from start 00",
-    ),
-    (
-        "\"valve\", \"valve\"",
-        1,
-        "NOT kept apart: start 00 permits both",
-    ),
-];
+/// The two motors of a hazard, and what is said of it. The status is 1 if they aren't kept apart.
+const HAZARDS: &str = "\
+    \"ram\", \"arm_in_press\" => kept apart by interior|\
+    \"arm_in_press\", \"ram\" => kept apart by interior|\
+    \"arm_in_press\", \"heater\" => kept apart by interior|\
+    \"heater\", \"valve\" => kept apart by place die|\
+    \"lamp\", \"arm_in_press\" => kept apart by the poses of press|\
+    \"valve\", \"arm_in_press\" \
+        => NOT kept apart: a state permits both; interior held by loader, openin; \
+        none of the programs leads there from start 00|\
+    \"heater\", \"heater\" => NOT kept apart: start 01 permits both|\
+    \"ram\", \"valve\" \
+        => NOT kept apart: a state permits both; interior held by press, moving; \
+        none of the programs leads there from start 00|\
+    \"valve\", \"valve\" => NOT kept apart: start 00 permits both";
+
+/// Whether `check` says so of the plan with a row's hazard.
+fn is_judged<T: Threads + Wait + Clock + Sync>(
+    rt: &T,
+    alloc: Global,
+    row: &str,
+) -> Result<bool, AllocError> {
+    let motors = part(row, " => ", 0);
+    let words = part(row, " => ", 1);
+    let document = format!(in alloc;
+        "{MACHINES}{ROWS}[[hazard]]\nname = \"arm hurt\"\nmotors = [{motors}]\n"
+    )?;
+    let text = format!(in alloc; "{REPORT}arm hurt: {words}\n")?;
+    let status = u8::from(words.starts_with("NOT "));
+    Ok(is_answered(
+        rt,
+        alloc,
+        b"check",
+        document.as_str(),
+        status,
+        text.as_str(),
+    ))
+}
 
 #[test]
 fn judges_hazards(rt: HostRuntime) -> Result<(), AllocError> {
-    let press = format!(in rt.alloc(); "{MACHINES}{ROWS}")?;
-    assert!(rt; is_answered(&rt, rt.alloc(), b"check", press.as_str(), 0, REPORT));
-    for (motors, status, words) in HAZARDS {
-        let hazard = format!(in rt.alloc();
-            "[[hazard]]\nname = \"arm hurt\"\nmotors = [{motors}]\n"
-        )?;
-        let document = format!(in rt.alloc(); "{press}{hazard}")?;
-        let text = format!(in rt.alloc(); "{REPORT}arm hurt: {words}\n")?;
-        assert!(rt;
-            is_answered(
-                &rt,
-                rt.alloc(),
-                b"check",
-                document.as_str(),
-                *status,
-                text.as_str()
-            ),
-            "{words}"
-        );
+    for number in 0..count_parts(HAZARDS, "|") {
+        let row = part(HAZARDS, "|", number);
+        assert!(rt; is_judged(&rt, rt.alloc(), row)?, "{row}");
     }
     Ok(())
 }
@@ -149,23 +141,6 @@ from start 00
 Arm (2) crushed!: kept apart by interior
 ";
 
-#[test]
-fn one_hazard_may_come(rt: HostRuntime) -> Result<(), AllocError> {
-    let document = format!(in rt.alloc(); "{MACHINES}{ROWS}{BOTH}")?;
-    let text = format!(in rt.alloc(); "{REPORT}{LINES}")?;
-    assert!(rt;
-        is_answered(
-            &rt,
-            rt.alloc(),
-            b"check",
-            document.as_str(),
-            1,
-            text.as_str()
-        )
-    );
-    Ok(())
-}
-
 /// What the press does, as the last machine that has a program.
 const PROGRAM: &str = "\
 program = [\"claim interior\", \"pose travelling\", \"pose load\", \"yield interior\"]
@@ -181,49 +156,58 @@ arm wet: NOT kept apart: from start 00 these calls permit both
 Arm (2) crushed!: kept apart by interior
 ";
 
-/// The script after the plan, and what is said of the first hazard.
-const STARTS: &[(&str, &str)] = &[
-    ("", "from start 00 these calls permit both"),
-    ("start,10\n", "from start 10 these calls permit both"),
-    (
-        "start,10,7\nloader,claim,interior\n",
-        "from start 10 these calls permit both",
-    ),
-    (
-        "start,01\n",
-        "a state permits both; interior held by loader, openin; none of the programs leads there from start 01",
-    ),
-    // A start that isn't valid is none.
-    ("start,1\n", "from start 00 these calls permit both"),
-];
+/// The script after the plan, and what is said of the first hazard. A start that isn't valid is none.
+const STARTS: &str = "\
+    \u{20}=> from start 00 these calls permit both|\
+    start,10\n => from start 10 these calls permit both|\
+    start,10,7\nloader,claim,interior\n => from start 10 these calls permit both|\
+    start,01\n => a state permits both; interior held by loader, openin; none of the programs leads there from start 01|\
+    start,1\n => from start 00 these calls permit both";
+
+/// Whether `check` says so of a plan with the script of a row.
+fn is_led<T: Threads + Wait + Clock + Sync>(
+    rt: &T,
+    alloc: Global,
+    document: &str,
+    row: &str,
+) -> Result<bool, AllocError> {
+    let script = part(row, " => ", 0);
+    let words = part(row, " => ", 1);
+    let input = format!(in alloc; "{document}{script}")?;
+    let line = format!(in alloc; "arm wet: NOT kept apart: {words}\n")?;
+    let (status, written) = printed(rt, alloc, "./plan check", input.as_str())?;
+    Ok(match str::from_utf8(written.as_slice()) {
+        Ok(text) => status == 1 && text.contains(line.as_str()),
+        Err(_) => false,
+    })
+}
 
 #[test]
 fn calls_lead_to_a_hazard(rt: HostRuntime) -> Result<(), AllocError> {
+    let without = format!(in rt.alloc(); "{MACHINES}{ROWS}{BOTH}")?;
+    let lines = format!(in rt.alloc(); "{REPORT}{LINES}")?;
     let document = format!(in rt.alloc(); "{MACHINES}{PROGRAM}{ROWS}{BOTH}")?;
-    let text = format!(in rt.alloc(); "{REPORT}{LED}")?;
+    let led = format!(in rt.alloc(); "{REPORT}{LED}")?;
     assert!(rt;
         is_answered(
             &rt,
             rt.alloc(),
             b"check",
-            document.as_str(),
+            without.as_str(),
             1,
-            text.as_str()
-        )
-    );
-    for (script, words) in STARTS {
-        let input = format!(in rt.alloc(); "{document}{script}")?;
-        let mut written = Vec::new(rt.alloc());
-        let status = run(
+            lines.as_str()
+        ) && is_answered(
             &rt,
             rt.alloc(),
-            &[b"./plan", b"check"],
-            &mut input.as_bytes(),
-            &mut written,
-        );
-        let said = str::from_utf8(&written).expect(&rt, "text");
-        let line = format!(in rt.alloc(); "arm wet: NOT kept apart: {words}\n")?;
-        assert!(rt; status == 1 && said.contains(line.as_str()), "{said}");
+            b"check",
+            document.as_str(),
+            1,
+            led.as_str()
+        )
+    );
+    for number in 0..count_parts(STARTS, "|") {
+        let row = part(STARTS, "|", number);
+        assert!(rt; is_led(&rt, rt.alloc(), document.as_str(), row)?, "{row}");
     }
     Ok(())
 }
@@ -247,18 +231,14 @@ const MASKS: &str = "\
 ";
 
 #[test]
-fn prints_masks(rt: HostRuntime) -> Result<(), AllocError> {
+fn prints_masks_and_a_report(rt: HostRuntime) -> Result<(), AllocError> {
     let press = format!(in rt.alloc(); "{MACHINES}{ROWS}")?;
-    let mut header = Vec::new(rt.alloc());
-    let status = run(
-        &rt,
-        rt.alloc(),
-        &[b"./plan", b"header"],
-        &mut press.as_bytes(),
-        &mut header,
+    let (status, header) = printed(&rt, rt.alloc(), "./plan header", press.as_str())?;
+    let text = str::from_utf8(header.as_slice()).expect(&rt, "text");
+    assert!(rt;
+        status == 0 && text.contains(MASKS) && text.contains("off and at rest"),
+        "{text}"
     );
-    let text = str::from_utf8(&header).expect(&rt, "text");
-    assert!(rt; status == 0 && text.contains(MASKS), "{text}");
-    assert!(rt; text.contains("off and at rest"), "{text}");
+    assert!(rt; is_answered(&rt, rt.alloc(), b"check", press.as_str(), 0, REPORT));
     Ok(())
 }

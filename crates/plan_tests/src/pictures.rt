@@ -1,10 +1,7 @@
 //! The picture of a press, whole.
 
-use super::answered_examples::PRESS;
-use super::doubles::is_answered;
-
 /// The ram and the arm of the press, which are never to run both.
-const HAZARD: &str = "
+pub const HAZARD: &str = "
 [[motor]]
 name = \"ram\"
 machine = \"press\"
@@ -21,7 +18,7 @@ motors = [\"ram\", \"arm_in_press\"]
 ";
 
 /// The picture, made by a program of its own from what the definitions say of lanes, rows and columns.
-const PICTURE: &str = "\
+pub const PICTURE: &str = "\
 <svg xmlns=\"http://www.w3.org/2000/svg\" width=\"810\" height=\"492\" viewBox=\"0 0 810 492\" \
     font-family=\"monospace\">
 <style>
@@ -89,9 +86,3 @@ line.hazard { marker-start: url(#danger); marker-end: url(#danger); }
     keeps them apart.</text>
 </svg>
 ";
-
-#[test]
-fn draws_a_press(rt: HostRuntime) {
-    let plan = format!(in rt.alloc(); "{PRESS}{HAZARD}").expect(&rt, "memory");
-    assert!(rt; is_answered(&rt, rt.alloc(), b"draw", plan.as_str(), 0, PICTURE));
-}

@@ -1,9 +1,10 @@
 //! What `check` says of the rows that a plan is compiled into.
 
 use super::answered_examples::PRESS;
-use super::doubles::run;
-use super::going::{CELL, JUNCTION, LEFT_PROGRAM, LIFT, PRESSES_BEGIN, PRESSES_END};
+use super::doubles::printed;
+use super::going::{CELL, JUNCTION, LEFT_PROGRAM, LIFT, two_presses};
 use std::alloc::{AllocError, Global};
+use std::str;
 use std::sync::Wait;
 use std::thread::Threads;
 use std::time::Clock;
@@ -39,41 +40,27 @@ fn is_said<T: Threads + Wait + Clock + Sync>(
     alloc: Global,
     plan: &str,
     line: &str,
-) -> bool {
-    let mut written = Vec::new(alloc);
-    let status = run(
-        rt,
-        alloc,
-        &[b"./plan", b"check"],
-        &mut plan.as_bytes(),
-        &mut written,
-    );
-    match str::from_utf8(written.as_slice()) {
+) -> Result<bool, AllocError> {
+    let (status, written) = printed(rt, alloc, "./plan check", plan)?;
+    Ok(match str::from_utf8(written.as_slice()) {
         Ok(text) => status == 0 && text.contains(line),
         Err(_) => false,
+    })
+}
+
+// Of a pose that opens two zones it isn't known.
+#[test]
+fn the_examples_have_all_rows(rt: HostRuntime) -> Result<(), AllocError> {
+    let two = two_presses(rt.alloc(), LEFT_PROGRAM)?;
+    for (plan, line) in [
+        (PRESS, COMPLETE),
+        (JUNCTION, COMPLETE),
+        (LIFT, COMPLETE),
+        (two.as_str(), COMPLETE),
+        (CELL, COMPLETE),
+        (HALL, UNKNOWN),
+    ] {
+        assert!(rt; is_said(&rt, rt.alloc(), plan, line)?, "{plan}");
     }
-}
-
-#[test]
-fn the_small_examples_have_all_rows(rt: HostRuntime) {
-    assert!(rt; is_said(&rt, rt.alloc(), PRESS, COMPLETE));
-    assert!(rt; is_said(&rt, rt.alloc(), JUNCTION, COMPLETE));
-    assert!(rt; is_said(&rt, rt.alloc(), LIFT, COMPLETE));
-}
-
-#[test]
-fn two_presses_have_all_rows(rt: HostRuntime) -> Result<(), AllocError> {
-    let both = format!(in rt.alloc(); "{PRESSES_BEGIN}{LEFT_PROGRAM}{PRESSES_END}")?;
-    assert!(rt; is_said(&rt, rt.alloc(), both.as_str(), COMPLETE));
     Ok(())
-}
-
-#[test]
-fn the_cell_has_all_rows(rt: HostRuntime) {
-    assert!(rt; is_said(&rt, rt.alloc(), CELL, COMPLETE));
-}
-
-#[test]
-fn of_a_pose_that_opens_two_zones_it_is_not_known(rt: HostRuntime) {
-    assert!(rt; is_said(&rt, rt.alloc(), HALL, UNKNOWN));
 }

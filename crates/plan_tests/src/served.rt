@@ -1,7 +1,7 @@
 //! What the program answers to its words: exit statuses and texts; and where reading or writing fails.
 
 use super::answered_examples::PRESS;
-use super::doubles::run;
+use super::doubles::{is_answered, printed, run};
 use program_shell::VERSION;
 use std::alloc::{AllocError, Global};
 use std::sync::Wait;
@@ -11,20 +11,6 @@ use test_doubles::{FailingReader, FailingWriter, arguments_in, count_parts, part
 
 const OTHER_WORDS: &str =
     "error: the only argument is check, replay, explore, header, draw, run, --help or --version\n";
-
-const NO_TEXT: &str = "error: a word isn't UTF-8\n";
-
-/// Arguments, the status and the text.
-const ROWS: &[(&[&[u8]], u8, &str)] = &[
-    (&[], 2, OTHER_WORDS),
-    (&[b"./plan", b"\xff"], 2, NO_TEXT),
-    (&[b"bad\xff", b"checks"], 2, OTHER_WORDS),
-    (
-        &[b"./plan", b"check"],
-        1,
-        "fault plan the document: there is no [[machine]]\n",
-    ),
-];
 
 /// Lines of words that are refused. Bars separate the lines.
 const ASTRAY: &str = "\
@@ -39,6 +25,10 @@ const ASTRAY: &str = "\
     ./plan header --rust|\
     ./plan check --python|\
     ./plan draw --python|\
+    ./plan check --page|\
+    ./plan explore --pages|\
+    ./plan explore --page --page|\
+    ./plan --page|\
     ./plan run|\
     ./plan run 5|\
     ./plan run --turns|\
@@ -49,42 +39,50 @@ const ASTRAY: &str = "\
     ./plan run --turns five|\
     ./plan run --tries 5|\
     ./plan run --turns 5 5|\
+    ./plan run --page|\
+    ./plan run --page --turns 5|\
+    ./plan run --turns 5 --pages|\
+    ./plan run --turns 0 --page|\
     ./plan check --turns 5|\
     ./plan ";
 
-/// Whether the program answers these arguments and an empty input with this status and text.
-fn is_served<T: Threads + Wait + Clock + Sync>(
+/// Whether these words are refused.
+fn is_refused<T: Threads + Wait + Clock + Sync>(
+    rt: &T,
+    alloc: Global,
+    line: &str,
+) -> Result<bool, AllocError> {
+    let (status, written) = printed(rt, alloc, line, "")?;
+    Ok(status == 2 && written.as_slice() == OTHER_WORDS.as_bytes())
+}
+
+/// Whether the program answers these arguments and an empty input with status 2 and this text.
+fn are_refused<T: Threads + Wait + Clock + Sync>(
     rt: &T,
     alloc: Global,
     arguments: &[&[u8]],
-    status: u8,
     text: &str,
 ) -> bool {
     let mut written = Vec::new(alloc);
     let found = run(rt, alloc, arguments, &mut "".as_bytes(), &mut written);
-    found == status && written.as_slice() == text.as_bytes()
-}
-
-/// Whether these words are refused.
-fn is_refused<T: Threads + Wait + Clock + Sync>(rt: &T, alloc: Global, line: &str) -> bool {
-    match arguments_in(alloc, line) {
-        Ok(arguments) => is_served(rt, alloc, arguments.as_slice(), 2, OTHER_WORDS),
-        Err(_) => false,
-    }
+    found == 2 && written.as_slice() == text.as_bytes()
 }
 
 #[test]
-fn serves(rt: HostRuntime) {
-    for (arguments, status, text) in ROWS {
-        assert!(rt;
-            is_served(&rt, rt.alloc(), arguments, *status, text),
-            "{text}"
-        );
-    }
+fn serves(rt: HostRuntime) -> Result<(), AllocError> {
     for number in 0..count_parts(ASTRAY, "|") {
         let line = part(ASTRAY, "|", number);
-        assert!(rt; is_refused(&rt, rt.alloc(), line), "{line}");
+        assert!(rt; is_refused(&rt, rt.alloc(), line)?, "{line}");
     }
+    let no_text = "error: a word isn't UTF-8\n";
+    assert!(rt;
+        are_refused(&rt, rt.alloc(), &[], OTHER_WORDS)
+            && are_refused(&rt, rt.alloc(), &[b"bad\xff", b"checks"], OTHER_WORDS)
+            && are_refused(&rt, rt.alloc(), &[b"./plan", b"\xff"], no_text)
+    );
+    let nothing = "fault plan the document: there is no [[machine]]\n";
+    assert!(rt; is_answered(&rt, rt.alloc(), b"check", "", 1, nothing));
+    Ok(())
 }
 
 /// Lines of words that ask for help.
@@ -99,40 +97,27 @@ const HELPS: &str = "\
     ./plan run --help";
 
 /// Whether these words are answered with the help, and the input is left alone.
-fn is_helped<T: Threads + Wait + Clock + Sync>(rt: &T, alloc: Global, line: &str) -> bool {
-    let Ok(arguments) = arguments_in(alloc, line) else {
-        return false;
-    };
+fn is_helped<T: Threads + Wait + Clock + Sync>(
+    rt: &T,
+    alloc: Global,
+    line: &str,
+) -> Result<bool, AllocError> {
+    let arguments = arguments_in(alloc, line)?;
     let mut reader = PRESS.as_bytes();
     let mut written = Vec::new(alloc);
     let status = run(rt, alloc, arguments.as_slice(), &mut reader, &mut written);
-    let is_help = written
-        .as_slice()
-        .starts_with(b"Reads a plan of a plant, in TOML");
-    status == 0 && is_help && reader.len() == PRESS.len()
+    let is_help = written.starts_with(b"Reads a plan of a plant, in TOML");
+    Ok(status == 0 && is_help && reader.len() == PRESS.len())
 }
 
 #[test]
-fn helps(rt: HostRuntime) {
+fn helps(rt: HostRuntime) -> Result<(), AllocError> {
     for number in 0..count_parts(HELPS, "|") {
         let line = part(HELPS, "|", number);
-        assert!(rt; is_helped(&rt, rt.alloc(), line), "{line}");
+        assert!(rt; is_helped(&rt, rt.alloc(), line)?, "{line}");
     }
-}
-
-#[test]
-fn prints_its_version(rt: HostRuntime) -> Result<(), AllocError> {
-    let wanted = format!(in rt.alloc(); "plan {VERSION}\n")?;
-    let mut written = Vec::new(rt.alloc());
-    let arguments: &[&[u8]] = &[b"./plan", b"--version"];
-    let status = run(
-        &rt,
-        rt.alloc(),
-        arguments,
-        &mut PRESS.as_bytes(),
-        &mut written,
-    );
-    assert!(rt; status == 0 && written.as_slice() == wanted.as_bytes());
+    let version = format!(in rt.alloc(); "plan {VERSION}\n")?;
+    assert!(rt; is_answered(&rt, rt.alloc(), b"--version", PRESS, 0, version.as_str()));
     Ok(())
 }
 
@@ -151,50 +136,53 @@ fn is_failed_read<T: Threads + Wait + Clock + Sync>(
 #[test]
 fn tells_a_failed_read(rt: HostRuntime) {
     for left in 0..=PRESS.len() {
-        assert!(rt;
-            is_failed_read(&rt, rt.alloc(), b"check", left),
-            "after {left}"
-        );
-        assert!(rt;
-            is_failed_read(&rt, rt.alloc(), b"replay", left),
-            "after {left}"
-        );
+        let is_told = is_failed_read(&rt, rt.alloc(), b"check", left)
+            && is_failed_read(&rt, rt.alloc(), b"replay", left);
+        assert!(rt; is_told, "after {left}");
     }
 }
 
-/// Words, and an input for each. The plan is small: it is read again for each byte that is written of it.
-const WRITTEN: &[(&[u8], &str)] = &[
-    (b"check", "[[machine]]\nname = \"a\"\n"),
-    (b"check", "[[machine]]\n"),
-    (b"header", "[[machine]]\nname = \"a\"\n"),
-    (b"replay", "[[machine]]\nname = \"a\"\nstart,\n"),
-    (b"explore", "[[machine]]\nname = \"a\"\nstart,\n"),
-    (b"--help", ""),
-];
+/// Lines of words, and an input for each. The plan is small: it is read again for each byte that is written of it.
+const WRITTEN: &str = "\
+    ./plan check => [[machine]]\nname = \"a\"\n|\
+    ./plan check => [[machine]]\n|\
+    ./plan header => [[machine]]\nname = \"a\"\n|\
+    ./plan replay => [[machine]]\nname = \"a\"\nstart,\n|\
+    ./plan explore => [[machine]]\nname = \"a\"\nstart,\n|\
+    ./plan --help => ";
 
-// A writer that fails after the last byte fails at its flush.
-#[test]
-fn writes_a_prefix(rt: HostRuntime) {
-    for (word, input) in WRITTEN {
-        let mut whole = Vec::new(rt.alloc());
-        run(
-            &rt,
-            rt.alloc(),
-            &[b"./plan", word],
+/// Whether a writer that fails after each number of bytes of a row's text leads to status 1, and has taken as many
+/// bytes of it. After the last byte it fails at its flush.
+fn are_cut<T: Threads + Wait + Clock + Sync>(
+    rt: &T,
+    alloc: Global,
+    row: &str,
+) -> Result<bool, AllocError> {
+    let line = part(row, " => ", 0);
+    let input = part(row, " => ", 1);
+    let arguments = arguments_in(alloc, line)?;
+    let (_, whole) = printed(rt, alloc, line, input)?;
+    let mut are_cut = true;
+    for left in 0..=whole.len() {
+        let mut writer = FailingWriter::new(alloc, left);
+        let status = run(
+            rt,
+            alloc,
+            arguments.as_slice(),
             &mut input.as_bytes(),
-            &mut whole,
+            &mut writer,
         );
-        for left in 0..=whole.len() {
-            let mut writer = FailingWriter::new(rt.alloc(), left);
-            let status = run(
-                &rt,
-                rt.alloc(),
-                &[b"./plan", word],
-                &mut input.as_bytes(),
-                &mut writer,
-            );
-            let taken = writer.taken.as_slice();
-            assert!(rt; status == 1 && taken.len() == left && whole.as_slice().starts_with(taken));
-        }
+        let taken = writer.taken.as_slice();
+        are_cut = are_cut && status == 1 && taken.len() == left && whole.starts_with(taken);
     }
+    Ok(are_cut)
+}
+
+#[test]
+fn writes_a_prefix(rt: HostRuntime) -> Result<(), AllocError> {
+    for number in 0..count_parts(WRITTEN, "|") {
+        let row = part(WRITTEN, "|", number);
+        assert!(rt; are_cut(&rt, rt.alloc(), row)?, "{row}");
+    }
+    Ok(())
 }

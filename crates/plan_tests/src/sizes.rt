@@ -1,35 +1,34 @@
 //! How many situations are too many to be explored.
 
-use super::explorations::{CLAIMING, SILENT, YIELDING, plant_of};
+use super::answered_examples::{PRESS, STANDS};
+use super::explorations::{SILENT, plant_of};
 use plan_app::size::is_large;
-use plan_types::Call;
 use std::alloc::Global;
 
 /// Whether there are more situations than this number. `None` if memory runs out.
-fn is_larger(alloc: Global, lists: &[&[Call]], full: &[usize], most: usize) -> Option<bool> {
-    let (plan, programs, opening) = plant_of(alloc, lists, full, 0)?;
-    is_large(alloc, &plan, &programs, &opening, most).ok()
+fn is_larger(alloc: Global, document: &str, places: &str, most: usize) -> Option<bool> {
+    let (plan, opening) = plant_of(alloc, document, places, 0)?;
+    is_large(alloc, plan.named.plan(), &plan.programs, &opening, most).ok()
 }
 
-/// Programs, places with plates, a number of situations, and whether there are more.
-const ROWS: &[(&[&[Call]], &[usize], usize, bool)] = &[
-    (YIELDING, &[0], 0, true),
-    (YIELDING, &[0], 14, true),
-    (YIELDING, &[0], 15, false),
-    (YIELDING, &[0], 1_000_000, false),
-    (SILENT, &[], 1, false),
-    (YIELDING, &[0, 1], 3, false),
-    (YIELDING, &[0, 1], 2, true),
-    (CLAIMING, &[0], 1, true),
-];
-
+// With two plates the press comes to a standstill, as it does where the loader claims the interior.
 #[test]
 fn tells_large_plants(rt: HostRuntime) {
-    for row in ROWS {
-        let (lists, full, most, large) = *row;
+    for (most, large) in [(0, true), (14, true), (15, false), (1_000_000, false)] {
         assert!(rt;
-            is_larger(rt.alloc(), lists, full, most) == Some(large),
-            "{row:?}"
+            is_larger(rt.alloc(), PRESS, "10", most) == Some(large),
+            "{most}"
+        );
+    }
+    for (document, places, most, large) in [
+        (SILENT, "00", 1, false),
+        (PRESS, "11", 3, false),
+        (PRESS, "11", 2, true),
+        (STANDS, "10", 1, true),
+    ] {
+        assert!(rt;
+            is_larger(rt.alloc(), document, places, most) == Some(large),
+            "{document}"
         );
     }
 }

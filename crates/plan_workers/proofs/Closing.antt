@@ -17,7 +17,7 @@ use Rattle.plan_workers.specs.Closing.{AreKept, ClosedJournalsAreExplained, IsOn
 use Rattle.plan_workers.proofs.Asking.{sees_others}
 use Rattle.plan_workers.proofs.Journaling.{journal_of_others, others_seen}
 
-after_here : (t : PlanTable) (s : State) (h : List Event) → after_by (plan_book t) s h ≡ after t s h
+pub after_here : (t : PlanTable) (s : State) (h : List Event) → after_by (plan_book t) s h ≡ after t s h
 after_here t s [] = refl
 after_here t s (e ∷ h) = after_here t (next t s e.machine e.call) h
 

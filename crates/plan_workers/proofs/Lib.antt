@@ -13,3 +13,9 @@ mod Stuck
 mod Ordering
 mod Closing
 mod AuditRows
+mod Renewing
+mod Passes
+mod RoundByRound
+mod RenewalLaws
+mod Room
+mod Explaining

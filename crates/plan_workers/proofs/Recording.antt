@@ -1,10 +1,9 @@
 -- A machine's turns over a line that keeps a journal.
-use Rattle.std.proofs.Common.{◌≡◌, ℕ, inl, inr, List, [], ◌∷◌, Option, None, ap, refl, sym, ◌∙◌, subst}
+use Rattle.std.proofs.Common.{◌≡◌, ℕ, inl, inr, List, [], ◌∷◌, Option, ap, refl, sym, ◌∙◌, subst}
 use Rattle.plan_types.specs.declared.call.Call.{Call}
 use Rattle.plan_types.specs.declared.answer.Answer.{Answer}
 use Rattle.plan_types.specs.declared.answer.Event.{Event}
 use Rattle.plan_rules.specs.declared.state.State.{State}
-use Rattle.plan_controller.specs.Turns.{control}
 use Rattle.word_interlock.specs.Seen.{IsSamePass}
 use Rattle.plan_workers.specs.declared.run.PlanJob.{PlanJob}
 use Rattle.plan_workers.specs.declared.journal.PlanEntry.{PlanEntry}
@@ -58,11 +57,11 @@ module _ {D : Type 0} (reads : D → Option ℕ → D → Type 0) (drives : D �
       let P : ℕ → ℕ → List Event → Type 0 = λ n m before. IsJournal n m before back.seen journal in
       subst (λ n. P n got.actor got.seen) opened (subst (λ m. P back.opening.stamp m got.seen) same.actor (subst (λ before. P back.opening.stamp back.actor before) (s.before ∙ from) j))
 
-  pub from_the_beginning : (gate : ℕ → GateOf) (limit took : ℕ) (job : PlanJob D) (line : JournalLineView) (w last : AtWork JournalLineView D) → line.line.pass ≡ job.pass
-      → w.control ≡ control line.line.pass.actor job.steps.items 0 None → w.line ≡ line → w.devices ≡ job.devices
+  pub from_where_it_was : (gate : ℕ → GateOf) (limit took : ℕ) (job : PlanJob D) (line : JournalLineView) (w last : AtWork JournalLineView D) → line.line.pass ≡ job.pass
+      → w.control ≡ job.controller → w.line ≡ line → w.devices ≡ job.devices
       → HasWorked (by_journal reads drives) (gate w.line.line.pass.actor) limit w last took
-      → HasWorked (by_journal reads drives) (gate job.pass.actor) limit (at_work (control job.pass.actor job.steps.items 0 None) line job.devices) last took
-  from_the_beginning gate limit took job line w last pass begins on with worked =
-      let is = at_work_is w (control line.line.pass.actor job.steps.items 0 None) line job.devices begins on with in
+      → HasWorked (by_journal reads drives) (gate job.pass.actor) limit (at_work job.controller line job.devices) last took
+  from_where_it_was gate limit took job line w last pass begins on with worked =
+      let is = at_work_is w job.controller line job.devices begins on with in
       let here = subst (λ (x : AtWork JournalLineView D). HasWorked (by_journal reads drives) (gate x.line.line.pass.actor) limit x last took) is worked in
-      subst (λ (m : ℕ). HasWorked (by_journal reads drives) (gate m) limit (at_work (control m job.steps.items 0 None) line job.devices) last took) (ap (λ v. v.actor) pass) here
+      subst (λ (m : ℕ). HasWorked (by_journal reads drives) (gate m) limit (at_work job.controller line job.devices) last took) (ap (λ v. v.actor) pass) here

@@ -9,3 +9,6 @@ pub mod Replays
 pub mod AuditExamples
 pub mod Closing
 pub mod Paces
+pub mod Renewing
+pub mod RenewalLaws
+pub mod RenewalExamples

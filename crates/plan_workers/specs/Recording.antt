@@ -3,7 +3,6 @@ use Rattle.std.specs.Prelude.{◌≡◌, ◌<◌, ℕ, List, [], ◌∷◌, ◌+
 use Rattle.plan_types.specs.declared.call.Call.{Call}
 use Rattle.plan_types.specs.declared.answer.Answer.{Answer}
 use Rattle.plan_types.specs.declared.answer.Event.{Event}
-use Rattle.plan_controller.specs.Turns.{control}
 use Rattle.plan_interlock.specs.Book.{plan_of}
 use Rattle.word_interlock.specs.declared.reply.Reply.{Reply}
 use Rattle.word_interlock.specs.declared.reply.Reply.TheVariants.{Settled, Busy}
@@ -14,7 +13,7 @@ use Rattle.plan_workers.specs.declared.record.PlanRecorded.{PlanRecorded}
 use Rattle.plan_workers.specs.Lines.{LineView, LineAsks}
 use Rattle.plan_workers.specs.Works.{AtWork, at_work}
 use Rattle.plan_workers.specs.Turning.{Ways, GateOf, HasWorked}
-use Rattle.plan_workers.specs.Jobs.{PlanInterlockView}
+use Rattle.plan_workers.specs.Jobs.{PlanInterlockView, IsInPlace}
 use Rattle.plan_workers.specs.Journals.{IsJournal, entry}
 
 -- a line that keeps a journal: the line, what its pass had seen when it was made, and the journal
@@ -59,9 +58,9 @@ module _ {D : Type 0} (reads : D → Option ℕ → D → Type 0) (drives : D �
     drives = drives;
   }
 
-  -- A machine has worked from the beginning of its program, over a line of this interlock by its pass, with an empty
-  -- journal, up to a last moment. It gives back the pass of that moment, which is still this machine's, what has
-  -- stopped its controller, its devices, with all motors off, and its journal of all that its pass has seen meanwhile.
+  -- A machine has worked from where its controller was, over a line of this interlock by its pass, with an empty
+  -- journal, up to a last moment. It gives back the pass of that moment, which is still this machine's, its controller,
+  -- which is in place there, its devices, with all motors off, and its journal of all that its pass has seen meanwhile.
   pub record HasRecorded (i : PlanInterlockView) (gate : ℕ → GateOf) (limit : ℕ) (job : PlanJob D)
       (back : PlanRecorded D) : Type 0 where
     pub line : JournalLineView
@@ -71,9 +70,11 @@ module _ {D : Type 0} (reads : D → Option ℕ → D → Type 0) (drives : D �
     pub empty : line.journal ≡ []
     pub last : AtWork JournalLineView D
     pub worked : HasWorked by_journal (gate job.pass.actor) limit
-        (at_work (control job.pass.actor job.steps.items 0 None) line job.devices) last back.worked.turns
+        (at_work job.controller line job.devices) last back.worked.turns
     pub pass_back : back.worked.pass ≡ last.line.line.pass
     pub same : IsSamePass job.pass back.worked.pass
+    pub control : back.worked.controller ≡ last.control
+    pub in_place : IsInPlace (plan_of i.rules) back.worked.pass back.worked.controller
     pub off : drives last.devices 0 back.worked.devices
     pub stopped : back.worked.stopped_by ≡ last.control.stopped
     pub journal : IsJournal job.pass.opening.stamp job.pass.actor job.pass.seen back.worked.pass.seen

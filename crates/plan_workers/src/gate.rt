@@ -11,6 +11,9 @@ pub trait PlanGate {
     /// Whether the machine may begin its turn of this number, from 0. It is asked once before each turn.
     fn pass(&self, machine: u8, turn: u32) -> bool
         ensures { may_answer self.now machine turn result };
+
+    /// Told that machines begin a round ([`crate::work_renewed`]), before any of them has begun.
+    fn begin(&self) {}
 }
 
 /// The gate that lets every machine begin every turn.

@@ -1,6 +1,24 @@
 //! Laws of journals, each the contract of a function that does nothing.
+ghost use Rattle.std.specs.Prelude.{◌≡◌, ◌≤◌, ℕ, false, length};
+ghost use Rattle.plan_types.specs.Table.{place_count};
+ghost use Rattle.plan_rules.specs.Sound.{IsStart};
+ghost use Rattle.plan_rules.specs.State.{is_full};
 ghost use Rattle.plan_workers.specs.AuditExamples.{AuditExamples, JournalExamples, OrderExamples, PaceExamples};
 ghost use Rattle.plan_workers.specs.Closing.{ClosedJournalsAreExplained};
+ghost use Rattle.plan_workers.specs.Renewing.{AreReadyAt, MayAllGoOn};
+ghost use Rattle.plan_workers.specs.RenewalLaws.{RoundsAreExplained, TurnsLeaveRoom};
+ghost use Rattle.plan_workers.specs.RenewalLaws.{UnwornEndsTell, WorkIsPermitted};
+ghost use Rattle.plan_workers.specs.RenewalExamples.{RenewalExamples, RoundExamples};
+
+use crate::devices::PlanDevices;
+use crate::gate::PlanGate;
+use crate::rounds::{PlanMachine, PlanRoundSink};
+use plan_drives::examples::resumes_are_right;
+use plan_drives::laws::starts_open_by_poses;
+use plan_rules::State;
+use plan_rules::laws::refusals_are_true;
+use plan_types::Plan;
+use plan_word::laws::starts_are_of_plan;
 
 /// What the press notes of literal histories, and journals that are wrong by one thing.
 pub fn journal_examples_are_right()
@@ -24,3 +42,58 @@ pub fn pace_examples_are_right()
 pub fn closed_journals_are_explained()
     ensures { ClosedJournalsAreExplained }
 {}
+
+/// Over an interlock that ends below the last stamp no call was answered Worn.
+pub fn unworn_ends_tell()
+    ensures { UnwornEndsTell }
+{
+    refusals_are_true();
+}
+
+/// A machine that has worked by an accepted program was given only motors that were permitted, by the state after all
+/// that its line had seen; so also in each round of [`crate::work_renewed`].
+pub fn work_is_permitted<D: PlanDevices, G: PlanGate>(_devices: &D, _gate: &G)
+    ensures { WorkIsPermitted D.reads D.drives (G.may_answer _gate.now) }
+{}
+
+/// A round in which nobody but its machines has called leaves a stamp of at most as many as all their turns. So with
+/// fewer turns in all than the last stamp no interlock is worn. That nobody else has called is its premise.
+pub fn turns_leave_room<D: PlanDevices, G: PlanGate, S: PlanRoundSink>(
+    _devices: &D,
+    _gate: &G,
+    _sink: &S,
+)
+    ensures { TurnsLeaveRoom D.reads D.drives S.takes (G.may_answer _gate.now) }
+{}
+
+/// The history of such a round explains the journals that were noted of it. So an audit of them accepts them, unless
+/// memory runs out.
+pub fn rounds_are_explained<D: PlanDevices, G: PlanGate, S: PlanRoundSink>(
+    _devices: &D,
+    _gate: &G,
+    _sink: &S,
+)
+    ensures { RoundsAreExplained D.reads D.drives S.takes (G.may_answer _gate.now) }
+{}
+
+/// At a start the machines of a plan are ready, each at the beginning of its program, if only places of the plan are
+/// full.
+pub fn machines_are_ready_at_start<D>(plan: &Plan, start: &State, machines: &[PlanMachine<D>])
+    requires start { IsStart start.now }
+    requires places { (p : ℕ) → place_count plan.now ≤ p → is_full start.now p ≡ false }
+    requires all { length machines.now ≡ plan.now.machines }
+    requires each { MayAllGoOn plan.now start.now 0 machines.now }
+    ensures { AreReadyAt plan.now start.now machines.now }
+{
+    let _plan = plan.machines();
+    starts_are_of_plan(plan, start);
+    starts_open_by_poses(plan, start);
+}
+
+/// Which states interlocks open with, who may go on, and what a round is, by literal examples.
+pub fn renewal_examples_are_right()
+    ensures renewal { RenewalExamples }
+    ensures rounds { RoundExamples }
+{
+    resumes_are_right();
+}

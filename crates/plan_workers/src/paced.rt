@@ -20,9 +20,9 @@ struct Paces {
 
 /// Lets a machine begin its turn k once each machine of the run has had its turn k - 1. Until then it waits.
 ///
-/// A gate is for one run, of all machines with a number below `machines`, at most 16. A machine that has waited for
-/// `patience` opens it: from then on none waits. So a run ends also where machines get no thread and work one after
-/// another, or where one isn't there.
+/// A gate is for one run, or for the rounds of one, of all machines with a number below `machines`, at most 16. A
+/// machine that has waited for `patience` opens it: from then on none waits. So a run ends also where machines get no
+/// thread and work one after another, or where one isn't there.
 #[derive(Drop)]
 pub struct PacedPlanGate<'r, R: Wait + Clock> {
     rt: &'r R,
@@ -104,5 +104,9 @@ impl<R: Wait + Clock> PlanGate for PacedPlanGate<'_, R> {
             self.moved.notify_all();
         }
         true
+    }
+
+    fn begin(&self) {
+        self.paces.lock(self.rt).turns = [0; CALLERS];
     }
 }

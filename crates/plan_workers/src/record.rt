@@ -1,6 +1,6 @@
 //! Machines at work over one interlock that keep journals, each in a thread of its own.
 ghost use Rattle.std.specs.Prelude.{◌≡◌, IfOk, All, vec_len};
-ghost use Rattle.plan_workers.specs.Jobs.{IsJobOf};
+ghost use Rattle.plan_workers.specs.Jobs.{IsReady};
 ghost use Rattle.plan_workers.specs.Recording.{HasRecorded, HaveRecorded};
 
 use crate::devices::PlanDevices;
@@ -33,22 +33,23 @@ pub fn record_by_pass<D: PlanDevices + Drop, G: PlanGate>(
     gate: &G,
     turns: u32,
 ) -> PlanRecorded<D>
-    requires own { IsJobOf interlock.now job.pass }
+    requires ready { IsReady interlock.now job }
     ensures { HasRecorded D.reads D.drives interlock.now (G.may_answer gate.now) turns job result }
 {
     let PlanJob {
         pass,
-        steps,
+        controller,
         devices,
     } = job;
     let line = PlanJournalLine::new(alloc, interlock, pass);
-    let mut worker = PlanWorker::new(steps, line, devices);
+    let mut worker = PlanWorker::going_on(controller, line, devices);
     let turns = worker.work(gate, turns);
-    let stopped_by = worker.controller().stopped_by();
-    let (line, devices) = worker.into_parts();
+    let (controller, line, devices) = worker.into_parts();
+    let stopped_by = controller.stopped_by();
     let (pass, journal) = line.into_parts();
     let worked = PlanWorked {
         pass,
+        controller,
         devices,
         turns,
         stopped_by,
@@ -69,7 +70,7 @@ pub fn record_in_threads<R: Threads + Sync, D: PlanDevices + Send + Drop, G: Pla
     gate: &G,
     turns: u32,
 ) -> Result<Vec<PlanRecorded<D>>, AllocError>
-    requires own { All (λ job. IsJobOf interlock.now job.pass) jobs.items }
+    requires ready { All (λ job. IsReady interlock.now job) jobs.items }
     ensures many { IfOk result (λ backs. vec_len backs ≡ vec_len jobs) }
     ensures each { IfOk result (λ backs. HaveRecorded D.reads D.drives interlock.now
         (G.may_answer gate.now) turns jobs.items backs.items) }
@@ -78,7 +79,7 @@ pub fn record_in_threads<R: Threads + Sync, D: PlanDevices + Send + Drop, G: Pla
         rt,
         jobs,
         &|job: PlanJob<D>| -> PlanRecorded<D>
-            requires { IsJobOf interlock.now job.pass }
+            requires { IsReady interlock.now job }
             ensures { HasRecorded D.reads D.drives interlock.entry.now
                 (G.may_answer gate.entry.now) turns job result }
         { record_by_pass(alloc, interlock, job, gate, turns) },

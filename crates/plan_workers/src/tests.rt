@@ -1,14 +1,23 @@
 //! Two machines at a press at work, with devices that show always the same.
+ghost use Rattle.std.specs.Prelude.{◌≡◌, ◌∷◌, All, IfOk, IfSome, false, replicate, true};
+ghost use Rattle.plan_types.specs.Examples.{press_table};
+ghost use Rattle.plan_rules.specs.State.{start_state};
+ghost use Rattle.plan_workers.specs.Jobs.{IsJobOf, IsReady};
+ghost use Rattle.plan_workers.specs.Renewing.{AreReadyAt};
 
+use crate::laws::machines_are_ready_at_start;
 use crate::{
     OpenPlanGate, PacedPlanGate, PlanAuditFault, PlanDevices, PlanEntry, PlanJob, PlanJournalLine,
-    PlanPassLine, PlanRecorded, PlanWorker, audit, record_in_threads, work_by_pass,
-    work_in_threads,
+    PlanMachine, PlanPassLine, PlanPause, PlanRecorded, PlanRenewal, PlanRound, PlanRoundSink,
+    PlanWorker, audit, open_from, record_in_threads, renew, work_by_pass, work_in_threads,
+    work_renewed,
 };
-use plan_controller::{Faults, PlanLine, Step};
+use plan_controller::{Faults, PlanController, PlanLine, Step};
 use plan_interlock::examples::press;
+use plan_interlock::{PlanInterlock, PlanPass};
 use plan_rules::State;
 use plan_types::{Answer, Call, Plan, examples};
+use plan_word::laws::starts_are_of_plan;
 use std::alloc::{AllocError, Global};
 use std::sync::atomic::{AtomicU64, Ordering};
 use std::time::Duration;
@@ -74,8 +83,8 @@ fn a_press_runs_its_ram(rt: HostRuntime) -> Result<(), AllocError> {
     let turn = worker.work_turn();
     assert!(rt; turn.sensors == Some(0) && turn.taken.motors == 0b1);
     assert!(rt; worker.devices().motors == 0b1);
-    let (line, devices) = worker.into_parts();
-    assert!(rt; devices.motors == 0 && line.into_pass().actor() == 1);
+    let (controller, line, devices) = worker.into_parts();
+    assert!(rt; devices.motors == 0 && controller.place() == 2 && line.into_pass().actor() == 1);
     Ok(())
 }
 
@@ -84,16 +93,12 @@ fn two_machines_work_in_threads(rt: HostRuntime) -> Result<(), AllocError> {
     let Some((interlock, loader, pass)) = press(rt.alloc()) else {
         panic!(rt; "no memory");
     };
-    let loader = PlanJob {
-        pass: loader,
-        steps: vec![in rt.alloc(); Step::Do(Call::Claim(0), Faults::none())]?,
-        devices: Shown::new(None),
-    };
-    let press = PlanJob {
-        pass,
-        steps: steps_of_press(rt.alloc())?,
-        devices: Shown::new(Some(0)),
-    };
+    let loader = PlanJob::new(
+        loader,
+        vec![in rt.alloc(); Step::Do(Call::Claim(0), Faults::none())]?,
+        Shown::new(None),
+    );
+    let press = PlanJob::new(pass, steps_of_press(rt.alloc())?, Shown::new(Some(0)));
     let jobs = vec![in rt.alloc(); loader, press]?;
     let worked = work_in_threads(&rt, &interlock, jobs, &OpenPlanGate, 3)?;
     assert!(rt;
@@ -116,7 +121,10 @@ fn steps_of_loader(alloc: Global) -> Result<Vec<Step>, AllocError> {
 }
 
 /// The plan of the press, and the start of its example.
-fn plan_and_start(alloc: Global) -> Option<(Plan, State)> {
+fn plan_and_start(alloc: Global) -> Option<(Plan, State)>
+    ensures plan { IfSome result (λ made. made.0 ≡ press_table) }
+    ensures start { IfSome result (λ made. made.1 ≡ start_state (true ∷ replicate 15 false) 0) }
+{
     let plan = Plan::new(examples::press(alloc).ok()?).ok()?;
     let mut full = [false; 16];
     full[0] = true;
@@ -149,6 +157,25 @@ fn a_line_notes_its_calls(rt: HostRuntime) -> Result<(), AllocError> {
     Ok(())
 }
 
+/// The jobs of the loader and the press, from the beginning of their programs.
+fn jobs_of_two<D: Drop>(
+    alloc: Global,
+    _interlock: &PlanInterlock,
+    passes: (PlanPass, PlanPass),
+    devices: (D, D),
+) -> Result<Vec<PlanJob<D>>, AllocError>
+    requires loader { IsJobOf _interlock.now passes.0 }
+    requires press { IsJobOf _interlock.now passes.1 }
+    ensures { IfOk result (λ jobs. All (λ job. IsReady _interlock.now job) jobs.items) }
+{
+    let loader = PlanJob::new(passes.0, steps_of_loader(alloc)?, devices.0);
+    let press = PlanJob::new(passes.1, steps_of_press(alloc)?, devices.1);
+    let mut jobs = Vec::new(alloc);
+    jobs.push(loader)?;
+    jobs.push(press)?;
+    Ok(jobs)
+}
+
 #[test]
 fn an_audit_accepts_what_threads_noted(rt: HostRuntime) -> Result<(), AllocError> {
     let Some((interlock, loader, pass)) = press(rt.alloc()) else {
@@ -157,17 +184,8 @@ fn an_audit_accepts_what_threads_noted(rt: HostRuntime) -> Result<(), AllocError
     let Some((plan, start)) = plan_and_start(rt.alloc()) else {
         panic!(rt; "no memory");
     };
-    let loader = PlanJob {
-        pass: loader,
-        steps: steps_of_loader(rt.alloc())?,
-        devices: Shown::new(Some(0)),
-    };
-    let press = PlanJob {
-        pass,
-        steps: steps_of_press(rt.alloc())?,
-        devices: Shown::new(Some(0)),
-    };
-    let jobs = vec![in rt.alloc(); loader, press]?;
+    let devices = (Shown::new(Some(0)), Shown::new(Some(0)));
+    let jobs = jobs_of_two(rt.alloc(), &interlock, (loader, pass), devices)?;
     let gate = PacedPlanGate::new(&rt, 2, Duration::from_secs(60));
     let backs = record_in_threads(&rt, rt.alloc(), &interlock, jobs, &gate, 50)?;
     let journals = journals_of(rt.alloc(), backs)?;
@@ -236,25 +254,17 @@ fn no_machine_runs_ahead(rt: HostRuntime) -> Result<(), AllocError> {
         panic!(rt; "no memory");
     };
     let counts = (AtomicU64::new(0), AtomicU64::new(0));
-    let loader = PlanJob {
-        pass: loader,
-        steps: steps_of_loader(rt.alloc())?,
-        devices: Counted {
-            own: &counts.0,
-            other: &counts.1,
-            ran_ahead: false,
-        },
+    let loaders = Counted {
+        own: &counts.0,
+        other: &counts.1,
+        ran_ahead: false,
     };
-    let press = PlanJob {
-        pass,
-        steps: steps_of_press(rt.alloc())?,
-        devices: Counted {
-            own: &counts.1,
-            other: &counts.0,
-            ran_ahead: false,
-        },
+    let presses = Counted {
+        own: &counts.1,
+        other: &counts.0,
+        ran_ahead: false,
     };
-    let jobs = vec![in rt.alloc(); loader, press]?;
+    let jobs = jobs_of_two(rt.alloc(), &interlock, (loader, pass), (loaders, presses))?;
     let gate = PacedPlanGate::new(&rt, 2, Duration::from_secs(30));
     let backs = work_in_threads(&rt, &interlock, jobs, &gate, 1_000)?;
     assert!(rt; backs.iter().all(|back| !back.devices.ran_ahead));
@@ -266,12 +276,102 @@ fn a_machine_alone_goes_on(rt: HostRuntime) -> Result<(), AllocError> {
     let Some((interlock, loader, _press)) = press(rt.alloc()) else {
         panic!(rt; "no memory");
     };
-    let loader = PlanJob {
-        pass: loader,
-        steps: steps_of_loader(rt.alloc())?,
-        devices: Shown::new(None),
-    };
+    let loader = PlanJob::new(loader, steps_of_loader(rt.alloc())?, Shown::new(None));
     let gate = PacedPlanGate::new(&rt, 2, Duration::from_millis(10));
     assert!(rt; work_by_pass(&interlock, loader, &gate, 100).turns == 100);
+    Ok(())
+}
+
+/// A sink that audits each round.
+#[derive(Drop)]
+struct Audits<'a> {
+    alloc: Global,
+    plan: &'a Plan,
+    rounds: u32,
+}
+
+impl PlanRoundSink for Audits<'_> {
+    type Fault = PlanAuditFault;
+
+    fn take(&mut self, round: PlanRound) -> Result<(), PlanAuditFault> {
+        let PlanRound {
+            opening,
+            journals,
+            end,
+        } = round;
+        let _ = audit(self.alloc, self.plan, &opening, &journals, Some(&end))?;
+        self.rounds = self.rounds.saturating_add(1);
+        Ok(())
+    }
+}
+
+/// The loader and the press at their first lines.
+fn at_first_lines(alloc: Global, plan: &Plan, start: State) -> Result<PlanPause<Shown>, AllocError>
+    requires plan { plan.now ≡ press_table }
+    requires start { start ≡ start_state (true ∷ replicate 15 false) 0 }
+    ensures { IfOk result (λ begun. AreReadyAt plan.now begun.state begun.machines.items) }
+{
+    let loader = PlanMachine {
+        controller: PlanController::new(0, steps_of_loader(alloc)?),
+        devices: Shown::new(Some(0)),
+    };
+    let press = PlanMachine {
+        controller: PlanController::new(1, steps_of_press(alloc)?),
+        devices: Shown::new(Some(0)),
+    };
+    let machines = vec![in alloc; loader, press]?;
+    machines_are_ready_at_start(plan, &start, &machines);
+    Ok(PlanPause {
+        machines,
+        state: start,
+    })
+}
+
+#[test]
+fn machines_go_on_over_the_next_interlock(rt: HostRuntime) -> Result<(), AllocError> {
+    let Some((plan, start)) = plan_and_start(rt.alloc()) else {
+        panic!(rt; "no memory");
+    };
+    let begun = at_first_lines(rt.alloc(), &plan, start)?;
+    let renewal = PlanRenewal {
+        tries: 8,
+        turns: 1,
+        rounds: 3,
+    };
+    let mut audits = Audits {
+        alloc: rt.alloc(),
+        plan: &plan,
+        rounds: 0,
+    };
+    let gate = PacedPlanGate::new(&rt, 2, Duration::from_secs(60));
+    let left = work_renewed(&rt, rt.alloc(), &plan, begun, renewal, &gate, &mut audits);
+    let Ok(left) = left else {
+        panic!(rt; "no end");
+    };
+    assert!(rt; audits.rounds == 3 && left.state.stamp <= 1 && left.machines.len() == 2);
+    assert!(rt; left.machines[1].controller.place() == 2 && left.machines[1].devices.ever == 1);
+    Ok(())
+}
+
+#[test]
+fn an_interlock_is_renewed(rt: HostRuntime) -> Result<(), AllocError> {
+    let Some((plan, start)) = plan_and_start(rt.alloc()) else {
+        panic!(rt; "no memory");
+    };
+    starts_are_of_plan(&plan, &start);
+    let Some((interlock, mut passes)) = open_from(rt.alloc(), &plan, &start, 8) else {
+        panic!(rt; "no memory");
+    };
+    let loader = interlock.take_pass(&mut passes, 0);
+    let mut press = interlock.take_pass(&mut passes, 1);
+    let _ = interlock.ask(&mut press, Call::Claim(0));
+    interlock.give_back(&mut passes, press);
+    interlock.give_back(&mut passes, loader);
+    let Ok((interlock, mut passes)) = renew(rt.alloc(), &plan, interlock, passes, 8) else {
+        panic!(rt; "no memory");
+    };
+    let mut loader = interlock.take_pass(&mut passes, 0);
+    let state = interlock.survey(&mut loader);
+    assert!(rt; state.stamp == 0 && state.zone(0).owner == Some(1));
     Ok(())
 }

@@ -1,32 +1,37 @@
 //! A machine at work: its controller, its line and its devices.
 ghost use Rattle.std.specs.Prelude.{◌≡◌, None, Some};
 ghost use Rattle.plan_controller.specs.Turns as turns;
-ghost use Rattle.plan_controller.specs.Turns.{Turns, IsCareful, ArePermitted, AreRunning};
+ghost use Rattle.plan_controller.specs.Turns.{Turns, IsAtPlace, IsCareful, ArePermitted, AreRunning};
 ghost use Rattle.plan_workers.specs.Works.{ReadsThenDrives};
 ghost use Rattle.plan_workers.specs.Turning.{HasWorked};
 
 use crate::devices::PlanDevices;
 use crate::gate::PlanGate;
-use plan_controller::{PlanController, PlanLine, PlanWired, Step, TakenTurn};
+use plan_controller::laws::rounds_begin_anywhere;
+use plan_controller::{PlanController, PlanLine, Step, TakenTurn};
 use std::marker::Model;
 
 /// A machine at work: its controller at the end of its line, and its devices.
+///
+/// The line is the controller's machine's, which is at the controller's place in its program by all that the line has
+/// seen. So it stays.
 #[derive(Drop)]
 pub struct PlanWorker<L: PlanLine, D: PlanDevices> {
-    machine: u8,
-    wired: PlanWired<L>,
+    controller: PlanController,
+    line: L,
     devices: D,
 }
 
 impl<L: PlanLine, D: PlanDevices> Model for PlanWorker<L, D> {
-    ghost use Rattle.std.specs.Prelude.{◌≡◌};
+    ghost use Rattle.plan_controller.specs.Wiring.{IsWired};
     ghost use Rattle.plan_workers.specs.Works.{AtWork, at_work};
 
     ghost Value = { AtWork L D };
 
-    ghost view = { λ w. at_work w.wired.control w.wired.line w.devices };
+    ghost view = { λ w. at_work w.controller w.line w.devices };
 
-    ghost invariant = { λ w. w.machine ≡ L.machine w.wired.line };
+    ghost invariant = { λ w. IsWired w.controller (L.machine w.line) (L.table w.line)
+        (L.opening w.line) (L.seen w.line) };
 }
 
 /// A turn of a machine at work.
@@ -45,9 +50,23 @@ impl<L: PlanLine, D: PlanDevices> PlanWorker<L, D> {
         ensures line { result.line ≡ line }
         ensures devices { result.devices ≡ devices }
     {
+        rounds_begin_anywhere();
+        let controller = PlanController::new(line.machine(), steps);
+        PlanWorker::going_on(controller, line, devices)
+    }
+
+    /// The machine of a line that goes on where its controller is, with its devices. By all that the line has seen it
+    /// is at that place in its program.
+    pub fn going_on(controller: PlanController, line: L, devices: D) -> PlanWorker<L, D>
+        requires own { L.machine line ≡ controller.machine }
+        requires at { IsAtPlace L.table L.opening L.seen line controller controller.place }
+        ensures control { result.control ≡ controller }
+        ensures line { result.line ≡ line }
+        ensures devices { result.devices ≡ devices }
+    {
         PlanWorker {
-            machine: line.machine(),
-            wired: PlanWired::new(steps, line),
+            controller,
+            line,
             devices,
         }
     }
@@ -74,7 +93,7 @@ impl<L: PlanLine, D: PlanDevices> PlanWorker<L, D> {
             (L.seen self.new.line) self.new.control result.taken.motors }
     {
         let sensors = self.devices.sensors();
-        let taken = self.wired.turn(sensors);
+        let taken = self.controller.turn(&mut self.line, sensors);
         self.devices.drive(taken.motors);
         WorkTurn { sensors, taken }
     }
@@ -95,8 +114,9 @@ impl<L: PlanLine, D: PlanDevices> PlanWorker<L, D> {
         ensures table { L.table self.new.line ≡ L.table self.old.line }
         ensures opening { L.opening self.new.line ≡ L.opening self.old.line }
     {
+        let machine = self.line.machine();
         for turn in 0..turns {
-            if !gate.pass(self.machine, turn) {
+            if !gate.pass(machine, turn) {
                 return turn;
             }
             let _ = self.work_turn();
@@ -108,7 +128,7 @@ impl<L: PlanLine, D: PlanDevices> PlanWorker<L, D> {
     pub fn controller(&self) -> &PlanController
         ensures { result.now ≡ self.now.control }
     {
-        self.wired.controller()
+        &self.controller
     }
 
     /// Its devices, to be read.
@@ -118,17 +138,21 @@ impl<L: PlanLine, D: PlanDevices> PlanWorker<L, D> {
         &self.devices
     }
 
-    /// Ends the machine's turns with all motors off, and gives back its line and its devices.
-    pub fn into_parts(self) -> (L, D)
-        ensures line { result.0 ≡ self.line }
-        ensures off { D.drives self.devices 0 result.1 }
+    /// Ends the machine's turns with all motors off, and gives back its controller, its line and its devices. It may go
+    /// on where it is.
+    pub fn into_parts(self) -> (PlanController, L, D)
+        ensures control { result.0 ≡ self.control }
+        ensures line { result.1 ≡ self.line }
+        ensures off { D.drives self.devices 0 result.2 }
+        ensures own { L.machine result.1 ≡ result.0.machine }
+        ensures at { IsAtPlace L.table L.opening L.seen result.1 result.0 result.0.place }
     {
         let PlanWorker {
-            machine: _,
-            wired,
+            controller,
+            line,
             mut devices,
         } = self;
         devices.drive(0);
-        (wired.into_line(), devices)
+        (controller, line, devices)
     }
 }

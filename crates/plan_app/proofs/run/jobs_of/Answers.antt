@@ -29,7 +29,7 @@ loop-machine-preserved c =
     let took = taken c.args.interlock.now c.loop-machine.machine c.args.plan.now.named.plan.machines c.take_pass-pass.result c.loop-machine.passes.actors c.take_pass-pass.new.passes.actors
     c.loop-machine.invariant.left few c.take_pass-pass.ensures.taken in
     let job = is_job c.args.plan.now c.args.interlock.now c.loop-machine.machine c.take_pass-pass.result c.in_ok-job_of.field-0 took.rules took.actor (c.take_pass-pass.ensures.table ∙ c.loop-machine.invariant.table)
-    c.in_ok-job_of.ensures.pass c.in_ok-job_of.ensures.steps c.in_ok-job_of.ensures.devices in
+    c.in_ok-job_of.ensures.pass c.in_ok-job_of.ensures.controller c.in_ok-job_of.ensures.devices c.in_ok-job_of.ensures.ready in
     record {
       table = c.take_pass-pass.ensures.same ∙ c.loop-machine.invariant.table;
       left = took.left;

@@ -18,6 +18,11 @@ returns-in-Ok-clause-free g c =
     let is : IsPlanIn (document_in c.args.bytes.now) c.in-Ok.plan = rw (c.split_at.ensures.front, c.plan_length.ensures.length) at c.in-Ok.ensures.plan in
     λ request well. (c.in-Ok.plan, is, rw (c.split_at.ensures.back, c.plan_length.ensures.length) at (c.serve_plan.ensures.free request well))
 
+pub returns-in-Ok-clause-paged : goal.returns-in-Ok-clause-paged
+returns-in-Ok-clause-paged g c =
+    let is : IsPlanIn (document_in c.args.bytes.now) c.in-Ok.plan = rw (c.split_at.ensures.front, c.plan_length.ensures.length) at c.in-Ok.ensures.plan in
+    λ request well. (c.in-Ok.plan, is, rw (c.split_at.ensures.back, c.plan_length.ensures.length) at (c.serve_plan.ensures.paged request well))
+
 pub returns-in-Ok-clause-header : goal.returns-in-Ok-clause-header
 returns-in-Ok-clause-header g c =
     let is : IsPlanIn (document_in c.args.bytes.now) c.in-Ok.plan = rw (c.split_at.ensures.front, c.plan_length.ensures.length) at c.in-Ok.ensures.plan in
@@ -37,6 +42,11 @@ pub returns-in-Ok-clause-ran : goal.returns-in-Ok-clause-ran
 returns-in-Ok-clause-ran g c =
     let is : IsPlanIn (document_in c.args.bytes.now) c.in-Ok.plan = rw (c.split_at.ensures.front, c.plan_length.ensures.length) at c.in-Ok.ensures.plan in
     λ turns request well. (c.in-Ok.plan, is, rw (c.split_at.ensures.back, c.plan_length.ensures.length) at (c.serve_plan.ensures.ran turns request well))
+
+pub returns-in-Ok-clause-shown : goal.returns-in-Ok-clause-shown
+returns-in-Ok-clause-shown g c =
+    let is : IsPlanIn (document_in c.args.bytes.now) c.in-Ok.plan = rw (c.split_at.ensures.front, c.plan_length.ensures.length) at c.in-Ok.ensures.plan in
+    λ turns request well. (c.in-Ok.plan, is, rw (c.split_at.ensures.back, c.plan_length.ensures.length) at (c.serve_plan.ensures.shown turns request well))
 
 pub returns-in-Ok-clause-failed : goal.returns-in-Ok-clause-failed
 returns-in-Ok-clause-failed g c =

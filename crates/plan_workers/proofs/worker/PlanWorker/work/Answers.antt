@@ -9,7 +9,7 @@ pub loop-turn-preserved : goal.loop-turn-preserved
 loop-turn-preserved g c =
     let old = c.loop-turn.invariant in
     let t = c.work_turn.ensures in
-    let machine = c.self.invariant ∙ (ap (λ x. g.L.PlanLine.machine x.line) c.self.view_is ∙ old.own) in record {
+    let machine = c.machine-machine.ensures ∙ ap (λ x. g.L.PlanLine.machine x.line) c.self.view_is in record {
       come = comes_on _ _ _ _ _ _ old.come (subst (λ (m : ℕ). g.G.PlanGate.may_answer c.args.gate.now m c.loop-turn.turn true) machine c.if-not-pass.ensures)
           (record { turn = c.work_turn.result; devices = t.devices; turns = t.turn; careful = t.careful; own = t.own; table = t.table; opening = t.opening; running = t.running; permitted = t.permitted });
       own = t.own ∙ old.own;
@@ -20,7 +20,7 @@ loop-turn-preserved g c =
 pub returns-then-not-pass-clause-worked : goal.returns-then-not-pass-clause-worked
 returns-then-not-pass-clause-worked g c =
     let old = c.loop-turn.invariant in
-    let machine = c.self.invariant ∙ (ap (λ x. g.L.PlanLine.machine x.line) c.self.view_is ∙ old.own) in
+    let machine = c.machine-machine.ensures ∙ ap (λ x. g.L.PlanLine.machine x.line) c.self.view_is in
     ends_early _ _ _ _ _ _ old.come c.loop-turn-test.true (subst (λ (m : ℕ). g.G.PlanGate.may_answer c.args.gate.now m c.loop-turn.turn false) machine c.if-not-pass.ensures)
 
 pub returns-clause-worked : goal.returns-clause-worked
