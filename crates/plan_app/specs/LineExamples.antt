@@ -33,11 +33,11 @@ abbrev pub gates_report : Text
 gates_report =
     codes "3 machines: lake lock sea\n" ++ codes "2 zones: east west\n"
     ++ codes "4 places: first second quay pier\n" ++ codes "2 poses: travel tide\n"
-    ++ codes "a word of 35 bits\n"
-    ++ codes "bit 0, 5 bits: zone east\n" ++ codes "bit 5, 5 bits: zone west\n"
-    ++ codes "bit 10, 1 bit: place first\n" ++ codes "bit 11, 1 bit: place second\n"
-    ++ codes "bit 12, 1 bit: place quay\n" ++ codes "bit 13, 1 bit: place pier\n"
-    ++ codes "bit 14, 20 bits: stamp\n" ++ codes "bit 34, 1 bit: stop\n"
+    ++ codes "a word of 29 bits\n"
+    ++ codes "bit 0, 2 bits: zone east\n" ++ codes "bit 2, 2 bits: zone west\n"
+    ++ codes "bit 4, 1 bit: place first\n" ++ codes "bit 5, 1 bit: place second\n"
+    ++ codes "bit 6, 1 bit: place quay\n" ++ codes "bit 7, 1 bit: place pier\n"
+    ++ codes "bit 8, 20 bits: stamp\n" ++ codes "bit 28, 1 bit: stop\n"
 
 pub record WholeReports : Type 0 where
   pub report : report.report_text gates ≡ gates_report

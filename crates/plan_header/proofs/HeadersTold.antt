@@ -7,6 +7,8 @@ use Rattle.std.proofs.lemmas.Nat.{mod-mul-add}
 use Rattle.std.specs.Char.{to_ascii_uppercase}
 use Rattle.std.specs.Fmt.{decimal}
 use Rattle.plan_types.specs.Table.{place_count, zone_count}
+use Rattle.plan_word.specs.Layout.{bits_of, counts_of, zones_end}
+use Rattle.plan_word.specs.declared.layout.Field.TheVariants.{Zone}
 use Rattle.plan_text.specs.Names.{Text, name_in}
 use Rattle.plan_header.specs.Headers as header
 use Rattle.plan_header.specs.HeaderLaws.{BitsAreTold, BytesAreTold, CapitalsAreTold, HeadersTell, MasksAreTold, ModulesAreTold}
@@ -40,16 +42,18 @@ numbers-told = record {
 bits-told : BitsAreTold
 bits-told = record {
   zone = λ n k there.
-      ap (λ has. if has then stands (codes "bit_zone_" ++ name_in n.zones k) (decimal (5 * k)) else [])
+      ap (λ has. if has then stands (codes "bit_zone_" ++ name_in n.zones k) (decimal (zones_end (counts_of n.plan) k)) else [])
       (lt-ltb k (zone_count n.plan) there);
   place = λ n k there.
       ap
       (λ has. if has
-      then stands (codes "bit_place_" ++ name_in n.places k) (decimal (5 * zone_count n.plan + k))
+      then stands (codes "bit_place_" ++ name_in n.places k) (decimal (zones_end (counts_of n.plan) (zone_count n.plan) + k))
       else [])
       (lt-ltb k (place_count n.plan) there);
   last = λ n. refl;
   all = λ n. refl;
+  size = λ n k. refl;
+  sizes = λ n. refl;
   width = λ n. refl;
 }
 

@@ -84,12 +84,12 @@ pub record PartyLines : Type 0 where
       ++ codes "#define PLAN_KEEPER_OF_SECOND PLAN_MACHINE_LOCK\n"
       ++ codes "#define PLAN_KEEPER_OF_QUAY PLAN_MACHINE_LAKE\n"
       ++ codes "#define PLAN_KEEPER_OF_PIER PLAN_MACHINE_SEA\n"
-  -- ten bits of two zones, four of places
+  -- four bits of two zones that nothing shuts, four of places
   pub bits : header.bit_lines gates
-      ≡ codes "#define PLAN_BIT_ZONE_EAST 0\n" ++ codes "#define PLAN_BIT_ZONE_WEST 5\n"
-      ++ codes "#define PLAN_BIT_PLACE_FIRST 10\n" ++ codes "#define PLAN_BIT_PLACE_SECOND 11\n"
-      ++ codes "#define PLAN_BIT_PLACE_QUAY 12\n" ++ codes "#define PLAN_BIT_PLACE_PIER 13\n"
-      ++ codes "#define PLAN_BIT_STAMP 14\n" ++ codes "#define PLAN_BIT_STOP 34\n"
+      ≡ codes "#define PLAN_BIT_ZONE_EAST 0\n" ++ codes "#define PLAN_BIT_ZONE_WEST 2\n"
+      ++ codes "#define PLAN_BIT_PLACE_FIRST 4\n" ++ codes "#define PLAN_BIT_PLACE_SECOND 5\n"
+      ++ codes "#define PLAN_BIT_PLACE_QUAY 6\n" ++ codes "#define PLAN_BIT_PLACE_PIER 7\n"
+      ++ codes "#define PLAN_BIT_STAMP 8\n" ++ codes "#define PLAN_BIT_STOP 28\n"
 
 abbrev pub gates_bytes : Text
 gates_bytes =
@@ -121,8 +121,9 @@ pub record WholeHeaders : Type 0 where
       ++ codes "\n/* Who hosts a zone, who is its guest, and who keeps a place. */\n" ++ header.party_lines gates
   pub word : header.word_part gates
       ≡ CODES.now ++ header.bit_lines gates
-      ++ codes "#define PLAN_BITS_ZONE 5\n" ++ codes "#define PLAN_BITS_PLACE 1\n"
-      ++ codes "#define PLAN_BITS_STAMP 20\n" ++ codes "#define PLAN_BITS_STOP 1\n" ++ codes "#define PLAN_BITS 35\n"
+      ++ codes "#define PLAN_BITS_ZONE_EAST 2\n" ++ codes "#define PLAN_BITS_ZONE_WEST 2\n"
+      ++ codes "#define PLAN_BITS_PLACE 1\n"
+      ++ codes "#define PLAN_BITS_STAMP 20\n" ++ codes "#define PLAN_BITS_STOP 1\n" ++ codes "#define PLAN_BITS 29\n"
   pub bytes : header.bytes_part gates ≡ gates_bytes
   pub with_motors : header_text gates (codes "fan" ∷ []) (fan ∷ []) [] []
       ≡ header.names_part gates ++ (header.parties_part gates ++ (header.word_part gates

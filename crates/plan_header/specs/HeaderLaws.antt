@@ -7,6 +7,8 @@ use Rattle.plan_types.specs.Bytes.{bytes_of}
 use Rattle.plan_motors.specs.declared.motor.Motor.{Motor}
 use Rattle.plan_motors.specs.Mask.{mask_of, pattern_of}
 use Rattle.plan_motors.specs.OfPlan.{motor_at}
+use Rattle.plan_word.specs.Layout.{bits_of, counts_of, zones_end}
+use Rattle.plan_word.specs.declared.layout.Field.TheVariants.{Zone}
 use Rattle.plan_text.specs.Names.{Text, name_in}
 use Rattle.plan_text.specs.Named.{Named}
 use Rattle.plan_header.specs.Headers as header
@@ -60,23 +62,31 @@ pub record NumbersAreTold : Type 0 where
       → header.party_lines n
       ≡ for_each (length n.zones) (header.zone_parties n) ++ for_each (length n.places) (header.keeper_line n)
 
--- the lowest bits: five for each zone, one for each place, twenty for the stamp, and one for the stop
+-- where the zones end
+abbrev pub zones_of : Named → ℕ
+zones_of n = zones_end (counts_of n.plan) (zone_count n.plan)
+
+-- the lowest bits: those of each zone, one for each place, twenty for the stamp, and one for the stop
 pub record BitsAreTold : Type 0 where
   pub zone : (n : Named) (k : ℕ) → k < zone_count n.plan
-      → header.zone_bit n k ≡ stands (codes "bit_zone_" ++ name_in n.zones k) (decimal (5 * k))
+      → header.zone_bit n k ≡ stands (codes "bit_zone_" ++ name_in n.zones k) (decimal (zones_end (counts_of n.plan) k))
   pub place : (n : Named) (k : ℕ) → k < place_count n.plan
       → header.place_bit n k
-      ≡ stands (codes "bit_place_" ++ name_in n.places k) (decimal (5 * zone_count n.plan + k))
+      ≡ stands (codes "bit_place_" ++ name_in n.places k) (decimal (zones_of n + k))
   pub last : (n : Named)
       → header.last_bits n
-      ≡ stands (codes "bit_stamp") (decimal (5 * zone_count n.plan + place_count n.plan))
-      ++ stands (codes "bit_stop") (decimal (5 * zone_count n.plan + place_count n.plan + 20))
+      ≡ stands (codes "bit_stamp") (decimal (zones_of n + place_count n.plan))
+      ++ stands (codes "bit_stop") (decimal (zones_of n + place_count n.plan + 20))
   pub all : (n : Named)
       → header.bit_lines n
       ≡ for_each (length n.zones) (header.zone_bit n)
       ++ (for_each (length n.places) (header.place_bit n) ++ header.last_bits n)
+  pub size : (n : Named) (k : ℕ)
+      → header.zone_size n k
+      ≡ stands (codes "bits_zone_" ++ name_in n.zones k) (decimal (bits_of (counts_of n.plan) (Zone k)))
+  pub sizes : (n : Named) → header.zone_sizes n ≡ for_each (length n.zones) (header.zone_size n)
   pub width : (n : Named)
-      → header.width_line n ≡ stands (codes "bits") (decimal (5 * zone_count n.plan + place_count n.plan + 21))
+      → header.width_line n ≡ stands (codes "bits") (decimal (zones_of n + place_count n.plan + 21))
 
 -- the plan's bytes: a line feed before the first of each eight, a blank before each other one
 pub record BytesAreTold : Type 0 where
