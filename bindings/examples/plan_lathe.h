@@ -53,7 +53,7 @@
 #define PLAN_KEEPER_OF_CHUCK PLAN_MACHINE_LATHE
 #define PLAN_KEEPER_OF_UNLOADER_HAND PLAN_MACHINE_UNLOADER
 
-/* Of a zone's field: who owns it, and its posture, if it has two bits. */
+/* Who owns a zone, and its posture. */
 enum plan_owner { PLAN_OWNER_FREE = 0, PLAN_OWNER_HOST = 1, PLAN_OWNER_GUEST = 2 };
 enum plan_posture {
     PLAN_POSTURE_CLOSED = 0,
@@ -81,6 +81,20 @@ enum plan_posture {
 #define PLAN_BITS_STAMP 20
 #define PLAN_BITS_STOP 1
 #define PLAN_BITS 45
+
+/* What a state's word tells of a zone: who owns it, whether a plate is in it, and its posture. */
+#define PLAN_OWNER_OF_PICKUP(word) ((word) >> PLAN_BIT_ZONE_PICKUP & 3)
+#define PLAN_PLATE_IN_PICKUP(word) ((word) >> (PLAN_BIT_ZONE_PICKUP + 2) & 1)
+#define PLAN_POSTURE_OF_PICKUP(word) ((word) >> (PLAN_BIT_ZONE_PICKUP + 3) & 3)
+#define PLAN_OWNER_OF_DROPOFF(word) ((word) >> PLAN_BIT_ZONE_DROPOFF & 3)
+#define PLAN_PLATE_IN_DROPOFF(word) ((word) >> (PLAN_BIT_ZONE_DROPOFF + 2) & 1)
+#define PLAN_POSTURE_OF_DROPOFF(word) ((word) >> (PLAN_BIT_ZONE_DROPOFF + 3) & 3)
+#define PLAN_OWNER_OF_LOADING(word) ((word) >> PLAN_BIT_ZONE_LOADING & 3)
+#define PLAN_PLATE_IN_LOADING(word) ((word) >> (PLAN_BIT_ZONE_LOADING + 2) & 1)
+#define PLAN_POSTURE_OF_LOADING(word) ((word) >> (PLAN_BIT_ZONE_LOADING + 3) & 3)
+#define PLAN_OWNER_OF_UNLOADING(word) ((word) >> PLAN_BIT_ZONE_UNLOADING & 3)
+#define PLAN_PLATE_IN_UNLOADING(word) ((word) >> (PLAN_BIT_ZONE_UNLOADING + 2) & 1)
+#define PLAN_POSTURE_OF_UNLOADING(word) ((word) >> (PLAN_BIT_ZONE_UNLOADING + 3) & 3)
 
 /* Motors, and parts that stand somewhere: which bits of a state's word each looks at, and what they have to be. Load the
    word, and PLAN_MAY_RUN(word, RAM) says whether its state permits the ram. What is permitted stays so until a call of

@@ -12,6 +12,7 @@ use Rattle.plan_word.specs.declared.layout.Field.TheVariants.{Zone}
 use Rattle.plan_text.specs.Names.{Text, name_in}
 use Rattle.plan_header.specs.Headers as header
 use Rattle.plan_header.specs.HeaderLaws.{BitsAreTold, BytesAreTold, CapitalsAreTold, HeadersTell, MasksAreTold, ModulesAreTold}
+use Rattle.plan_header.specs.HeaderLaws.{ReadingsAreTold}
 use Rattle.plan_header.specs.HeaderLaws.{NumbersAreTold, stands}
 use Rattle.plan_header.specs.Words.{capitals}
 
@@ -55,6 +56,20 @@ bits-told = record {
   size = λ n k. refl;
   sizes = λ n. refl;
   width = λ n. refl;
+}
+
+readings-told : ReadingsAreTold
+readings-told = record {
+  owner = λ zone. refl;
+  plate = λ zone. refl;
+  no_plate = λ zone. refl;
+  shut = λ zone above. refl;
+  moving = λ zone above. refl;
+  open_in = λ zone above. refl;
+  open_out = λ zone above. refl;
+  all = λ zone above. refl;
+  zone = λ n k. refl;
+  each = λ n. refl;
 }
 
 -- where a number is one of a line's first, and where it isn't
@@ -111,6 +126,7 @@ headers-tell = record {
   numbers = numbers-told;
   bits = bits-told;
   bytes = bytes-told;
+  readings = readings-told;
   masks = masks-told;
   modules = modules-told;
 }

@@ -1,8 +1,10 @@
 -- What each line of a header or a module says, for all names, numbers, motors and bytes: in the plan's own words.
-use Rattle.std.specs.Prelude.{◌≡◌, ◌<◌, ℕ, ◌+◌, ◌*◌, List, [], ◌∷◌, ◌++◌, codes, flat_map, get_or, length}
+use Rattle.std.specs.Prelude.{◌≡◌, ◌<◌, ℕ, ◌+◌, ◌*◌, true, false, List, [], ◌∷◌, ◌++◌, codes, flat_map, get_or, length}
 use Rattle.std.specs.Fmt.{decimal}
 use Rattle.std.specs.List.{range_with_len}
-use Rattle.plan_types.specs.Table.{guest_of, host_of, keeper_of, machine_of, place_count, zone_count}
+use Rattle.plan_types.specs.declared.posture.Posture.TheVariants.{Moving, OpenIn, OpenOut}
+use Rattle.plan_types.specs.declared.shape.Postures.TheVariants.{Shut, Two, All}
+use Rattle.plan_types.specs.Table.{guest_of, host_of, keeper_of, machine_of, place_count, zone_count, zone_shape}
 use Rattle.plan_types.specs.Bytes.{bytes_of}
 use Rattle.plan_motors.specs.declared.motor.Motor.{Motor}
 use Rattle.plan_motors.specs.Mask.{mask_of, pattern_of}
@@ -13,8 +15,10 @@ use Rattle.plan_text.specs.Names.{Text, name_in}
 use Rattle.plan_text.specs.Named.{Named}
 use Rattle.plan_header.specs.Headers as header
 use Rattle.plan_header.specs.Modules as python
+use Rattle.plan_header.specs.Readings as reading
 use Rattle.plan_header.specs.declared.motors.TheConstants.{MOTORS}
 use Rattle.plan_header.specs.declared.python.TheConstants.{MODULE, PLANT}
+use Rattle.plan_header.specs.declared.readings.TheConstants.{READINGS}
 use Rattle.plan_header.specs.Words.{capitals}
 
 -- each byte of a name in capitals: `a` is 97, `z` is 122, and `A` is 65; what is no letter from `a` to `z` stays
@@ -88,6 +92,50 @@ pub record BitsAreTold : Type 0 where
   pub width : (n : Named)
       → header.width_line n ≡ stands (codes "bits") (decimal (zones_of n + place_count n.plan + 21))
 
+-- a macro of a word, by a name in capitals, and what stands for it up to the end of its line
+abbrev pub reads : Text → Text → Text
+reads name meaning = codes "#define PLAN_" ++ (capitals name ++ (codes "(word) " ++ meaning))
+
+-- bits of a zone, from the one so many above its lowest, and what is done with them
+abbrev pub bits_above : Text → ℕ → Text → Text
+bits_above zone above rest =
+    codes "((word) >> (PLAN_BIT_ZONE_" ++ (capitals zone ++ (codes " + " ++ (decimal above ++ (codes ") & " ++ rest))))
+
+-- how C reads a zone: the two lowest bits tell its owner; the third, if a plate has a way through it, whether one is in
+-- it; and those above its posture, as the postures are that poses give it
+pub record ReadingsAreTold : Type 0 where
+  pub owner : (zone : Text)
+      → reading.owner_reading (capitals zone)
+      ≡ reads (codes "owner_of_" ++ zone) (codes "((word) >> PLAN_BIT_ZONE_" ++ (capitals zone ++ codes " & 3)\n"))
+  pub plate : (zone : Text)
+      → reading.plate_reading true (capitals zone)
+      ≡ reads (codes "plate_in_" ++ zone)
+      (codes "((word) >> (PLAN_BIT_ZONE_" ++ (capitals zone ++ codes " + 2) & 1)\n"))
+  pub no_plate : (zone : Text)
+      → reading.plate_reading false (capitals zone) ≡ reads (codes "plate_in_" ++ zone) (codes "0\n")
+  pub shut : (zone : Text) (above : ℕ)
+      → reading.posture_reading Shut above (capitals zone)
+      ≡ reads (codes "posture_of_" ++ zone) (codes "PLAN_POSTURE_CLOSED\n")
+  pub moving : (zone : Text) (above : ℕ)
+      → reading.posture_reading (Two Moving) above (capitals zone)
+      ≡ reads (codes "posture_of_" ++ zone)
+      (bits_above zone above (codes "1 ? PLAN_POSTURE_MOVING : PLAN_POSTURE_CLOSED)\n"))
+  pub open_in : (zone : Text) (above : ℕ)
+      → reading.posture_reading (Two OpenIn) above (capitals zone)
+      ≡ reads (codes "posture_of_" ++ zone)
+      (bits_above zone above (codes "1 ? PLAN_POSTURE_OPENIN : PLAN_POSTURE_CLOSED)\n"))
+  pub open_out : (zone : Text) (above : ℕ)
+      → reading.posture_reading (Two OpenOut) above (capitals zone)
+      ≡ reads (codes "posture_of_" ++ zone)
+      (bits_above zone above (codes "1 ? PLAN_POSTURE_OPENOUT : PLAN_POSTURE_CLOSED)\n"))
+  pub all : (zone : Text) (above : ℕ)
+      → reading.posture_reading All above (capitals zone)
+      ≡ reads (codes "posture_of_" ++ zone) (bits_above zone above (codes "3)\n"))
+  pub zone : (n : Named) (k : ℕ)
+      → reading.zone_reading n k ≡ reading.readings_of (zone_shape n.plan k) (capitals (name_in n.zones k))
+  pub each : (n : Named)
+      → reading.readings_part n ≡ READINGS.now ++ for_each (length n.zones) (reading.zone_reading n)
+
 -- the plan's bytes: a line feed before the first of each eight, a blank before each other one
 pub record BytesAreTold : Type 0 where
   pub line_feed : (bytes : List ℕ) (line : ℕ)
@@ -152,5 +200,6 @@ pub record HeadersTell : Type 0 where
   pub numbers : NumbersAreTold
   pub bits : BitsAreTold
   pub bytes : BytesAreTold
+  pub readings : ReadingsAreTold
   pub masks : MasksAreTold
   pub modules : ModulesAreTold

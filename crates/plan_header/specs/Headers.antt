@@ -14,6 +14,7 @@ use Rattle.plan_motors.specs.OfPlan.{motor_at}
 use Rattle.plan_text.specs.Names.{Text, name_in}
 use Rattle.plan_text.specs.Named.{Named}
 use Rattle.plan_header.specs.Words.{capitals, machine_name, zone_name}
+use Rattle.plan_header.specs.Readings.{readings_part}
 use Rattle.plan_header.specs.declared.header.TheConstants.{BEGIN, ZONES, PLACES, POSES, PARTIES, CODES, BITS}
 use Rattle.plan_header.specs.declared.header.TheConstants.{BYTES, END}
 use Rattle.plan_header.specs.declared.motors.TheConstants.{MOTORS}
@@ -153,7 +154,8 @@ abbrev pub width_line : Named → Text
 width_line n = define_line (codes "bits") (width_of (counts_of n.plan))
 
 abbrev pub word_part : Named → Text
-word_part n = CODES.now ++ (bit_lines n ++ (zone_sizes n ++ (BITS.now ++ width_line n)))
+word_part n =
+    CODES.now ++ (bit_lines n ++ (zone_sizes n ++ (BITS.now ++ (width_line n ++ readings_part n))))
 
 abbrev pub table_text : List ℕ → Text
 table_text bytes = BYTES.now ++ (byte_words bytes ++ END.now)

@@ -9,6 +9,7 @@ ghost use Rattle.plan_header.specs.Words as words;
 
 use crate::lists::push_lists_part;
 use crate::motors::push_motors_part;
+use crate::readings::push_readings;
 use crate::turns::push_turns_part;
 use plan_document::ProgrammedPlan;
 use plan_text::{NamedPlan, Names};
@@ -48,7 +49,7 @@ const PARTIES: &str = "\n/* Who hosts a zone, who is its guest, and who keeps a 
 
 /// What each plan has.
 const CODES: &str = "
-/* Of a zone's field: who owns it, and its posture, if it has two bits. */
+/* Who owns a zone, and its posture. */
 enum plan_owner { PLAN_OWNER_FREE = 0, PLAN_OWNER_HOST = 1, PLAN_OWNER_GUEST = 2 };
 enum plan_posture {
     PLAN_POSTURE_CLOSED = 0,
@@ -383,7 +384,8 @@ fn push_word_part(alloc: Global, text: &mut String, named: &NamedPlan) -> Result
     push_bits(alloc, text, named)?;
     push_zone_sizes(alloc, text, named)?;
     text.push_str(BITS)?;
-    push_width(alloc, text, named)
+    push_width(alloc, text, named)?;
+    push_readings(alloc, text, named)
 }
 
 /// Adds how many bits each zone has.

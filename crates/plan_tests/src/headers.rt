@@ -49,7 +49,7 @@ pub const HEADER: &str = "\
 #define PLAN_KEEPER_OF_HAND PLAN_MACHINE_LOADER
 #define PLAN_KEEPER_OF_DIE PLAN_MACHINE_PRESS
 
-/* Of a zone's field: who owns it, and its posture, if it has two bits. */
+/* Who owns a zone, and its posture. */
 enum plan_owner { PLAN_OWNER_FREE = 0, PLAN_OWNER_HOST = 1, PLAN_OWNER_GUEST = 2 };
 enum plan_posture {
     PLAN_POSTURE_CLOSED = 0,
@@ -69,6 +69,11 @@ enum plan_posture {
 #define PLAN_BITS_STAMP 20
 #define PLAN_BITS_STOP 1
 #define PLAN_BITS 28
+
+/* What a state's word tells of a zone: who owns it, whether a plate is in it, and its posture. */
+#define PLAN_OWNER_OF_INTERIOR(word) ((word) >> PLAN_BIT_ZONE_INTERIOR & 3)
+#define PLAN_PLATE_IN_INTERIOR(word) ((word) >> (PLAN_BIT_ZONE_INTERIOR + 2) & 1)
+#define PLAN_POSTURE_OF_INTERIOR(word) ((word) >> (PLAN_BIT_ZONE_INTERIOR + 3) & 3)
 
 /* The names of each kind, by their numbers. A null comes after the last. */
 static const char *const PLAN_NAMES_OF_MACHINES[] = {
@@ -184,7 +189,7 @@ const LIFT_HEADER: &str = "\
 #define PLAN_KEEPER_OF_GROUND PLAN_MACHINE_BELOW
 #define PLAN_KEEPER_OF_GALLERY PLAN_MACHINE_ABOVE
 
-/* Of a zone's field: who owns it, and its posture, if it has two bits. */
+/* Who owns a zone, and its posture. */
 enum plan_owner { PLAN_OWNER_FREE = 0, PLAN_OWNER_HOST = 1, PLAN_OWNER_GUEST = 2 };
 enum plan_posture {
     PLAN_POSTURE_CLOSED = 0,
@@ -207,6 +212,14 @@ enum plan_posture {
 #define PLAN_BITS_STAMP 20
 #define PLAN_BITS_STOP 1
 #define PLAN_BITS 34
+
+/* What a state's word tells of a zone: who owns it, whether a plate is in it, and its posture. */
+#define PLAN_OWNER_OF_LOWER(word) ((word) >> PLAN_BIT_ZONE_LOWER & 3)
+#define PLAN_PLATE_IN_LOWER(word) ((word) >> (PLAN_BIT_ZONE_LOWER + 2) & 1)
+#define PLAN_POSTURE_OF_LOWER(word) ((word) >> (PLAN_BIT_ZONE_LOWER + 3) & 3)
+#define PLAN_OWNER_OF_UPPER(word) ((word) >> PLAN_BIT_ZONE_UPPER & 3)
+#define PLAN_PLATE_IN_UPPER(word) ((word) >> (PLAN_BIT_ZONE_UPPER + 2) & 1)
+#define PLAN_POSTURE_OF_UPPER(word) ((word) >> (PLAN_BIT_ZONE_UPPER + 3) & 3)
 
 /* The names of each kind, by their numbers. A null comes after the last. */
 static const char *const PLAN_NAMES_OF_MACHINES[] = {
