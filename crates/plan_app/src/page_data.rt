@@ -200,9 +200,7 @@ fn push_told(text: &mut String, postures: Postures) -> Result<(), AllocError>
             let other = posture_word(other);
             write!(text, "\"closed\", \"{other}\"")
         }
-        Postures::All => {
-            text.push_str("\"closed\", \"moving\", \"openin\", \"openout\"")
-        }
+        Postures::All => { text.push_str("\"closed\", \"moving\", \"openin\", \"openout\"") }
     }
 }
 

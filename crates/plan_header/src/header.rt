@@ -425,7 +425,12 @@ fn push_size(
         (string_bytes text.new ≡ string_bytes text.old ++ spec.size_line layout field (kind.now ++ name.now)) }
 {
     let word = format!(in alloc; "{kind}{name}")?;
-    push_define(alloc, text, word.as_str(), usize::from(layout.bits_of(field)))
+    push_define(
+        alloc,
+        text,
+        word.as_str(),
+        usize::from(layout.bits_of(field)),
+    )
 }
 
 /// Adds how many bits the word has.

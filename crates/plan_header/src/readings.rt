@@ -103,7 +103,10 @@ fn push_posture(
         (string_bytes text.new ≡ string_bytes text.old ++ spec.posture_reading postures above zone.now) }
 {
     match postures {
-        Postures::Shut => writeln!(text, "#define PLAN_POSTURE_OF_{zone}(word) PLAN_POSTURE_CLOSED"),
+        Postures::Shut => writeln!(
+            text,
+            "#define PLAN_POSTURE_OF_{zone}(word) PLAN_POSTURE_CLOSED"
+        ),
         Postures::Two(other) => push_two(text, zone, posture_name(other), above),
         Postures::All => writeln!(
             text,

@@ -17,7 +17,11 @@ fn tables_of(alloc: Global, size: Size) -> Result<Tables, AllocError> {
     let zone = PlanZone {
         host: 0,
         guest: 1,
-        inward: if has_way { Some(Way { from: 0, to: 1 }) } else { None },
+        inward: if has_way {
+            Some(Way { from: 0, to: 1 })
+        } else {
+            None
+        },
         outward: None,
     };
     let mut tables = Tables {
@@ -30,7 +34,11 @@ fn tables_of(alloc: Global, size: Size) -> Result<Tables, AllocError> {
         tables.zones.push(zone)?;
     }
     for number in 0..postures {
-        let posture = if number == 0 { Posture::OpenIn } else { Posture::Moving };
+        let posture = if number == 0 {
+            Posture::OpenIn
+        } else {
+            Posture::Moving
+        };
         let mut gives = [None; MAX_ZONES];
         for zone in 0..MAX_ZONES {
             if zone < usize::from(zones) {
