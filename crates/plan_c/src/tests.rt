@@ -318,7 +318,8 @@ fn tells_what_is_no_plan(rt: HostRuntime) -> Result<(), Fail> {
     Ok(())
 }
 
-// The most machines, and the most poses, none of which gives a posture.
+// The most machines, and the most poses, none of which gives a posture. An opened plan has as many bytes as in the
+// header for C.
 #[test]
 fn the_largest_counts_are_a_plan(rt: HostRuntime) -> Result<(), Fail> {
     let mut bytes = bare_zone(1).to_vec(rt.alloc())?;
@@ -328,6 +329,7 @@ fn the_largest_counts_are_a_plan(rt: HostRuntime) -> Result<(), Fail> {
         bytes.extend_from_slice(&[0; 12])?;
     }
     let plan = bagunjoki_plan_open(&bytes);
+    assert!(rt; size_of::<Opened>() == 27_416);
     let start = bagunjoki_plan_start(&plan, b"", 0);
     assert!(rt; start == 0);
     let reply = bagunjoki_plan_step(&plan, start, 0, 6, 63);
