@@ -153,9 +153,14 @@ zone_sizes n = flat_map (zone_size n) (range_with_len 0 (length n.zones))
 abbrev pub width_line : Named → Text
 width_line n = define_line (codes "bits") (width_of (counts_of n.plan))
 
+abbrev pub fields_part : Named → Text
+fields_part n = CODES.now ++ bit_lines n
+
+abbrev pub sizes_part : Named → Text
+sizes_part n = zone_sizes n ++ (BITS.now ++ width_line n)
+
 abbrev pub word_part : Named → Text
-word_part n =
-    CODES.now ++ (bit_lines n ++ (zone_sizes n ++ (BITS.now ++ (width_line n ++ readings_part n))))
+word_part n = fields_part n ++ (sizes_part n ++ readings_part n)
 
 abbrev pub table_text : List ℕ → Text
 table_text bytes = BYTES.now ++ (byte_words bytes ++ END.now)

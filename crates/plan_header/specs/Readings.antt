@@ -49,10 +49,12 @@ posture_reading All above zone =
     ++ (zone ++ (codes "(word) ((word) >> (PLAN_BIT_ZONE_" ++ (zone ++ (codes " + "
     ++ (decimal above ++ codes ") & 3)\n")))))
 
+-- above the owner and the flag
+abbrev pub posture_of : ZoneShape → Text → Text
+posture_of s zone = posture_reading (postures_of s) (2 + flag_bits s.flag) zone
+
 abbrev pub readings_of : ZoneShape → Text → Text
-readings_of s zone =
-    owner_reading zone
-    ++ (plate_reading s.flag zone ++ posture_reading (postures_of s) (2 + flag_bits s.flag) zone)
+readings_of s zone = owner_reading zone ++ (plate_reading s.flag zone ++ posture_of s zone)
 
 abbrev pub zone_reading : Named → ℕ → Text
 zone_reading n zone = readings_of (zone_shape n.plan zone) (capitals (zone_name n zone))

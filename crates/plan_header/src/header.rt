@@ -380,12 +380,26 @@ fn push_role_words(text: &mut String, role: &str, machine: &str) -> Result<(), A
 fn push_word_part(alloc: Global, text: &mut String, named: &NamedPlan) -> Result<(), AllocError>
     ensures { OnOk result (string_bytes text.new ≡ string_bytes text.old ++ spec.word_part named.now) }
 {
+    push_fields_part(alloc, text, named)?;
+    push_sizes_part(alloc, text, named)?;
+    push_readings(alloc, text, named)
+}
+
+/// Adds the lowest bit of each field.
+fn push_fields_part(alloc: Global, text: &mut String, named: &NamedPlan) -> Result<(), AllocError>
+    ensures { OnOk result (string_bytes text.new ≡ string_bytes text.old ++ spec.fields_part named.now) }
+{
     text.push_str(CODES)?;
-    push_bits(alloc, text, named)?;
+    push_bits(alloc, text, named)
+}
+
+/// Adds how many bits fields have.
+fn push_sizes_part(alloc: Global, text: &mut String, named: &NamedPlan) -> Result<(), AllocError>
+    ensures { OnOk result (string_bytes text.new ≡ string_bytes text.old ++ spec.sizes_part named.now) }
+{
     push_zone_sizes(alloc, text, named)?;
     text.push_str(BITS)?;
-    push_width(alloc, text, named)?;
-    push_readings(alloc, text, named)
+    push_width(alloc, text, named)
 }
 
 /// Adds how many bits each zone has.

@@ -54,7 +54,7 @@ fn push_shape(text: &mut String, zone: &str, shape: ZoneShape) -> Result<(), All
 {
     push_owner(text, zone)?;
     push_plate(text, zone, shape.flag)?;
-    push_posture(text, zone, shape.postures(), 2 + u8::from(shape.flag))
+    push_posture_of(text, zone, shape)
 }
 
 /// Adds who owns a zone.
@@ -79,6 +79,13 @@ fn push_plate(text: &mut String, zone: &str, flag: bool) -> Result<(), AllocErro
     } else {
         writeln!(text, "#define PLAN_PLATE_IN_{zone}(word) 0")
     }
+}
+
+/// Adds the posture of a zone, whose bits begin above those of its owner and its flag.
+fn push_posture_of(text: &mut String, zone: &str, shape: ZoneShape) -> Result<(), AllocError>
+    ensures { OnOk result (string_bytes text.new ≡ string_bytes text.old ++ spec.posture_of shape zone.now) }
+{
+    push_posture(text, zone, shape.postures(), 2 + u8::from(shape.flag))
 }
 
 fn posture_name(posture: Posture) -> &'static str
