@@ -14,9 +14,9 @@ enum { CLOSED, MOVING, OPEN_IN, OPEN_OUT };
 enum { CLAIM = 1, GIVE, YIELD, TAKE, RELEASE, SET_POSE, INQUIRE = 8, STOP, RESUME, WATCH = 15, NOBODY = 255 };
 enum { HEAD = 20, MOST = 884, ZONES = 10, POSES = 64, PLACES = 16 };
 
-/* A zone: its parties; its lowest bit, how many it has, and the codes that they may have; the lowest bit of its posture,
-   as many ones as this has, its postures by their codes, and their codes by postures; the bit of its flag, if it has
-   one; and by OPEN_IN and OPEN_OUT the bits of the places at both ends of its way; no bits where it has none. */
+/* A zone: its parties; its lowest bit, how many it has, and the codes that they may have; the lowest bit of its
+   posture, as many ones as this has, its postures by their codes, and their codes by postures; the bit of its flag, if
+   it has one; and by OPEN_IN and OPEN_OUT the bits of the places at both ends of its way; no bits where it has none. */
 struct zone {
     uint8_t host, guest, bit, bits, posture_bit, posture_mask, postures[4], posture_codes[4];
     uint32_t codes;

@@ -1,6 +1,6 @@
-/* Random calls at the two presses of examples/plans, by their header. After each call what the header's macros read of a
-   zone is what the watch is shown of it. The rack's field has three bits, those of the presses have five. It prints of
-   each zone which postures, as bits by their numbers, and whether a plate were seen. */
+/* Random calls at the two presses of examples/plans, by their header. After each call what the header's macros read of
+   a zone is what the watch is shown of it. The rack's field has three bits, those of the presses have five. It prints
+   of each zone which postures, as bits by their numbers, and whether a plate were seen. */
 #include <bagunjoki_plan.h>
 #include <stdio.h>
 #include "two_presses.h"
@@ -24,8 +24,8 @@ static bool is_shown(const bagunjoki_plan_opened *plan, uint64_t word, reading r
 }
 
 /* All that is read of a word. */
-#define READ(NAME)                                                                                                     \
-    {PLAN_ZONE_##NAME, PLAN_HOST_OF_##NAME, PLAN_GUEST_OF_##NAME, (unsigned)PLAN_OWNER_OF_##NAME(word),                 \
+#define READ(NAME)                                                                                        \
+    {PLAN_ZONE_##NAME, PLAN_HOST_OF_##NAME, PLAN_GUEST_OF_##NAME, (unsigned)PLAN_OWNER_OF_##NAME(word),  \
      (unsigned)PLAN_PLATE_IN_##NAME(word), (unsigned)PLAN_POSTURE_OF_##NAME(word)}
 
 int main(void) {

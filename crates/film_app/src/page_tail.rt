@@ -150,7 +150,8 @@ function wordDrawn(frame, before) {
   };
   const {zones, stamp, stopped} = frame.state, whole = "0x" + frame.word.toString(16).padStart(16, "0");
   const ofZone = ({owner}, i) =>
-    field(`${ZONES[i].name} ${owner || "free"}`, LOWS[i], LOWS[i + 1] - LOWS[i], colour(owner || "watch"), inkOn(owner));
+    field(`${ZONES[i].name} ${owner || "free"}`, LOWS[i], LOWS[i + 1] - LOWS[i],
+      colour(owner || "watch"), inkOn(owner));
   return `<span class="field"><b>${whole}</b><small>the whole interlock</small></span>`
     + (UNUSED ? field("-", STAMP + 21, UNUSED, ALARM) : "") + field(stopped ? "stopped" : "mark", STAMP + 20, 1, ALARM)
     + field("stamp " + stamp, STAMP, 20, "#9aa7b4")

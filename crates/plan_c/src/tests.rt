@@ -339,8 +339,8 @@ fn the_largest_counts_are_a_plan(rt: HostRuntime) -> Result<(), Fail> {
     Ok(())
 }
 
-// Poses move the zone and open it inward, and none opens it outward, so no start comes to this word. It is a state's all
-// the same.
+// Poses move the zone and open it inward, and none opens it outward, so no start comes to this word. It is a state's
+// all the same.
 #[test]
 fn an_open_free_zone_is_a_state(rt: HostRuntime) -> Result<(), Fail> {
     let mut bytes = bare_zone(1).to_vec(rt.alloc())?;

@@ -1,6 +1,7 @@
 //! Laws of what is printed, each the contract of a function that does nothing.
 
-ghost use Rattle.plan_header.specs.HeaderExamples.{CapitalsAreMade, HeaderLines, MaskLines, PartyLines, ReadingLines, WholeHeaders};
+ghost use Rattle.plan_header.specs.HeaderExamples.{CapitalsAreMade, HeaderLines, MaskLines, PartyLines};
+ghost use Rattle.plan_header.specs.HeaderExamples.{ReadingLines, WholeHeaders};
 ghost use Rattle.plan_header.specs.HeaderLaws.{HeadersTell};
 ghost use Rattle.plan_header.specs.ModuleExamples.{ModuleLines, WholeModules};
 ghost use Rattle.plan_header.specs.TurnExamples.{TurnLines};
