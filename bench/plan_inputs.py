@@ -101,8 +101,10 @@ def plan(r, small=False):
         row["places"] = [name(r, PLACES, places) for _ in range(r.choice((0, 1, 1, 2))) if len(places) < (4 if small else 13)]
         machines.append(row)
     taken = []
-    for _ in range(r.choice((1, 2, 2, 3)) if small else r.choice((0, 1, 3, 6, 8))):
-        if count > 1 and 5 * (len(zones) + 1) + len(places) <= 43:
+    # (seldom a word may be too wide: zones have two bits to five)
+    room = 43 if small or r.randrange(4) else 53
+    for _ in range(r.choice((1, 2, 2, 3)) if small else r.choice((0, 1, 3, 6, 8, 10))):
+        if count > 1 and 5 * (len(zones) + 1) + len(places) <= room:
             zones.append(zone_row(r, machines, taken))
     for row in machines:
         hosted = [it["name"] for it in zones if it["host"] == row["name"]]

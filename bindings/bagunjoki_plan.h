@@ -146,7 +146,7 @@ typedef struct bagunjoki_plan_turned {
 /* A plan that was opened, compiled. Its size never changes; what is in it is the library's alone. */
 typedef struct bagunjoki_plan_opened {
     bool is_plan; /* whether the bytes were a plan's */
-    uint64_t kept[3414];
+    uint64_t kept[3426];
 } bagunjoki_plan_opened;
 
 /* The proved functions. They read nothing but their arguments, keep nothing, and take no memory and no lock. Any thread

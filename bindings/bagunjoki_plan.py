@@ -26,15 +26,15 @@ __version__ = "1.0.0"
 
 # Who stops and resumes, and where a reply names no machine, zone or posture.
 WATCH, NOTHING = 15, 255
-# Bits of a zone and of the stamp.
-ZONE_BITS, STAMP_BITS = 5, 20
+# Bits of the stamp.
+STAMP_BITS = 20
 WORD, BYTE, STAMP, TEXT, SIZE = ctypes.c_uint64, ctypes.c_uint8, ctypes.c_uint32, ctypes.c_char_p, ctypes.c_size_t
 
 
 class RawOpened(ctypes.Structure):
     """A plan that was opened, as C has it."""
 
-    _fields_ = [("is_plan", ctypes.c_bool), ("kept", WORD * 3414)]
+    _fields_ = [("is_plan", ctypes.c_bool), ("kept", WORD * 3426)]
 
 
 OPENED = ctypes.POINTER(RawOpened)
@@ -125,6 +125,16 @@ class Plant:
         return bagunjoki.answers_by(script, lambda record: self.start_of(record, library), lambda version, record: True)
 
 
+def zone_widths(plan):
+    """How many bits each zone has in the word, by the plan's bytes: four counts, and then rows of zones and of poses. There are two
+    for its owner, one for its flag if a plate has a way through it, and as many for its posture as poses give it postures besides
+    `closed`, but at most two."""
+    zones, poses = plan[1], plan[2]
+    rows, given = [plan[4 + 8 * it :] for it in range(zones)], 6 + 8 * zones
+    others = [{plan[given + 12 * pose + it] for pose in range(poses)} - {0, 1} for it in range(zones)]
+    return [2 + (row[2] or row[5]) + min(len(its), 2) for row, its in zip(rows, others)]
+
+
 def number_in(names, name, kind):
     """The place of a name among others; a number stays."""
     if isinstance(name, int):
@@ -145,10 +155,11 @@ class PlanLibrary:
     """The library for one plan: the functions that the cell's library has, so that a word may call either."""
 
     def __init__(self, plant, library):
-        self.library, self.zones, self.places = library, len(plant.zones), len(plant.places)
+        self.library, self.places = library, len(plant.places)
         self.plan = library.bagunjoki_plan_open(plant.plan, len(plant.plan))
         if not self.plan.is_plan:
             raise ValueError("these bytes are no plan's")
+        self.widths = zone_widths(plant.plan)
 
     def bagunjoki_step(self, word, machine, verb, about):
         return self.library.bagunjoki_plan_step(self.plan, word, machine, verb, about)
@@ -162,9 +173,13 @@ class PlanLibrary:
     def bagunjoki_stamp(self, word):
         return self.library.bagunjoki_plan_stamp(self.plan, word)
 
+    def zone_bit(self, zone):
+        """The lowest bit of a zone."""
+        return sum(self.widths[:zone])
+
     def place_bit(self, place):
         """The bit of a place; past the last one, the first bit of the stamp."""
-        return ZONE_BITS * self.zones + place
+        return sum(self.widths) + place
 
     def bagunjoki_is_full(self, word, place):
         return bool(word >> self.place_bit(place) & 1)
@@ -249,7 +264,8 @@ class PlanWord(Word):
             fields.append((place, "full" * self.is_full(place), library.place_bit(number), 1))
         for number, zone in reversed([*enumerate(self.plant.zones)]):
             shown = self.zone(zone)
-            fields.append((zone, f"{shown.owner} {word_of(shown.posture)}{' plate' * shown.plate}", ZONE_BITS * number, ZONE_BITS))
+            said = f"{shown.owner} {word_of(shown.posture)}{' plate' * shown.plate}"
+            fields.append((zone, said, library.zone_bit(number), library.widths[number]))
         return [(name, said, f"{self.value >> low & (1 << count) - 1:0{count}b}") for name, said, low, count in fields]
 
     def table(self):

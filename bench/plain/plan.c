@@ -14,12 +14,13 @@ enum { CLOSED, MOVING, OPEN_IN, OPEN_OUT };
 enum { CLAIM = 1, GIVE, YIELD, TAKE, RELEASE, SET_POSE, INQUIRE = 8, STOP, RESUME, WATCH = 15, NOBODY = 255 };
 enum { HEAD = 20, MOST = 884, ZONES = 10, POSES = 64, PLACES = 16 };
 
-/* A zone: its parties, the codes that its five bits may have, and by OPEN_IN and OPEN_OUT the bits of the places at
-   both ends of its way; no bits where it has none. */
+/* A zone: its parties; its lowest bit, how many it has, and the codes that they may have; the lowest bit of its
+   posture, as many ones as this has, its postures by their codes, and their codes by postures; the bit of its flag, if
+   it has one; and by OPEN_IN and OPEN_OUT the bits of the places at both ends of its way; no bits where it has none. */
 struct zone {
-    uint8_t host, guest;
+    uint8_t host, guest, bit, bits, posture_bit, posture_mask, postures[4], posture_codes[4];
     uint32_t codes;
-    uint64_t from[2], to[2];
+    uint64_t flag, from[2], to[2];
 };
 
 /* A pose: the zones that its machine hosts, each with the posture that it gives, or -1. */
@@ -45,14 +46,17 @@ struct reply {
     bool plate;
 };
 
-static inline unsigned owner_in(uint64_t word, unsigned zone) { return (unsigned)(word >> 5 * zone) & 3; }
-static inline bool flag_in(uint64_t word, unsigned zone) { return word >> (5 * zone + 2) & 1; }
-static inline unsigned posture_in(uint64_t word, unsigned zone) { return (unsigned)(word >> (5 * zone + 3)) & 3; }
-static inline uint64_t with_owner(uint64_t word, unsigned zone, uint64_t code) {
-    return (word & ~(3ull << 5 * zone)) | code << 5 * zone;
+static inline unsigned owner_in(uint64_t word, const struct zone *zone) { return (unsigned)(word >> zone->bit) & 3; }
+static inline bool flag_in(uint64_t word, const struct zone *zone) { return word & zone->flag; }
+static inline unsigned posture_in(uint64_t word, const struct zone *zone) {
+    return zone->postures[word >> zone->posture_bit & zone->posture_mask];
 }
-static inline uint64_t with_posture(uint64_t word, unsigned zone, uint64_t posture) {
-    return (word & ~(3ull << (5 * zone + 3))) | posture << (5 * zone + 3);
+static inline uint64_t with_owner(uint64_t word, const struct zone *zone, uint64_t code) {
+    return (word & ~(3ull << zone->bit)) | code << zone->bit;
+}
+static inline uint64_t with_posture(uint64_t word, const struct zone *zone, unsigned posture) {
+    uint64_t code = zone->posture_codes[posture], mask = zone->posture_mask;
+    return (word & ~(mask << zone->posture_bit)) | code << zone->posture_bit;
 }
 static inline uint8_t owner_of(const struct zone *zone, unsigned code) {
     return code == 0 ? NOBODY : code == 1 ? zone->host : zone->guest;
@@ -84,10 +88,11 @@ static inline bool is_state(const struct plan *plan, uint64_t word, uint64_t *ta
     if (word & plan->above) return false;
     uint64_t plates = word & plan->places;
     for (unsigned k = 0; k < plan->zone_count; k++) {
-        unsigned code = (unsigned)(word >> 5 * k) & 31;
-        if (!(plan->zones[k].codes >> code & 1)) return false;
-        if (code & 4) {
-            uint64_t to = plan->zones[k].to[code >> 3 & 1];
+        const struct zone *zone = &plan->zones[k];
+        unsigned code = (unsigned)(word >> zone->bit) & ((1u << zone->bits) - 1);
+        if (!(zone->codes >> code & 1)) return false;
+        if (flag_in(word, zone)) {
+            uint64_t to = zone->to[posture_in(word, zone) & 1];
             if (plates & to) return false;
             plates |= to;
         }
@@ -101,34 +106,34 @@ static struct reply zone_call(const struct plan *plan, uint64_t word, uint64_t t
     if (number >= plan->zone_count) return refuse(word, BAGUNJOKI_NOT_PARTY);
     const struct zone *zone = &plan->zones[number];
     unsigned mine = machine == zone->host ? 1 : machine == zone->guest ? 2 : 0;
-    unsigned owner = owner_in(word, number), posture = posture_in(word, number), way = posture & 1;
+    unsigned owner = owner_in(word, zone), posture = posture_in(word, zone), way = posture & 1;
     if (!mine) return refuse(word, BAGUNJOKI_NOT_PARTY);
     if (verb <= GIVE && word & plan->stop) return refuse(word, BAGUNJOKI_STOPPED);
     if (verb == CLAIM) {
         if (owner == mine) return refuse(word, BAGUNJOKI_ALREADY_MINE);
         if (owner) return owned(word, BAGUNJOKI_HELD, owner_of(zone, owner));
         if (mine == 2 && posture < OPEN_IN) return shut(word, posture);
-        return done(plan, word, with_owner(word, number, mine));
+        return done(plan, word, with_owner(word, zone, mine));
     }
     if (owner != mine) return owned(word, BAGUNJOKI_NOT_OWNER, owner_of(zone, owner));
     if (verb == TAKE) {
-        if (!flag_in(word, number)) return refuse(word, BAGUNJOKI_NO_PLATE);
-        return done(plan, word, (word & ~(4ull << 5 * number)) | zone->to[way]);
+        if (!flag_in(word, zone)) return refuse(word, BAGUNJOKI_NO_PLATE);
+        return done(plan, word, (word & ~zone->flag) | zone->to[way]);
     }
-    if (flag_in(word, number)) return plate_in(word, number);
+    if (flag_in(word, zone)) return plate_in(word, number);
     if (verb == RELEASE) {
         if (posture == MOVING) return shut(word, posture);
-        return done(plan, word, with_owner(word, number, 0));
+        return done(plan, word, with_owner(word, zone, 0));
     }
     if (verb == YIELD) {
         if (posture < OPEN_IN) return shut(word, posture);
-        return done(plan, word, with_owner(word, number, 3 - mine));
+        return done(plan, word, with_owner(word, zone, 3 - mine));
     }
     if (posture < OPEN_IN || !zone->from[way] || mine != (posture == OPEN_IN ? 2 : 1))
         return refuse(word, BAGUNJOKI_WRONG_WAY);
     if (!(word & zone->from[way])) return refuse(word, BAGUNJOKI_NO_PLATE);
     if (taken & zone->to[way]) return refuse(word, BAGUNJOKI_PLACE_FULL);
-    return done(plan, word, with_owner((word & ~zone->from[way]) | 4ull << 5 * number, number, 3 - mine));
+    return done(plan, word, with_owner((word & ~zone->from[way]) | zone->flag, zone, 3 - mine));
 }
 
 static struct reply set_pose(const struct plan *plan, uint64_t word, uint64_t taken, uint8_t machine, unsigned number) {
@@ -137,27 +142,27 @@ static struct reply set_pose(const struct plan *plan, uint64_t word, uint64_t ta
     if (pose->moves && word & plan->stop) return refuse(word, BAGUNJOKI_STOPPED);
     bool jumps = false;
     for (unsigned k = 0; k < pose->count; k++) {
-        unsigned zone = pose->at[k].zone;
+        const struct zone *zone = &plan->zones[pose->at[k].zone];
         int posture = (int)posture_in(word, zone);
         bool concerned = pose->moves || (pose->at[k].gives >= 0 && pose->at[k].gives != posture);
         if (concerned && owner_in(word, zone) != 1)
-            return owned(word, BAGUNJOKI_NOT_OWNER, owner_of(&plan->zones[zone], owner_in(word, zone)));
+            return owned(word, BAGUNJOKI_NOT_OWNER, owner_of(zone, owner_in(word, zone)));
         jumps |= posture != MOVING;
     }
     for (unsigned k = 0; k < pose->count; k++) {
-        unsigned zone = pose->at[k].zone;
+        const struct zone *zone = &plan->zones[pose->at[k].zone];
         int posture = (int)posture_in(word, zone);
         bool concerned = pose->moves || (pose->at[k].gives >= 0 && pose->at[k].gives != posture);
-        if (concerned && flag_in(word, zone)) return plate_in(word, zone);
+        if (concerned && flag_in(word, zone)) return plate_in(word, pose->at[k].zone);
     }
     if (jumps && pose->after_moving) return refuse(word, BAGUNJOKI_JUMP);
     uint64_t next = word;
     for (unsigned k = 0; k < pose->count; k++) {
-        unsigned zone = pose->at[k].zone;
+        const struct zone *zone = &plan->zones[pose->at[k].zone];
         if (pose->at[k].gives < 0) continue;
-        if (pose->at[k].gives == OPEN_IN && posture_in(word, zone) != OPEN_IN && taken & plan->zones[zone].to[0])
+        if (pose->at[k].gives == OPEN_IN && posture_in(word, zone) != OPEN_IN && taken & zone->to[0])
             return refuse(word, BAGUNJOKI_PLACE_FULL);
-        next = with_posture(next, zone, (uint64_t)pose->at[k].gives);
+        next = with_posture(next, zone, (unsigned)pose->at[k].gives);
     }
     return done(plan, word, next);
 }
@@ -170,8 +175,9 @@ static __attribute__((noinline)) struct reply step(const struct plan *plan, uint
     if (verb == SET_POSE) return set_pose(plan, word, taken, machine, object);
     if (verb == INQUIRE) {
         if (object >= plan->zone_count) return refuse(word, BAGUNJOKI_NOT_PARTY);
-        struct reply shown = {word, BAGUNJOKI_SHOWN, owner_of(&plan->zones[object], owner_in(word, object)), NOBODY,
-                              (uint8_t)posture_in(word, object), flag_in(word, object)};
+        const struct zone *zone = &plan->zones[object];
+        struct reply shown = {word, BAGUNJOKI_SHOWN, owner_of(zone, owner_in(word, zone)), NOBODY,
+                              (uint8_t)posture_in(word, zone), flag_in(word, zone)};
         return shown;
     }
     if (verb != STOP && verb != RESUME) return refuse(word, BAGUNJOKI_NO_CALL);
@@ -181,24 +187,49 @@ static __attribute__((noinline)) struct reply step(const struct plan *plan, uint
     return done(plan, word, word ^ plan->stop);
 }
 
-/* The codes that a zone's five bits may have: its owner's, whether a plate is in it, its posture. */
+/* The codes that a zone's bits may have: its owner's, whether a plate is in it, its posture. */
 static uint32_t codes_of(const struct zone *zone) {
     uint32_t codes = 0;
-    for (unsigned code = 0; code < 32; code++) {
-        unsigned owner = code & 3, posture = code >> 3;
+    for (unsigned code = 0; code < 1u << zone->bits; code++) {
+        unsigned owner = code & 3, posture = posture_in((uint64_t)code << zone->bit, zone);
+        bool flag = flag_in((uint64_t)code << zone->bit, zone);
         bool receives = posture >= OPEN_IN && zone->to[posture & 1] && owner == (posture == OPEN_IN ? 1 : 2);
-        if (owner == 3 || (code & 4 && !receives) || (owner == 2 && posture < OPEN_IN)) continue;
+        if (owner == 3 || (flag && !receives) || (owner == 2 && posture < OPEN_IN)) continue;
         if (posture != MOVING || owner == 1) codes |= 1u << code;
     }
     return codes;
 }
 
+/* The bits of a zone from this one, by its row and by what each of the poses gives it, as the bytes have it: which is a
+   posture's number and 1 more, or 0. */
+static void lay_out(struct zone *zone, unsigned bit, const uint8_t *row, const uint8_t *gives, unsigned poses) {
+    bool given[4] = {false};
+    for (unsigned k = 0; k < poses; k++)
+        if (gives[12 * k]) given[gives[12 * k] - 1] = true;
+    unsigned others = given[MOVING] + given[OPEN_IN] + given[OPEN_OUT], has_flag = row[2] || row[5];
+    zone->bit = (uint8_t)bit;
+    zone->flag = has_flag ? 4ull << bit : 0;
+    zone->posture_bit = (uint8_t)(bit + 2 + has_flag);
+    zone->posture_mask = others > 1 ? 3 : others == 1;
+    zone->bits = (uint8_t)(2 + has_flag + (others > 1 ? 2 : others));
+    for (uint8_t posture = MOVING; posture <= OPEN_OUT; posture++) {
+        if (!given[posture] && others < 2) continue;
+        zone->posture_codes[posture] = others > 1 ? posture : 1;
+        zone->postures[zone->posture_codes[posture]] = posture;
+    }
+}
+
 /* The plan with these bytes, which have to be a plan's. */
 static struct plan plan_of(const uint8_t *bytes) {
     struct plan plan = {0};
-    unsigned places = bytes[3], first = 5 * bytes[1], bits = first + places;
     plan.zone_count = bytes[1];
     plan.pose_count = bytes[2];
+    unsigned places = bytes[3], first = 0;
+    for (unsigned k = 0; k < plan.zone_count; k++) {
+        lay_out(&plan.zones[k], first, bytes + 4 + 8 * k, bytes + 4 + 8 * plan.zone_count + 2 + k, plan.pose_count);
+        first += plan.zones[k].bits;
+    }
+    unsigned bits = first + places;
     plan.places = ((1ull << places) - 1) << first;
     plan.unit = 1ull << bits;
     plan.last = 1048575ull << bits;

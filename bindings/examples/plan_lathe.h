@@ -1,6 +1,7 @@
 /* A plan's names and the layout of its word, as `plan header` prints them. The word of a state has the fields below,
    from the lowest bit: the zones, the places, the stamp and the stop. A zone's bits are, from the lowest, two for its
-   owner, one for its flag (a plate is in it) and two for its posture. */
+   owner, one for its flag (a plate is in it) if a plate has a way through it, and for its posture two; or one, 0 for
+   closed, if poses give it one other posture; or none, if it is always closed. */
 #ifndef PLAN_H
 #define PLAN_H
 
@@ -52,7 +53,7 @@
 #define PLAN_KEEPER_OF_CHUCK PLAN_MACHINE_LATHE
 #define PLAN_KEEPER_OF_UNLOADER_HAND PLAN_MACHINE_UNLOADER
 
-/* Of a zone's field: who owns it, and its posture. */
+/* Who owns a zone, and its posture. */
 enum plan_owner { PLAN_OWNER_FREE = 0, PLAN_OWNER_HOST = 1, PLAN_OWNER_GUEST = 2 };
 enum plan_posture {
     PLAN_POSTURE_CLOSED = 0,
@@ -72,11 +73,28 @@ enum plan_posture {
 #define PLAN_BIT_PLACE_UNLOADER_HAND 23
 #define PLAN_BIT_STAMP 24
 #define PLAN_BIT_STOP 44
-#define PLAN_BITS_ZONE 5
+#define PLAN_BITS_ZONE_PICKUP 5
+#define PLAN_BITS_ZONE_DROPOFF 5
+#define PLAN_BITS_ZONE_LOADING 5
+#define PLAN_BITS_ZONE_UNLOADING 5
 #define PLAN_BITS_PLACE 1
 #define PLAN_BITS_STAMP 20
 #define PLAN_BITS_STOP 1
 #define PLAN_BITS 45
+
+/* What a state's word tells of a zone: who owns it, whether a plate is in it, and its posture. */
+#define PLAN_OWNER_OF_PICKUP(word) ((word) >> PLAN_BIT_ZONE_PICKUP & 3)
+#define PLAN_PLATE_IN_PICKUP(word) ((word) >> (PLAN_BIT_ZONE_PICKUP + 2) & 1)
+#define PLAN_POSTURE_OF_PICKUP(word) ((word) >> (PLAN_BIT_ZONE_PICKUP + 3) & 3)
+#define PLAN_OWNER_OF_DROPOFF(word) ((word) >> PLAN_BIT_ZONE_DROPOFF & 3)
+#define PLAN_PLATE_IN_DROPOFF(word) ((word) >> (PLAN_BIT_ZONE_DROPOFF + 2) & 1)
+#define PLAN_POSTURE_OF_DROPOFF(word) ((word) >> (PLAN_BIT_ZONE_DROPOFF + 3) & 3)
+#define PLAN_OWNER_OF_LOADING(word) ((word) >> PLAN_BIT_ZONE_LOADING & 3)
+#define PLAN_PLATE_IN_LOADING(word) ((word) >> (PLAN_BIT_ZONE_LOADING + 2) & 1)
+#define PLAN_POSTURE_OF_LOADING(word) ((word) >> (PLAN_BIT_ZONE_LOADING + 3) & 3)
+#define PLAN_OWNER_OF_UNLOADING(word) ((word) >> PLAN_BIT_ZONE_UNLOADING & 3)
+#define PLAN_PLATE_IN_UNLOADING(word) ((word) >> (PLAN_BIT_ZONE_UNLOADING + 2) & 1)
+#define PLAN_POSTURE_OF_UNLOADING(word) ((word) >> (PLAN_BIT_ZONE_UNLOADING + 3) & 3)
 
 /* Motors, and parts that stand somewhere: which bits of a state's word each looks at, and what they have to be. Load the
    word, and PLAN_MAY_RUN(word, RAM) says whether its state permits the ram. What is permitted stays so until a call of

@@ -56,11 +56,15 @@ static uint64_t walk(const bagunjoki_plan_opened *lift) {
     return sum;
 }
 
-/* Eight zones and three places: the stamp ends at bit 62, and the stop is bit 63. The test
-   words_of_all_bits_are_answered of plan_c makes these calls, and more. */
+/* Eight zones, into which plates come, and which poses move and open, and three places: the stamp ends at bit 62, and
+   the stop is bit 63. The test words_of_all_bits_are_answered of plan_c makes these calls, and more. */
 static bool words_of_all_bits_are_answered(void) {
-    uint8_t bytes[4 + 8 * 8 + 3] = {2, 8, 0, 3};
-    for (int zone = 0; zone < 8; zone++) bytes[4 + 8 * zone + 1] = 1;
+    uint8_t bytes[4 + 8 * 8 + 2 * 12 + 3] = {2, 8, 2, 3};
+    for (int zone = 0; zone < 8; zone++) {
+        uint8_t *row = bytes + 4 + 8 * zone;
+        row[1] = row[2] = 1, row[3] = 2;
+        bytes[4 + 8 * 8 + 2 + zone] = 2, bytes[4 + 8 * 8 + 12 + 2 + zone] = 3;
+    }
     bytes[sizeof bytes - 1] = 1;
     bagunjoki_plan_opened plan = bagunjoki_plan_open(bytes, sizeof bytes);
     uint64_t start = bagunjoki_plan_start(&plan, (const uint8_t *)"101", 3, 1048574);

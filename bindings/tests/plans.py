@@ -50,6 +50,8 @@ a line has 16 bytes
 """
 LATHE = "".join(f"{it}: 100 rounds, stopped by 0\n" for it in ("conveyor", "feeder", "lathe", "unloader"))
 LATHE += "no two motors of a hazard were on together\n"
+# By hand: the rack is closed or openin, and no plate is in it; at the presses there is all.
+READINGS = "rack: 5 0\nleft: f 1\nright: f 1\n"
 LATHES = [[], ["processes"], ["cuts"], ["processes", "cuts"]]
 # What plan_log.c of the tests writes.
 LONGEST = "a2345678901234567890123456789012"
@@ -226,6 +228,15 @@ def lathe_header(trials, program):
     written = trials.run([program, "header"], text_of(f"{trials.root}/examples/plans/lathe.toml"))
     there = written == text_of(f"{trials.root}/{LATHE_HEADER}")
     return "" if there else trials.fail(f"it differs: ./plan header < examples/plans/lathe.toml > {LATHE_HEADER}")
+
+
+def readings(trials, compiler, program, *flags):
+    """What the macros of a header read of zones of three and five bits is what the library shows."""
+    with open(f"{trials.room}/two_presses.h", "w", encoding="ascii") as to:
+        to.write(trials.run([program, "header"], text_of(f"{trials.root}/examples/plans/two_presses.toml")))
+    reader = trials.compile(compiler, "tests/plan_readings.c", f"-I{trials.room}", *flags, library="bagunjoki_plan")
+    said = trials.run([reader])
+    return "200,000 words" if said == READINGS else trials.fail(f"it writes\n{said}and not\n{READINGS}")
 
 
 def records(trials, compiler, *flags):

@@ -340,6 +340,10 @@ def in_all_languages(trials, compilers):
     program = f"{trials.root}/crates/plan/out/plan"
     if os.path.exists(program):
         trials.attempt("plan_lathe.h", plans.lathe_header, trials, program)
+        for compiler in compilers:
+            trials.attempt(f"zones read by a header, {compiler}", plans.readings, trials, compiler, program)
+        for compiler in trials.there("g++", "clang++"):
+            trials.attempt(f"zones read by a header, {compiler}", plans.readings, trials, compiler, program, "-x", "c++")
     else:
         trials.absent.append("./plan")
     for version, path in pythons():

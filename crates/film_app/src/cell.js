@@ -34,8 +34,8 @@ const WAYS = {
 };
 const WORK = {feed: [0, 1], deposit: [7, 8], press: [4, 5]};
 
-// The word's unused bits; machines that aren't marked by their first letter; whether who was refused asks it again.
-const UNUSED = 3, MARKS = {}, ASK_AGAIN = true;
+// Machines that aren't marked by their first letter; whether who was refused asks it again.
+const MARKS = {}, ASK_AGAIN = true;
 const NAMES = {place: "places 10 to 1", stopped: "the cell"};
 const LEGEND = "A plate is grey as a blank and brown with a ring once forged; a thick circle is a magnet that is on.";
 

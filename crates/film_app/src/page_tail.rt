@@ -8,8 +8,13 @@ pub const PAGE_TAIL: &str = r##"</script>
 
 const POSTURES = ["closed", "moving", "openin", "openout"];
 
-// The word: five bits a zone, one a place, twenty for the stamp, one for the stop.
-const STAMP = 5 * ZONES.length + PLACES;
+// The word: a zone has two bits for its owner, one for a plate if a way leads through it, and none, one or two for its
+// posture, by how many it may have; then one a place, twenty for the stamp, one for the stop.
+const FIELDS = ZONES.map(({name, postures = POSTURES}) => ({
+  postures, flag: POSTURES.some((it) => WAYS[name + " " + it]) ? 1 : 0, posture: postures.length >> 1,
+}));
+const LOWS = FIELDS.reduce((lows, {flag, posture}) => [...lows, lows[lows.length - 1] + 2 + flag + posture], [0]);
+const STAMP = LOWS[ZONES.length] + PLACES, UNUSED = 64 - (STAMP + 21);
 
 const zoneOf = (name) => ZONES.findIndex((zone) => zone.name === name);
 
@@ -17,10 +22,11 @@ const zoneOf = (name) => ZONES.findIndex((zone) => zone.name === name);
 
 function unpacked(word) {
   const bits = (low, count) => Number((word >> BigInt(low)) & ((1n << BigInt(count)) - 1n));
-  const zones = ZONES.map(({host, guest}, i) => ({
-    owner: [null, host, guest][bits(5 * i, 2)], flag: bits(5 * i + 2, 1), posture: POSTURES[bits(5 * i + 3, 2)],
-  }));
-  const places = Array.from({length: PLACES}, (_, i) => bits(5 * ZONES.length + i, 1));
+  const zones = ZONES.map(({host, guest}, i) => {
+    const owner = [null, host, guest][bits(LOWS[i], 2)], {postures, flag, posture} = FIELDS[i];
+    return {owner, flag: bits(LOWS[i] + 2, flag), posture: postures[bits(LOWS[i] + 2 + flag, posture)]};
+  });
+  const places = Array.from({length: PLACES}, (_, i) => bits(LOWS[ZONES.length] + i, 1));
   const plates = places.filter((full) => full).length + zones.filter((zone) => zone.flag).length;
   return {zones, places, plates, stamp: bits(STAMP, 20), stopped: bits(STAMP + 20, 1)};
 }
@@ -144,7 +150,8 @@ function wordDrawn(frame, before) {
   };
   const {zones, stamp, stopped} = frame.state, whole = "0x" + frame.word.toString(16).padStart(16, "0");
   const ofZone = ({owner}, i) =>
-    field(`${ZONES[i].name} ${owner || "free"}`, 5 * i, 5, colour(owner || "watch"), inkOn(owner));
+    field(`${ZONES[i].name} ${owner || "free"}`, LOWS[i], LOWS[i + 1] - LOWS[i],
+      colour(owner || "watch"), inkOn(owner));
   return `<span class="field"><b>${whole}</b><small>the whole interlock</small></span>`
     + (UNUSED ? field("-", STAMP + 21, UNUSED, ALARM) : "") + field(stopped ? "stopped" : "mark", STAMP + 20, 1, ALARM)
     + field("stamp " + stamp, STAMP, 20, "#9aa7b4")

@@ -16,6 +16,7 @@ report-lines = record {
   lower = refl;
   upper = refl;
   no_zone = refl;
+  inlet = refl;
   cabin = refl;
   loft = refl;
   no_place_more = refl;

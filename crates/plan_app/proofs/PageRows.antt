@@ -4,11 +4,11 @@ use Rattle.std.specs.Fmt.{digits}
 use Rattle.plan_motors.specs.Mask.{mask_of, pattern_of}
 use Rattle.plan_word.specs.Packed.{packed}
 use Rattle.plan_app.specs.PageExamples.{DataIsTold, LinesAreShown, OrdersAreChosen, OrdersAreShown}
-use Rattle.plan_app.specs.PageData.{bits_text, machines_part, motor_text, motors_part, parties_text, programs_part, tables_part, ways_text}
+use Rattle.plan_app.specs.PageData.{bits_text, machines_part, motor_text, motors_part, parties_text, postures_text, programs_part, tables_part, ways_text}
 use Rattle.plan_app.specs.Pages.{max_turns}
 
 pub data-told : DataIsTold
-unfolding digits mask_of pattern_of ways_text parties_text bits_text motor_text machines_part tables_part motors_part programs_part
+unfolding digits mask_of pattern_of ways_text postures_text parties_text bits_text motor_text machines_part tables_part motors_part programs_part
 data-told = record {
   of_press = refl;
   of_junction = refl;
@@ -16,6 +16,8 @@ data-told = record {
   forth = refl;
   back = λ e. let lie : 48 ≡ 49 = ap (λ l. get_or l 1 0) e in omega (arith, lie);
   no_way = refl;
+  shut = refl;
+  one_more = refl;
   parties = refl;
   guest_first = λ e. let lie : 49 ≡ 48 = ap (λ l. get_or l 29 0) e in omega (arith, lie);
   keeper = λ e. let lie : 49 ≡ 48 = ap (λ l. get_or l 26 0) e in omega (arith, lie);

@@ -3,6 +3,8 @@ use Rattle.std.proofs.Common.{◌+◌, ◌*◌, ◌++◌, [], codes, nat_eq, ref
 use Rattle.std.proofs.Common.{if◌then◌else◌}
 use Rattle.std.proofs.lemmas.Bool.{eqb-true, false_from_ne_true, lt-ltb}
 use Rattle.plan_types.specs.Table.{place_count, zone_count}
+use Rattle.plan_word.specs.Layout.{bits_of, counts_of, zones_end}
+use Rattle.plan_word.specs.declared.layout.Field.TheVariants.{Zone}
 use Rattle.plan_text.specs.Names.{name_in}
 use Rattle.plan_app.specs.ReportLaws.{ReportsTell, has_bits}
 use Rattle.plan_app.specs.Words.{counted}
@@ -12,13 +14,13 @@ reports-tell = record {
   zone = λ n k there.
       ap
       (λ has. if has
-      then has_bits (5 * k) (counted 5 (codes "bit")) (codes "zone " ++ name_in n.zones k)
+      then has_bits (zones_end (counts_of n.plan) k) (counted (bits_of (counts_of n.plan) (Zone k)) (codes "bit")) (codes "zone " ++ name_in n.zones k)
       else [])
       (lt-ltb k (zone_count n.plan) there);
   place = λ n k there.
       ap
       (λ has. if has
-      then has_bits (5 * zone_count n.plan + k) (counted 1 (codes "bit")) (codes "place " ++ name_in n.places k)
+      then has_bits (zones_end (counts_of n.plan) (zone_count n.plan) + k) (counted 1 (codes "bit")) (codes "place " ++ name_in n.places k)
       else [])
       (lt-ltb k (place_count n.plan) there);
   stamp = λ n. refl;

@@ -3,7 +3,7 @@ use Rattle.std.specs.Prelude.{◌≡◌, Bool, true, false, List, [], ◌∷◌,
 use Rattle.plan_types.specs.Examples.{lift_table}
 use Rattle.plan_word.specs.Layout.{counts_of}
 use Rattle.plan_word.specs.declared.layout.Field.TheVariants.{Stamp, Stop}
-use Rattle.plan_header.specs.HeaderExamples.{gates, lift, lift_machines}
+use Rattle.plan_header.specs.HeaderExamples.{gates, inlet, lift, lift_machines}
 use Rattle.plan_rules.specs.declared.state.State.{State}
 use Rattle.plan_text.specs.Names.{Text}
 use Rattle.plan_document.specs.declared.resolving.ProgrammedPlan.{ProgrammedPlan}
@@ -13,7 +13,7 @@ use Rattle.plan_app.specs.Reports as report
 use Rattle.plan_app.specs.Rows.{HasEveryRow, rows_line}
 use Rattle.plan_app.specs.declared.hazards.Finding.{Finding}
 
--- a zone has five bits, a place one, the stamp twenty, the stop one
+-- a zone has two bits to five, a place one, the stamp twenty, the stop one
 pub record ReportLines : Type 0 where
   pub machines : report.names_line (codes "machine") lift_machines ≡ codes "3 machines: lift low high\n"
   pub one_zone : report.names_line (codes "zone") (codes "upper" ∷ []) ≡ codes "1 zone: upper\n"
@@ -22,6 +22,7 @@ pub record ReportLines : Type 0 where
   pub lower : report.zone_line lift 0 ≡ codes "bit 0, 5 bits: zone lower\n"
   pub upper : report.zone_line lift 1 ≡ codes "bit 5, 5 bits: zone upper\n"
   pub no_zone : report.zone_line lift 2 ≡ []
+  pub inlet : report.zone_line inlet 0 ≡ codes "bit 0, 4 bits: zone inlet\n"
   pub cabin : report.place_line lift 0 ≡ codes "bit 10, 1 bit: place cabin\n"
   pub loft : report.place_line lift 2 ≡ codes "bit 12, 1 bit: place loft\n"
   pub no_place_more : report.place_line lift 3 ≡ []
@@ -33,11 +34,11 @@ abbrev pub gates_report : Text
 gates_report =
     codes "3 machines: lake lock sea\n" ++ codes "2 zones: east west\n"
     ++ codes "4 places: first second quay pier\n" ++ codes "2 poses: travel tide\n"
-    ++ codes "a word of 35 bits\n"
-    ++ codes "bit 0, 5 bits: zone east\n" ++ codes "bit 5, 5 bits: zone west\n"
-    ++ codes "bit 10, 1 bit: place first\n" ++ codes "bit 11, 1 bit: place second\n"
-    ++ codes "bit 12, 1 bit: place quay\n" ++ codes "bit 13, 1 bit: place pier\n"
-    ++ codes "bit 14, 20 bits: stamp\n" ++ codes "bit 34, 1 bit: stop\n"
+    ++ codes "a word of 29 bits\n"
+    ++ codes "bit 0, 2 bits: zone east\n" ++ codes "bit 2, 2 bits: zone west\n"
+    ++ codes "bit 4, 1 bit: place first\n" ++ codes "bit 5, 1 bit: place second\n"
+    ++ codes "bit 6, 1 bit: place quay\n" ++ codes "bit 7, 1 bit: place pier\n"
+    ++ codes "bit 8, 20 bits: stamp\n" ++ codes "bit 28, 1 bit: stop\n"
 
 pub record WholeReports : Type 0 where
   pub report : report.report_text gates ≡ gates_report

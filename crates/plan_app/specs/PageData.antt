@@ -6,7 +6,9 @@ use Rattle.std.specs.List.{range_with_len}
 use Rattle.plan_types.specs.declared.call.Call.TheVariants.{Inquire}
 use Rattle.plan_types.specs.declared.table.PlanZone.{PlanZone}
 use Rattle.plan_types.specs.declared.table.Way.{Way}
-use Rattle.plan_types.specs.Table.{guest_of, host_of, keeper_of, zone_row}
+use Rattle.plan_types.specs.declared.shape.Postures.{Postures}
+use Rattle.plan_types.specs.declared.shape.Postures.TheVariants.{Shut, Two, All}
+use Rattle.plan_types.specs.Table.{guest_of, host_of, keeper_of, postures_of, zone_row, zone_shape}
 use Rattle.plan_controller.specs.declared.step.Step.{Step}
 use Rattle.plan_controller.specs.declared.step.Step.TheVariants.{Do, Await, Run}
 use Rattle.plan_document.specs.declared.resolving.ProgrammedPlan.{ProgrammedPlan}
@@ -14,11 +16,12 @@ use Rattle.plan_header.specs.Words.{machine_name, zone_name}
 use Rattle.plan_motors.specs.declared.motor.Motor.{Motor}
 use Rattle.plan_motors.specs.Mask.{mask_of, pattern_of}
 use Rattle.plan_motors.specs.OfPlan.{motor_at}
+use Rattle.plan_text.specs.Answers.{posture_word}
 use Rattle.plan_text.specs.Calls.{call_text}
 use Rattle.plan_text.specs.Named.{Named}
 use Rattle.plan_text.specs.Names.{Text, name_in}
 use Rattle.plan_app.specs.declared.page_data.TheConstants.{INWARD, MASK, MOTORS, OUTWARD, PATTERN, PLACES}
-use Rattle.plan_app.specs.declared.page_data.TheConstants.{PROGRAMS, ZONES}
+use Rattle.plan_app.specs.declared.page_data.TheConstants.{POSTURES, PROGRAMS, ZONES}
 
 -- ---- lists
 
@@ -53,7 +56,16 @@ way_text (Some way) = codes "[" ++ (decimal way.from ++ (codes ", " ++ (decimal 
 
 unfoldable pub ways_text : PlanZone → Text
 ways_text row =
-    INWARD.now ++ (way_text row.inward ++ (OUTWARD.now ++ (way_text row.outward ++ codes "}")))
+    INWARD.now ++ (way_text row.inward ++ (OUTWARD.now ++ way_text row.outward))
+
+-- the postures that a zone's field of the word tells, by their codes
+abbrev pub told_text : Postures → Text
+told_text Shut = codes "\"closed\""
+told_text (Two q) = codes "\"closed\", \"" ++ (posture_word q ++ codes "\"")
+told_text All = codes "\"closed\", \"moving\", \"openin\", \"openout\""
+
+unfoldable pub postures_text : Postures → Text
+postures_text postures = POSTURES.now ++ (told_text postures ++ codes "]}")
 
 unfoldable pub parties_text : Named → ℕ → Text
 parties_text n z =
@@ -61,7 +73,8 @@ parties_text n z =
     ++ (codes ", \"guest\": " ++ decimal (guest_of n.plan z)))))
 
 abbrev pub zone_item : Named → ℕ → Text
-zone_item n z = parties_text n z ++ ways_text (zone_row n.plan z)
+zone_item n z =
+    parties_text n z ++ (ways_text (zone_row n.plan z) ++ postures_text (postures_of (zone_shape n.plan z)))
 
 -- ---- motors: of each its machine, the bits of the plan's word that it looks at, and what they have to be
 

@@ -8,6 +8,7 @@ use Rattle.plan_types.specs.declared.answer.Refusal.TheVariants.{Held, NotOwner,
 use Rattle.plan_types.specs.declared.call.Call.{Call}
 use Rattle.plan_types.specs.declared.call.Call.TheVariants.{Claim, Give, Inquire, Release, SetPose}
 use Rattle.plan_types.specs.declared.posture.Posture.TheVariants.{Closed, Moving, OpenIn}
+use Rattle.plan_types.specs.declared.shape.Postures.TheVariants.{Shut, Two}
 use Rattle.plan_types.specs.Table.{PlanTable, plan_table}
 use Rattle.plan_types.specs.Examples.{pose, way, zone}
 use Rattle.plan_rules.specs.declared.state.State.{State}
@@ -57,7 +58,8 @@ press_data =
     ++ codes "\"machines\": [\"loader\", \"press\"],\n"
     ++ codes "\"places\": [{\"name\": \"hand\", \"keeper\": 0}, {\"name\": \"die\", \"keeper\": 1}],\n"
     ++ codes "\"zones\": [{\"name\": \"interior\", \"host\": 1, \"guest\": 0, "
-    ++ codes "\"inward\": [0, 1], \"outward\": [1, 0]}],\n"
+    ++ codes "\"inward\": [0, 1], \"outward\": [1, 0], "
+    ++ codes "\"postures\": [\"closed\", \"moving\", \"openin\", \"openout\"]}],\n"
     ++ codes "\"motors\": [{\"name\": \"ram\", \"machine\": 1, \"mask\": \"1b\", \"pattern\": \"9\"}, "
     ++ codes "{\"name\": \"arm_in_press\", \"machine\": 0, \"mask\": \"3\", \"pattern\": \"2\"}],\n"
     ++ codes "\"programs\": [[\"give interior\", \"inquire interior\", \"release interior\"], "
@@ -106,11 +108,13 @@ abbrev pub junction_data : Text
 junction_data =
     codes "{\"note\": \"a fair order in which points starves\",\n"
     ++ codes "\"machines\": [\"points\", \"north_train\", \"south_train\"],\n\"places\": [],\n"
-    ++ codes "\"zones\": [{\"name\": \"north_road\", \"host\": 0, \"guest\": 1, \"inward\": null, \"outward\": null}, "
-    ++ codes "{\"name\": \"south_road\", \"host\": 0, \"guest\": 2, \"inward\": null, \"outward\": null}],\n"
-    ++ codes "\"motors\": [{\"name\": \"blades\", \"machine\": 0, \"mask\": \"37b\", \"pattern\": \"129\"}, "
+    ++ codes "\"zones\": [{\"name\": \"north_road\", \"host\": 0, \"guest\": 1, \"inward\": null, \"outward\": null, "
+    ++ codes "\"postures\": [\"closed\", \"moving\", \"openin\", \"openout\"]}, "
+    ++ codes "{\"name\": \"south_road\", \"host\": 0, \"guest\": 2, \"inward\": null, \"outward\": null, "
+    ++ codes "\"postures\": [\"closed\", \"moving\", \"openin\", \"openout\"]}],\n"
+    ++ codes "\"motors\": [{\"name\": \"blades\", \"machine\": 0, \"mask\": \"ff\", \"pattern\": \"55\"}, "
     ++ codes "{\"name\": \"north_drive\", \"machine\": 1, \"mask\": \"3\", \"pattern\": \"2\"}, "
-    ++ codes "{\"name\": \"south_drive\", \"machine\": 2, \"mask\": \"60\", \"pattern\": \"40\"}],\n"
+    ++ codes "{\"name\": \"south_drive\", \"machine\": 2, \"mask\": \"30\", \"pattern\": \"20\"}],\n"
     ++ codes "\"programs\": [[\"claim north_road\", \"pose set_north\"], "
     ++ codes "[\"claim north_road\", \"release north_road\"], []]}\n"
 
@@ -144,6 +148,8 @@ pub record DataIsTold : Type 0 where
   pub forth : pages.way_text (way 0 1) ≡ codes "[0, 1]"
   pub back : ¬ (pages.way_text (way 0 1) ≡ codes "[1, 0]")
   pub no_way : pages.way_text None ≡ codes "null"
+  pub shut : pages.told_text Shut ≡ codes "\"closed\""
+  pub one_more : pages.told_text (Two OpenIn) ≡ codes "\"closed\", \"openin\""
   pub parties : pages.parties_text press 0 ≡ codes "{\"name\": \"interior\", \"host\": 1, \"guest\": 0"
   pub guest_first : ¬ (pages.parties_text press 0 ≡ codes "{\"name\": \"interior\", \"host\": 0, \"guest\": 1")
   pub keeper : ¬ (pages.place_item press 1 ≡ codes "{\"name\": \"die\", \"keeper\": 0}")
@@ -163,10 +169,10 @@ pub record LinesAreShown : Type 0 where
       ++ codes "loader;give interior;notowner press;\n" ++ codes "press;pose load;placefull;\n"
       ++ codes "loader;give interior;notowner press;\n" ++ codes "press;pose load;placefull;\n"
   pub of_junction : film.film_lines junction idle (set_events ++ train_round) ≡ codes "start;0\n"
-      ++ codes "points;claim north_road;done;401\n" ++ codes "points;claim south_road;done;821\n"
-      ++ codes "points;pose switching;done;d29\n" ++ codes "points;pose set_north;done;1031\n"
-      ++ codes "points;release north_road;done;1430\n" ++ codes "north_train;claim north_road;done;1832\n"
-      ++ codes "points;claim north_road;held north_train;\n" ++ codes "north_train;release north_road;done;1c30\n"
+      ++ codes "points;claim north_road;done;101\n" ++ codes "points;claim south_road;done;211\n"
+      ++ codes "points;pose switching;done;355\n" ++ codes "points;pose set_north;done;419\n"
+      ++ codes "points;release north_road;done;518\n" ++ codes "north_train;claim north_road;done;61a\n"
+      ++ codes "points;claim north_road;held north_train;\n" ++ codes "north_train;release north_road;done;718\n"
   -- what is shown or refused leaves the word as it is
   pub inquired : film.line_to press full (event 0 (Inquire 0) (Shown (Some 1) true OpenIn))
       ≡ codes "loader;inquire interior;zone press 1 openin;\n"

@@ -1,10 +1,10 @@
 -- What each line of a report says, for all names, zones and places: in the plan's own words.
-use Rattle.std.specs.Prelude.{◌≡◌, ◌≢◌, ◌<◌, ℕ, ◌+◌, ◌*◌, List, ◌++◌, codes, flat_map, length}
+use Rattle.std.specs.Prelude.{◌≡◌, ◌≢◌, ◌<◌, ℕ, ◌+◌, List, ◌++◌, codes, flat_map, length}
 use Rattle.std.specs.Fmt.{decimal}
 use Rattle.std.specs.List.{range_with_len}
 use Rattle.plan_types.specs.Table.{place_count, zone_count}
-use Rattle.plan_word.specs.Layout.{counts_of}
-use Rattle.plan_word.specs.declared.layout.Field.TheVariants.{Stamp, Stop}
+use Rattle.plan_word.specs.Layout.{bits_of, counts_of, zones_end}
+use Rattle.plan_word.specs.declared.layout.Field.TheVariants.{Zone, Stamp, Stop}
 use Rattle.plan_text.specs.Names.{Text, name_in}
 use Rattle.plan_text.specs.Named.{Named}
 use Rattle.plan_app.specs.Reports as report
@@ -15,22 +15,28 @@ abbrev pub has_bits : ℕ → Text → Text → Text
 has_bits first many what =
     codes "bit " ++ (decimal first ++ (codes ", " ++ (many ++ (codes ": " ++ (what ++ codes "\n")))))
 
--- five bits for each zone, one for each place, twenty for the stamp, and one for the stop
+-- where the zones end
+abbrev pub zones_of : Named → ℕ
+zones_of n = zones_end (counts_of n.plan) (zone_count n.plan)
+
+-- the bits of each zone, one for each place, twenty for the stamp, and one for the stop
 pub record ReportsTell : Type 0 where
   pub zone : (n : Named) (k : ℕ) → k < zone_count n.plan
-      → report.zone_line n k ≡ has_bits (5 * k) (counted 5 (codes "bit")) (codes "zone " ++ name_in n.zones k)
+      → report.zone_line n k
+      ≡ has_bits (zones_end (counts_of n.plan) k) (counted (bits_of (counts_of n.plan) (Zone k)) (codes "bit"))
+      (codes "zone " ++ name_in n.zones k)
   pub place : (n : Named) (k : ℕ) → k < place_count n.plan
       → report.place_line n k
-      ≡ has_bits (5 * zone_count n.plan + k) (counted 1 (codes "bit")) (codes "place " ++ name_in n.places k)
+      ≡ has_bits (zones_of n + k) (counted 1 (codes "bit")) (codes "place " ++ name_in n.places k)
   pub stamp : (n : Named)
       → report.field_line (counts_of n.plan) Stamp (codes "stamp")
-      ≡ has_bits (5 * zone_count n.plan + place_count n.plan) (counted 20 (codes "bit")) (codes "stamp")
+      ≡ has_bits (zones_of n + place_count n.plan) (counted 20 (codes "bit")) (codes "stamp")
   pub stop : (n : Named)
       → report.field_line (counts_of n.plan) Stop (codes "stop")
-      ≡ has_bits (5 * zone_count n.plan + place_count n.plan + 20) (counted 1 (codes "bit")) (codes "stop")
+      ≡ has_bits (zones_of n + place_count n.plan + 20) (counted 1 (codes "bit")) (codes "stop")
   pub width : (n : Named)
       → report.width_line (counts_of n.plan)
-      ≡ codes "a word of " ++ (decimal (5 * zone_count n.plan + place_count n.plan + 21) ++ codes " bits\n")
+      ≡ codes "a word of " ++ (decimal (zones_of n + place_count n.plan + 21) ++ codes " bits\n")
   -- a colon before the first name of a kind, and a blank before each other one
   pub first_name : (names : List Text) (k : ℕ) → k ≡ 0 → report.listed names k ≡ codes ": " ++ name_in names k
   pub next_name : (names : List Text) (k : ℕ) → k ≢ 0 → report.listed names k ≡ codes " " ++ name_in names k

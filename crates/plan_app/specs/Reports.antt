@@ -26,13 +26,13 @@ abbrev pub width_line : Counts → Text
 width_line c = codes "a word of " ++ (decimal (width_of c) ++ codes " bits\n")
 
 -- the lowest bit of a field, how many bits it has, and what it is; nothing if the word has no such field
-abbrev pub bits_words : ℕ → Field → Text → Text
-bits_words first field what =
-    codes "bit " ++ (decimal first ++ (codes ", " ++ (counted (bits_of field) (codes "bit")
+abbrev pub bits_words : Counts → ℕ → Field → Text → Text
+bits_words c first field what =
+    codes "bit " ++ (decimal first ++ (codes ", " ++ (counted (bits_of c field) (codes "bit")
     ++ (codes ": " ++ (what ++ codes "\n")))))
 
 abbrev pub field_line : Counts → Field → Text → Text
-field_line c field what = if has c field then bits_words (start_of c field) field what else []
+field_line c field what = if has c field then bits_words c (start_of c field) field what else []
 
 abbrev pub zone_line : Named → ℕ → Text
 zone_line n zone = field_line (counts_of n.plan) (Zone zone) (codes "zone " ++ zone_name n zone)

@@ -9,7 +9,7 @@ use Rattle.plan_text.specs.Names.{Text}
 use Rattle.plan_app.specs.declared.rows.TheConstants.{EVERY_ROW, NOT_EVERY_ROW}
 
 -- each call that is done, in each state of the plan with a stamp left, has its row, and these rows are right
-abbrev pub HasEveryRow : PlanTable → Type 0
+unfoldable pub HasEveryRow : PlanTable → Type 0
 HasEveryRow t = (rows : List Row) × (starts : List ℕ) × All (IsRight t) rows × IsComplete t rows starts
 
 -- what is said if it is known that they have, and if it isn't

@@ -8,14 +8,18 @@ use plan_controller::Step;
 use plan_document::ProgrammedPlan;
 use plan_header::motor_at;
 use plan_motors::{Motor, MotorMask};
+use plan_text::words::posture_word;
 use plan_text::{NamedPlan, Names};
-use plan_types::{Call, PlanZone, Way};
+use plan_types::{Call, PlanZone, Postures, Way};
 use std::alloc::AllocError;
 
 /// What stands before the ways of a zone, inward and outward.
 const INWARD: &str = ", \"inward\": ";
 
 const OUTWARD: &str = ", \"outward\": ";
+
+/// What stands before the postures of a zone.
+const POSTURES: &str = ", \"postures\": [";
 
 /// What stands before the bits of a motor: those that it looks at, and what they have to be.
 const MASK: &str = ", \"mask\": \"";
@@ -140,7 +144,8 @@ fn push_zone(text: &mut String, named: &NamedPlan, zone: u8) -> Result<(), Alloc
 {
     push_gap(text, usize::from(zone))?;
     push_parties(text, named, zone)?;
-    push_ways(text, named.plan().zone(zone))
+    push_ways(text, named.plan().zone(zone))?;
+    push_postures(text, named.plan().zone_shape(zone).postures())
 }
 
 #[tactic(auto, unfolding(crate::specs::PageData::parties_text))]
@@ -164,8 +169,7 @@ fn push_ways(text: &mut String, row: PlanZone) -> Result<(), AllocError>
     text.push_str(INWARD)?;
     push_way(text, row.inward)?;
     text.push_str(OUTWARD)?;
-    push_way(text, row.outward)?;
-    text.push_str("}")
+    push_way(text, row.outward)
 }
 
 fn push_way(text: &mut String, way: Option<Way>) -> Result<(), AllocError>
@@ -174,6 +178,29 @@ fn push_way(text: &mut String, way: Option<Way>) -> Result<(), AllocError>
     match way {
         Some(Way { from, to }) => write!(text, "[{from}, {to}]"),
         None => text.push_str("null"),
+    }
+}
+
+/// Adds the postures that a zone's field of the word tells, and ends the zone.
+#[tactic(auto, unfolding(crate::specs::PageData::postures_text))]
+fn push_postures(text: &mut String, postures: Postures) -> Result<(), AllocError>
+    ensures { OnOk result (string_bytes text.new ≡ string_bytes text.old ++ spec.postures_text postures) }
+{
+    text.push_str(POSTURES)?;
+    push_told(text, postures)?;
+    text.push_str("]}")
+}
+
+fn push_told(text: &mut String, postures: Postures) -> Result<(), AllocError>
+    ensures { OnOk result (string_bytes text.new ≡ string_bytes text.old ++ spec.told_text postures) }
+{
+    match postures {
+        Postures::Shut => text.push_str("\"closed\""),
+        Postures::Two(other) => {
+            let other = posture_word(other);
+            write!(text, "\"closed\", \"{other}\"")
+        }
+        Postures::All => { text.push_str("\"closed\", \"moving\", \"openin\", \"openout\"") }
     }
 }
 

@@ -4,7 +4,6 @@ const PLAN = JSON.parse(document.getElementById("plan").textContent);
 const MACHINES = [...PLAN.machines, "watch"], PLACES = PLAN.places.length, WORK = {}, COLLISIONS = [];
 // (a page of a script has no programs)
 const PROGRAMS = PLAN.programs, ASK_AGAIN = PROGRAMS.length > 0;
-const UNUSED = 64 - (5 * PLAN.zones.length + PLACES + 21);
 const NAMES = {place: PLACES > 1 ? `places ${PLACES} to 1` : "place 1", stopped: "the plant"};
 // Refusals for which no wait helps.
 const NO_WAITS = ["notparty", "nopose", "already", "jump", "worn", "notstopped"];

@@ -128,7 +128,7 @@ fn push_field(
         (string_bytes text.new ≡ string_bytes text.old ++ spec.field_line layout field (kind.now ++ name.now)) }
 {
     match layout.start(field) {
-        Some(first) => push_bits(text, first, field, kind, name),
+        Some(first) => push_bits(text, layout, first, field, kind, name),
         None => Ok(()),
     }
 }
@@ -136,15 +136,16 @@ fn push_field(
 /// Adds the lowest bit of a field, how many bits it has, and what it is.
 fn push_bits(
     text: &mut String,
+    layout: Layout,
     first: u8,
     field: Field,
     kind: &str,
     name: &str,
 ) -> Result<(), AllocError>
     ensures { OnOk result (string_bytes text.new
-        ≡ string_bytes text.old ++ spec.bits_words first field (kind.now ++ name.now)) }
+        ≡ string_bytes text.old ++ spec.bits_words layout first field (kind.now ++ name.now)) }
 {
-    let count = Layout::bits_of(field);
+    let count = layout.bits_of(field);
     let ending = ending(usize::from(count));
     writeln!(text, "bit {first}, {count} bit{ending}: {kind}{name}")
 }

@@ -318,7 +318,8 @@ fn tells_what_is_no_plan(rt: HostRuntime) -> Result<(), Fail> {
     Ok(())
 }
 
-// The most machines, and the most poses, none of which gives a posture.
+// The most machines, and the most poses, none of which gives a posture. An opened plan has as many bytes as in the
+// header for C.
 #[test]
 fn the_largest_counts_are_a_plan(rt: HostRuntime) -> Result<(), Fail> {
     let mut bytes = bare_zone(1).to_vec(rt.alloc())?;
@@ -328,6 +329,7 @@ fn the_largest_counts_are_a_plan(rt: HostRuntime) -> Result<(), Fail> {
         bytes.extend_from_slice(&[0; 12])?;
     }
     let plan = bagunjoki_plan_open(&bytes);
+    assert!(rt; size_of::<Opened>() == 27_416);
     let start = bagunjoki_plan_start(&plan, b"", 0);
     assert!(rt; start == 0);
     let reply = bagunjoki_plan_step(&plan, start, 0, 6, 63);
@@ -337,26 +339,37 @@ fn the_largest_counts_are_a_plan(rt: HostRuntime) -> Result<(), Fail> {
     Ok(())
 }
 
-// No pose opens the zone, so no start comes to this word. It is a state's all the same.
+// Poses move the zone and open it inward, and none opens it outward, so no start comes to this word. It is a state's
+// all the same.
 #[test]
 fn an_open_free_zone_is_a_state(rt: HostRuntime) -> Result<(), Fail> {
-    let plan = bagunjoki_plan_open(&bare_zone(1));
+    let mut bytes = bare_zone(1).to_vec(rt.alloc())?;
+    bytes[2] = 2;
+    for posture in [2, 3] {
+        bytes.extend_from_slice(&[0, 0, posture, 0, 0, 0, 0, 0, 0, 0, 0, 0])?;
+    }
+    let plan = bagunjoki_plan_open(&bytes);
     let start = bagunjoki_plan_start(&plan, b"", 0);
     assert!(rt; start == 0);
     assert!(rt; bagunjoki_plan_step(&plan, start, 1, 1, 0).answer == 4);
-    let reply = bagunjoki_plan_step(&plan, 24, 1, 1, 0);
+    let reply = bagunjoki_plan_step(&plan, 12, 1, 1, 0);
     assert!(rt; reply.answer == 0);
-    assert!(rt; reply.next == 58);
+    assert!(rt; reply.next == 30);
     Ok(())
 }
 
-// Eight zones and three places: the word has 64 bits, the stamp from bit 43 up, and the stop in bit 63. Whatever the
-// highest bits, each function answers by the plan.
+// Eight zones of five bits, as plates come in and poses move and open them, and three places: the word has 64 bits, the
+// stamp from bit 43 up, and the stop in bit 63. Whatever the highest bits, each function answers by the plan.
 #[test]
 fn words_of_all_bits_are_answered(rt: HostRuntime) -> Result<(), Fail> {
-    let mut bytes = [2, 8, 0, 3].to_vec(rt.alloc())?;
+    let mut bytes = [2, 8, 2, 3].to_vec(rt.alloc())?;
     for _ in 0..8 {
-        bytes.extend_from_slice(&[0, 1, 0, 0, 0, 0, 0, 0])?;
+        bytes.extend_from_slice(&[0, 1, 1, 2, 0, 0, 0, 0])?;
+    }
+    for posture in [2, 3] {
+        bytes.extend_from_slice(&[0, 0])?;
+        bytes.extend_from_slice(&[posture; 8])?;
+        bytes.extend_from_slice(&[0, 0])?;
     }
     bytes.extend_from_slice(&[0, 0, 1])?;
     let plan = bagunjoki_plan_open(&bytes);

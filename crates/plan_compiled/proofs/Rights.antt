@@ -65,7 +65,7 @@ seen t a p r s k e = record {
       let v = zone_at s z in
       let h = lt-ltb z (zone_count t) l in
       let lawful = k.sound.zone_is_lawful z l in
-      let back : zone_of_code t z (zone_code t z v) ≡ v = zone_code_back t z v lawful in
+      let back : zone_of_code t z (zone_code t z v) ≡ v = zone_code_back t z v lawful (k.postures_told z l) in
       let own = part_in (counts_of t) p (Zone z) in
       let found = r.zones z l (zone_code t z v) (zone_fits t z v) (subst (IsLawfulZone t z) (sym back) lawful) (ap (zone_code t z) back) (wanted t p s k e (Zone z) h) in (
         subst (λ x. IsTrue (needs.zone_fits t a.machine a.call a.room z x)) back found.0,

@@ -8,7 +8,7 @@ use Rattle.std.proofs.lemmas.List.{get_or-set_same, get_or-set_other}
 use Rattle.std.proofs.lemmas.List.FromFn.{get_or-map-range_with_len}
 use Rattle.plan_types.specs.declared.table.Transfer.{Transfer}
 use Rattle.plan_types.specs.Below.{sum_below}
-use Rattle.plan_types.specs.Table.{PlanTable, zone_count, place_count, host_of, guest_of, transfer_of}
+use Rattle.plan_types.specs.Table.{PlanTable, zone_count, place_count, transfer_of}
 use Rattle.plan_types.specs.Plan.{IsPlan}
 use Rattle.plan_rules.specs.declared.state.ZoneState.{ZoneState}
 use Rattle.plan_rules.specs.declared.state.State.{State}
@@ -18,11 +18,12 @@ use Rattle.plan_rules.proofs.lemmas.Below.{sum_below_more, sum_below_same}
 use Rattle.plan_rules.proofs.lemmas.Puts.{same_or_not, nat_eq-self, nat_eq-apart}
 use Rattle.plan_word.specs.declared.layout.Field.{Field}
 use Rattle.plan_word.specs.declared.layout.Field.TheVariants.{Zone, Place, Stamp, Stop}
-use Rattle.plan_word.specs.Layout.{counts_of, has, start_of, width_of}
+use Rattle.plan_word.specs.Layout.{counts_of, has, zones_end, start_of, width_of}
 use Rattle.plan_word.specs.OfPlan.{IsOfPlan}
-use Rattle.plan_word.specs.Packed.{owner_code, posture_code, zone_code, held, packed}
-use Rattle.plan_word.specs.Reading.{told, owner_of_code, posture_of_code, zone_of_code, zone_in_word, place_told, state_told}
+use Rattle.plan_word.specs.Packed.{zone_code, held, packed}
+use Rattle.plan_word.specs.Reading.{told, zone_of_code, zone_in_word, place_told, state_told}
 use Rattle.plan_word.proofs.lemmas.RoundTrip.{told_is_of_plan}
+use Rattle.plan_word.proofs.lemmas.Shapes.{bits_at}
 use Rattle.plan_word.proofs.lemmas.Soundness.{sound_by}
 use Rattle.plan_compiled.specs.declared.told.Ends.{Ends}
 use Rattle.plan_compiled.specs.Ends.{IsEnd, AreEnds, TakenBelow, code_at}
@@ -59,7 +60,7 @@ one_more t w n taken end p k h apart =
     record {
       barred = let sum = both_at taken end 31 apart in let bar = k.barred in omega (arith, sum, bar, free);
       lawful = below_more (λ z. IsLawfulZone t z (zone_of_code t z (code_at t w z))) n k.lawful (h.lawful free);
-      owner = below_more (λ z. code_at t w z % 4 ≢ 3) n k.owner (h.owner free);
+      back = below_more (λ z. zone_code t z (zone_of_code t z (code_at t w z)) ≡ code_at t w z) n k.back (h.back free);
       plates = λ q l.
           let few = p.places_at_most in
           let sum = both_at taken end q apart in
@@ -97,7 +98,7 @@ none_taken t w places p small told_so = record {
       let over : places / 2 ^ 31 % 2 ≡ 0 = omega (arith, small) in
       or_at places (2 ^ 31) 31 ∙ ap₂ bit_or over (pow_same 31);
   lawful = λ z l. absurd (omega arith);
-  owner = λ z l. absurd (omega arith);
+  back = λ z l. absurd (omega arith);
   plates = λ q l.
       let few = p.places_at_most in
       let ne : 31 ≢ q = omega arith in
@@ -107,11 +108,11 @@ none_taken t w places p small told_so = record {
 }
 
 -- the end of a code with a plate that comes to a place
-pub end_at : (t : PlanTable) (z n to e : ℕ) (way : Transfer) → IsLawfulZone t z (zone_of_code t z n) → n % 4 ≢ 3 → (zone_of_code t z n).flag ≡ true → transfer_of t z (zone_of_code t z n).posture ≡ Some way → way.to ≡ to → e ≡ 2 ^ to
+pub end_at : (t : PlanTable) (z n to e : ℕ) (way : Transfer) → IsLawfulZone t z (zone_of_code t z n) → zone_code t z (zone_of_code t z n) ≡ n → (zone_of_code t z n).flag ≡ true → transfer_of t z (zone_of_code t z n).posture ≡ Some way → way.to ≡ to → e ≡ 2 ^ to
     → IsEnd t z n e
-end_at t z n to e way law ne flag is to_is e_is = record {
+end_at t z n to e way law back flag is to_is e_is = record {
   lawful = λ _. law;
-  owner = λ _. ne;
+  back = λ _. back;
   comes = λ q l free.
       let comes : is_coming t (zone_of_code t z n) q z ≡ nat_eq to q =
       ap₂ (λ f o. f && leads_to o q) flag is ∙ ap (λ x. nat_eq x q) to_is in
@@ -125,63 +126,42 @@ end_at t z n to e way law ne flag is to_is e_is = record {
           | inr ne ↦ pow_at i q ne ∙ sym (ap one_if (nat_eq-apart i q ne))
         ]
 
-abbrev pub AreEndsBelow : PlanTable → ℕ → List Ends → Type 0
-AreEndsBelow t n xs = (z : ℕ) (d : Ends) → z < n → AreEnds t z (get_or xs z d).ends
+abbrev pub HasEnds : PlanTable → ℕ → Ends → Type 0
+HasEnds t z x = AreEnds t z x.ends × (x.bits ≡ bits_at t z)
 
-pub table_with : (t : PlanTable) (n k : ℕ) (xs : List Ends) (x : Ends) → k ≡ n → n < length xs → AreEndsBelow t n xs → AreEnds t n x.ends → AreEndsBelow t (n + 1) (set xs k x)
+abbrev pub AreEndsBelow : PlanTable → ℕ → List Ends → Type 0
+AreEndsBelow t n xs = (z : ℕ) (d : Ends) → z < n → HasEnds t z (get_or xs z d)
+
+pub table_with : (t : PlanTable) (n k : ℕ) (xs : List Ends) (x : Ends) → k ≡ n → n < length xs → AreEndsBelow t n xs → HasEnds t n x → AreEndsBelow t (n + 1) (set xs k x)
 table_with t n k xs x is there below h =
     subst (λ i. AreEndsBelow t (n + 1) (set xs i x)) (sym is)
-    (λ z d l. below_more (λ y. AreEnds t y (get_or (set xs n x) y d).ends) n
-    (λ y m. let ne : y ≢ n = omega arith in subst (λ (e : Ends). AreEnds t y e.ends) (sym (get_or-set_other xs n y x d ne)) (below y d m))
-    (subst (λ (e : Ends). AreEnds t n e.ends) (sym (get_or-set_same xs n x d there)) h) z l)
+    (λ z d l. below_more (λ y. HasEnds t y (get_or (set xs n x) y d)) n
+    (λ y m. let ne : y ≢ n = omega arith in subst (HasEnds t y) (sym (get_or-set_other xs n y x d ne)) (below y d m))
+    (subst (HasEnds t n) (sym (get_or-set_same xs n x d there)) h) z l)
 
--- ---- codes
-owner_back : (t : PlanTable) (z o : ℕ) → host_of t z ≢ guest_of t z → o < 4 → o ≢ 3 → owner_code t z (owner_of_code t z o) ≡ o
-owner_back t z zero two l ne = refl
-owner_back t z (suc zero) two l ne = ap (λ b. if b then 1 else 2) (nat_eq-self (host_of t z))
-owner_back t z (suc (suc zero)) two l ne = ap (λ b. if b then 1 else 2) (nat_eq-apart (guest_of t z) (host_of t z) (λ e. two (sym e)))
-owner_back t z (suc (suc (suc zero))) two l ne = absurd (ne refl)
-owner_back t z (suc (suc (suc (suc o)))) two l ne = absurd (omega arith)
-
+-- ---- bits
 bit_back : (n : ℕ) → n < 2 → n ≡ one_if (nat_eq n 1)
 bit_back zero l = refl
 bit_back (suc zero) l = refl
 bit_back (suc (suc n)) l = absurd (omega arith)
 
-posture_back : (n : ℕ) → n < 4 → posture_code (posture_of_code n) ≡ n
-posture_back zero l = refl
-posture_back (suc zero) l = refl
-posture_back (suc (suc zero)) l = refl
-posture_back (suc (suc (suc zero))) l = refl
-posture_back (suc (suc (suc (suc n)))) l = absurd (omega arith)
-
-five : (n a b c : ℕ) → a ≡ n % 4 → n / 4 % 2 ≡ b → c ≡ n / 8 → a + 4 * b + 8 * c ≡ n
-five n a b c x y z = omega arith
-
-code_back : (t : PlanTable) (z n : ℕ) → host_of t z ≢ guest_of t z → n < 32 → n % 4 ≢ 3 → zone_code t z (zone_of_code t z n) ≡ n
-code_back t z n two l ne =
-    five n _ _ _
-    (owner_back t z (n % 4) two (mod_below n 4 (omega arith)) ne)
-    (bit_back (n / 4 % 2) (mod_below (n / 4) 2 (omega arith)))
-    (posture_back (n / 8) (omega arith))
-
 -- ---- the state that a word tells
 zone_is : (t : PlanTable) (w z : ℕ) → IsPlan t → z < zone_count t → zone_at (state_told t w) z ≡ zone_of_code t z (code_at t w z)
+unfolding state_told
 zone_is t w z p l =
     let few = p.zones_at_most in
     get_or-map-range_with_len (zone_in_word t w) 0 10 z z free_zone (omega arith) (omega arith)
     ∙ ap (λ b. if b then zone_of_code t z (code_at t w z) else free_zone) (lt-ltb z (zone_count t) l)
 
 place_is : (t : PlanTable) (w q : ℕ) → q < 16 → is_full (state_told t w) q ≡ place_told t w q
+unfolding state_told
 place_is t w q l = get_or-map-range_with_len (place_told t w) 0 16 q q false l (omega arith)
 
-code_fits : (t : PlanTable) (w z : ℕ) → code_at t w z < 32
-code_fits t w z = mod_below (w / 2 ^ (5 * z)) 32 (omega arith)
-
 each : (t : PlanTable) (w taken : ℕ) → IsPlan t → TakenBelow t w (zone_count t) taken → (f : Field) → IsTrue (has (counts_of t) f) → told (counts_of t) w f ≡ held t (state_told t w) f
+unfolding state_told
 each t w taken p k (Zone z) h =
     let l = ltb-true z (zone_count t) h in
-    sym (ap (zone_code t z) (zone_is t w z p l) ∙ code_back t z (code_at t w z) (p.host_is_not_guest z l) (code_fits t w z) (k.owner z l))
+    sym (ap (zone_code t z) (zone_is t w z p l) ∙ k.back z l)
 each t w taken p k (Place q) h =
     let l = ltb-true q (place_count t) h in
     let few = p.places_at_most in
@@ -205,6 +185,7 @@ plates_few t w taken q p k l =
     omega (arith, full, same, sum, below)
 
 pub told_state : (t : PlanTable) (w taken : ℕ) → IsPlan t → w < 2 ^ width_of (counts_of t) → TakenBelow t w (zone_count t) taken → (s : State) × IsOfPlan t s × (packed t s ≡ w)
+unfolding state_told
 told_state t w taken p small k =
     let s = state_told t w in
     let stamp : s.stamp < 1048576 = mod_below (w / 2 ^ start_of (counts_of t) Stamp) 1048576 (omega arith) in
@@ -214,7 +195,7 @@ told_state t w taken p small k =
     (s, told_is_of_plan t w sound, whole t s w small (each t w taken p k))
 
 -- the bits above the zones are those of the places
-pub place_bits : (t : PlanTable) (w bit q : ℕ) → bit ≡ 5 * zone_count t → IsPlan t → q < place_count t → w / 2 ^ bit % 65536 / 2 ^ q % 2 ≡ one_if (place_told t w q)
+pub place_bits : (t : PlanTable) (w bit q : ℕ) → bit ≡ zones_end (counts_of t) (zone_count t) → IsPlan t → q < place_count t → w / 2 ^ bit % 65536 / 2 ^ q % 2 ≡ one_if (place_told t w q)
 place_bits t w bit q is p l =
     let few = p.places_at_most in
     let m = 15 - q in

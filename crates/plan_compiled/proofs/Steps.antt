@@ -6,7 +6,7 @@ use Rattle.std.proofs.lemmas.List.{get_or_read}
 use Rattle.std.specs.List.{All}
 use Rattle.plan_types.specs.declared.call.Call.{Call}
 use Rattle.plan_types.specs.declared.answer.Answer.TheVariants.{Done}
-use Rattle.plan_types.specs.Table.{PlanTable}
+use Rattle.plan_types.specs.Table.{PlanTable, zone_count}
 use Rattle.plan_types.specs.Plan.{IsPlan}
 use Rattle.plan_rules.specs.declared.state.State.{State}
 use Rattle.plan_rules.specs.Reply.{reply, next}
@@ -15,6 +15,7 @@ use Rattle.plan_word.specs.Layout.{counts_of, start_of, width_of}
 use Rattle.plan_word.specs.OfPlan.{IsOfPlan}
 use Rattle.plan_word.specs.Packed.{packed}
 use Rattle.plan_word.proofs.lemmas.LaidOut.{held_back, laid_out}
+use Rattle.plan_word.proofs.lemmas.Shapes.{ends_are}
 use Rattle.plan_word.proofs.lemmas.Staying.{next_stays}
 use Rattle.plan_compiled.specs.Row.{Row, no_row}
 use Rattle.plan_compiled.specs.Complete.{row_at, IsRowOf}
@@ -23,7 +24,8 @@ use Rattle.plan_compiled.specs.Rows.{matches, written, IsRight}
 fits_word : (t : PlanTable) (s : State) → IsPlan t → IsOfPlan t s → packed t s < 2 ^ 64
 fits_word t s k o =
     let within = (laid_out t s o).bound in
-    let wide : width_of (counts_of t) ≤ 64 = k.fits_a_word in
+    let ends = ends_are t (zone_count t) in
+    let wide : width_of (counts_of t) ≤ 64 = omega (arith, ends, k.fits_a_word) in
     let more : 2 ^ width_of (counts_of t) ≤ 2 ^ 64 = pow-le-pow_right (omega arith) wide in
     omega (arith, within, more)
 

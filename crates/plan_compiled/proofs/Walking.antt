@@ -3,14 +3,14 @@ use Rattle.std.proofs.Common.{◌≡◌, ◌≢◌, ℕ, zero, suc, ◌+◌, ◌
 use Rattle.std.specs.Prelude.{bit_and}
 use Rattle.std.proofs.lemmas.Bool.{eqb-true, lt-ltb}
 use Rattle.std.proofs.lemmas.Nat.{and_shr, and_mod, and_le_l, and_le_r, and_comm, mod-pow-add, mod_below, shr-shr}
-use Rattle.plan_types.specs.Table.{PlanTable, zone_count, place_count}
+use Rattle.plan_types.specs.Table.{PlanTable, zone_count, place_count, shape_bits}
 use Rattle.plan_rules.specs.declared.state.State.{State}
 use Rattle.plan_rules.specs.State.{zone_at, is_full, one_if}
 use Rattle.plan_rules.specs.Sound.{IsLawfulZone}
 use Rattle.plan_rules.proofs.lemmas.Puts.{same_or_not}
 use Rattle.plan_word.specs.declared.layout.Field.{Field}
 use Rattle.plan_word.specs.declared.layout.Field.TheVariants.{Zone, Place, Stamp, Stop}
-use Rattle.plan_word.specs.Layout.{Counts, counts_of, has, width_of}
+use Rattle.plan_word.specs.Layout.{Counts, counts_of, shape_at, has, zones_end, width_of}
 use Rattle.plan_word.specs.OfPlan.{IsOfPlan}
 use Rattle.plan_word.specs.Packed.{zone_code, held, packed}
 use Rattle.plan_word.specs.Reading.{told, zone_of_code}
@@ -68,26 +68,27 @@ peel a b s k low high =
     let turned : k + s ≡ s + k = omega arith in
     subst (λ e. a % 2 ^ e ≡ b % 2 ^ e) turned (omega (arith, of_a, of_b, up, low))
 
-zones_same : (c : Counts) (a b n : ℕ) → n ≤ c.zones → ((f : Field) → IsTrue (has c f) → told c a f ≡ told c b f) → a % 2 ^ (5 * n) ≡ b % 2 ^ (5 * n)
+zones_same : (c : Counts) (a b n : ℕ) → n ≤ c.zones → ((f : Field) → IsTrue (has c f) → told c a f ≡ told c b f) → a % 2 ^ zones_end c n ≡ b % 2 ^ zones_end c n
 zones_same c a b zero l each = omega arith
 zones_same c a b (suc n) l each =
     let rest = zones_same c a b n (omega arith) each in
-    let next : 5 * n + 5 ≡ 5 * suc n = omega arith in
-    subst (λ e. a % 2 ^ e ≡ b % 2 ^ e) next (peel a b (5 * n) 5 rest (each (Zone n) (lt-ltb n c.zones (omega arith))))
+    peel a b (zones_end c n) (shape_bits (shape_at c n)) rest (each (Zone n) (lt-ltb n c.zones (omega arith)))
 
-places_same : (c : Counts) (a b n : ℕ) → n ≤ c.places → ((f : Field) → IsTrue (has c f) → told c a f ≡ told c b f) → a % 2 ^ (5 * c.zones + n) ≡ b % 2 ^ (5 * c.zones + n)
+places_same : (c : Counts) (a b n : ℕ) → n ≤ c.places → ((f : Field) → IsTrue (has c f) → told c a f ≡ told c b f) → a % 2 ^ (zones_end c c.zones + n) ≡ b % 2 ^ (zones_end c c.zones + n)
 places_same c a b zero l each =
-    let base : 5 * c.zones ≡ 5 * c.zones + 0 = omega arith in
+    let end = zones_end c c.zones in
+    let base : end ≡ end + 0 = omega arith in
     subst (λ e. a % 2 ^ e ≡ b % 2 ^ e) base (zones_same c a b c.zones (omega arith) each)
 places_same c a b (suc n) l each =
     let rest = places_same c a b n (omega arith) each in
-    let next : 5 * c.zones + n + 1 ≡ 5 * c.zones + suc n = omega arith in
-    subst (λ e. a % 2 ^ e ≡ b % 2 ^ e) next (peel a b (5 * c.zones + n) 1 rest (each (Place n) (lt-ltb n c.places (omega arith))))
+    let end = zones_end c c.zones in
+    let next : end + n + 1 ≡ end + suc n = omega arith in
+    subst (λ e. a % 2 ^ e ≡ b % 2 ^ e) next (peel a b (end + n) 1 rest (each (Place n) (lt-ltb n c.places (omega arith))))
 
 -- two words within the width are the same if all their fields are
 same_word : (c : Counts) (a b : ℕ) → a < 2 ^ width_of c → b < 2 ^ width_of c → ((f : Field) → IsTrue (has c f) → told c a f ≡ told c b f) → a ≡ b
 same_word c a b below_a below_b each =
-    let base = 5 * c.zones + c.places in
+    let base = zones_end c c.zones + c.places in
     let stamp = peel a b base 20 (places_same c a b c.places (omega arith) each) (each Stamp refl) in
     let stop = peel a b (base + 20) 1 stamp (each Stop refl) in
     let width : base + 20 + 1 ≡ width_of c = omega arith in
@@ -133,7 +134,7 @@ zone_number : (t : PlanTable) (a : Asked) (s : State) (z : ℕ) → IsOfPlan t s
 zone_number t a s z o h l =
     let v = zone_at s z in
     let lawful = o.sound.zone_is_lawful z l in
-    let back : zone_of_code t z (zone_code t z v) ≡ v = zone_code_back t z v lawful in
+    let back : zone_of_code t z (zone_code t z v) ≡ v = zone_code_back t z v lawful (o.postures_told z l) in
     (subst (IsLawfulZone t z) (sym back) lawful, ap (zone_code t z) back, subst (λ x. IsTrue (needs.zone_fits t a.machine a.call a.room z x)) (sym back) (h.zones z l))
 
 pub leave_zone : (t : PlanTable) (a : Asked) (rows : List Row) (span : Span) (sets next : List Bool) (n m : ℕ) → LeavesRows t a rows span sets n m → n < zone_count t

@@ -13,14 +13,15 @@ use Rattle.plan_word.specs.Layout.{Counts, counts_of, has, bits_of, start_of, wi
 use Rattle.plan_word.specs.Packed.{held, zone_parts, place_parts, packed}
 use Rattle.plan_word.specs.Reading.{told}
 use Rattle.plan_word.proofs.lemmas.Fields.{row}
+use Rattle.plan_word.proofs.lemmas.Shapes.{bits_at, ends, places_bit}
 use Rattle.plan_compiled.specs.declared.part.Part.{Part}
 use Rattle.plan_compiled.specs.Rows.{matches, written, part_in}
 
 pub told_and : (c : Counts) (a b : ℕ) (f : Field) → told c (bit_and a b) f ≡ bit_and (told c a f) (told c b f)
-told_and c a b f = ap (λ m. m % 2 ^ bits_of f) (and_shr a b (start_of c f)) ∙ and_mod (a / 2 ^ start_of c f) (b / 2 ^ start_of c f) (bits_of f)
+told_and c a b f = ap (λ m. m % 2 ^ bits_of c f) (and_shr a b (start_of c f)) ∙ and_mod (a / 2 ^ start_of c f) (b / 2 ^ start_of c f) (bits_of c f)
 
 told_or : (c : Counts) (a b : ℕ) (f : Field) → told c (bit_or a b) f ≡ bit_or (told c a f) (told c b f)
-told_or c a b f = ap (λ m. m % 2 ^ bits_of f) (or_shr a b (start_of c f)) ∙ or_mod (a / 2 ^ start_of c f) (b / 2 ^ start_of c f) (bits_of f)
+told_or c a b f = ap (λ m. m % 2 ^ bits_of c f) (or_shr a b (start_of c f)) ∙ or_mod (a / 2 ^ start_of c f) (b / 2 ^ start_of c f) (bits_of c f)
 
 pub told_written : (c : Counts) (p : Part) (w : ℕ) (f : Field) → told c (written p w) f ≡ written (part_in c p f) (told c w f)
 told_written c p w f = told_or c (bit_and w p.keep) p.set f ∙ ap (λ n. bit_or n (told c p.set f)) (told_and c w p.keep f)
@@ -46,11 +47,12 @@ within_width n r width is wide e =
     subst (λ k. n < 2 ^ k) all (none_above n (r - 1 + 1) none_of)
 
 -- the fields of a row are what a word has below the next one
-row_rest : (value start : ℕ → ℕ) (k w n : ℕ) → ((i : ℕ) → start (suc i) ≡ k + start i) → ((i : ℕ) → i < n → w / 2 ^ start i % 2 ^ k ≡ value i)
+row_rest : (value start width : ℕ → ℕ) (w n : ℕ) → ((i : ℕ) → start (suc i) ≡ width i + start i) → ((i : ℕ) → i < n → w / 2 ^ start i % 2 ^ width i ≡ value i)
     → w % 2 ^ start 0 + row value start n ≡ w % 2 ^ start n
-row_rest value start k w zero steps each = omega arith
-row_rest value start k w (suc n) steps each =
-    let rest = row_rest value start k w n steps (λ i l. each i (omega arith)) in
+row_rest value start width w zero steps each = omega arith
+row_rest value start width w (suc n) steps each =
+    let k = width n in
+    let rest = row_rest value start width w n steps (λ i l. each i (omega arith)) in
     let here : (w / 2 ^ start n % 2 ^ k) * 2 ^ start n ≡ value n * 2 ^ start n = ap (λ v. v * 2 ^ start n) (each n (omega arith)) in
     let more : w % 2 ^ (k + start n) ≡ (w / 2 ^ start n % 2 ^ k) * 2 ^ start n + w % 2 ^ start n = mod-pow-add w k (start n) in
     subst (λ e. w % 2 ^ start 0 + (row value start n + value n * 2 ^ start n) ≡ w % 2 ^ e) (sym (steps n)) (omega (arith, rest, here, more))
@@ -61,11 +63,12 @@ unfolding packed
 whole t s w small each =
     let n = zone_count t in
     let m = place_count t in
-    let b = 5 * n + m in
-    let zones : w % 2 ^ (5 * 0) + zone_parts t s n ≡ w % 2 ^ (5 * n) = row_rest (λ z. held t s (Zone z)) (λ z. 5 * z) 5 w n (λ i. omega arith) (λ i l. each (Zone i) (lt-ltb i n l)) in
-    let places : w % 2 ^ (5 * n + 0) + place_parts t s m ≡ w % 2 ^ (5 * n + m) = row_rest (λ p. held t s (Place p)) (λ p. 5 * n + p) 1 w m (λ i. omega arith) (λ i l. each (Place i) (lt-ltb i m l)) in
-    let none : w % 2 ^ (5 * 0) ≡ 0 = omega arith in
-    let base : w % 2 ^ (5 * n + 0) ≡ w % 2 ^ (5 * n) = ap (λ e. w % 2 ^ e) (let e : 5 * n + 0 ≡ 5 * n = omega arith in e) in
+    let a = places_bit t in
+    let b = a + m in
+    let zones : w % 2 ^ 0 + zone_parts t s n ≡ w % 2 ^ a = row_rest (λ z. held t s (Zone z)) (ends t) (bits_at t) w n (λ i. omega arith) (λ i l. each (Zone i) (lt-ltb i n l)) in
+    let places : w % 2 ^ (a + 0) + place_parts t s m ≡ w % 2 ^ (a + m) = row_rest (λ p. held t s (Place p)) (λ p. a + p) (λ p. 1) w m (λ i. omega arith) (λ i l. each (Place i) (lt-ltb i m l)) in
+    let none : w % 2 ^ 0 ≡ 0 = omega arith in
+    let base : w % 2 ^ (a + 0) ≡ w % 2 ^ a = ap (λ e. w % 2 ^ e) (let e : a + 0 ≡ a = omega arith in e) in
     let stamp : w % 2 ^ (20 + b) ≡ (w / 2 ^ b % 2 ^ 20) * 2 ^ b + w % 2 ^ b = mod-pow-add w 20 b in
     let stamp_is : (w / 2 ^ b % 2 ^ 20) * 2 ^ b ≡ s.stamp * 2 ^ b = ap (λ v. v * 2 ^ b) (each Stamp refl) in
     let turned : w % 2 ^ (b + 20) ≡ w % 2 ^ (20 + b) = ap (λ e. w % 2 ^ e) (let e : b + 20 ≡ 20 + b = omega arith in e) in

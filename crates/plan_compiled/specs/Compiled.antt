@@ -1,11 +1,11 @@
 -- A compiled plan, and how it is kept.
-use Rattle.std.specs.Prelude.{◌≡◌, ℕ, ◌+◌, ◌*◌, ◌≤◌, List}
-use Rattle.std.proofs.Common.{sym, ap₂}
+use Rattle.std.specs.Prelude.{◌≡◌, ℕ, ◌+◌, ◌≤◌, List}
+use Rattle.std.proofs.Common.{sym, ap, ap₂, ◌∙◌}
 use Rattle.std.specs.List.{All}
 use Rattle.plan_types.specs.Table.{PlanTable, zone_count}
 use Rattle.plan_types.specs.Plan.{IsPlan}
 use Rattle.plan_word.specs.declared.layout.Field.TheVariants.{Stamp}
-use Rattle.plan_word.specs.Layout.{counts_of, start_of}
+use Rattle.plan_word.specs.Layout.{Counts, counts_of, zones_end, start_of}
 use Rattle.plan_compiled.specs.declared.told.Ends.{Ends}
 use Rattle.plan_compiled.specs.declared.compiled.Compiled.TheInside.{Inside}
 use Rattle.plan_compiled.specs.Ends.{IsTable}
@@ -22,18 +22,20 @@ pub record CompiledPlan : Type 0 where
 -- what holds of its parts
 pub record IsCompiled (a : Inside) : Type 0 where
   pub plan : IsPlan a.plan
+  pub layout_is : a.layout ≡ counts_of a.plan
   pub stamp_bit_is : a.stamp_bit ≡ start_of (counts_of a.plan) Stamp
   pub stamp_in_word : a.stamp_bit + 20 ≤ 64
-  pub place_bit_is : a.place_bit ≡ 5 * zone_count a.plan
+  pub place_bit_is : a.place_bit ≡ zones_end (counts_of a.plan) (zone_count a.plan)
   pub table_is : IsTable a.plan (zone_count a.plan) a.ends
   pub rows_are_right : All (IsRight a.plan) a.rows
 
 abbrev pub plan_in : Inside → CompiledPlan
 plan_in a = record { table = a.plan; rows = a.rows; starts = a.starts; ends = a.ends }
 
-abbrev pub kept_with : CompiledPlan → ℕ → ℕ → Inside
-kept_with k stamp_bit place_bit = record {
+abbrev pub kept_with : CompiledPlan → Counts → ℕ → ℕ → Inside
+kept_with k layout stamp_bit place_bit = record {
   plan = k.table;
+  layout = layout;
   stamp_bit = stamp_bit;
   place_bit = place_bit;
   ends = k.ends;
@@ -42,7 +44,11 @@ kept_with k stamp_bit place_bit = record {
 }
 
 abbrev pub kept : CompiledPlan → Inside
-kept k = kept_with k (start_of (counts_of k.table) Stamp) (5 * zone_count k.table)
+kept k =
+    kept_with k (counts_of k.table) (start_of (counts_of k.table) Stamp)
+    (zones_end (counts_of k.table) (zone_count k.table))
 
 pub kept_back : (a : Inside) → IsCompiled a → kept (plan_in a) ≡ a
-kept_back a is = ap₂ (kept_with (plan_in a)) (sym is.stamp_bit_is) (sym is.place_bit_is)
+kept_back a is =
+    ap₂ (kept_with (plan_in a) (counts_of a.plan)) (sym is.stamp_bit_is) (sym is.place_bit_is)
+    ∙ ap (λ (c : Counts). kept_with (plan_in a) c a.stamp_bit a.place_bit) (sym is.layout_is)

@@ -1,18 +1,20 @@
 -- What a table says about each code of a zone.
-use Rattle.std.specs.Prelude.{◌≡◌, ◌≢◌, ℕ, ◌+◌, ◌/◌, ◌%◌, ◌<◌, ◌≤◌, ◌^◌, List, length, get_or}
+use Rattle.std.specs.Prelude.{◌≡◌, ℕ, ◌+◌, ◌/◌, ◌%◌, ◌<◌, ◌≤◌, ◌^◌, List, length, get_or}
 use Rattle.plan_types.specs.Below.{sum_below}
 use Rattle.plan_types.specs.Table.{PlanTable, place_count}
 use Rattle.plan_rules.specs.State.{one_if, is_coming}
 use Rattle.plan_rules.specs.Sound.{IsLawfulZone}
 use Rattle.plan_word.specs.declared.layout.Field.TheVariants.{Zone}
-use Rattle.plan_word.specs.Layout.{counts_of}
+use Rattle.plan_word.specs.Layout.{bits_of, counts_of}
+use Rattle.plan_word.specs.Packed.{zone_code}
 use Rattle.plan_word.specs.Reading.{told, zone_of_code, place_told}
 use Rattle.plan_compiled.specs.declared.told.Ends.{Ends}
 
--- where bit 31 isn't set, the code is that of a lawful zone, and the bit of each place says whether a plate comes there
+-- where bit 31 isn't set, the code is that of a lawful zone, which has no other, and the bit of each place says whether
+-- a plate comes there
 pub record IsEnd (t : PlanTable) (z n e : ℕ) : Type 0 where
   pub lawful : e / 2 ^ 31 % 2 ≡ 0 → IsLawfulZone t z (zone_of_code t z n)
-  pub owner : e / 2 ^ 31 % 2 ≡ 0 → n % 4 ≢ 3
+  pub back : e / 2 ^ 31 % 2 ≡ 0 → zone_code t z (zone_of_code t z n) ≡ n
   pub comes : (q : ℕ) → q < 16 → e / 2 ^ 31 % 2 ≡ 0 → e / 2 ^ q % 2 ≡ one_if (is_coming t (zone_of_code t z n) q z)
 
 abbrev pub AreEnds : PlanTable → ℕ → List ℕ → Type 0
@@ -21,6 +23,7 @@ AreEnds t z ends = (n : ℕ) → n < 32 → IsEnd t z n (get_or ends n 0)
 pub record IsTable (t : PlanTable) (n : ℕ) (table : List Ends) : Type 0 where
   pub zones : n ≤ length table
   pub ends : (z : ℕ) (d : Ends) → z < n → AreEnds t z (get_or table z d).ends
+  pub bits : (z : ℕ) (d : Ends) → z < n → (get_or table z d).bits ≡ bits_of (counts_of t) (Zone z)
 
 -- the code of a zone in a word
 abbrev pub code_at : PlanTable → ℕ → ℕ → ℕ
@@ -30,6 +33,6 @@ code_at t w z = told (counts_of t) w (Zone z)
 pub record TakenBelow (t : PlanTable) (w n taken : ℕ) : Type 0 where
   pub barred : taken / 2 ^ 31 % 2 ≡ 1
   pub lawful : (z : ℕ) → z < n → IsLawfulZone t z (zone_of_code t z (code_at t w z))
-  pub owner : (z : ℕ) → z < n → code_at t w z % 4 ≢ 3
+  pub back : (z : ℕ) → z < n → zone_code t z (zone_of_code t z (code_at t w z)) ≡ code_at t w z
   pub plates : (q : ℕ) → q < place_count t → taken / 2 ^ q % 2 ≡ one_if (place_told t w q)
       + sum_below (λ z. one_if (is_coming t (zone_of_code t z (code_at t w z)) q z)) n

@@ -39,6 +39,7 @@ fn stamp_bit_of(layout: &Layout) -> u32
 #[derive(Debug, Drop)]
 pub struct Compiled {
     plan: Plan,
+    layout: Layout,
     stamp_bit: u32,
     place_bit: u32,
     ends: [Ends; MAX_ZONES],
@@ -68,11 +69,12 @@ impl Compiled {
         let layout = Layout::of(&plan);
         let _ = plan.machines();
         let Index { starts, rows, .. } = index_of(&plan, &layout);
-        let ends = table_of(&plan);
+        let ends = table_of(&plan, &layout);
         let stamp_bit = stamp_bit_of(&layout);
-        let place_bit = 5 * u32::from(plan.zone_count());
+        let place_bit = stamp_bit - u32::from(plan.place_count());
         Compiled {
             plan,
+            layout,
             stamp_bit,
             place_bit,
             ends,
@@ -92,7 +94,7 @@ impl Compiled {
     pub fn layout(&self) -> Layout
         ensures { result ≡ counts_of self.now.table }
     {
-        Layout::of(&self.plan)
+        self.layout
     }
 
     /// The rows, and after the last one rows that no word matches.
@@ -149,7 +151,7 @@ impl Compiled {
     pub fn is_complete(&self) -> bool
         ensures { IsTrue result → IsComplete self.now.table self.now.rows self.now.starts }
     {
-        has_every_row(&self.plan, &self.layout(), &self.rows, &self.starts)
+        has_every_row(&self.plan, &self.layout, &self.rows, &self.starts)
     }
 
     #[inline(never)]
@@ -161,7 +163,7 @@ impl Compiled {
               packed self.now.table (next self.now.table state machine call),
             ) }
     {
-        step_state_word(&self.plan, &self.layout(), word, machine, call)
+        step_state_word(&self.plan, &self.layout, word, machine, call)
     }
 
     /// Makes a call on the word of a state of the plan. Returns the interlock's answer and the word of the state after
@@ -209,7 +211,7 @@ impl Compiled {
         ensures none { IsNone result
             ↔ ((state : State) → IsOfPlan self.now.table state → packed self.now.table state ≢ word) }
     {
-        step_word(&self.plan, &self.layout(), word, machine, call)
+        step_word(&self.plan, &self.layout, word, machine, call)
     }
 
     /// Makes a call on a word. Returns the interlock's answer and the word of the state after it: the same word unless

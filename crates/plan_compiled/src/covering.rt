@@ -25,7 +25,8 @@ pub struct Span {
 }
 
 /// Whether a field has a number in a state that fits.
-fn fits_number(plan: &Plan, asked: Asked, field: Field, number: u64) -> bool
+fn fits_number(plan: &Plan, layout: &Layout, asked: Asked, field: Field, number: u64) -> bool
+    requires { layout.now ≡ counts_of plan.now }
     ensures { complete.FitsNumber plan.now asked field number → IsTrue result }
 {
     let Asked {
@@ -35,9 +36,9 @@ fn fits_number(plan: &Plan, asked: Asked, field: Field, number: u64) -> bool
     } = asked;
     match field {
         Field::Zone(zone) => {
-            let at = zone_of_code(plan, zone, number);
+            let at = zone_of_code(plan, layout, zone, number);
             is_lawful_zone(plan, zone, at)
-                && zone_code(plan, zone, at) == number
+                && zone_code(plan, layout, zone, at) == number
                 && zone_fits(plan, machine, call, room, zone, at)
         }
         Field::Place(place) => {
@@ -136,7 +137,7 @@ fn add_number(
     ensures left { complete.FitsNumber plan.now asked field number
         → complete.Narrows layout.now rows.now span field number sets.now next.new }
 {
-    if !fits_number(plan, asked, field, number) {
+    if !fits_number(plan, layout, asked, field, number) {
         return;
     }
     let set = matching(layout, rows, span, field, number);

@@ -3,6 +3,9 @@
 //! A field's part is the smallest pattern of all numbers that a call can find there. Where it has others too, it is
 //! split by one of its bits, and each half has a row.
 
+ghost use Rattle.std.specs.Prelude.{◌≡◌};
+ghost use Rattle.plan_word.specs.Layout.{counts_of};
+
 use crate::needs::{place_after, place_fits, stop_after, stop_fits, zone_after, zone_fits};
 use crate::part::Part;
 use crate::right::{Asked, is_right_zone};
@@ -78,7 +81,14 @@ impl Found {
     }
 }
 
-fn zone_part(plan: &Plan, asked: Asked, zone: u8, half: Half) -> Option<Part> {
+/// All bits of a zone.
+fn bits_of_zone(layout: &Layout, zone: u8) -> u64 {
+    (1 << layout.bits_of(Field::Zone(zone))) - 1
+}
+
+fn zone_part(plan: &Plan, layout: &Layout, asked: Asked, zone: u8, half: Half) -> Option<Part>
+    requires { layout.now ≡ counts_of plan.now }
+{
     let Asked {
         machine,
         call,
@@ -86,16 +96,16 @@ fn zone_part(plan: &Plan, asked: Asked, zone: u8, half: Half) -> Option<Part> {
     } = asked;
     let mut found = NONE_YET;
     for code in 0..32 {
-        let at = zone_of_code(plan, zone, code);
+        let at = zone_of_code(plan, layout, zone, code);
         let fits = is_lawful_zone(plan, zone, at)
-            && zone_code(plan, zone, at) == code
+            && zone_code(plan, layout, zone, at) == code
             && zone_fits(plan, machine, call, room, zone, at);
         if fits && half.has(code) {
             let next = zone_after(plan, machine, call, zone, at);
-            found = found.with(code, zone_code(plan, zone, next));
+            found = found.with(code, zone_code(plan, layout, zone, next));
         }
     }
-    found.part(31)
+    found.part(bits_of_zone(layout, zone))
 }
 
 fn place_part(plan: &Plan, asked: Asked, place: u8) -> Option<Part> {
@@ -127,21 +137,25 @@ fn stop_part(plan: &Plan, asked: Asked) -> Option<Part> {
 }
 
 /// Whether the smallest pattern of a half has no other numbers.
-fn is_exact(plan: &Plan, asked: Asked, zone: u8, half: Half) -> bool {
-    match zone_part(plan, asked, zone, half) {
-        Some(part) => is_right_zone(plan, asked, &part, zone),
+fn is_exact(plan: &Plan, layout: &Layout, asked: Asked, zone: u8, half: Half) -> bool
+    requires { layout.now ≡ counts_of plan.now }
+{
+    match zone_part(plan, layout, asked, zone, half) {
+        Some(part) => is_right_zone(plan, layout, asked, &part, zone),
         None => true,
     }
 }
 
 /// The bit by which a zone has to be split, or 0 for none.
-fn split_of(plan: &Plan, asked: Asked, zone: u8) -> u64 {
-    if is_exact(plan, asked, zone, WHOLE) {
+fn split_of(plan: &Plan, layout: &Layout, asked: Asked, zone: u8) -> u64
+    requires { layout.now ≡ counts_of plan.now }
+{
+    if is_exact(plan, layout, asked, zone, WHOLE) {
         return 0;
     }
     for bit in [1, 2, 4, 8, 16] {
-        if is_exact(plan, asked, zone, Half { bit, value: bit })
-            && is_exact(plan, asked, zone, Half { bit, value: 0 })
+        if is_exact(plan, layout, asked, zone, Half { bit, value: bit })
+            && is_exact(plan, layout, asked, zone, Half { bit, value: 0 })
         {
             return bit;
         }
@@ -169,11 +183,13 @@ impl Part {
     }
 }
 
-fn with_zones(plan: &Plan, layout: &Layout, asked: Asked, picks: u8, part: Part) -> Option<Part> {
+fn with_zones(plan: &Plan, layout: &Layout, asked: Asked, picks: u8, part: Part) -> Option<Part>
+    requires { layout.now ≡ counts_of plan.now }
+{
     let mut whole = part;
     let mut splits = 0;
     for zone in 0..plan.zone_count() {
-        let bit = split_of(plan, asked, zone);
+        let bit = split_of(plan, layout, asked, zone);
         let mut half = WHOLE;
         if bit != 0 {
             let clear = splits < MOST_SPLITS && picks >> splits & 1 == 1;
@@ -183,8 +199,9 @@ fn with_zones(plan: &Plan, layout: &Layout, asked: Asked, picks: u8, part: Part)
             };
             splits += 1;
         }
-        let own = zone_part(plan, asked, zone, half)?;
-        whole = whole.with_field(own, 31, layout.start(Field::Zone(zone)));
+        let own = zone_part(plan, layout, asked, zone, half)?;
+        let bits = bits_of_zone(layout, zone);
+        whole = whole.with_field(own, bits, layout.start(Field::Zone(zone)));
     }
     if splits < MOST_SPLITS && picks >> splits != 0 {
         return None;
@@ -193,7 +210,9 @@ fn with_zones(plan: &Plan, layout: &Layout, asked: Asked, picks: u8, part: Part)
 }
 
 /// A draft of a call's row, with this pick of the halves of the zones that have to be split: `None` if there is none.
-pub(crate) fn draft(plan: &Plan, layout: &Layout, asked: Asked, picks: u8) -> Option<Part> {
+pub(crate) fn draft(plan: &Plan, layout: &Layout, asked: Asked, picks: u8) -> Option<Part>
+    requires { layout.now ≡ counts_of plan.now }
+{
     let mut whole = EVERY;
     for place in 0..plan.place_count() {
         let own = place_part(plan, asked, place)?;

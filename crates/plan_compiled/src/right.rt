@@ -26,7 +26,15 @@ pub struct Asked {
     pub room: bool,
 }
 
-fn is_right_code(plan: &Plan, asked: Asked, part: &Part, zone: u8, code: u64) -> bool
+fn is_right_code(
+    plan: &Plan,
+    layout: &Layout,
+    asked: Asked,
+    part: &Part,
+    zone: u8,
+    code: u64,
+) -> bool
+    requires { layout.now ≡ counts_of plan.now }
     ensures { IsTrue result → right.IsRightCode plan.now asked part.now zone code }
 {
     let Asked {
@@ -34,20 +42,31 @@ fn is_right_code(plan: &Plan, asked: Asked, part: &Part, zone: u8, code: u64) ->
         call,
         room,
     } = asked;
-    let at = zone_of_code(plan, zone, code);
-    if zone_code(plan, zone, at) != code || !is_lawful_zone(plan, zone, at) || !part.matches(code) {
+    let at = zone_of_code(plan, layout, zone, code);
+    if zone_code(plan, layout, zone, at) != code
+        || !is_lawful_zone(plan, zone, at)
+        || !part.matches(code)
+    {
         return true;
     }
+    let after = zone_after(plan, machine, call, zone, at);
     zone_fits(plan, machine, call, room, zone, at)
-        && part.written(code) == zone_code(plan, zone, zone_after(plan, machine, call, zone, at))
+        && part.written(code) == zone_code(plan, layout, zone, after)
 }
 
-pub(crate) fn is_right_zone(plan: &Plan, asked: Asked, part: &Part, zone: u8) -> bool
+pub(crate) fn is_right_zone(
+    plan: &Plan,
+    layout: &Layout,
+    asked: Asked,
+    part: &Part,
+    zone: u8,
+) -> bool
+    requires { layout.now ≡ counts_of plan.now }
     ensures { IsTrue result → (code : ℕ) → code < 32
         → right.IsRightCode plan.now asked part.now zone code }
 {
     for code in 0..32 {
-        if !is_right_code(plan, asked, part, zone, code) {
+        if !is_right_code(plan, layout, asked, part, zone, code) {
             return false;
         }
     }
@@ -60,7 +79,7 @@ fn are_right_zones(plan: &Plan, layout: &Layout, asked: Asked, part: &Part) -> b
 {
     for zone in 0..plan.zone_count() {
         let own = part.of_field(layout, Field::Zone(zone));
-        if !is_right_zone(plan, asked, &own, zone) {
+        if !is_right_zone(plan, layout, asked, &own, zone) {
             return false;
         }
     }

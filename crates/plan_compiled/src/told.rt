@@ -1,13 +1,15 @@
 //! Whether a word is that of a state of the plan, found by a table of what each zone's bits tell.
-ghost use Rattle.std.specs.Prelude.{◌≡◌, ◌/◌, ◌%◌, ◌<◌, ◌^◌, ℕ, IsTrue};
+ghost use Rattle.std.specs.Prelude.{◌≡◌, ◌/◌, ◌%◌, ◌<◌, ◌≤◌, ◌^◌, ℕ, IsTrue};
 ghost use Rattle.plan_types.specs.Table.{zone_count, place_count};
 ghost use Rattle.plan_types.specs.Plan.{IsPlan};
 ghost use Rattle.plan_rules.specs.State.{one_if};
+ghost use Rattle.plan_word.specs.declared.layout.Field.TheVariants.{Zone};
+ghost use Rattle.plan_word.specs.Layout.{bits_of, counts_of};
 ghost use Rattle.plan_word.specs.Reading.{place_told};
 ghost use Rattle.plan_compiled.specs.Ends.{IsEnd, AreEnds, IsTable, TakenBelow};
 
 use plan_types::{MAX_ZONES, Plan};
-use plan_word::{is_lawful_zone, zone_of_code};
+use plan_word::{Field, Layout, is_lawful_zone, zone_code, zone_of_code};
 
 /// A zone may not have the code.
 const BARRED: u32 = 1 << 31;
@@ -16,15 +18,18 @@ const BARRED: u32 = 1 << 31;
 #[repr(C)]
 #[derive(Clone, Copy, Debug)]
 pub struct Ends {
+    /// How many bits a code has.
+    pub bits: u32,
     /// Of each code.
     pub ends: [u32; 32],
 }
 
-fn end_of(plan: &Plan, zone: u8, code: u64) -> u32
+fn end_of(plan: &Plan, layout: &Layout, zone: u8, code: u64) -> u32
+    requires { layout.now ≡ counts_of plan.now }
     ensures { IsEnd plan.now zone code result }
 {
-    let at = zone_of_code(plan, zone, code);
-    if code % 4 == 3 || !is_lawful_zone(plan, zone, at) {
+    let at = zone_of_code(plan, layout, zone, code);
+    if zone_code(plan, layout, zone, at) != code || !is_lawful_zone(plan, zone, at) {
         return BARRED;
     }
     match plan.transfer(zone, at.posture) {
@@ -33,25 +38,43 @@ fn end_of(plan: &Plan, zone: u8, code: u64) -> u32
     }
 }
 
-fn ends_of(plan: &Plan, zone: u8) -> Ends
-    ensures { AreEnds plan.now zone result.ends }
+fn ends_of(plan: &Plan, layout: &Layout, zone: u8) -> Ends
+    requires { layout.now ≡ counts_of plan.now }
+    ensures ends { AreEnds plan.now zone result.ends }
+    ensures bits { result.bits ≡ bits_of (counts_of plan.now) (Zone zone) }
 {
     let mut ends = [0; 32];
     for code in 0..32 {
-        ends[code] = end_of(plan, zone, code as u64);
+        ends[code] = end_of(plan, layout, zone, code as u64);
     }
-    Ends { ends }
+    let bits = u32::from(layout.bits_of(Field::Zone(zone)));
+    Ends { bits, ends }
 }
 
 /// The ends of all zones.
-pub(crate) fn table_of(plan: &Plan) -> [Ends; MAX_ZONES]
+pub(crate) fn table_of(plan: &Plan, layout: &Layout) -> [Ends; MAX_ZONES]
+    requires { layout.now ≡ counts_of plan.now }
     ensures { IsTable plan.now (zone_count plan.now) result }
 {
-    let mut table = [Ends { ends: [BARRED; 32] }; MAX_ZONES];
+    let none = Ends {
+        bits: 0,
+        ends: [BARRED; 32],
+    };
+    let mut table = [none; MAX_ZONES];
     for zone in 0..plan.zone_count() {
-        table[usize::from(zone)] = ends_of(plan, zone);
+        table[usize::from(zone)] = ends_of(plan, layout, zone);
     }
     table
+}
+
+/// The number in the lowest bits of a word, as an index.
+#[inline(always)]
+fn lowest(rest: u64, bits: u32) -> usize
+    requires { bits ≤ 5 }
+    ensures value { result ≡ rest % 2 ^ bits }
+    ensures few { result < 32 }
+{
+    (rest % (1 << bits)) as usize
 }
 
 /// Whether the zones and places of a word are those of a state of the plan.
@@ -67,12 +90,13 @@ pub(crate) fn are_sound(plan: &Plan, table: &[Ends], word: u64, places: u64) -> 
     let mut taken = places as u32 | BARRED;
     let mut rest = word;
     for zone in 0..usize::from(plan.zone_count()) {
-        let end = table[zone].ends[(rest % 32) as usize];
+        let bits = table[zone].bits;
+        let end = table[zone].ends[lowest(rest, bits)];
         if taken & end != 0 {
             return false;
         }
         taken |= end;
-        rest >>= 5;
+        rest >>= bits;
     }
     true
 }

@@ -290,7 +290,7 @@ fn write_first<W: fmt::Write>(f: &mut fmt::Formatter<W>, first: Option<usize>) -
 }
 
 impl fmt::Display for TooWide {
-    /// Says what would help: to leave out places, if there are enough, or zones, of which each takes five bits.
+    /// Says what would help: to leave out so many bits, in places and in zones.
     fn fmt<W: fmt::Write>(&self, f: &mut fmt::Formatter<W>) -> fmt::Result {
         let TooWide {
             zones,
@@ -303,11 +303,8 @@ impl fmt::Display for TooWide {
         f.write_str(" and ")?;
         write_count(f, places, "place")?;
         write!(f, " need {needed} bits, and 64 fit: leave out ")?;
-        if missing <= places {
-            write_count(f, missing, "place")?;
-            f.write_str(" or ")?;
-        }
-        write_count(f, missing.div_ceil(5), "zone")
+        write_count(f, missing, "bit")?;
+        f.write_str(" (a place has 1, a zone 2 to 5)")
     }
 }
 

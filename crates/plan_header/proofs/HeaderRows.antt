@@ -1,10 +1,12 @@
--- The examples of `header_lines_are_met`, `party_lines_are_met`, `masks_are_printed` and `headers_are_whole`.
+-- The examples of `header_lines_are_met`, `party_lines_are_met`, `readings_are_met`, `masks_are_printed` and
+-- `headers_are_whole`.
 use Rattle.std.proofs.Common.{refl}
 use Rattle.std.specs.Fmt.{digits}
 use Rattle.plan_motors.specs.Mask.{mask_of, pattern_of}
 use Rattle.plan_header.specs.Headers.{motors_part}
 use Rattle.plan_header.specs.Printed.{header_text}
 use Rattle.plan_header.specs.HeaderExamples.{CapitalsAreMade, HeaderLines, MaskLines, PartyLines, WholeHeaders}
+use Rattle.plan_header.specs.HeaderExamples.{ReadingLines}
 
 pub header-lines : HeaderLines
 unfolding digits
@@ -31,6 +33,15 @@ party-lines = record {
   poses = refl;
   parties = refl;
   bits = refl;
+}
+
+pub reading-lines : ReadingLines
+unfolding digits
+reading-lines = record {
+  flag_and_two = refl;
+  flag_and_one = refl;
+  one = refl;
+  owner_alone = refl;
 }
 
 pub whole-headers : WholeHeaders

@@ -7,9 +7,12 @@ use Rattle.std.proofs.lemmas.Nat.{mod-mul-add}
 use Rattle.std.specs.Char.{to_ascii_uppercase}
 use Rattle.std.specs.Fmt.{decimal}
 use Rattle.plan_types.specs.Table.{place_count, zone_count}
+use Rattle.plan_word.specs.Layout.{bits_of, counts_of, zones_end}
+use Rattle.plan_word.specs.declared.layout.Field.TheVariants.{Zone}
 use Rattle.plan_text.specs.Names.{Text, name_in}
 use Rattle.plan_header.specs.Headers as header
 use Rattle.plan_header.specs.HeaderLaws.{BitsAreTold, BytesAreTold, CapitalsAreTold, HeadersTell, MasksAreTold, ModulesAreTold}
+use Rattle.plan_header.specs.HeaderLaws.{ReadingsAreTold}
 use Rattle.plan_header.specs.HeaderLaws.{NumbersAreTold, stands}
 use Rattle.plan_header.specs.Words.{capitals}
 
@@ -40,17 +43,33 @@ numbers-told = record {
 bits-told : BitsAreTold
 bits-told = record {
   zone = λ n k there.
-      ap (λ has. if has then stands (codes "bit_zone_" ++ name_in n.zones k) (decimal (5 * k)) else [])
+      ap (λ has. if has then stands (codes "bit_zone_" ++ name_in n.zones k) (decimal (zones_end (counts_of n.plan) k)) else [])
       (lt-ltb k (zone_count n.plan) there);
   place = λ n k there.
       ap
       (λ has. if has
-      then stands (codes "bit_place_" ++ name_in n.places k) (decimal (5 * zone_count n.plan + k))
+      then stands (codes "bit_place_" ++ name_in n.places k) (decimal (zones_end (counts_of n.plan) (zone_count n.plan) + k))
       else [])
       (lt-ltb k (place_count n.plan) there);
   last = λ n. refl;
   all = λ n. refl;
+  size = λ n k. refl;
+  sizes = λ n. refl;
   width = λ n. refl;
+}
+
+readings-told : ReadingsAreTold
+readings-told = record {
+  owner = λ zone. refl;
+  plate = λ zone. refl;
+  no_plate = λ zone. refl;
+  shut = λ zone above. refl;
+  moving = λ zone above. refl;
+  open_in = λ zone above. refl;
+  open_out = λ zone above. refl;
+  all = λ zone above. refl;
+  zone = λ n k. refl;
+  each = λ n. refl;
 }
 
 -- where a number is one of a line's first, and where it isn't
@@ -107,6 +126,7 @@ headers-tell = record {
   numbers = numbers-told;
   bits = bits-told;
   bytes = bytes-told;
+  readings = readings-told;
   masks = masks-told;
   modules = modules-told;
 }

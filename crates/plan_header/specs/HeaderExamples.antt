@@ -1,7 +1,7 @@
 -- Lines of headers, whole: of a lift between two floors, of two presses, and of two gates.
 use Rattle.std.specs.Prelude.{◌≡◌, List, false, [], ◌∷◌, ◌++◌, codes, None}
 use Rattle.plan_types.specs.Table.{PlanTable, plan_table}
-use Rattle.plan_types.specs.Examples.{lift_table, pose, zone}
+use Rattle.plan_types.specs.Examples.{gated_table, lift_table, pose, rack_table, zone}
 use Rattle.plan_rules.specs.Examples.{presses_table}
 use Rattle.plan_motors.specs.Examples.{cabin, fan, lower_gate}
 use Rattle.plan_controller.specs.declared.step.Step.{Step}
@@ -10,10 +10,12 @@ use Rattle.plan_text.specs.Names.{Text}
 use Rattle.plan_text.specs.Named.{Named, named}
 use Rattle.plan_header.specs.Headers as header
 use Rattle.plan_header.specs.Printed.{header_text}
+use Rattle.plan_header.specs.Readings as reading
 use Rattle.plan_header.specs.Turns as turns
 use Rattle.plan_header.specs.Words.{capitals}
 use Rattle.plan_header.specs.declared.header.TheConstants.{BEGIN, CODES, ZONES}
 use Rattle.plan_header.specs.declared.motors.TheConstants.{MOTORS}
+use Rattle.plan_header.specs.declared.readings.TheConstants.{READINGS}
 
 abbrev pub lift_machines : List Text
 lift_machines = codes "lift" ∷ codes "low" ∷ codes "high" ∷ []
@@ -68,6 +70,14 @@ pub record HeaderLines : Type 0 where
   pub first_byte : header.byte_word (7 ∷ []) 0 ≡ codes "\n    7,"
   pub next_byte : header.byte_word (7 ∷ 255 ∷ []) 1 ≡ codes " 255,"
 
+-- nothing opens these two, and no plate goes through them
+abbrev pub gates_readings : Text
+gates_readings =
+    codes "#define PLAN_OWNER_OF_EAST(word) ((word) >> PLAN_BIT_ZONE_EAST & 3)\n"
+    ++ codes "#define PLAN_PLATE_IN_EAST(word) 0\n" ++ codes "#define PLAN_POSTURE_OF_EAST(word) PLAN_POSTURE_CLOSED\n"
+    ++ codes "#define PLAN_OWNER_OF_WEST(word) ((word) >> PLAN_BIT_ZONE_WEST & 3)\n"
+    ++ codes "#define PLAN_PLATE_IN_WEST(word) 0\n" ++ codes "#define PLAN_POSTURE_OF_WEST(word) PLAN_POSTURE_CLOSED\n"
+
 -- lines of plans whose zones have different hosts, whose poses are of different machines, and where a machine keeps two
 -- places
 pub record PartyLines : Type 0 where
@@ -84,12 +94,39 @@ pub record PartyLines : Type 0 where
       ++ codes "#define PLAN_KEEPER_OF_SECOND PLAN_MACHINE_LOCK\n"
       ++ codes "#define PLAN_KEEPER_OF_QUAY PLAN_MACHINE_LAKE\n"
       ++ codes "#define PLAN_KEEPER_OF_PIER PLAN_MACHINE_SEA\n"
-  -- ten bits of two zones, four of places
+  -- four bits of two zones that nothing opens, four of places
   pub bits : header.bit_lines gates
-      ≡ codes "#define PLAN_BIT_ZONE_EAST 0\n" ++ codes "#define PLAN_BIT_ZONE_WEST 5\n"
-      ++ codes "#define PLAN_BIT_PLACE_FIRST 10\n" ++ codes "#define PLAN_BIT_PLACE_SECOND 11\n"
-      ++ codes "#define PLAN_BIT_PLACE_QUAY 12\n" ++ codes "#define PLAN_BIT_PLACE_PIER 13\n"
-      ++ codes "#define PLAN_BIT_STAMP 14\n" ++ codes "#define PLAN_BIT_STOP 34\n"
+      ≡ codes "#define PLAN_BIT_ZONE_EAST 0\n" ++ codes "#define PLAN_BIT_ZONE_WEST 2\n"
+      ++ codes "#define PLAN_BIT_PLACE_FIRST 4\n" ++ codes "#define PLAN_BIT_PLACE_SECOND 5\n"
+      ++ codes "#define PLAN_BIT_PLACE_QUAY 6\n" ++ codes "#define PLAN_BIT_PLACE_PIER 7\n"
+      ++ codes "#define PLAN_BIT_STAMP 8\n" ++ codes "#define PLAN_BIT_STOP 28\n"
+
+-- a rack that two share, and a press, where a plate has a way: the rack's host opens it, and else it is closed
+abbrev pub rack : Named
+rack =
+    named rack_table (codes "left_arm" ∷ codes "right_arm" ∷ codes "left_press" ∷ codes "right_press" ∷ [])
+    (codes "rack" ∷ codes "left" ∷ codes "right" ∷ []) [] []
+
+-- a zone into which plates come, and whose host opens it for them, or shuts it
+abbrev pub inlet : Named
+inlet = named (gated_table 1 2) (codes "arm" ∷ codes "press" ∷ []) (codes "inlet" ∷ []) [] []
+
+pub record ReadingLines : Type 0 where
+  pub flag_and_two : reading.zone_reading rack 1
+      ≡ codes "#define PLAN_OWNER_OF_LEFT(word) ((word) >> PLAN_BIT_ZONE_LEFT & 3)\n"
+      ++ codes "#define PLAN_PLATE_IN_LEFT(word) ((word) >> (PLAN_BIT_ZONE_LEFT + 2) & 1)\n"
+      ++ codes "#define PLAN_POSTURE_OF_LEFT(word) ((word) >> (PLAN_BIT_ZONE_LEFT + 3) & 3)\n"
+  pub flag_and_one : reading.zone_reading inlet 0
+      ≡ codes "#define PLAN_OWNER_OF_INLET(word) ((word) >> PLAN_BIT_ZONE_INLET & 3)\n"
+      ++ codes "#define PLAN_PLATE_IN_INLET(word) ((word) >> (PLAN_BIT_ZONE_INLET + 2) & 1)\n"
+      ++ codes "#define PLAN_POSTURE_OF_INLET(word) ((word) >> (PLAN_BIT_ZONE_INLET + 3) & 1 "
+      ++ codes "? PLAN_POSTURE_OPENIN : PLAN_POSTURE_CLOSED)\n"
+  pub one : reading.zone_reading rack 0
+      ≡ codes "#define PLAN_OWNER_OF_RACK(word) ((word) >> PLAN_BIT_ZONE_RACK & 3)\n"
+      ++ codes "#define PLAN_PLATE_IN_RACK(word) 0\n"
+      ++ codes "#define PLAN_POSTURE_OF_RACK(word) ((word) >> (PLAN_BIT_ZONE_RACK + 2) & 1 "
+      ++ codes "? PLAN_POSTURE_OPENIN : PLAN_POSTURE_CLOSED)\n"
+  pub owner_alone : reading.readings_part gates ≡ READINGS.now ++ gates_readings
 
 abbrev pub gates_bytes : Text
 gates_bytes =
@@ -121,8 +158,10 @@ pub record WholeHeaders : Type 0 where
       ++ codes "\n/* Who hosts a zone, who is its guest, and who keeps a place. */\n" ++ header.party_lines gates
   pub word : header.word_part gates
       ≡ CODES.now ++ header.bit_lines gates
-      ++ codes "#define PLAN_BITS_ZONE 5\n" ++ codes "#define PLAN_BITS_PLACE 1\n"
-      ++ codes "#define PLAN_BITS_STAMP 20\n" ++ codes "#define PLAN_BITS_STOP 1\n" ++ codes "#define PLAN_BITS 35\n"
+      ++ codes "#define PLAN_BITS_ZONE_EAST 2\n" ++ codes "#define PLAN_BITS_ZONE_WEST 2\n"
+      ++ codes "#define PLAN_BITS_PLACE 1\n"
+      ++ codes "#define PLAN_BITS_STAMP 20\n" ++ codes "#define PLAN_BITS_STOP 1\n" ++ codes "#define PLAN_BITS 29\n"
+      ++ READINGS.now ++ gates_readings
   pub bytes : header.bytes_part gates ≡ gates_bytes
   pub with_motors : header_text gates (codes "fan" ∷ []) (fan ∷ []) [] []
       ≡ header.names_part gates ++ (header.parties_part gates ++ (header.word_part gates

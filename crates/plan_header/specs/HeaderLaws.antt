@@ -1,18 +1,24 @@
 -- What each line of a header or a module says, for all names, numbers, motors and bytes: in the plan's own words.
-use Rattle.std.specs.Prelude.{◌≡◌, ◌<◌, ℕ, ◌+◌, ◌*◌, List, [], ◌∷◌, ◌++◌, codes, flat_map, get_or, length}
+use Rattle.std.specs.Prelude.{◌≡◌, ◌<◌, ℕ, ◌+◌, ◌*◌, true, false, List, [], ◌∷◌, ◌++◌, codes, flat_map, get_or, length}
 use Rattle.std.specs.Fmt.{decimal}
 use Rattle.std.specs.List.{range_with_len}
-use Rattle.plan_types.specs.Table.{guest_of, host_of, keeper_of, machine_of, place_count, zone_count}
+use Rattle.plan_types.specs.declared.posture.Posture.TheVariants.{Moving, OpenIn, OpenOut}
+use Rattle.plan_types.specs.declared.shape.Postures.TheVariants.{Shut, Two, All}
+use Rattle.plan_types.specs.Table.{guest_of, host_of, keeper_of, machine_of, place_count, zone_count, zone_shape}
 use Rattle.plan_types.specs.Bytes.{bytes_of}
 use Rattle.plan_motors.specs.declared.motor.Motor.{Motor}
 use Rattle.plan_motors.specs.Mask.{mask_of, pattern_of}
 use Rattle.plan_motors.specs.OfPlan.{motor_at}
+use Rattle.plan_word.specs.Layout.{bits_of, counts_of, zones_end}
+use Rattle.plan_word.specs.declared.layout.Field.TheVariants.{Zone}
 use Rattle.plan_text.specs.Names.{Text, name_in}
 use Rattle.plan_text.specs.Named.{Named}
 use Rattle.plan_header.specs.Headers as header
 use Rattle.plan_header.specs.Modules as python
+use Rattle.plan_header.specs.Readings as reading
 use Rattle.plan_header.specs.declared.motors.TheConstants.{MOTORS}
 use Rattle.plan_header.specs.declared.python.TheConstants.{MODULE, PLANT}
+use Rattle.plan_header.specs.declared.readings.TheConstants.{READINGS}
 use Rattle.plan_header.specs.Words.{capitals}
 
 -- each byte of a name in capitals: `a` is 97, `z` is 122, and `A` is 65; what is no letter from `a` to `z` stays
@@ -60,23 +66,75 @@ pub record NumbersAreTold : Type 0 where
       → header.party_lines n
       ≡ for_each (length n.zones) (header.zone_parties n) ++ for_each (length n.places) (header.keeper_line n)
 
--- the lowest bits: five for each zone, one for each place, twenty for the stamp, and one for the stop
+-- where the zones end
+abbrev pub zones_of : Named → ℕ
+zones_of n = zones_end (counts_of n.plan) (zone_count n.plan)
+
+-- the lowest bits: those of each zone, one for each place, twenty for the stamp, and one for the stop
 pub record BitsAreTold : Type 0 where
   pub zone : (n : Named) (k : ℕ) → k < zone_count n.plan
-      → header.zone_bit n k ≡ stands (codes "bit_zone_" ++ name_in n.zones k) (decimal (5 * k))
+      → header.zone_bit n k ≡ stands (codes "bit_zone_" ++ name_in n.zones k) (decimal (zones_end (counts_of n.plan) k))
   pub place : (n : Named) (k : ℕ) → k < place_count n.plan
       → header.place_bit n k
-      ≡ stands (codes "bit_place_" ++ name_in n.places k) (decimal (5 * zone_count n.plan + k))
+      ≡ stands (codes "bit_place_" ++ name_in n.places k) (decimal (zones_of n + k))
   pub last : (n : Named)
       → header.last_bits n
-      ≡ stands (codes "bit_stamp") (decimal (5 * zone_count n.plan + place_count n.plan))
-      ++ stands (codes "bit_stop") (decimal (5 * zone_count n.plan + place_count n.plan + 20))
+      ≡ stands (codes "bit_stamp") (decimal (zones_of n + place_count n.plan))
+      ++ stands (codes "bit_stop") (decimal (zones_of n + place_count n.plan + 20))
   pub all : (n : Named)
       → header.bit_lines n
       ≡ for_each (length n.zones) (header.zone_bit n)
       ++ (for_each (length n.places) (header.place_bit n) ++ header.last_bits n)
+  pub size : (n : Named) (k : ℕ)
+      → header.zone_size n k
+      ≡ stands (codes "bits_zone_" ++ name_in n.zones k) (decimal (bits_of (counts_of n.plan) (Zone k)))
+  pub sizes : (n : Named) → header.zone_sizes n ≡ for_each (length n.zones) (header.zone_size n)
   pub width : (n : Named)
-      → header.width_line n ≡ stands (codes "bits") (decimal (5 * zone_count n.plan + place_count n.plan + 21))
+      → header.width_line n ≡ stands (codes "bits") (decimal (zones_of n + place_count n.plan + 21))
+
+-- a macro of a word, by a name in capitals, and what stands for it up to the end of its line
+abbrev pub reads : Text → Text → Text
+reads name meaning = codes "#define PLAN_" ++ (capitals name ++ (codes "(word) " ++ meaning))
+
+-- bits of a zone, from the one so many above its lowest, and what is done with them
+abbrev pub bits_above : Text → ℕ → Text → Text
+bits_above zone above rest =
+    codes "((word) >> (PLAN_BIT_ZONE_" ++ (capitals zone ++ (codes " + " ++ (decimal above ++ (codes ") & " ++ rest))))
+
+-- how C reads a zone: the two lowest bits tell its owner; the third, if a plate has a way through it, whether one is in
+-- it; and those above its posture, as the postures are that poses give it
+pub record ReadingsAreTold : Type 0 where
+  pub owner : (zone : Text)
+      → reading.owner_reading (capitals zone)
+      ≡ reads (codes "owner_of_" ++ zone) (codes "((word) >> PLAN_BIT_ZONE_" ++ (capitals zone ++ codes " & 3)\n"))
+  pub plate : (zone : Text)
+      → reading.plate_reading true (capitals zone)
+      ≡ reads (codes "plate_in_" ++ zone)
+      (codes "((word) >> (PLAN_BIT_ZONE_" ++ (capitals zone ++ codes " + 2) & 1)\n"))
+  pub no_plate : (zone : Text)
+      → reading.plate_reading false (capitals zone) ≡ reads (codes "plate_in_" ++ zone) (codes "0\n")
+  pub shut : (zone : Text) (above : ℕ)
+      → reading.posture_reading Shut above (capitals zone)
+      ≡ reads (codes "posture_of_" ++ zone) (codes "PLAN_POSTURE_CLOSED\n")
+  pub moving : (zone : Text) (above : ℕ)
+      → reading.posture_reading (Two Moving) above (capitals zone)
+      ≡ reads (codes "posture_of_" ++ zone)
+      (bits_above zone above (codes "1 ? PLAN_POSTURE_MOVING : PLAN_POSTURE_CLOSED)\n"))
+  pub open_in : (zone : Text) (above : ℕ)
+      → reading.posture_reading (Two OpenIn) above (capitals zone)
+      ≡ reads (codes "posture_of_" ++ zone)
+      (bits_above zone above (codes "1 ? PLAN_POSTURE_OPENIN : PLAN_POSTURE_CLOSED)\n"))
+  pub open_out : (zone : Text) (above : ℕ)
+      → reading.posture_reading (Two OpenOut) above (capitals zone)
+      ≡ reads (codes "posture_of_" ++ zone)
+      (bits_above zone above (codes "1 ? PLAN_POSTURE_OPENOUT : PLAN_POSTURE_CLOSED)\n"))
+  pub all : (zone : Text) (above : ℕ)
+      → reading.posture_reading All above (capitals zone)
+      ≡ reads (codes "posture_of_" ++ zone) (bits_above zone above (codes "3)\n"))
+  pub zone : (n : Named) (k : ℕ)
+      → reading.zone_reading n k ≡ reading.readings_of (zone_shape n.plan k) (capitals (name_in n.zones k))
+  pub each : (n : Named)
+      → reading.readings_part n ≡ READINGS.now ++ for_each (length n.zones) (reading.zone_reading n)
 
 -- the plan's bytes: a line feed before the first of each eight, a blank before each other one
 pub record BytesAreTold : Type 0 where
@@ -142,5 +200,6 @@ pub record HeadersTell : Type 0 where
   pub numbers : NumbersAreTold
   pub bits : BitsAreTold
   pub bytes : BytesAreTold
+  pub readings : ReadingsAreTold
   pub masks : MasksAreTold
   pub modules : ModulesAreTold

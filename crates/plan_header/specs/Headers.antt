@@ -5,7 +5,7 @@ use Rattle.std.specs.Fmt.{decimal}
 use Rattle.std.specs.List.{range_with_len}
 use Rattle.plan_types.specs.Table.{guest_of, host_of, keeper_of, machine_of}
 use Rattle.plan_types.specs.Bytes.{bytes_of}
-use Rattle.plan_word.specs.Layout.{Counts, counts_of, has, start_of, width_of}
+use Rattle.plan_word.specs.Layout.{Counts, bits_of, counts_of, has, start_of, width_of}
 use Rattle.plan_word.specs.declared.layout.Field.{Field}
 use Rattle.plan_word.specs.declared.layout.Field.TheVariants.{Zone, Place, Stamp, Stop}
 use Rattle.plan_motors.specs.declared.motor.Motor.{Motor}
@@ -14,6 +14,7 @@ use Rattle.plan_motors.specs.OfPlan.{motor_at}
 use Rattle.plan_text.specs.Names.{Text, name_in}
 use Rattle.plan_text.specs.Named.{Named}
 use Rattle.plan_header.specs.Words.{capitals, machine_name, zone_name}
+use Rattle.plan_header.specs.Readings.{readings_part}
 use Rattle.plan_header.specs.declared.header.TheConstants.{BEGIN, ZONES, PLACES, POSES, PARTIES, CODES, BITS}
 use Rattle.plan_header.specs.declared.header.TheConstants.{BYTES, END}
 use Rattle.plan_header.specs.declared.motors.TheConstants.{MOTORS}
@@ -139,11 +140,27 @@ names_part n = machines_part n ++ (zones_part n ++ places_part n)
 abbrev pub parties_part : Named → Text
 parties_part n = POSES.now ++ (pose_lines n ++ (PARTIES.now ++ party_lines n))
 
+-- how many bits each zone has
+abbrev pub size_line : Counts → Field → Text → Text
+size_line c field name = define_line name (bits_of c field)
+
+abbrev pub zone_size : Named → ℕ → Text
+zone_size n zone = size_line (counts_of n.plan) (Zone zone) (codes "bits_zone_" ++ zone_name n zone)
+
+abbrev pub zone_sizes : Named → Text
+zone_sizes n = flat_map (zone_size n) (range_with_len 0 (length n.zones))
+
 abbrev pub width_line : Named → Text
 width_line n = define_line (codes "bits") (width_of (counts_of n.plan))
 
+abbrev pub fields_part : Named → Text
+fields_part n = CODES.now ++ bit_lines n
+
+abbrev pub sizes_part : Named → Text
+sizes_part n = zone_sizes n ++ (BITS.now ++ width_line n)
+
 abbrev pub word_part : Named → Text
-word_part n = CODES.now ++ (bit_lines n ++ (BITS.now ++ width_line n))
+word_part n = fields_part n ++ (sizes_part n ++ readings_part n)
 
 abbrev pub table_text : List ℕ → Text
 table_text bytes = BYTES.now ++ (byte_words bytes ++ END.now)

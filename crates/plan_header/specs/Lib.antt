@@ -1,4 +1,5 @@
 pub mod Words
+pub mod Readings
 pub mod Headers
 pub mod Turns
 pub mod Printed

@@ -9,6 +9,7 @@ ghost use Rattle.plan_header.specs.Words as words;
 
 use crate::lists::push_lists_part;
 use crate::motors::push_motors_part;
+use crate::readings::push_readings;
 use crate::turns::push_turns_part;
 use plan_document::ProgrammedPlan;
 use plan_text::{NamedPlan, Names};
@@ -20,7 +21,8 @@ use std::alloc::{AllocError, Global};
 const BEGIN: &str = "\
 /* A plan's names and the layout of its word, as `plan header` prints them. The word of a state has the fields below,
    from the lowest bit: the zones, the places, the stamp and the stop. A zone's bits are, from the lowest, two for its
-   owner, one for its flag (a plate is in it) and two for its posture. */
+   owner, one for its flag (a plate is in it) if a plate has a way through it, and for its posture two; or one, 0 for
+   closed, if poses give it one other posture; or none, if it is always closed. */
 #ifndef PLAN_H
 #define PLAN_H
 
@@ -47,7 +49,7 @@ const PARTIES: &str = "\n/* Who hosts a zone, who is its guest, and who keeps a 
 
 /// What each plan has.
 const CODES: &str = "
-/* Of a zone's field: who owns it, and its posture. */
+/* Who owns a zone, and its posture. */
 enum plan_owner { PLAN_OWNER_FREE = 0, PLAN_OWNER_HOST = 1, PLAN_OWNER_GUEST = 2 };
 enum plan_posture {
     PLAN_POSTURE_CLOSED = 0,
@@ -59,9 +61,8 @@ enum plan_posture {
 /* The lowest bit of each field, and how many bits a field has. */
 ";
 
-/// How many bits the fields of each plan have.
+/// How many bits the fields of each plan have; its zones have their own.
 const BITS: &str = "\
-#define PLAN_BITS_ZONE 5
 #define PLAN_BITS_PLACE 1
 #define PLAN_BITS_STAMP 20
 #define PLAN_BITS_STOP 1
@@ -379,10 +380,71 @@ fn push_role_words(text: &mut String, role: &str, machine: &str) -> Result<(), A
 fn push_word_part(alloc: Global, text: &mut String, named: &NamedPlan) -> Result<(), AllocError>
     ensures { OnOk result (string_bytes text.new ≡ string_bytes text.old ++ spec.word_part named.now) }
 {
+    push_fields_part(alloc, text, named)?;
+    push_sizes_part(alloc, text, named)?;
+    push_readings(alloc, text, named)
+}
+
+/// Adds the lowest bit of each field.
+fn push_fields_part(alloc: Global, text: &mut String, named: &NamedPlan) -> Result<(), AllocError>
+    ensures { OnOk result (string_bytes text.new ≡ string_bytes text.old ++ spec.fields_part named.now) }
+{
     text.push_str(CODES)?;
-    push_bits(alloc, text, named)?;
+    push_bits(alloc, text, named)
+}
+
+/// Adds how many bits fields have.
+fn push_sizes_part(alloc: Global, text: &mut String, named: &NamedPlan) -> Result<(), AllocError>
+    ensures { OnOk result (string_bytes text.new ≡ string_bytes text.old ++ spec.sizes_part named.now) }
+{
+    push_zone_sizes(alloc, text, named)?;
     text.push_str(BITS)?;
     push_width(alloc, text, named)
+}
+
+/// Adds how many bits each zone has.
+fn push_zone_sizes(alloc: Global, text: &mut String, named: &NamedPlan) -> Result<(), AllocError>
+    ensures { OnOk result (string_bytes text.new ≡ string_bytes text.old ++ spec.zone_sizes named.now) }
+{
+    'zones: for zone in 0..named.zones().len() as u8 {
+        push_zone_size(alloc, text, named, zone)?;
+    }
+    Ok(())
+}
+
+/// Adds how many bits a zone has.
+fn push_zone_size(
+    alloc: Global,
+    text: &mut String,
+    named: &NamedPlan,
+    zone: u8,
+) -> Result<(), AllocError>
+    ensures { OnOk result (string_bytes text.new ≡ string_bytes text.old ++ spec.zone_size named.now zone) }
+{
+    let name = named.zones().name(zone);
+    let layout = named.layout();
+    push_size(alloc, text, layout, Field::Zone(zone), "bits_zone_", name)
+}
+
+/// Adds how many bits a field has.
+fn push_size(
+    alloc: Global,
+    text: &mut String,
+    layout: Layout,
+    field: Field,
+    kind: &str,
+    name: &str,
+) -> Result<(), AllocError>
+    ensures { OnOk result
+        (string_bytes text.new ≡ string_bytes text.old ++ spec.size_line layout field (kind.now ++ name.now)) }
+{
+    let word = format!(in alloc; "{kind}{name}")?;
+    push_define(
+        alloc,
+        text,
+        word.as_str(),
+        usize::from(layout.bits_of(field)),
+    )
 }
 
 /// Adds how many bits the word has.

@@ -1,6 +1,7 @@
 //! Laws of what is printed, each the contract of a function that does nothing.
 
-ghost use Rattle.plan_header.specs.HeaderExamples.{CapitalsAreMade, HeaderLines, MaskLines, PartyLines, WholeHeaders};
+ghost use Rattle.plan_header.specs.HeaderExamples.{CapitalsAreMade, HeaderLines, MaskLines, PartyLines};
+ghost use Rattle.plan_header.specs.HeaderExamples.{ReadingLines, WholeHeaders};
 ghost use Rattle.plan_header.specs.HeaderLaws.{HeadersTell};
 ghost use Rattle.plan_header.specs.ModuleExamples.{ModuleLines, WholeModules};
 ghost use Rattle.plan_header.specs.TurnExamples.{TurnLines};
@@ -13,8 +14,8 @@ pub fn header_lines_are_met()
 {}
 
 /// Each line of a header and of a module, for all names, numbers and bytes: each byte of a name in capitals, the
-/// numbers of names, the machines of zones, places and poses, the bits of fields, the masks of motors, and the bytes,
-/// eight in a line.
+/// numbers of names, the machines of zones, places and poses, the bits of fields, how C reads zones, the masks of
+/// motors, and the bytes, eight in a line.
 pub fn headers_tell()
     ensures { HeadersTell }
 {}
@@ -22,6 +23,11 @@ pub fn headers_tell()
 /// Examples: lines of headers where hosts, keepers and the machines of poses differ.
 pub fn party_lines_are_met()
     ensures { PartyLines }
+{}
+
+/// Examples: how C reads zones of two, three, four and five bits.
+pub fn readings_are_met()
+    ensures { ReadingLines }
 {}
 
 /// Examples: the masks of a lift's motors in its header.

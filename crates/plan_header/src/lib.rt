@@ -6,6 +6,7 @@ pub mod laws;
 mod lists;
 mod motors;
 pub mod python;
+mod readings;
 mod turns;
 
 pub use header::header_of;

@@ -4,7 +4,7 @@ use Rattle.plan_types.specs.Table.{PlanTable, zone_count, place_count}
 use Rattle.plan_rules.specs.declared.state.ZoneState.{ZoneState}
 use Rattle.plan_rules.specs.declared.state.State.{State}
 use Rattle.plan_rules.specs.Sound.{IsSound, IsLawfulZone}
-use Rattle.plan_word.specs.OfPlan.{IsOfPlan}
+use Rattle.plan_word.specs.OfPlan.{IsWithin}
 use Rattle.plan_motors.specs.declared.motor.Motor.{Motor}
 use Rattle.plan_motors.specs.declared.exclusion.Cause.TheVariants.{Zone, Place}
 use Rattle.plan_motors.specs.declared.exclusion.Exclusion.{Exclusion}
@@ -30,7 +30,7 @@ IsApartByPlace a b p =
 abbrev pub IsShown : PlanTable → Motor → Motor → Exclusion → Type 0
 IsShown t a b (Excluded (Zone z)) = (z < zone_count t) × IsApartByZone t a b z
 IsShown t a b (Excluded (Place p)) = (p < place_count t) × IsApartByPlace a b p
-IsShown t a b (Possible s) = IsOfPlan t s × Permits t s a × Permits t s b
+IsShown t a b (Possible s) = IsWithin t s × Permits t s a × Permits t s b
 
 abbrev pub is_excluded : Exclusion → Bool
 is_excluded (Excluded _) = true

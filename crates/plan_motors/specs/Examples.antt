@@ -3,7 +3,7 @@ use Rattle.std.specs.Prelude.{◌≡◌, ℕ, ◌-◌, Bool, true, false, [], �
 use Rattle.plan_types.specs.declared.posture.Posture.{Posture}
 use Rattle.plan_types.specs.declared.posture.Posture.TheVariants.{Closed, Moving, OpenIn, OpenOut}
 use Rattle.plan_types.specs.Table.{PlanTable, plan_table}
-use Rattle.plan_types.specs.Examples.{press_table, lift_table, counted, zone}
+use Rattle.plan_types.specs.Examples.{press_table, lift_table, roads_table, rack_table, counted, wide_table, zone, pose}
 use Rattle.plan_rules.specs.declared.state.ZoneState.{ZoneState}
 use Rattle.plan_rules.specs.State.{free_zone}
 use Rattle.plan_motors.specs.declared.motor.ZoneNeed.{ZoneNeed}
@@ -63,7 +63,10 @@ choosy machine = record {
 
 -- machine 1 hosts the first zone, and is the guest at the second
 abbrev pub chain_table : PlanTable
-chain_table = plan_table 3 (zone 1 0 None None ∷ zone 2 1 None None ∷ []) [] (0 ∷ 1 ∷ 2 ∷ [])
+chain_table =
+    plan_table 3 (zone 1 0 None None ∷ zone 2 1 None None ∷ [])
+    (pose 1 false (Some Moving) None ∷ pose 1 false (Some OpenIn) None ∷ pose 2 false None (Some OpenOut)
+    ∷ pose 2 false None (Some OpenIn) ∷ []) (0 ∷ 1 ∷ 2 ∷ [])
 
 abbrev pub hazard : ℕ → ℕ → Hazard
 hazard a b = record { first = a; second = b }
@@ -153,14 +156,24 @@ pub record MasksAreRight : Type 0 where
   pub upper_mask : mask_of lift_table upper_gate ≡ 0x60
   pub upper_pattern : pattern_of lift_table upper_gate ≡ 0x40
   -- five bits of each of eight zones, from bit 0, and three places, from bit 40; by the host, the guest and a stranger
-  pub choosy_mask : mask_of (counted 8 3) (choosy 1) ≡ 0x6DE37BC6060
-  pub host_pattern : pattern_of (counted 8 3) (choosy 1) ≡ 0x24C33140020
-  pub guest_pattern : pattern_of (counted 8 3) (choosy 0) ≡ 0x25435240040
-  pub stranger_pattern : pattern_of (counted 8 3) (choosy 2) ≡ 0x25C37340060
-  pub eighth_mask : mask_of (counted 8 0) (at_zone 1 7 (held None)) ≡ 0x1800000000
+  pub choosy_mask : mask_of (wide_table 8 3) (choosy 1) ≡ 0x6DE37BC6060
+  pub host_pattern : pattern_of (wide_table 8 3) (choosy 1) ≡ 0x24C33140020
+  pub guest_pattern : pattern_of (wide_table 8 3) (choosy 0) ≡ 0x25435240040
+  pub stranger_pattern : pattern_of (wide_table 8 3) (choosy 2) ≡ 0x25C37340060
+  pub eighth_mask : mask_of (wide_table 8 2) (at_zone 1 7 (held None)) ≡ 0x1800000000
   pub sixteenth_mask : mask_of (counted 0 16) (at_place 0 15 false) ≡ 0x8000
   -- a host of one zone that is the guest at the next
-  pub chain_pattern : pattern_of chain_table (motor 1 (held (Some Moving)) (held (Some OpenOut)) None None) ≡ 0x349
+  pub chain_pattern : pattern_of chain_table (motor 1 (held (Some Moving)) (held (Some OpenOut)) None None) ≡ 0xE5
+  -- zones of three and of four bits: a rack that opens, roads that move, and gates
+  pub rack_mask : mask_of rack_table (motor 0 (held (Some OpenIn)) (held None) None None) ≡ 0x1F
+  pub rack_pattern : pattern_of rack_table (motor 0 (held (Some OpenIn)) (held None) None None) ≡ 0x15
+  pub shut_rack : pattern_of rack_table (motor 0 (hosted Closed) no_need None None) ≡ 0
+  pub shut_rack_mask : mask_of rack_table (motor 0 (hosted Closed) no_need None None) ≡ 0x4
+  pub roads_mask : mask_of roads_table (motor 0 (held (Some Moving)) (hosted OpenIn) None None) ≡ 0xCF
+  pub roads_pattern : pattern_of roads_table (motor 0 (held (Some Moving)) (hosted OpenIn) None None) ≡ 0x85
+  -- a posture that the zone never has: its owner would have the spare code
+  pub never_mask : mask_of rack_table (motor 0 (hosted Moving) no_need None None) ≡ 0x7
+  pub never_pattern : pattern_of rack_table (motor 0 (hosted Moving) no_need None None) ≡ 0x7
   pub is_mask : IsMaskOf press_table ram (record { mask = 0x1B; pattern = 0x09 })
   pub other_mask : ¬ IsMaskOf press_table ram (record { mask = 0x03; pattern = 0x09 })
   pub other_pattern : ¬ IsMaskOf press_table ram (record { mask = 0x1B; pattern = 0x01 })

@@ -2,7 +2,7 @@
 use Rattle.std.specs.Prelude.{ℕ, ◌<◌, ◌≤◌, Bool, ◌||◌, List, length, get_or, replicate, None, is_some, IsTrue}
 use Rattle.plan_types.specs.Table.{PlanTable, is_party, is_hosted, is_place_of}
 use Rattle.plan_rules.specs.declared.state.State.{State}
-use Rattle.plan_word.specs.OfPlan.{IsOfPlan}
+use Rattle.plan_word.specs.OfPlan.{IsWithin}
 use Rattle.plan_motors.specs.declared.motor.ZoneNeed.{ZoneNeed}
 use Rattle.plan_motors.specs.declared.motor.Motor.{Motor}
 use Rattle.plan_motors.specs.declared.motor.Hazard.{Hazard}
@@ -20,7 +20,7 @@ pub record IsMotorOf (t : PlanTable) (m : Motor) : Type 0 where
   pub posture_is_kept : (z : ℕ) → z < 10 → IsTrue (is_some (need_of m z).posture)
       → IsTrue ((need_of m z).holds || is_hosted t z m.machine)
   pub place_is_own : (p : ℕ) → p < 16 → IsTrue (is_some (place_need m p)) → IsTrue (is_place_of t p m.machine)
-  pub can_be : (s : State) × IsOfPlan t s × Permits t s m
+  pub can_be : (s : State) × IsWithin t s × Permits t s m
 
 -- past the end of the table stands a motor that needs nothing
 abbrev pub no_motor : Motor

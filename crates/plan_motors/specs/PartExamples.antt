@@ -15,6 +15,8 @@ use Rattle.plan_motors.specs.OfPlan.{is_needed, motor_at, hazard_at, IsMotorOf, 
 use Rattle.plan_motors.specs.Exclusion as excluding
 use Rattle.plan_motors.specs.Decided.{IsShown, IsApartByPlace}
 use Rattle.plan_motors.specs.Laws.{LosesPermission, KeepsPermission, MayStillRun, MayRun}
+use Rattle.plan_types.specs.declared.shape.Postures.TheVariants.{All}
+use Rattle.plan_word.specs.Layout.{wide_shape}
 use Rattle.plan_motors.specs.Mask as masks
 use Rattle.plan_motors.specs.Poses as poses
 use Rattle.plan_motors.specs.Examples.{owned, held, hosted, motor, at_zone, at_place, hazard, ram, arm, loading_arm}
@@ -83,16 +85,16 @@ pub record ExclusionParts : Type 0 where
       ≡ false ∷ true ∷ false ∷ false ∷ []
 
 pub record MaskParts : Type 0 where
-  pub zones : map masks.zone_mask needs ≡ 0 ∷ 3 ∷ 24 ∷ 27 ∷ []
+  pub zones : map (masks.zone_mask wide_shape) needs ≡ 0 ∷ 3 ∷ 24 ∷ 27 ∷ []
   pub parties : map (masks.party_code lift_table 1) (0 ∷ 1 ∷ 2 ∷ []) ≡ 1 ∷ 3 ∷ 2 ∷ []
   pub parties_below : map (masks.party_code lift_table 0) (0 ∷ 1 ∷ 2 ∷ []) ≡ 1 ∷ 2 ∷ 3 ∷ []
-  pub postures : map masks.posture_bits (None ∷ Some Closed ∷ Some Moving ∷ Some OpenIn ∷ Some OpenOut ∷ [])
+  pub postures : map (masks.posture_pattern All) (None ∷ Some Closed ∷ Some Moving ∷ Some OpenIn ∷ Some OpenOut ∷ [])
       ≡ 0 ∷ 0 ∷ 1 ∷ 2 ∷ 3 ∷ []
   pub patterns : map (masks.zone_pattern lift_table 1 2) needs ≡ 0 ∷ 2 ∷ 24 ∷ 10 ∷ []
   pub place_masks : map masks.place_mask (None ∷ Some false ∷ Some true ∷ []) ≡ 0 ∷ 1 ∷ 1 ∷ []
   pub place_patterns : map masks.place_pattern (None ∷ Some false ∷ Some true ∷ []) ≡ 0 ∷ 0 ∷ 1 ∷ []
   -- by how many zones, and places
-  pub zone_masks : map (masks.zone_masks hoist) (0 ∷ 1 ∷ 2 ∷ []) ≡ 0 ∷ 27 ∷ 795 ∷ []
+  pub zone_masks : map (masks.zone_masks lift_table hoist) (0 ∷ 1 ∷ 2 ∷ []) ≡ 0 ∷ 27 ∷ 795 ∷ []
   pub zone_patterns : map (masks.zone_patterns lift_table hoist) (0 ∷ 1 ∷ 2 ∷ []) ≡ 0 ∷ 9 ∷ 9 ∷ []
   pub masks_of_places : map (masks.place_masks lift_table hoist) (0 ∷ 1 ∷ 2 ∷ 3 ∷ []) ≡ 0 ∷ 1024 ∷ 3072 ∷ 3072 ∷ []
   pub patterns_of_places : map (masks.place_patterns lift_table hoist) (0 ∷ 1 ∷ 2 ∷ 3 ∷ []) ≡ 0 ∷ 0 ∷ 2048 ∷ 2048 ∷ []

@@ -3,15 +3,17 @@ ghost use Rattle.std.specs.Prelude.{◌≡◌, ℕ, ◌+◌, ◌*◌, ◌/◌, �
 ghost use Rattle.plan_rules.specs.State.{one_if};
 ghost use Rattle.plan_types.specs.Table.{PlanTable, zone_count, place_count};
 ghost use Rattle.plan_rules.specs.declared.state.State.{State};
-ghost use Rattle.plan_word.specs.Packed as packing;
+ghost use Rattle.plan_types.specs.Table.{posture_bits, postures_of, shape_bits, zone_shape};
+ghost use Rattle.plan_word.specs.Layout.{counts_of};
 ghost use Rattle.plan_word.specs.Packed.{packed};
 ghost use Rattle.plan_word.specs.OfPlan.{IsOfPlan};
 ghost use Rattle.plan_motors.specs.Motor.{Permits};
 ghost use Rattle.plan_motors.specs.Mask as masks;
 
 use crate::motor::{Motor, ZoneNeed};
-use plan_types::{Plan, Posture};
+use plan_types::{Plan, Posture, Postures, ZoneShape};
 use plan_word::laws::words_are_laid_out;
+use plan_word::{Field, Layout, can_have, code_of};
 
 /// Which bits of a plan's word a motor looks at, and what they have to be.
 #[derive(Clone, Copy, Debug, PartialEq, Eq)]
@@ -34,13 +36,55 @@ fn with_bits(word: u64, lowest: u32, width: u32, value: u64) -> u64
     word | value << lowest
 }
 
-fn zone_mask(need: ZoneNeed) -> u64
-    ensures mask { result ≡ masks.zone_mask need }
-    ensures fits { result < 32 }
+/// Whether the posture that is needed is none that the zone's field tells, so no state of the plan has it.
+fn is_never(shape: ZoneShape, posture: Option<Posture>) -> bool
+    ensures { result ≡ masks.is_never shape posture }
 {
-    let owner = if need.holds { 0b11 } else { 0 };
-    let posture = if need.posture.is_some() { 0b11 } else { 0 };
-    owner + posture * 8
+    match posture {
+        None => false,
+        Some(posture) => !can_have(shape.postures(), posture),
+    }
+}
+
+fn owner_mask(shape: ZoneShape, need: ZoneNeed) -> u64
+    ensures mask { result ≡ masks.owner_mask shape need }
+    ensures fits { result < 4 }
+{
+    if need.holds || is_never(shape, need.posture) {
+        0b11
+    } else {
+        0
+    }
+}
+
+fn posture_mask(postures: Postures, posture: Option<Posture>) -> u64
+    ensures mask { result ≡ masks.posture_mask postures posture }
+    ensures fits { result < 2 ^ posture_bits postures }
+{
+    match (posture, postures) {
+        (None, _) | (_, Postures::Shut) => 0,
+        (Some(_), Postures::Two(_)) => 0b1,
+        (Some(_), Postures::All) => 0b11,
+    }
+}
+
+/// The bits of a zone, from those of its owner and of its posture.
+fn zone_bits_of(shape: ZoneShape, owner: u64, posture: u64) -> u64
+    requires owner { owner < 4 }
+    requires posture { posture < 2 ^ posture_bits (postures_of shape) }
+    ensures bits { result ≡ owner + posture * 2 ^ masks.posture_start shape }
+    ensures fits { result < 2 ^ shape_bits shape }
+{
+    let start = 2 + u32::from(shape.flag);
+    with_bits(owner, start, u32::from(shape.postures().bits()), posture)
+}
+
+fn zone_mask(shape: ZoneShape, need: ZoneNeed) -> u64
+    ensures mask { result ≡ masks.zone_mask shape need }
+    ensures fits { result < 2 ^ shape_bits shape }
+{
+    let posture = posture_mask(shape.postures(), need.posture);
+    zone_bits_of(shape, owner_mask(shape, need), posture)
 }
 
 fn party_code(plan: &Plan, zone: u8, machine: u8) -> u64
@@ -57,28 +101,38 @@ fn party_code(plan: &Plan, zone: u8, machine: u8) -> u64
     }
 }
 
-fn posture_bits(posture: Option<Posture>) -> u64
-    ensures bits { result ≡ masks.posture_bits posture }
+fn owner_pattern(shape: ZoneShape, party: u64, need: ZoneNeed) -> u64
+    requires { party < 4 }
+    ensures pattern { result ≡ masks.owner_pattern shape party need }
     ensures fits { result < 4 }
 {
-    match posture {
-        None | Some(Posture::Closed) => 0,
-        Some(Posture::Moving) => 1,
-        Some(Posture::OpenIn) => 2,
-        Some(Posture::OpenOut) => 3,
+    if is_never(shape, need.posture) {
+        3
+    } else if need.holds {
+        party
+    } else {
+        0
     }
 }
 
-fn zone_pattern(plan: &Plan, zone: u8, machine: u8, need: ZoneNeed) -> u64
-    ensures pattern { result ≡ masks.zone_pattern plan.now zone machine need }
-    ensures fits { result < 32 }
+fn posture_pattern(postures: Postures, posture: Option<Posture>) -> u64
+    ensures pattern { result ≡ masks.posture_pattern postures posture }
+    ensures fits { result < 2 ^ posture_bits postures }
 {
-    let owner = if need.holds {
-        party_code(plan, zone, machine)
-    } else {
-        0
-    };
-    owner + posture_bits(need.posture) * 8
+    match posture {
+        None => 0,
+        Some(posture) => code_of(postures, posture),
+    }
+}
+
+fn zone_pattern(plan: &Plan, shape: ZoneShape, zone: u8, machine: u8, need: ZoneNeed) -> u64
+    requires { shape ≡ zone_shape plan.now zone }
+    ensures pattern { result ≡ masks.zone_pattern plan.now zone machine need }
+    ensures fits { result < 2 ^ shape_bits shape }
+{
+    let owner = owner_pattern(shape, party_code(plan, zone, machine), need);
+    let posture = posture_pattern(shape.postures(), need.posture);
+    zone_bits_of(shape, owner, posture)
 }
 
 fn place_pattern(need: Option<bool>) -> u64
@@ -91,36 +145,35 @@ fn place_pattern(need: Option<bool>) -> u64
     }
 }
 
-fn mask_of(plan: &Plan, motor: &Motor) -> u64
+fn mask_of(plan: &Plan, layout: &Layout, motor: &Motor) -> u64
+    requires layout { layout.now ≡ counts_of plan.now }
     ensures { result ≡ masks.mask_of plan.now motor.now }
 {
-    let places = plan.place_count();
-    let zones = plan.zone_count();
     let mut mask = 0;
-    for zone in 0..zones {
-        let bits = zone_mask(motor.zone_need(zone));
-        mask = with_bits(mask, u32::from(5 * zone), 5, bits);
+    for zone in 0..plan.zone_count() {
+        let bits = zone_mask(layout.shape(zone), motor.zone_need(zone));
+        mask = layout.with(mask, Field::Zone(zone), bits);
     }
-    for place in 0..places {
+    for place in 0..plan.place_count() {
         let bit = u64::from(motor.place_need(place).is_some());
-        mask = with_bits(mask, u32::from(5 * zones + place), 1, bit);
+        mask = layout.with(mask, Field::Place(place), bit);
     }
     mask
 }
 
-fn pattern_of(plan: &Plan, motor: &Motor) -> u64
+fn pattern_of(plan: &Plan, layout: &Layout, motor: &Motor) -> u64
+    requires layout { layout.now ≡ counts_of plan.now }
     ensures { result ≡ masks.pattern_of plan.now motor.now }
 {
-    let places = plan.place_count();
-    let zones = plan.zone_count();
     let mut pattern = 0;
-    for zone in 0..zones {
-        let bits = zone_pattern(plan, zone, motor.machine, motor.zone_need(zone));
-        pattern = with_bits(pattern, u32::from(5 * zone), 5, bits);
+    for zone in 0..plan.zone_count() {
+        let shape = layout.shape(zone);
+        let bits = zone_pattern(plan, shape, zone, motor.machine, motor.zone_need(zone));
+        pattern = layout.with(pattern, Field::Zone(zone), bits);
     }
-    for place in 0..places {
+    for place in 0..plan.place_count() {
         let bit = place_pattern(motor.place_need(place));
-        pattern = with_bits(pattern, u32::from(5 * zones + place), 1, bit);
+        pattern = layout.with(pattern, Field::Place(place), bit);
     }
     pattern
 }
@@ -134,9 +187,10 @@ impl MotorMask {
             → (IsTrue (masks.allows result (packed plan.now state)) ↔ Permits plan.now state motor.now) }
     {
         words_are_laid_out();
+        let layout = Layout::of(plan);
         MotorMask {
-            mask: mask_of(plan, motor),
-            pattern: pattern_of(plan, motor),
+            mask: mask_of(plan, &layout, motor),
+            pattern: pattern_of(plan, &layout, motor),
         }
     }
 

@@ -14,7 +14,8 @@ use std::time::Clock;
 pub const HEADER: &str = "\
 /* A plan's names and the layout of its word, as `plan header` prints them. The word of a state has the fields below,
    from the lowest bit: the zones, the places, the stamp and the stop. A zone's bits are, from the lowest, two for its
-   owner, one for its flag (a plate is in it) and two for its posture. */
+   owner, one for its flag (a plate is in it) if a plate has a way through it, and for its posture two; or one, 0 for
+   closed, if poses give it one other posture; or none, if it is always closed. */
 #ifndef PLAN_H
 #define PLAN_H
 
@@ -48,7 +49,7 @@ pub const HEADER: &str = "\
 #define PLAN_KEEPER_OF_HAND PLAN_MACHINE_LOADER
 #define PLAN_KEEPER_OF_DIE PLAN_MACHINE_PRESS
 
-/* Of a zone's field: who owns it, and its posture. */
+/* Who owns a zone, and its posture. */
 enum plan_owner { PLAN_OWNER_FREE = 0, PLAN_OWNER_HOST = 1, PLAN_OWNER_GUEST = 2 };
 enum plan_posture {
     PLAN_POSTURE_CLOSED = 0,
@@ -63,11 +64,16 @@ enum plan_posture {
 #define PLAN_BIT_PLACE_DIE 6
 #define PLAN_BIT_STAMP 7
 #define PLAN_BIT_STOP 27
-#define PLAN_BITS_ZONE 5
+#define PLAN_BITS_ZONE_INTERIOR 5
 #define PLAN_BITS_PLACE 1
 #define PLAN_BITS_STAMP 20
 #define PLAN_BITS_STOP 1
 #define PLAN_BITS 28
+
+/* What a state's word tells of a zone: who owns it, whether a plate is in it, and its posture. */
+#define PLAN_OWNER_OF_INTERIOR(word) ((word) >> PLAN_BIT_ZONE_INTERIOR & 3)
+#define PLAN_PLATE_IN_INTERIOR(word) ((word) >> (PLAN_BIT_ZONE_INTERIOR + 2) & 1)
+#define PLAN_POSTURE_OF_INTERIOR(word) ((word) >> (PLAN_BIT_ZONE_INTERIOR + 3) & 3)
 
 /* The names of each kind, by their numbers. A null comes after the last. */
 static const char *const PLAN_NAMES_OF_MACHINES[] = {
@@ -141,7 +147,8 @@ static const uint8_t PLAN_BYTES[] = {
 const LIFT_HEADER: &str = "\
 /* A plan's names and the layout of its word, as `plan header` prints them. The word of a state has the fields below,
    from the lowest bit: the zones, the places, the stamp and the stop. A zone's bits are, from the lowest, two for its
-   owner, one for its flag (a plate is in it) and two for its posture. */
+   owner, one for its flag (a plate is in it) if a plate has a way through it, and for its posture two; or one, 0 for
+   closed, if poses give it one other posture; or none, if it is always closed. */
 #ifndef PLAN_H
 #define PLAN_H
 
@@ -182,7 +189,7 @@ const LIFT_HEADER: &str = "\
 #define PLAN_KEEPER_OF_GROUND PLAN_MACHINE_BELOW
 #define PLAN_KEEPER_OF_GALLERY PLAN_MACHINE_ABOVE
 
-/* Of a zone's field: who owns it, and its posture. */
+/* Who owns a zone, and its posture. */
 enum plan_owner { PLAN_OWNER_FREE = 0, PLAN_OWNER_HOST = 1, PLAN_OWNER_GUEST = 2 };
 enum plan_posture {
     PLAN_POSTURE_CLOSED = 0,
@@ -199,11 +206,20 @@ enum plan_posture {
 #define PLAN_BIT_PLACE_GALLERY 12
 #define PLAN_BIT_STAMP 13
 #define PLAN_BIT_STOP 33
-#define PLAN_BITS_ZONE 5
+#define PLAN_BITS_ZONE_LOWER 5
+#define PLAN_BITS_ZONE_UPPER 5
 #define PLAN_BITS_PLACE 1
 #define PLAN_BITS_STAMP 20
 #define PLAN_BITS_STOP 1
 #define PLAN_BITS 34
+
+/* What a state's word tells of a zone: who owns it, whether a plate is in it, and its posture. */
+#define PLAN_OWNER_OF_LOWER(word) ((word) >> PLAN_BIT_ZONE_LOWER & 3)
+#define PLAN_PLATE_IN_LOWER(word) ((word) >> (PLAN_BIT_ZONE_LOWER + 2) & 1)
+#define PLAN_POSTURE_OF_LOWER(word) ((word) >> (PLAN_BIT_ZONE_LOWER + 3) & 3)
+#define PLAN_OWNER_OF_UPPER(word) ((word) >> PLAN_BIT_ZONE_UPPER & 3)
+#define PLAN_PLATE_IN_UPPER(word) ((word) >> (PLAN_BIT_ZONE_UPPER + 2) & 1)
+#define PLAN_POSTURE_OF_UPPER(word) ((word) >> (PLAN_BIT_ZONE_UPPER + 3) & 3)
 
 /* The names of each kind, by their numbers. A null comes after the last. */
 static const char *const PLAN_NAMES_OF_MACHINES[] = {

@@ -12,20 +12,27 @@ use test_doubles::part;
 /// between the first two machines.
 type Size = [usize; 5];
 
-/// Adds the poses of a machine.
-fn push_poses(text: &mut String, poses: usize) -> Result<(), AllocError> {
+/// Adds the poses of a machine, which give so many zones postures: the first one moves them, the others open them.
+fn push_poses(text: &mut String, poses: usize, zones: usize) -> Result<(), AllocError> {
     text.push_str("poses = [")?;
     for pose in 0..poses {
-        write!(text, "{{ name = \"x{pose}\", gives = {{}} }}, ")?;
+        write!(text, "{{ name = \"x{pose}\", gives = {{ ")?;
+        for zone in 0..zones {
+            let gap = if zone == 0 { "" } else { ", " };
+            let posture = if pose == 0 { "moving" } else { "openin" };
+            write!(text, "{gap}z{zone} = \"{posture}\"")?;
+        }
+        text.push_str(" } }, ")?;
     }
     text.push_str("]\n")
 }
 
-/// A document of this size. Each machine has three lines, and the first one two more.
+/// A document of this size. Each machine has three lines, and the first one two more. Zones have two bits, or by the
+/// poses of the first machine, if there are two, four.
 fn document_of(alloc: Global, size: Size) -> Result<String, AllocError> {
     let [machines, poses, places, lines, zones] = size;
     let mut text = String::from_str(alloc, "[[machine]]\nname = \"m0\"\n")?;
-    push_poses(&mut text, poses)?;
+    push_poses(&mut text, poses, zones)?;
     text.push_str("places = [")?;
     for place in 0..places {
         write!(text, "\"p{place}\", ")?;
@@ -37,7 +44,7 @@ fn document_of(alloc: Global, size: Size) -> Result<String, AllocError> {
     text.push_str("]\n")?;
     for machine in 1..machines {
         write!(text, "[[machine]]\nname = \"m{machine}\"\n")?;
-        push_poses(&mut text, poses)?;
+        push_poses(&mut text, poses, 0)?;
     }
     for zone in 0..zones {
         write!(
@@ -70,17 +77,17 @@ const SIZES: [Size; 16] = [
     [2, 32, 0, 0, 0],
     [1, 0, 16, 0, 0],
     [1, 1, 0, 255, 0],
-    [2, 0, 3, 0, 8],
-    [2, 0, 16, 0, 5],
+    [2, 2, 3, 0, 10],
+    [2, 0, 16, 0, 10],
     [16, 0, 0, 0, 0],
     [1, 65, 0, 0, 0],
     [2, 33, 0, 0, 0],
     [1, 0, 17, 0, 0],
     [1, 1, 0, 256, 0],
     [2, 0, 0, 0, 11],
-    [2, 0, 4, 0, 8],
-    [2, 0, 10, 0, 7],
-    [2, 0, 1, 0, 10],
+    [2, 2, 4, 0, 10],
+    [2, 2, 13, 0, 8],
+    [2, 2, 16, 0, 10],
 ];
 
 /// A part of what is said of each, or its whole fault.
@@ -91,16 +98,19 @@ const SAID: &str = "\
     16 places: p0 |\
     1 pose: x0\n|\
     a word of 64 bits\n|\
-    a word of 62 bits\n|\
+    a word of 57 bits\n|\
     fault plan line 49: machine 16: name: there are more than 15\n|\
     fault plan line 3: machine m0: pose 65: name: there are more than 64\n|\
     fault plan line 8: machine m1: pose 32: name: there are more than 64\n|\
     fault plan line 4: machine m0: places: there are more than 16\n|\
     fault plan line 5: machine m0: program: it has more than 255 lines\n|\
     fault plan line 50: zone 11: name: there are more than 10\n|\
-    fault plan wide: 8 zones and 4 places need 65 bits, and 64 fit: leave out 1 place or 1 zone\n|\
-    fault plan wide: 7 zones and 10 places need 66 bits, and 64 fit: leave out 2 places or 1 zone\n|\
-    fault plan wide: 10 zones and 1 place need 72 bits, and 64 fit: leave out 2 zones\n";
+    fault plan wide: 10 zones and 4 places need 65 bits, and 64 fit: leave out 1 bit \
+    (a place has 1, a zone 2 to 5)\n|\
+    fault plan wide: 8 zones and 13 places need 66 bits, and 64 fit: leave out 2 bits \
+    (a place has 1, a zone 2 to 5)\n|\
+    fault plan wide: 10 zones and 16 places need 77 bits, and 64 fit: leave out 13 bits \
+    (a place has 1, a zone 2 to 5)\n";
 
 #[test]
 fn accepts_the_largest(rt: HostRuntime) -> Result<(), AllocError> {

@@ -49,7 +49,8 @@ const PAGES: &[(&str, &str, &str, &str)] = &[
 {\"note\": \"a standstill after 2 turns, and no fewer\",
 \"machines\": [\"loader\", \"press\"],
 \"places\": [{\"name\": \"hand\", \"keeper\": 0}, {\"name\": \"die\", \"keeper\": 1}],
-\"zones\": [{\"name\": \"interior\", \"host\": 1, \"guest\": 0, \"inward\": [0, 1], \"outward\": [1, 0]}],
+\"zones\": [{\"name\": \"interior\", \"host\": 1, \"guest\": 0, \"inward\": [0, 1], \"outward\": [1, 0], \
+    \"postures\": [\"closed\", \"moving\", \"openin\", \"openout\"]}],
 \"motors\": [],
 \"programs\": [[\"give interior\", \"take interior\", \"release interior\"], [\"claim interior\", \
     \"pose travelling\", \"pose load\", \"yield interior\", \"take interior\", \"pose travelling\", \
@@ -228,13 +229,14 @@ hoist;pose low;done;1d
 {\"note\": \"2 machines took 10 turns each, in threads of their own; press was stopped by jump\",
 \"machines\": [\"loader\", \"press\"],
 \"places\": [],
-\"zones\": [{\"name\": \"interior\", \"host\": 1, \"guest\": 0, \"inward\": null, \"outward\": null}],
+\"zones\": [{\"name\": \"interior\", \"host\": 1, \"guest\": 0, \"inward\": null, \"outward\": null, \
+    \"postures\": [\"closed\"]}],
 \"motors\": [],
 \"programs\": [[], [\"claim interior\", \"pose shut\", \"release interior\"]]}
 ",
         "\
 start;0
-press;claim interior;done;21
+press;claim interior;done;5
 press;pose shut;jump;
 ",
     ),

@@ -1,16 +1,27 @@
 //! The widths of words, and the words of the largest plan.
 
 use plan_rules::State;
-use plan_types::{Answer, Call, Plan, PlanFault, PlanZone, Posture, Tables, WATCH};
+use plan_types::{
+    Answer, Call, MAX_ZONES, Plan, PlanFault, PlanPose, PlanZone, Posture, Tables, WATCH, Way,
+};
 use plan_word::{Layout, pack, stamp_of, step_word, unpack};
 use std::alloc::{AllocError, Global};
 
-/// Tables of two machines with some zones and some places.
-fn tables_of(alloc: Global, zones: u8, places: u8) -> Result<Tables, AllocError> {
+/// How many zones and places, to how many postures besides closed poses bring each zone, and whether a plate has a way
+/// through it.
+type Size = (u8, u8, u8, bool);
+
+/// Tables of two machines of this size. The first place is the guest's of all zones, the others are the host's.
+fn tables_of(alloc: Global, size: Size) -> Result<Tables, AllocError> {
+    let (zones, places, postures, has_way) = size;
     let zone = PlanZone {
         host: 0,
         guest: 1,
-        inward: None,
+        inward: if has_way {
+            Some(Way { from: 0, to: 1 })
+        } else {
+            None
+        },
         outward: None,
     };
     let mut tables = Tables {
@@ -22,41 +33,64 @@ fn tables_of(alloc: Global, zones: u8, places: u8) -> Result<Tables, AllocError>
     for _ in 0..zones {
         tables.zones.push(zone)?;
     }
-    for _ in 0..places {
-        tables.places.push(0)?;
+    for number in 0..postures {
+        let posture = if number == 0 {
+            Posture::OpenIn
+        } else {
+            Posture::Moving
+        };
+        let mut gives = [None; MAX_ZONES];
+        for zone in 0..MAX_ZONES {
+            if zone < usize::from(zones) {
+                gives[zone] = Some(posture);
+            }
+        }
+        tables.poses.push(PlanPose {
+            machine: 0,
+            after_moving: false,
+            gives,
+        })?;
+    }
+    for place in 0..places {
+        tables.places.push(u8::from(place == 0))?;
     }
     Ok(tables)
 }
 
 /// The width of the word of such a plan, or how many bits are missing.
-fn width_of(alloc: Global, zones: u8, places: u8) -> Option<Result<u8, u8>> {
-    match Plan::new(tables_of(alloc, zones, places).ok()?) {
+fn width_of(alloc: Global, size: Size) -> Option<Result<u8, u8>> {
+    match Plan::new(tables_of(alloc, size).ok()?) {
         Ok(plan) => Some(Ok(Layout::of(&plan).width())),
         Err(PlanFault::TooWide { missing }) => Some(Err(missing)),
         Err(_) => None,
     }
 }
 
-// Zones and places, and the width or the number of missing bits.
-const WIDTHS: [(u8, u8, Result<u8, u8>); 6] = [
-    (0, 0, Ok(21)),
-    (8, 3, Ok(64)),
-    (8, 4, Err(1)),
-    (6, 13, Ok(64)),
-    (6, 14, Err(1)),
-    (10, 16, Err(23)),
+// Sizes, and the width or the number of missing bits: zones of five bits, of four, of three and of two.
+const WIDTHS: [(Size, Result<u8, u8>); 11] = [
+    ((0, 0, 2, true), Ok(21)),
+    ((8, 3, 2, true), Ok(64)),
+    ((8, 4, 2, true), Err(1)),
+    ((6, 13, 2, true), Ok(64)),
+    ((6, 14, 2, true), Err(1)),
+    ((10, 16, 2, true), Err(23)),
+    ((10, 3, 1, true), Ok(64)),
+    ((10, 4, 2, false), Err(1)),
+    ((9, 16, 1, false), Ok(64)),
+    ((10, 16, 1, false), Err(3)),
+    ((10, 16, 0, false), Ok(57)),
 ];
 
 #[test]
 fn plans_fit_or_not(rt: HostRuntime) {
-    for (zones, places, wanted) in WIDTHS {
-        assert!(rt; width_of(rt.alloc(), zones, places) == Some(wanted));
+    for (size, wanted) in WIDTHS {
+        assert!(rt; width_of(rt.alloc(), size) == Some(wanted));
     }
 }
 
 #[test]
 fn the_largest_plan_fills_its_word(rt: HostRuntime) {
-    let tables = tables_of(rt.alloc(), 8, 3).expect(&rt, "memory");
+    let tables = tables_of(rt.alloc(), (8, 3, 2, true)).expect(&rt, "memory");
     let plan = Plan::new(tables).expect(&rt, "a plan");
     let layout = Layout::of(&plan);
     let mut full = [false; 16];

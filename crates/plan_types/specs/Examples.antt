@@ -55,6 +55,13 @@ lift_poses =
 abbrev pub lift_table : PlanTable
 lift_table = plan_table 3 lift_zones lift_poses (0 ∷ 1 ∷ 2 ∷ [])
 
+-- machine 0 sets the points for two roads, on which trains come, 1 and 2; poses: 0 switching, 1 and 2 set for a road
+abbrev pub roads_table : PlanTable
+roads_table =
+    plan_table 3 (zone 0 1 None None ∷ zone 0 2 None None ∷ [])
+    (pose 0 false (Some Moving) (Some Moving) ∷ pose 0 true (Some OpenIn) (Some Closed)
+    ∷ pose 0 true (Some Closed) (Some OpenIn) ∷ []) []
+
 -- a pose that gives one zone a posture and leaves the others
 abbrev pub pose_at : ℕ → ℕ → Posture → PlanPose
 pose_at m z q = record {
@@ -62,6 +69,53 @@ pose_at m z q = record {
   after_moving = false;
   gives = replicate z None ++ Some q ∷ replicate (9 - z) None;
 }
+
+abbrev pub pose_after_moving : ℕ → ℕ → Posture → PlanPose
+pose_after_moving m z q = record (pose_at m z q) { after_moving = true }
+
+-- a pose that gives two neighbours a posture each
+abbrev pub pose_of_two : ℕ → Bool → ℕ → Posture → Posture → PlanPose
+pose_of_two m after_moving z q r = record {
+  machine = m;
+  after_moving = after_moving;
+  gives = replicate z None ++ Some q ∷ Some r ∷ replicate (8 - z) None;
+}
+
+-- machines 0 and 1 share a rack, of which 0 is the host, and each loads a press, 2 and 3; places: each machine's own
+-- poses: 0 opens the rack; a press moves, and opens and shuts after moving
+abbrev pub rack_table : PlanTable
+rack_table =
+    plan_table 4 (zone 0 1 None None ∷ zone 2 0 (way 0 2) (way 2 0) ∷ zone 3 1 (way 1 3) (way 3 1) ∷ [])
+    (pose_at 0 0 OpenIn ∷ pose_at 2 1 Moving ∷ pose_after_moving 2 1 OpenIn ∷ pose_after_moving 2 1 Closed
+    ∷ pose_after_moving 2 1 OpenOut ∷ pose_at 3 2 Moving ∷ pose_after_moving 3 2 OpenIn
+    ∷ pose_after_moving 3 2 Closed ∷ pose_after_moving 3 2 OpenOut ∷ [])
+    (0 ∷ 1 ∷ 2 ∷ 3 ∷ [])
+
+-- machine 0 is a conveyor, 2 a lathe; a feeder, 1, carries from the one to the other, and an unloader, 3, back; places:
+-- each machine's own
+-- poses of the conveyor: running, offering, receiving; of the lathe: swinging, load, unload, cut
+abbrev pub lathe_table : PlanTable
+lathe_table =
+    plan_table 4
+    (zone 0 1 None (way 0 1) ∷ zone 0 3 (way 3 0) None ∷ zone 2 1 (way 1 2) None ∷ zone 2 3 None (way 2 3) ∷ [])
+    (pose_of_two 0 false 0 Moving Moving ∷ pose_of_two 0 true 0 OpenOut Closed ∷ pose_of_two 0 true 0 Closed OpenIn
+    ∷ pose_of_two 2 false 2 Moving Moving ∷ pose_of_two 2 true 2 OpenIn Closed ∷ pose_of_two 2 true 2 Closed OpenOut
+    ∷ pose_of_two 2 true 2 Closed Closed ∷ [])
+    (0 ∷ 1 ∷ 2 ∷ 3 ∷ [])
+
+-- a cell: 0 feed belt, 1 table, 2 robot, with two arms, 3 press, 4 deposit belt, 5 crane; zones and places
+-- round the ring of plates
+abbrev pub plant_table : PlanTable
+plant_table =
+    plan_table 6
+    (zone 1 0 (way 0 1) None ∷ zone 1 2 None (way 1 2) ∷ zone 3 2 (way 2 4) (way 4 3) ∷ zone 4 2 (way 3 5) None
+    ∷ zone 4 5 None (way 5 6) ∷ zone 0 5 (way 6 0) None ∷ [])
+    (pose_at 0 5 Moving ∷ pose_at 0 5 OpenIn ∷ pose_at 0 5 Closed ∷ pose_of_two 1 false 0 Moving Moving
+    ∷ pose_of_two 1 true 0 OpenIn Closed ∷ pose_of_two 1 true 0 Closed OpenOut ∷ pose_at 3 2 Moving
+    ∷ pose_after_moving 3 2 OpenIn ∷ pose_after_moving 3 2 OpenOut ∷ pose_after_moving 3 2 Closed
+    ∷ pose_of_two 4 false 3 Moving Moving ∷ pose_of_two 4 false 3 OpenIn Closed ∷ pose_of_two 4 false 3 Closed OpenOut
+    ∷ pose_of_two 4 false 3 OpenIn OpenOut ∷ pose_of_two 4 false 3 Closed Closed ∷ [])
+    (0 ∷ 1 ∷ 2 ∷ 2 ∷ 3 ∷ 4 ∷ 5 ∷ [])
 
 -- 15 machines, 5 zones, 64 poses, 16 places: place 15 is machine 0's, each other one its machine's own, by its number
 abbrev pub large_table : PlanTable
@@ -79,6 +133,31 @@ eight_posed q =
     plan_table 2 (replicate 8 (zone 1 0 None None))
     (record { machine = 1; after_moving = false; gives = replicate 8 (Some q) ++ None ∷ None ∷ [] } ∷ []) []
 
+-- poses of machine 1 that give each of the first n zones each posture but Closed
+abbrev pub pose_for : ℕ → Posture → PlanPose
+pose_for n q = record {
+  machine = 1;
+  after_moving = false;
+  gives = replicate n (Some q) ++ replicate (10 - n) None;
+}
+
+abbrev pub poses_for : ℕ → List PlanPose
+poses_for n = pose_for n Moving ∷ pose_for n OpenIn ∷ pose_for n OpenOut ∷ []
+
+-- the places of two machines, which keep the first two
+abbrev pub places_of : ℕ → List ℕ
+places_of places = 0 ∷ 1 ∷ replicate (places - 2) 0
+
+-- as many zones of five bits as this number says, and places: plates go through each zone both ways, and poses give it
+-- all postures
+abbrev pub wide_table : ℕ → ℕ → PlanTable
+wide_table zones places = plan_table 2 (replicate zones press_zone) (poses_for zones) (places_of places)
+
+-- zones of four bits: plates come in, and the host opens the zone for them, or shuts it
+abbrev pub gated_table : ℕ → ℕ → PlanTable
+gated_table zones places =
+    plan_table 2 (replicate zones (zone 1 0 (way 0 1) None)) (pose_for zones OpenIn ∷ []) (places_of places)
+
 -- both are plans, and so are a large one, one machine alone, nothing at all, and one whose pose sets eight zones
 pub record ExamplesArePlans : Type 0 where
   pub press : IsPlan press_table
@@ -88,6 +167,11 @@ pub record ExamplesArePlans : Type 0 where
   pub nothing : IsPlan (plan_table 0 [] [] [])
   pub eight_move : IsPlan (eight_posed Moving)
   pub eight_open : IsPlan (eight_posed OpenOut)
+  pub roads : IsPlan roads_table
+  pub rack : IsPlan rack_table
+  pub lathe : IsPlan lathe_table
+  pub plant : IsPlan plant_table
+  pub ten_gates : IsPlan (gated_table 10 3)
 
 abbrev pub two_at : PlanZone → List PlanPose → PlanTable
 two_at row poses = plan_table 2 (row ∷ []) poses (0 ∷ 1 ∷ [])
@@ -110,10 +194,13 @@ pub record LargestPlans : Type 0 where
   pub poses : plan_fault (two_at press_zone (replicate 64 (pose 1 false None None))) ≡ None
   pub places : plan_fault (counted 0 16) ≡ None
   -- a word of 64 bits
-  pub eight_zones : plan_fault (counted 8 3) ≡ None
-  pub seven_zones : plan_fault (counted 7 8) ≡ None
-  pub six_zones : plan_fault (counted 6 13) ≡ None
-  pub five_zones : plan_fault (counted 5 16) ≡ None
+  pub eight_zones : plan_fault (wide_table 8 3) ≡ None
+  pub seven_zones : plan_fault (wide_table 7 8) ≡ None
+  pub six_zones : plan_fault (wide_table 6 13) ≡ None
+  pub five_zones : plan_fault (wide_table 5 16) ≡ None
+  -- ten zones, if they are narrower
+  pub ten_gates : plan_fault (gated_table 10 3) ≡ None
+  pub ten_zones : plan_fault (counted 10 16) ≡ None
 
 -- tables with faults, and the first fault of each
 pub record FirstFaults : Type 0 where
@@ -122,9 +209,11 @@ pub record FirstFaults : Type 0 where
   pub poses : plan_fault (two_at press_zone (replicate 65 (pose 1 false None None))) ≡ Some TooManyPoses
   pub places : plan_fault (plan_table 2 (press_zone ∷ []) press_poses (replicate 17 0)) ≡ Some TooManyPlaces
   -- eight zones and four places take 65 bits, ten zones and sixteen places 87
-  pub wide : plan_fault (plan_table 2 (replicate 8 (zone 1 1 None None)) [] (replicate 4 2)) ≡ Some (TooWide 1)
-  pub widest : plan_fault (plan_table 2 (replicate 10 press_zone) [] (replicate 16 0)) ≡ Some (TooWide 23)
-  pub wide_by_a_place : plan_fault (counted 7 9) ≡ Some (TooWide 1)
+  pub wide : plan_fault (plan_table 2 (replicate 8 (zone 1 1 (way 0 1) None)) (poses_for 8) (replicate 4 2))
+      ≡ Some (TooWide 1)
+  pub widest : plan_fault (plan_table 2 (replicate 10 press_zone) (poses_for 10) (replicate 16 0)) ≡ Some (TooWide 23)
+  pub wide_by_a_place : plan_fault (wide_table 7 9) ≡ Some (TooWide 1)
+  pub gates_wide_by_a_place : plan_fault (gated_table 10 4) ≡ Some (TooWide 1)
   pub keeper : plan_fault (plan_table 2 (zone 1 1 None None ∷ []) [] (0 ∷ 2 ∷ [])) ≡ Some (NoSuchKeeper 1)
   pub host : plan_fault (two_at (zone 2 2 None None) []) ≡ Some (NoSuchHost 0)
   pub guest : plan_fault (two_at (zone 1 2 None None) []) ≡ Some (NoSuchGuest 0)
@@ -209,7 +298,8 @@ pub record FaultsInOrder : Type 0 where
   pub zones : plan_fault (wrong 15 11 65 17) ≡ Some TooManyZones
   pub poses : plan_fault (wrong 15 10 65 17) ≡ Some TooManyPoses
   pub places : plan_fault (wrong 15 10 64 17) ≡ Some TooManyPlaces
-  pub width : plan_fault (wrong 15 10 64 16) ≡ Some (TooWide 23)
+  -- 4 + 9 * 3 + 16 + 21 bits
+  pub width : plan_fault (wrong 15 10 64 16) ≡ Some (TooWide 4)
   pub keeper : plan_fault (wrong 15 8 64 3) ≡ Some (NoSuchKeeper 0)
   pub host : plan_fault (wrong 15 8 64 0) ≡ Some (NoSuchHost 0)
   pub guest : plan_fault (two_at (zone 1 15 (way 99 99) (way 99 99)) (strange_pose ∷ [])) ≡ Some (NoSuchGuest 0)
@@ -237,8 +327,8 @@ pub record NoPlans : Type 0 where
   pub zones : IsNoPlan (counted 11 0) TooManyZones
   pub poses : IsNoPlan (plan_table 1 [] (replicate 65 (pose 0 false None None)) []) TooManyPoses
   pub places : IsNoPlan (counted 0 17) TooManyPlaces
-  pub zones_wide : IsNoPlan (counted 10 0) (TooWide 7)
-  pub wide : IsNoPlan (counted 8 4) (TooWide 1)
+  pub zones_wide : IsNoPlan (wide_table 10 2) (TooWide 9)
+  pub wide : IsNoPlan (wide_table 8 4) (TooWide 1)
   pub keeper : IsNoPlan (plan_table 3 [] [] (2 ∷ 3 ∷ [])) (NoSuchKeeper 1)
   pub keeper_of_none : IsNoPlan (plan_table 0 [] [] (0 ∷ [])) (NoSuchKeeper 0)
   pub host : IsNoPlan (zone_after (zone 3 2 None None)) (NoSuchHost 1)

@@ -1,5 +1,5 @@
 -- What each fault says, on the rows themselves: a fault that is found in tables is there, and none comes before it.
-use Rattle.std.specs.Prelude.{◌≡◌, ◌⊎◌, ℕ, suc, ◌+◌, ◌*◌, ◌<◌, ◌≤◌, length, get_or, Some, None}
+use Rattle.std.specs.Prelude.{◌≡◌, ◌⊎◌, ℕ, suc, ◌+◌, ◌<◌, ◌≤◌, length, get_or, Some, None}
 use Rattle.plan_types.specs.declared.posture.Posture.{Posture}
 use Rattle.plan_types.specs.declared.fault.PlanFault.{PlanFault}
 use Rattle.plan_types.specs.declared.fault.PlanFault.TheVariants.{TooManyMachines, TooManyZones, TooManyPoses}
@@ -8,7 +8,8 @@ use Rattle.plan_types.specs.declared.fault.PlanFault.TheVariants.{NoSuchGuest, H
 use Rattle.plan_types.specs.declared.fault.PlanFault.TheVariants.{OutwardAstray, NoSuchMachine, ForeignZone}
 use Rattle.plan_types.specs.declared.table.PlanZone.{PlanZone}
 use Rattle.plan_types.specs.declared.table.PlanPose.{PlanPose}
-use Rattle.plan_types.specs.Table.{PlanTable, no_zone, no_pose}
+use Rattle.plan_types.specs.Below.{sum_below}
+use Rattle.plan_types.specs.Table.{PlanTable, no_zone, no_pose, zone_bits}
 use Rattle.plan_types.specs.TableLaws.{GoesBetween}
 use Rattle.plan_types.specs.Faults.{plan_fault}
 
@@ -30,8 +31,9 @@ Says t TooManyMachines = 15 < t.machines
 Says t TooManyZones = 10 < length t.zones
 Says t TooManyPoses = 64 < length t.poses
 Says t TooManyPlaces = 16 < length t.places
--- five bits for each zone, one for each place, twenty-one for the stamp and the stop
-Says t (TooWide missing) = (0 < missing) × (5 * length t.zones + length t.places + 21 ≡ 64 + missing)
+-- the bits of each zone, one for each place, twenty-one for the stamp and the stop
+Says t (TooWide missing) =
+    (0 < missing) × (sum_below (zone_bits t) (length t.zones) + length t.places + 21 ≡ 64 + missing)
 Says t (NoSuchKeeper p) = (p < length t.places) × (t.machines ≤ get_or t.places p 0)
 Says t (NoSuchHost z) = OfZone t z (λ row. t.machines ≤ row.host)
 Says t (NoSuchGuest z) = OfZone t z (λ row. t.machines ≤ row.guest)

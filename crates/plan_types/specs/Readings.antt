@@ -1,18 +1,23 @@
 -- What literal tables say about a pose, a zone, a machine and a plate's way.
-use Rattle.std.specs.Prelude.{◌≡◌, ℕ, ◌+◌, ◌*◌, true, false, nat_eq, nat_lt, List, [], ◌∷◌, ◌++◌, map, replicate}
+use Rattle.std.specs.Prelude.{◌≡◌, ℕ, ◌+◌, ◌*◌, Bool, true, false, nat_eq, nat_lt, List, [], ◌∷◌, ◌++◌, map, replicate}
 use Rattle.std.specs.Prelude.{Option, Some, None}
 use Rattle.std.specs.Bool.{then_some}
 use Rattle.plan_types.specs.declared.posture.Posture.{Posture}
 use Rattle.plan_types.specs.declared.posture.Posture.TheVariants.{Closed, Moving, OpenIn, OpenOut}
 use Rattle.plan_types.specs.declared.table.Transfer.{Transfer}
 use Rattle.plan_types.specs.declared.table.PlanPose.{PlanPose}
+use Rattle.plan_types.specs.declared.shape.Postures.{Postures}
+use Rattle.plan_types.specs.declared.shape.Postures.TheVariants.{Shut, Two, All}
+use Rattle.plan_types.specs.declared.shape.ZoneShape.{ZoneShape}
 use Rattle.plan_types.specs.Same.{same_posture}
 use Rattle.plan_types.specs.Below.{first_below, any_below, sum_below}
 use Rattle.plan_types.specs.Table.{PlanTable, plan_table, watch, is_party, has_pose, is_moving_pose, transfer_of}
 use Rattle.plan_types.specs.Table.{zone_count, pose_count, place_count, word_width, zone_row, pose_row, keeper_of}
 use Rattle.plan_types.specs.Table.{host_of, guest_of, machine_of, posture_of, is_hosted, is_place_of}
 use Rattle.plan_types.specs.Plan.{leads}
+use Rattle.plan_types.specs.Table.{zone_shape, postures_of, posture_bits, shape_bits, zone_bits}
 use Rattle.plan_types.specs.Examples.{way, zone, pose, press_table, lift_table, large_table, two_at, gives_at, counted}
+use Rattle.plan_types.specs.Examples.{wide_table, gated_table, roads_table, rack_table, lathe_table, plant_table}
 
 -- one pose, which gives two zones a posture
 abbrev pub gives_both : Posture → Posture → PlanTable
@@ -88,8 +93,8 @@ pub record RowsTell : Type 0 where
   pub zones : zone_count unlike_table ≡ 2
   pub poses : pose_count unlike_table ≡ 3
   pub places : place_count unlike_table ≡ 4
-  -- 5 * 2 + 4 + 21
-  pub width : word_width unlike_table ≡ 35
+  -- 4 + 5 + 4 + 21
+  pub width : word_width unlike_table ≡ 34
   pub host : host_of unlike_table 1 ≡ 7
   pub guest : guest_of unlike_table 1 ≡ 8
   pub keeper : keeper_of unlike_table 2 ≡ 20
@@ -119,8 +124,10 @@ pub record RowsTell : Type 0 where
   -- the width is that of the zones and the places: with none of them, and with most
   pub narrow : word_width (plan_table 9 [] (wide_pose ∷ []) []) ≡ 21
   pub of_places : word_width (counted 0 16) ≡ 37
-  pub of_zones : word_width (counted 8 0) ≡ 61
-  pub widest : word_width (counted 10 16) ≡ 87
+  pub of_zones : word_width (counted 8 0) ≡ 37
+  pub of_wide_zones : word_width (wide_table 8 2) ≡ 63
+  pub of_gates : word_width (gated_table 8 2) ≡ 55
+  pub widest : word_width (wide_table 10 16) ≡ 87
   pub most_zones : zone_count (counted 10 16) ≡ 10
   pub most_places : place_count (counted 10 16) ≡ 16
   pub most_poses : pose_count large_table ≡ 64
@@ -129,6 +136,47 @@ pub record RowsTell : Type 0 where
   pub no_pose : pose_row unlike_table 3 ≡ pose 0 false None None
   pub no_keeper : keeper_of unlike_table 4 ≡ 0
   pub no_posture : posture_of unlike_table 2 10 ≡ None
+
+abbrev pub shape : Bool → Bool → Bool → Bool → ZoneShape
+shape flag moves opens_in opens_out =
+    record { flag = flag; moves = moves; opens_in = opens_in; opens_out = opens_out }
+
+-- tables whose zone has one way, and to which poses give these postures
+abbrev pub given : List Posture → PlanTable
+given postures = two_at (zone 1 0 None (way 1 0)) (map (λ q. pose 1 false (Some q) None) postures)
+
+-- what zones have in the word, and how many bits each: by their ways and by the postures that poses give them
+pub record ShapesTell : Type 0 where
+  pub press : zone_shape press_table 0 ≡ shape true true true true
+  pub lift : map (zone_shape lift_table) (0 ∷ 1 ∷ 2 ∷ [])
+      ≡ shape true true true true ∷ shape true true true true ∷ shape false false false false ∷ []
+  pub unlike : map (zone_shape unlike_table) (0 ∷ 1 ∷ [])
+      ≡ shape true false false true ∷ shape true true true false ∷ []
+  pub bits : map (zone_bits unlike_table) (0 ∷ 1 ∷ 2 ∷ []) ≡ 4 ∷ 5 ∷ 2 ∷ []
+  -- of plants: two roads to one set of points; a rack and two presses; a lathe; a cell; and the widths of their words
+  pub roads : map (zone_bits roads_table) (0 ∷ 1 ∷ []) ≡ 4 ∷ 4 ∷ []
+  pub rack : map (zone_bits rack_table) (0 ∷ 1 ∷ 2 ∷ []) ≡ 3 ∷ 5 ∷ 5 ∷ []
+  pub lathe : map (zone_bits lathe_table) (0 ∷ 1 ∷ 2 ∷ 3 ∷ []) ≡ 5 ∷ 5 ∷ 5 ∷ 5 ∷ []
+  pub plant : map (zone_bits plant_table) (0 ∷ 1 ∷ 2 ∷ 3 ∷ 4 ∷ 5 ∷ []) ≡ 5 ∷ 5 ∷ 5 ∷ 5 ∷ 5 ∷ 5 ∷ []
+  pub widths : map word_width (press_table ∷ lift_table ∷ roads_table ∷ rack_table ∷ lathe_table ∷ plant_table ∷ [])
+      ≡ 28 ∷ 34 ∷ 29 ∷ 38 ∷ 45 ∷ 58 ∷ []
+  pub no_pose : zone_shape (given []) 0 ≡ shape true false false false
+  pub shut : zone_shape (given (Closed ∷ Closed ∷ [])) 0 ≡ shape true false false false
+  pub moves : zone_shape (given (Moving ∷ [])) 0 ≡ shape true true false false
+  pub opens_in : zone_shape (given (Closed ∷ OpenIn ∷ OpenIn ∷ [])) 0 ≡ shape true false true false
+  pub opens_out : zone_shape (given (OpenOut ∷ Closed ∷ [])) 0 ≡ shape true false false true
+  pub all : zone_shape (given (OpenOut ∷ Closed ∷ Moving ∷ OpenIn ∷ [])) 0 ≡ shape true true true true
+  pub inward_alone : zone_shape (two_at (zone 1 0 (way 0 1) None) []) 0 ≡ shape true false false false
+  pub no_way : zone_shape (two_at (zone 1 0 None None) []) 0 ≡ shape false false false false
+  -- all that poses may give
+  pub postures : map postures_of (shape true false false false ∷ shape true true false false
+      ∷ shape true false true false ∷ shape true false false true ∷ shape true true true false ∷ shape true true false true
+      ∷ shape true false true true ∷ shape true true true true ∷ [])
+      ≡ Shut ∷ Two Moving ∷ Two OpenIn ∷ Two OpenOut ∷ All ∷ All ∷ All ∷ All ∷ []
+  pub posture_fields : map posture_bits (Shut ∷ Two OpenIn ∷ All ∷ []) ≡ 0 ∷ 1 ∷ 2 ∷ []
+  pub each_bits : map shape_bits (shape false false false false ∷ shape false false true false
+      ∷ shape false true true false ∷ shape true false false false ∷ shape true false false true
+      ∷ shape true true false true ∷ []) ≡ 2 ∷ 3 ∷ 4 ∷ 3 ∷ 4 ∷ 5 ∷ []
 
 -- who hosts a zone, keeps a place, has a pose: nobody past the end of the table
 pub record RightsTell : Type 0 where
@@ -189,6 +237,7 @@ pub record NumbersBelow : Type 0 where
 
 pub record TablesTell : Type 0 where
   pub rows : RowsTell
+  pub shapes : ShapesTell
   pub rights : RightsTell
   pub same_postures : SamePostures
   pub numbers_below : NumbersBelow

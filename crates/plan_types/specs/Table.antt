@@ -1,14 +1,19 @@
 -- The tables of a plan, and what they say of a zone, a pose or a place by its number.
-use Rattle.std.specs.Prelude.{ℕ, ◌+◌, ◌*◌, Bool, false, ◌&&◌, ◌||◌, nat_eq, nat_lt, List, length, get_or, replicate}
-use Rattle.std.specs.Prelude.{Option, Some, None, option_map}
+use Rattle.std.specs.Prelude.{ℕ, ◌+◌, Bool, true, false, ◌&&◌, ◌||◌, nat_eq, nat_lt, List, length, get_or, replicate}
+use Rattle.std.specs.Prelude.{Option, Some, None, option_map, is_some}
 use Rattle.std.specs.Option.{option_eq}
 use Rattle.std.specs.List.{list_any}
+use mir.Val.{bool_byte}
 use Rattle.plan_types.specs.declared.posture.Posture.{Posture}
 use Rattle.plan_types.specs.declared.posture.Posture.TheVariants.{Closed, Moving, OpenIn, OpenOut}
 use Rattle.plan_types.specs.declared.table.Way.{Way}
 use Rattle.plan_types.specs.declared.table.PlanZone.{PlanZone}
 use Rattle.plan_types.specs.declared.table.PlanPose.{PlanPose}
 use Rattle.plan_types.specs.declared.table.Transfer.{Transfer}
+use Rattle.plan_types.specs.declared.shape.Postures.{Postures}
+use Rattle.plan_types.specs.declared.shape.Postures.TheVariants.{Shut, Two, All}
+use Rattle.plan_types.specs.declared.shape.ZoneShape.{ZoneShape}
+use Rattle.plan_types.specs.Below.{any_below, sum_below}
 use Rattle.plan_types.specs.Same.{same_posture}
 
 -- how many machines there are, the zones, the poses, and the machine that keeps each place
@@ -38,11 +43,6 @@ pose_count t = length t.poses
 
 abbrev pub place_count : PlanTable → ℕ
 place_count t = length t.places
-
--- the bits of the plan's word: five for a zone (owner two, flag one, posture two), one for a place, twenty for the
--- stamp, one for the stop
-abbrev pub word_width : PlanTable → ℕ
-word_width t = 5 * zone_count t + place_count t + 21
 
 -- the rows; past the end of a table stands a row that says nothing
 abbrev pub no_zone : PlanZone
@@ -106,3 +106,54 @@ transfer_of t z Closed = None
 transfer_of t z Moving = None
 transfer_of t z OpenIn = transfer_by (guest_of t z) (host_of t z) (zone_row t z).inward
 transfer_of t z OpenOut = transfer_by (host_of t z) (guest_of t z) (zone_row t z).outward
+
+-- ---- the plan's word
+-- some pose gives a zone of the plan a posture
+abbrev pub gives : PlanTable → ℕ → Posture → ℕ → Bool
+gives t z q p = option_eq same_posture (posture_of t p z) (Some q)
+
+abbrev pub is_given : PlanTable → ℕ → Posture → Bool
+is_given t z q = nat_lt z (zone_count t) && any_below (gives t z q) (pose_count t)
+
+-- what a zone has in the word: a flag if a plate has a way through it, and the postures that poses give it
+abbrev pub zone_shape : PlanTable → ℕ → ZoneShape
+zone_shape t z = record {
+  flag = is_some (zone_row t z).inward || is_some (zone_row t z).outward;
+  moves = is_given t z Moving;
+  opens_in = is_given t z OpenIn;
+  opens_out = is_given t z OpenOut;
+}
+
+-- where there is no zone
+abbrev pub no_shape : ZoneShape
+no_shape = record { flag = false; moves = false; opens_in = false; opens_out = false }
+
+-- the postures that it can have: Closed, as it starts, and those that poses give it, of Moving, OpenIn and OpenOut
+abbrev pub postures_by : Bool → Bool → Bool → Postures
+postures_by false false false = Shut
+postures_by true false false = Two Moving
+postures_by false true false = Two OpenIn
+postures_by false false true = Two OpenOut
+postures_by _ _ _ = All
+
+abbrev pub postures_of : ZoneShape → Postures
+postures_of s = postures_by s.moves s.opens_in s.opens_out
+
+-- its bits: two for its owner, one for its flag if it has one, and none, one or two for its posture
+abbrev pub flag_bits : Bool → ℕ
+flag_bits flag = bool_byte flag
+
+abbrev pub posture_bits : Postures → ℕ
+posture_bits Shut = 0
+posture_bits (Two q) = 1
+posture_bits All = 2
+
+abbrev pub shape_bits : ZoneShape → ℕ
+shape_bits s = 2 + flag_bits s.flag + posture_bits (postures_of s)
+
+abbrev pub zone_bits : PlanTable → ℕ → ℕ
+zone_bits t z = shape_bits (zone_shape t z)
+
+-- the bits of the word: those of the zones, one for a place, twenty for the stamp, one for the stop
+abbrev pub word_width : PlanTable → ℕ
+word_width t = sum_below (zone_bits t) (zone_count t) + place_count t + 21

@@ -1,7 +1,8 @@
 -- Laws of all tables: what is read of a row, which way a plate goes, which poses move, and the rules of a plan again,
 -- on the rows themselves.
-use Rattle.std.specs.Prelude.{◌≡◌, ◌↔◌, ◌⊎◌, ℕ, ◌+◌, ◌*◌, ◌<◌, ◌≤◌, true, List, ◌∷◌, ◌++◌, length, get_or, All}
+use Rattle.std.specs.Prelude.{◌≡◌, ◌↔◌, ◌⊎◌, ℕ, ◌+◌, ◌<◌, ◌≤◌, true, false, List, ◌∷◌, ◌++◌, length, get_or, All}
 use Rattle.std.specs.Prelude.{Option, Some, None}
+use Rattle.plan_types.specs.Below.{sum_below}
 use Rattle.plan_types.specs.declared.posture.Posture.{Posture}
 use Rattle.plan_types.specs.declared.posture.Posture.TheVariants.{Closed, Moving, OpenIn, OpenOut}
 use Rattle.plan_types.specs.declared.table.Way.{Way}
@@ -9,7 +10,7 @@ use Rattle.plan_types.specs.declared.table.PlanZone.{PlanZone}
 use Rattle.plan_types.specs.declared.table.PlanPose.{PlanPose}
 use Rattle.plan_types.specs.Table.{PlanTable, plan_table, zone_row, pose_row, keeper_of, posture_of, is_moving_pose}
 use Rattle.plan_types.specs.Table.{transfer_of, no_zone, no_pose, has_pose, is_hosted, is_party, is_place_of}
-use Rattle.plan_types.specs.Table.{word_width}
+use Rattle.plan_types.specs.Table.{is_given, zone_shape, zone_bits, word_width}
 use Rattle.plan_types.specs.Plan.{IsPlan}
 use Rattle.plan_types.specs.Examples.{way, zone}
 use Rattle.plan_types.specs.Readings.{transfer}
@@ -70,8 +71,15 @@ pub record RightsByRow (t : PlanTable) (m : ℕ) : Type 0 where
       × ((m ≡ (get_or t.zones z no_zone).host) ⊎ (m ≡ (get_or t.zones z no_zone).guest)))
   pub keeps : (p : ℕ) → (is_place_of t p m ≡ true) ↔ Keeps t m p
   pub poses : (p : ℕ) → (has_pose t m p ≡ true) ↔ ((p < length t.poses) × ((get_or t.poses p no_pose).machine ≡ m))
-  -- five bits for each zone, one for each place, twenty-one for the stamp and the stop
-  pub width : word_width t ≡ 5 * length t.zones + length t.places + 21
+  -- the bits of each zone, one for each place, twenty-one for the stamp and the stop
+  pub width : word_width t ≡ sum_below (zone_bits t) (length t.zones) + length t.places + 21
+
+-- what a zone has in the word, by its row and by the poses: a flag, unless its row has no way; and a posture counts
+-- exactly if the zone is in the tables and some pose gives it the posture
+pub record ShapesByRow (t : PlanTable) (z : ℕ) : Type 0 where
+  pub flag : ((zone_shape t z).flag ≡ false) ↔ (((zone_row t z).inward ≡ None) × ((zone_row t z).outward ≡ None))
+  pub given : (q : Posture) → (is_given t z q ≡ true)
+      ↔ ((z < length t.zones) × ((p : ℕ) × (p < length t.poses) × (posture_of t p z ≡ Some q)))
 
 -- a way, if there is one, starts at a place that one machine keeps, and ends at one that the other keeps
 abbrev pub GoesBetween : PlanTable → ℕ → ℕ → Option Way → Type 0
@@ -96,7 +104,7 @@ pub record KeepsRules (t : PlanTable) : Type 0 where
   pub poses : length t.poses < 65
   pub places : length t.places < 17
   -- twenty-one of a word's 64 bits are for the stamp and the stop
-  pub width : length t.places + 5 * length t.zones < 44
+  pub width : length t.places + sum_below (zone_bits t) (length t.zones) < 44
   pub keepers : All (λ m. m < t.machines) t.places
   pub zone_rows : All (KeepsZoneRules t) t.zones
   pub pose_rows : All (KeepsPoseRules t) t.poses

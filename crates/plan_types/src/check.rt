@@ -87,7 +87,7 @@ impl Sheet {
     fn width_fault(&self) -> Option<PlanFault>
         ensures { result ≡ faults.width_fault self.now }
     {
-        let width = 5 * self.zone_count() + self.place_count() + 21;
+        let width = self.word_width();
         if width <= 64 {
             None
         } else {

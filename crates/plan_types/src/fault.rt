@@ -12,7 +12,7 @@ pub enum PlanFault {
     TooManyPoses,
     /// There are more than 16 places.
     TooManyPlaces,
-    /// The plan's word has `missing` bits more than 64. It has five for each zone, one for each place, and 21.
+    /// The plan's word has `missing` bits more than 64. It has two to five for each zone, one for each place, and 21.
     TooWide { missing: u8 },
     /// A place is kept by a machine that isn't in the plan.
     NoSuchKeeper { place: usize },

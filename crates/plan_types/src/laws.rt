@@ -3,6 +3,7 @@ ghost use Rattle.std.specs.Prelude.{ℕ};
 ghost use Rattle.plan_types.specs.FaultLaws.{FaultsAreTrue, FirstFaultsAreTold};
 ghost use Rattle.plan_types.specs.Table.{PlanTable};
 ghost use Rattle.plan_types.specs.TableLaws.{RowsByNumber, TransfersByRow, PosesByZone, PlansKeepRules, RightsByRow};
+ghost use Rattle.plan_types.specs.TableLaws.{ShapesByRow};
 
 /// In all tables a row's number is how many rows come before it; past the end stands a row that says nothing.
 pub fn rows_by_number()
@@ -23,6 +24,12 @@ pub fn poses_by_zone()
 /// In all tables who hosts a zone, is its party, keeps a place or has a pose is whom the row of this number names.
 pub fn rights_by_row()
     ensures { (t : PlanTable) (m : ℕ) → RightsByRow t m }
+{}
+
+/// In all tables a zone has a flag in the word unless no plate has a way through it, and a posture counts for its bits
+/// exactly if some pose gives it.
+pub fn shapes_by_row()
+    ensures { (t : PlanTable) (z : ℕ) → ShapesByRow t z }
 {}
 
 /// A fault that is found in tables is there, at the place, zone or pose that it names.

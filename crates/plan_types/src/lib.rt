@@ -13,6 +13,7 @@ pub mod plan;
 pub mod posture;
 mod read;
 mod rows;
+mod shape;
 mod sheet;
 pub mod table;
 mod write;
@@ -23,6 +24,7 @@ pub use fault::PlanFault;
 pub use plan::Plan;
 pub use posture::Posture;
 pub use read::read_plan;
+pub use shape::{Postures, ZoneShape};
 pub use table::{
     MAX_MACHINES, MAX_PLACES, MAX_POSES, MAX_ZONES, PlanPose, PlanZone, Tables, Transfer, WATCH,
     Way,

@@ -7,6 +7,7 @@ ghost use Rattle.plan_types.specs.Faults.{plan_fault};
 
 use crate::fault::PlanFault;
 use crate::posture::Posture;
+use crate::shape::ZoneShape;
 use crate::sheet::Sheet;
 use crate::table::{PlanPose, PlanZone, Tables, Transfer, Way};
 use std::marker::Model;
@@ -156,6 +157,14 @@ impl Plan {
         ensures { result ≡ table.posture_of self.now pose zone }
     {
         self.sheet.posture(usize::from(pose), usize::from(zone))
+    }
+
+    /// What a zone takes in the plan's word; the bits of its owner alone if there is no such zone. It is sought among
+    /// all poses, so `plan_word` keeps it in a layout.
+    pub fn zone_shape(&self, zone: u8) -> ZoneShape
+        ensures { result ≡ table.zone_shape self.now zone }
+    {
+        self.sheet.zone_shape(usize::from(zone))
     }
 
     /// Whether a pose can be taken only after moving; no if there is no such pose.

@@ -1,5 +1,6 @@
 //! The tables of a plan in memory of a fixed size: each row as its bytes, and blank rows after the last.
 ghost use Rattle.std.specs.Prelude.{◌≡◌, ◌≤◌, ◌<◌, ◌∷◌, ◌++◌, [], length};
+ghost use Rattle.plan_types.specs.Below.{any_below, sum_below};
 ghost use Rattle.plan_types.specs.Table as table;
 ghost use Rattle.plan_types.specs.Table.{plan_table};
 ghost use Rattle.plan_types.specs.Kept as kept;
@@ -8,6 +9,7 @@ use crate::posture::Posture;
 use crate::rows::{
     POSE_BYTES, ZONE_BYTES, gives_moving, pose_row, pose_told, posture_in_row, zone_row, zone_told,
 };
+use crate::shape::ZoneShape;
 use crate::table::{MAX_PLACES, MAX_POSES, MAX_ZONES, PlanPose, PlanZone, Tables};
 use std::marker::Model;
 
@@ -209,6 +211,62 @@ impl Sheet {
         ensures { result ≡ table.is_moving_pose self.now pose }
     {
         pose < usize::from(self.pose_count) && gives_moving(&self.poses[pose])
+    }
+
+    fn gives(&self, zone: usize, posture: Posture, pose: usize) -> bool
+        ensures { result ≡ table.gives self.now zone posture pose }
+    {
+        self.posture(pose, zone) == Some(posture)
+    }
+
+    #[tactic(auto, using(crate::proofs::lemmas::Below::any_below_more))]
+    fn any_gives(&self, zone: usize, posture: Posture) -> bool
+        ensures { result ≡ any_below (table.gives self.now zone posture) (table.pose_count self.now) }
+    {
+        let mut given = false;
+        for pose in 0..usize::from(self.pose_count()) {
+            given = given || self.gives(zone, posture, pose);
+        }
+        given
+    }
+
+    /// Whether some pose gives a zone of these a posture.
+    fn is_given(&self, zone: usize, posture: Posture) -> bool
+        ensures { result ≡ table.is_given self.now zone posture }
+    {
+        zone < usize::from(self.zone_count()) && self.any_gives(zone, posture)
+    }
+
+    /// What a zone takes in the plan's word.
+    pub(crate) fn zone_shape(&self, zone: usize) -> ZoneShape
+        ensures { result ≡ table.zone_shape self.now zone }
+    {
+        let row = self.zone(zone);
+        ZoneShape {
+            flag: row.inward.is_some() || row.outward.is_some(),
+            moves: self.is_given(zone, Posture::Moving),
+            opens_in: self.is_given(zone, Posture::OpenIn),
+            opens_out: self.is_given(zone, Posture::OpenOut),
+        }
+    }
+
+    /// How many bits the zones take.
+    fn zones_width(&self) -> u8
+        ensures width { result ≡ sum_below (table.zone_bits self.now) (table.zone_count self.now) }
+        ensures few { result ≤ 50 }
+    {
+        let mut width = 0;
+        for zone in 0..usize::from(self.zone_count()) {
+            width += self.zone_shape(zone).bits();
+        }
+        width
+    }
+
+    /// How many bits the plan's word has.
+    pub(crate) fn word_width(&self) -> u8
+        ensures { result ≡ table.word_width self.now }
+    {
+        self.zones_width() + self.place_count() + 21
     }
 
     /// The machine that keeps a place; the first where there is no such place.

@@ -1,5 +1,6 @@
 pub mod lemmas
 mod Apart
+mod Laying
 mod Seen
 mod Guarding
 mod Packing

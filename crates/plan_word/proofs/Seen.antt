@@ -13,6 +13,7 @@ not_there : (a b : ℕ) → b ≤ a → nat_lt a b ≡ false
 not_there a b past = false_from_ne_true (nat_lt a b) (λ e. let l = ltb-true a b e in absurd (omega arith))
 
 pub zone_in : (t : PlanTable) (w z : ℕ) → zone_count t ≤ 10 → zone_in_word t w z ≡ zone_at (state_told t w) z
+unfolding state_told
 zone_in t w z few =
     elim (cases_lt z 10) [
       | inl l ↦ sym (get_or-map-range_with_len (zone_in_word t w) 0 10 z z free_zone l (omega arith))
@@ -21,6 +22,7 @@ zone_in t w z few =
     ]
 
 pub place_in : (t : PlanTable) (w p : ℕ) → place_count t ≤ 16 → place_told t w p ≡ is_full (state_told t w) p
+unfolding state_told
 place_in t w p few =
     elim (cases_lt p 16) [
       | inl l ↦ sym (get_or-map-range_with_len (place_told t w) 0 16 p p false l (omega arith))

@@ -3,9 +3,11 @@ use Rattle.std.proofs.Common.{◌≡◌, ◌<◌, ◌≤◌, ℕ, zero, suc, Boo
 use Rattle.std.proofs.lemmas.List.{get_or_past}
 use Rattle.plan_types.specs.Examples.{press_table, lift_table, counted}
 use Rattle.plan_types.proofs.lemmas.Checked.{is_plan}
-use Rattle.plan_rules.specs.State.{free_zone, one_if, zone_at, is_full, coming}
+use Rattle.plan_types.specs.Table.{postures_of, zone_shape}
+use Rattle.plan_rules.specs.State.{free_zone, one_if, zone_at, posture_at, is_full, coming}
 use Rattle.plan_rules.specs.Sound.{IsLawfulZone, IsSound}
 use Rattle.plan_rules.specs.Examples.{press_start, full_press, lift_start}
+use Rattle.plan_word.specs.OfPlan.{can_have}
 use Rattle.plan_word.specs.Examples.{with_place, StatesOfPlans}
 use Rattle.plan_word.proofs.lemmas.Staying.{start_stays}
 
@@ -57,10 +59,14 @@ full_sound = record {
       omega (arith, none, one);
 }
 
+full_told : (z : ℕ) → z < 1 → can_have (postures_of (zone_shape press_table z)) (posture_at full_press z) ≡ true
+full_told zero l = refl
+full_told (suc z) l = absurd (omega arith)
+
 pub states_of_plans : StatesOfPlans
 states_of_plans = record {
   start = start_stays press_table press_start (is_plan press_table refl) (record { stamp_in_range = omega arith; has_sixteen_places = refl; same = refl }) start_places;
-  full = record { sound = full_sound; no_more_zones = full_zones; no_more_plates = full_places };
+  full = record { sound = full_sound; postures_told = full_told; no_more_zones = full_zones; no_more_plates = full_places };
   lift = start_stays lift_table lift_start (is_plan lift_table refl) (record { stamp_in_range = omega arith; has_sixteen_places = refl; same = refl }) lift_places;
   sixteenth_place = start_stays (counted 0 16) (with_place 15) (is_plan (counted 0 16) refl) (record { stamp_in_range = omega arith; has_sixteen_places = refl; same = refl }) (λ p l. get_or_past (with_place 15).full p false l);
 }

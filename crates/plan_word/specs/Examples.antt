@@ -2,7 +2,8 @@
 use Rattle.std.specs.Prelude.{◌≡◌, ℕ, ◌-◌, Bool, true, false, [], ◌∷◌, ◌++◌, map, replicate, Option, Some, None}
 use Rattle.plan_types.specs.declared.posture.Posture.{Posture}
 use Rattle.plan_types.specs.declared.posture.Posture.TheVariants.{Closed, Moving, OpenIn, OpenOut}
-use Rattle.plan_types.specs.Examples.{press_table, lift_table, counted}
+use Rattle.plan_types.specs.Examples.{press_table, lift_table, counted, wide_table, gated_table, roads_table}
+use Rattle.plan_types.specs.Examples.{rack_table}
 use Rattle.plan_rules.specs.declared.state.ZoneState.{ZoneState}
 use Rattle.plan_rules.specs.declared.state.State.{State}
 use Rattle.plan_rules.specs.State.{free_zone, zone_at, start_state}
@@ -10,7 +11,9 @@ use Rattle.plan_rules.specs.Examples.{press_start, full_press, lift_start, press
 use Rattle.plan_word.specs.declared.layout.Field.TheVariants.{Zone, Place, Stamp, Stop}
 use Rattle.plan_word.specs.Layout.{most_zones}
 use Rattle.plan_word.specs.OfPlan.{IsOfPlan}
-use Rattle.plan_word.specs.Packed.{packed, owner_code, posture_code, zone_code, held, part_of, zone_parts, place_parts}
+use Rattle.plan_types.specs.declared.shape.Postures.TheVariants.{Two}
+use Rattle.plan_word.specs.Packed.{packed, owner_code, posture_code, code_of, zone_code, held, part_of, zone_parts}
+use Rattle.plan_word.specs.Packed.{place_parts}
 use Rattle.plan_word.specs.Reading.{told, state_told, owner_of_code, posture_of_code, zone_of_code, zone_in_word}
 use Rattle.plan_word.specs.Reading.{place_told}
 
@@ -67,6 +70,24 @@ far_zones = record {
   stopped = true;
 }
 
+-- the second arm is at the rack, the left press moves, and the second arm has a plate
+abbrev pub at_rack : State
+at_rack = record {
+  zones = zone (Some 1) false OpenIn ∷ zone (Some 2) false Moving ∷ replicate 8 free_zone;
+  full = false ∷ true ∷ replicate 14 false;
+  stamp = 5;
+  stopped = false;
+}
+
+-- a plate is in the last of ten gates, and another one at the last place of three
+abbrev pub at_last_gate : State
+at_last_gate = record {
+  zones = replicate 9 free_zone ++ zone (Some 1) true OpenIn ∷ [];
+  full = false ∷ false ∷ true ∷ replicate 13 false;
+  stamp = 3;
+  stopped = true;
+}
+
 -- the press: its zone in bits 0 to 4, its places in 5 and 6, the stamp from 7, the stop in 27
 -- the lift: its zones from bits 0 and 5, its places in 10 to 12, the stamp from 13
 pub record WordsAreRight : Type 0 where
@@ -79,9 +100,26 @@ pub record WordsAreRight : Type 0 where
   -- the zones from bits 0 and 5, the places in 10 to 12, the stamp from 13, the stop in 33; each host has its own zone
   pub two_presses_word : packed presses_table two_presses ≡ 0x200006AA9
   -- the third zone and the last one of eight, the last place of three, the last stamp, and a stop
-  pub most_zones_word : packed (counted 8 3) far_zones ≡ 0xFFFFFC4800004800
+  pub most_zones_word : packed (wide_table 8 3) far_zones ≡ 0xFFFFFC4800004800
   pub last_of_places : packed (counted 0 16) (with_place 15) ≡ 0x8000
-  pub nothing : packed (counted 8 3) (start_state (replicate 16 false) 0) ≡ 0
+  pub nothing : packed (wide_table 8 3) (start_state (replicate 16 false) 0) ≡ 0
+  -- the rack in bits 0 to 2, the presses from 3 and 8, the places in 13 to 16, the stamp from 17
+  pub rack_word : packed rack_table at_rack ≡ 0xA404E
+  -- ten gates of four bits
+  pub gates_word : packed (gated_table 10 3) at_last_gate ≡ 0x80001CD000000000
+  -- zones of two, three and four bits: with no flag, and with one posture, two, or all
+  pub rack_zones : map (zone_code rack_table 0)
+      (free_zone ∷ zone (Some 0) false Closed ∷ zone (Some 0) false OpenIn ∷ zone (Some 1) false OpenIn
+      ∷ zone None false OpenIn ∷ []) ≡ 0 ∷ 1 ∷ 5 ∷ 6 ∷ 4 ∷ []
+  pub roads : map (zone_code roads_table 0)
+      (free_zone ∷ zone (Some 0) false Moving ∷ zone (Some 1) false OpenIn ∷ zone None false OpenOut ∷ [])
+      ≡ 0 ∷ 5 ∷ 10 ∷ 12 ∷ []
+  pub gates : map (zone_code (gated_table 10 3) 3)
+      (zone (Some 1) false Closed ∷ zone (Some 0) false OpenIn ∷ zone (Some 1) true OpenIn ∷ []) ≡ 1 ∷ 10 ∷ 13 ∷ []
+  pub bare : map (zone_code (counted 2 0) 1) (free_zone ∷ zone (Some 1) false Closed ∷ []) ≡ 0 ∷ 1 ∷ []
+  -- what has no bits isn't told
+  pub not_told : map (zone_code (counted 2 0) 1) (zone (Some 0) true OpenIn ∷ zone None false Moving ∷ []) ≡ 2 ∷ 0 ∷ []
+  pub codes : map (code_of (Two OpenOut)) (Closed ∷ OpenOut ∷ Moving ∷ []) ≡ 0 ∷ 1 ∷ 1 ∷ []
   -- by the host and the guest of each zone of the lift, and by no machine
   pub owners : map (owner_code lift_table 1) (None ∷ Some 0 ∷ Some 2 ∷ []) ≡ 0 ∷ 1 ∷ 2 ∷ []
   pub owners_below : map (owner_code lift_table 0) (None ∷ Some 0 ∷ Some 1 ∷ []) ≡ 0 ∷ 1 ∷ 2 ∷ []
@@ -104,8 +142,17 @@ pub record WordsTell : Type 0 where
   pub press_full : state_told press_table 0x7FFFFF2 ≡ full_press
   pub lift_lifted : state_told lift_table 0x143C1 ≡ lifted
   pub two_presses_told : state_told presses_table 0x200006AA9 ≡ two_presses
-  pub most_zones_told : state_told (counted 8 3) 0xFFFFFC4800004800 ≡ far_zones
-  pub nothing : state_told (counted 8 3) 0 ≡ start_state (replicate 16 false) 0
+  pub most_zones_told : state_told (wide_table 8 3) 0xFFFFFC4800004800 ≡ far_zones
+  pub rack_told : state_told rack_table 0xA404E ≡ at_rack
+  pub gates_told : state_told (gated_table 10 3) 0x80001CD000000000 ≡ at_last_gate
+  pub rack_codes : map (zone_of_code rack_table 0) (0 ∷ 1 ∷ 4 ∷ 5 ∷ 6 ∷ [])
+      ≡ free_zone ∷ zone (Some 0) false Closed ∷ zone None false OpenIn ∷ zone (Some 0) false OpenIn
+      ∷ zone (Some 1) false OpenIn ∷ []
+  pub road_codes : map (zone_of_code roads_table 0) (5 ∷ 10 ∷ 12 ∷ [])
+      ≡ zone (Some 0) false Moving ∷ zone (Some 1) false OpenIn ∷ zone None false OpenOut ∷ []
+  pub gate_codes : map (zone_of_code (gated_table 10 3) 3) (10 ∷ 13 ∷ [])
+      ≡ zone (Some 0) false OpenIn ∷ zone (Some 1) true OpenIn ∷ []
+  pub nothing : state_told (wide_table 8 3) 0 ≡ start_state (replicate 16 false) 0
   pub owners : map (owner_of_code lift_table 1) (0 ∷ 1 ∷ 2 ∷ 3 ∷ []) ≡ None ∷ Some 0 ∷ Some 2 ∷ Some 2 ∷ []
   pub postures : map posture_of_code (0 ∷ 1 ∷ 2 ∷ 3 ∷ []) ≡ Closed ∷ Moving ∷ OpenIn ∷ OpenOut ∷ []
   pub zones : map (zone_of_code lift_table 0) (0 ∷ 9 ∷ 14 ∷ 21 ∷ 24 ∷ [])
@@ -121,8 +168,8 @@ pub record WordsTell : Type 0 where
   pub stamp : told most_zones 0x2AAAAFFFFFFFFFFF Stamp ≡ 0x55555
   pub stop : told most_zones 0xFFFFFFFFFFFFFFFF Stop ≡ 1
 
--- states that aren't the press's: they use a zone or a place past its tables, the next one or the last that a state
--- has; a stamp is too great; two plates are for one place, or a zone keeps no rule
+-- states that aren't the press's, nor another plan's: they use a zone or a place past its tables, the next one or the
+-- last that a state has; a stamp is too great; two plates are for one place, or a zone keeps no rule
 pub record NotOfPress : Type 0 where
   pub second_zone : ¬ IsOfPlan press_table (with_zone 1)
   pub tenth_zone : ¬ IsOfPlan press_table (with_zone 9)
@@ -136,6 +183,8 @@ pub record NotOfPress : Type 0 where
         free_zone ∷ free_zone ∷ zone None false OpenIn ∷ replicate 7 free_zone;
   })
   pub fourth_place : ¬ IsOfPlan lift_table (with_place 3)
+  -- no pose lets the rack move
+  pub rack_moves : ¬ IsOfPlan rack_table (record at_rack { zones = zone (Some 0) false Moving ∷ replicate 9 free_zone })
 
 -- states of the press: a start, and one in which the loader has the open press and both have a plate; and of the lift
 pub record StatesOfPlans : Type 0 where

@@ -1,6 +1,7 @@
 -- Laws of the word of every state of a plan.
 use Rattle.std.specs.Prelude.{◌≡◌, ℕ, ◌+◌, ◌*◌, ◌/◌, ◌%◌, ◌<◌, ◌^◌, IsTrue}
-use Rattle.plan_types.specs.Table.{PlanTable, zone_count, place_count, word_width}
+use Rattle.plan_types.specs.Below.{sum_below}
+use Rattle.plan_types.specs.Table.{PlanTable, zone_count, place_count, zone_bits, word_width}
 use Rattle.plan_types.specs.Examples.{lift_table}
 use Rattle.plan_rules.specs.declared.state.State.{State}
 use Rattle.plan_rules.specs.State.{zone_at, is_full, one_if}
@@ -12,16 +13,18 @@ use Rattle.plan_word.specs.Reading.{told}
 
 -- each number fits its field, and the word's field has it; the word has no bit above its width
 pub record IsLaidOut (t : PlanTable) (s : State) : Type 0 where
-  pub fits : (f : Field) → IsTrue (has (counts_of t) f) → held t s f < 2 ^ bits_of f
+  pub fits : (f : Field) → IsTrue (has (counts_of t) f) → held t s f < 2 ^ bits_of (counts_of t) f
   pub reads_back : (f : Field) → IsTrue (has (counts_of t) f) → told (counts_of t) (packed t s) f ≡ held t s f
   pub bound : packed t s < 2 ^ width_of (counts_of t)
 
 -- so the word tells each part of the state in bits of its own, and no more
 pub record TellsState (t : PlanTable) (s : State) : Type 0 where
-  pub zone : (z : ℕ) → z < zone_count t → packed t s / 2 ^ (5 * z) % 32 ≡ zone_code t z (zone_at s z)
-  pub place : (p : ℕ) → p < place_count t → packed t s / 2 ^ (5 * zone_count t + p) % 2 ≡ one_if (is_full s p)
-  pub stamp : packed t s / 2 ^ (5 * zone_count t + place_count t) % 1048576 ≡ s.stamp
-  pub stop : packed t s / 2 ^ (5 * zone_count t + place_count t + 20) % 2 ≡ one_if s.stopped
+  pub zone : (z : ℕ) → z < zone_count t → packed t s / 2 ^ sum_below (zone_bits t) z % 2 ^ zone_bits t z
+      ≡ zone_code t z (zone_at s z)
+  pub place : (p : ℕ) → p < place_count t
+      → packed t s / 2 ^ (sum_below (zone_bits t) (zone_count t) + p) % 2 ≡ one_if (is_full s p)
+  pub stamp : packed t s / 2 ^ (sum_below (zone_bits t) (zone_count t) + place_count t) % 1048576 ≡ s.stamp
+  pub stop : packed t s / 2 ^ (sum_below (zone_bits t) (zone_count t) + place_count t + 20) % 2 ≡ one_if s.stopped
   pub above : packed t s < 2 ^ word_width t
 
 abbrev pub LayoutsTell : Type 0

@@ -1,24 +1,36 @@
 -- The layout of a plan's word: the zones, the places, the stamp and the stop, from the lowest bit up.
-use Rattle.std.specs.Prelude.{◌≡◌, ◌≢◌, ℕ, ◌+◌, ◌*◌, ◌≤◌, Bool, true, false, nat_lt, [], ◌∷◌, map, ◌⊎◌, IsTrue}
-use Rattle.plan_types.specs.Table.{PlanTable, zone_count, place_count, word_width}
-use Rattle.plan_types.specs.Examples.{press_table, lift_table}
+use Rattle.std.specs.Prelude.{◌≡◌, ◌≢◌, ℕ, ◌+◌, ◌≤◌, Bool, true, false, nat_lt, List, [], ◌∷◌, get_or, map, replicate}
+use Rattle.std.specs.Prelude.{◌⊎◌, IsTrue}
+use Rattle.std.specs.List.{range_with_len}
+use Rattle.plan_types.specs.declared.shape.ZoneShape.{ZoneShape}
+use Rattle.plan_types.specs.Below.{sum_below}
+use Rattle.plan_types.specs.Table.{PlanTable, zone_count, place_count, zone_shape, no_shape, shape_bits, word_width}
+use Rattle.plan_types.specs.Examples.{press_table, lift_table, roads_table, rack_table, gated_table}
 use Rattle.plan_word.specs.declared.layout.Field.{Field}
 use Rattle.plan_word.specs.declared.layout.Field.TheVariants.{Zone, Place, Stamp, Stop}
 
--- how many zones and places a plan has
+-- how many zones and places a plan has, and which fields each zone has
 pub record Counts : Type 0 where
   pub zones : ℕ
   pub places : ℕ
+  pub shapes : List ZoneShape
 
 abbrev pub counts_of : PlanTable → Counts
-counts_of t = record { zones = zone_count t; places = place_count t }
+counts_of t = record {
+  zones = zone_count t;
+  places = place_count t;
+  shapes = map (zone_shape t) (range_with_len 0 (zone_count t));
+}
 
--- a zone has five bits (owner two, flag one, posture two), a place one, the stamp twenty, the stop one
-abbrev pub bits_of : Field → ℕ
-bits_of (Zone z) = 5
-bits_of (Place p) = 1
-bits_of Stamp = 20
-bits_of Stop = 1
+abbrev pub shape_at : Counts → ℕ → ZoneShape
+shape_at c z = get_or c.shapes z no_shape
+
+-- a zone has the bits of its shape, a place one, the stamp twenty, the stop one
+abbrev pub bits_of : Counts → Field → ℕ
+bits_of c (Zone z) = shape_bits (shape_at c z)
+bits_of c (Place p) = 1
+bits_of c Stamp = 20
+bits_of c Stop = 1
 
 abbrev pub has : Counts → Field → Bool
 has c (Zone z) = nat_lt z c.zones
@@ -26,18 +38,22 @@ has c (Place p) = nat_lt p c.places
 has c Stamp = true
 has c Stop = true
 
+-- where the first zones end
+abbrev pub zones_end : Counts → ℕ → ℕ
+zones_end c n = sum_below (λ z. shape_bits (shape_at c z)) n
+
 -- the lowest bit of a field
 abbrev pub start_of : Counts → Field → ℕ
-start_of c (Zone z) = 5 * z
-start_of c (Place p) = 5 * c.zones + p
-start_of c Stamp = 5 * c.zones + c.places
-start_of c Stop = 5 * c.zones + c.places + 20
+start_of c (Zone z) = zones_end c z
+start_of c (Place p) = zones_end c c.zones + p
+start_of c Stamp = zones_end c c.zones + c.places
+start_of c Stop = zones_end c c.zones + c.places + 20
 
 abbrev pub end_of : Counts → Field → ℕ
-end_of c f = start_of c f + bits_of f
+end_of c f = start_of c f + bits_of c f
 
 abbrev pub width_of : Counts → ℕ
-width_of c = 5 * c.zones + c.places + 21
+width_of c = zones_end c c.zones + c.places + 21
 
 pub record FieldsAreApart : Type 0 where
   -- the width that a plan's test looks at
@@ -46,17 +62,36 @@ pub record FieldsAreApart : Type 0 where
       → (end_of c f ≤ start_of c g) ⊎ (end_of c g ≤ start_of c f)
   pub within : (c : Counts) (f : Field) → IsTrue (has c f) → end_of c f ≤ width_of c
 
--- the most zones that a plan with three places can have
+-- zones of five bits, and of four
+abbrev pub wide_shape : ZoneShape
+wide_shape = record { flag = true; moves = true; opens_in = true; opens_out = true }
+
+abbrev pub gate_shape : ZoneShape
+gate_shape = record { flag = true; moves = false; opens_in = true; opens_out = false }
+
+-- so many zones of five bits, and places
+abbrev pub wide_counts : ℕ → ℕ → Counts
+wide_counts zones places =
+    record { zones = zones; places = places; shapes = replicate zones wide_shape }
+
+-- the most zones of five bits that a plan with three places can have
 abbrev pub most_zones : Counts
-most_zones = record { zones = 8; places = 3 }
+most_zones = wide_counts 8 3
+
+-- ten zones of four bits
+abbrev pub ten_gates : Counts
+ten_gates = record { zones = 10; places = 3; shapes = replicate 10 gate_shape }
 
 -- no zones and no places
 abbrev pub no_rows : Counts
-no_rows = record { zones = 0; places = 0 }
+no_rows = record { zones = 0; places = 0; shapes = [] }
 
 -- whether its word has a field, where the field begins, and where it ends
+abbrev pub span_in : Counts → Field → Bool × ℕ × ℕ
+span_in c f = (has c f, start_of c f, end_of c f)
+
 abbrev pub span : Field → Bool × ℕ × ℕ
-span f = (has most_zones f, start_of most_zones f, end_of most_zones f)
+span f = span_in most_zones f
 
 -- words whose fields were laid out by hand
 pub record ExamplesFit : Type 0 where
@@ -76,20 +111,32 @@ pub record ExamplesFit : Type 0 where
   pub no_fourth_place : has most_zones (Place 3) ≡ false
   pub stamp : span Stamp ≡ (true, 43, 63)
   pub stop : span Stop ≡ (true, 63, 64)
-  pub bits : map bits_of (Zone 3 ∷ Place 5 ∷ Stamp ∷ Stop ∷ []) ≡ 5 ∷ 1 ∷ 20 ∷ 1 ∷ []
+  pub bits : map (bits_of most_zones) (Zone 3 ∷ Place 5 ∷ Stamp ∷ Stop ∷ []) ≡ 5 ∷ 1 ∷ 20 ∷ 1 ∷ []
   pub middle : map (start_of most_zones) (Zone 3 ∷ Place 1 ∷ []) ≡ 15 ∷ 41 ∷ []
   pub empty : map (has no_rows) (Zone 0 ∷ Place 0 ∷ Stamp ∷ Stop ∷ []) ≡ false ∷ false ∷ true ∷ true ∷ []
   pub empty_starts : map (start_of no_rows) (Stamp ∷ Stop ∷ []) ≡ 0 ∷ 20 ∷ []
   pub empty_width : width_of no_rows ≡ 21
-  pub counts : counts_of lift_table ≡ record { zones = 2; places = 3 }
+  -- ten zones of four bits, and the same of a plan
+  pub gates : map (span_in ten_gates) (Zone 0 ∷ Zone 9 ∷ Place 2 ∷ Stop ∷ [])
+      ≡ (true, 0, 4) ∷ (true, 36, 40) ∷ (true, 42, 43) ∷ (true, 63, 64) ∷ []
+  pub plan_of_gates : map (span_in (counts_of (gated_table 10 3))) (Zone 0 ∷ Zone 9 ∷ Zone 10 ∷ Place 2 ∷ Stop ∷ [])
+      ≡ (true, 0, 4) ∷ (true, 36, 40) ∷ (false, 40, 42) ∷ (true, 42, 43) ∷ (true, 63, 64) ∷ []
+  -- two roads, without plates; a rack of three bits before two presses
+  pub roads : map (span_in (counts_of roads_table)) (Zone 0 ∷ Zone 1 ∷ Stamp ∷ Stop ∷ [])
+      ≡ (true, 0, 4) ∷ (true, 4, 8) ∷ (true, 8, 28) ∷ (true, 28, 29) ∷ []
+  pub rack : map (span_in (counts_of rack_table)) (Zone 0 ∷ Zone 1 ∷ Zone 2 ∷ Place 0 ∷ Place 3 ∷ Stamp ∷ Stop ∷ [])
+      ≡ (true, 0, 3) ∷ (true, 3, 8) ∷ (true, 8, 13) ∷ (true, 13, 14) ∷ (true, 16, 17) ∷ (true, 17, 37)
+      ∷ (true, 37, 38) ∷ []
+  pub lift_counts : (counts_of lift_table).zones ∷ (counts_of lift_table).places ∷ [] ≡ 2 ∷ 3 ∷ []
 
 -- what the law says of some fields, of any word
 pub record FieldsFit (c : Counts) (t : PlanTable) : Type 0 where
-  pub width : FieldsAreApart → 5 * zone_count t + place_count t + 21 ≡ word_width t
+  pub width : FieldsAreApart → zones_end (counts_of t) (zone_count t) + place_count t + 21 ≡ word_width t
   pub zones : FieldsAreApart → IsTrue (nat_lt 3 c.zones) → IsTrue (nat_lt 2 c.places)
-      → (20 ≤ 5 * c.zones + 2) ⊎ (5 * c.zones + 3 ≤ 15)
+      → (zones_end c 4 ≤ zones_end c c.zones + 2) ⊎ (zones_end c c.zones + 3 ≤ zones_end c 3)
   pub places : FieldsAreApart → IsTrue (nat_lt 2 c.places)
-      → (5 * c.zones + 3 ≤ 5 * c.zones + c.places) ⊎ (5 * c.zones + c.places + 20 ≤ 5 * c.zones + 2)
-  pub last_zone : FieldsAreApart → IsTrue (nat_lt 7 c.zones) → 40 ≤ width_of c
-  pub last_place : FieldsAreApart → IsTrue (nat_lt 2 c.places) → 5 * c.zones + 3 ≤ width_of c
-  pub stop : FieldsAreApart → 5 * c.zones + c.places + 21 ≤ width_of c
+      → (zones_end c c.zones + 3 ≤ zones_end c c.zones + c.places)
+      ⊎ (zones_end c c.zones + c.places + 20 ≤ zones_end c c.zones + 2)
+  pub last_zone : FieldsAreApart → IsTrue (nat_lt 7 c.zones) → zones_end c 8 ≤ width_of c
+  pub last_place : FieldsAreApart → IsTrue (nat_lt 2 c.places) → zones_end c c.zones + 3 ≤ width_of c
+  pub stop : FieldsAreApart → zones_end c c.zones + c.places + 21 ≤ width_of c

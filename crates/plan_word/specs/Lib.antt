@@ -1,4 +1,5 @@
 pub mod Layout
+pub mod Kept
 pub mod OfPlan
 pub mod Packed
 pub mod Reading

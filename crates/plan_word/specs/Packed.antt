@@ -1,9 +1,13 @@
 -- The word of a state: each field holds a number, at its place in the layout.
-use Rattle.std.specs.Prelude.{ℕ, ◌+◌, ◌*◌, ◌^◌, nat_eq, Option, Some, None, if◌then◌else◌}
+use Rattle.std.specs.Prelude.{ℕ, ◌+◌, ◌*◌, ◌^◌, Bool, true, false, ◌&&◌, nat_eq, Option, Some, None, if◌then◌else◌}
 use Rattle.plan_types.specs.declared.posture.Posture.{Posture}
 use Rattle.plan_types.specs.declared.posture.Posture.TheVariants.{Closed, Moving, OpenIn, OpenOut}
 use Rattle.plan_types.specs.Below.{sum_below}
-use Rattle.plan_types.specs.Table.{PlanTable, zone_count, place_count, host_of}
+use Rattle.plan_types.specs.declared.shape.Postures.{Postures}
+use Rattle.plan_types.specs.declared.shape.Postures.TheVariants.{Shut, Two, All}
+use Rattle.plan_types.specs.declared.shape.ZoneShape.{ZoneShape}
+use Rattle.plan_types.specs.Same.{same_posture}
+use Rattle.plan_types.specs.Table.{postures_of, PlanTable, zone_count, place_count, host_of, zone_shape}
 use Rattle.plan_rules.specs.declared.state.ZoneState.{ZoneState}
 use Rattle.plan_rules.specs.declared.state.State.{State}
 use Rattle.plan_rules.specs.State.{zone_at, is_full, one_if}
@@ -22,9 +26,24 @@ posture_code Moving = 1
 posture_code OpenIn = 2
 posture_code OpenOut = 3
 
--- the five bits of a zone, from the lowest: two for its owner, one for its flag, two for its posture
+-- of two postures, Closed is 0 and the other one 1
+abbrev pub code_of : Postures → Posture → ℕ
+code_of Shut q = 0
+code_of (Two other) q = if same_posture q Closed then 0 else 1
+code_of All q = posture_code q
+
+-- how many values a zone's flag has in the word
+abbrev pub flag_values : Bool → ℕ
+flag_values true = 2
+flag_values false = 1
+
+-- the bits of a zone, from the lowest: two for its owner, one for its flag if it has one, and those of its posture
+abbrev pub code_in : ZoneShape → ℕ → ZoneState → ℕ
+code_in s owner v =
+    owner + 4 * (one_if (s.flag && v.flag) + flag_values s.flag * code_of (postures_of s) v.posture)
+
 abbrev pub zone_code : PlanTable → ℕ → ZoneState → ℕ
-zone_code t z v = owner_code t z v.owner + 4 * one_if v.flag + 8 * posture_code v.posture
+zone_code t z v = code_in (zone_shape t z) (owner_code t z v.owner) v
 
 -- the number that a field holds
 abbrev pub held : PlanTable → State → Field → ℕ

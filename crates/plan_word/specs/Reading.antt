@@ -4,17 +4,21 @@ use Rattle.std.specs.Prelude.{if◌then◌else◌}
 use Rattle.std.specs.List.{range_with_len}
 use Rattle.plan_types.specs.declared.posture.Posture.{Posture}
 use Rattle.plan_types.specs.declared.posture.Posture.TheVariants.{Closed, Moving, OpenIn, OpenOut}
-use Rattle.plan_types.specs.Table.{PlanTable, zone_count, place_count, host_of, guest_of}
+use Rattle.plan_types.specs.declared.shape.Postures.{Postures}
+use Rattle.plan_types.specs.declared.shape.Postures.TheVariants.{Shut, Two, All}
+use Rattle.plan_types.specs.declared.shape.ZoneShape.{ZoneShape}
+use Rattle.plan_types.specs.Table.{postures_of, PlanTable, zone_count, place_count, host_of, guest_of, zone_shape}
 use Rattle.plan_rules.specs.declared.state.ZoneState.{ZoneState}
 use Rattle.plan_rules.specs.declared.state.State.{State}
 use Rattle.plan_rules.specs.State.{free_zone}
 use Rattle.plan_word.specs.declared.layout.Field.{Field}
 use Rattle.plan_word.specs.declared.layout.Field.TheVariants.{Zone, Place, Stamp, Stop}
 use Rattle.plan_word.specs.Layout.{Counts, counts_of, start_of, bits_of}
+use Rattle.plan_word.specs.Packed.{flag_values}
 
 -- the number in a field of a word
 abbrev pub told : Counts → ℕ → Field → ℕ
-told c w f = w / 2 ^ start_of c f % 2 ^ bits_of f
+told c w f = w / 2 ^ start_of c f % 2 ^ bits_of c f
 
 -- the spare code 3 tells the guest, as 2 does
 abbrev pub owner_of_code : PlanTable → ℕ → ℕ → Option ℕ
@@ -23,12 +27,20 @@ owner_of_code t z n = if nat_eq n 0 then None else if nat_eq n 1 then Some (host
 abbrev pub posture_of_code : ℕ → Posture
 posture_of_code n = if nat_eq n 0 then Closed else if nat_eq n 1 then Moving else if nat_eq n 2 then OpenIn else OpenOut
 
-abbrev pub zone_of_code : PlanTable → ℕ → ℕ → ZoneState
-zone_of_code t z n = record {
-  owner = owner_of_code t z (n % 4);
-  flag = nat_eq (n / 4 % 2) 1;
-  posture = posture_of_code (n / 8);
+abbrev pub posture_told : Postures → ℕ → Posture
+posture_told Shut n = Closed
+posture_told (Two other) n = if nat_eq n 0 then Closed else other
+posture_told All n = posture_of_code n
+
+abbrev pub state_in : ZoneShape → Option ℕ → ℕ → ZoneState
+state_in s owner n = record {
+  owner = owner;
+  flag = nat_eq (n % flag_values s.flag) 1;
+  posture = posture_told (postures_of s) (n / flag_values s.flag);
 }
+
+abbrev pub zone_of_code : PlanTable → ℕ → ℕ → ZoneState
+zone_of_code t z n = state_in (zone_shape t z) (owner_of_code t z (n % 4)) (n / 4)
 
 -- no field is about a zone or a place past the end of the plan's tables
 abbrev pub zone_in_word : PlanTable → ℕ → ℕ → ZoneState
@@ -43,7 +55,7 @@ zones_in_word t w = map (zone_in_word t w) (range_with_len 0 10)
 abbrev pub places_in_word : PlanTable → ℕ → List Bool
 places_in_word t w = map (place_told t w) (range_with_len 0 16)
 
-abbrev pub state_told : PlanTable → ℕ → State
+unfoldable pub state_told : PlanTable → ℕ → State
 state_told t w = record {
   zones = zones_in_word t w;
   full = places_in_word t w;

@@ -1,11 +1,14 @@
 //! The layout of a plan's word. Each field lies above the one before it: the zones, the places, the stamp, the stop.
-ghost use Rattle.std.specs.Prelude.{◌≡◌, ◌+◌, ◌*◌, ◌<◌, ◌≤◌, ◌^◌, ◌↔◌, Some, true};
+ghost use Rattle.std.specs.Prelude.{◌≡◌, ◌+◌, ◌*◌, ◌<◌, ◌≤◌, ◌^◌, ◌↔◌, Some, true, map};
 ghost use Rattle.std.specs.Prelude.{IsSome, IfSome};
+ghost use Rattle.std.specs.List.{range_with_len};
+ghost use Rattle.plan_types.specs.Table.{zone_shape, shape_bits};
 ghost use Rattle.plan_word.specs.Layout as layouts;
+ghost use Rattle.plan_word.specs.Kept.{ends_from};
 ghost use Rattle.plan_word.specs.Reading as reading;
 
 use crate::bits::{bits, with_bits};
-use plan_types::Plan;
+use plan_types::{MAX_ZONES, Plan, ZoneShape};
 use std::marker::Model;
 
 /// A part of a state, which has a field of the word.
@@ -21,24 +24,59 @@ pub enum Field {
     Stop,
 }
 
-/// Where each field of a plan's word lies.
-#[derive(Clone, Copy, Debug, PartialEq, Eq)]
+/// Where each field of a plan's word lies. It takes no memory beyond itself, and C can keep it, if only [`Layout::of`]
+/// makes it.
+#[repr(C)]
+#[derive(Clone, Copy, Debug)]
 pub struct Layout {
     zones: u8,
     places: u8,
+    shapes: [ZoneShape; MAX_ZONES],
+    ends: [u8; MAX_ZONES + 1],
 }
 
 impl Model for Layout {
-    ghost use Rattle.std.specs.Prelude.{◌≤◌};
-    ghost use Rattle.plan_word.specs.Layout.{Counts, width_of};
+    ghost use Rattle.plan_word.specs.Layout.{Counts};
 
     ghost Value = { Counts };
 
-    ghost view = { λ a. record { zones = a.zones; places = a.places } };
+    ghost use Rattle.plan_word.specs.Kept.{layout_in, kept, kept_back, IsKept};
 
-    ghost invariant = { λ a. width_of (record { zones = a.zones; places = a.places }) ≤ 64 };
+    ghost view = { layout_in };
 
-    ghost inverse = { λ c. record { zones = c.zones; places = c.places } };
+    ghost invariant = { IsKept };
+
+    ghost inverse = { kept };
+
+    ghost inverse_ok = { kept_back };
+}
+
+const NO_SHAPE: ZoneShape = ZoneShape {
+    flag: false,
+    moves: false,
+    opens_in: false,
+    opens_out: false,
+};
+
+fn shapes_of(plan: &Plan) -> [ZoneShape; MAX_ZONES]
+    ensures { result ≡ map (zone_shape plan.now) (range_with_len 0 10) }
+{
+    let mut shapes = [NO_SHAPE; MAX_ZONES];
+    for zone in 0..MAX_ZONES {
+        shapes[zone] = plan.zone_shape(zone as u8);
+    }
+    shapes
+}
+
+/// Where the first zones end, by how many they are.
+fn ends_of(shapes: &[ZoneShape; MAX_ZONES]) -> [u8; MAX_ZONES + 1]
+    ensures { result ≡ ends_from shapes.now }
+{
+    let mut ends = [0; MAX_ZONES + 1];
+    for zone in 0..MAX_ZONES {
+        ends[zone + 1] = ends[zone] + shapes[zone].bits();
+    }
+    ends
 }
 
 impl Layout {
@@ -46,10 +84,21 @@ impl Layout {
     pub fn of(plan: &Plan) -> Layout
         ensures { result ≡ layouts.counts_of plan.now }
     {
+        let shapes = shapes_of(plan);
+        let ends = ends_of(&shapes);
         Layout {
             zones: plan.zone_count(),
             places: plan.place_count(),
+            shapes,
+            ends,
         }
+    }
+
+    fn zones_end(&self) -> u8
+        ensures end { result ≡ layouts.zones_end self.now self.now.zones }
+        ensures fits { result + self.now.places + 21 ≤ 64 }
+    {
+        self.ends[usize::from(self.zones)]
     }
 
     /// How many bits the word has: at most 64.
@@ -57,7 +106,7 @@ impl Layout {
         ensures width { result ≡ layouts.width_of self.now }
         ensures fits { result ≤ 64 }
     {
-        5 * self.zones + self.places + 21
+        self.zones_end() + self.places + 21
     }
 
     /// Whether the word has a field.
@@ -68,6 +117,18 @@ impl Layout {
             Field::Zone(zone) => zone < self.zones,
             Field::Place(place) => place < self.places,
             Field::Stamp | Field::Stop => true,
+        }
+    }
+
+    /// The fields of a zone; that of its owner alone if there is no such zone.
+    pub fn shape(&self, zone: u8) -> ZoneShape
+        ensures { result ≡ layouts.shape_at self.now zone }
+    {
+        let zone = usize::from(zone);
+        if zone < MAX_ZONES {
+            self.shapes[zone]
+        } else {
+            NO_SHAPE
         }
     }
 
@@ -83,16 +144,24 @@ impl Layout {
         }
     }
 
+    fn zone_start(&self, zone: u8) -> u8
+        requires { zone < self.now.zones }
+        ensures start { result ≡ layouts.zones_end self.now zone }
+        ensures within { result + shape_bits (layouts.shape_at self.now zone) ≤ 64 }
+    {
+        self.ends[usize::from(zone)]
+    }
+
     fn lowest(&self, field: Field) -> u8
         requires { layouts.has self.now field ≡ true }
         ensures lowest { result ≡ layouts.start_of self.now field }
-        ensures within { result + layouts.bits_of field ≤ 64 }
+        ensures within { result + layouts.bits_of self.now field ≤ 64 }
     {
         match field {
-            Field::Zone(zone) => 5 * zone,
-            Field::Place(place) => 5 * self.zones + place,
-            Field::Stamp => 5 * self.zones + self.places,
-            Field::Stop => 5 * self.zones + self.places + 20,
+            Field::Zone(zone) => self.zone_start(zone),
+            Field::Place(place) => self.zones_end() + place,
+            Field::Stamp => self.zones_end() + self.places,
+            Field::Stop => self.zones_end() + self.places + 20,
         }
     }
 
@@ -100,30 +169,32 @@ impl Layout {
     pub fn value_in(&self, word: u64, field: Field) -> u64
         requires { layouts.has self.now field ≡ true }
         ensures value { result ≡ reading.told self.now word field }
-        ensures fits { result < 2 ^ layouts.bits_of field }
+        ensures fits { result < 2 ^ layouts.bits_of self.now field }
     {
         let lowest = u32::from(self.lowest(field));
-        bits(word, lowest, u32::from(Layout::bits_of(field)))
+        bits(word, lowest, u32::from(self.bits_of(field)))
     }
 
     /// The word with a number in a field above all bits that are set.
-    pub(crate) fn with(&self, word: u64, field: Field, value: u64) -> u64
+    pub fn with(&self, word: u64, field: Field, value: u64) -> u64
         requires has { layouts.has self.now field ≡ true }
         requires below { word < 2 ^ layouts.start_of self.now field }
-        requires fits { value < 2 ^ layouts.bits_of field }
+        requires fits { value < 2 ^ layouts.bits_of self.now field }
         ensures word { result ≡ word + value * 2 ^ layouts.start_of self.now field }
         ensures below { result < 2 ^ layouts.end_of self.now field }
     {
         let lowest = u32::from(self.lowest(field));
-        with_bits(word, lowest, u32::from(Layout::bits_of(field)), value)
+        with_bits(word, lowest, u32::from(self.bits_of(field)), value)
     }
 
     /// How many bits a field has.
-    pub fn bits_of(field: Field) -> u8
-        ensures { result ≡ layouts.bits_of field }
+    pub fn bits_of(&self, field: Field) -> u8
+        ensures bits { result ≡ layouts.bits_of self.now field }
+        ensures few { result ≤ 20 }
+        ensures some { 0 < result }
     {
         match field {
-            Field::Zone(_) => 5,
+            Field::Zone(zone) => self.shape(zone).bits(),
             Field::Stamp => 20,
             Field::Place(_) | Field::Stop => 1,
         }

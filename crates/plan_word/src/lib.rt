@@ -13,7 +13,7 @@ mod step;
 mod word;
 
 pub use answer::answer_word;
-pub use codes::{zone_code, zone_of_code};
+pub use codes::{can_have, code_of, zone_code, zone_of_code};
 pub use layout::{Field, Layout};
 pub use sound::is_lawful_zone;
 pub use step::{step_state_word, step_word};

@@ -23,9 +23,9 @@ const FREE_ZONE: ZoneState = ZoneState {
 };
 
 /// The word of a state: each field of the layout holds its part of the state, and the bits above are zero. A zone's
-/// five bits are, from the lowest, two for its owner (0 free, 1 the host, 2 the guest), one for its flag and two for
-/// its posture (Closed 0, Moving 1, OpenIn 2, OpenOut 3). The word tells nothing of zones and places past the plan's
-/// tables.
+/// bits are those of `zone_code`. The word tells nothing of zones and places past the plan's tables, of a plate in a
+/// zone through which no way goes, and of a posture that a zone's field doesn't tell: a state of the plan has none of
+/// these.
 pub fn pack(plan: &Plan, layout: &Layout, state: &State) -> u64
     requires layout { layout.now ≡ counts_of plan.now }
     requires stamp { state.now.stamp ≤ last_stamp }
@@ -33,7 +33,7 @@ pub fn pack(plan: &Plan, layout: &Layout, state: &State) -> u64
 {
     let mut word = 0;
     for zone in 0..plan.zone_count() {
-        let code = zone_code(plan, zone, state.zone(zone));
+        let code = zone_code(plan, layout, zone, state.zone(zone));
         word = layout.with(word, Field::Zone(zone), code);
     }
     for place in 0..plan.place_count() {
@@ -51,7 +51,8 @@ pub(crate) fn zone_in_word(plan: &Plan, layout: &Layout, word: u64, zone: u8) ->
     ensures state { result ≡ states.zone_at (reading.state_told plan.now word) zone }
 {
     if zone < plan.zone_count() {
-        zone_of_code(plan, zone, layout.value_in(word, Field::Zone(zone)))
+        let code = layout.value_in(word, Field::Zone(zone));
+        zone_of_code(plan, layout, zone, code)
     } else {
         FREE_ZONE
     }
@@ -88,15 +89,19 @@ fn places_in_word(plan: &Plan, layout: &Layout, word: u64) -> [bool; MAX_PLACES]
     places
 }
 
+#[tactic(auto, unfolding(crate::specs::Reading::state_told))]
 /// The stamp of a word, read without unpacking it. If the word is no state's, it is the number in the stamp's field.
 pub fn stamp_of(layout: &Layout, word: u64) -> u32
     ensures told { result ≡ reading.told layout.now word Stamp }
     ensures stamp { (plan : PlanTable) (state : PlanState) → layout.now ≡ counts_of plan
         → IsOfPlan plan state → packed plan state ≡ word → result ≡ state.stamp }
+    ensures state { (plan : PlanTable) → layout.now ≡ counts_of plan
+        → result ≡ (reading.state_told plan word).stamp }
 {
     layout.value_in(word, Field::Stamp) as u32
 }
 
+#[tactic(auto, unfolding(crate::specs::Reading::state_told))]
 /// Whether a word tells that the plant is stopped.
 pub(crate) fn is_stopped_in(layout: &Layout, word: u64) -> bool
     ensures told { result ≡ nat_eq (reading.told layout.now word Stop) 1 }
@@ -106,6 +111,7 @@ pub(crate) fn is_stopped_in(layout: &Layout, word: u64) -> bool
     layout.value_in(word, Field::Stop) == 1
 }
 
+#[tactic(auto, unfolding(crate::specs::Reading::state_told))]
 /// The state that the fields of a word tell, sound or not.
 fn state_in(plan: &Plan, layout: &Layout, word: u64) -> State
     requires { layout.now ≡ counts_of plan.now }
@@ -120,7 +126,8 @@ fn state_in(plan: &Plan, layout: &Layout, word: u64) -> State
 }
 
 /// The state of the plan that packs to a word, or `None` if there is none: a bit above the layout's width is set, an
-/// owner has the spare code 3, or the state that the fields tell isn't sound.
+/// owner has the spare code 3, or the state that the fields tell isn't sound. Fields tell no other posture than those
+/// that the zone can have.
 pub fn unpack(plan: &Plan, layout: &Layout, word: u64) -> Option<State>
     requires layout { layout.now ≡ counts_of plan.now }
     ensures some { (state : PlanState)

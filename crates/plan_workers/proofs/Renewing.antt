@@ -47,6 +47,7 @@ restamped_sound t s k = (
       zone_is_lawful = k.1.sound.zone_is_lawful;
       one_plate_a_place = k.1.sound.one_plate_a_place;
     };
+    postures_told = k.1.postures_told;
     no_more_zones = k.1.no_more_zones;
     no_more_plates = k.1.no_more_plates;
   },

@@ -6,7 +6,7 @@ use Rattle.plan_types.specs.Table.{PlanTable}
 use Rattle.plan_types.specs.Plan.{IsPlan}
 use Rattle.plan_types.proofs.lemmas.Below.{first_below_none, first_below_all}
 use Rattle.plan_rules.specs.declared.state.State.{State}
-use Rattle.plan_word.specs.OfPlan.{IsOfPlan}
+use Rattle.plan_word.specs.OfPlan.{IsWithin}
 use Rattle.plan_motors.specs.declared.motor.Motor.{Motor}
 use Rattle.plan_motors.specs.declared.motor.Hazard.{Hazard}
 use Rattle.plan_motors.specs.declared.exclusion.Cause.{Cause}
@@ -52,7 +52,7 @@ some_or_none : (o : Option Cause) → (o ≡ None) ⊎ ((c : Cause) × (o ≡ So
 some_or_none None = inl refl
 some_or_none (Some c) = inr (c, refl)
 
-runs_without_cause : (t : PlanTable) (m : Motor) (s : State) → IsOfPlan t s → Permits t s m → cause t m m ≡ None
+runs_without_cause : (t : PlanTable) (m : Motor) (s : State) → IsWithin t s → Permits t s m → cause t m m ≡ None
 runs_without_cause t m s k p =
     elim (some_or_none (cause t m m)) [
       | inl none ↦ none

@@ -14,7 +14,7 @@ use Rattle.plan_rules.specs.declared.state.ZoneState.{ZoneState}
 use Rattle.plan_rules.specs.State.{zone_at, is_full, free_zone, one_if, is_coming, coming, plates_for}
 use Rattle.plan_rules.specs.Sound.{IsSound, IsLawfulZone}
 use Rattle.plan_rules.proofs.lemmas.Below.{sum_below_same}
-use Rattle.plan_word.specs.OfPlan.{IsOfPlan}
+use Rattle.plan_word.specs.OfPlan.{IsWithin}
 use Rattle.plan_motors.specs.declared.motor.Motor.{Motor}
 use Rattle.plan_motors.specs.declared.exclusion.Cause.{Cause}
 use Rattle.plan_motors.specs.declared.exclusion.Cause.TheVariants.{Zone, Place}
@@ -195,7 +195,7 @@ state_shown t a b k e =
       zone_is_lawful = λ z l. subst (IsLawfulZone t z) (sym (zone_there t a b z k l)) (lawful t z (zone_for t a b z) refl (zone z l).lawful);
       one_plate_a_place = λ p. one_plate t a b p k;
     } in
-    let of_plan : IsOfPlan t s = record { sound = sound; no_more_zones = zone_past t a b; no_more_plates = place_past t a b } in
+    let of_plan : IsWithin t s = record { sound = sound; no_more_zones = zone_past t a b; no_more_plates = place_past t a b } in
     let first : Permits t s a = record {
       zones = λ z l. subst (λ v. IsTrue (meets a.machine (need_of a z) v)) (sym (zone_there t a b z k l)) (zone z l).first;
       places = λ p l. subst (λ f. IsTrue (meets_place (place_need a p) f)) (sym (place_there t a b p k l)) (first_place (place_need a p) (place_need b p) (apart p l));

@@ -1,11 +1,17 @@
 -- What is computed of the numbers below a number.
-use Rattle.std.proofs.Common.{◌≡◌, ℕ, zero, suc, ◌+◌, ◌<◌, ◌⊎◌, inl, inr, Option, Some, None, refl, ap, ◌∙◌, add-one, arith}
+use Rattle.std.proofs.Common.{◌≡◌, ℕ, zero, suc, ◌+◌, ◌<◌, ◌⊎◌, inl, inr, Bool, ◌||◌, Option, Some, None, refl, ap, ◌∙◌, add-one, arith}
 use Rattle.std.specs.Option.{option_or}
 use Rattle.std.proofs.lemmas.Bool.{cases_lt}
-use Rattle.plan_types.specs.Below.{first_below}
+use Rattle.plan_types.specs.Below.{first_below, any_below, sum_below}
 
 pub first_below_more : {A : Type 0} (f : ℕ → Option A) (n : ℕ) → first_below f (n + 1) ≡ option_or (first_below f n) (f n)
 first_below_more f n = ap (first_below f) (add-one n)
+
+pub any_below_more : (f : ℕ → Bool) (n : ℕ) → any_below f (n + 1) ≡ (any_below f n || f n)
+any_below_more f n = ap (any_below f) (add-one n)
+
+pub sum_below_more : (f : ℕ → ℕ) (n : ℕ) → sum_below f (n + 1) ≡ sum_below f n + f n
+sum_below_more f n = ap (sum_below f) (add-one n)
 
 -- below the next number
 pub below_next : (i n : ℕ) → i < suc n → (i < n) ⊎ (i ≡ n)

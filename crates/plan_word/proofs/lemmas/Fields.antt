@@ -1,9 +1,18 @@
--- Numbers side by side in a word, all of one width: below which power of two they stay, and that each reads back.
-use Rattle.std.proofs.Common.{◌≡◌, ℕ, zero, suc, ◌+◌, ◌*◌, ◌/◌, ◌%◌, ◌<◌, ◌^◌, inl, inr, sym, ap, ◌∙◌, subst, arith}
+-- Numbers side by side in a word: where each ends, below which power of two they stay, and that each reads back.
+use Rattle.std.proofs.Common.{◌≡◌, ℕ, zero, suc, ◌+◌, ◌*◌, ◌/◌, ◌%◌, ◌<◌, ◌≤◌, ◌^◌, inl, inr, sym, ap, ◌∙◌, subst, arith}
 use Rattle.std.proofs.Math.Nat.{add-mul, mul_assoc, mul_comm}
 use Rattle.std.proofs.lemmas.Nat.{pow-add, mul-add-lt, shr_high, mod_low}
 use Rattle.plan_types.specs.Below.{sum_below}
 use Rattle.plan_types.proofs.lemmas.Below.{below_next}
+
+-- a number ends where a later one begins, or before it
+pub ends_before : (width : ℕ → ℕ) (i n : ℕ) → i < n → sum_below width i + width i ≤ sum_below width n
+ends_before width i zero l = absurd (omega arith)
+ends_before width i (suc n) l =
+    elim (below_next i n l) [
+      | inl k ↦ let rest = ends_before width i n k in omega (arith, rest)
+      | inr e ↦ let same : sum_below width i + width i ≡ sum_below width n + width n = ap (λ j. sum_below width j + width j) e in omega (arith, same)
+    ]
 
 -- the number at i begins at the bit that `start` says
 abbrev pub row : (ℕ → ℕ) → (ℕ → ℕ) → ℕ → ℕ
@@ -23,12 +32,12 @@ next_bound low v start width below fits =
     let lower : v * 2 ^ start + low < 2 ^ start * 2 ^ width = mul-add-lt v (2 ^ start) low (2 ^ width) fits below in
     rw power (omega (arith, lower))
 
-pub row_below : (value start : ℕ → ℕ) (w low n : ℕ) → ((i : ℕ) → start (suc i) ≡ start i + w) → ((i : ℕ) → i < n → value i < 2 ^ w) → low < 2 ^ start 0
+pub row_below : (value start width : ℕ → ℕ) (low n : ℕ) → ((i : ℕ) → start (suc i) ≡ start i + width i) → ((i : ℕ) → i < n → value i < 2 ^ width i) → low < 2 ^ start 0
     → low + row value start n < 2 ^ start n
-row_below value start w low zero steps fits below = omega (arith, below)
-row_below value start w low (suc n) steps fits below =
-    let rest = row_below value start w low n steps (λ i l. fits i (omega arith)) below in
-    let more = next_bound (low + row value start n) (value n) (start n) w rest (fits n (omega arith)) in
+row_below value start width low zero steps fits below = omega (arith, below)
+row_below value start width low (suc n) steps fits below =
+    let rest = row_below value start width low n steps (λ i l. fits i (omega arith)) below in
+    let more = next_bound (low + row value start n) (value n) (start n) (width n) rest (fits n (omega arith)) in
     subst (λ k. low + (row value start n + value n * 2 ^ start n) < 2 ^ k) (sym (steps n)) (omega (arith, more))
 
 -- a number reads back from between lower bits and upper ones
@@ -45,16 +54,17 @@ lifted low r v upper start next w e =
     let moved = arranged upper (2 ^ w) (2 ^ start) v in
     omega (arith, power, moved)
 
-pub row_back : (value start : ℕ → ℕ) (w low upper n i : ℕ) → i < n → ((i : ℕ) → start (suc i) ≡ start i + w) → ((i : ℕ) → i < n → value i < 2 ^ w) → low < 2 ^ start 0
-    → (low + row value start n + upper * 2 ^ start n) / 2 ^ start i % 2 ^ w ≡ value i
-row_back value start w low upper zero i l steps fits below = absurd (omega arith)
-row_back value start w low upper (suc n) i l steps fits below =
-    let under = row_below value start w low n steps (λ j m. fits j (omega arith)) below in
+pub row_back : (value start width : ℕ → ℕ) (low upper n i : ℕ) → i < n → ((i : ℕ) → start (suc i) ≡ start i + width i) → ((i : ℕ) → i < n → value i < 2 ^ width i) → low < 2 ^ start 0
+    → (low + row value start n + upper * 2 ^ start n) / 2 ^ start i % 2 ^ width i ≡ value i
+row_back value start width low upper zero i l steps fits below = absurd (omega arith)
+row_back value start width low upper (suc n) i l steps fits below =
+    let w = width n in
+    let under = row_below value start width low n steps (λ j m. fits j (omega arith)) below in
     let whole = lifted low (row value start n) (value n) upper (start n) (start (suc n)) w (steps n) in
-    ap (λ x. x / 2 ^ start i % 2 ^ w) whole
+    ap (λ x. x / 2 ^ start i % 2 ^ width i) whole
     ∙ elim (below_next i n l) [
-      | inl k ↦ row_back value start w low (upper * 2 ^ w + value n) n i k steps (λ j m. fits j (omega arith)) below
-      | inr e ↦ ap (λ j. (low + row value start n + (upper * 2 ^ w + value n) * 2 ^ start n) / 2 ^ start j % 2 ^ w) e
+      | inl k ↦ row_back value start width low (upper * 2 ^ w + value n) n i k steps (λ j m. fits j (omega arith)) below
+      | inr e ↦ ap (λ j. (low + row value start n + (upper * 2 ^ w + value n) * 2 ^ start n) / 2 ^ start j % 2 ^ width j) e
           ∙ back (start n) w (low + row value start n) (value n) upper under (fits n (omega arith))
           ∙ sym (ap value e)
     ]

@@ -1,9 +1,13 @@
 -- Each number of a state reads back from its field.
-use Rattle.std.proofs.Common.{◌≡◌, ℕ, ◌+◌, ◌*◌, ◌/◌, ◌%◌, ◌<◌, ◌≤◌, ◌^◌, Bool, true, false, Option, Some, None, nat_eq, if◌then◌else◌, ap, ◌∙◌, subst, arith, ltb-true, IsTrue}
+use Rattle.std.proofs.Common.{◌≡◌, ℕ, ◌+◌, ◌*◌, ◌/◌, ◌%◌, ◌<◌, ◌≤◌, ◌^◌, Bool, true, false, ◌&&◌, Option, Some, None, nat_eq, if◌then◌else◌, refl, sym, ap, ◌∙◌, subst, arith, ltb-true, IsTrue}
 use Rattle.std.proofs.lemmas.Nat.{pow-add}
 use Rattle.plan_types.specs.declared.posture.Posture.{Posture}
 use Rattle.plan_types.specs.declared.posture.Posture.TheVariants.{Closed, Moving, OpenIn, OpenOut}
-use Rattle.plan_types.specs.Table.{PlanTable, zone_count, place_count, host_of}
+use Rattle.plan_types.specs.declared.shape.Postures.{Postures}
+use Rattle.plan_types.specs.declared.shape.Postures.TheVariants.{Shut, Two, All}
+use Rattle.plan_types.specs.declared.shape.ZoneShape.{ZoneShape}
+use Rattle.plan_types.specs.Same.{same_posture}
+use Rattle.plan_types.specs.Table.{postures_of, PlanTable, zone_count, place_count, host_of, flag_bits, posture_bits, shape_bits, zone_shape}
 use Rattle.plan_rules.specs.declared.state.ZoneState.{ZoneState}
 use Rattle.plan_rules.specs.declared.state.State.{State}
 use Rattle.plan_rules.specs.State.{zone_at, is_full, one_if}
@@ -11,9 +15,10 @@ use Rattle.plan_word.specs.declared.layout.Field.{Field}
 use Rattle.plan_word.specs.declared.layout.Field.TheVariants.{Zone, Place, Stamp, Stop}
 use Rattle.plan_word.specs.Layout.{counts_of, has, bits_of, width_of}
 use Rattle.plan_word.specs.OfPlan.{IsOfPlan}
-use Rattle.plan_word.specs.Packed.{owner_code, posture_code, zone_code, held, zone_parts, place_parts, packed}
+use Rattle.plan_word.specs.Packed.{owner_code, posture_code, code_of, flag_values, code_in, zone_code, held, zone_parts, place_parts, packed}
 use Rattle.plan_word.specs.Reading.{told}
 use Rattle.plan_word.specs.Laws.{IsLaidOut}
+use Rattle.plan_word.proofs.lemmas.Shapes.{bits_at, ends, places_bit, bits_are}
 use Rattle.plan_word.proofs.lemmas.Fields.{row, row_below, row_back, row_above, next_bound, back}
 
 -- ---- each number fits
@@ -31,32 +36,75 @@ posture_fits Moving = omega arith
 posture_fits OpenIn = omega arith
 posture_fits OpenOut = omega arith
 
-pub zone_fits : (t : PlanTable) (z : ℕ) (v : ZoneState) → zone_code t z v < 32
-zone_fits t z v = let a = owner_fits t z v.owner in let b = flag_fits v.flag in let c = posture_fits v.posture in omega (arith, a, b, c)
+pub flag_in_field : (flag b : Bool) → one_if (flag && b) < flag_values flag
+flag_in_field true b = flag_fits b
+flag_in_field false b = omega arith
 
-pub held_fits : (t : PlanTable) (s : State) → s.stamp ≤ 1048575 → (f : Field) → held t s f < 2 ^ bits_of f
-held_fits t s small (Zone z) = zone_fits t z (zone_at s z)
+two_codes : (q : Posture) → (if same_posture q Closed then 0 else 1) < 2
+two_codes Closed = omega arith
+two_codes Moving = omega arith
+two_codes OpenIn = omega arith
+two_codes OpenOut = omega arith
+
+pub posture_in_field : (p : Postures) (q : Posture) → code_of p q < 2 ^ posture_bits p
+posture_in_field Shut q = omega arith
+posture_in_field (Two other) q = two_codes q
+posture_in_field All q = posture_fits q
+
+-- three numbers in the bits of a zone
+pub in_shape : (flag : Bool) (p : Postures) (o f q : ℕ) → o < 4 → f < flag_values flag → q < 2 ^ posture_bits p
+    → o + 4 * (f + flag_values flag * q) < 2 ^ (2 + flag_bits flag + posture_bits p)
+in_shape true Shut o f q a b c = omega (arith, a, b, c)
+in_shape true (Two other) o f q a b c = omega (arith, a, b, c)
+in_shape true All o f q a b c = omega (arith, a, b, c)
+in_shape false Shut o f q a b c = omega (arith, a, b, c)
+in_shape false (Two other) o f q a b c = omega (arith, a, b, c)
+in_shape false All o f q a b c = omega (arith, a, b, c)
+
+most_bits : (flag : Bool) (p : Postures) → 2 ^ (2 + flag_bits flag + posture_bits p) ≤ 32
+most_bits true Shut = omega arith
+most_bits true (Two other) = omega arith
+most_bits true All = omega arith
+most_bits false Shut = omega arith
+most_bits false (Two other) = omega arith
+most_bits false All = omega arith
+
+pub code_fits : (s : ZoneShape) (o : ℕ) (v : ZoneState) → o < 4 → code_in s o v < 2 ^ shape_bits s
+code_fits s o v a = in_shape s.flag (postures_of s) o (one_if (s.flag && v.flag)) (code_of (postures_of s) v.posture) a (flag_in_field s.flag v.flag) (posture_in_field (postures_of s) v.posture)
+
+pub zone_in_field : (t : PlanTable) (z : ℕ) (v : ZoneState) → zone_code t z v < 2 ^ bits_at t z
+zone_in_field t z v =
+    subst (λ k. zone_code t z v < 2 ^ k) (sym (bits_are t z)) (code_fits (zone_shape t z) (owner_code t z v.owner) v (owner_fits t z v.owner))
+
+pub zone_fits : (t : PlanTable) (z : ℕ) (v : ZoneState) → zone_code t z v < 32
+zone_fits t z v =
+    let fits = code_fits (zone_shape t z) (owner_code t z v.owner) v (owner_fits t z v.owner) in
+    let most = most_bits (zone_shape t z).flag (postures_of (zone_shape t z)) in
+    omega (arith, fits, most)
+
+pub held_fits : (t : PlanTable) (s : State) → s.stamp ≤ 1048575 → (f : Field) → held t s f < 2 ^ bits_of (counts_of t) f
+held_fits t s small (Zone z) = zone_in_field t z (zone_at s z)
 held_fits t s small (Place p) = flag_fits (is_full s p)
 held_fits t s small Stamp = omega arith
 held_fits t s small Stop = flag_fits s.stopped
 
 -- ---- the lower part of a word stays below the next field
-pub zones_below : (t : PlanTable) (s : State) (n : ℕ) → zone_parts t s n < 2 ^ (5 * n)
+pub zones_below : (t : PlanTable) (s : State) (n : ℕ) → zone_parts t s n < 2 ^ ends t n
 zones_below t s n =
-    let h : 0 + row (λ z. held t s (Zone z)) (λ z. 5 * z) n < 2 ^ (5 * n) = row_below (λ z. held t s (Zone z)) (λ z. 5 * z) 5 0 n (λ i. omega arith) (λ i l. zone_fits t i (zone_at s i)) (omega arith) in
+    let h : 0 + row (λ z. held t s (Zone z)) (ends t) n < 2 ^ ends t n = row_below (λ z. held t s (Zone z)) (ends t) (bits_at t) 0 n (λ i. refl) (λ i l. zone_in_field t i (zone_at s i)) (omega arith) in
     omega (arith, h)
 
-pub places_below : (t : PlanTable) (s : State) (n : ℕ) → zone_parts t s (zone_count t) + place_parts t s n < 2 ^ (5 * zone_count t + n)
+pub places_below : (t : PlanTable) (s : State) (n : ℕ) → zone_parts t s (zone_count t) + place_parts t s n < 2 ^ (places_bit t + n)
 places_below t s n =
-    let base : 5 * zone_count t ≡ 5 * zone_count t + 0 = omega arith in
-    row_below (λ p. held t s (Place p)) (λ p. 5 * zone_count t + p) 1 (zone_parts t s (zone_count t)) n (λ i. omega arith) (λ i l. flag_fits (is_full s i))
+    let base : places_bit t ≡ places_bit t + 0 = omega arith in
+    row_below (λ p. held t s (Place p)) (λ p. places_bit t + p) (λ p. 1) (zone_parts t s (zone_count t)) n (λ i. omega arith) (λ i l. flag_fits (is_full s i))
     (subst (λ k. zone_parts t s (zone_count t) < 2 ^ k) base (zones_below t s (zone_count t)))
 
 abbrev pub low_parts : PlanTable → State → ℕ
 low_parts t s = zone_parts t s (zone_count t) + place_parts t s (place_count t)
 
 abbrev pub stamp_bit : PlanTable → ℕ
-stamp_bit t = 5 * zone_count t + place_count t
+stamp_bit t = places_bit t + place_count t
 
 stamp_below : (t : PlanTable) (s : State) → s.stamp ≤ 1048575 → low_parts t s + s.stamp * 2 ^ stamp_bit t < 2 ^ (stamp_bit t + 20)
 stamp_below t s small = next_bound (low_parts t s) s.stamp (stamp_bit t) 20 (places_below t s (place_count t)) (omega arith)
@@ -81,15 +129,16 @@ unfolding packed
 zone_back t s z l =
     let n = zone_count t in
     let m = place_count t in
+    let b = places_bit t in
     let bits : ℕ → ℕ = λ p. held t s (Place p) in
     let upper : ℕ = row bits (λ p. p) m + s.stamp * 2 ^ m + one_if s.stopped * 2 ^ (m + 20) in
-    let places : place_parts t s m ≡ row bits (λ p. p) m * 2 ^ (5 * n) = row_above bits (5 * n) m in
-    let whole : packed t s ≡ zone_parts t s n + upper * 2 ^ (5 * n) =
-    ap (λ k. zone_parts t s n + k + s.stamp * 2 ^ (5 * n + m) + one_if s.stopped * 2 ^ (5 * n + m + 20)) places
-    ∙ stacked (zone_parts t s n) (row bits (λ p. p) m) s.stamp (one_if s.stopped) (5 * n) m 20 in
-    let same : zone_parts t s n + upper * 2 ^ (5 * n) ≡ 0 + zone_parts t s n + upper * 2 ^ (5 * n) = omega arith in
-    ap (λ w. w / 2 ^ (5 * z) % 2 ^ 5) (whole ∙ same)
-    ∙ row_back (λ z. held t s (Zone z)) (λ z. 5 * z) 5 0 upper n z l (λ i. omega arith) (λ i m. zone_fits t i (zone_at s i)) (omega arith)
+    let places : place_parts t s m ≡ row bits (λ p. p) m * 2 ^ b = row_above bits b m in
+    let whole : packed t s ≡ zone_parts t s n + upper * 2 ^ b =
+    ap (λ k. zone_parts t s n + k + s.stamp * 2 ^ (b + m) + one_if s.stopped * 2 ^ (b + m + 20)) places
+    ∙ stacked (zone_parts t s n) (row bits (λ p. p) m) s.stamp (one_if s.stopped) b m 20 in
+    let same : zone_parts t s n + upper * 2 ^ b ≡ 0 + zone_parts t s n + upper * 2 ^ b = omega arith in
+    ap (λ w. w / 2 ^ ends t z % 2 ^ bits_at t z) (whole ∙ same)
+    ∙ row_back (λ z. held t s (Zone z)) (ends t) (bits_at t) 0 upper n z l (λ i. refl) (λ i m. zone_in_field t i (zone_at s i)) (omega arith)
 
 above_places : (l u v a : ℕ) → l + u * 2 ^ a + v * 2 ^ (a + 20) ≡ l + (v * 2 ^ 20 + u) * 2 ^ a
 above_places l u v a = rw (pow-add 2 a 20) (omega arith)
@@ -98,10 +147,11 @@ place_back : (t : PlanTable) (s : State) (p : ℕ) → p < place_count t → tol
 unfolding packed
 place_back t s p l =
     let n = zone_count t in
+    let b = places_bit t in
     let upper : ℕ = one_if s.stopped * 2 ^ 20 + s.stamp in
-    let base : 5 * n ≡ 5 * n + 0 = omega arith in
-    ap (λ w. w / 2 ^ (5 * n + p) % 2 ^ 1) (above_places (low_parts t s) s.stamp (one_if s.stopped) (stamp_bit t))
-    ∙ row_back (λ p. held t s (Place p)) (λ p. 5 * n + p) 1 (zone_parts t s n) upper (place_count t) p l (λ i. omega arith) (λ i m. flag_fits (is_full s i))
+    let base : b ≡ b + 0 = omega arith in
+    ap (λ w. w / 2 ^ (b + p) % 2 ^ 1) (above_places (low_parts t s) s.stamp (one_if s.stopped) (stamp_bit t))
+    ∙ row_back (λ p. held t s (Place p)) (λ p. b + p) (λ p. 1) (zone_parts t s n) upper (place_count t) p l (λ i. omega arith) (λ i m. flag_fits (is_full s i))
     (subst (λ k. zone_parts t s n < 2 ^ k) base (zones_below t s n))
 
 stamp_back : (t : PlanTable) (s : State) → s.stamp ≤ 1048575 → told (counts_of t) (packed t s) Stamp ≡ s.stamp

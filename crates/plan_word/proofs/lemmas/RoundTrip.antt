@@ -1,21 +1,26 @@
 -- The word of a state of a plan tells that state.
-use Rattle.std.proofs.Common.{◌≡◌, ℕ, ◌+◌, ◌*◌, ◌/◌, ◌%◌, ◌<◌, ◌≤◌, Bool, true, false, ◌||◌, ◌&&◌, if◌then◌else◌, nat_eq, nat_lt, Option, Some, None, is_none, refl, sym, ap, ◌∙◌, subst, arith, ◌↔◌, ltb-true, inl, inr}
+use Rattle.std.proofs.Common.{◌≡◌, ℕ, ◌+◌, ◌*◌, ◌/◌, ◌%◌, ◌<◌, ◌≤◌, Bool, true, false, ◌||◌, ◌&&◌, if◌then◌else◌, nat_eq, nat_lt, Option, Some, None, is_none, is_some, IsTrue, refl, sym, ap, ◌∙◌, subst, arith, ◌↔◌, ltb-true, inl, inr}
 use Rattle.std.proofs.lemmas.Bool.{eqb-true, cases_lt, lt-ltb, false_from_ne_true}
 use Rattle.std.proofs.lemmas.List.{get_or_past}
 use Rattle.std.proofs.lemmas.List.FromFn.{fill_by_all, get_or-map-range_with_len}
 use Rattle.plan_types.specs.declared.posture.Posture.{Posture}
 use Rattle.plan_types.specs.declared.posture.Posture.TheVariants.{Closed, Moving, OpenIn, OpenOut}
-use Rattle.plan_types.specs.Table.{PlanTable, zone_count, place_count, host_of, guest_of}
+use Rattle.plan_types.specs.declared.shape.Postures.{Postures}
+use Rattle.plan_types.specs.declared.shape.Postures.TheVariants.{Shut, Two, All}
+use Rattle.plan_types.specs.declared.table.Way.{Way}
+use Rattle.plan_types.specs.declared.table.Transfer.{Transfer}
+use Rattle.plan_types.specs.Same.{same_posture, one_posture}
+use Rattle.plan_types.specs.Table.{postures_of, PlanTable, zone_count, place_count, host_of, guest_of, zone_row, transfer_by, transfer_of, zone_shape}
 use Rattle.plan_rules.specs.declared.state.ZoneState.{ZoneState}
 use Rattle.plan_rules.specs.declared.state.State.{State}
-use Rattle.plan_rules.specs.State.{zone_at, is_full, one_if, free_zone}
-use Rattle.plan_rules.specs.Sound.{IsSound, IsLawfulZone, is_owned_by}
+use Rattle.plan_rules.specs.State.{zone_at, posture_at, is_full, one_if, free_zone}
+use Rattle.plan_rules.specs.Sound.{IsSound, IsLawfulZone, is_owned_by, implies, is_received_by}
 use Rattle.plan_word.specs.declared.layout.Field.TheVariants.{Zone, Place, Stamp, Stop}
 use Rattle.plan_word.specs.Layout.{counts_of}
-use Rattle.plan_word.specs.OfPlan.{IsOfPlan}
-use Rattle.plan_word.specs.Packed.{owner_code, posture_code, zone_code, packed}
-use Rattle.plan_word.specs.Reading.{told, owner_of_code, posture_of_code, zone_of_code, zone_in_word, place_told, state_told}
-use Rattle.plan_word.proofs.lemmas.LaidOut.{owner_fits, flag_fits, held_back}
+use Rattle.plan_word.specs.OfPlan.{IsOfPlan, can_have}
+use Rattle.plan_word.specs.Packed.{owner_code, posture_code, code_of, flag_values, zone_code, packed}
+use Rattle.plan_word.specs.Reading.{told, owner_of_code, posture_of_code, posture_told, zone_of_code, zone_in_word, place_told, state_told}
+use Rattle.plan_word.proofs.lemmas.LaidOut.{owner_fits, flag_in_field, held_back}
 
 -- ---- the codes
 some_owner : (t : PlanTable) (z m : ℕ) (b c : Bool) → nat_eq m (host_of t z) ≡ b → nat_eq m (guest_of t z) ≡ c → (b || c) ≡ true
@@ -38,26 +43,75 @@ posture_back Moving = refl
 posture_back OpenIn = refl
 posture_back OpenOut = refl
 
--- three numbers in five bits
-lower : (o f p : ℕ) → o < 4 → f < 2 → (o + 4 * f + 8 * p) % 4 ≡ o
-lower o f p a b = omega arith
+-- of two postures the first is Closed
+two_back : (other q : Posture) → (same_posture q Closed || same_posture q other) ≡ true → posture_told (Two other) (code_of (Two other) q) ≡ q
+two_back other Closed h = refl
+two_back other Moving h = sym (one_posture Moving other h)
+two_back other OpenIn h = sym (one_posture OpenIn other h)
+two_back other OpenOut h = sym (one_posture OpenOut other h)
 
-middle : (o f p : ℕ) → o < 4 → f < 2 → (o + 4 * f + 8 * p) / 4 % 2 ≡ f
-middle o f p a b = omega arith
+pub told_posture : (p : Postures) (q : Posture) → can_have p q ≡ true → posture_told p (code_of p q) ≡ q
+told_posture Shut q h = sym (one_posture q Closed h)
+told_posture (Two other) q h = two_back other q h
+told_posture All q h = posture_back q
 
-higher : (o f p : ℕ) → o < 4 → f < 2 → (o + 4 * f + 8 * p) / 8 ≡ p
-higher o f p a b = omega arith
+-- a plate in a zone has its way, so the zone has a flag
+no_flag : (flag : Bool) → (flag && false) ≡ false
+no_flag true = refl
+no_flag false = refl
 
-pub zone_code_back : (t : PlanTable) (z : ℕ) (v : ZoneState) → IsLawfulZone t z v → zone_of_code t z (zone_code t z v) ≡ v
-zone_code_back t z v h =
+flag_kept : (flag f : Bool) (owner : Option ℕ) (o : Option Transfer) → implies f (is_received_by owner o) ≡ true → ((way : Transfer) → o ≡ Some way → flag ≡ true) → (flag && f) ≡ f
+flag_kept flag false owner o h k = no_flag flag
+flag_kept flag true owner None h k = cc
+flag_kept flag true owner (Some way) h k = ap (λ b. b && true) (k way refl)
+
+second : (b : Bool) → (b || true) ≡ true
+second true = refl
+second false = refl
+
+goes_by : (giver receiver : ℕ) (o : Option Way) (way : Transfer) → transfer_by giver receiver o ≡ Some way → is_some o ≡ true
+goes_by giver receiver None way e = cc
+goes_by giver receiver (Some w) way e = refl
+
+goes : (t : PlanTable) (z : ℕ) (q : Posture) (way : Transfer) → transfer_of t z q ≡ Some way → (zone_shape t z).flag ≡ true
+goes t z Closed way e = cc
+goes t z Moving way e = cc
+goes t z OpenIn way e = ap (λ b. b || is_some (zone_row t z).outward) (goes_by (guest_of t z) (host_of t z) (zone_row t z).inward way e)
+goes t z OpenOut way e =
+    ap (λ b. is_some (zone_row t z).inward || b) (goes_by (host_of t z) (guest_of t z) (zone_row t z).outward way e)
+    ∙ second (is_some (zone_row t z).inward)
+
+-- three numbers in the bits of a zone
+lower : (o m : ℕ) → o < 4 → (o + 4 * m) % 4 ≡ o
+lower o m a = omega arith
+
+upper : (o m : ℕ) → o < 4 → (o + 4 * m) / 4 ≡ m
+upper o m a = omega arith
+
+middle : (flag : Bool) (f p : ℕ) → f < flag_values flag → (f + flag_values flag * p) % flag_values flag ≡ f
+middle true f p b = omega arith
+middle false f p b = omega arith
+
+higher : (flag : Bool) (f p : ℕ) → f < flag_values flag → (f + flag_values flag * p) / flag_values flag ≡ p
+higher true f p b = omega arith
+higher false f p b = omega arith
+
+pub zone_code_back : (t : PlanTable) (z : ℕ) (v : ZoneState) → IsLawfulZone t z v → IsTrue (can_have (postures_of (zone_shape t z)) v.posture) → zone_of_code t z (zone_code t z v) ≡ v
+zone_code_back t z v h told_so =
+    let s = zone_shape t z in
+    let r = flag_values s.flag in
     let o = owner_code t z v.owner in
-    let f = one_if v.flag in
-    let p = posture_code v.posture in
+    let f = one_if (s.flag && v.flag) in
+    let p = code_of (postures_of s) v.posture in
     let a = owner_fits t z v.owner in
-    let b = flag_fits v.flag in
-    let owner : owner_of_code t z ((o + 4 * f + 8 * p) % 4) ≡ v.owner = ap (owner_of_code t z) (lower o f p a b) ∙ owner_back t z v.owner h.owner_is_party in
-    let flag : nat_eq ((o + 4 * f + 8 * p) / 4 % 2) 1 ≡ v.flag = ap (λ n. nat_eq n 1) (middle o f p a b) ∙ flag_back v.flag in
-    let posture : posture_of_code ((o + 4 * f + 8 * p) / 8) ≡ v.posture = ap posture_of_code (higher o f p a b) ∙ posture_back v.posture in
+    let b = flag_in_field s.flag v.flag in
+    let kept : (s.flag && v.flag) ≡ v.flag = flag_kept s.flag v.flag v.owner (transfer_of t z v.posture) h.flag_has_transfer (goes t z v.posture) in
+    let rest : (o + 4 * (f + r * p)) / 4 ≡ f + r * p = upper o (f + r * p) a in
+    let owner : owner_of_code t z ((o + 4 * (f + r * p)) % 4) ≡ v.owner = ap (owner_of_code t z) (lower o (f + r * p) a) ∙ owner_back t z v.owner h.owner_is_party in
+    let flag : nat_eq ((o + 4 * (f + r * p)) / 4 % r) 1 ≡ v.flag =
+    ap (λ n. nat_eq (n % r) 1) rest ∙ ap (λ n. nat_eq n 1) (middle s.flag f p b) ∙ ap (λ x. nat_eq (one_if x) 1) kept ∙ flag_back v.flag in
+    let posture : posture_told (postures_of s) ((o + 4 * (f + r * p)) / 4 / r) ≡ v.posture =
+    ap (λ n. posture_told (postures_of s) (n / r)) rest ∙ ap (posture_told (postures_of s)) (higher s.flag f p b) ∙ told_posture (postures_of s) v.posture told_so in
     λ i. record { owner = owner i; flag = flag i; posture = posture i }
 
 -- ---- zones and places
@@ -69,7 +123,7 @@ zone_seen t s k z =
     let w = packed t s in
     let At : Bool → Type 0 = λ b. nat_lt z (zone_count t) ≡ b → (if b then zone_of_code t z (told (counts_of t) w (Zone z)) else free_zone) ≡ zone_at s z in
     let by : (b : Bool) → At b = λ b. elim b as At [
-      | true ↦ λ e. ap (zone_of_code t z) (held_back t s k.sound.stamp_in_range (Zone z) e) ∙ zone_code_back t z (zone_at s z) (k.sound.zone_is_lawful z (ltb-true z (zone_count t) e))
+      | true ↦ λ e. ap (zone_of_code t z) (held_back t s k.sound.stamp_in_range (Zone z) e) ∙ (let l = ltb-true z (zone_count t) e in zone_code_back t z (zone_at s z) (k.sound.zone_is_lawful z l) (k.postures_told z l))
       | false ↦ λ e. sym (k.no_more_zones z (not_below z (zone_count t) e))
     ] in
     by (nat_lt z (zone_count t)) refl
@@ -86,6 +140,7 @@ place_seen t s k p =
 
 -- ---- a state
 pub told_back : (t : PlanTable) (s : State) → IsOfPlan t s → state_told t (packed t s) ≡ s
+unfolding state_told
 told_back t s k =
     let w = packed t s in
     let small = k.sound.stamp_in_range in
@@ -118,6 +173,7 @@ not_there : (a b : ℕ) → b ≤ a → nat_lt a b ≡ false
 not_there a b past = false_from_ne_true (nat_lt a b) (λ e. let l = ltb-true a b e in absurd (omega arith))
 
 no_more_told : (t : PlanTable) (w z : ℕ) → zone_count t ≤ z → zone_at (state_told t w) z ≡ free_zone
+unfolding state_told
 no_more_told t w z past =
     elim (cases_lt z 10) [
       | inl ten ↦ get_or-map-range_with_len (zone_in_word t w) 0 10 z z free_zone ten (omega arith)
@@ -126,6 +182,7 @@ no_more_told t w z past =
     ]
 
 no_more_full : (t : PlanTable) (w p : ℕ) → place_count t ≤ p → is_full (state_told t w) p ≡ false
+unfolding state_told
 no_more_full t w p past =
     elim (cases_lt p 16) [
       | inl l ↦ get_or-map-range_with_len (place_told t w) 0 16 p p false l (omega arith)
@@ -133,5 +190,44 @@ no_more_full t w p past =
       | inr more ↦ get_or_past (state_told t w).full p false more
     ]
 
+-- ---- and the postures that it tells are told
+pub same_self : (q : Posture) → same_posture q q ≡ true
+same_self Closed = refl
+same_self Moving = refl
+same_self OpenIn = refl
+same_self OpenOut = refl
+
+pub closed_told : (p : Postures) → can_have p Closed ≡ true
+closed_told Shut = refl
+closed_told (Two other) = refl
+closed_told All = refl
+
+one_of_two : (other : Posture) (b : Bool) → can_have (Two other) (if b then Closed else other) ≡ true
+one_of_two other true = refl
+one_of_two other false = ap (λ x. same_posture other Closed || x) (same_self other) ∙ second (same_posture other Closed)
+
+some_told : (p : Postures) (n : ℕ) → can_have p (posture_told p n) ≡ true
+some_told Shut n = refl
+some_told (Two other) n = one_of_two other (nat_eq n 0)
+some_told All n = refl
+
+pub code_told : (t : PlanTable) (z n : ℕ) → can_have (postures_of (zone_shape t z)) (zone_of_code t z n).posture ≡ true
+code_told t z n = some_told (postures_of (zone_shape t z)) (n / 4 / flag_values (zone_shape t z).flag)
+
+zone_told : (t : PlanTable) (w z : ℕ) → can_have (postures_of (zone_shape t z)) (zone_in_word t w z).posture ≡ true
+zone_told t w z = by (nat_lt z (zone_count t))
+  where
+    by : (b : Bool) → can_have (postures_of (zone_shape t z)) (if b then zone_of_code t z (told (counts_of t) w (Zone z)) else free_zone).posture ≡ true
+    by true = code_told t z (told (counts_of t) w (Zone z))
+    by false = closed_told (postures_of (zone_shape t z))
+
+postures_told : (t : PlanTable) (w z : ℕ) → can_have (postures_of (zone_shape t z)) (posture_at (state_told t w) z) ≡ true
+unfolding state_told
+postures_told t w z =
+    elim (cases_lt z 10) [
+      | inl ten ↦ subst (λ (v : ZoneState). can_have (postures_of (zone_shape t z)) v.posture ≡ true) (sym (get_or-map-range_with_len (zone_in_word t w) 0 10 z z free_zone ten (omega arith))) (zone_told t w z)
+      | inr more ↦ subst (λ (v : ZoneState). can_have (postures_of (zone_shape t z)) v.posture ≡ true) (sym (get_or_past (state_told t w).zones z free_zone more)) (closed_told (postures_of (zone_shape t z)))
+    ]
+
 pub told_is_of_plan : (t : PlanTable) (w : ℕ) → IsSound t (state_told t w) → IsOfPlan t (state_told t w)
-told_is_of_plan t w h = record { sound = h; no_more_zones = no_more_told t w; no_more_plates = no_more_full t w }
+told_is_of_plan t w h = record { sound = h; postures_told = λ z l. postures_told t w z; no_more_zones = no_more_told t w; no_more_plates = no_more_full t w }

@@ -1,9 +1,11 @@
 use Rattle.std.proofs.Common.{subst}
 use Rattle.std.specs.List.{All}
 use Rattle.plan_compiled.specs.Rows.{IsRight}
+use Rattle.plan_app.specs.Rows.{HasEveryRow}
 use Rattle.plan_app.proofs.rows.is_complete.Goals as goal
 
 pub returns : goal.returns
+unfolding HasEveryRow
 returns c = λ is. (
   c.args.compiled.now.rows,
   c.args.compiled.now.starts,

@@ -13,7 +13,7 @@ loop-zone-preserved c =
     let there : n < length xs = omega (arith, all, few, c.loop-zone-test.true) in
     record {
       all = length-set xs c.from.result c.ends_of.result ∙ all;
-      ends = table_with c.args.plan.now n c.from.result xs c.ends_of.result c.from.ensures there c.loop-zone.invariant.ends c.ends_of.ensures;
+      ends = table_with c.args.plan.now n c.from.result xs c.ends_of.result c.from.ensures there c.loop-zone.invariant.ends (c.ends_of.ensures.ends, c.ends_of.ensures.bits);
     }
 
 pub returns : goal.returns
@@ -25,5 +25,6 @@ returns c =
     let end : c.loop-zone.zone ≡ zone_count t = omega (arith, count) in
     record {
       zones = omega (arith, all, few, count);
-      ends = λ z d l. c.loop-zone.invariant.ends z d (omega (arith, l, end));
+      ends = λ z d l. (c.loop-zone.invariant.ends z d (omega (arith, l, end))).0;
+      bits = λ z d l. (c.loop-zone.invariant.ends z d (omega (arith, l, end))).1;
     }

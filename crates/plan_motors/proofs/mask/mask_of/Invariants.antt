@@ -1,18 +1,19 @@
-use Rattle.std.proofs.Common.{◌≡◌, ◌+◌, ◌*◌, ◌<◌, ◌^◌}
+use Rattle.std.proofs.Common.{◌≡◌, ◌+◌, ◌<◌, ◌^◌}
 use Rattle.plan_types.specs.Table.{zone_count}
 use Rattle.plan_motors.specs.Mask.{zone_masks, place_masks}
+use Rattle.plan_word.proofs.lemmas.Shapes.{ends, places_bit}
 use Rattle.plan_motors.proofs.mask.mask_of.Given as goal
 
 -- the zones before this one are in the mask
 abbrev pub invariant-loop-zone : goal.invariant-loop-zone
 invariant-loop-zone l = record {
-  mask : l.mask ≡ zone_masks l.motor l.zone;
-  below : l.mask < 2 ^ (5 * l.zone);
+  mask : l.mask ≡ zone_masks l.plan l.motor l.zone;
+  below : l.mask < 2 ^ ends l.plan l.zone;
 }
 
 -- the zones are in the mask, and the places before this one
 abbrev pub invariant-loop-place : goal.invariant-loop-place
 invariant-loop-place l = record {
-  mask : l.mask ≡ zone_masks l.motor (zone_count l.plan) + place_masks l.plan l.motor l.place;
-  below : l.mask < 2 ^ (5 * zone_count l.plan + l.place);
+  mask : l.mask ≡ zone_masks l.plan l.motor (zone_count l.plan) + place_masks l.plan l.motor l.place;
+  below : l.mask < 2 ^ (places_bit l.plan + l.place);
 }

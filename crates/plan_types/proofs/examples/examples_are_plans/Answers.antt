@@ -3,7 +3,7 @@ use Rattle.plan_types.specs.declared.posture.Posture.TheVariants.{Moving, OpenOu
 use Rattle.plan_types.specs.declared.fault.PlanFault.{PlanFault}
 use Rattle.plan_types.specs.Table.{PlanTable, plan_table}
 use Rattle.plan_types.specs.Faults.{plan_fault}
-use Rattle.plan_types.specs.Examples.{IsNoPlan, press_table, lift_table, large_table, eight_posed}
+use Rattle.plan_types.specs.Examples.{IsNoPlan, press_table, lift_table, large_table, eight_posed, roads_table, rack_table, lathe_table, plant_table, gated_table}
 use Rattle.plan_types.proofs.lemmas.Checked.{is_plan, no_fault_of_plan}
 use Rattle.plan_types.proofs.examples.examples_are_plans.Goals as goal
 
@@ -16,6 +16,11 @@ returns-clause-plans c = record {
   nothing = is_plan (plan_table 0 [] [] []) refl;
   eight_move = is_plan (eight_posed Moving) refl;
   eight_open = is_plan (eight_posed OpenOut) refl;
+  roads = is_plan roads_table refl;
+  rack = is_plan rack_table refl;
+  lathe = is_plan lathe_table refl;
+  plant = is_plan plant_table refl;
+  ten_gates = is_plan (gated_table 10 3) refl;
 }
 
 no_plan : (t : PlanTable) (fault : PlanFault) → plan_fault t ≡ Some fault → IsNoPlan t fault

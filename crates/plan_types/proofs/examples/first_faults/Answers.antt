@@ -10,6 +10,7 @@ returns c = record {
   wide = refl;
   widest = refl;
   wide_by_a_place = refl;
+  gates_wide_by_a_place = refl;
   keeper = refl;
   host = refl;
   guest = refl;

@@ -17,7 +17,7 @@ returns-clause-fit x = λ c t. record {
     | inl l ↦ inl (omega (arith, l))
     | inr r ↦ inr (omega (arith, r))
   ];
-  last_zone = λ law z. law.within c (Zone 7) z;
+  last_zone = λ law z. let e = law.within c (Zone 7) z in omega (arith, e);
   last_place = λ law p. let e = law.within c (Place 2) p in omega (arith, e);
   stop = λ law. let e = law.within c Stop refl in omega (arith, e);
 }

@@ -8,3 +8,10 @@ returns-then-place-place_count-clause-bit c = search rules
 pub returns-then-place-place_count-clause-state : goal.returns-then-place-place_count-clause-state
 returns-then-place-place_count-clause-state c =
     returns-then-place-place_count-clause-bit c ∙ place_in c.args.plan.now c.args.word c.args.place (omega (arith, c.place_count.ensures.count, c.place_count.ensures.few))
+
+pub returns-else-place-place_count-clause-bit : goal.returns-else-place-place_count-clause-bit
+returns-else-place-place_count-clause-bit c = search rules
+
+pub returns-else-place-place_count-clause-state : goal.returns-else-place-place_count-clause-state
+returns-else-place-place_count-clause-state c =
+    returns-else-place-place_count-clause-bit c ∙ place_in c.args.plan.now c.args.word c.args.place (omega (arith, c.place_count.ensures.count, c.place_count.ensures.few))

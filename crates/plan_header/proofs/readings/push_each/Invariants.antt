@@ -1,0 +1,8 @@
+use Rattle.std.proofs.Common.{◌≡◌, ◌++◌, string_bytes, flat_map}
+use Rattle.std.specs.List.{range_with_len}
+use Rattle.plan_header.specs.Readings as spec
+use Rattle.plan_header.proofs.readings.push_each.Given as goal
+
+abbrev pub invariant-zones : goal.invariant-zones
+invariant-zones l =
+    string_bytes l.text ≡ string_bytes l.initial.text ++ flat_map (spec.zone_reading l.named) (range_with_len 0 l.zone)
