@@ -45,3 +45,5 @@ mod two_presses;
 mod word_calls;
 #[cfg(test)]
 mod words;
+#[cfg(test)]
+mod workers;
