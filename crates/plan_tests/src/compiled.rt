@@ -70,17 +70,29 @@ fn press(alloc: Global) -> Option<Compiled> {
     Some(Compiled::new(plan))
 }
 
+/// Whether each call has a start, and that of a pose lies among the rows.
+fn has_starts(compiled: &Compiled) -> bool {
+    let starts = compiled.starts();
+    match starts.get(slot(1, Call::SetPose(3))) {
+        Some(first) => {
+            starts.len() == SLOTS_OF_ALL && usize::from(*first) < compiled.rows().len()
+        }
+        None => false,
+    }
+}
+
+/// The word of the start with a plate in the loader's hand.
+fn start_of(compiled: &Compiled) -> u64 {
+    let mut full = [false; 16];
+    full[0] = true;
+    pack(compiled.plan(), &compiled.layout(), &State::start(full, 0))
+}
+
 #[test]
 fn a_press_claims_by_a_row(rt: HostRuntime) {
     let compiled = press(rt.alloc()).expect(&rt, "memory");
-    let Some(first) = compiled.starts().get(slot(1, Call::SetPose(3))) else {
-        panic!(rt; "no slot");
-    };
-    assert!(rt; compiled.starts().len() == SLOTS_OF_ALL);
-    assert!(rt; usize::from(*first) < compiled.rows().len());
-    let mut full = [false; 16];
-    full[0] = true;
-    let word = pack(compiled.plan(), &compiled.layout(), &State::start(full, 0));
-    assert!(rt; compiled.has_row(word, 1, Call::Claim(0)));
-    assert!(rt; compiled.step_word(word, 1, Call::Claim(0)) == Some((Answer::Done, 0xA1)));
+    assert!(rt; has_starts(&compiled));
+    let (word, claim) = (start_of(&compiled), Call::Claim(0));
+    assert!(rt; compiled.has_row(word, 1, claim));
+    assert!(rt; compiled.step_word(word, 1, claim) == Some((Answer::Done, 0xA1)));
 }

@@ -78,15 +78,17 @@ inward = [\"gallery\", \"cabin\"]
 outward = [\"cabin\", \"gallery\"]
 ";
 
-/// The plan of a document, with its programs, and the opening with plates where there are digits 1. `None` if memory
-/// runs out.
-pub fn plant_of(alloc: Global, document: &str, places: &str) -> Option<(ProgrammedPlan, State)> {
-    let plan = plan_of(alloc, document.as_bytes()).ok()?;
+/// The plan of a document, with its programs. `None` if memory runs out.
+pub fn plan_in(alloc: Global, document: &str) -> Option<ProgrammedPlan> {
+    plan_of(alloc, document.as_bytes()).ok()
+}
+
+/// The opening with plates in these of the first two places.
+pub fn opening_with(places: [bool; 2]) -> State {
     let mut full = [false; 16];
-    for (is_full, digit) in full.iter_mut().zip(places.as_bytes().iter()) {
-        *is_full = *digit == b'1';
-    }
-    Some((plan, State::start(full, 0)))
+    full[0] = places[0];
+    full[1] = places[1];
+    State::start(full, 0)
 }
 
 /// Where the press with two plates comes to a standstill; and that with one it doesn't, whatever the stamp.

@@ -1,7 +1,7 @@
 //! Whether machines at a press go on for ever, by how fair an order is. What `explore` asks is printed.
 
 use super::answered_examples::STANDS;
-use super::explorations::plant_of;
+use super::explorations::{opening_with, plan_in};
 use plan_document::ProgrammedPlan;
 use plan_liveness::{Progress, explore_progress};
 use plan_rules::State;
@@ -53,28 +53,47 @@ fn progress_of(
 }
 
 /// How many turns come again and again in an order in which that machine starves, or all do; 0 if none does. `None` if
-/// that isn't known, or memory runs out.
-fn starving_turns(
+/// that isn't known.
+fn turns_in(progress: &Progress) -> Option<usize> {
+    match progress {
+        Progress::Starves(order) => Some(order.cycle.len()),
+        Progress::Within(_) => Some(0),
+        _ => None,
+    }
+}
+
+/// The same of a plan, with plates in these places. `None` also if memory runs out.
+fn turns_by(
     alloc: Global,
-    document: &str,
-    places: &str,
+    plan: &ProgrammedPlan,
+    places: [bool; 2],
     who: Option<u8>,
     strong: &[u8],
 ) -> Option<usize> {
-    let (plan, opening) = plant_of(alloc, document, places)?;
-    match progress_of(alloc, &plan, &opening, who, strong) {
-        Ok(Progress::Starves(order)) => Some(order.cycle.len()),
-        Ok(Progress::Within(_)) => Some(0),
-        _ => None,
-    }
+    let opening = opening_with(places);
+    let progress = progress_of(alloc, plan, &opening, who, strong).ok()?;
+    turns_in(&progress)
+}
+
+/// The same of a document.
+fn starving_turns(
+    alloc: Global,
+    document: &str,
+    places: [bool; 2],
+    who: Option<u8>,
+    strong: &[u8],
+) -> Option<usize> {
+    let plan = plan_in(alloc, document)?;
+    turns_by(alloc, &plan, places, who, strong)
 }
 
 // The press alone takes its four turns, unless the loader is never passed over for ever. Some machine goes on anyway,
 // but at a standstill.
 #[test]
 fn strong_fairness_helps(rt: HostRuntime) {
-    assert!(rt; starving_turns(rt.alloc(), SHARING, "00", Some(0), &[]) == Some(4));
-    assert!(rt; starving_turns(rt.alloc(), SHARING, "00", Some(0), &[0]) == Some(0));
-    assert!(rt; starving_turns(rt.alloc(), SHARING, "00", None, &[]) == Some(0));
-    assert!(rt; starving_turns(rt.alloc(), STANDS, "10", None, &[0, 1]) == Some(1));
+    let (none, one) = ([false, false], [true, false]);
+    assert!(rt; starving_turns(rt.alloc(), SHARING, none, Some(0), &[]) == Some(4));
+    assert!(rt; starving_turns(rt.alloc(), SHARING, none, Some(0), &[0]) == Some(0));
+    assert!(rt; starving_turns(rt.alloc(), SHARING, none, None, &[]) == Some(0));
+    assert!(rt; starving_turns(rt.alloc(), STANDS, one, None, &[0, 1]) == Some(1));
 }

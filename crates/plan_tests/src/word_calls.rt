@@ -1,5 +1,5 @@
 //! Calls of two machines at a press on one atomic word, and which of its motors may run.
-ghost use Rattle.std.specs.Prelude.{◌≡◌};
+ghost use Rattle.std.specs.Prelude.{◌≡◌, IfSome};
 
 use plan_interlock::{PlanInterlock, PlanPass, examples as interlocks, permitted_motors};
 use plan_motors::{MotorMask, examples as motors};
@@ -115,9 +115,26 @@ fn is_told(interlock: &PlanInterlock, loader: &mut PlanPass, press: &mut PlanPas
         && released == (Answer::Done, 7)
 }
 
+/// Whether both, once they have met, are the passes that they were.
+fn are_met(interlock: &PlanInterlock, loader: PlanPass, press: PlanPass) -> bool
+    requires loader { loader.table ≡ interlock.now.table }
+    requires press { press.table ≡ interlock.now.table }
+{
+    let (loader, press) = interlock.meet(loader, press);
+    loader.actor() == 0 && press.actor() == 1
+}
+
+/// The interlock of the example and its passes. Of its clauses it keeps what calls need.
+fn at_press(alloc: Global) -> Option<(PlanInterlock, PlanPass, PlanPass)>
+    ensures loader { IfSome result (λ made. made.1.table ≡ made.0.table) }
+    ensures press { IfSome result (λ made. made.2.table ≡ made.0.table) }
+{
+    interlocks::press(alloc)
+}
+
 #[test]
 fn a_press_is_loaded_on_a_word(rt: HostRuntime) {
-    let Some((interlock, mut loader, mut press)) = interlocks::press(rt.alloc()) else {
+    let Some((interlock, mut loader, mut press)) = at_press(rt.alloc()) else {
         panic!(rt; "no memory");
     };
     let masks = masks(rt.alloc()).expect(&rt, "memory");
@@ -125,6 +142,5 @@ fn a_press_is_loaded_on_a_word(rt: HostRuntime) {
     assert!(rt; is_loaded(&interlock, &mut loader, &mut press, &masks));
     assert!(rt; is_in_press(&interlock, &mut loader));
     assert!(rt; is_told(&interlock, &mut loader, &mut press));
-    let (loader, press) = interlock.meet(loader, press);
-    assert!(rt; loader.actor() == 0 && press.actor() == 1);
+    assert!(rt; are_met(&interlock, loader, press));
 }
