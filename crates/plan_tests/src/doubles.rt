@@ -101,16 +101,22 @@ fn is_line<T: Threads + Wait + Clock + Sync>(
     }
 }
 
+/// Adds rows, with this number for `#`.
+fn push_numbered(text: &mut String, rows: &str, row: u32) -> Result<(), AllocError> {
+    text.push_str(part(rows, "#", 0))?;
+    for number in 1..count_parts(rows, "#") {
+        write!(text, "{row}{}", part(rows, "#", number))?;
+    }
+    Ok(())
+}
+
 /// Adds rows as often as the number before them says, with the number of each for `#`.
 fn push_times(text: &mut String, block: &str) -> Result<(), AllocError> {
     let Some((times, rows)) = block.split_once(" ") else {
         return Ok(());
     };
     for row in 1..=times.parse::<u32>().unwrap_or(0) {
-        text.push_str(part(rows, "#", 0))?;
-        for number in 1..count_parts(rows, "#") {
-            write!(text, "{row}{}", part(rows, "#", number))?;
-        }
+        push_numbered(text, rows, row)?;
     }
     Ok(())
 }
@@ -136,6 +142,22 @@ fn written_out(alloc: Global, head: &str, text: &str) -> Result<String, AllocErr
 /// Stands between the parts of a row.
 const ARROW: &str = "=>\n";
 
+/// Whether the program answers each of these lines and an input with the wanted text.
+fn are_lines<T: Threads + Wait + Clock + Sync>(
+    rt: &T,
+    alloc: Global,
+    lines: &str,
+    input: &str,
+    wanted: &str,
+) -> bool {
+    let mut are_lines = lines.ends_with("\n");
+    for number in 1..count_parts(lines, "\n") {
+        let line = part(lines, "\n", number - 1);
+        are_lines = are_lines && is_line(rt, alloc, line, input, wanted);
+    }
+    are_lines
+}
+
 /// Whether the program answers each line of a row with the row's text, if this stands before the row's input.
 fn is_row<T: Threads + Wait + Clock + Sync>(
     rt: &T,
@@ -146,12 +168,7 @@ fn is_row<T: Threads + Wait + Clock + Sync>(
     let wanted = written_out(alloc, "", part(row, ARROW, 2))?;
     let input = written_out(alloc, head, part(row, ARROW, 1))?;
     let lines = part(row, ARROW, 0);
-    let mut is_row = lines.ends_with("\n");
-    for number in 1..count_parts(lines, "\n") {
-        let line = part(lines, "\n", number - 1);
-        is_row = is_row && is_line(rt, alloc, line, input.as_str(), wanted.as_str());
-    }
-    Ok(is_row)
+    Ok(are_lines(rt, alloc, lines, input.as_str(), wanted.as_str()))
 }
 
 /// Checks what the program answers to each row of a table, if this stands before the row's input.

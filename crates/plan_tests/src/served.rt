@@ -126,8 +126,22 @@ const WRITTEN: &str = "\
     ./plan explore => [[machine]]\nname = \"a\"\nstart,\n|\
     ./plan --help => ";
 
-/// Whether a writer that fails after each number of bytes of a row's text leads to status 1, and has taken as many
-/// bytes of it. After the last byte it fails at its flush.
+/// Whether a writer that fails after so many bytes of a text leads to status 1, and has taken these.
+fn is_cut<T: Threads + Wait + Clock + Sync>(
+    rt: &T,
+    alloc: Global,
+    arguments: &[&[u8]],
+    input: &str,
+    whole: &[u8],
+    left: usize,
+) -> bool {
+    let mut writer = FailingWriter::new(alloc, left);
+    let status = run(rt, alloc, arguments, &mut input.as_bytes(), &mut writer);
+    let taken = writer.taken.as_slice();
+    status == 1 && taken.len() == left && whole.starts_with(taken)
+}
+
+/// The same after each number of bytes of a row's text. After the last byte the writer fails at its flush.
 fn are_cut<T: Threads + Wait + Clock + Sync>(
     rt: &T,
     alloc: Global,
@@ -139,16 +153,7 @@ fn are_cut<T: Threads + Wait + Clock + Sync>(
     let (_, whole) = printed(rt, alloc, line, input)?;
     let mut are_cut = true;
     for left in 0..=whole.len() {
-        let mut writer = FailingWriter::new(alloc, left);
-        let status = run(
-            rt,
-            alloc,
-            arguments.as_slice(),
-            &mut input.as_bytes(),
-            &mut writer,
-        );
-        let taken = writer.taken.as_slice();
-        are_cut = are_cut && status == 1 && taken.len() == left && whole.starts_with(taken);
+        are_cut = are_cut && is_cut(rt, alloc, &arguments, input, &whole, left);
     }
     Ok(are_cut)
 }

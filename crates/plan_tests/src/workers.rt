@@ -14,9 +14,9 @@ use plan_types::{Answer, Call, Plan, examples};
 use plan_word::laws::starts_are_of_plan;
 use plan_workers::laws::machines_are_ready_at_start;
 use plan_workers::{
-    OpenPlanGate, PacedPlanGate, PlanAuditFault, PlanDevices, PlanEntry, PlanJob, PlanMachine,
-    PlanPassLine, PlanPause, PlanRenewal, PlanRound, PlanRoundSink, PlanWorked, PlanWorker, audit,
-    open_from, renew, work_by_pass, work_in_threads, work_renewed,
+    OpenPlanGate, PacedPlanGate, PlanAuditFault, PlanDevices, PlanEntry, PlanGate, PlanJob,
+    PlanMachine, PlanPassLine, PlanPause, PlanRenewal, PlanRound, PlanRoundSink, PlanWorked,
+    PlanWorker, audit, open_from, renew, work_by_pass, work_in_threads, work_renewed,
 };
 use std::alloc::{AllocError, Global};
 use std::sync::atomic::{AtomicU64, Ordering};
@@ -149,6 +149,14 @@ fn has_worked(back: &PlanWorked<Shown<'_>>, machine: u8, motors: u64) -> bool {
         && !devices.ran_ahead
 }
 
+/// Whether these are the loader, whose motors were off, and the press, whose ram was on.
+fn have_worked(backs: &[PlanWorked<Shown<'_>>]) -> bool {
+    match backs {
+        [loader, press] => has_worked(loader, 0, 0) && has_worked(press, 1, 0b1),
+        _ => false,
+    }
+}
+
 /// The jobs of the loader and the press, from the beginning of their programs.
 fn jobs_of_two<D: Drop>(
     alloc: Global,
@@ -180,10 +188,14 @@ fn two_machines_work_at_one_pace(rt: HostRuntime) {
     let jobs = jobs.expect(&rt, "memory");
     let gate = PacedPlanGate::new(&rt, 2, Duration::from_secs(30));
     let backs = work_in_threads(&rt, &interlock, jobs, &gate, 1_000).expect(&rt, "memory");
-    let [loader, press] = backs.as_slice() else {
-        panic!(rt; "not two machines");
-    };
-    assert!(rt; has_worked(loader, 0, 0) && has_worked(press, 1, 0b1));
+    assert!(rt; have_worked(&backs));
+}
+
+/// How many of 100 turns a machine takes.
+fn turns_alone<G: PlanGate>(interlock: &PlanInterlock, job: PlanJob<Shown<'_>>, gate: &G) -> u32
+    requires { IsReady interlock.now job }
+{
+    work_by_pass(interlock, job, gate, 100).turns
 }
 
 #[test]
@@ -195,7 +207,7 @@ fn a_machine_alone_goes_on(rt: HostRuntime) {
     let count = AtomicU64::new(0);
     let loader = PlanJob::new(loader, steps, Shown::new(None, &count, &count));
     let gate = PacedPlanGate::new(&rt, 2, Duration::from_millis(10));
-    assert!(rt; work_by_pass(&interlock, loader, &gate, 100).turns == 100);
+    assert!(rt; turns_alone(&interlock, loader, &gate) == 100);
 }
 
 /// The plan of the press, and the start of its example.
