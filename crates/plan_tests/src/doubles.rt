@@ -29,26 +29,6 @@ pub fn run<T: Threads + Wait + Clock + Sync, R: Read, W: Write>(
     start(rt, alloc, &Given { arguments }, reader, writer)
 }
 
-/// Whether the program answers an input with this status and this text.
-pub fn is_answered<T: Threads + Wait + Clock + Sync>(
-    rt: &T,
-    alloc: Global,
-    word: &[u8],
-    input: &str,
-    status: u8,
-    text: &str,
-) -> bool {
-    let mut written = Vec::new(alloc);
-    let found = run(
-        rt,
-        alloc,
-        &[b"./plan", word],
-        &mut input.as_bytes(),
-        &mut written,
-    );
-    found == status && written.as_slice() == text.as_bytes()
-}
-
 /// The status and the text of a line of words and an input.
 pub fn printed<T: Threads + Wait + Clock + Sync>(
     rt: &T,
