@@ -424,7 +424,8 @@ const ALL_BITS: [u8; 71] = [
     0, 0, 0, 0, 0, 0, 1,
 ];
 
-// A word, a call, its answer and the word after it. No machine has the number 3 of an owner: the last word is no state's.
+// A word, a call, its answer and the word after it. No machine has the number 3 of an owner: the last word is no
+// state's.
 const WORDS: &[(u64, [u8; 3], u8, u64)] = &[
     (0x7FFF_F500_0000_0000, [0, 1, 7], 0, 0x7FFF_FD08_0000_0000),
     (0x7FFF_F500_0000_0000, [15, 9, 0], 0, 0xFFFF_FD00_0000_0000),

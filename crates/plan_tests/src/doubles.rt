@@ -1,8 +1,8 @@
 //! The program with given arguments, and tables of what it answers.
 //!
 //! A table is one text, so a row costs the prover nothing. A line of dashes stands between two rows. A row has lines,
-//! each with a status, a colon and words; after arrows the input and the text that each of these lines is answered with;
-//! and perhaps, after another arrow, what the row shows.
+//! each with a status, a colon and words; after arrows the input, and the text that each of these lines is answered
+//! with; and perhaps, after another arrow, what the row shows.
 //!
 //! In such a text `[..]` stands for any text. Between two `@` stand a number, a blank and a part of an input or of a
 //! text: the part is there so many times, `#` in it being the number of each, from 1 on.
