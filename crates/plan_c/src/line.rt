@@ -18,7 +18,7 @@ pub(crate) const MAX_LINES: usize = 255;
 
 /// A line of a machine's program.
 #[repr(C)]
-#[derive(Clone, Copy, Debug, PartialEq, Eq)]
+#[derive(Clone, Copy)]
 pub struct ProgramLine {
     /// The motors of a run, those of the plan that have a bit here; otherwise 0.
     pub motors: u64,

@@ -6,7 +6,7 @@ use plan_types::Plan;
 
 /// A plan that was opened, or what says that the bytes were none. Nothing but `bagunjoki_plan_open` makes one.
 #[repr(C)]
-#[derive(Debug, Drop)]
+#[derive(Drop)]
 pub struct Opened {
     /// Whether the bytes were a plan's.
     pub is_plan: bool,

@@ -26,7 +26,7 @@ pub(crate) const NOTHING: u8 = 255;
 
 /// What C gets back from a call.
 #[repr(C)]
-#[derive(Clone, Copy, Debug, PartialEq, Eq)]
+#[derive(Clone, Copy)]
 pub struct Reply {
     /// The word of the state after the call: the word before it unless the answer is Done.
     pub next: u64,

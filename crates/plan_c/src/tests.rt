@@ -8,98 +8,151 @@ use crate::exports::{
 use crate::line::ProgramLine;
 use crate::opened::Opened;
 use crate::reply::{NO_CALL, Reply, bare_reply, reply_of};
-use crate::turn::Place;
+use crate::turn::{Place, Turned};
 use plan_rules::{LAST_STAMP, State, apply};
-use plan_types::{Plan, examples, write_plan};
+use plan_types::{Plan, examples};
 use plan_word::{Layout, pack};
-use std::test::Fail;
 
-// A call's machine, verb and object, and then its answer, owner, zone, posture and stamp.
-const ROWS: &[([u8; 3], [u8; 4], u32)] = &[
-    ([1, 1, 0], [0, 255, 255, 255], 1),
-    ([0, 1, 0], [2, 1, 255, 255], 1),
-    ([1, 6, 3], [0, 255, 255, 255], 2),
-    ([1, 6, 0], [0, 255, 255, 255], 3),
-    ([0, 1, 0], [2, 1, 255, 255], 3),
-    ([1, 3, 0], [0, 255, 255, 255], 4),
-    ([0, 2, 0], [0, 255, 255, 255], 5),
-    ([15, 8, 0], [32, 1, 255, 2], 5),
-    ([1, 5, 0], [6, 255, 0, 255], 5),
-    ([1, 4, 0], [0, 255, 255, 255], 6),
-    ([0, 2, 0], [5, 1, 255, 255], 6),
-    ([1, 1, 1], [1, 255, 255, 255], 6),
-    ([2, 1, 0], [1, 255, 255, 255], 6),
-    ([1, 6, 4], [12, 255, 255, 255], 6),
-    ([1, 6, 1], [10, 255, 255, 255], 6),
-    ([1, 7, 0], [64, 255, 255, 255], 6),
-    ([15, 9, 1], [64, 255, 255, 255], 6),
-    ([15, 9, 0], [0, 255, 255, 255], 7),
-    ([0, 1, 0], [14, 255, 255, 255], 7),
-    ([15, 10, 0], [0, 255, 255, 255], 8),
-    ([15, 10, 0], [15, 255, 255, 255], 8),
+// ---- the functions without their clauses, so that no row of a test carries these
+
+// The bytes of the press.
+const PRESS: [u8; 62] = [
+    2, 1, 4, 2, 1, 0, 1, 0, 1, 1, 1, 0, 1, 1, 3, 0, 0, 0, 0, 0, 0, 0, 0, 0, 1, 1, 4, 0, 0, 0, 0, 0,
+    0, 0, 0, 0, 1, 1, 1, 0, 0, 0, 0, 0, 0, 0, 0, 0, 1, 0, 2, 0, 0, 0, 0, 0, 0, 0, 0, 0, 0, 1,
+];
+
+fn opened(bytes: &[u8]) -> Opened {
+    bagunjoki_plan_open(bytes)
+}
+
+fn start_of(plan: &Opened, places: &[u8]) -> u64 {
+    bagunjoki_plan_start(plan, places, 0)
+}
+
+// A call by its machine, its verb and its object.
+fn step(plan: &Opened, word: u64, call: [u8; 3]) -> Reply {
+    bagunjoki_plan_step(plan, word, call[0], call[1], call[2])
+}
+
+// The word after a call, if its answer is this one, and else 0.
+fn word_after(plan: &Opened, word: u64, call: [u8; 3], answer: u8) -> u64 {
+    let reply = step(plan, word, call);
+    if reply.answer == answer {
+        reply.next
+    } else {
+        0
+    }
+}
+
+fn stamp_of(plan: &Opened, word: u64) -> u32 {
+    bagunjoki_plan_stamp(plan, word)
+}
+
+fn restamped(plan: &Opened, word: u64, stamp: u32) -> u64 {
+    bagunjoki_plan_restamp(plan, word, stamp)
+}
+
+// A turn of the press: its sensors are those that show, if they could be read.
+fn turn(
+    plan: &Opened,
+    word: u64,
+    lines: &[ProgramLine],
+    place: Place,
+    sensors: Option<u32>,
+) -> Turned {
+    let shown = sensors.unwrap_or(0);
+    bagunjoki_plan_turn(plan, word, 1, lines, place, sensors.is_some(), shown)
+}
+
+fn may_go_on(plan: &Opened, word: u64, lines: &[ProgramLine], place: Place) -> bool {
+    bagunjoki_plan_is_in_step(plan, word, 1, lines, place)
+}
+
+// The line, and what has stopped the machine there.
+fn place_at(line: u8, stopped: u8) -> Place {
+    Place { line, stopped }
+}
+
+fn is_at(place: Place, line: u8, stopped: u8) -> bool {
+    place.line == line && place.stopped == stopped
+}
+
+// ---- calls
+
+// A call's machine, verb and object, and then its answer, owner, zone, posture and stamp, and whether the ram and the
+// arm may run after it: the ram while the press holds its zone and moves, the arm while the loader holds it.
+const ROWS: &[([u8; 3], [u8; 4], u32, [bool; 2])] = &[
+    ([1, 1, 0], [0, 255, 255, 255], 1, [false, false]),
+    ([0, 1, 0], [2, 1, 255, 255], 1, [false, false]),
+    ([1, 6, 3], [0, 255, 255, 255], 2, [true, false]),
+    ([0, 1, 0], [2, 1, 255, 255], 2, [true, false]),
+    ([15, 9, 0], [0, 255, 255, 255], 3, [true, false]),
+    ([15, 10, 0], [0, 255, 255, 255], 4, [true, false]),
+    ([1, 6, 0], [0, 255, 255, 255], 5, [false, false]),
+    ([0, 1, 0], [2, 1, 255, 255], 5, [false, false]),
+    ([1, 3, 0], [0, 255, 255, 255], 6, [false, true]),
+    ([1, 6, 3], [5, 0, 255, 255], 6, [false, true]),
+    ([0, 2, 0], [0, 255, 255, 255], 7, [false, false]),
+    ([15, 8, 0], [32, 1, 255, 2], 7, [false, false]),
+    ([1, 5, 0], [6, 255, 0, 255], 7, [false, false]),
+    ([1, 4, 0], [0, 255, 255, 255], 8, [false, false]),
+    ([0, 2, 0], [5, 1, 255, 255], 8, [false, false]),
+    ([1, 1, 1], [1, 255, 255, 255], 8, [false, false]),
+    ([2, 1, 0], [1, 255, 255, 255], 8, [false, false]),
+    ([1, 6, 4], [12, 255, 255, 255], 8, [false, false]),
+    ([1, 6, 1], [10, 255, 255, 255], 8, [false, false]),
+    ([1, 7, 0], [64, 255, 255, 255], 8, [false, false]),
+    ([15, 9, 1], [64, 255, 255, 255], 8, [false, false]),
+    ([15, 9, 0], [0, 255, 255, 255], 9, [false, false]),
+    ([0, 1, 0], [14, 255, 255, 255], 9, [false, false]),
+    ([15, 10, 0], [0, 255, 255, 255], 10, [false, false]),
+    ([15, 10, 0], [15, 255, 255, 255], 10, [false, false]),
     // a number past the plan's machines names a machine that may only inquire
-    ([255, 8, 0], [32, 1, 255, 2], 8),
-    ([255, 1, 0], [1, 255, 255, 255], 8),
-    ([255, 9, 0], [1, 255, 255, 255], 8),
+    ([255, 8, 0], [32, 1, 255, 2], 10, [false, false]),
+    ([255, 1, 0], [1, 255, 255, 255], 10, [false, false]),
+    ([255, 9, 0], [1, 255, 255, 255], 10, [false, false]),
 ];
 
+// Whether the ram and the arm may run.
+fn may_run(word: u64) -> [bool; 2] {
+    [
+        bagunjoki_plan_may_run(word, 0x1B, 0x09),
+        bagunjoki_plan_may_run(word, 0x03, 0x02),
+    ]
+}
+
+// Whether a row's call is answered so. The word becomes that after it.
+fn is_row(plan: &Opened, word: &mut u64, row: &([u8; 3], [u8; 4], u32, [bool; 2])) -> bool {
+    let (call, wanted, stamp, motors) = row;
+    let reply = step(plan, *word, *call);
+    *word = reply.next;
+    [reply.answer, reply.owner, reply.zone, reply.posture] == *wanted
+        && stamp_of(plan, *word) == *stamp
+        && may_run(*word) == *motors
+}
+
+// Whether the word after the rows, which has stamp 10, has others, and wears.
+fn takes_stamps(plan: &Opened, word: u64) -> bool {
+    let worn = restamped(plan, word, LAST_STAMP);
+    stamp_of(plan, worn) == LAST_STAMP
+        && step(plan, worn, [15, 9, 0]).answer == 13
+        && restamped(plan, worn, 10) == word
+        && restamped(plan, word, 1_048_576) == u64::MAX
+}
+
 #[test]
-fn is_answered_in_numbers(rt: HostRuntime) -> Result<(), Fail> {
-    let press = Plan::new(examples::press(rt.alloc())?).expect(&rt, "a plan");
-    let bytes = write_plan(rt.alloc(), &press)?;
-    let plan = bagunjoki_plan_open(&bytes);
-    let mut word = bagunjoki_plan_start(&plan, b"10", 0);
+fn is_answered_in_numbers(rt: HostRuntime) {
+    let plan = opened(&PRESS);
+    let mut word = start_of(&plan, b"10");
     assert!(rt; word == 0x20);
-    for (call, wanted, stamp) in ROWS {
-        let reply = bagunjoki_plan_step(&plan, word, call[0], call[1], call[2]);
-        let told = [reply.answer, reply.owner, reply.zone, reply.posture];
-        assert!(rt; told == *wanted);
-        word = reply.next;
-        assert!(rt; bagunjoki_plan_stamp(&plan, word) == *stamp);
+    for row in ROWS {
+        assert!(rt; is_row(&plan, &mut word, row), "after {word:x}");
     }
-    let worn = bagunjoki_plan_restamp(&plan, word, 1_048_575);
-    assert!(rt; bagunjoki_plan_stamp(&plan, worn) == 1_048_575);
-    assert!(rt; bagunjoki_plan_step(&plan, worn, 15, 9, 0).answer == 13);
-    assert!(rt; bagunjoki_plan_restamp(&plan, worn, 8) == word);
-    assert!(rt; bagunjoki_plan_restamp(&plan, word, 1_048_576) == u64::MAX);
-    assert!(rt; bagunjoki_plan_step(&plan, u64::MAX, 1, 1, 0).answer == 65);
-    assert!(rt; bagunjoki_plan_stamp(&plan, u64::MAX) == u32::MAX);
-    assert!(rt; bagunjoki_plan_start(&plan, b"1", 0) == u64::MAX);
-    assert!(rt; bagunjoki_plan_step(&bagunjoki_plan_open(&[]), word, 1, 1, 0).answer == 67);
-    Ok(())
+    assert!(rt; takes_stamps(&plan, word));
+    assert!(rt; start_of(&plan, b"1") == u64::MAX && stamp_of(&plan, u64::MAX) == u32::MAX);
 }
 
-// The masks and the patterns of two motors of the press, and which of them may run after each call of a round: the ram,
-// while the press holds its zone and moves, and the loader's arm, while the loader holds it.
-const RAM: (u64, u64) = (0x1B, 0x09);
-
-const ARM: (u64, u64) = (0x03, 0x02);
-
-const MOTORS: &[([u8; 3], bool, bool)] = &[
-    ([1, 1, 0], false, false),
-    ([1, 6, 3], true, false),
-    ([0, 1, 0], true, false),
-    ([15, 9, 0], true, false),
-    ([15, 10, 0], true, false),
-    ([1, 6, 0], false, false),
-    ([1, 3, 0], false, true),
-    ([1, 6, 3], false, true),
-    ([0, 2, 0], false, false),
-];
-
-#[test]
-fn motors_run_while_they_may(rt: HostRuntime) -> Result<(), Fail> {
-    let press = Plan::new(examples::press(rt.alloc())?).expect(&rt, "a plan");
-    let bytes = write_plan(rt.alloc(), &press)?;
-    let plan = bagunjoki_plan_open(&bytes);
-    let mut word = bagunjoki_plan_start(&plan, b"10", 0);
-    for (call, ram, arm) in MOTORS {
-        word = bagunjoki_plan_step(&plan, word, call[0], call[1], call[2]).next;
-        assert!(rt; bagunjoki_plan_may_run(word, RAM.0, RAM.1) == *ram);
-        assert!(rt; bagunjoki_plan_may_run(word, ARM.0, ARM.1) == *arm);
-    }
-    Ok(())
-}
+// ---- turns
 
 fn line(motors: u64, kind: u8, object: u8, until: u8) -> ProgramLine {
     ProgramLine {
@@ -128,91 +181,106 @@ fn program() -> [ProgramLine; 6] {
     ]
 }
 
-// Whether the sensors could be read, and what they show; and then the motors, the place and the answer.
-const TURNS: &[(bool, u32, u64, [u8; 2], u8)] = &[
-    (true, 0, 0, [1, 0], 0),
-    (false, 0, 0, [1, 0], 255),
-    (true, 0, 0, [2, 0], 0),
-    (true, 0, 1, [2, 0], 255),
-    (true, 15, 1, [2, 0], 255),
-    (false, 0, 0, [2, 0], 255),
-    (true, 16, 0, [3, 0], 255),
-    (true, 0, 0, [4, 0], 0),
-    (true, 0, 0, [5, 0], 0),
-    (true, 0, 0, [5, 0], 32),
+// What the sensors show, if they could be read; and then the motors, the line and the answer.
+const TURNS: &[(Option<u32>, u64, u8, u8)] = &[
+    (Some(0), 0, 1, 0),
+    (None, 0, 1, 255),
+    (Some(0), 0, 2, 0),
+    (Some(0), 1, 2, 255),
+    (Some(15), 1, 2, 255),
+    (None, 0, 2, 255),
+    (Some(16), 0, 3, 255),
+    (Some(0), 0, 4, 0),
+    (Some(0), 0, 5, 0),
+    (Some(0), 0, 5, 32),
 ];
 
-// The press's turns until it awaits its zone, and once the loader has given it back. Then the press claims what it
-// owns, and stops for good.
-#[test]
-fn the_press_takes_turns(rt: HostRuntime) -> Result<(), Fail> {
-    let press = Plan::new(examples::press(rt.alloc())?).expect(&rt, "a plan");
-    let bytes = write_plan(rt.alloc(), &press)?;
-    let plan = bagunjoki_plan_open(&bytes);
-    let mut word = bagunjoki_plan_start(&plan, b"10", 0);
-    let mut place = Place {
-        line: 0,
-        stopped: 0,
-    };
-    for (read, sensors, motors, wanted, answer) in TURNS {
-        let turned = bagunjoki_plan_turn(&plan, word, 1, &program(), place, *read, *sensors);
-        assert!(rt; turned.motors == *motors && turned.answer == *answer);
-        assert!(rt; [turned.place.line, turned.place.stopped] == *wanted);
-        word = turned.word;
-        place = turned.place;
-    }
-    let given = bagunjoki_plan_step(&plan, word, 0, 2, 0);
-    assert!(rt; given.answer == 0);
-    let owned = bagunjoki_plan_turn(&plan, given.next, 1, &program(), place, true, 0);
-    assert!(rt; owned.answer == 32 && owned.place.line == 0);
-    let refused = bagunjoki_plan_turn(&plan, given.next, 1, &program(), owned.place, true, 0);
-    assert!(rt; refused.answer == 3 && refused.place.stopped == 3 && refused.word == given.next);
-    let stopped = bagunjoki_plan_turn(
-        &plan,
-        start_of(&plan),
-        1,
-        &program(),
-        refused.place,
-        true,
-        0,
-    );
-    assert!(rt; stopped.answer == 255 && stopped.place == refused.place);
-    Ok(())
+// Whether the press may go on, and its turn is a row's. Word and place become those after it.
+fn is_turn(
+    plan: &Opened,
+    word: &mut u64,
+    place: &mut Place,
+    row: &(Option<u32>, u64, u8, u8),
+) -> bool {
+    let (sensors, motors, line, answer) = row;
+    let lines = program();
+    let is_taken_back = may_go_on(plan, *word, &lines, *place);
+    let turned = turn(plan, *word, &lines, *place, *sensors);
+    *word = turned.word;
+    *place = turned.place;
+    is_taken_back && turned.motors == *motors && turned.answer == *answer && is_at(*place, *line, 0)
 }
 
-// Each place and word that turns lead to are taken back, and others aren't: with the ram running a line that comes after
-// the next call, a line past the end, a number that stops nothing, another word, no plan.
+// Whether a turn leads there with this answer. Word and place become those after it.
+fn leads_to(
+    plan: &Opened,
+    word: &mut u64,
+    place: &mut Place,
+    answer: u8,
+    line: u8,
+    stopped: u8,
+) -> bool {
+    let turned = turn(plan, *word, &program(), *place, Some(0));
+    *word = turned.word;
+    *place = turned.place;
+    turned.answer == answer && is_at(*place, line, stopped)
+}
+
+// The press's turns until it awaits its zone, and once the loader has given it back. Then the press claims what it
+// owns, and stops for good. Each place and word is taken back.
 #[test]
-fn places_are_taken_back(rt: HostRuntime) -> Result<(), Fail> {
-    let press = Plan::new(examples::press(rt.alloc())?).expect(&rt, "a plan");
-    let bytes = write_plan(rt.alloc(), &press)?;
-    let plan = bagunjoki_plan_open(&bytes);
-    let mut word = start_of(&plan);
+fn the_press_takes_turns(rt: HostRuntime) {
+    let plan = opened(&PRESS);
+    let mut word = start_of(&plan, b"10");
     let mut place = place_at(0, 0);
-    for (read, sensors, ..) in TURNS {
-        assert!(rt; bagunjoki_plan_is_in_step(&plan, word, 1, &program(), place));
-        let turned = bagunjoki_plan_turn(&plan, word, 1, &program(), place, *read, *sensors);
-        word = turned.word;
-        place = turned.place;
+    for row in TURNS {
+        assert!(rt;
+            is_turn(&plan, &mut word, &mut place, row),
+            "after {word:x}"
+        );
     }
-    let claimed = bagunjoki_plan_step(&plan, start_of(&plan), 1, 1, 0).next;
-    let moving = bagunjoki_plan_step(&plan, claimed, 1, 6, 3).next;
-    for (line, stopped, wanted) in [
-        (2, 0, true),
-        (2, 3, true),
-        (2, 11, false),
-        (4, 0, false),
-        (6, 0, false),
-    ] {
-        let at = place_at(line, stopped);
-        assert!(rt; bagunjoki_plan_is_in_step(&plan, moving, 1, &program(), at) == wanted);
+    word = word_after(&plan, word, [0, 2, 0], 0);
+    assert!(rt; leads_to(&plan, &mut word, &mut place, 32, 0, 0));
+    assert!(rt; leads_to(&plan, &mut word, &mut place, 3, 0, 3));
+    word = start_of(&plan, b"10");
+    assert!(rt; leads_to(&plan, &mut word, &mut place, 255, 0, 3));
+}
+
+// A line, what has stopped the machine there, and whether that place is taken back while the press moves: a line that
+// comes after the next call, one past the end, and a number that stops nothing aren't.
+const PLACES: &[(u8, u8, bool)] = &[
+    (2, 0, true),
+    (2, 3, true),
+    (2, 11, false),
+    (4, 0, false),
+    (6, 0, false),
+];
+
+// The words after the press's claim, and after its first move.
+fn claimed(plan: &Opened) -> u64 {
+    word_after(plan, start_of(plan, b"10"), [1, 1, 0], 0)
+}
+
+fn moving(plan: &Opened) -> u64 {
+    word_after(plan, claimed(plan), [1, 6, 3], 0)
+}
+
+fn runs_on(plan: &Opened, word: u64, lines: &[ProgramLine]) -> bool {
+    may_go_on(plan, word, lines, place_at(2, 0))
+}
+
+#[test]
+fn places_are_taken_back(rt: HostRuntime) {
+    let plan = opened(&PRESS);
+    for (line, stopped, wanted) in PLACES {
+        let place = place_at(*line, *stopped);
+        assert!(rt; may_go_on(&plan, moving(&plan), &program(), place) == *wanted);
     }
-    let run = place_at(2, 0);
-    assert!(rt; !bagunjoki_plan_is_in_step(&plan, claimed, 1, &program(), run));
-    assert!(rt; !bagunjoki_plan_is_in_step(&plan, u64::MAX, 1, &program(), run));
-    assert!(rt; !bagunjoki_plan_is_in_step(&plan, moving, 1, &no_steps(), run));
-    assert!(rt; !bagunjoki_plan_is_in_step(&bagunjoki_plan_open(&[]), moving, 1, &program(), run));
-    Ok(())
+    let words = [claimed(&plan), u64::MAX];
+    assert!(rt; !runs_on(&plan, words[0], &program()) && !runs_on(&plan, words[1], &program()));
+    let none = opened(&[]);
+    let word = moving(&plan);
+    assert!(rt; !runs_on(&plan, word, &no_steps()) && !runs_on(&none, word, &program()));
 }
 
 // The press's zone is the loader's, so its claim is refused: Held. Which faults of its line stop it, and with what.
@@ -225,32 +293,34 @@ const FAULTS: &[(u16, u8)] = &[
     (17_396, 2),
 ];
 
+// The word after the press has yielded its zone.
+fn yielded(plan: &Opened) -> u64 {
+    let open = word_after(plan, moving(plan), [1, 6, 0], 0);
+    word_after(plan, open, [1, 3, 0], 0)
+}
+
+// Whether the claim with a row's faults is refused, and stops the press so; and that on the next line, which has none,
+// doesn't.
+fn is_stopped(plan: &Opened, word: u64, row: &(u16, u8)) -> bool {
+    let (faults, stopped) = row;
+    let claim = line(0, 1, 0, 0);
+    let lines = [with_faults(*faults, claim), claim];
+    let turned = turn(plan, word, &lines, place_at(0, 0), Some(0));
+    let next = turn(plan, word, &lines, place_at(1, 0), Some(0));
+    turned.answer == 2
+        && is_at(turned.place, 0, *stopped)
+        && may_go_on(plan, word, &lines, turned.place)
+        && next.answer == 2
+        && is_at(next.place, 1, 0)
+}
+
 #[test]
-fn faults_stop_the_press(rt: HostRuntime) -> Result<(), Fail> {
-    let press = Plan::new(examples::press(rt.alloc())?).expect(&rt, "a plan");
-    let bytes = write_plan(rt.alloc(), &press)?;
-    let plan = bagunjoki_plan_open(&bytes);
-    let mut word = start_of(&plan);
-    for call in [[1, 1, 0], [1, 6, 3], [1, 6, 0], [1, 3, 0]] {
-        word = bagunjoki_plan_step(&plan, word, call[0], call[1], call[2]).next;
+fn faults_stop_the_press(rt: HostRuntime) {
+    let plan = opened(&PRESS);
+    let word = yielded(&plan);
+    for row in FAULTS {
+        assert!(rt; is_stopped(&plan, word, row));
     }
-    for (faults, stopped) in FAULTS {
-        let lines = [with_faults(*faults, line(0, 1, 0, 0)), line(0, 1, 0, 0)];
-        let turned = bagunjoki_plan_turn(&plan, word, 1, &lines, place_at(0, 0), true, 0);
-        assert!(rt; turned.answer == 2 && turned.place == place_at(0, *stopped));
-        assert!(rt; bagunjoki_plan_is_in_step(&plan, word, 1, &lines, turned.place));
-        let next = bagunjoki_plan_turn(&plan, word, 1, &lines, place_at(1, 0), true, 0);
-        assert!(rt; next.answer == 2 && next.place == place_at(1, 0));
-    }
-    Ok(())
-}
-
-fn place_at(line: u8, stopped: u8) -> Place {
-    Place { line, stopped }
-}
-
-fn start_of(plan: &Opened) -> u64 {
-    bagunjoki_plan_start(plan, b"10", 0)
 }
 
 // Lines that are no step: no verb, the cell's Advance, a kind past all, a call with a motor, a call with a sensor, an
@@ -273,130 +343,148 @@ fn no_steps() -> [ProgramLine; 12] {
     ]
 }
 
-#[test]
-fn turns_tell_why_they_rest(rt: HostRuntime) -> Result<(), Fail> {
-    let press = Plan::new(examples::press(rt.alloc())?).expect(&rt, "a plan");
-    let bytes = write_plan(rt.alloc(), &press)?;
-    let plan = bagunjoki_plan_open(&bytes);
-    let word = start_of(&plan);
-    for index in 0..13 {
-        let place = Place {
-            line: index,
-            stopped: 0,
-        };
-        let turned = bagunjoki_plan_turn(&plan, word, 1, &no_steps(), place, true, 0);
-        assert!(rt; turned.answer == 64 && turned.motors == 0 && turned.place == place);
-    }
-    let first = Place {
-        line: 0,
-        stopped: 0,
-    };
-    let no_state = bagunjoki_plan_turn(&plan, u64::MAX, 1, &program(), first, true, 0);
-    assert!(rt; no_state.answer == 65 && no_state.word == u64::MAX);
-    let none = bagunjoki_plan_open(&[]);
-    assert!(rt; bagunjoki_plan_turn(&none, word, 1, &program(), first, true, 0).answer == 67);
-    let most = [line(0, 8, 0, 0); 255];
-    assert!(rt; bagunjoki_plan_turn(&plan, word, 1, &most, first, true, 0).answer == 32);
-    let too_many = [line(0, 8, 0, 0); 256];
-    assert!(rt; bagunjoki_plan_turn(&plan, word, 1, &too_many, first, true, 0).answer == 64);
-    Ok(())
+// Whether a turn rests at a line, with this answer.
+fn rests(plan: &Opened, word: u64, lines: &[ProgramLine], line: u8, answer: u8) -> bool {
+    let turned = turn(plan, word, lines, place_at(line, 0), Some(0));
+    turned.answer == answer
+        && turned.motors == 0
+        && turned.word == word
+        && is_at(turned.place, line, 0)
 }
+
+// A program of inquiries.
+const INQUIRIES: [ProgramLine; 256] = [ProgramLine {
+    motors: 0,
+    kind: 8,
+    object: 0,
+    until: 0,
+    faults: 0,
+}; 256];
+
+#[test]
+fn turns_tell_why_they_rest(rt: HostRuntime) {
+    let plan = opened(&PRESS);
+    let word = start_of(&plan, b"10");
+    for line in 0..13 {
+        assert!(rt; rests(&plan, word, &no_steps(), line, 64), "{line}");
+    }
+    assert!(rt; rests(&plan, u64::MAX, &program(), 0, 65));
+    assert!(rt; rests(&opened(&[]), word, &program(), 0, 67));
+    assert!(rt; rests(&plan, word, &INQUIRIES, 0, 64));
+    assert!(rt; rests(&plan, word, &INQUIRIES[..255], 0, 32));
+}
+
+// ---- other plans
 
 // Two machines at a zone, with no poses and no places. The host is machine 0, the guest the one given.
 fn bare_zone(guest: u8) -> [u8; 12] {
     [2, 1, 0, 0, 0, guest, 0, 0, 0, 0, 0, 0]
 }
 
-#[test]
-fn tells_what_is_no_plan(rt: HostRuntime) -> Result<(), Fail> {
-    let plan = bagunjoki_plan_open(&bare_zone(0));
-    assert!(rt; !plan.is_plan);
-    assert!(rt; bagunjoki_plan_step(&plan, 0, 0, 1, 0).answer == 67);
-    assert!(rt; bagunjoki_plan_start(&plan, b"", 0) == u64::MAX);
-    assert!(rt; bagunjoki_plan_restamp(&plan, 0, 0) == u64::MAX);
-    assert!(rt; bagunjoki_plan_stamp(&plan, 0) == u32::MAX);
-    Ok(())
+// Whether each function says that there is no plan.
+fn is_no_plan(plan: &Opened) -> bool {
+    !plan.is_plan
+        && step(plan, 0, [0, 1, 0]).answer == 67
+        && start_of(plan, b"") == u64::MAX
+        && restamped(plan, 0, 0) == u64::MAX
+        && stamp_of(plan, 0) == u32::MAX
 }
 
-// The most machines, and the most poses, none of which gives a posture. An opened plan has as many bytes as in the
-// header for C.
+// A guest that is its own host makes no plan.
 #[test]
-fn the_largest_counts_are_a_plan(rt: HostRuntime) -> Result<(), Fail> {
-    let mut bytes = bare_zone(1).to_vec(rt.alloc())?;
+fn tells_what_is_no_plan(rt: HostRuntime) {
+    assert!(rt; is_no_plan(&opened(&bare_zone(0))));
+}
+
+// Two machines at a zone, which the first pose moves, and the second one opens inward.
+const MOVED_AND_OPENED: [u8; 36] = [
+    2, 1, 2, 0, 0, 1, 0, 0, 0, 0, 0, 0, 0, 0, 2, 0, 0, 0, 0, 0, 0, 0, 0, 0, 0, 0, 3, 0, 0, 0, 0, 0,
+    0, 0, 0, 0,
+];
+
+// No pose opens the zone outward, so no start comes to word 12, in which it is so and free. It is a state's all the
+// same.
+#[test]
+fn an_open_free_zone_is_a_state(rt: HostRuntime) {
+    let plan = opened(&MOVED_AND_OPENED);
+    assert!(rt; start_of(&plan, b"") == 0 && step(&plan, 0, [1, 1, 0]).answer == 4);
+    assert!(rt; word_after(&plan, 12, [1, 1, 0], 0) == 30);
+}
+
+// The most machines, and the most poses, none of which gives a posture.
+fn largest_counts() -> [u8; 780] {
+    let mut bytes = [0; 780];
     bytes[0] = 15;
+    bytes[1] = 1;
     bytes[2] = 64;
-    for _ in 0..64 {
-        bytes.extend_from_slice(&[0; 12])?;
-    }
-    let plan = bagunjoki_plan_open(&bytes);
-    assert!(rt; size_of::<Opened>() == 27_416);
-    let start = bagunjoki_plan_start(&plan, b"", 0);
-    assert!(rt; start == 0);
-    let reply = bagunjoki_plan_step(&plan, start, 0, 6, 63);
-    assert!(rt; reply.answer == 0);
-    assert!(rt; bagunjoki_plan_stamp(&plan, reply.next) == 1);
-    assert!(rt; bagunjoki_plan_step(&plan, start, 0, 6, 64).answer == 12);
-    Ok(())
+    bytes[5] = 1;
+    bytes
 }
 
-// Poses move the zone and open it inward, and none opens it outward, so no start comes to this word. It is a state's
-// all the same.
+// An opened plan has as many bytes as in the header for C.
 #[test]
-fn an_open_free_zone_is_a_state(rt: HostRuntime) -> Result<(), Fail> {
-    let mut bytes = bare_zone(1).to_vec(rt.alloc())?;
-    bytes[2] = 2;
-    for posture in [2, 3] {
-        bytes.extend_from_slice(&[0, 0, posture, 0, 0, 0, 0, 0, 0, 0, 0, 0])?;
-    }
-    let plan = bagunjoki_plan_open(&bytes);
-    let start = bagunjoki_plan_start(&plan, b"", 0);
-    assert!(rt; start == 0);
-    assert!(rt; bagunjoki_plan_step(&plan, start, 1, 1, 0).answer == 4);
-    let reply = bagunjoki_plan_step(&plan, 12, 1, 1, 0);
-    assert!(rt; reply.answer == 0);
-    assert!(rt; reply.next == 30);
-    Ok(())
+fn the_largest_counts_are_a_plan(rt: HostRuntime) {
+    assert!(rt; size_of::<Opened>() == 27_416);
+    let plan = opened(&largest_counts());
+    assert!(rt; start_of(&plan, b"") == 0 && step(&plan, 0, [0, 6, 64]).answer == 12);
+    assert!(rt; stamp_of(&plan, word_after(&plan, 0, [0, 6, 63], 0)) == 1);
 }
 
 // Eight zones of five bits, as plates come in and poses move and open them, and three places: the word has 64 bits, the
-// stamp from bit 43 up, and the stop in bit 63. Whatever the highest bits, each function answers by the plan.
+// stamp from bit 43 up, and the stop in bit 63.
+const ALL_BITS: [u8; 95] = [
+    2, 8, 2, 3, 0, 1, 1, 2, 0, 0, 0, 0, 0, 1, 1, 2, 0, 0, 0, 0, 0, 1, 1, 2, 0, 0, 0, 0, 0, 1, 1, 2,
+    0, 0, 0, 0, 0, 1, 1, 2, 0, 0, 0, 0, 0, 1, 1, 2, 0, 0, 0, 0, 0, 1, 1, 2, 0, 0, 0, 0, 0, 1, 1, 2,
+    0, 0, 0, 0, 0, 0, 2, 2, 2, 2, 2, 2, 2, 2, 0, 0, 0, 0, 3, 3, 3, 3, 3, 3, 3, 3, 0, 0, 0, 0, 1,
+];
+
+// A word, a call, its answer and the word after it. No machine has the number 3 of an owner: the last word is no
+// state's.
+const WORDS: &[(u64, [u8; 3], u8, u64)] = &[
+    (0x7FFF_F500_0000_0000, [0, 1, 7], 0, 0x7FFF_FD08_0000_0000),
+    (0x7FFF_F500_0000_0000, [15, 9, 0], 0, 0xFFFF_FD00_0000_0000),
+    (
+        0xFFFF_FD00_0000_0000,
+        [15, 10, 0],
+        13,
+        0xFFFF_FD00_0000_0000,
+    ),
+    (0xFFFF_FD00_0000_0000, [15, 8, 7], 32, 0xFFFF_FD00_0000_0000),
+    (0x8000_3D00_0000_0000, [0, 1, 7], 14, 0x8000_3D00_0000_0000),
+    (0x8000_3D00_0000_0000, [15, 10, 0], 0, 0x4500_0000_0000),
+    (0xFFFF_FD18_0000_0000, [0, 1, 7], 65, 0xFFFF_FD18_0000_0000),
+];
+
+// Whether a row's call has its answer, and leads to its word.
+fn is_word_row(plan: &Opened, row: &(u64, [u8; 3], u8, u64)) -> bool {
+    let (word, call, answer, next) = row;
+    let reply = step(plan, *word, *call);
+    reply.answer == *answer && reply.next == *next
+}
+
+// Whether a start, a stamp and another stamp are those of a plan with these bits.
+fn has_stamps(plan: &Opened) -> bool {
+    let start = bagunjoki_plan_start(plan, b"101", 1_048_574);
+    let stopped = 0xFFFF_FD00_0000_0000;
+    let early = restamped(plan, stopped, 7);
+    start == 0x7FFF_F500_0000_0000
+        && stamp_of(plan, start) == 1_048_574
+        && stamp_of(plan, stopped) == LAST_STAMP
+        && early == 0x8000_3D00_0000_0000
+        && restamped(plan, early, LAST_STAMP) == stopped
+        && stamp_of(plan, 0xFFFF_FD18_0000_0000) == u32::MAX
+}
+
+// Whatever the highest bits, each function answers by the plan.
 #[test]
-fn words_of_all_bits_are_answered(rt: HostRuntime) -> Result<(), Fail> {
-    let mut bytes = [2, 8, 2, 3].to_vec(rt.alloc())?;
-    for _ in 0..8 {
-        bytes.extend_from_slice(&[0, 1, 1, 2, 0, 0, 0, 0])?;
+fn words_of_all_bits_are_answered(rt: HostRuntime) {
+    let plan = opened(&ALL_BITS);
+    for row in WORDS {
+        assert!(rt; is_word_row(&plan, row));
     }
-    for posture in [2, 3] {
-        bytes.extend_from_slice(&[0, 0])?;
-        bytes.extend_from_slice(&[posture; 8])?;
-        bytes.extend_from_slice(&[0, 0])?;
-    }
-    bytes.extend_from_slice(&[0, 0, 1])?;
-    let plan = bagunjoki_plan_open(&bytes);
-    let start = bagunjoki_plan_start(&plan, b"101", 1_048_574);
-    assert!(rt; start == 0x7FFF_F500_0000_0000);
-    assert!(rt; bagunjoki_plan_stamp(&plan, start) == 1_048_574);
-    let claimed = bagunjoki_plan_step(&plan, start, 0, 1, 7);
-    assert!(rt; claimed.answer == 0);
-    assert!(rt; claimed.next == 0x7FFF_FD08_0000_0000);
-    let stop = bagunjoki_plan_step(&plan, start, 15, 9, 0);
-    assert!(rt; stop.answer == 0);
-    assert!(rt; stop.next == 0xFFFF_FD00_0000_0000);
-    assert!(rt; bagunjoki_plan_stamp(&plan, stop.next) == 1_048_575);
-    assert!(rt; bagunjoki_plan_step(&plan, stop.next, 15, 10, 0).answer == 13);
-    let shown = bagunjoki_plan_step(&plan, stop.next, 15, 8, 7);
-    assert!(rt; [shown.answer, shown.owner, shown.posture] == [32, 255, 0]);
-    assert!(rt; shown.next == stop.next);
-    let early = bagunjoki_plan_restamp(&plan, stop.next, 7);
-    assert!(rt; early == 0x8000_3D00_0000_0000);
-    assert!(rt; bagunjoki_plan_step(&plan, early, 0, 1, 7).answer == 14);
-    assert!(rt; bagunjoki_plan_step(&plan, early, 15, 10, 0).next == 0x4500_0000_0000);
-    assert!(rt; bagunjoki_plan_restamp(&plan, early, 1_048_575) == stop.next);
-    // no machine has the number 3 of an owner: the word of no state
-    let stateless = 0xFFFF_FD18_0000_0000;
-    assert!(rt; bagunjoki_plan_step(&plan, stateless, 0, 1, 7).answer == 65);
-    assert!(rt; bagunjoki_plan_stamp(&plan, stateless) == u32::MAX);
-    Ok(())
+    assert!(rt; has_stamps(&plan));
+    let shown = step(&plan, 0xFFFF_FD00_0000_0000, [15, 8, 7]);
+    assert!(rt; shown.owner == 255 && shown.posture == 0);
 }
 
 // Of `bindings/tests/plan_walk.c`, which makes the same calls by the library.
@@ -417,11 +505,25 @@ fn mix_reply(sum: u64, reply: Reply) -> u64 {
     mix(sum, u64::from(reply.plate))
 }
 
-// The lift, answered by the rules.
-#[test]
-fn walks_as_c_does(rt: HostRuntime) -> Result<(), Fail> {
-    let plan = Plan::new(examples::lift(rt.alloc())?).expect(&rt, "a plan");
-    let layout = Layout::of(&plan);
+// The reply to a call that is drawn, by the rules. `None` with the last stamp.
+fn drawn_reply(plan: &Plan, state: &mut State, drawn: u64) -> Option<Reply> {
+    if state.stamp >= LAST_STAMP {
+        return None;
+    }
+    let machine = CALLERS[(drawn % 4) as usize];
+    let reply = match call_with((drawn / 4 % 11) as u8, (drawn / 64 % 6) as u8) {
+        Some(call) => reply_of(apply(plan, state, machine, call), 0),
+        None => bare_reply(NO_CALL, 0),
+    };
+    if state.stamp > LAST_STAMP {
+        return None;
+    }
+    let next = pack(plan, &Layout::of(plan), state);
+    Some(Reply { next, ..reply })
+}
+
+// The sum over the replies to 100,000 calls.
+fn walked(plan: &Plan) -> Option<u64> {
     let mut full = [false; 16];
     full[1] = true;
     let mut state = State::start(full, 0);
@@ -431,20 +533,15 @@ fn walks_as_c_does(rt: HostRuntime) -> Result<(), Fail> {
         seed = seed
             .wrapping_mul(6_364_136_223_846_793_005)
             .wrapping_add(1_442_695_040_888_963_407);
-        let drawn = seed >> 33;
-        let machine = CALLERS[(drawn % 4) as usize];
-        let call = call_with((drawn / 4 % 11) as u8, (drawn / 64 % 6) as u8);
-        assert!(rt; state.stamp < LAST_STAMP);
-        let reply = match call {
-            Some(call) => {
-                let answer = apply(&plan, &mut state, machine, call);
-                assert!(rt; state.stamp <= LAST_STAMP);
-                reply_of(answer, pack(&plan, &layout, &state))
-            }
-            None => bare_reply(NO_CALL, pack(&plan, &layout, &state)),
-        };
-        sum = mix_reply(sum, reply);
+        sum = mix_reply(sum, drawn_reply(plan, &mut state, seed >> 33)?);
     }
-    assert_eq!(rt; sum, WALKED);
-    Ok(())
+    Some(sum)
+}
+
+// The lift, answered by the rules.
+#[test]
+fn walks_as_c_does(rt: HostRuntime) {
+    let tables = examples::lift(rt.alloc()).expect(&rt, "memory");
+    let plan = Plan::new(tables).expect(&rt, "a plan");
+    assert!(rt; walked(&plan) == Some(WALKED));
 }

@@ -22,7 +22,7 @@ use plan_word::unpack;
 
 /// A machine's place in its program, as C stores it.
 #[repr(C)]
-#[derive(Clone, Copy, Debug, PartialEq, Eq)]
+#[derive(Clone, Copy)]
 pub struct Place {
     /// The line, from 0.
     pub line: u8,
@@ -32,7 +32,7 @@ pub struct Place {
 
 /// What C gets back from a turn.
 #[repr(C)]
-#[derive(Clone, Copy, Debug, PartialEq, Eq)]
+#[derive(Clone, Copy)]
 pub struct Turned {
     /// The word after the turn: the one before it unless a call was done.
     pub word: u64,

@@ -1,30 +1,12 @@
 //! What `check` says of the motors that programs run.
 
-use super::doubles::is_answered;
-use std::alloc::{AllocError, Global};
-use std::sync::Wait;
-use std::thread::Threads;
-use std::time::Clock;
-use test_doubles::{count_parts, part};
+use super::doubles::are_answered;
 
-/// Two machines at a press, before the press's program.
-const BEFORE: &str = "\
+/// Two machines at a press. The press comes last, so that its program may follow.
+const PLAN: &str = "\
 [[machine]]
 name = \"loader\"
 places = [\"hand\"]
-
-[[machine]]
-name = \"press\"
-places = [\"die\"]
-sensors = [\"top\", \"bottom\"]
-poses = [
-  { name = \"load\", gives = { interior = \"openin\" }, after_moving = true },
-  { name = \"travelling\", gives = { interior = \"moving\" } },
-]
-program = [";
-
-/// What comes after the program.
-const AFTER: &str = "]
 
 [[zone]]
 name = \"interior\"
@@ -41,10 +23,24 @@ holds = { interior = \"moving\" }
 name = \"heater\"
 machine = \"press\"
 full = [\"die\"]
+
+[[machine]]
+name = \"press\"
+places = [\"die\"]
+sensors = [\"top\", \"bottom\"]
+poses = [
+  { name = \"load\", gives = { interior = \"openin\" }, after_moving = true },
+  { name = \"travelling\", gives = { interior = \"moving\" } },
+]
 ";
 
-/// What `check` says of it before drives.
-const REPORT: &str = "\
+/// Programs, each with what is said of it: first those in which nothing is wrong, then those that run what isn't
+/// permitted. The status is 1 if the program is wrong on some line.
+const ROWS: &str = "\
+0: ./plan check
+=>
+program = [\"claim interior\", \"pose travelling\", \"run ram until bottom\"]
+=>
 2 machines: loader press
 1 zone: interior
 2 places: hand die
@@ -56,65 +52,64 @@ bit 6, 1 bit: place die
 bit 7, 20 bits: stamp
 bit 27, 1 bit: stop
 rows: each call that is done has its row
-";
-
-/// Programs, each with what is said of it: first those in which nothing is wrong, then those that run what isn't
-/// permitted.
-const ROWS: &str = "\
-\"claim interior\", \"pose travelling\", \"run ram until bottom\"
-=>
 drives: each motor is permitted where its program runs it
+2 motors: ram heater
 --
-\"await top\", \"claim interior\", \"pose travelling\", \"await interior\", \"run ram until bottom\"
+0: ./plan check
 =>
+program = [\"await top\", \"claim interior\", \"pose travelling\", \"await interior\", \"run ram until bottom\"]
+=>
+[..]
+rows: each call that is done has its row
 drives: each motor is permitted where its program runs it
+2 motors: ram heater
 --
-\"claim interior\", \"pose travelling\", \"await bottom\"
+0: ./plan check
 =>
+program = [\"claim interior\", \"pose travelling\", \"await bottom\"]
+=>
+[..]
+rows: each call that is done has its row
+2 motors: ram heater
 --
-\"run ram until bottom\"
+1: ./plan check
 =>
+program = [\"run ram until bottom\"]
+=>
+[..]
+rows: each call that is done has its row
 press, line 1: ram needs to hold interior; here it may be another's
+2 motors: ram heater
 --
-\"claim interior\", \"run ram until bottom\"
+1: ./plan check
 =>
+program = [\"claim interior\", \"run ram until bottom\"]
+=>
+[..]
+rows: each call that is done has its row
 press, line 2: ram needs interior moving; here its posture isn't known
+2 motors: ram heater
 --
-\"claim interior\", \"pose travelling\", \"pose load\", \"run ram until bottom\"
+1: ./plan check
 =>
+program = [\"claim interior\", \"pose travelling\", \"pose load\", \"run ram until bottom\"]
+=>
+[..]
+rows: each call that is done has its row
 press, line 4: ram needs interior moving; here it is openin
+2 motors: ram heater
 --
-\"claim interior\", \"pose travelling\", \"run heater ram until bottom\"
+1: ./plan check
 =>
+program = [\"claim interior\", \"pose travelling\", \"run heater ram until bottom\"]
+=>
+[..]
+rows: each call that is done has its row
 press, line 3: heater needs die full; here it may be empty
+2 motors: ram heater
 ";
-
-/// Whether `check` says so of the plan with a row's program. The status is 1 if the program is wrong on some line.
-fn is_checked<T: Threads + Wait + Clock + Sync>(
-    rt: &T,
-    alloc: Global,
-    row: &str,
-) -> Result<bool, AllocError> {
-    let program = part(row, "=>\n", 0);
-    let drives = part(row, "=>\n", 1);
-    let document = format!(in alloc; "{BEFORE}{program}{AFTER}")?;
-    let text = format!(in alloc; "{REPORT}{drives}2 motors: ram heater\n")?;
-    let status = u8::from(drives.contains("line "));
-    Ok(is_answered(
-        rt,
-        alloc,
-        b"check",
-        document.as_str(),
-        status,
-        text.as_str(),
-    ))
-}
 
 #[test]
-fn tells_whether_drives_are_permitted(rt: HostRuntime) -> Result<(), AllocError> {
-    for number in 0..count_parts(ROWS, "--\n") {
-        let row = part(ROWS, "--\n", number);
-        assert!(rt; is_checked(&rt, rt.alloc(), row)?, "{row}");
-    }
-    Ok(())
+fn tells_whether_drives_are_permitted(rt: HostRuntime) {
+    are_answered(&rt, rt.alloc(), PLAN, ROWS);
 }

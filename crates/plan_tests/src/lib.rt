@@ -1,15 +1,10 @@
-//! Tests of plans, of their interlock, their words and bytes, and of the cell's plan, by public calls
-//! only.
+//! Tests of plans, of their interlock, their words and bytes, by public calls only.
 #![tactic(auto)]
 
 #[cfg(test)]
 mod answered_examples;
 #[cfg(test)]
 mod at_work;
-#[cfg(test)]
-mod cell;
-#[cfg(test)]
-mod cell_plan;
 #[cfg(test)]
 mod compiled;
 #[cfg(test)]
@@ -25,11 +20,9 @@ mod going;
 #[cfg(test)]
 mod headers;
 #[cfg(test)]
-mod histories;
+mod later_faults;
 #[cfg(test)]
 mod limits;
-#[cfg(test)]
-mod loads;
 #[cfg(test)]
 mod modules;
 #[cfg(test)]
@@ -43,14 +36,14 @@ mod pictures;
 #[cfg(test)]
 mod progress;
 #[cfg(test)]
-mod rows;
-#[cfg(test)]
-mod runs;
-#[cfg(test)]
 mod served;
 #[cfg(test)]
 mod sizes;
 #[cfg(test)]
+mod two_presses;
+#[cfg(test)]
 mod word_calls;
 #[cfg(test)]
 mod words;
+#[cfg(test)]
+mod workers;

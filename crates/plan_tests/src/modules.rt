@@ -1,8 +1,17 @@
 //! The module of the press for Python, whole.
 
-/// The module.
-pub const MODULE: &str = "\
-# A plan, as `plan header --python` prints it, for bagunjoki_plan.py: its bytes, its names in the order of their numbers, and
+/// A motor of the press, which runs only while the press holds the interior and that moves; and the module.
+pub const OF_RAM: &str = "\
+0: ./plan header --python
+=>
+
+[[motor]]
+name = \"ram\"
+machine = \"press\"
+holds = { interior = \"moving\" }
+=>
+# A plan, as `plan header --python` prints it, for bagunjoki_plan.py: its bytes, its names in the order of their \
+    numbers, and
 # its motors with the bits of a word that each looks at and what these have to be.
 from bagunjoki_plan import Plant
 
@@ -43,12 +52,4 @@ PLANT = Plant(
 
 if __name__ == \"__main__\":
     raise SystemExit(PLANT.main())
-";
-
-/// A motor of the press, which runs only while the press holds the interior and that moves.
-pub const RAM: &str = "
-[[motor]]
-name = \"ram\"
-machine = \"press\"
-holds = { interior = \"moving\" }
 ";

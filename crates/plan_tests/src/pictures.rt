@@ -1,7 +1,11 @@
 //! The picture of a press, whole.
 
-/// The ram and the arm of the press, which are never to run both.
-pub const HAZARD: &str = "
+/// The ram and the arm of the press, which are never to run both; and the picture, made by a program of its own from
+/// what the definitions say of lanes, rows and columns.
+pub const OF_HAZARD: &str = "\
+0: ./plan draw
+=>
+
 [[motor]]
 name = \"ram\"
 machine = \"press\"
@@ -15,10 +19,7 @@ holds = { interior = \"any\" }
 [[hazard]]
 name = \"<arm> & 'ram'\"
 motors = [\"ram\", \"arm_in_press\"]
-";
-
-/// The picture, made by a program of its own from what the definitions say of lanes, rows and columns.
-pub const PICTURE: &str = "\
+=>
 <svg xmlns=\"http://www.w3.org/2000/svg\" width=\"810\" height=\"492\" viewBox=\"0 0 810 492\" \
     font-family=\"monospace\">
 <style>

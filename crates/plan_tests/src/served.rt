@@ -1,62 +1,74 @@
 //! What the program answers to its words: exit statuses and texts; and where reading or writing fails.
 
 use super::answered_examples::PRESS;
-use super::doubles::{is_answered, printed, run};
-use program_shell::VERSION;
+use super::doubles::{are_answered, printed, run};
 use std::alloc::{AllocError, Global};
 use std::sync::Wait;
 use std::thread::Threads;
 use std::time::Clock;
 use test_doubles::{FailingReader, FailingWriter, arguments_in, count_parts, part};
 
-const OTHER_WORDS: &str =
-    "error: the only argument is check, replay, explore, header, draw, run, --help or --version\n";
+/// Lines of words that are refused, that ask for help and for the version; and a document without bytes.
+const WORDS: &str = "\
+2: ./plan
+2: ./plan sim
+2: ./plan check check
+2: ./plan checks --help
+2: ./plan check replay --help
+2: ./plan --version --help
+2: ./plan check --version
+2: ./plan help
+2: ./plan header --rust
+2: ./plan check --python
+2: ./plan draw --python
+2: ./plan check --page
+2: ./plan explore --pages
+2: ./plan explore --page --page
+2: ./plan --page
+2: ./plan run
+2: ./plan run 5
+2: ./plan run --turns
+2: ./plan run --turns 0
+2: ./plan run --turns 1000001
+2: ./plan run --turns -5
+2: ./plan run --turns=5
+2: ./plan run --turns five
+2: ./plan run --tries 5
+2: ./plan run --turns 5 5
+2: ./plan run --page
+2: ./plan run --page --turns 5
+2: ./plan run --turns 5 --pages
+2: ./plan run --turns 0 --page
+2: ./plan check --turns 5
+2: ./plan 
+=>
+=>
+error: the only argument is check, replay, explore, header, draw, run, --help or --version
+--
+0: ./plan --help
+0: ./plan -h checks
+0: ./plan check --help
+0: ./plan replay -h
+0: ./plan explore --help --version
+0: ./plan header --help
+0: ./plan draw --help
+0: ./plan run --help
+=>
+=>
+Reads a plan of a plant, in TOML[..]
+--
+0: ./plan --version
+=>
+=>
+plan [..].[..].[..]
+--
+1: ./plan check
+=>
+=>
+fault plan the document: there is no [[machine]]
+";
 
-/// Lines of words that are refused. Bars separate the lines.
-const ASTRAY: &str = "\
-    ./plan|\
-    ./plan sim|\
-    ./plan check check|\
-    ./plan checks --help|\
-    ./plan check replay --help|\
-    ./plan --version --help|\
-    ./plan check --version|\
-    ./plan help|\
-    ./plan header --rust|\
-    ./plan check --python|\
-    ./plan draw --python|\
-    ./plan check --page|\
-    ./plan explore --pages|\
-    ./plan explore --page --page|\
-    ./plan --page|\
-    ./plan run|\
-    ./plan run 5|\
-    ./plan run --turns|\
-    ./plan run --turns 0|\
-    ./plan run --turns 1000001|\
-    ./plan run --turns -5|\
-    ./plan run --turns=5|\
-    ./plan run --turns five|\
-    ./plan run --tries 5|\
-    ./plan run --turns 5 5|\
-    ./plan run --page|\
-    ./plan run --page --turns 5|\
-    ./plan run --turns 5 --pages|\
-    ./plan run --turns 0 --page|\
-    ./plan check --turns 5|\
-    ./plan ";
-
-/// Whether these words are refused.
-fn is_refused<T: Threads + Wait + Clock + Sync>(
-    rt: &T,
-    alloc: Global,
-    line: &str,
-) -> Result<bool, AllocError> {
-    let (status, written) = printed(rt, alloc, line, "")?;
-    Ok(status == 2 && written.as_slice() == OTHER_WORDS.as_bytes())
-}
-
-/// Whether the program answers these arguments and an empty input with status 2 and this text.
+/// Whether the program refuses these arguments with this text.
 fn are_refused<T: Threads + Wait + Clock + Sync>(
     rt: &T,
     alloc: Global,
@@ -69,58 +81,19 @@ fn are_refused<T: Threads + Wait + Clock + Sync>(
 }
 
 #[test]
-fn serves(rt: HostRuntime) -> Result<(), AllocError> {
-    for number in 0..count_parts(ASTRAY, "|") {
-        let line = part(ASTRAY, "|", number);
-        assert!(rt; is_refused(&rt, rt.alloc(), line)?, "{line}");
-    }
+fn serves(rt: HostRuntime) {
+    are_answered(&rt, rt.alloc(), "", WORDS);
+    let other =
+        "error: the only argument is check, replay, explore, header, draw, run, --help or --version\n";
     let no_text = "error: a word isn't UTF-8\n";
     assert!(rt;
-        are_refused(&rt, rt.alloc(), &[], OTHER_WORDS)
-            && are_refused(&rt, rt.alloc(), &[b"bad\xff", b"checks"], OTHER_WORDS)
+        are_refused(&rt, rt.alloc(), &[], other)
+            && are_refused(&rt, rt.alloc(), &[b"bad\xff", b"checks"], other)
             && are_refused(&rt, rt.alloc(), &[b"./plan", b"\xff"], no_text)
     );
-    let nothing = "fault plan the document: there is no [[machine]]\n";
-    assert!(rt; is_answered(&rt, rt.alloc(), b"check", "", 1, nothing));
-    Ok(())
 }
 
-/// Lines of words that ask for help.
-const HELPS: &str = "\
-    ./plan --help|\
-    ./plan -h checks|\
-    ./plan check --help|\
-    ./plan replay -h|\
-    ./plan explore --help --version|\
-    ./plan header --help|\
-    ./plan draw --help|\
-    ./plan run --help";
-
-/// Whether these words are answered with the help, and the input is left alone.
-fn is_helped<T: Threads + Wait + Clock + Sync>(
-    rt: &T,
-    alloc: Global,
-    line: &str,
-) -> Result<bool, AllocError> {
-    let arguments = arguments_in(alloc, line)?;
-    let mut reader = PRESS.as_bytes();
-    let mut written = Vec::new(alloc);
-    let status = run(rt, alloc, arguments.as_slice(), &mut reader, &mut written);
-    let is_help = written.starts_with(b"Reads a plan of a plant, in TOML");
-    Ok(status == 0 && is_help && reader.len() == PRESS.len())
-}
-
-#[test]
-fn helps(rt: HostRuntime) -> Result<(), AllocError> {
-    for number in 0..count_parts(HELPS, "|") {
-        let line = part(HELPS, "|", number);
-        assert!(rt; is_helped(&rt, rt.alloc(), line)?, "{line}");
-    }
-    let version = format!(in rt.alloc(); "plan {VERSION}\n")?;
-    assert!(rt; is_answered(&rt, rt.alloc(), b"--version", PRESS, 0, version.as_str()));
-    Ok(())
-}
-
+/// Whether it is told that reading has failed, after so many bytes.
 fn is_failed_read<T: Threads + Wait + Clock + Sync>(
     rt: &T,
     alloc: Global,
@@ -133,11 +106,13 @@ fn is_failed_read<T: Threads + Wait + Clock + Sync>(
     status == 1 && written.as_slice() == b"fault read\n".as_slice()
 }
 
+// Who asks for help reads nothing.
 #[test]
 fn tells_a_failed_read(rt: HostRuntime) {
     for left in 0..=PRESS.len() {
         let is_told = is_failed_read(&rt, rt.alloc(), b"check", left)
-            && is_failed_read(&rt, rt.alloc(), b"replay", left);
+            && is_failed_read(&rt, rt.alloc(), b"replay", left)
+            && !is_failed_read(&rt, rt.alloc(), b"--help", left);
         assert!(rt; is_told, "after {left}");
     }
 }
@@ -151,8 +126,22 @@ const WRITTEN: &str = "\
     ./plan explore => [[machine]]\nname = \"a\"\nstart,\n|\
     ./plan --help => ";
 
-/// Whether a writer that fails after each number of bytes of a row's text leads to status 1, and has taken as many
-/// bytes of it. After the last byte it fails at its flush.
+/// Whether a writer that fails after so many bytes of a text leads to status 1, and has taken these.
+fn is_cut<T: Threads + Wait + Clock + Sync>(
+    rt: &T,
+    alloc: Global,
+    arguments: &[&[u8]],
+    input: &str,
+    whole: &[u8],
+    left: usize,
+) -> bool {
+    let mut writer = FailingWriter::new(alloc, left);
+    let status = run(rt, alloc, arguments, &mut input.as_bytes(), &mut writer);
+    let taken = writer.taken.as_slice();
+    status == 1 && taken.len() == left && whole.starts_with(taken)
+}
+
+/// The same after each number of bytes of a row's text. After the last byte the writer fails at its flush.
 fn are_cut<T: Threads + Wait + Clock + Sync>(
     rt: &T,
     alloc: Global,
@@ -164,16 +153,7 @@ fn are_cut<T: Threads + Wait + Clock + Sync>(
     let (_, whole) = printed(rt, alloc, line, input)?;
     let mut are_cut = true;
     for left in 0..=whole.len() {
-        let mut writer = FailingWriter::new(alloc, left);
-        let status = run(
-            rt,
-            alloc,
-            arguments.as_slice(),
-            &mut input.as_bytes(),
-            &mut writer,
-        );
-        let taken = writer.taken.as_slice();
-        are_cut = are_cut && status == 1 && taken.len() == left && whole.starts_with(taken);
+        are_cut = are_cut && is_cut(rt, alloc, &arguments, input, &whole, left);
     }
     Ok(are_cut)
 }

@@ -16,8 +16,6 @@ pub mod renewed;
 mod replay;
 pub mod rounds;
 pub mod run;
-#[cfg(test)]
-mod tests;
 pub mod worker;
 
 pub use audit_fault::PlanAuditFault;

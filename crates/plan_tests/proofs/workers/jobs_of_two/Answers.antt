@@ -2,7 +2,7 @@ use Rattle.std.proofs.Common.{◌≡◌, ◌∷◌, ◌++◌, [], ◌∙◌, Lis
 use Rattle.std.proofs.lemmas.List.Elements.{All-nil, All-cons}
 use Rattle.plan_workers.specs.declared.run.PlanJob.{PlanJob}
 use Rattle.plan_workers.specs.Jobs.{IsReady, PlanInterlockView}
-use Rattle.plan_workers.proofs.tests.jobs_of_two.Goals as goal
+use Rattle.plan_tests.proofs.workers.jobs_of_two.Goals as goal
 
 both_ready : {D : Type 0} (i : PlanInterlockView) (none one two : List (PlanJob D)) (a b : PlanJob D) → none ≡ [] → one ≡ none ++ a ∷ [] → two ≡ one ++ b ∷ [] → IsReady i a → IsReady i b → All (λ job. IsReady i job) two
 both_ready i none one two a b empty first second x y =
