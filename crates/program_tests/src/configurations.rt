@@ -1,30 +1,17 @@
 //! Configurations: what they give, and why they are refused.
 
-use super::doubles::read;
-use cell_config::{Config, ConfigFault};
+use super::hostile_configurations::SENT;
+use cell_config::{Config, ConfigFault, read_config};
 use cell_types::Place;
 use std::alloc::{AllocError, Global};
-use std::test::Fail;
-use test_doubles::{FailingReader, count_parts, part};
+use std::io::Read;
+use test_doubles::{bytes_in, count_parts, part};
 
-/// What the fault line says of a text after `fault`, or `well`.
-fn judgement_of(alloc: Global, bytes: &[u8]) -> &'static str {
-    let mut reader = bytes;
-    match read(alloc, &mut reader) {
-        Ok(_) => "well",
-        Err(fault) => fault.text(),
-    }
-}
-
-/// Whether the text of a row is judged so after this beginning. In a row an arrow separates the text from its
-/// judgement.
-fn is_judged_after(alloc: Global, begin: &str, row: &str) -> Result<bool, AllocError> {
-    let mut text = String::from_str(alloc, begin)?;
-    text.push_str(part(row, " => ", 0))?;
-    Ok(judgement_of(alloc, text.as_bytes()) == part(row, " => ", 1))
-}
-
-/// Whole texts. Bars separate the rows.
+/// Whole texts, each with its judgement. It is the text of the fault; or `well`, the places with plates, the stamp, the
+/// turns, with a mark those that get Busy, and of each potentiometer both raw values, both positions and the tolerance,
+/// and then a dot. A row may have the beginning alone. Bars separate the rows; in a row arrows separate the text, in
+/// which each character stands for a byte, and the judgement. The last ones are the defaults, also after a byte order
+/// mark; values; letters.
 const TEXTS: &str = "\
     \u{20}=> config missing|\
     stamp = -1 => config missing|\
@@ -46,7 +33,22 @@ const TEXTS: &str = "\
     start = \"000\"\narm1 = 3 => config start|\
     start = \"0000110000\"\nstamp = -1 => config range|\
     start = \"0000110000\"\nstamp = \"0\" => config kind|\
-    schedule = 5\nstart = \"0000110000\" => config start";
+    schedule = 5\nstart = \"0000110000\" => config start|\
+    start = \"0000000000\" => well 0000000000 0, 0 to 4000 0 to 1000 5, 0 to 4000 0 to 1000 5, \
+        0 to 4000 0 to 2000 5, 0 to 4000 0 to 500 5, 0 to 4000 0 to 1000 5.|\
+    \u{ef}\u{bb}\u{bf}start = \"0000000000\"\n => well 0000000000 0, 0 to 4000 0 to 1000 5, 0 to 4000 0 to 1000 5, \
+        0 to 4000 0 to 2000 5, 0 to 4000 0 to 500 5, 0 to 4000 0 to 1000 5.|\
+    gripper.tol = 9\nschedule = \"pTf\"\nstamp = 7\nstart = \"0100000001\"\n\
+        [arm1]\nraw = [10, 1010]\n[arm2]\ntol = 2\n[rotation]\nraw = [0, 65535]\ntol = 3\n\
+        [turn]\ntol = 4\nraw = [100, 600]\n \
+        => well 0100000001 7 press table! feed, 10 to 1010 0 to 1000 5, 0 to 4000 0 to 1000 2, \
+        0 to 65535 0 to 2000 3, 100 to 600 0 to 500 4, 0 to 4000 0 to 1000 9.|\
+    start = \"0000000000\"\nschedule = \"ftrpdcwFTRPDCW\" \
+        => well 0000000000 0 feed table robot press deposit crane watch \
+        feed! table! robot! press! deposit! crane! watch!, 0 to 4000 0 to 1000 5, 0 to 4000 0 to 1000 5, \
+        0 to 4000 0 to 2000 5, 0 to 4000 0 to 500 5, 0 to 4000 0 to 1000 5.";
+
+const START: &str = "start = \"0000000000\"\n";
 
 /// What stands beside a start: values that are refused, where arrays may be 80 deep, and not 81; values that are
 /// accepted; the forms of TOML 1.1, and their limits.
@@ -63,7 +65,7 @@ const BESIDE_START: &str = "\
     schedule = \"v\" => config letter|\
     schedule = \"wV\" => config letter|\
     schedule = \"p p\" => config letter|\
-    schedule = \"pé\" => config letter|\
+    schedule = \"p\u{c3}\u{a9}\" => config letter|\
     arm1 = 3 => config kind|\
     arm1 = [0, 4000] => config kind|\
     [[arm2]]\ntol = 5 => config kind|\
@@ -144,32 +146,9 @@ const BESIDE_START: &str = "\
     arm1.raw = [[[[0]]]] => config kind|\
     # only a comment => well";
 
-const START: &str = "start = \"0000000000\"\n";
-
-#[test]
-fn judges_texts(rt: HostRuntime) {
-    for number in 0..count_parts(TEXTS, "|") {
-        let row = part(TEXTS, "|", number);
-        assert!(rt; is_judged_after(rt.alloc(), "", row) == Ok(true), "{row}");
-    }
-    assert!(rt; judgement_of(rt.alloc(), b"\xff") == "config text");
-}
-
-#[test]
-fn judges_what_stands_beside_a_start(rt: HostRuntime) {
-    for number in 0..count_parts(BESIDE_START, "|") {
-        let row = part(BESIDE_START, "|", number);
-        assert!(rt;
-            is_judged_after(rt.alloc(), START, row) == Ok(true),
-            "{row}"
-        );
-    }
-}
-
-/// What a configuration says: the places with plates, the stamp, the turns, with a mark those that get Busy, and of
-/// each potentiometer both raw values, both positions and the tolerance.
-fn summary_of(alloc: Global, config: &Config) -> Result<String, AllocError> {
-    let mut text = String::new(alloc);
+/// Adds what a configuration says.
+fn push_summary(text: &mut String, config: &Config) -> Result<(), AllocError> {
+    text.push_str("well ")?;
     for place in &Place::ALL {
         text.push_str(if config.start.is_full(*place) {
             "1"
@@ -179,12 +158,8 @@ fn summary_of(alloc: Global, config: &Config) -> Result<String, AllocError> {
     }
     write!(text, " {}", config.start.stamp())?;
     for turn in &config.schedule {
-        write!(
-            text,
-            " {}{}",
-            turn.machine.word(),
-            if turn.busy { "!" } else { "" }
-        )?;
+        let mark = if turn.busy { "!" } else { "" };
+        write!(text, " {}{mark}", turn.machine.word())?;
     }
     for points in &config.points {
         let (raw_lo, raw_hi, at_lo, at_hi) = (
@@ -199,129 +174,83 @@ fn summary_of(alloc: Global, config: &Config) -> Result<String, AllocError> {
             points.tol()
         )?;
     }
-    Ok(text)
+    text.push_str(".")
 }
 
-/// Configurations, each with what it says: the defaults, also after a byte order mark; values; letters.
-const GIVEN: &str = "\
-    start = \"0000000000\" => 0000000000 0, 0 to 4000 0 to 1000 5, 0 to 4000 0 to 1000 5, \
-        0 to 4000 0 to 2000 5, 0 to 4000 0 to 500 5, 0 to 4000 0 to 1000 5|\
-    \u{feff}start = \"0000000000\"\n => 0000000000 0, 0 to 4000 0 to 1000 5, 0 to 4000 0 to 1000 5, \
-        0 to 4000 0 to 2000 5, 0 to 4000 0 to 500 5, 0 to 4000 0 to 1000 5|\
-    gripper.tol = 9\nschedule = \"pTf\"\nstamp = 7\nstart = \"0100000001\"\n\
-        [arm1]\nraw = [10, 1010]\n[arm2]\ntol = 2\n[rotation]\nraw = [0, 65535]\ntol = 3\n\
-        [turn]\ntol = 4\nraw = [100, 600]\n \
-        => 0100000001 7 press table! feed, 10 to 1010 0 to 1000 5, 0 to 4000 0 to 1000 2, \
-        0 to 65535 0 to 2000 3, 100 to 600 0 to 500 4, 0 to 4000 0 to 1000 9|\
-    start = \"0000000000\"\nschedule = \"ftrpdcwFTRPDCW\" \
-        => 0000000000 0 feed table robot press deposit crane watch \
-        feed! table! robot! press! deposit! crane! watch!, 0 to 4000 0 to 1000 5, 0 to 4000 0 to 1000 5, \
-        0 to 4000 0 to 2000 5, 0 to 4000 0 to 500 5, 0 to 4000 0 to 1000 5";
+/// Whether what a configuration says begins so.
+fn says(alloc: Global, config: &Config, wanted: &str) -> bool {
+    let mut text = String::new(alloc);
+    push_summary(&mut text, config).is_ok() && text.as_str().starts_with(wanted)
+}
 
-/// Whether a row's text says what the row has.
-fn is_given(alloc: Global, row: &str) -> Result<bool, Fail> {
-    let config = read(alloc, &mut part(row, " => ", 0).as_bytes())?;
-    Ok(summary_of(alloc, &config)?.as_str() == part(row, " => ", 1))
+/// Whether a text in three parts is judged so.
+fn is_judged(alloc: Global, text: (&str, &[u8], &str), wanted: &str) -> bool {
+    let (begin, middle, end) = text;
+    let mut reader = begin.as_bytes().chain(middle).chain(end.as_bytes());
+    match read_config(alloc, &mut reader) {
+        Ok(config) => says(alloc, &config, wanted),
+        Err(fault) => fault.text() == wanted,
+    }
+}
+
+/// Tables of texts, and what stands before each text.
+const TABLES: &[(&str, &str)] = &[("", TEXTS), (START, BESIDE_START), ("", SENT)];
+
+/// Whether the text of a row is judged so after this beginning.
+fn is_row(alloc: Global, begin: &str, row: &str) -> bool {
+    match bytes_in(alloc, part(row, " => ", 0)) {
+        Ok(bytes) => is_judged(alloc, (begin, bytes.as_slice(), ""), part(row, " => ", 1)),
+        Err(_) => false,
+    }
 }
 
 #[test]
-fn gives_what_is_written(rt: HostRuntime) -> Result<(), Fail> {
-    for number in 0..count_parts(GIVEN, "|") {
-        let row = part(GIVEN, "|", number);
-        assert!(rt; is_given(rt.alloc(), row)?, "{row}");
-    }
-    Ok(())
-}
-
-/// Letters, each with the judgement of a schedule that has it so often. The last two are characters of two bytes.
-const LETTERS: &str = "\
-    p => well|\
-    p => config range|\
-    x => config range|\
-    é => config letter|\
-    é => config range";
-
-const COUNTS: [usize; 5] = [1_000_000, 1_000_001, 1_000_001, 1_000_000, 1_000_001];
-
-/// The judgement of a schedule of one repeated letter. It is well only if it gives so many turns.
-fn judgement_of_letters(
-    alloc: Global,
-    letter: &str,
-    count: usize,
-) -> Result<&'static str, AllocError> {
-    let letters = letter.repeat(alloc, count)?;
-    let text = format!(in alloc; "start = \"0000000000\"\nschedule = \"{letters}\"")?;
-    Ok(match read(alloc, &mut text.as_bytes()) {
-        Ok(config) => {
-            if config.schedule.len() == count {
-                "well"
-            } else {
-                "other turns"
-            }
+fn judges_texts(rt: HostRuntime) {
+    for (begin, rows) in TABLES {
+        for number in 0..count_parts(rows, "|") {
+            let row = part(rows, "|", number);
+            assert!(rt; is_row(rt.alloc(), begin, row), "{row}");
         }
-        Err(fault) => fault.text(),
-    })
-}
-
-#[test]
-fn counts_letters(rt: HostRuntime) {
-    for (number, count) in COUNTS.iter().enumerate() {
-        let row = part(LETTERS, "|", number);
-        let judgement = judgement_of_letters(rt.alloc(), part(row, " => ", 0), *count);
-        assert!(rt; judgement == Ok(part(row, " => ", 1)), "{count} {row}");
     }
 }
 
-/// Whether a start, then this number of spaces, and then the last text are judged so, and all but this rest is read.
-fn is_read_up_to(alloc: Global, spaces: usize, last: &str, judgement: &str) -> Result<bool, Fail> {
-    let blanks = " ".repeat(alloc, spaces)?;
-    let text = format!(in alloc; "{START}{blanks}{last}")?;
-    let mut reader = text.as_bytes();
-    let found = match read(alloc, &mut reader) {
-        Ok(_) => "well",
-        Err(fault) => fault.text(),
-    };
-    Ok(found == judgement && reader == last.as_bytes())
-}
+/// Texts with a part that is repeated: the beginning, that part, the end, and the judgement. The part is a letter of a
+/// schedule, of one byte or two, or a space.
+const LONG: &str = "\
+    start = \"0000000000\"\nschedule = ' => p => ' => well 0000000000 0 press press |\
+    start = \"0000000000\"\nschedule = ' => p => ' => config range|\
+    start = \"0000000000\"\nschedule = ' => x => ' => config range|\
+    start = \"0000000000\"\nschedule = ' => \u{e9} => ' => config letter|\
+    start = \"0000000000\"\nschedule = ' => \u{e9} => ' => config range|\
+    start = \"0000000000\"\n => \u{20} =>  => well 0000000000 0,|\
+    start = \"0000000000\"\n => \u{20} =>  => config long";
 
-/// Whether the longest text is read a byte at a time.
-fn is_read_bytewise(alloc: Global) -> Result<bool, Fail> {
-    let blanks = " ".repeat(alloc, 2_097_131)?;
-    let text = format!(in alloc; "{START}{blanks}")?;
-    let mut bytewise = FailingReader::new(text.as_bytes(), usize::MAX);
-    Ok(text.len() == 2_097_152 && read(alloc, &mut bytewise).is_ok())
-}
+/// How often each part comes.
+const COUNTS: [usize; 7] = [
+    1_000_000, 1_000_001, 1_000_001, 1_000_000, 1_000_001, 2_097_131, 2_097_132,
+];
 
-#[test]
-fn reads_no_more_than_it_may(rt: HostRuntime) -> Result<(), Fail> {
-    assert!(rt;
-        is_read_bytewise(rt.alloc())?
-            && is_read_up_to(rt.alloc(), 2_097_131, "", "well")?
-            && is_read_up_to(rt.alloc(), 2_097_132, "", "config long")?
-            && is_read_up_to(rt.alloc(), 2_097_132, "after", "config long")?
-    );
-    Ok(())
-}
-
-/// Whether a configuration is the one that is written, or memory runs out.
-fn is_read_or_memory(alloc: Global, text: &str) -> bool {
-    match read(alloc, &mut text.as_bytes()) {
-        Ok(config) => {
-            config.start.stamp() == 3
-                && config.start.plates() == 1
-                && config.schedule.len() == 2
-                && config.points[0].tol() == 2
+/// Whether a row's text, in which its part comes this number of times, is judged so.
+fn is_long_row(alloc: Global, row: &str, count: usize) -> bool {
+    match part(row, " => ", 1).repeat(alloc, count) {
+        Ok(middle) => {
+            let text = (
+                part(row, " => ", 0),
+                middle.as_str().as_bytes(),
+                part(row, " => ", 2),
+            );
+            is_judged(alloc, text, part(row, " => ", 3))
         }
-        Err(fault) => fault == ConfigFault::Memory,
+        Err(_) => false,
     }
 }
 
 #[test]
-fn reads_without_memory(rt: HostRuntime) {
-    let text = "start = \"0100000000\"\nstamp = 3\nschedule = \"pP\"\narm1.tol = 2\n";
-    let other = judgement_of(rt.alloc(), b"start = \"0100000000\"\nschedule = \"pPx\"\n");
-    let is_told = other == "config letter" || other == "memory";
-    assert!(rt; is_told && is_read_or_memory(rt.alloc(), text));
+fn judges_long_texts(rt: HostRuntime) {
+    for number in 0..7usize {
+        let row = part(LONG, "|", number);
+        assert!(rt; is_long_row(rt.alloc(), row, COUNTS[number]), "{row}");
+    }
 }
 
 /// All faults, in the order of their texts.
@@ -343,8 +272,8 @@ read|config long|config text|config unknown|config missing|config kind|config st
 
 #[test]
 fn prints_faults(rt: HostRuntime) -> Result<(), AllocError> {
-    for (number, fault) in FAULTS.iter().enumerate() {
-        let printed = fault.to_string(rt.alloc())?;
+    for number in 0..10usize {
+        let printed = FAULTS[number].to_string(rt.alloc())?;
         assert!(rt;
             printed.as_str() == part(FAULT_TEXTS, "|", number),
             "{printed}"

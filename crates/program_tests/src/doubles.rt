@@ -1,17 +1,20 @@
 //! The calls of the rows, the inputs of the program, a reader that counts lines, and a writer that fails at a flush.
 
-use cell_app::serve::serve;
-use cell_config::{Config, ConfigFault, read_config};
+use cell_app::start::start;
 use std::alloc::Global;
 use std::io;
 use std::io::{ErrorKind, Read, Write};
 use std::sync::Wait;
 use std::thread::Threads;
-use test_doubles::{part, words_in};
+use test_doubles::{Given, arguments_in, part};
 
 /// A script.
 pub const SCRIPT: &str =
     "start,0000000000\npress,claim,z3\nrobot,claim,z3\npress,release,z3\nrobot,claim,z3\nwatch,inquire,z3\n";
+
+/// What is answered to the script.
+pub const TEXT: &str =
+    "0 0 start 0\n1 1 done\n2 1 held press\n3 2 done\n4 2 shut closed\n5 2 zone free 0 closed\n";
 
 /// The configuration of a run of the press alone.
 pub const PRESS: &str = "start = \"0000000000\"\nschedule = \"ppppppppppppppppppppppppppppppp\"\n";
@@ -35,28 +38,22 @@ pub fn input_of(line: &str) -> &'static str {
     }
 }
 
-/// The exit status of a run of the program. It has no clauses, so the rows don't carry those of
-/// `serve`.
+/// The exit status of the program that is started by a line of words, with a blank between each two of them; 255 if
+/// there is no memory for them. It has no clauses, so the rows don't carry those of `start`.
 pub fn run<T: Threads + Wait + Sync, R: Read, W: Write>(
-    rt: &T,
-    alloc: Global,
-    words: &[&str],
-    reader: &mut R,
-    writer: &mut W,
-) -> u8 {
-    serve(rt, alloc, words, reader, writer)
-}
-
-/// The same by a line of words, with a blank between each two of them; 255 if there is no memory for them.
-pub fn run_line<T: Threads + Wait + Sync, R: Read, W: Write>(
     rt: &T,
     alloc: Global,
     line: &str,
     reader: &mut R,
     writer: &mut W,
 ) -> u8 {
-    match words_in(alloc, line) {
-        Ok(words) => run(rt, alloc, words.as_slice(), reader, writer),
+    match arguments_in(alloc, line) {
+        Ok(arguments) => {
+            let env = Given {
+                arguments: arguments.as_slice(),
+            };
+            start(rt, alloc, &env, reader, writer)
+        }
         Err(_) => 255,
     }
 }
@@ -69,36 +66,35 @@ pub fn printed<T: Threads + Wait + Sync>(
     input: &str,
 ) -> (u8, Vec<u8>) {
     let mut written = Vec::new(alloc);
-    let status = run_line(rt, alloc, line, &mut input.as_bytes(), &mut written);
+    let status = run(rt, alloc, line, &mut input.as_bytes(), &mut written);
     (status, written)
 }
 
-/// Whether the program answers a line of words and what a reader gives with this status and this text.
+/// Whether the program answers a line of words and what a reader gives with this status, a digit, and this text.
 pub fn is_answered<T: Threads + Wait + Sync, R: Read>(
     rt: &T,
     alloc: Global,
     line: &str,
     reader: &mut R,
-    status: u8,
+    status: &str,
     text: &str,
 ) -> bool {
     let mut written = Vec::new(alloc);
-    let answered = run_line(rt, alloc, line, reader, &mut written);
-    answered == status && written.as_slice() == text.as_bytes()
+    let digit = [b'0'.wrapping_add(run(rt, alloc, line, reader, &mut written))];
+    digit.as_slice() == status.as_bytes() && written.as_slice() == text.as_bytes()
 }
 
-/// Whether the program answers a row: a line of words, the status as a digit, an input, and the text, with arrows
-/// between them.
+/// Whether the program answers a row: a line of words, the status, an input, and the text, with arrows between them.
 pub fn is_row<T: Threads + Wait + Sync>(rt: &T, alloc: Global, row: &str) -> bool {
-    let (status, written) = printed(rt, alloc, part(row, " => ", 0), part(row, " => ", 2));
-    let digit = [b'0'.wrapping_add(status)];
-    part(row, " => ", 1).as_bytes() == digit.as_slice()
-        && written.as_slice() == part(row, " => ", 3).as_bytes()
-}
-
-/// The configuration that a reader gives, or its first fault; also without clauses.
-pub fn read<R: Read>(alloc: Global, reader: &mut R) -> Result<Config, ConfigFault> {
-    read_config(alloc, reader)
+    let mut reader = part(row, " => ", 2).as_bytes();
+    is_answered(
+        rt,
+        alloc,
+        part(row, " => ", 0),
+        &mut reader,
+        part(row, " => ", 1),
+        part(row, " => ", 3),
+    )
 }
 
 /// Gives a text, a line at a time, and counts these parts.

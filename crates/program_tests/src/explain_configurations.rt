@@ -1,28 +1,9 @@
-//! Configurations as people write them: texts that are no TOML, the keys `start`, `stamp` and
-//! `schedule`. Bars separate the rows; in a row arrows separate the text, its explanation, and what it shows.
-
-use super::explain_keys::KEYS;
-use super::explain_sections::SECTIONS;
-use cell_replay::ReplayFault;
-use explain_app::{Verdict, explain_configuration};
-use std::alloc::{AllocError, Global};
-use test_doubles::{count_parts, part};
-
-/// Whether a configuration gets this explanation; empty for one that isn't refused.
-pub fn is_explained(alloc: Global, text: &[u8], wanted: &str) -> bool {
-    let mut reader = text;
-    let mut written = Vec::new(alloc);
-    let verdict: Result<Verdict, ReplayFault> = explain_configuration(
-        alloc,
-        &mut reader,
-        &mut written,
-    );
-    let is_silent = verdict == Ok(Verdict::Taken);
-    verdict.is_ok() && is_silent == wanted.is_empty() && written.as_slice() == wanted.as_bytes()
-}
+//! Configurations as people write them: texts that are no TOML, the keys `start`, `stamp` and `schedule`. Bars separate
+//! the rows; in a row arrows separate the text, in which each character stands for a byte, its explanation, and what
+//! that shows.
 
 /// Configurations, each with its explanation; empty for one that isn't refused.
-const ROWS: &str = "\
+pub const CONFIGURATIONS: &str = "\
     start = \"0100000000\"\nschedule = \"tfT\"\n => |\
     stamp = 7\n => config missing: there is no key start, such as start = \"0000000000\"\n|\
     \u{20}=> config missing: there is no key start, such as start = \"0000000000\"\n|\
@@ -30,7 +11,7 @@ const ROWS: &str = "\
         => config unknown: line 2: \"shedule\" is no key here; did you mean \"schedule\"?\n|\
     start = \"0100000000\"\nstamp = -1\n \
         => config range: line 2: stamp is out of range: it takes 0 to 1048575\n|\
-    \u{feff}\r\nstart = \"0100000000\"\r\n\r\nstamp = 1048576\r\n \
+    \u{ef}\u{bb}\u{bf}\r\nstart = \"0100000000\"\r\n\r\nstamp = 1048576\r\n \
         => config range: line 4: stamp is out of range: it takes 0 to 1048575\n|\
     start = 1100000000\n \
         => config kind: line 1: start takes a text of ten digits; put quotes round them\n|\
@@ -46,14 +27,12 @@ const ROWS: &str = "\
         => config start: line 2: \"0111111100\" has 7 plates; a start has at most six\n|\
     stamp = 5 # start\nstart = \"010000000\"\n \
         => config start: line 2: \"010000000\" has 9 bytes; a start has ten digits 0 or 1, one for each of p1 \
-        to p10\n";
-
-/// Schedules with a character that is no letter: its number in the text, and its line.
-const LETTERS: &str = "\
+        to p10\n|\
     start = \"0100000000\"\nschedule = \"t f\"\n \
         => config letter: line 2: character 2 of the schedule, \" \", is no letter: known are f t r p d c w \
-        and their capitals\n|\
-    start = \"0100000000\"\nschedule = \"tf\u{fc}\"\n \
+        and their capitals\n \
+        => A character that is no letter: its number in the schedule, and its line.|\
+    start = \"0100000000\"\nschedule = \"tf\u{c3}\u{bc}\"\n \
         => config letter: line 2: character 3 of the schedule, \"\\u{fc}\", is no letter: known are f t r p d \
         c w and their capitals\n|\
     start = \"0100000000\"\nschedule = 'tf\\t'\n \
@@ -70,12 +49,10 @@ const LETTERS: &str = "\
         and their capitals\n|\
     start = \"0100000000\"\r\nschedule = '''\r\ntfv'''\r\n \
         => config letter: line 3: character 3 of the schedule, \"v\", is no letter: known are f t r p d c w \
-        and their capitals\n";
-
-/// Texts that are no TOML.
-const NO_TOML: &str = "\
+        and their capitals\n|\
     start = \"0100000000\"\nstart = \"0100000000\"\n \
-        => config text: line 2: it is no TOML: duplicate key\n|\
+        => config text: line 2: it is no TOML: duplicate key\n \
+        => No TOML.|\
     start = \"0100000000\"\n[turn]\ntol = 3\n[turn]\n \
         => config text: line 4: it is no TOML: duplicate key\n|\
     start: \"0100000000\"\n => config text: line 1: it is no TOML: key with no value, expected `=`\n|\
@@ -95,42 +72,8 @@ const NO_TOML: &str = "\
         value of \"raw\" begins on line 3\n|\
     start = \"0100000000\"\nturn = {\n  tol = 3\n  raw = [0, 4000]\n}\n \
         => config text: line 4: it is no TOML: missing comma between key-value pairs, expected `,` or `}`; \
-        the value of \"tol\" begins on line 3\n";
-
-/// Whether the configuration of a row gets the row's explanation, if this stands before it.
-fn is_row(alloc: Global, begin: &str, row: &str) -> Result<bool, AllocError> {
-    let mut text = String::from_str(alloc, begin)?;
-    text.push_str(part(row, " => ", 0))?;
-    Ok(is_explained(alloc, text.as_bytes(), part(row, " => ", 1)))
-}
-
-#[test]
-fn explains_configurations(rt: HostRuntime) {
-    let start = "start = \"0100000000\"\n";
-    for (begin, rows) in [
-        ("", ROWS),
-        ("", LETTERS),
-        ("", NO_TOML),
-        ("", KEYS),
-        (start, SECTIONS),
-    ] {
-        for number in 0..count_parts(rows, "|") {
-            let row = part(rows, "|", number);
-            assert!(rt; is_row(rt.alloc(), begin, row) == Ok(true), "{row}");
-        }
-    }
-    // a carriage return alone ends no line
-    let raw = b"start = \"0100000000\"\nschedule = \"t\xff\"\n".as_slice();
-    let other = b"# \r\nstart = \"0100000000\" # \r\n# \rschedule = \"t\xff\"\n".as_slice();
-    assert!(rt;
-        is_explained(
-            rt.alloc(),
-            raw,
-            "config text: line 2: it is no TOML: invalid UTF-8\n"
-        ) && is_explained(
-            rt.alloc(),
-            other,
-            "config text: line 3: it is no TOML: invalid UTF-8\n"
-        )
-    );
-}
+        the value of \"tol\" begins on line 3\n|\
+    start = \"0100000000\"\nschedule = \"t\u{ff}\"\n => config text: line 2: it is no TOML: invalid UTF-8\n|\
+    # \r\nstart = \"0100000000\" # \r\n# \rschedule = \"t\u{ff}\"\n \
+        => config text: line 3: it is no TOML: invalid UTF-8\n \
+        => A carriage return alone ends no line.";

@@ -1,11 +1,8 @@
-//! Scripts as people write them. Bars separate the rows; in a row an arrow separates the script from its explanation.
-
-use explain_app::{Verdict, explain_script};
-use std::alloc::Global;
-use test_doubles::{bytes_in, count_parts, part};
+//! Scripts as people write them. Bars separate the rows; in a row arrows separate the script, in which each character
+//! stands for a byte, its explanation, and what it shows.
 
 /// Scripts, each with its explanation; empty for one that isn't refused.
-const ROWS: &str = "\
+pub const SCRIPTS: &str = "\
     start,0000000000\npress,claim,z3\n => |\
     start,0000000000\r\npress,claim,z3 => |\
     start2,0000000000\nwatch,stop\n => |\
@@ -26,13 +23,10 @@ const ROWS: &str = "\
     start,0\n \
         => record 0, line 1, field 2: \"0\" has 1 of ten digits; a spreadsheet drops zeros at the front, so \
         make the field a text\n|\
-    \u{20}=> record 0, line 1: there is none; a script begins with a start, such as start,0000000000\n";
-
-/// Scripts with other line ends, with empty lines, quoted line ends and byte order marks: which line
-/// is named.
-const LINES: &str = "\
+    \u{20}=> record 0, line 1: there is none; a script begins with a start, such as start,0000000000\n|\
     start,0000000000\r\npress,clam,z3\r\n \
-        => record 1, line 2, field 2: \"clam\" is no verb; did you mean \"claim\"?\n|\
+        => record 1, line 2, field 2: \"clam\" is no verb; did you mean \"claim\"?\n \
+        => Other line ends, empty lines, quoted line ends, byte order marks: which line is named.|\
     start,0000000000\r\n\r\n\r\npress,clam,z3\r\n \
         => record 1, line 4, field 2: \"clam\" is no verb; did you mean \"claim\"?\n|\
     start,0000000000\r\npress,claim,z3\r\npress,clam,z3\r\n \
@@ -42,9 +36,9 @@ const LINES: &str = "\
     \r\n\nstart,0\n \
         => record 0, line 3, field 2: \"0\" has 1 of ten digits; a spreadsheet drops zeros at the front, so \
         make the field a text\n|\
-    \u{feff}start,0000000000\npress,clam,z3\n \
+    \u{ef}\u{bb}\u{bf}start,0000000000\npress,clam,z3\n \
         => record 1, line 2, field 2: \"clam\" is no verb; did you mean \"claim\"?\n|\
-    \u{feff}\n\nstart,0\n \
+    \u{ef}\u{bb}\u{bf}\n\nstart,0\n \
         => record 0, line 3, field 2: \"0\" has 1 of ten digits; a spreadsheet drops zeros at the front, so \
         make the field a text\n|\
     start,0000000000\npress,\"cla\nim\",z3\n \
@@ -54,11 +48,8 @@ const LINES: &str = "\
         => record 1, line 3, field 4: \"more\"; a call has at most three fields\n|\
     start,0000000000\npress,\"claim,z3\nrobot,claim,z3\n \
         => record 1, line 2, field 2: \"claim,z3\\nrobot,claim,z3\\n\" is no verb: it goes past the end of a \
-        line; is a quote left open?; known are: claim give yield take release inquire pose advance stop resume\n";
-
-/// Starts.
-const STARTS: &str = "\
-    start,0100000000,0000005\n => |\
+        line; is a quote left open?; known are: claim give yield take release inquire pose advance stop resume\n|\
+    start,0100000000,0000005\n =>  => Starts.|\
     start2,0100000000,1048575\n => |\
     start,1111111000,9\n \
         => record 0, line 1, field 2: \"1111111000\" has 7 plates; a start has at most six\n|\
@@ -96,13 +87,11 @@ const STARTS: &str = "\
     start,01000000000\n \
         => record 0, line 1, field 2: \"01000000000\" has 11 digits; there are ten places, p1 to p10\n|\
     Machine,Verb\nstart,0000000000\n \
-        => record 0, line 1, field 1: \"Machine\": a script has no header; delete the line\n";
-
-/// Calls: what is wrong with a machine, a verb, and what stands after the verb.
-const CALLS: &str = "\
+        => record 0, line 1, field 1: \"Machine\": a script has no header; delete the line\n|\
     start,0000000000\nbelt,claim,z1\n \
         => record 1, line 2, field 1: \"belt\" is no machine; known are: feed table robot press deposit crane \
-        watch\n|\
+        watch\n \
+        => What is wrong with a machine, a verb, and what stands after the verb.|\
     start,0000000000\nstart2,0000000000\n \
         => record 1, line 2, field 1: \"start2\" begins a script; it stands in record 0 alone\n|\
     start,0000000000\npress,claim,z3\nstart,0000000000\n \
@@ -126,14 +115,11 @@ const CALLS: &str = "\
         => record 1, line 2, field 3: \"up\" is no pose; known are: turning loading unloading travelling \
         middle low top running landing halted offering standing\n|\
     start,0000000000\npress,claim,z3,z4\n \
-        => record 1, line 2, field 4: \"z4\"; a call has at most three fields\n";
-
-/// What catches the eye in a field, and how much of a field is shown: 40 characters, or bytes of what
-/// isn't UTF-8.
-const LOOKS: &str = "\
+        => record 1, line 2, field 4: \"z4\"; a call has at most three fields\n|\
     start,0000000000\npress;claim;z3\n \
         => record 1, line 2, field 1: \"press;claim;z3\" is no machine: a comma separates fields, not a \
-        semicolon; known are: feed table robot press deposit crane watch\n|\
+        semicolon; known are: feed table robot press deposit crane watch\n \
+        => What catches the eye, and how much of a field is shown: 40 characters, or bytes if it isn't UTF-8.|\
     start,0000000000\npress\tclaim\tz3\n \
         => record 1, line 2, field 1: \"press\\tclaim\\tz3\" is no machine: a comma separates fields, not a \
         tab; known are: feed table robot press deposit crane watch\n|\
@@ -160,13 +146,11 @@ const LOOKS: &str = "\
         feed table robot press deposit crane watch\n|\
     start,0000000000\naaaaaaaaaaaaaaaaaaaaaaaaaaaaaaaaaaaaaaaaa,claim,z3\n \
         => record 1, line 2, field 1: \"aaaaaaaaaaaaaaaaaaaaaaaaaaaaaaaaaaaaaaaa..\" is no machine; known \
-        are: feed table robot press deposit crane watch\n";
-
-/// Bytes that aren't ASCII, or 0.
-const BYTES: &str = "\
-    start,0000000000\npréss,claim,z3\n \
-        => record 1, line 2, field 1: \"pr\\u{e9}ss\" is no machine; did you mean \"press\"?\n|\
-    start,0000000000\n\u{feff}press,claim,z3\n \
+        are: feed table robot press deposit crane watch\n|\
+    start,0000000000\npr\u{c3}\u{a9}ss,claim,z3\n \
+        => record 1, line 2, field 1: \"pr\\u{e9}ss\" is no machine; did you mean \"press\"?\n \
+        => Bytes that aren't ASCII, or 0.|\
+    start,0000000000\n\u{ef}\u{bb}\u{bf}press,claim,z3\n \
         => record 1, line 2, field 1: \"\\u{feff}press\" is no machine: it begins with a byte order mark; did \
         you mean \"press\"?\n|\
     #\u{0} \u{0}a\u{0}\n \
@@ -174,55 +158,14 @@ const BYTES: &str = "\
     S\u{0}t\u{0}a\u{0}r\u{0}t\u{0},\u{0} \
         => record 0, line 1, field 1: \"S\\u{0}t\\u{0}a\\u{0}r\\u{0}t\\u{0}\" is no word that begins a \
         script: it has bytes 0; is the file UTF-16? Save it as UTF-8; known are: start start2; a script \
-        begins with a start, such as start,0000000000\n";
-
-const ALL: &[&str] = &[ROWS, LINES, STARTS, CALLS, LOOKS, BYTES];
-
-/// Scripts that aren't UTF-8: each character stands for a byte.
-const RAW: &str = "\
+        begins with a start, such as start,0000000000\n|\
     start,0000000000\n\u{ff}aaaaaaaaaaaaaaaaaaaaaaaaaaaaaaaaaaaaaaa,claim,z3\n \
         => record 1, line 2, field 1: \"\\xffaaaaaaaaaaaaaaaaaaaaaaaaaaaaaaaaaaaaaaa\" is no machine; known \
-        are: feed table robot press deposit crane watch\n|\
+        are: feed table robot press deposit crane watch\n \
+        => Bytes that aren't UTF-8.|\
     start,0000000000\n\u{ff}aaaaaaaaaaaaaaaaaaaaaaaaaaaaaaaaaaaaaaaa,claim,z3\n \
         => record 1, line 2, field 1: \"\\xffaaaaaaaaaaaaaaaaaaaaaaaaaaaaaaaaaaaaaaa..\" is no machine; known \
         are: feed table robot press deposit crane watch\n|\
     start,0000000000\npress,claim,z\u{ff}\n \
         => record 1, line 2, field 3: \"z\\xff\" is no zone; known are: z1 z2 z3 z4 z5 z6\n|\
     \u{ff}\u{fe}s\0t\0 => record 0, line 1: the script seems to be UTF-16; save it as UTF-8\n";
-
-/// Whether a script gets this explanation; empty for one that isn't refused.
-pub fn is_explained(alloc: Global, script: &[u8], wanted: &str) -> bool {
-    let mut reader = script;
-    let mut written = Vec::new(alloc);
-    let verdict = explain_script(alloc, &mut reader, &mut written);
-    let is_silent = verdict == Ok(Verdict::Taken);
-    verdict.is_ok() && is_silent == wanted.is_empty() && written.as_slice() == wanted.as_bytes()
-}
-
-/// Whether the script of a row gets the row's explanation.
-fn is_row(alloc: Global, row: &str) -> bool {
-    let script = part(row, " => ", 0);
-    is_explained(alloc, script.as_bytes(), part(row, " => ", 1))
-}
-
-/// The same, if each character stands for a byte.
-fn is_row_of_bytes(alloc: Global, row: &str) -> bool {
-    match bytes_in(alloc, part(row, " => ", 0)) {
-        Ok(script) => is_explained(alloc, script.as_slice(), part(row, " => ", 1)),
-        Err(_) => false,
-    }
-}
-
-#[test]
-fn explains_scripts(rt: HostRuntime) {
-    for rows in ALL {
-        for number in 0..count_parts(rows, "|") {
-            let row = part(rows, "|", number);
-            assert!(rt; is_row(rt.alloc(), row), "{row:?}");
-        }
-    }
-    for number in 0..count_parts(RAW, "|") {
-        let row = part(RAW, "|", number);
-        assert!(rt; is_row_of_bytes(rt.alloc(), row), "{row:?}");
-    }
-}

@@ -1,11 +1,10 @@
 //! The program's words, exit statuses and fault lines.
 
-use history_app::serve::{serve, start};
-use program_shell::VERSION;
-use std::alloc::{AllocError, Global};
+use history_app::serve::start;
+use std::alloc::Global;
 use std::sync::Wait;
 use std::thread::Threads;
-use test_doubles::{Given, arguments_in, count_parts, part, words_in};
+use test_doubles::{Given, arguments_in, count_parts, part};
 
 /// Words, the status as a digit, a configuration, and what is written; or only what it begins with if that is no whole
 /// line.
@@ -33,28 +32,6 @@ const ROWS: &str = "\
     history --turns 0 => 2 =>  => error: |\
     history --tries 65 => 2 =>  => error: ";
 
-/// Whether a status and a text are those of a row.
-fn are_of(row: &str, status: u8, written: &[u8]) -> bool {
-    let text = part(row, " => ", 3).as_bytes();
-    let digit = [b'0'.wrapping_add(status)];
-    part(row, " => ", 1).as_bytes() == digit.as_slice()
-        && written.starts_with(text)
-        && (written.len() == text.len() || !text.ends_with(b"\n"))
-}
-
-/// Whether the words of a row are served so.
-fn is_served<T: Threads + Wait + Sync>(
-    rt: &T,
-    alloc: Global,
-    row: &str,
-) -> Result<bool, AllocError> {
-    let words = words_in(alloc, part(row, " => ", 0))?;
-    let mut reader = part(row, " => ", 2).as_bytes();
-    let mut written = Vec::new(alloc);
-    let status = serve(rt, alloc, words.as_slice(), &mut reader, &mut written);
-    Ok(are_of(row, status, written.as_slice()))
-}
-
 /// Whether the program, started by these arguments, answers a row so.
 fn is_started_by<T: Threads + Wait + Sync>(
     rt: &T,
@@ -64,41 +41,35 @@ fn is_started_by<T: Threads + Wait + Sync>(
 ) -> bool {
     let mut reader = part(row, " => ", 2).as_bytes();
     let mut written = Vec::new(alloc);
-    let status = start(rt, alloc, &Given { arguments }, &mut reader, &mut written);
-    are_of(row, status, written.as_slice())
+    let digit = [b'0'.wrapping_add(start(
+        rt,
+        alloc,
+        &Given { arguments },
+        &mut reader,
+        &mut written,
+    ))];
+    let text = part(row, " => ", 3);
+    digit.as_slice() == part(row, " => ", 1).as_bytes()
+        && written.as_slice().starts_with(text.as_bytes())
+        && (written.len() == text.len() || !text.ends_with("\n"))
 }
 
-/// Whether it does so started by the words of the row with this name in place of the first.
-fn is_started<'a, T: Threads + Wait + Sync>(
-    rt: &T,
-    alloc: Global,
-    name: &'a [u8],
-    row: &'a str,
-) -> Result<bool, AllocError> {
-    let mut arguments = arguments_in(alloc, part(row, " => ", 0))?;
-    if let Some(first) = arguments.first_mut() {
-        *first = name;
+/// Whether it does so started by the words of the row.
+fn is_row<T: Threads + Wait + Sync>(rt: &T, alloc: Global, row: &str) -> bool {
+    match arguments_in(alloc, part(row, " => ", 0)) {
+        Ok(arguments) => is_started_by(rt, alloc, arguments.as_slice(), row),
+        Err(_) => false,
     }
-    Ok(is_started_by(rt, alloc, arguments.as_slice(), row))
 }
+
+/// The answer to a word that isn't UTF-8.
+const NO_TEXT: &str = " => 2 =>  => error: a word isn't UTF-8\n";
 
 #[test]
-fn is_served_as_cell_serves(rt: HostRuntime) -> Result<(), AllocError> {
+fn is_served_as_cell_serves(rt: HostRuntime) {
     for number in 0..count_parts(ROWS, "|") {
         let row = part(ROWS, "|", number);
-        assert!(rt;
-            is_served(&rt, rt.alloc(), row)? && is_started(&rt, rt.alloc(), b"bad\xff", row)?,
-            "{row}"
-        );
+        assert!(rt; is_row(&rt, rt.alloc(), row), "{row}");
     }
-    let bytes = "history \u{ff} => 2 =>  => error: a word isn't UTF-8\n";
-    assert!(rt; is_started_by(&rt, rt.alloc(), &[b"./history", b"\xff"], bytes));
-    Ok(())
-}
-
-#[test]
-fn prints_its_version(rt: HostRuntime) -> Result<(), AllocError> {
-    let row = format!(in rt.alloc(); "history --version => 0 =>  => history {VERSION}\n")?;
-    assert!(rt; is_served(&rt, rt.alloc(), row.as_str())?);
-    Ok(())
+    assert!(rt; is_started_by(&rt, rt.alloc(), &[b"bad\xff", b"\xff"], NO_TEXT));
 }

@@ -36,10 +36,6 @@ mod memory;
 #[cfg(test)]
 mod reports;
 #[cfg(test)]
-mod runs;
-#[cfg(test)]
 mod served;
-#[cfg(test)]
-mod simulations;
 #[cfg(test)]
 mod streams;

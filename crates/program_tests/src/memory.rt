@@ -1,7 +1,6 @@
 //! Runs of the program in which one allocation fails, whichever it is.
 
-use super::doubles::{EMPTY, LineReader, SCRIPT, run};
-use super::served::TEXT;
+use super::doubles::{EMPTY, LineReader, RUN, SCRIPT, TEXT, run};
 use std::alloc::Global;
 use std::sync::Wait;
 use std::thread::Threads;
@@ -29,61 +28,51 @@ fn is_cut(written: &str, answer: &str, least: usize, may_spawn: bool) -> bool {
     }
 }
 
+/// A line of words, an input, the status, the lines of its answer if they are written as they are known, and the end of
+/// its text.
+type Row = (&'static str, &'static str, u8, &'static str, &'static str);
+
+/// A configuration within whose turns every machine asks.
+const SCHEDULED: &str = "start = \"0000000000\"\nschedule = \"ftrpdcftrpdcftrpdc\"\narm1.tol = 2\n";
+
+/// A configuration that is refused.
+const REFUSED: &str = "start = \"0100000000\"\nschedule = \"pPx\"\n";
+
+// Within three turns every machine asks.
+const ROWS: &[Row] = &[
+    ("cell", SCRIPT, 0, TEXT, TEXT),
+    ("cell sim", SCHEDULED, 0, "", "audit ok\n"),
+    ("cell sim", REFUSED, 1, "", "fault config letter\n"),
+    (RUN, EMPTY, 0, "", "audit ok\n"),
+];
+
 // Whether a run writes a whole text, which ends so, or says that memory ran out, perhaps after some lines of an
 // answer. A script gives a record at a time, and before the next one is read the lines of all but the last one are
-// written: they aren't lost.
-fn is_right<T: Threads + Wait + Sync>(
-    rt: &T,
-    alloc: Global,
-    words: &[&str],
-    input: &str,
-    answer: &str,
-    end: &str,
-) -> bool {
+// written: they aren't lost. With status 255 there was no memory for the words.
+fn is_right<T: Threads + Wait + Sync>(rt: &T, alloc: Global, row: &Row) -> bool {
+    let (line, input, wanted, answer, end) = *row;
     let mut reader = LineReader {
         bytes: input.as_bytes(),
         given: 0,
     };
     let mut room = [0u8; 2000];
     let mut writer = &mut room[..];
-    let status = run(rt, alloc, words, &mut reader, &mut writer);
+    let status = run(rt, alloc, line, &mut reader, &mut writer);
     let left = writer.len();
     let Ok(written) = str::from_utf8(&room[..2000usize.saturating_sub(left)]) else {
         return false;
     };
     let least = reader.given.saturating_sub(2).min(answer.lines().count());
     match status {
-        0 => written.ends_with(end),
-        1 => tells_want(written) || is_cut(written, answer, least, words.len() > 2),
-        _ => false,
+        255 => written.is_empty(),
+        1 if tells_want(written) || is_cut(written, answer, least, line == RUN) => true,
+        _ => status == wanted && written.ends_with(end),
     }
 }
 
-/// A configuration within whose turns every machine asks.
-const SCHEDULED: &str = "start = \"0000000000\"\nschedule = \"ftrpdcftrpdcftrpdc\"";
-
-// A script is answered while it is read, so some first lines of its answer may have been written.
-// Within three turns every machine asks.
 #[test]
 fn serves_without_memory(rt: HostRuntime) {
-    let of_run = ["cell", "run", "--turns", "3", "--tries", "64"];
-    assert!(rt;
-        is_right(&rt, rt.alloc(), &["cell"], SCRIPT, TEXT, TEXT),
-        "replay"
-    );
-    assert!(rt;
-        is_right(
-            &rt,
-            rt.alloc(),
-            &["cell", "sim"],
-            SCHEDULED,
-            "",
-            "audit ok\n"
-        ),
-        "sim"
-    );
-    assert!(rt;
-        is_right(&rt, rt.alloc(), &of_run, EMPTY, "", "audit ok\n"),
-        "run"
-    );
+    for row in ROWS {
+        assert!(rt; is_right(&rt, rt.alloc(), row), "{}", row.0);
+    }
 }

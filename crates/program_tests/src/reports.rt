@@ -1,8 +1,8 @@
 //! Reports of runs. They were worked out by hand from the programs of the controllers and the
 //! numbers of the plant; those of long runs of six machines were made by `bench/plain/sim.rs`.
 
-/// Simulations: words, the status, a configuration, its report, and what that shows, with arrows between them. Bars
-/// separate the rows.
+/// Simulations and runs: words, the status, a configuration, its report, and what that shows, with arrows between them.
+/// Bars separate the rows.
 pub const REPORTS: &str = "\
 cell sim => 0 => start = \"0000000000\" => \
 version 2
@@ -238,7 +238,49 @@ places 0000000000
 axes press 1000 arm1 0 arm2 0 rotation 300 lift 0 turn 0 crane 0 gripper 900
 stamp 1048575 plates 0 stopped 0
 audit ok
- => The last stamp stops the table before its first call is done.";
+ => The last stamp stops the table before its first call is done.|\
+cell run --turns 3 --tries 64 => 0 => start = \"0000000000\"\n => \
+version 2
+start 0000000000 0
+feed turns 3 done 3 read 0 refused 0 busy 0 ok
+table turns 3 done 3 read 0 refused 0 busy 0 ok
+robot turns 3 done 0 read 2 refused 0 busy 0 ok
+press turns 3 done 2 read 0 refused 0 busy 0 ok
+deposit turns 3 done 3 read 0 refused 0 busy 0 ok
+crane turns 3 done 0 read 1 refused 0 busy 0 ok
+watch turns 0 done 0 read 0 refused 0 busy 0 ok
+zone z1 table 0 moving
+zone z2 table 0 moving
+zone z3 press 0 moving
+zone z4 deposit 0 openin
+zone z5 deposit 0 closed
+zone z6 free 0 openin
+places 0000000000
+axes press 980 arm1 0 arm2 0 rotation 300 lift 0 turn 0 crane 0 gripper 900
+stamp 11 plates 0 stopped 0
+audit ok
+ => Six workers take three turns each, and no call is Busy.|\
+cell run --tries=64 --turns=3 => 0 => start = \"0000000000\"\nschedule = \"ppp\" => \
+version 2
+start 0000000000 0
+feed turns 3 done 3 read 0 refused 0 busy 0 ok
+table turns 3 done 3 read 0 refused 0 busy 0 ok
+robot turns 3 done 0 read 2 refused 0 busy 0 ok
+press turns 3 done 2 read 0 refused 0 busy 0 ok
+deposit turns 3 done 3 read 0 refused 0 busy 0 ok
+crane turns 3 done 0 read 1 refused 0 busy 0 ok
+watch turns 0 done 0 read 0 refused 0 busy 0 ok
+zone z1 table 0 moving
+zone z2 table 0 moving
+zone z3 press 0 moving
+zone z4 deposit 0 openin
+zone z5 deposit 0 closed
+zone z6 free 0 openin
+places 0000000000
+axes press 980 arm1 0 arm2 0 rotation 300 lift 0 turn 0 crane 0 gripper 900
+stamp 11 plates 0 stopped 0
+audit ok
+ => The schedule is checked, but isn't used.";
 
 /// The report if the table has gone to the top and the press to its middle, after 500,000 turns each.
 pub const LONGEST: &str = "\
@@ -260,28 +302,5 @@ zone z6 free 0 closed
 places 0000000000
 axes press 500 arm1 0 arm2 0 rotation 300 lift 600 turn 500 crane 0 gripper 900
 stamp 9 plates 1 stopped 0
-audit ok
-";
-
-/// The report if six workers take three turns each, and no call is Busy.
-pub const SIX_WORKERS: &str = "\
-version 2
-start 0000000000 0
-feed turns 3 done 3 read 0 refused 0 busy 0 ok
-table turns 3 done 3 read 0 refused 0 busy 0 ok
-robot turns 3 done 0 read 2 refused 0 busy 0 ok
-press turns 3 done 2 read 0 refused 0 busy 0 ok
-deposit turns 3 done 3 read 0 refused 0 busy 0 ok
-crane turns 3 done 0 read 1 refused 0 busy 0 ok
-watch turns 0 done 0 read 0 refused 0 busy 0 ok
-zone z1 table 0 moving
-zone z2 table 0 moving
-zone z3 press 0 moving
-zone z4 deposit 0 openin
-zone z5 deposit 0 closed
-zone z6 free 0 openin
-places 0000000000
-axes press 980 arm1 0 arm2 0 rotation 300 lift 0 turn 0 crane 0 gripper 900
-stamp 11 plates 0 stopped 0
 audit ok
 ";

@@ -1,24 +1,23 @@
-//! Words of the program, exit statuses, fault lines and help.
+//! What the program answers: to scripts and configurations, and to words that ask for help or are refused.
 
-use super::doubles::{SCRIPT, is_answered, is_row, printed, run_line};
-use cell_words::{Mode, read_words};
-use program_shell::VERSION;
-use std::alloc::Global;
+use super::doubles::{SCRIPT, is_answered, is_row, run};
+use super::reports::{LONGEST, REPORTS};
+use std::alloc::{AllocError, Global};
 use std::sync::Wait;
-use std::test::Fail;
 use std::thread::Threads;
-use test_doubles::{count_parts, part, words_in};
-
-/// What is answered to the script.
-pub const TEXT: &str =
-    "0 0 start 0\n1 1 done\n2 1 held press\n3 2 done\n4 2 shut closed\n5 2 zone free 0 closed\n";
-
-/// Lines of words that ask for a replay.
-const REPLAYS: &str = "cell|cell replay|cell --";
+use test_doubles::{count_parts, part};
 
 /// Words, the status, an input and the text. The words that are refused have the whole text, as `clap` writes it of any
 /// program: an unknown option, a number out of range, a number that is none, a second script, and an unknown command.
+/// The last ones are configurations that are refused.
 const ROWS: &str = "\
+    cell => 0 => start,0000000000\npress,claim,z3\nrobot,claim,z3\npress,release,z3\nrobot,claim,z3\n\
+        watch,inquire,z3\n \
+        => 0 0 start 0\n1 1 done\n2 1 held press\n3 2 done\n4 2 shut closed\n5 2 zone free 0 closed\n|\
+    cell replay => 0 => start,0000000000\npress,claim,z3\nrobot,claim,z3\n \
+        => 0 0 start 0\n1 1 done\n2 1 held press\n|\
+    cell -- => 0 => start,0000000000\npress,claim,z3\nrobot,claim,z3\n \
+        => 0 0 start 0\n1 1 done\n2 1 held press\n|\
     cell => 1 =>  => fault nostart\n|\
     cell replay => 1 => start,1\n => fault badstart\n|\
     cell => 0 => start2,0000000000\nwatch,stop\n => 0 0 start2 0\n1 1 done\n|\
@@ -31,133 +30,97 @@ const ROWS: &str = "\
     cell replay other.csv => 2 =>  => error: unexpected argument 'other.csv' found\n\nUsage: cell replay\n\n\
         For more information, try '--help'.\n|\
     cell go => 2 =>  => error: unrecognized subcommand 'go'\n\nUsage: cell [COMMAND]\n\n\
-        For more information, try '--help'.\n";
+        For more information, try '--help'.\n|\
+    cell sim => 1 =>  => fault config missing\n|\
+    cell sim => 1 => colour = 1 => fault config unknown\n|\
+    cell sim => 1 => start = \"00 => fault config text\n|\
+    cell sim => 1 => start = 5 => fault config kind\n|\
+    cell sim => 1 => start = \"0000110000\" => fault config start\n|\
+    cell sim => 1 => start = \"0000000000\"\nstamp = -1 => fault config range\n|\
+    cell sim => 1 => start = \"0000000000\"\nschedule = \"x\" => fault config letter\n|\
+    cell run --turns 3 --tries 64 => 1 =>  => fault config missing\n|\
+    cell run --turns 3 --tries 64 => 1 => colour = 1 => fault config unknown\n|\
+    cell run --turns 3 --tries 64 => 1 => start = \"0000000000\"\nschedule = \"x\" => fault config letter\n|\
+    cell run => 1 => start = 5 => fault config kind\n";
+
+const TABLES: &[&str] = &[ROWS, REPORTS];
 
 #[test]
 fn serves(rt: HostRuntime) {
-    for number in 0..count_parts(REPLAYS, "|") {
-        let line = part(REPLAYS, "|", number);
-        let mut reader = SCRIPT.as_bytes();
-        assert!(rt;
-            is_answered(&rt, rt.alloc(), line, &mut reader, 0, TEXT),
-            "{line}"
-        );
-    }
-    for number in 0..count_parts(ROWS, "|") {
-        let row = part(ROWS, "|", number);
-        assert!(rt; is_row(&rt, rt.alloc(), row), "{row}");
-    }
-}
-
-/// Whether words that ask for no mode are answered with this status and some text, and the script
-/// isn't read. For status 2, and only then, the text says that it is an error.
-fn is_told<T: Threads + Wait + Sync>(rt: &T, alloc: Global, line: &str, status: u8) -> bool {
-    let mut script = SCRIPT.as_bytes();
-    let mut written = Vec::new(alloc);
-    let answered = run_line(rt, alloc, line, &mut script, &mut written);
-    let is_error = written.as_slice().starts_with(b"error: ");
-    let is_other = !written.is_empty() && is_error == (status == 2);
-    answered == status && is_other && script.len() == SCRIPT.len()
-}
-
-/// Words that ask for a text. Bars separate the lines of words.
-const ASKED: &str = "\
-    cell --help|\
-    cell replay --help|\
-    cell sim --help|\
-    cell -h|\
-    cell help|\
-    cell --help go --version|\
-    cell run --turns 3 --help|\
-    cell --version|\
-    cell run --help";
-
-/// Words that are refused.
-const ASTRAY: &str = "\
-    cell go --help|\
-    cell sim run --help|\
-    cell --version --help|\
-    cell -V|\
-    cell version|\
-    cell --version sim|\
-    cell sim --version|\
-    cell go|\
-    cell sim sim|\
-    cell run run|\
-    cell run --turns|\
-    cell run --turns 0|\
-    cell run --turns 100001|\
-    cell run --turns x|\
-    cell run --turns -1|\
-    cell run --turns=|\
-    cell run --turns 3 4|\
-    cell run --turns 3 --turns 3|\
-    cell run --tries|\
-    cell run --tries 0|\
-    cell run --tries 65|\
-    cell run --tries 18446744073709551617|\
-    cell run --tries 1.0|\
-    cell run --tries=3 --tries=3|\
-    cell run -t 3|\
-    cell sim --turns 3|\
-    cell --turns 3 run|\
-    cell replay replay|\
-    cell --turns 3|\
-    cell --nope|\
-    cell run --tries=x|\
-    cell replay other.csv|\
-    cell simulate|\
-    cell run 3|\
-    cell Replay|\
-    cell ";
-
-#[test]
-fn serves_other_words(rt: HostRuntime) {
-    for (lines, status) in [(ASKED, 0), (ASTRAY, 2)] {
-        for number in 0..count_parts(lines, "|") {
-            let line = part(lines, "|", number);
-            assert!(rt; is_told(&rt, rt.alloc(), line, status), "{line}");
+    for rows in TABLES {
+        for number in 0..count_parts(rows, "|") {
+            let row = part(rows, "|", number);
+            assert!(rt; is_row(&rt, rt.alloc(), row), "{row}");
         }
     }
 }
 
-/// Lines of words that ask for a run.
-const RUNS: &str = "\
-    cell run|\
-    cell run --turns 3 --tries 64|\
-    cell run --tries=64 --turns=3|\
-    cell run --turns +0003 --tries 064|\
-    cell run --turns 100000|\
-    cell run --tries 1";
-
-/// The turns and tries of each.
-const NUMBERS: [(u32, u8); 6] = [
-    (1000, 8),
-    (3, 64),
-    (3, 64),
-    (3, 64),
-    (100_000, 8),
-    (1000, 1),
-];
-
-/// What these words ask for, if anything.
-fn mode_of(alloc: Global, line: &str) -> Option<Mode> {
-    let words = words_in(alloc, line).ok()?;
-    read_words(alloc, words.as_slice()).ok()
-}
-
+// A schedule as long as one may be. Nearly every turn asks, so nearly as many entries are audited.
 #[test]
-fn reads_words(rt: HostRuntime) {
-    for (number, (turns, tries)) in NUMBERS.iter().enumerate() {
-        let line = part(RUNS, "|", number);
-        let wanted = Mode::Run {
-            turns: *turns,
-            tries: *tries,
-        };
-        assert!(rt; mode_of(rt.alloc(), line) == Some(wanted), "{line}");
-    }
-    assert!(rt; mode_of(rt.alloc(), "cell sim") == Some(Mode::Sim));
+fn simulates_the_longest_schedule(rt: HostRuntime) -> Result<(), AllocError> {
+    let schedule = "tp".repeat(rt.alloc(), 500_000)?;
+    let config = format!(in rt.alloc(); "start = \"0010000000\"\nschedule = \"{schedule}\"\n")?;
+    let mut reader = config.as_bytes();
+    assert!(rt; is_answered(&rt, rt.alloc(), "cell sim", &mut reader, "0", LONGEST));
+    Ok(())
 }
+
+/// Words that ask for help, for the version, or for nothing that there is; the status; and what the text has, in this
+/// order. Semicolons separate its parts. Help says what is read, what is written, what explains a refusal, where the
+/// formats are described, and an example.
+const WORDS: &str = "\
+    cell --help => 0 => Usage: cell [COMMAND];replay;sim;run;docs/FORMATS.md;`explain`;\
+        cell replay < examples/interior.csv;cell sim < examples/press.toml;\
+        cell run --turns 3 --tries 64 < examples/six_workers.toml|\
+    cell -h => 0 => Usage: cell [COMMAND];replay;sim;run;docs/FORMATS.md;`explain`;\
+        cell replay < examples/interior.csv;cell sim < examples/press.toml;\
+        cell run --turns 3 --tries 64 < examples/six_workers.toml|\
+    cell replay --help => 0 => Usage: cell replay;Reads a script;Writes a line for each record;\
+        `explain replay < FILE`;docs/FORMATS.md;cell replay < examples/interior.csv|\
+    cell sim --help => 0 => Usage: cell sim;Reads a configuration;Writes a report;\
+        `explain sim < FILE`;docs/FORMATS.md;cell sim < examples/press.toml|\
+    cell run --help => 0 => Usage: cell run [OPTIONS];--turns <N>;[default: 1000];--tries <N>;[default: 8];\
+        Reads a configuration;Writes a;docs/FORMATS.md;cell run --turns 3 --tries 64 < examples/six_workers.toml|\
+    cell help => 0 => cell|\
+    cell --help go --version => 0 => cell|\
+    cell run --turns 3 --help => 0 => cell|\
+    cell --version => 0 => cell|\
+    cell go --help => 2 => error: |\
+    cell sim run --help => 2 => error: |\
+    cell --version --help => 2 => error: |\
+    cell -V => 2 => error: |\
+    cell version => 2 => error: |\
+    cell --version sim => 2 => error: |\
+    cell sim --version => 2 => error: |\
+    cell go => 2 => error: |\
+    cell sim sim => 2 => error: |\
+    cell run run => 2 => error: |\
+    cell run --turns => 2 => error: |\
+    cell run --turns 0 => 2 => error: |\
+    cell run --turns 100001 => 2 => error: |\
+    cell run --turns x => 2 => error: |\
+    cell run --turns -1 => 2 => error: |\
+    cell run --turns= => 2 => error: |\
+    cell run --turns 3 4 => 2 => error: |\
+    cell run --turns 3 --turns 3 => 2 => error: |\
+    cell run --tries => 2 => error: |\
+    cell run --tries 0 => 2 => error: |\
+    cell run --tries 65 => 2 => error: |\
+    cell run --tries 18446744073709551617 => 2 => error: |\
+    cell run --tries 1.0 => 2 => error: |\
+    cell run --tries=3 --tries=3 => 2 => error: |\
+    cell run -t 3 => 2 => error: |\
+    cell sim --turns 3 => 2 => error: |\
+    cell --turns 3 run => 2 => error: |\
+    cell replay replay => 2 => error: |\
+    cell --turns 3 => 2 => error: |\
+    cell --nope => 2 => error: |\
+    cell run --tries=x => 2 => error: |\
+    cell replay other.csv => 2 => error: |\
+    cell simulate => 2 => error: |\
+    cell run 3 => 2 => error: |\
+    cell Replay => 2 => error: |\
+    cell  => 2 => error: ";
 
 /// Whether a text has these parts, in this order. Semicolons separate them.
 fn has_in_order(text: &str, parts: &str) -> bool {
@@ -171,42 +134,35 @@ fn has_in_order(text: &str, parts: &str) -> bool {
     true
 }
 
-/// Lines of words that ask for help, and what that has.
-const HELPS: &str = "\
-    cell --help => Usage: cell [COMMAND];replay;sim;run;docs/FORMATS.md;`explain`;\
-        cell replay < examples/interior.csv;cell sim < examples/press.toml;\
-        cell run --turns 3 --tries 64 < examples/six_workers.toml|\
-    cell -h => Usage: cell [COMMAND];replay;sim;run;docs/FORMATS.md;`explain`;\
-        cell replay < examples/interior.csv;cell sim < examples/press.toml;\
-        cell run --turns 3 --tries 64 < examples/six_workers.toml|\
-    cell replay --help => Usage: cell replay;Reads a script;Writes a line for each record;\
-        `explain replay < FILE`;docs/FORMATS.md;cell replay < examples/interior.csv|\
-    cell sim --help => Usage: cell sim;Reads a configuration;Writes a report;\
-        `explain sim < FILE`;docs/FORMATS.md;cell sim < examples/press.toml|\
-    cell run --help => Usage: cell run [OPTIONS];--turns <N>;[default: 1000];--tries <N>;[default: 8];\
-        Reads a configuration;Writes a;docs/FORMATS.md;cell run --turns 3 --tries 64 < examples/six_workers.toml";
-
-/// Whether the help that a row's words ask for has the row's parts, in this order.
-fn is_helped<T: Threads + Wait + Sync>(rt: &T, alloc: Global, row: &str) -> bool {
-    let (status, written) = printed(rt, alloc, part(row, " => ", 0), "");
+/// Whether the words of a row are answered so, and the script isn't read. For status 2, and only then, the text begins
+/// with `error: `.
+fn is_told<T: Threads + Wait + Sync>(rt: &T, alloc: Global, row: &str) -> bool {
+    let mut script = SCRIPT.as_bytes();
+    let mut written = Vec::new(alloc);
+    let digit = [b'0'.wrapping_add(run(
+        rt,
+        alloc,
+        part(row, " => ", 0),
+        &mut script,
+        &mut written,
+    ))];
+    let status = part(row, " => ", 1);
+    let is_unread = script.len() == SCRIPT.len();
     match str::from_utf8(written.as_slice()) {
-        Ok(text) => status == 0 && has_in_order(text, part(row, " => ", 1)),
+        Ok(text) => {
+            is_unread
+                && digit.as_slice() == status.as_bytes()
+                && text.starts_with("error: ") == (status == "2")
+                && has_in_order(text, part(row, " => ", 2))
+        }
         Err(_) => false,
     }
 }
 
-// Help says what is read, what is written, what explains a refusal, where the formats are described, and an example.
 #[test]
-fn helps(rt: HostRuntime) {
-    for number in 0..count_parts(HELPS, "|") {
-        let row = part(HELPS, "|", number);
-        assert!(rt; is_helped(&rt, rt.alloc(), row), "{row}");
+fn serves_other_words(rt: HostRuntime) {
+    for number in 0..count_parts(WORDS, "|") {
+        let row = part(WORDS, "|", number);
+        assert!(rt; is_told(&rt, rt.alloc(), row), "{row}");
     }
-}
-
-#[test]
-fn prints_its_version(rt: HostRuntime) -> Result<(), Fail> {
-    let row = format!(in rt.alloc(); "cell --version => 0 =>  => cell {VERSION}\n")?;
-    assert!(rt; is_row(&rt, rt.alloc(), row.as_str()));
-    Ok(())
 }

@@ -1,6 +1,6 @@
 //! Input and output that fail, are interrupted, or come in small parts.
 
-use super::doubles::{RUN, UnflushedWriter, input_of, is_answered, printed, run_line};
+use super::doubles::{RUN, UnflushedWriter, input_of, is_answered, printed, run};
 use program_shell::{Exit, refuse_bytes};
 use std::alloc::Global;
 use std::sync::Wait;
@@ -17,7 +17,7 @@ fn is_failed_read<T: Threads + Wait + Sync>(
     left: usize,
 ) -> bool {
     let mut reader = FailingReader::new(input_of(line).as_bytes(), left);
-    is_answered(rt, alloc, line, &mut reader, 1, "fault read\n")
+    is_answered(rt, alloc, line, &mut reader, "1", "fault read\n")
 }
 
 #[test]
@@ -64,7 +64,7 @@ fn is_written<T: Threads + Wait + Sync>(
     let mut writer = InterruptedWriter::new(alloc, left, at_once, failure);
     reader.times = times;
     writer.times = times;
-    let answered = run_line(rt, alloc, line, &mut reader, &mut writer);
+    let answered = run(rt, alloc, line, &mut reader, &mut writer);
     let taken = writer.taken.as_slice();
     answered == (if left < whole.len() { 1 } else { status })
         && taken.len() == left.min(whole.len())
@@ -100,7 +100,7 @@ fn is_lost<T: Threads + Wait + Sync>(rt: &T, alloc: Global, line: &str, input: &
         flushed: 0,
     };
     let (_, whole) = printed(rt, alloc, line, input);
-    let status = run_line(rt, alloc, line, &mut input.as_bytes(), &mut writer);
+    let status = run(rt, alloc, line, &mut input.as_bytes(), &mut writer);
     let taken = writer.taken.as_slice();
     let is_prefix = whole.as_slice().starts_with(taken) && taken.ends_with(b"\n");
     let is_whole = taken.len() == whole.len() || line == "cell replay";

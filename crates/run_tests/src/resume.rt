@@ -3,4 +3,3 @@
 mod machines;
 mod plant;
 mod power_cuts;
-mod refused_bytes;

@@ -2,8 +2,8 @@
 
 mod ends;
 mod gates;
-mod rounds;
-mod simulated_cells;
+pub mod rounds;
+pub mod simulated_cells;
 mod wired_workers;
 mod worker_cells;
 mod workers;

@@ -7,48 +7,28 @@ use std::io;
 use std::io::{ErrorKind, Read, Write};
 use std::thread::Threads;
 use std::time::{Clock, Duration};
-use test_doubles::Given;
+use test_doubles::{Given, arguments_in};
 
-/// The exit status of the program that is started with these arguments. Its clock can't be read. It
-/// has no clauses, so the rows don't carry those of `start`.
+/// The exit status of the program that is started by a line of words, with this clock; 255 if there is no memory for
+/// them. It has no clauses, so the rows don't carry those of `start`.
 pub fn run<T: Threads + Sync, R: Read, W: Write, P: Write>(
-    rt: &T,
-    alloc: Global,
-    arguments: &[&[u8]],
-    reader: &mut R,
-    writer: &mut W,
-    progress: &mut P,
-) -> u8 {
-    run_by(
-        rt,
-        &GivenClock::new([None, None]),
-        alloc,
-        arguments,
-        reader,
-        writer,
-        progress,
-    )
-}
-
-/// The same by this clock.
-pub fn run_by<T: Threads + Sync, R: Read, W: Write, P: Write>(
     rt: &T,
     clock: &GivenClock,
     alloc: Global,
-    arguments: &[&[u8]],
+    line: &str,
     reader: &mut R,
     writer: &mut W,
     progress: &mut P,
 ) -> u8 {
-    start(
-        rt,
-        clock,
-        alloc,
-        &Given { arguments },
-        reader,
-        writer,
-        progress,
-    )
+    match arguments_in(alloc, line) {
+        Ok(arguments) => {
+            let env = Given {
+                arguments: arguments.as_slice(),
+            };
+            start(rt, clock, alloc, &env, reader, writer, progress)
+        }
+        Err(_) => 255,
+    }
 }
 
 /// A clock that shows these times one after another, in thousandths of a second. At `None` it can't
@@ -61,8 +41,7 @@ pub struct GivenClock {
 }
 
 impl GivenClock {
-    pub fn new(times: [Option<u64>; 2]) -> GivenClock {
-        let [first, second] = times;
+    pub fn new(first: Option<u64>, second: Option<u64>) -> GivenClock {
         GivenClock {
             is_begun: Cell::new(false),
             first,

@@ -1,36 +1,30 @@
 //! What is said of a refusal that stops a machine. No turns of the six programs lead to one: so a walk says of
 //! machines that they would be stopped, though they only wait.
+ghost use Rattle.cell_rules.specs.Start.{IsStartState};
+ghost use Rattle.cell_config.specs.Configured.{AreAxisScales, AreCurvesOf};
 
-use cell_config::read_config;
-use cell_explorer::Prospect::{Acts, Stops, Waits};
+use cell_config::{Config, read_config};
 use cell_explorer::{NextTurn, Prospect, Walk, take_turns};
 use cell_types::Machine;
 use explore_app::ending::Ending;
 use explore_app::schedule::ScheduleFault;
 use explore_app::screen::walk_screen;
 use std::alloc::{AllocError, Global};
-use std::test::Fail;
+use test_doubles::{count_parts, part};
 
-/// The fewest turns from an empty cell into a standstill, as plain Rust finds them.
-const WAY: &str = "fffttttttrpppppddddcc";
-
-/// Turns, what the next turn of each machine would do after them, and the screen.
-const ROWS: &[(&str, [Prospect; 6], &str)] = &[
-    (
-        "ppppp",
-        [Acts, Waits, Acts, Stops, Acts, Waits],
-        "\
+/// Turns, those of the schedule, what the next turn of each machine would do after them (a: it acts, w: it waits, s: a
+/// refusal stops it), and the screen; empty where turns don't lead a simulated cell to what is told. Bars separate the
+/// rows. Of the last ones, the machine isn't refused; it has one turn more than the schedule; another drives on
+/// meanwhile; nobody is refused.
+const ROWS: &str = "\
+ppppp => ppppp => awasaw => \
 # plates 0
 # a refusal that stops a machine after 5 turns, and no fewer
 # press is refused: take z3: notowner free
 start = \"0000000000\"
 schedule = \"ppppppppppppppppppppppppppppppp\"
-",
-    ),
-    (
-        WAY,
-        [Stops, Waits, Stops, Waits, Waits, Stops],
-        "\
+|\
+fffttttttrpppppddddcc => fffttttttrpppppddddcc => swswws => \
 # plates 0
 # a refusal that stops a machine after 21 turns, and no fewer
 # feed is refused: take z6: notowner free
@@ -38,13 +32,16 @@ schedule = \"ppppppppppppppppppppppppppppppp\"
 # crane is refused: inquire z5: zone deposit 0 closed
 start = \"0000000000\"
 schedule = \"fffttttttppppppppppppppppppppppppppppppddddfrrccc\"
-",
-    ),
-];
+|\
+fff => fff => aaasaa => |\
+fff => ff => saaaaa => |\
+tt => t => asaaaa => |\
+rppppp => rppppp => aaasaa => |\
+fffttttttrpppppddddcc => fffttttttrpppppddddcc => wwwwww => |\
+\u{20}=>  => aaaaaa => ";
 
-/// The machines that have these turns.
-fn machines(alloc: Global, letters: &str) -> Result<Vec<Machine>, AllocError> {
-    let mut way = Vec::new(alloc);
+/// Adds the machines that have these turns.
+fn push_machines(way: &mut Vec<Machine>, letters: &str) -> Result<(), AllocError> {
     for letter in letters.chars() {
         way.push(match letter {
             'f' => Machine::Feed,
@@ -56,66 +53,61 @@ fn machines(alloc: Global, letters: &str) -> Result<Vec<Machine>, AllocError> {
             _ => Machine::Watch,
         })?;
     }
-    Ok(way)
+    Ok(())
 }
 
 /// Has the walk say that the next turn of each machine but the watch would do this.
-fn expect(walk: &mut Walk, prospects: &[Prospect; 6]) {
-    for (machine, prospect) in Machine::ALL.iter().zip(prospects) {
-        let next = NextTurn {
-            prospect: *prospect,
-            ..*walk.next.at(*machine)
+fn expect(walk: &mut Walk, prospects: &str) {
+    for number in 0..6usize {
+        let machine = Machine::ALL[number];
+        let prospect = match prospects.as_bytes().get(number) {
+            Some(b'a') => Prospect::Acts,
+            Some(b'w') => Prospect::Waits,
+            _ => Prospect::Stops,
         };
-        walk.next.put(*machine, next);
+        let next = NextTurn {
+            prospect,
+            ..*walk.next.at(machine)
+        };
+        walk.next.put(machine, next);
     }
 }
 
-/// The screen of a refusal after these turns, by the schedule of those, in an empty cell.
-fn screen_after(
-    alloc: Global,
-    letters: &str,
-    scheduled: &str,
-    prospects: &[Prospect; 6],
-) -> Result<Result<String, ScheduleFault>, Fail> {
-    let config = read_config(alloc, &mut b"start = \"0000000000\"\n".as_slice())?;
-    let mut walk = take_turns(alloc, &config.start, machines(alloc, letters)?.as_slice())?;
-    expect(&mut walk, prospects);
-    let way = machines(alloc, scheduled)?;
-    Ok(walk_screen(alloc, &config, Ending::Refusal, way.as_slice(), &walk))
+/// Whether the screen of a row's refusal after these turns is the row's, by the schedule of that way.
+fn is_walked(alloc: Global, config: &Config, turns: &[Machine], way: &[Machine], row: &str) -> bool
+    requires start { IsStartState config.now.start }
+    requires points { AreAxisScales config.now.points }
+    requires curves { AreCurvesOf config.now.points config.now.curves }
+{
+    let wanted = part(row, " => ", 3);
+    match take_turns(alloc, &config.start, turns) {
+        Ok(mut walk) => {
+            expect(&mut walk, part(row, " => ", 2));
+            match walk_screen(alloc, config, Ending::Refusal, way, &walk) {
+                Ok(screen) => screen.as_str() == wanted,
+                Err(fault) => fault == ScheduleFault::Apart && wanted.is_empty(),
+            }
+        }
+        Err(_) => false,
+    }
 }
 
-fn is_told(alloc: Global, row: &(&str, [Prospect; 6], &str)) -> Result<bool, Fail> {
-    let (letters, prospects, wanted) = row;
-    let found = screen_after(alloc, letters, letters, prospects)?;
-    Ok(matches!(&found, Ok(screen) if screen.as_str() == *wanted))
+/// Whether the screen of a row's refusal in an empty cell is the row's.
+fn is_told(alloc: Global, row: &str) -> bool {
+    let mut turns = Vec::new(alloc);
+    let mut way = Vec::new(alloc);
+    let is_made = push_machines(&mut turns, part(row, " => ", 0)).is_ok()
+        && push_machines(&mut way, part(row, " => ", 1)).is_ok();
+    match read_config(alloc, &mut "start = \"0000000000\"\n".as_bytes()) {
+        Ok(config) => is_made && is_walked(alloc, &config, turns.as_slice(), way.as_slice(), row),
+        Err(_) => false,
+    }
 }
 
 #[test]
-fn tells_a_refusal(rt: HostRuntime) -> Result<(), Fail> {
-    for row in ROWS {
-        assert!(rt; is_told(rt.alloc(), row)?, "{row:?}");
+fn tells_a_refusal(rt: HostRuntime) {
+    for number in 0..count_parts(ROWS, "|") {
+        let row = part(ROWS, "|", number);
+        assert!(rt; is_told(rt.alloc(), row), "{row}");
     }
-    Ok(())
-}
-
-/// Turns, those of the schedule, and what the next turn of each machine would do after them: the machine isn't refused;
-/// it has one turn more than the schedule; another drives on meanwhile.
-const APART: &[(&str, &str, [Prospect; 6])] = &[
-    ("fff", "fff", [Acts, Acts, Acts, Stops, Acts, Acts]),
-    ("fff", "ff", [Stops, Acts, Acts, Acts, Acts, Acts]),
-    ("tt", "t", [Acts, Stops, Acts, Acts, Acts, Acts]),
-    ("rppppp", "rppppp", [Acts, Acts, Acts, Stops, Acts, Acts]),
-    // nobody is refused
-    (WAY, WAY, [Waits; 6]),
-    ("", "", [Acts; 6]),
-];
-
-// Where turns don't lead a simulated cell to what is told, there is no screen.
-#[test]
-fn tells_nothing_that_is_apart(rt: HostRuntime) -> Result<(), Fail> {
-    for (letters, scheduled, prospects) in APART {
-        let found = screen_after(rt.alloc(), letters, scheduled, prospects)?;
-        assert!(rt; found == Err(ScheduleFault::Apart), "{letters}");
-    }
-    Ok(())
 }

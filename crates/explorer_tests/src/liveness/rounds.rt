@@ -50,17 +50,25 @@ fn answered(rt: HostRuntime, plates: [bool; 10], order: [Machine; 6]) -> Option<
     explore_round(rt.alloc(), &start, order).ok()
 }
 
+// The state after a walk.
+fn state_after(rt: HostRuntime, start: &State, way: &[Machine]) -> Option<State> {
+    match take_turns(rt.alloc(), start, way) {
+        Ok(walk) => Some(walk.end.state),
+        Err(_) => None,
+    }
+}
+
 // The most turns of rounds from a start, one after another, in which no plate moves: by a walk of 240 turns.
 fn longest_wait(rt: HostRuntime, plates: [bool; 10], order: [Machine; 6]) -> Option<usize> {
     let start = State::start(plates, 0).ok()?;
-    let mut way = Vec::new(rt.alloc());
-    let mut before = take_turns(rt.alloc(), &start, way.as_slice()).ok()?.end;
+    let mut turns = [Machine::Watch; 240];
+    let mut before = start;
     let mut wait: usize = 0;
     let mut longest = 0;
-    for turn in 0..240 {
-        way.push(order[turn % 6]).ok()?;
-        let after = take_turns(rt.alloc(), &start, way.as_slice()).ok()?.end;
-        wait = if plates_differ(&before.state, &after.state) {
+    for turn in 0..240usize {
+        turns[turn] = order[turn % 6];
+        let after = state_after(rt, &start, &turns[..=turn])?;
+        wait = if plates_differ(&before, &after) {
             0
         } else {
             wait.saturating_add(1)
@@ -74,42 +82,36 @@ fn longest_wait(rt: HostRuntime, plates: [bool; 10], order: [Machine; 6]) -> Opt
 #[test]
 fn one_plate_moves_again_and_again(rt: HostRuntime) {
     let found = answered(rt, ONE, ALONG);
-    assert!(rt; found == Some(Rounds::Within(8)), "{found:?}");
+    assert!(rt; found == Some(Rounds::Within(8)));
     let back = answered(rt, ONE, AGAINST);
-    assert!(rt; back == Some(Rounds::Within(8)), "{back:?}");
+    assert!(rt; back == Some(Rounds::Within(8)));
 }
 
 #[test]
 fn four_plates_move_again_and_again(rt: HostRuntime) {
     let found = answered(rt, FOUR, ALONG);
-    assert!(rt; found == Some(Rounds::Within(9)), "{found:?}");
+    assert!(rt; found == Some(Rounds::Within(9)));
     let back = answered(rt, FOUR, AGAINST);
-    assert!(rt; back == Some(Rounds::Within(8)), "{back:?}");
+    assert!(rt; back == Some(Rounds::Within(8)));
 }
 
 // In 47 turns no plate moves, and in one more one does: so within 8 rounds, and no fewer.
 #[test]
 fn a_walk_waits_as_long(rt: HostRuntime) {
     let one = longest_wait(rt, ONE, ALONG);
-    assert!(rt; one == Some(47), "{one:?}");
+    assert!(rt; one == Some(47));
 }
 
 #[test]
 fn at_a_standstill_rounds_starve(rt: HostRuntime) {
     let found = answered(rt, SIX, ALONG);
-    assert!(rt;
-        matches!(found, Some(Rounds::Starves { cycle: 1, .. })),
-        "{found:?}"
-    );
+    assert!(rt; matches!(found, Some(Rounds::Starves { cycle: 1, .. })));
 }
 
 #[test]
 fn rounds_of_the_robot_alone_starve(rt: HostRuntime) {
     let found = answered(rt, ONE, ROBOT);
-    assert!(rt;
-        found == Some(Rounds::Starves { stem: 1, cycle: 1 }),
-        "{found:?}"
-    );
+    assert!(rt; found == Some(Rounds::Starves { stem: 1, cycle: 1 }));
 }
 
 // Which places are full, by the bits of a number.
@@ -152,7 +154,7 @@ fn every_start(rt: HostRuntime, order: [Machine; 6]) -> Option<(usize, usize)> {
 #[test]
 fn plates_move_from_each_start_with_one_to_four(rt: HostRuntime) {
     let along = every_start(rt, ALONG);
-    assert!(rt; along == Some((348, 11)), "{along:?}");
+    assert!(rt; along == Some((348, 11)));
     let against = every_start(rt, AGAINST);
-    assert!(rt; against == Some((348, 10)), "{against:?}");
+    assert!(rt; against == Some((348, 10)));
 }

@@ -26,10 +26,7 @@ fn cycle_of(answer: &Progress) -> &[Machine] {
 fn the_robot_goes_round_without_the_press(rt: HostRuntime) {
     let start = State::start(ONE, 0).expect(&rt, "a start");
     let answer = explore_progress(rt.alloc(), &start, None, None).expect(&rt, "memory");
-    assert!(rt;
-        cycle_of(&answer) == [Machine::Robot, Machine::Robot, Machine::Robot].as_slice(),
-        "{answer:?}"
-    );
+    assert!(rt; cycle_of(&answer) == [Machine::Robot, Machine::Robot, Machine::Robot].as_slice());
 }
 
 #[test]
@@ -38,5 +35,5 @@ fn a_standstill_starves(rt: HostRuntime) {
     let answer = explore_progress(rt.alloc(), &start, None, Some(Machine::Press)).expect(
         &rt, "memory",
     );
-    assert!(rt; cycle_of(&answer).len() == 1, "{answer:?}");
+    assert!(rt; cycle_of(&answer).len() == 1);
 }

@@ -5,8 +5,7 @@ use plan_explorer::{Explored, Programs, explore, take_turns};
 use plan_liveness::{Liveness, Progress, explore_machines, explore_plates};
 use plan_rules::State;
 use plan_types::{Call, Plan, PlanPose, PlanZone, Posture, Tables, Way};
-use std::alloc::Global;
-use std::test::Fail;
+use std::alloc::{AllocError, Global};
 
 /// How many machines hand the plate on. The zone with the number of each leads to the next one.
 const LINKS: u8 = 7;
@@ -30,12 +29,13 @@ fn pose_of(machine: u8) -> PlanPose {
     }
 }
 
-/// Each machine keeps the place with its number, as long as there are places. The poses are those of the links, and one
-/// of the last machine.
-fn tables(alloc: Global) -> Result<Tables, Fail> {
-    let mut zones = Vec::new(alloc);
-    let mut poses = Vec::new(alloc);
-    let mut places = Vec::new(alloc);
+/// Adds each machine's zone, pose and place, as long as there are places. The poses are those of the links, and one of
+/// the last machine.
+fn push_tables(
+    zones: &mut Vec<PlanZone>,
+    poses: &mut Vec<PlanPose>,
+    places: &mut Vec<u8>,
+) -> Result<(), AllocError> {
     for link in 0..LINKS {
         zones.push(PlanZone {
             host: link,
@@ -51,18 +51,12 @@ fn tables(alloc: Global) -> Result<Tables, Fail> {
     }
     poses.push(pose_of(LAST))?;
     places.push(LINKS)?;
-    Ok(Tables {
-        machines: MACHINES,
-        zones,
-        poses,
-        places,
-    })
+    Ok(())
 }
 
-/// The program of a link, of this many steps. It takes the plate, claims its zone, poses again and again, and gives the
-/// plate.
-fn link_program(alloc: Global, link: u8, steps: usize) -> Result<Vec<Call>, Fail> {
-    let mut calls = Vec::new(alloc);
+/// Adds the program of a link, of this many steps. It takes the plate, claims its zone, poses again and again, and
+/// gives the plate.
+fn push_link(calls: &mut Vec<Call>, link: u8, steps: usize) -> Result<(), AllocError> {
     if link > 0 {
         calls.push(Call::Take(link - 1))?;
     }
@@ -71,13 +65,17 @@ fn link_program(alloc: Global, link: u8, steps: usize) -> Result<Vec<Call>, Fail
         calls.push(Call::SetPose(link))?;
     }
     calls.push(Call::Give(link))?;
-    Ok(calls)
+    Ok(())
 }
 
-/// The programs, of this many steps for each link. The machine after the links takes the plate, and waits for another
-/// one; those after it wait for a zone that isn't theirs. The last machine has this one.
-fn programs(alloc: Global, steps: usize, last: &[Call]) -> Result<Programs, Fail> {
-    let mut lists = Vec::new(alloc);
+/// Adds the programs, of this many steps for each link. The machine after the links takes the plate, and waits for
+/// another one; those after it wait for a zone that isn't theirs. The last machine has this one.
+fn push_programs(
+    lists: &mut Vec<Vec<Call>>,
+    alloc: Global,
+    steps: usize,
+    last: &[Call],
+) -> Result<(), AllocError> {
     for link in 0..LINKS {
         lists.push(link_program(alloc, link, steps)?)?;
     }
@@ -86,47 +84,90 @@ fn programs(alloc: Global, steps: usize, last: &[Call]) -> Result<Programs, Fail
         lists.push(vec![in alloc; Call::Release(0)]?)?;
     }
     lists.push(last.to_vec(alloc)?)?;
-    match Programs::new(lists) {
-        Ok(programs) => Ok(programs),
-        Err(_) => Err(Fail::from("no programs")),
+    Ok(())
+}
+
+/// The program of a link.
+fn link_program(alloc: Global, link: u8, steps: usize) -> Result<Vec<Call>, AllocError> {
+    let mut calls = Vec::new(alloc);
+    match push_link(&mut calls, link, steps) {
+        Ok(()) => Ok(calls),
+        Err(error) => Err(error),
     }
 }
 
-/// The plan, and the opening with a plate in the first place.
-fn plant(alloc: Global) -> Result<(Plan, State), Fail> {
-    let Ok(plan) = Plan::new(tables(alloc)?) else {
-        return Err(Fail::from("no plan"));
-    };
-    let mut places = [false; 16];
-    places[0] = true;
-    Ok((plan, State::start(places, 0)))
+/// Those programs, if there is memory.
+fn programs(alloc: Global, steps: usize, last: &[Call]) -> Option<Programs> {
+    let mut lists = Vec::new(alloc);
+    let is_made = push_programs(&mut lists, alloc, steps, last).is_ok();
+    match Programs::new(lists) {
+        Ok(programs) if is_made => Some(programs),
+        _ => None,
+    }
 }
 
-/// The turns that lead to the end: all steps of a link, then those of the next, and one of the machine after the last.
-fn way(alloc: Global, steps: usize) -> Result<Vec<u8>, Fail> {
-    let mut turns = Vec::new(alloc);
+/// The plan, if there is memory.
+fn plan(alloc: Global) -> Option<Plan> {
+    let mut zones = Vec::new(alloc);
+    let mut poses = Vec::new(alloc);
+    let mut places = Vec::new(alloc);
+    let is_made = push_tables(&mut zones, &mut poses, &mut places).is_ok();
+    let tables = Tables {
+        machines: MACHINES,
+        zones,
+        poses,
+        places,
+    };
+    match Plan::new(tables) {
+        Ok(plan) if is_made => Some(plan),
+        _ => None,
+    }
+}
+
+/// The opening with a plate in the first place.
+fn opening() -> State {
+    let mut places = [false; 16];
+    places[0] = true;
+    State::start(places, 0)
+}
+
+/// Adds the turns that lead to the end: all steps of a link, then those of the next, and one of the machine after the
+/// last.
+fn push_way(turns: &mut Vec<u8>, steps: usize) -> Result<(), AllocError> {
     for link in 0..LINKS {
         for _ in 0..steps {
             turns.push(link)?;
         }
     }
     turns.push(LINKS)?;
-    Ok(turns)
+    Ok(())
+}
+
+/// Whether these turns are the fewest that lead to the end, and they are taken.
+fn are_fewest(alloc: Global, plan: &Plan, programs: &Programs, way: &[u8]) -> bool {
+    let opening = opening();
+    let is_found = match explore(alloc, plan, &opening, programs) {
+        Ok(Explored::Standstill(turns)) => turns.as_slice() == way,
+        _ => false,
+    };
+    match take_turns(alloc, plan, &opening, programs, way) {
+        Ok(walk) => {
+            is_found
+                && walk.events.len() == 7 * 255 + 1
+                && walk.outlook.len() == usize::from(MACHINES)
+        }
+        Err(_) => false,
+    }
 }
 
 // All fifteen machines wait at the end: the fewest turns to it are found, and taken.
 #[test]
-fn fifteen_machines_stand_still_after_many_turns(rt: HostRuntime) -> Result<(), Fail> {
-    let alloc = rt.alloc();
-    let (plan, opening) = plant(alloc)?;
-    let programs = programs(alloc, 255, &[Call::Release(0)])?;
-    let way = way(alloc, 255)?;
-    let found = explore(alloc, &plan, &opening, &programs)?;
-    let is_found = matches!(&found, Explored::Standstill(turns) if *turns == way);
-    assert!(rt; is_found, "{found:?}");
-    let walk = take_turns(alloc, &plan, &opening, &programs, way.as_slice())?;
-    assert!(rt; walk.events.len() == 7 * 255 + 1 && walk.outlook.len() == usize::from(MACHINES));
-    Ok(())
+fn fifteen_machines_stand_still_after_many_turns(rt: HostRuntime) {
+    let plan = plan(rt.alloc()).expect(&rt, "a plan");
+    let programs = programs(rt.alloc(), 255, &[Call::Release(0)]).expect(&rt, "programs");
+    let mut way = Vec::new(rt.alloc());
+    let is_made = push_way(&mut way, 255).is_ok();
+    assert!(rt; is_made && are_fewest(rt.alloc(), &plan, &programs, way.as_slice()));
 }
 
 /// Whether these are the answers for all machines, of which only the last goes on for ever.
@@ -145,20 +186,30 @@ fn are_known(answers: &[Liveness]) -> bool {
     answers.len() == usize::from(MACHINES)
 }
 
+/// Whether the last machine alone goes on for ever, and plates don't.
+fn goes_on_alone(alloc: Global, plan: &Plan, programs: &Programs) -> bool {
+    let opening = opening();
+    let are_right = match explore_machines(alloc, plan, &opening, programs) {
+        Ok(answers) => are_known(answers.as_slice()),
+        Err(_) => false,
+    };
+    match explore_plates(alloc, plan, &opening, programs, None, &[]) {
+        Ok(Progress::Starves(_)) => are_right,
+        _ => false,
+    }
+}
+
 // The last machine goes on for ever, at each moment and at the end. No other machine does, and the plate rests there.
 #[test]
-fn one_of_fifteen_machines_goes_on(rt: HostRuntime) -> Result<(), Fail> {
-    let alloc = rt.alloc();
-    let (plan, opening) = plant(alloc)?;
-    let programs = programs(alloc, 9, &[Call::SetPose(LINKS), Call::SetPose(LINKS)])?;
+fn one_of_fifteen_machines_goes_on(rt: HostRuntime) {
+    let plan = plan(rt.alloc()).expect(&rt, "a plan");
+    let last = [Call::SetPose(LINKS), Call::SetPose(LINKS)];
+    let programs = programs(rt.alloc(), 9, &last).expect(&rt, "programs");
     // before the turns of each step and at the end, with the last machine at either of its steps
     let wanted = 2 * (7 * 9 + 2);
-    let found = explore(alloc, &plan, &opening, &programs)?;
-    let is_found = matches!(&found, Explored::Free(situations) if *situations == wanted);
-    assert!(rt; is_found, "{found:?}");
-    let answers = explore_machines(alloc, &plan, &opening, &programs)?;
-    assert!(rt; are_known(answers.as_slice()), "{answers:?}");
-    let plates = explore_plates(alloc, &plan, &opening, &programs, None, &[])?;
-    assert!(rt; matches!(&plates, Progress::Starves(_)), "{plates:?}");
-    Ok(())
+    let is_found = match explore(rt.alloc(), &plan, &opening(), &programs) {
+        Ok(Explored::Free(situations)) => situations == wanted,
+        _ => false,
+    };
+    assert!(rt; is_found && goes_on_alone(rt.alloc(), &plan, &programs));
 }

@@ -60,8 +60,8 @@ fn fails_to_flush<R: Read>(alloc: Global, reader: &mut R, lines: usize) -> bool 
     got == Err(ReplayFault::Write) && is_whole_lines(written) && count_lines(written) == lines
 }
 
-/// Whether the replay is as ever if its reader and its writer are interrupted so often before each
-/// byte.
+/// Whether the replay is as ever if its reader and its writer are interrupted this number of times before
+/// each byte.
 fn goes_on(alloc: Global, times: u32) -> bool {
     let mut reader = InterruptedReader::new(SCRIPT.as_bytes(), usize::MAX, 1);
     let mut writer = InterruptedWriter::new(alloc, usize::MAX, 1, Failure::Write);
@@ -71,18 +71,14 @@ fn goes_on(alloc: Global, times: u32) -> bool {
         && writer.taken.as_slice() == TEXT.as_bytes()
 }
 
-/// How many bytes a reader gives at a time.
-const PARTS: &[usize] = &[1, 7, usize::MAX];
-
+// A reader gives a byte, seven or all at a time.
 #[test]
 fn fails_with_its_reader(rt: HostRuntime) {
-    for left in 0..=SCRIPT.len() {
-        for at_once in PARTS {
-            assert!(rt;
-                fails_to_read(rt.alloc(), left, *at_once),
-                "{left} {at_once}"
-            );
-        }
+    for left in 0..SCRIPT.len().saturating_add(1) {
+        let has_failed = fails_to_read(rt.alloc(), left, 1)
+            && fails_to_read(rt.alloc(), left, 7)
+            && fails_to_read(rt.alloc(), left, usize::MAX);
+        assert!(rt; has_failed, "{left}");
     }
 }
 
@@ -96,9 +92,8 @@ fn fails_with_its_writer(rt: HostRuntime) {
         assert!(rt; is_told, "{room}");
     }
     assert!(rt; is_written(rt.alloc(), usize::MAX, Failure::Write, Ok(Outcome::Clean)));
-    for times in [0, 1, 1_000, 100_000] {
-        assert!(rt; goes_on(rt.alloc(), times), "{times}");
-    }
+    let are_known = goes_on(rt.alloc(), 0) && goes_on(rt.alloc(), 1);
+    assert!(rt; are_known && goes_on(rt.alloc(), 1_000) && goes_on(rt.alloc(), 100_000));
 }
 
 // The writer is flushed when no further line is at hand: of a script that is read at once, when all
@@ -131,7 +126,7 @@ fn stops_reading(rt: HostRuntime) {
     let mut reader = EndlessReader { given: 0 };
     let mut written = Vec::new(rt.alloc());
     let got = replay(rt.alloc(), &mut reader, &mut written);
-    assert!(rt; got == Ok(Outcome::Refused(ScriptFault::Long)));
-    assert!(rt; reader.given == 4_194_305);
-    assert!(rt; written.as_slice() == b"fault long\n".as_slice());
+    let is_long = got == Ok(Outcome::Refused(ScriptFault::Long));
+    let is_told = written.as_slice() == b"fault long\n".as_slice();
+    assert!(rt; is_long && is_told && reader.given == 4_194_305);
 }

@@ -35,8 +35,6 @@ fn expect_readings<F: Gauge>(
         calibration: Calibration::new(gauge, points),
         faults: 0,
     };
-    assert!(rt; meter.calibration.points() == points);
-    assert!(rt; meter.calibration.tol() == points.tol());
     for (raw, reading) in wanted {
         assert!(rt; meter.read(*raw) == *reading, "at {raw}");
     }

@@ -17,6 +17,6 @@ const MASKS: &[(Machine, Call, u64, u64)] = &[
 #[test]
 fn calls_clear_and_set_bits(rt: HostRuntime) {
     for (machine, call, clear, set) in MASKS {
-        assert!(rt; masks(*machine, *call) == (*clear, *set), "{call:?}");
+        assert!(rt; masks(*machine, *call) == (*clear, *set), "{clear}");
     }
 }

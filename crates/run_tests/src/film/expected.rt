@@ -1,7 +1,11 @@
-//! The lines of the shorter examples, as plain Rust writes them (`bench/plain/film.rs`).
+//! Films of configurations, most of them those of `examples/`, as plain Rust writes them (`bench/plain/film.rs`).
 
-/// Those of `examples/press.toml`.
-pub const PRESS_LINES: &str = "\
+/// Words, lines of a configuration, its start, its schedule (how often each text of letters comes in a row, with
+/// semicolons between them), and what is shown: the lines of a page. Of longer lines, and of a picture, it is the
+/// number of bytes, their checksum FNV-1a, and of lines also their number and the last one. Bars separate the rows; in
+/// a row arrows stand between these and a remark.
+pub const FILMS: &str = "\
+./film =>  => 0000000000 => 31 p => \
 start;0;claim entry,,,0;claim entry,0,0;turn to table,0,0,300,0,0;\
 claim first,1000;claim entry,,,0;raise to fetch,0,900,0
 p;leave for middle;claim z3;done;10000000400;
@@ -35,10 +39,8 @@ p;pose middle;;;;500
 p;release interior;pose middle;done;30000004400;
 p;take plate;release z3;done;40000004000;
 p;;take z3;notowner free;;
-";
-
-/// Those of `examples/table.toml`.
-pub const TABLE_LINES: &str = "\
+ => `examples/press.toml`|\
+./film =>  => 0010000000 => 37 t => \
 start;100000000;claim entry,,,0;claim entry,0,0;turn to table,0,0,300,0,0;\
 claim first,1000;claim entry,,,0;raise to fetch,0,900,0
 t;claim exit;claim z1;done;10100000001;
@@ -78,13 +80,42 @@ t;pose unloading;;;;600,500
 t;give plate;pose unloading;done;40100000321;
 t;claim back;give z2;done;500000003c1;
 t;;claim z2;held robot;;
-";
-
-/// Those of busy turns, worked out by hand.
-pub const BUSY_LINES: &str = "\
+ => `examples/table.toml`|\
+./film =>  => 0000000000 => 1 DCW => \
 start;0;claim entry,,,0;claim entry,0,0;turn to table,0,0,300,0,0;\
 claim first,1000;claim entry,,,0;raise to fetch,0,900,0
 D;;claim z4;busy;;
 C;travel to deposit;;;;
 W;;stop;busy;;
-";
+ => Busy turns of the deposit belt, the crane and the watch; by hand.|\
+./film =>  => 1000000000 => 6 t;61 f;1 r;30 p;4 d;2 c;35 t;249 r;84 p;35 t;277 r;30 p;57 d;340 c;1 f => \
+    23883 bytes, 4b0e29e7ed1766cb, 1213 lines, f;start in;take z6;done;3b006380c030;0,,0 => \
+    `examples/carried_round.toml`|\
+./film =>  => 1001000010 => 1283 ftrpdc => \
+    67889 bytes, b1215fb24a72522e, 7699 lines, c;travel to deposit;;;; => \
+    `examples/three_plates.toml`|\
+./film => \
+arm1 = { raw = [0, 1501], tol = 1 }
+arm2 = { raw = [3, 2004], tol = 1 }
+rotation = { raw = [7, 4094], tol = 1 }
+turn = { raw = [1, 1000], tol = 1 }
+gripper = { raw = [5, 1508], tol = 10 }
+ => 1000000000 => 6 t;61 f;1 r;30 p;4 d;2 c;35 t;245 r;84 p;35 t;272 r;30 p;57 d;343 c;1 f => \
+    23751 bytes, 5cce5588ae3598a0, 1207 lines, f;start in;take z6;done;3b006380c030;0,,0 => \
+    `examples/rounded_down.toml`|\
+./film =>  => 0000000000 => 0 p => \
+    122 bytes, ba14dc031b433260, 1 lines, start;0;claim entry,,,0;claim entry,0,0;turn to table,0,0,300,0,0;\
+    claim first,1000;claim entry,,,0;raise to fetch,0,900,0 => \
+    Nothing happens.|\
+./film =>  => 1011101010 => 400 ftrpdc => \
+    18015 bytes, 5cb4ca3d1845bb6e, 2401 lines, c => \
+    The start of `examples/standstill.toml`, with turns in rotation.|\
+./film =>  => 0000000000 => 100001 P => \
+    200150 bytes, e63dd79f2945ca59, 100002 lines, cut 100001 => \
+    One turn more than a film shows.|\
+./film --loop =>  => 0000000000 => 31 p => 10193 bytes, b63f4fbace3c9866 => `examples/press.toml`|\
+./film --loop =>  => 0010100000 => 4 tp;1 w;45 tp;1 w;25 tp => 14321 bytes, 1ee09349b6295ef1 => \
+    `examples/stop_and_resume.toml`|\
+./film --loop =>  => 1000000000 => 6 t;61 f;1 r;30 p;4 d;2 c;35 t;249 r;84 p;35 t;277 r;30 p;57 d;340 c;1 f => \
+    12500 bytes, 384b696db937e558 => `examples/carried_round.toml`|\
+./film --loop =>  => 1001000010 => 1283 ftrpdc => 16784 bytes, 602ea8aef5738ada => `examples/three_plates.toml`";

@@ -1,17 +1,24 @@
-//! Pages: their lines stand between the same head and tail.
+//! Pages, whose lines stand between a head and a tail, and pictures: they are those that plain Rust makes.
 
-use super::examples::{Example, NO_TURN, PRESS, STANDSTILL, TOO_LONG, config_text};
-use super::lines::{Figures, has_figures};
-use cell_config::read_config;
-use film_app::film_configured;
-use std::alloc::Global;
-use std::test::Fail;
+use super::doubles::run;
+use super::expected::FILMS;
+use std::alloc::{AllocError, Global};
+use test_doubles::{count_parts, part};
 
-/// The page of an example.
-fn page_of(alloc: Global, example: &Example) -> Result<String, Fail> {
-    let text = config_text(alloc, example)?;
-    let config = read_config(alloc, &mut text.as_bytes())?;
-    Ok(film_configured(alloc, &config)?)
+/// Adds the configuration of a row.
+fn push_config(text: &mut String, row: &str) -> Result<(), AllocError> {
+    let (others, start) = (part(row, " => ", 1), part(row, " => ", 2));
+    let repeats = part(row, " => ", 3);
+    write!(text, "{others}start = \"{start}\"\nschedule = \"")?;
+    for number in 0..count_parts(repeats, ";") {
+        let repeat = part(repeats, ";", number);
+        let letters = part(repeat, " ", 1);
+        let count: u32 = part(repeat, " ", 0).parse().unwrap_or(0);
+        for _ in 0..count {
+            text.push_str(letters)?;
+        }
+    }
+    text.push_str("\"\n")
 }
 
 /// Cuts a page into its head, the text of the element of the lines, and its tail.
@@ -26,61 +33,54 @@ pub fn is_whole(page: &str) -> bool {
     page.starts_with("<!doctype html>\n") && page.ends_with("</script>\n</html>\n")
 }
 
-// The figures of the lines that plain Rust writes, with the line of a cut schedule.
-const ROWS: &[(&Example, Figures)] = &[
-    (
-        &NO_TURN,
-        Figures {
-            lines: 1,
-            bytes: 122,
-            checksum: 0xba14dc031b433260,
-            last: "start;0;claim entry,,,0;claim entry,0,0;turn to table,0,0,300,0,0;\
-            claim first,1000;claim entry,,,0;raise to fetch,0,900,0",
-        },
-    ),
-    (
-        &PRESS,
-        Figures {
-            lines: 32,
-            bytes: 633,
-            checksum: 0x2cb596d0634849d0,
-            last: "p;;take z3;notowner free;;",
-        },
-    ),
-    (
-        &STANDSTILL,
-        Figures {
-            lines: 2401,
-            bytes: 18015,
-            checksum: 0x5cb4ca3d1845bb6e,
-            last: "c",
-        },
-    ),
-    (
-        &TOO_LONG,
-        Figures {
-            lines: 100002,
-            bytes: 200150,
-            checksum: 0xe63dd79f2945ca59,
-            last: "cut 100001",
-        },
-    ),
-];
-
-// Whether a page is whole, and its lines have these figures.
-fn has_lines(page: &str, figures: &Figures) -> bool {
-    match parts_of(page) {
-        Some((_, lines, _)) => has_figures(lines, figures) && is_whole(page),
-        None => false,
+/// The 64-bit checksum FNV-1a of bytes.
+fn checksum_of(bytes: &[u8]) -> u64 {
+    let mut sum = 0xcbf2_9ce4_8422_2325u64;
+    for byte in bytes {
+        sum = (sum ^ u64::from(*byte)).wrapping_mul(0x0100_0000_01b3);
     }
+    sum
+}
+
+/// Whether a text has figures that begin so.
+fn has_figures(alloc: Global, text: &str, wanted: &str) -> bool {
+    let sum = checksum_of(text.as_bytes());
+    let lines = text.lines().count();
+    let last = text.lines().last().unwrap_or("");
+    match format!(in alloc; "{} bytes, {sum:x}, {lines} lines, {last}", text.len()) {
+        Ok(figures) => figures.as_str().starts_with(wanted),
+        Err(_) => false,
+    }
+}
+
+/// Whether bytes are a whole page with these lines, or a picture; or with figures that begin so.
+fn shows(alloc: Global, bytes: &[u8], wanted: &str) -> bool {
+    let Ok(text) = str::from_utf8(bytes) else {
+        return false;
+    };
+    match parts_of(text) {
+        Some((_, lines, _)) => {
+            is_whole(text) && (lines == wanted || has_figures(alloc, lines, wanted))
+        }
+        None => has_figures(alloc, text, wanted),
+    }
+}
+
+/// Whether the program films a row so.
+fn is_filmed(alloc: Global, row: &str) -> bool {
+    let mut config = String::new(alloc);
+    let mut written = Vec::new(alloc);
+    let is_made = push_config(&mut config, row).is_ok();
+    let line = part(row, " => ", 0);
+    let status = run(alloc, line, &mut config.as_str().as_bytes(), &mut written);
+    is_made && status == 0 && shows(alloc, written.as_slice(), part(row, " => ", 4))
 }
 
 // That each page has the same head and tail is the clause of `film_configured`.
 #[test]
-fn puts_lines_between_head_and_tail(rt: HostRuntime) -> Result<(), Fail> {
-    for (example, figures) in ROWS {
-        let page = page_of(rt.alloc(), example)?;
-        assert!(rt; has_lines(&page, figures), "{} lines", figures.lines);
+fn films_the_examples(rt: HostRuntime) {
+    for number in 0..count_parts(FILMS, "|") {
+        let row = part(FILMS, "|", number);
+        assert!(rt; is_filmed(rt.alloc(), row), "{}", part(row, " => ", 5));
     }
-    Ok(())
 }

@@ -1,158 +1,30 @@
-//! Six machines in one thread, which begin where 14 bytes say.
+//! Six machines, one after another, each of which begins where 14 bytes say.
 ghost use Rattle.std.specs.Prelude.{◌≡◌};
-ghost use Rattle.cell_interlock.specs.Fresh.{AreFresh};
 
 use crate::resume::plant::Plant;
-use cell_belts_crane::{CraneProgram, DepositProgram, FeedProgram};
-use cell_control::Wired;
-use cell_interlock::{Interlock, PassLine, Passes};
-use cell_resume::{Checkpoint, CheckpointBytes, Resumed, ResumedCell, Team, resume_at};
+use cell_belts_crane::CraneProgram;
+use cell_control::{Controller, Program};
+use cell_resume::{Checkpoint, CheckpointBytes, ResumedCell, Team, resume_at};
 use cell_robot::RobotProgram;
-use cell_rules::Survey;
+use cell_rules::{Bench, Line, State};
 use cell_sensors::{Calibration, Gauge, Points, position_on_line};
-use cell_table_press::{PressProgram, TableProgram};
+use cell_table_press::TableProgram;
+use cell_types::Machine;
 use std::alloc::Global;
-use std::test::Fail;
 
-/// The six machines, each at the end of its line, and the line of the watch, which asks nothing.
-#[derive(Drop)]
-struct Machines<'a, F: Gauge> {
-    feed: Wired<Resumed<FeedProgram>, PassLine<'a>>,
-    table: Wired<Resumed<TableProgram<F>>, PassLine<'a>>,
-    robot: Wired<Resumed<RobotProgram<F, F, F>>, PassLine<'a>>,
-    press: Wired<Resumed<PressProgram>, PassLine<'a>>,
-    deposit: Wired<Resumed<DepositProgram>, PassLine<'a>>,
-    crane: Wired<Resumed<CraneProgram<F>>, PassLine<'a>>,
-    watch: PassLine<'a>,
-}
-
-impl<F: Gauge> Machines<'_, F> {
-    // One turn of a machine. Whether it goes on.
-    fn turn(&mut self, machine: u32, plant: &mut Plant) -> bool {
-        match machine {
-            0 => {
-                let told = self.feed.turn(&plant.feed_sense());
-                plant.set_feed(told.act);
-                told.fault.is_none()
-            }
-            1 => {
-                let told = self.table.turn(&plant.table_sense());
-                plant.set_table(told.act);
-                told.fault.is_none()
-            }
-            2 => {
-                let told = self.robot.turn(&plant.robot_sense());
-                plant.set_robot(told.act);
-                told.fault.is_none()
-            }
-            3 => {
-                let told = self.press.turn(&plant.press_sense());
-                plant.set_press(told.act);
-                told.fault.is_none()
-            }
-            4 => {
-                let told = self.deposit.turn(&plant.deposit_sense());
-                plant.set_deposit(told.act);
-                told.fault.is_none()
-            }
-            _ => {
-                let told = self.crane.turn(&plant.crane_sense());
-                plant.set_crane(told.act);
-                told.fault.is_none()
-            }
-        }
-    }
-
-    // Turns of the machines, one after another. Whether they all go on.
-    fn turns(&mut self, plant: &mut Plant, first: u32, turns: u32) -> bool {
-        for turn in 0..turns {
-            if !self.turn(first.wrapping_add(turn) % 6, plant) {
-                return false;
-            }
-        }
-        true
-    }
-
-    // The step of each machine.
-    fn team(&self) -> Team {
-        Team {
-            feed: self.feed.progress(),
-            table: self.table.progress(),
-            robot: self.robot.progress(),
-            press: self.press.progress(),
-            deposit: self.deposit.progress(),
-            crane: self.crane.progress(),
-        }
-    }
-
-    // What is stored after these turns, if no machine stops.
-    fn hand_out_after(
-        mut self,
-        plant: &mut Plant,
-        first: u32,
-        turns: u32,
-    ) -> Option<CheckpointBytes> {
-        let goes_on = self.turns(plant, first, turns);
-        let bytes = self.hand_out();
-        if goes_on { Some(bytes) } else { None }
-    }
-
-    // What is stored after a turn.
-    fn hand_out(mut self) -> CheckpointBytes {
-        Checkpoint::of(&self.watch.survey(), &self.team()).to_bytes()
-    }
-}
-
-/// Goes on from these bytes for a number of turns, the machines one after another, and gives the
-/// bytes at the end. The first turn has this number. A potentiometer's raw value is the position.
+/// One turn of the machine with this number, in the order of reports, which goes on from these bytes: what is stored
+/// after it. A potentiometer's raw value is the position. `None` if the bytes are refused, or the machine stops.
 pub fn go_on(
     alloc: Global,
     bytes: CheckpointBytes,
     plant: &mut Plant,
-    first: u32,
-    turns: u32,
-) -> Result<CheckpointBytes, Fail> {
-    let points = Points::new(0, 2000, 0, 2000, 5)?;
-    let cell = resume_at(bytes)?;
+    machine: usize,
+) -> Option<CheckpointBytes> {
+    let points = Points::new(0, 2000, 0, 2000, 5).ok()?;
     let gauge = move |raw: u16| position_on_line(&points, raw);
-    go_on_by(alloc, &cell, gauge, points, plant, first, turns)
-}
-
-// Machines that go on where a cell does, each on a line of its own.
-fn wired_machines<'a, F: Gauge + Copy>(
-    alloc: Global,
-    cell: &ResumedCell,
-    gauge: F,
-    points: Points,
-    interlock: &'a Interlock,
-    passes: Passes,
-) -> Machines<'a, F>
-    requires keeps { F.keeps gauge points }
-    requires opening { interlock.now.opening ≡ cell.now.state }
-    requires fresh { AreFresh interlock.now passes }
-{
-    let opening = cell.state();
-    let robot = RobotProgram::new(
-        Calibration::new(gauge, points),
-        Calibration::new(gauge, points),
-        Calibration::new(gauge, points),
-    );
-    let table = TableProgram::new(Calibration::new(gauge, points));
-    let crane = CraneProgram::new(Calibration::new(gauge, points));
-    let feed_line = PassLine::new(alloc, interlock, passes.feed);
-    let table_line = PassLine::new(alloc, interlock, passes.table);
-    let robot_line = PassLine::new(alloc, interlock, passes.robot);
-    let press_line = PassLine::new(alloc, interlock, passes.press);
-    let deposit_line = PassLine::new(alloc, interlock, passes.deposit);
-    let crane_line = PassLine::new(alloc, interlock, passes.crane);
-    Machines {
-        feed: Wired::new(cell.feed(), &opening, feed_line),
-        table: Wired::new(cell.table(table), &opening, table_line),
-        robot: Wired::new(cell.robot(robot), &opening, robot_line),
-        press: Wired::new(cell.press(), &opening, press_line),
-        deposit: Wired::new(cell.deposit(), &opening, deposit_line),
-        crane: Wired::new(cell.crane(crane), &opening, crane_line),
-        watch: PassLine::new(alloc, interlock, passes.watch),
+    match resume_at(bytes) {
+        Ok(cell) => go_on_by(alloc, &cell, gauge, points, plant, machine),
+        Err(_) => None,
     }
 }
 
@@ -162,15 +34,142 @@ fn go_on_by<F: Gauge + Copy>(
     gauge: F,
     points: Points,
     plant: &mut Plant,
-    first: u32,
-    turns: u32,
-) -> Result<CheckpointBytes, Fail>
+    machine: usize,
+) -> Option<CheckpointBytes>
     requires { F.keeps gauge points }
 {
-    let (interlock, passes) = Interlock::new(alloc, cell.state(), 8)?;
-    let machines = wired_machines(alloc, cell, gauge, points, &interlock, passes);
-    match machines.hand_out_after(plant, first, turns) {
-        Some(bytes) => Ok(bytes),
-        None => Err(Fail::new("a machine has stopped")),
+    let mut team = cell.team();
+    let after = match machine {
+        0 => feed_turn(alloc, cell, &mut team, plant),
+        1 => table_turn(alloc, cell, gauge, points, &mut team, plant),
+        2 => robot_turn(alloc, cell, gauge, points, &mut team, plant),
+        3 => press_turn(alloc, cell, &mut team, plant),
+        4 => deposit_turn(alloc, cell, &mut team, plant),
+        _ => crane_turn(alloc, cell, gauge, points, &mut team, plant),
+    };
+    match after {
+        Some(state) => Some(Checkpoint::of(&state, &team).to_bytes()),
+        None => None,
+    }
+}
+
+// A turn of each machine: the state after it. `None` if it stops.
+fn feed_turn(
+    alloc: Global,
+    cell: &ResumedCell,
+    team: &mut Team,
+    plant: &mut Plant,
+) -> Option<State> {
+    let program = cell.feed();
+    let sense = plant.feed_sense();
+    let (act, step, state) = turn_of(alloc, cell.state(), Machine::Feed, program, sense)?;
+    plant.set_feed(act);
+    team.feed = step;
+    Some(state)
+}
+
+fn table_turn<F: Gauge + Copy>(
+    alloc: Global,
+    cell: &ResumedCell,
+    gauge: F,
+    points: Points,
+    team: &mut Team,
+    plant: &mut Plant,
+) -> Option<State>
+    requires { F.keeps gauge points }
+{
+    let program = cell.table(TableProgram::new(Calibration::new(gauge, points)));
+    let sense = plant.table_sense();
+    let (act, step, state) = turn_of(alloc, cell.state(), Machine::Table, program, sense)?;
+    plant.set_table(act);
+    team.table = step;
+    Some(state)
+}
+
+fn robot_turn<F: Gauge + Copy>(
+    alloc: Global,
+    cell: &ResumedCell,
+    gauge: F,
+    points: Points,
+    team: &mut Team,
+    plant: &mut Plant,
+) -> Option<State>
+    requires { F.keeps gauge points }
+{
+    let program = cell.robot(RobotProgram::new(
+        Calibration::new(gauge, points),
+        Calibration::new(gauge, points),
+        Calibration::new(gauge, points),
+    ));
+    let sense = plant.robot_sense();
+    let (act, step, state) = turn_of(alloc, cell.state(), Machine::Robot, program, sense)?;
+    plant.set_robot(act);
+    team.robot = step;
+    Some(state)
+}
+
+fn press_turn(
+    alloc: Global,
+    cell: &ResumedCell,
+    team: &mut Team,
+    plant: &mut Plant,
+) -> Option<State> {
+    let program = cell.press();
+    let sense = plant.press_sense();
+    let (act, step, state) = turn_of(alloc, cell.state(), Machine::Press, program, sense)?;
+    plant.set_press(act);
+    team.press = step;
+    Some(state)
+}
+
+fn deposit_turn(
+    alloc: Global,
+    cell: &ResumedCell,
+    team: &mut Team,
+    plant: &mut Plant,
+) -> Option<State> {
+    let program = cell.deposit();
+    let sense = plant.deposit_sense();
+    let (act, step, state) = turn_of(alloc, cell.state(), Machine::Deposit, program, sense)?;
+    plant.set_deposit(act);
+    team.deposit = step;
+    Some(state)
+}
+
+fn crane_turn<F: Gauge + Copy>(
+    alloc: Global,
+    cell: &ResumedCell,
+    gauge: F,
+    points: Points,
+    team: &mut Team,
+    plant: &mut Plant,
+) -> Option<State>
+    requires { F.keeps gauge points }
+{
+    let program = cell.crane(CraneProgram::new(Calibration::new(gauge, points)));
+    let sense = plant.crane_sense();
+    let (act, step, state) = turn_of(alloc, cell.state(), Machine::Crane, program, sense)?;
+    plant.set_crane(act);
+    team.crane = step;
+    Some(state)
+}
+
+// One turn of a machine over a bench that opens with a state: what its actuators are told, its step, and the state
+// after it. `None` if it stops. It has no clauses, so the six machines don't carry those of a turn.
+fn turn_of<P: Program>(
+    alloc: Global,
+    state: State,
+    machine: Machine,
+    program: P,
+    sense: P::Sense,
+) -> Option<(P::Act, P::Progress, State)>
+    requires { machine ≡ (P.steps program).machine }
+{
+    let mut controller = Controller::new(&state, program);
+    let mut bench = Bench::new(alloc, state);
+    bench.seat(machine, false);
+    match controller.turn(&mut bench, &sense) {
+        Ok(act) => Some((act, controller.progress(), bench.state())),
+        Err(_) => None,
     }
 }

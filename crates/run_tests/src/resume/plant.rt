@@ -8,7 +8,7 @@ use cell_sensors::{CraneSense, DepositSense, FeedSense, PressSense, RobotSense, 
 const STEP: u16 = 20;
 
 /// An axis that goes from 0 to its end.
-#[derive(Clone, Copy, PartialEq, Eq)]
+#[derive(Clone, Copy)]
 struct Axis {
     at: u16,
     end: u16,
@@ -33,7 +33,7 @@ impl Axis {
 }
 
 /// A belt that carries one plate at a time past a light barrier.
-#[derive(Clone, Copy, PartialEq, Eq)]
+#[derive(Clone, Copy)]
 struct Belt {
     plate: u16,
 }
@@ -53,7 +53,7 @@ impl Belt {
 }
 
 /// The positions of all parts.
-#[derive(Clone, Copy, PartialEq, Eq)]
+#[derive(Clone, Copy)]
 pub struct Plant {
     feed: Belt,
     deposit: Belt,
@@ -82,6 +82,20 @@ impl Plant {
             travel: Axis::new(0, 2000),
             gripper: Axis::new(900, 1000),
         }
+    }
+
+    /// The positions of the axes, in the order of reports.
+    pub fn axes(&self) -> [i32; 8] {
+        [
+            i32::from(self.press.at),
+            i32::from(self.arm1.at),
+            i32::from(self.arm2.at),
+            i32::from(self.rotation.at),
+            i32::from(self.height.at),
+            i32::from(self.turn.at),
+            i32::from(self.travel.at),
+            i32::from(self.gripper.at),
+        ]
     }
 
     pub fn feed_sense(&self) -> FeedSense {

@@ -25,7 +25,7 @@ impl CountingGate {
         }
     }
 
-    /// Whether the six machines have asked so often, each by the numbers from 0 on, and the watch never.
+    /// Whether the six machines have asked this number of times, each by the numbers from 0 on, and the watch never.
     pub fn was_asked(&self, times: [u32; 6]) -> bool {
         for machine in 0..6usize {
             if self.asked[machine].load(Ordering::SeqCst) != u64::from(times[machine]) {

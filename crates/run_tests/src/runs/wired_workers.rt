@@ -18,8 +18,8 @@ use cell_sensors::{
 use cell_table_press::{PressProgram, TableProgram};
 use cell_threads::{RunFault, SixOf, SixRecord, run_workers};
 use std::alloc::Global;
+use std::process::Abort;
 use std::sync::Wait;
-use std::test::Fail;
 use std::thread::Threads;
 
 /// Devices that show one sense for some reads, and something else or nothing from then on. They count
@@ -166,27 +166,24 @@ const BOTH_ON: PressSense = PressSense {
     top: true,
 };
 
-// A run from a start without plates, in which a raw value is the position. After some turns the press's switches show this.
-fn run_until<R: Threads + Wait + Sync>(
+// A row's run from a start without plates, in which a raw value is the position. `None` is a fault.
+fn run_row<R: Threads + Wait + Abort + Sync>(
     rt: &R,
     alloc: Global,
-    good: u32,
-    then: Option<PressSense>,
-    turns: u32,
     gate: &CountingGate,
-) -> Result<SixOutputs, Fail> {
-    let opening = State::start([false; 10], 0)?;
-    let points = Points::new(0, 2000, 0, 2000, 5)?;
+    row: &Row,
+) -> Option<SixOutputs> {
+    let opening = State::start([false; 10], 0).expect(rt, "a start");
+    let points = Points::new(0, 2000, 0, 2000, 5).expect(rt, "points");
     let gauge = move |raw: u16| position_on_line(&points, raw);
-    let press = Recorder::new(AT_TOP, good, then);
-    Ok(run_by(rt, alloc, opening, gauge, points, press, turns, gate)?)
+    let press = Recorder::new(AT_TOP, row.good, row.then);
+    run_by(rt, alloc, opening, gauge, points, press, row.limit, gate).ok()
 }
 
 /// How many turns the press has before its switches show what comes next, the greatest number of cycles of
 /// each machine, and how often the gate lets each machine in. Then how the press ends: its turns, its
 /// cycles without a reading, its status, and how often it has asked; and its motor's last command, with
 /// the fault, if it has had one.
-#[derive(Clone, Copy, Debug)]
 struct Row {
     good: u32,
     then: Option<PressSense>,
@@ -200,10 +197,10 @@ const ALL: [u32; 6] = [99; 6];
 
 const CLASH: Option<CtlFault> = Some(CtlFault::Sensor(SensorFault::Clash));
 
-// The press claims its interior and tells that it moves; from its third turn on it drives down. Its
-// switches are good throughout; or they clash in its first turn, while its motor is on, or in its
-// last turn; or they don't answer from the beginning, or while its motor is on.
-const RESTS: &[Row] = &[
+// The press claims its interior and tells that it moves; from its third turn on it drives down.
+const ROWS: &[Row] = &[
+    // its switches are good throughout; or they clash in its first turn, while its motor is on, or in its last turn; or
+    // they don't answer from the beginning, or while its motor is on
     Row {
         good: 9,
         then: Some(BOTH_ON),
@@ -252,10 +249,7 @@ const RESTS: &[Row] = &[
         press: (3, 3, Status::Fine, 6),
         told: Some((Motor::Off, None)),
     },
-];
-
-const GATED: &[Row] = &[
-    // none is refused; all are; each is at another cycle
+    // the gate refuses none; all; each at another cycle
     Row {
         good: 9,
         then: None,
@@ -350,42 +344,38 @@ fn does_press_end_so(press: &WiredOutput<Recorder<PressSense, PressAct>>, row: &
 }
 
 // Whether each machine has asked its gate exactly as often as its row says: the other ones once for each
-// turn, and once more if they are refused.
+// turn, and for the one at which they are refused.
 fn was_asked(gate: &CountingGate, row: &Row) -> bool {
     let mut asked = row.lets.map(|lets| lets.saturating_add(1).min(row.limit));
     asked[3] = row.press.3;
     gate.was_asked(asked)
 }
 
-// Whether the machines end as a row says, and each has asked its gate exactly so often.
-fn ends_so<R: Threads + Wait + Sync>(
+// Whether the machines end as a row says, and each has asked its gate exactly as often.
+fn ends_so<R: Threads + Wait + Abort + Sync>(
     rt: &R,
     alloc: Global,
     gate: &CountingGate,
     row: &Row,
-) -> Result<bool, Fail> {
-    let run = run_until(rt, alloc, row.good, row.then, row.limit, gate)?;
-    Ok(
-        does_press_end_so(&run.outputs.press, row)
-            && were_others_let_in(&run, row.limit, row.lets)
-            && was_asked(gate, row),
-    )
+) -> bool {
+    match run_row(rt, alloc, gate, row) {
+        Some(run) => {
+            does_press_end_so(&run.outputs.press, row)
+                && were_others_let_in(&run, row.limit, row.lets)
+                && was_asked(gate, row)
+        }
+        None => false,
+    }
 }
 
 #[test]
-fn is_told_to_rest_without_good_sensors(rt: HostRuntime) -> Result<(), Fail> {
-    for row in RESTS {
+fn gates_are_asked_once_for_each_cycle(rt: HostRuntime) {
+    for row in ROWS {
         let gate = CountingGate::new(row.lets);
-        assert!(rt; ends_so(&rt, rt.alloc(), &gate, row)?, "{row:?}");
+        assert!(rt;
+            ends_so(&rt, rt.alloc(), &gate, row),
+            "{} good turns",
+            row.good
+        );
     }
-    Ok(())
-}
-
-#[test]
-fn gates_are_asked_once_for_each_cycle(rt: HostRuntime) -> Result<(), Fail> {
-    for row in GATED {
-        let gate = CountingGate::new(row.lets);
-        assert!(rt; ends_so(&rt, rt.alloc(), &gate, row)?, "{row:?}");
-    }
-    Ok(())
 }

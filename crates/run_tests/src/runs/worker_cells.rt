@@ -10,8 +10,8 @@ use std::alloc::Global;
 use std::sync::Wait;
 use std::thread::Threads;
 
-/// Six workers from the start of this configuration. A call may lose this many exchanges, and each worker
-/// takes so many turns. Without memory, or threads, there may be no record.
+/// Six workers from the start of this configuration. A call may lose `tries` exchanges, and each worker takes `turns`
+/// turns. Without memory, or threads, there may be no record.
 pub fn work<R: Threads + Wait + Sync>(
     rt: &R,
     alloc: Global,

@@ -1,0 +1,32 @@
+//! The texts of the faults of a controller.
+
+use cell_control::CtlFault;
+use cell_sensors::SensorFault;
+use cell_types::Refusal;
+use std::alloc::AllocError;
+use test_doubles::part;
+
+const FAULTS: [CtlFault; 5] = [
+    CtlFault::Sensor(SensorFault::Clash),
+    CtlFault::Refused(Refusal::NotOwner(None)),
+    CtlFault::Worn,
+    CtlFault::Memory,
+    CtlFault::Stopped,
+];
+
+/// Their texts, in this order.
+const TEXTS: &str = "\
+    the sensors can't be used: two switches are on that exclude each other|\
+    a call was refused: notowner free|\
+    the interlock's stamp has reached its last value|\
+    out of memory|\
+    stopped in an earlier turn";
+
+#[test]
+fn faults_have_texts(rt: HostRuntime) -> Result<(), AllocError> {
+    for number in 0..5usize {
+        let printed = FAULTS[number].to_string(rt.alloc())?;
+        assert!(rt; printed.as_str() == part(TEXTS, "|", number), "{printed}");
+    }
+    Ok(())
+}
