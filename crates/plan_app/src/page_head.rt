@@ -1,4 +1,5 @@
-//! The beginning of a page, up to its data. `tools/film_page` makes this file of `page.html` and others: change those.
+//! The beginning of a page, up to its data.
+//! `tools/film_page` makes this file of `page.html` and others: change those.
 
 /// The beginning of a page, up to its data.
 pub const PLAN_HEAD: &str = r##"<!doctype html>

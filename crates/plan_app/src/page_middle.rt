@@ -1,4 +1,5 @@
-//! What stands between a page's data and its lines. `tools/film_page` makes this file of `page.html` and others: change those.
+//! What stands between a page's data and its lines.
+//! `tools/film_page` makes this file of `page.html` and others: change those.
 
 /// What stands between a page's data and its lines.
 pub const PLAN_MIDDLE: &str = r##"</script>

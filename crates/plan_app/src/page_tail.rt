@@ -1,4 +1,5 @@
-//! The end of a page, after its lines. `tools/film_page` makes this file of `page.html` and others: change those.
+//! The end of a page, after its lines.
+//! `tools/film_page` makes this file of `page.html` and others: change those.
 
 /// The end of a page, after its lines.
 pub const PLAN_TAIL: &str = r##"</script>
