@@ -90,6 +90,15 @@ def crowd(r):
     return {"machine": machines, "zone": zones, **motor_rows(r, machines, zones)}
 
 
+def is_too_wide(machines, zones):
+    """Whether the word of a plan with these rows has more than 64 bits."""
+    try:
+        plans.Plan({"machine": machines, "zone": zones})
+    except plans.Fault as why:
+        return str(why).startswith("wide: ")
+    return False
+
+
 def plan(r, small=False):
     """The rows of a plan."""
     if r.randrange(5) == 0:
@@ -101,7 +110,7 @@ def plan(r, small=False):
         row["places"] = [name(r, PLACES, places) for _ in range(r.choice((0, 1, 1, 2))) if len(places) < (4 if small else 13)]
         machines.append(row)
     taken = []
-    # (seldom a word may be too wide: zones have two bits to five)
+    # (zones that have fewer than five bits may be more)
     room = 43 if small or r.randrange(4) else 53
     for _ in range(r.choice((1, 2, 2, 3)) if small else r.choice((0, 1, 3, 6, 8, 10))):
         if count > 1 and 5 * (len(zones) + 1) + len(places) <= room:
@@ -110,6 +119,11 @@ def plan(r, small=False):
         hosted = [it["name"] for it in zones if it["host"] == row["name"]]
         own = []
         row["poses"] = [pose_row(r, hosted, own) for _ in range(r.choice((1, 2, 3, 4)) if hosted else r.randrange(2))]
+    while is_too_wide(machines, zones):
+        gone = zones.pop()["name"]
+        for pose in (pose for row in machines for pose in row["poses"]):
+            pose["gives"].pop(gone, None)
+    for row in machines:
         row["program"] = program(r, row, zones, 4 if small else 8)
     return {"machine": machines, "zone": zones, **motor_rows(r, machines, zones)}
 
