@@ -1,23 +1,23 @@
 //! Receipts between threads.
 ghost use Rattle.std.specs.Prelude.{◌≡◌};
-ghost use Rattle.std.specs.Thread.{IsSync};
 ghost use Rattle.cell_types.specs.declared.answer.Answer.TheVariants.{Done};
 ghost use Rattle.cell_rules.specs.Seen.{event};
 ghost use Rattle.cell_interlock.specs.Ends.{ArePassesOf};
 
+use super::letters::{News, two_threads};
 use super::opened;
+use super::ring::{OfTable, three_threads};
 use cell_interlock::{Interlock, Pass, Passes};
 use cell_types::{Answer, Call, Reply, Zone};
 use std::alloc::Global;
 use std::marker::Brand;
+use std::process::Abort;
 use std::sync::Wait;
 use std::thread::Threads;
-use test_callers::letters::{News, two_threads};
-use test_callers::ring::{OfTable, three_threads};
 
 /// Whether a caller in one thread hears of the other's call in another, and then gets a higher
 /// stamp.
-fn is_heard<N: News + Send + Sync, R: Threads + Wait + Sync>(
+fn is_heard<N: News + Send + Sync, R: Threads + Wait + Sync + Abort>(
     rt: &R,
     alloc: Global,
     interlock: &Interlock,
@@ -30,7 +30,7 @@ fn is_heard<N: News + Send + Sync, R: Threads + Wait + Sync>(
     requires news { N.event ≡ event first.0.machine first.1 Done }
 {
     match two_threads::<N, R>(rt, alloc, interlock, first, second) {
-        Ok((told, Some((heard, _)))) => {
+        (told, Some((heard, _))) => {
             told == Reply::Settled(Answer::Done, 1) && heard == Reply::Settled(Answer::Done, 2)
         }
         _ => false,
@@ -46,7 +46,7 @@ fn a_letter_is_heard(rt: HostRuntime) {
 }
 
 /// Whether letters go round three threads, and each caller gets higher stamps than its letters'.
-fn go_round<N: OfTable + Send + Sync, R: Threads + Wait + Sync>(
+fn go_round<N: OfTable + Send + Sync, R: Threads + Wait + Sync + Abort>(
     rt: &R,
     alloc: Global,
     interlock: &Interlock,
@@ -54,17 +54,13 @@ fn go_round<N: OfTable + Send + Sync, R: Threads + Wait + Sync>(
 ) -> bool
     requires same_interlock { ArePassesOf interlock.now passes }
     requires table { interlock.now.table ≡ N.table }
-    requires sync { IsSync R.row }
 {
     let callers = (
         (passes.table, Zone::Z1),
         (passes.press, Zone::Z3),
         (passes.feed, Zone::Z6),
     );
-    match three_threads::<N, R>(rt, alloc, interlock, callers) {
-        Ok(were_told) => were_told == [true; 3],
-        Err(_) => false,
-    }
+    three_threads::<N, R>(rt, alloc, interlock, callers) == [true; 3]
 }
 
 #[test]
