@@ -3,9 +3,10 @@
 ghost use Rattle.std.specs.Prelude.{◌≡◌};
 ghost use Rattle.cell_rules.specs.History.{after};
 ghost use Rattle.cell_interlock.specs.Calls.{IsStampedAfter, stamp_in};
+ghost use Rattle.cell_interlock.specs.Ends.{ArePassesOf};
 ghost use Rattle.cell_interlock.specs.Seen.{IsSamePass};
 
-use cell_interlock::{Interlock, Pass, Receipt};
+use cell_interlock::{Interlock, Pass, Passes, Receipt};
 use cell_types::{Answer, Call, Reply, Zone};
 use crossbeam_channel::{Receiver, Sender, unbounded};
 use std::alloc::Global;
@@ -166,17 +167,18 @@ struct Member<N: OfTable> {
 
 fn member_of<N: OfTable>(
     interlock: &Interlock,
-    caller: (Pass, Zone),
+    pass: Pass,
+    zone: Zone,
     from: Receiver<StampedLetter<N>>,
     to: Sender<StampedLetter<N>>,
 ) -> Member<N>
-    requires same_interlock { caller.0.table ≡ interlock.now.table }
+    requires same_interlock { pass.table ≡ interlock.now.table }
     requires table { interlock.now.table ≡ N.table }
 {
     let _ = interlock;
     Member {
-        pass: caller.0,
-        zone: caller.1,
+        pass,
+        zone,
         from,
         to,
         are_done: false,
@@ -203,19 +205,18 @@ pub fn three_threads<N: OfTable + Send + Sync, R: Threads + Wait + Sync + Abort>
     rt: &R,
     alloc: Global,
     interlock: &Interlock,
-    callers: ((Pass, Zone), (Pass, Zone), (Pass, Zone)),
+    passes: Passes,
 ) -> [bool; 3]
-    requires same_interlock { (callers.0.0.table ≡ interlock.now.table)
-        × (callers.1.0.table ≡ interlock.now.table) × (callers.2.0.table ≡ interlock.now.table) }
+    requires same_interlock { ArePassesOf interlock.now passes }
     requires table { interlock.now.table ≡ N.table }
 {
     let (to_first, from_third) = unbounded::<StampedLetter<N>, Global>(alloc).expect(rt, "memory");
     let (to_second, from_first) = unbounded::<StampedLetter<N>, Global>(alloc).expect(rt, "memory");
     let (to_third, from_second) = unbounded::<StampedLetter<N>, Global>(alloc).expect(rt, "memory");
     let mut members = [
-        member_of(interlock, callers.0, from_third, to_second),
-        member_of(interlock, callers.1, from_first, to_third),
-        member_of(interlock, callers.2, from_second, to_first),
+        member_of(interlock, passes.table, Zone::Z1, from_third, to_second),
+        member_of(interlock, passes.press, Zone::Z3, from_first, to_third),
+        member_of(interlock, passes.feed, Zone::Z6, from_second, to_first),
     ];
     for_each_mut(
         rt,

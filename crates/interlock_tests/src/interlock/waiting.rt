@@ -79,6 +79,10 @@ fn are_met(interlock: &Interlock, mut press: Pass, robot: Pass) -> bool
 fn callers_do_not_wait(rt: HostRuntime) {
     let (interlock, passes) = opened(&rt, rt.alloc(), 1);
     assert!(rt; are_answered(interlock, passes));
+}
+
+#[test]
+fn callers_who_meet_do_not_wait(rt: HostRuntime) {
     let (interlock, passes) = opened(&rt, rt.alloc(), 1);
     assert!(rt; are_met(&interlock, passes.press, passes.robot));
 }
