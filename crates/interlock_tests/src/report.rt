@@ -21,6 +21,11 @@ fn is_answered(alloc: Global, script: &[u8], text: &str, outcome: Outcome) -> bo
     got == Ok(outcome) && written.as_slice() == text.as_bytes()
 }
 
+/// How many lines a text has.
+fn count_lines(text: &[u8]) -> usize {
+    text.iter().filter(|byte| **byte == b'\n').count()
+}
+
 /// The start with these places and this stamp.
 fn start_at(rt: &impl Abort, places: [bool; 10], stamp: u32) -> State {
     State::start(places, stamp).expect(rt, "a start")

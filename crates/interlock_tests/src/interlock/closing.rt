@@ -1,10 +1,10 @@
 //! Interlocks that are closed, and the states that they leave.
 
+use super::callers::{Step, StepOutcome};
 use super::played::{Taken, state_left};
 use super::steps::{ABANDONED, OVERTAKEN, PRESS_CLAIMS};
 use cell_rules::{Places, State, ZoneState, Zones};
 use cell_types::{Answer, Call, Machine, Posture, Zone};
-use test_callers::callers::{Step, StepOutcome};
 
 pub(super) type Owned = (Zone, Machine);
 
@@ -48,8 +48,8 @@ const ROWS: &[(&str, u8, &[Taken], u32, &[Owned], bool)] = &[
 #[test]
 fn interlocks_close(rt: HostRuntime) {
     for (shown, tries, steps, stamp, owned, stopped) in ROWS {
-        let left = state_of(*stamp, owned, *stopped);
-        let is_right = left.is_some() && state_left(rt.alloc(), 0, *tries, steps) == left;
-        assert!(rt; is_right, "{shown}");
+        let (left, are_taken) = state_left(&rt, rt.alloc(), 0, *tries, steps);
+        let is_right = Some(left) == state_of(*stamp, owned, *stopped);
+        assert!(rt; are_taken && is_right, "{shown}");
     }
 }

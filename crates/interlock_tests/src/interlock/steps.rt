@@ -1,8 +1,8 @@
 //! Steps that overlap as each row says, and their outcomes.
 
-use super::played::{Taken, is_played};
+use super::callers::{Step, StepOutcome};
+use super::played::{Taken, state_left};
 use cell_types::{Answer, Call, Machine, Pose, Posture, Refusal, Zone};
-use test_callers::callers::{Step, StepOutcome};
 
 const CLAIM_1: Call = Call::Claim(Zone::Z1);
 
@@ -225,6 +225,7 @@ const ROWS: &[(&str, u8, u32, &[Taken])] = &[
 #[test]
 fn steps_overlap(rt: HostRuntime) {
     for (shown, tries, first, steps) in ROWS {
-        assert!(rt; is_played(rt.alloc(), *first, *tries, steps), "{shown}");
+        let (_, are_taken) = state_left(&rt, rt.alloc(), *first, *tries, steps);
+        assert!(rt; are_taken, "{shown}");
     }
 }

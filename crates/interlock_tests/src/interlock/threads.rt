@@ -1,7 +1,6 @@
 //! Threads that share one interlock, each with its own line. The audit has to accept the journals
 //! of their lines: there is one legal history with exactly these calls, answers and stamps.
 ghost use Rattle.std.specs.Prelude.{◌<◌};
-ghost use Rattle.std.specs.Thread.{IsSync};
 ghost use Rattle.cell_interlock.specs.Fresh.{AreFresh};
 
 use cell_interlock::{Interlock, PassLine, Passes};
@@ -9,7 +8,8 @@ use cell_report::audit;
 use cell_rules::{Line, State};
 use cell_types::{Answer, Call, Entry, Event, Journals, Machine, Pose, Zone};
 use std::alloc::Global;
-use std::thread::{Threads, join};
+use std::process::Abort;
+use std::thread::{Threads, for_each_mut};
 
 /// Numbers that look random, from a seed.
 #[derive(Drop)]
@@ -59,57 +59,35 @@ struct Load {
     tries: u8,
 }
 
-/// Makes calls that look random, and returns their journal.
-fn work(mut line: PassLine<'_>, load: Load) -> Vec<Entry> {
+/// Makes calls that look random.
+fn work(line: &mut PassLine<'_>, load: Load) {
     let machine = line.machine();
     let zones = zones_of(machine);
     let mut numbers = Numbers(machine as u32);
     for _ in 0..load.calls {
         let _ = line.ask(numbers.call(zones));
     }
-    let (_, journal) = line.into_parts();
-    journal
 }
 
 /// The watch inquires about every zone.
-fn inquire(mut watch: PassLine<'_>) -> Vec<Entry> {
+fn inquire(watch: &mut PassLine<'_>) {
     for zone in Zone::ALL {
         let _ = watch.ask(Call::Inquire(zone));
     }
-    let (_, journal) = watch.into_parts();
-    journal
 }
 
-/// Two machines at once.
-fn two<'a, R: Threads + Sync>(
-    rt: &R,
-    one: PassLine<'a>,
-    other: PassLine<'a>,
-    load: Load,
-) -> (Vec<Entry>, Vec<Entry>) {
-    join(rt, move || work(one, load), move || work(other, load))
-}
-
-/// Four machines at once.
-fn four<'a, R: Threads + Sync>(
-    rt: &R,
-    feeders: (PassLine<'a>, PassLine<'a>),
-    workers: (PassLine<'a>, PassLine<'a>),
-    load: Load,
-) -> ((Vec<Entry>, Vec<Entry>), (Vec<Entry>, Vec<Entry>))
-    requires { IsSync R.row }
-{
-    let (feed, table) = feeders;
-    let (robot, press) = workers;
-    join(
-        rt,
-        move ||
-            requires { IsSync R.row }
-        { two(rt, feed, table, load) },
-        move ||
-            requires { IsSync R.row }
-        { two(rt, robot, press, load) },
-    )
+/// Keeps the journal of a line as its machine's.
+fn keep(journals: &mut Journals, line: PassLine<'_>) {
+    let (pass, journal) = line.into_parts();
+    match pass.machine() {
+        Machine::Feed => journals.feed = journal,
+        Machine::Table => journals.table = journal,
+        Machine::Robot => journals.robot = journal,
+        Machine::Press => journals.press = journal,
+        Machine::Deposit => journals.deposit = journal,
+        Machine::Crane => journals.crane = journal,
+        Machine::Watch => journals.watch = journal,
+    }
 }
 
 /// Six machines at once, and then the watch.
@@ -122,49 +100,47 @@ fn seven<R: Threads + Sync>(
 ) -> Journals
     requires { AreFresh interlock.now passes }
 {
-    let feed = PassLine::new(alloc, interlock, passes.feed);
-    let table = PassLine::new(alloc, interlock, passes.table);
-    let robot = PassLine::new(alloc, interlock, passes.robot);
-    let press = PassLine::new(alloc, interlock, passes.press);
-    let deposit = PassLine::new(alloc, interlock, passes.deposit);
-    let crane = PassLine::new(alloc, interlock, passes.crane);
-    let watch = PassLine::new(alloc, interlock, passes.watch);
-    let (belts, (feeders, workers)) = join(
-        rt,
-        move ||
-            requires { IsSync R.row }
-        { two(rt, deposit, crane, load) },
-        move ||
-            requires { IsSync R.row }
-        { four(rt, (feed, table), (robot, press), load) },
-    );
-    Journals {
-        feed: feeders.0,
-        table: feeders.1,
-        robot: workers.0,
-        press: workers.1,
-        deposit: belts.0,
-        crane: belts.1,
-        watch: inquire(watch),
+    let mut lines = [
+        PassLine::new(alloc, interlock, passes.feed),
+        PassLine::new(alloc, interlock, passes.table),
+        PassLine::new(alloc, interlock, passes.robot),
+        PassLine::new(alloc, interlock, passes.press),
+        PassLine::new(alloc, interlock, passes.deposit),
+        PassLine::new(alloc, interlock, passes.crane),
+    ];
+    for_each_mut(rt, &mut lines, 6, &|_, line| work(line, load));
+    let mut watch = PassLine::new(alloc, interlock, passes.watch);
+    inquire(&mut watch);
+    let mut journals = Journals::new(alloc);
+    for line in lines {
+        keep(&mut journals, line);
     }
+    keep(&mut journals, watch);
+    journals
 }
 
 /// Whether many calls were done: journals with only refusals would be accepted, too.
 fn many_are_done(events: &[Event]) -> bool {
-    let done = events.iter().filter(|event| event.answer == Answer::Done);
-    done.count() >= 1000
+    let mut done = 0u32;
+    for event in events {
+        if event.answer == Answer::Done {
+            done = done.saturating_add(1);
+        }
+    }
+    done >= 1000
 }
 
 /// Whether the audit accepts what six threads have noted.
-fn is_accepted<R: Threads + Sync>(rt: &R, alloc: Global, opening: State, load: Load) -> bool {
-    match Interlock::new(alloc, opening, load.tries) {
-        Ok((interlock, passes)) => {
-            let journals = seven(rt, &interlock, passes, alloc, load);
-            match audit(alloc, &journals, &opening, None) {
-                Ok(events) => many_are_done(&events),
-                Err(_) => false,
-            }
-        }
+fn is_accepted<R: Threads + Sync + Abort>(
+    rt: &R,
+    alloc: Global,
+    opening: State,
+    load: Load,
+) -> bool {
+    let (interlock, passes) = Interlock::new(alloc, opening, load.tries).expect(rt, "an interlock");
+    let journals = seven(rt, &interlock, passes, alloc, load);
+    match audit(alloc, &journals, &opening, None) {
+        Ok(events) => many_are_done(&events),
         Err(_) => false,
     }
 }

@@ -1,11 +1,12 @@
 //! Each call of the interlock, by callers who may not wait. No handle is among their parameters and bounds: if a call
 //! were given leave to wait, as for a lock, they wouldn't compile.
-ghost use Rattle.std.specs.Prelude.{◌≡◌};
-ghost use Rattle.cell_interlock.specs.Ends.{ArePassesOf};
+ghost use Rattle.cell_interlock.specs.Ends.{ArePassesOf, IsPassOf};
+ghost use Rattle.cell_types.specs.declared.machine.Machine.TheVariants.{Press, Robot};
 
+use super::callers::{StepOutcome, own_in, pass_in};
 use super::closing::{Owned, PRESS_3, state_of};
 use super::opened;
-use cell_interlock::{Interlock, Look, Pass, Passes, Tried};
+use cell_interlock::{Interlock, Pass, Passes};
 use cell_types::{Answer, Call, Machine, Posture, Refusal, Reply, Zone};
 
 const PRESS_HAS_IT: Answer = Answer::Refused(Refusal::Held(Machine::Press));
@@ -54,37 +55,34 @@ fn are_answered(interlock: Interlock, mut passes: Passes) -> bool
         && state_of(3, THREE_ZONES, false) == Some(ended.state)
 }
 
-/// Whether calls in steps are answered so: the press claims z3, the robot hears of it and is refused, they meet, and
-/// the press gives up a call.
-fn are_answered_in_steps(interlock: &Interlock, press: Pass, robot: Pass) -> bool
-    requires { (press.table ≡ interlock.now.table) × (robot.table ≡ interlock.now.table) }
+/// Whether the robot, which hears of the press's claim, is refused at a look, and then they meet. The other steps of a
+/// call are taken in `callers.rt`.
+fn are_met(interlock: &Interlock, mut press: Pass, robot: Pass) -> bool
+    requires { IsPassOf interlock.now Press press × IsPassOf interlock.now Robot robot }
 {
-    let Look::Pending(claim) = interlock.look(press, Call::Claim(Zone::Z3)) else {
-        return false;
-    };
-    let Tried::Settled(won, _, mut press) = interlock.attempt(claim) else {
-        return false;
-    };
+    let claim = Call::Claim(Zone::Z3);
+    let asked = interlock.ask(&mut press, claim);
     let receipt = interlock.receipt(&mut press);
-    let looked = interlock.look_after(robot, Call::Claim(Zone::Z3), receipt);
-    let Look::Settled(refused, stamp, robot) = looked else {
-        return false;
-    };
-    let (press, _robot) = interlock.meet(press, robot);
-    let Look::Pending(release) = interlock.look(press, Call::Release(Zone::Z3)) else {
-        return false;
-    };
-    let mut press = release.abandon();
-    won == Answer::Done
-        && refused == PRESS_HAS_IT
-        && stamp == 1
-        && Some(interlock.survey(&mut press)) == state_of(1, PRESS_3, false)
+    let (own, looked) = own_in(
+        interlock,
+        Machine::Robot,
+        interlock.look_after(robot, claim, receipt),
+    );
+    let robot = pass_in(interlock, Machine::Robot, Some(own));
+    let (mut press, _robot) = interlock.meet(press, robot);
+    asked == Reply::Settled(Answer::Done, 1)
+        && looked == StepOutcome::Settled(PRESS_HAS_IT, 1)
+        && state_of(1, PRESS_3, false) == Some(interlock.survey(&mut press))
 }
 
 #[test]
 fn callers_do_not_wait(rt: HostRuntime) {
     let (interlock, passes) = opened(&rt, rt.alloc(), 1);
     assert!(rt; are_answered(interlock, passes));
+}
+
+#[test]
+fn callers_who_meet_do_not_wait(rt: HostRuntime) {
     let (interlock, passes) = opened(&rt, rt.alloc(), 1);
-    assert!(rt; are_answered_in_steps(&interlock, passes.press, passes.robot));
+    assert!(rt; are_met(&interlock, passes.press, passes.robot));
 }

@@ -1,5 +1,6 @@
 //! An endless reader, and a reader and a writer that count lines.
 
+use super::count_lines;
 use std::alloc::Global;
 use std::cell::Cell;
 use std::io;
@@ -87,8 +88,7 @@ impl<'a> FlushedLines<'a> {
 
 impl Write for FlushedLines<'_> {
     fn write(&mut self, buf: &[u8]) -> io::Result<usize> {
-        let count = buf.iter().filter(|byte| **byte == b'\n').count();
-        self.waiting = self.waiting.saturating_add(count);
+        self.waiting = self.waiting.saturating_add(count_lines(buf));
         Ok(buf.len())
     }
 

@@ -1,6 +1,7 @@
 //! Readers and writers that are interrupted or fail, and refused memory.
 
-use crate::report::doubles::EndlessReader;
+use super::count_lines;
+use super::doubles::EndlessReader;
 use cell_replay::{Outcome, ReplayFault, ScriptFault, replay};
 use std::alloc::Global;
 use std::io::Read;
@@ -15,10 +16,6 @@ const TEXT: &str =
 /// Whether a text is some first lines of `TEXT`.
 fn is_whole_lines(written: &[u8]) -> bool {
     TEXT.as_bytes().starts_with(written) && (written.is_empty() || written.ends_with(b"\n"))
-}
-
-fn count_lines(text: &[u8]) -> usize {
-    text.iter().filter(|byte| **byte == b'\n').count()
 }
 
 /// Whether the replay fails to read if the reader, which gives at most `at_once` bytes at a time,
@@ -72,28 +69,40 @@ fn goes_on(alloc: Global, times: u32) -> bool {
 }
 
 // A reader gives a byte, seven or all at a time.
+const AT_ONCE: &[usize] = &[1, 7, usize::MAX];
+
 #[test]
 fn fails_with_its_reader(rt: HostRuntime) {
-    for left in 0..SCRIPT.len().saturating_add(1) {
-        let has_failed = fails_to_read(rt.alloc(), left, 1)
-            && fails_to_read(rt.alloc(), left, 7)
-            && fails_to_read(rt.alloc(), left, usize::MAX);
-        assert!(rt; has_failed, "{left}");
+    for at_once in AT_ONCE {
+        for left in 0..SCRIPT.len().saturating_add(1) {
+            assert!(rt; fails_to_read(rt.alloc(), left, *at_once), "{left}");
+        }
     }
 }
 
-// A failure is reported; an interruption isn't a failure.
+/// Whether a writer that fails after these bytes is reported, however it fails.
+fn is_reported(alloc: Global, room: usize) -> bool {
+    let failed = Err(ReplayFault::Write);
+    is_written(alloc, room, Failure::Write, failed)
+        && is_written(alloc, room, Failure::Full, failed)
+}
+
 #[test]
 fn fails_with_its_writer(rt: HostRuntime) {
-    let failed = Err(ReplayFault::Write);
     for room in 0..TEXT.len() {
-        let is_told = is_written(rt.alloc(), room, Failure::Write, failed)
-            && is_written(rt.alloc(), room, Failure::Full, failed);
-        assert!(rt; is_told, "{room}");
+        assert!(rt; is_reported(rt.alloc(), room), "{room}");
     }
     assert!(rt; is_written(rt.alloc(), usize::MAX, Failure::Write, Ok(Outcome::Clean)));
-    let are_known = goes_on(rt.alloc(), 0) && goes_on(rt.alloc(), 1);
-    assert!(rt; are_known && goes_on(rt.alloc(), 1_000) && goes_on(rt.alloc(), 100_000));
+}
+
+const TIMES: &[u32] = &[0, 1, 1_000, 100_000];
+
+// An interruption isn't a failure.
+#[test]
+fn goes_on_after_interruptions(rt: HostRuntime) {
+    for times in TIMES {
+        assert!(rt; goes_on(rt.alloc(), *times), "{times}");
+    }
 }
 
 // The writer is flushed when no further line is at hand: of a script that is read at once, when all

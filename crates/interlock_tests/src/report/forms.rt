@@ -2,6 +2,7 @@
 
 use cell_replay::replay;
 use std::alloc::Global;
+use std::process::Abort;
 use test_doubles::{bytes_in, count_parts, part};
 
 /// Record 0 and a claim of the press's zone, with other line ends, quotes and a byte order mark.
@@ -171,13 +172,18 @@ fn is_told(alloc: Global, script: &[u8], text: &str) -> bool {
     got.is_ok() && written.as_slice() == text.as_bytes()
 }
 
+/// Each of these scripts is answered with this text.
+fn expect_told(rt: &impl Abort, alloc: Global, scripts: &str, text: &str) {
+    for number in 0..count_parts(scripts, "|") {
+        let script = part(scripts, "|", number);
+        assert!(rt; is_told(alloc, script.as_bytes(), text), "{script}");
+    }
+}
+
 #[test]
 fn reads_records(rt: HostRuntime) {
     for (scripts, text) in GROUPS {
-        for number in 0..count_parts(scripts, "|") {
-            let script = part(scripts, "|", number);
-            assert!(rt; is_told(rt.alloc(), script.as_bytes(), text), "{script}");
-        }
+        expect_told(&rt, rt.alloc(), scripts, text);
     }
 }
 

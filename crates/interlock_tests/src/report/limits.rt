@@ -1,6 +1,7 @@
 //! Scripts of the most records and bytes, or of more. What the answer to a cut script is, the clauses of `replay` say,
 //! with figures in the law `scripts_are_met`.
 
+use super::count_lines;
 use cell_replay::{Outcome, ReplayFault, ScriptFault, replay};
 use std::alloc::Global;
 use std::process::Abort;
@@ -30,22 +31,19 @@ fn inquiries(rt: &impl Abort, alloc: Global, count: u32, last: &str) -> String {
     script
 }
 
-/// The text for 65,536 inquiries and a last record, if the script has this outcome.
-fn text_after(rt: &impl Abort, alloc: Global, last: &str, outcome: Outcome) -> Option<Vec<u8>> {
+/// The text for 65,536 inquiries and a last record. Which outcome it has, the clauses of `replay` say.
+fn text_after(rt: &impl Abort, alloc: Global, last: &str) -> Vec<u8> {
     let script = inquiries(rt, alloc, 65_536, last);
     let mut written = Vec::new(alloc);
-    if replay(alloc, &mut script.as_bytes(), &mut written) == Ok(outcome) {
-        Some(written)
-    } else {
-        None
-    }
+    let _ = replay(alloc, &mut script.as_bytes(), &mut written).expect(rt, "an answer");
+    written
 }
 
-/// Whether the text has 65,537 lines, with these first and last ones.
-fn has_most_lines(text: &[u8], first: &str, last: &str) -> bool {
-    text.starts_with(first.as_bytes())
-        && text.ends_with(last.as_bytes())
-        && text.iter().filter(|byte| **byte == b'\n').count() == 65_537
+/// Whether the text has 65,537 lines, with the right first and last ones.
+fn has_most_lines(text: &[u8]) -> bool {
+    let first = b"0 0 start 0\n1 0 zone free 0 closed\n2 0 zone free 0 closed\n".as_slice();
+    let last = b"\n65536 0 zone free 0 closed\n".as_slice();
+    text.starts_with(first) && text.ends_with(last) && count_lines(text) == 65_537
 }
 
 /// Whether the largest script has this text, if it is read and written a byte at a time, with
@@ -69,15 +67,13 @@ const TOO_MANY: &[&str] = &["watch,inquire,z1\n", "nothing\n"];
 #[test]
 fn answers_most_records(rt: HostRuntime) {
     let alloc = rt.alloc();
-    let mut text = text_after(&rt, alloc, "", Outcome::Clean).expect(&rt, "a clean script");
-    let first = "0 0 start 0\n1 0 zone free 0 closed\n2 0 zone free 0 closed\n";
-    let last = "\n65536 0 zone free 0 closed\n";
-    assert!(rt; has_most_lines(text.as_slice(), first, last));
+    let mut text = text_after(&rt, alloc, "");
+    assert!(rt; has_most_lines(text.as_slice()));
     assert!(rt; is_told_bytewise(&rt, alloc, text.as_slice()));
     text.extend_from_slice("fault long\n".as_bytes())
         .expect(&rt, "memory");
     for last in TOO_MANY {
-        let long = text_after(&rt, alloc, last, LONG).expect(&rt, "a long script");
+        let long = text_after(&rt, alloc, last);
         assert!(rt; long.as_slice() == text.as_slice(), "{last}");
     }
 }

@@ -111,21 +111,26 @@ const ROWS: &[(usize, usize, Failure, Result<(), WriteFault>)] = &[
     (usize::MAX, 100, Failure::Flush, FAILED),
 ];
 
-// A failure is reported; an interruption isn't a failure.
+#[test]
+fn longest_reports_are_written(rt: HostRuntime) {
+    let run = largest(&rt, rt.alloc());
+    for (room, at_once, failure, wanted) in ROWS {
+        let is_right = is_written(rt.alloc(), &run, *room, *at_once, *failure, *wanted);
+        assert!(rt; is_right, "{room}");
+    }
+}
+
+/// Whether a writer that fails after these bytes is reported, however it fails.
+fn is_reported(alloc: Global, run: &RunRecord, room: usize) -> bool {
+    is_written(alloc, run, room, 100, Failure::Write, FAILED)
+        && is_written(alloc, run, room, 100, Failure::Full, FAILED)
+}
+
 #[test]
 fn fails_with_its_writer(rt: HostRuntime) {
-    let alloc = rt.alloc();
-    let run = largest(&rt, alloc);
+    let run = largest(&rt, rt.alloc());
     assert!(rt; LARGEST.len() == 1_457);
-    for (room, at_once, failure, wanted) in ROWS {
-        assert!(rt;
-            is_written(alloc, &run, *room, *at_once, *failure, *wanted),
-            "{room}"
-        );
-    }
-    for room in 0..LARGEST.len() {
-        let is_told = is_written(alloc, &run, room, 100, Failure::Write, FAILED)
-            && is_written(alloc, &run, room, 100, Failure::Full, FAILED);
-        assert!(rt; is_told, "{room}");
+    for room in 0..1_457 {
+        assert!(rt; is_reported(rt.alloc(), &run, room), "{room}");
     }
 }

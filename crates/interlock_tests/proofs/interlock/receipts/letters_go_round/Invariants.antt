@@ -1,4 +1,4 @@
 use Rattle.interlock_tests.proofs.interlock.receipts.letters_go_round.Given as goal
 
-abbrev pub ghosts-go_round : goal.ghosts-go_round
-ghosts-go_round g a = record { table = a.interlock.now.table }
+abbrev pub ghosts-three_threads : goal.ghosts-three_threads
+ghosts-three_threads g a = record { table = a.interlock.now.table }

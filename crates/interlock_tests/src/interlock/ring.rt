@@ -1,18 +1,19 @@
 //! Letters that go round three threads. A letter is a receipt with the stamp that its sender got
 //! last. Each caller answers a letter by a call, and sends the next caller another letter.
 ghost use Rattle.std.specs.Prelude.{◌≡◌};
-ghost use Rattle.std.specs.Thread.{IsSync};
 ghost use Rattle.cell_rules.specs.History.{after};
 ghost use Rattle.cell_interlock.specs.Calls.{IsStampedAfter, stamp_in};
+ghost use Rattle.cell_interlock.specs.Ends.{ArePassesOf};
 ghost use Rattle.cell_interlock.specs.Seen.{IsSamePass};
 
-use cell_interlock::{Interlock, Pass, Receipt};
+use cell_interlock::{Interlock, Pass, Passes, Receipt};
 use cell_types::{Answer, Call, Reply, Zone};
 use crossbeam_channel::{Receiver, Sender, unbounded};
-use std::alloc::{AllocError, Global};
+use std::alloc::Global;
 use std::marker::{Brand, Model, PhantomData};
+use std::process::Abort;
 use std::sync::Wait;
-use std::thread::{Threads, join};
+use std::thread::{Threads, for_each_mut};
 
 /// How many letters each caller answers.
 const ROUNDS: u32 = 50;
@@ -49,7 +50,7 @@ pub struct StampedLetter<N: OfTable> {
 
 impl<N: OfTable> Model for StampedLetter<N> {
     ghost use Rattle.std.specs.Prelude.{◌≡◌};
-    ghost use Rattle.test_callers.specs.Letters.{StampedView, HasItsStamp};
+    ghost use Rattle.interlock_tests.specs.Letters.{StampedView, HasItsStamp};
 
     ghost Value = { StampedView };
 
@@ -109,85 +110,125 @@ fn send_letter<N: OfTable, R: Wait>(
         stamp,
         table: PhantomData,
     };
-    // (a caller that has answered all its letters reads no more)
+    // (it is sent, since each caller keeps its receiver until all have gone round)
     let _ = to.send(rt, letter);
 }
 
-/// Writes a first letter, and then answers each letter that comes by a claim or a release of its
-/// zone. Says whether each of these calls was Done, with a higher stamp than its letter's.
+/// The call by which a caller answers a letter: a claim or a release of its zone, in turn.
+fn answer_in(round: u32, zone: Zone) -> Call {
+    if round % 2 == 0 {
+        Call::Claim(zone)
+    } else {
+        Call::Release(zone)
+    }
+}
+
+/// Writes a first letter, and then answers each letter that comes. Says whether each of these calls
+/// was Done, with a higher stamp than its letter's.
 fn go_round<N: OfTable, R: Wait>(
     rt: &R,
     interlock: &Interlock,
-    own: (Pass, Zone),
-    from: Receiver<StampedLetter<N>>,
-    to: Sender<StampedLetter<N>>,
+    pass: &mut Pass,
+    zone: Zone,
+    from: &Receiver<StampedLetter<N>>,
+    to: &Sender<StampedLetter<N>>,
 ) -> bool
-    requires same_interlock { own.0.table ≡ interlock.now.table }
+    requires same_interlock { pass.old.table ≡ interlock.now.table }
     requires table { interlock.now.table ≡ N.table }
+    ensures pass { pass.new.table ≡ interlock.now.table }
 {
-    let (mut pass, zone) = own;
-    let opened = interlock.ask(&mut pass, Call::Inquire(zone));
-    send_letter(rt, interlock, &mut pass, stamp_of(opened), &to);
+    let opened = interlock.ask(pass, Call::Inquire(zone));
+    send_letter(rt, interlock, pass, stamp_of(opened), to);
+    let mut are_done = true;
     for round in 0..ROUNDS {
         let Ok(letter) = from.recv(rt) else {
             return false;
         };
         let told = letter.stamp;
-        let call = if round % 2 == 0 {
-            Call::Claim(zone)
-        } else {
-            Call::Release(zone)
-        };
-        let reply = answer_letter(interlock, &mut pass, letter, call);
+        let reply = answer_letter(interlock, pass, letter, answer_in(round, zone));
         let stamp = stamp_of(reply);
-        if reply != Reply::Settled(Answer::Done, stamp) || stamp <= told {
-            return false;
-        }
-        send_letter(rt, interlock, &mut pass, stamp, &to);
+        are_done = are_done && reply == Reply::Settled(Answer::Done, stamp) && stamp > told;
+        send_letter(rt, interlock, pass, stamp, to);
     }
-    true
+    are_done
+}
+
+/// A caller of the ring, with the channels from the caller before it and to the one after it.
+#[derive(Drop)]
+struct Member<N: OfTable> {
+    pass: Pass,
+    zone: Zone,
+    from: Receiver<StampedLetter<N>>,
+    to: Sender<StampedLetter<N>>,
+    // Whether its calls were Done, with a higher stamp than their letters'.
+    are_done: bool,
+    ghost own: { pass.table ≡ N.table },
+}
+
+fn member_of<N: OfTable>(
+    interlock: &Interlock,
+    pass: Pass,
+    zone: Zone,
+    from: Receiver<StampedLetter<N>>,
+    to: Sender<StampedLetter<N>>,
+) -> Member<N>
+    requires same_interlock { pass.table ≡ interlock.now.table }
+    requires table { interlock.now.table ≡ N.table }
+{
+    let _ = interlock;
+    Member {
+        pass,
+        zone,
+        from,
+        to,
+        are_done: false,
+    }
+}
+
+/// A member goes round with the others.
+fn join_ring<N: OfTable, R: Wait>(rt: &R, interlock: &Interlock, member: &mut Member<N>)
+    requires table { interlock.now.table ≡ N.table }
+{
+    let Member {
+        pass,
+        zone,
+        from,
+        to,
+        are_done,
+    } = member;
+    *are_done = go_round(rt, interlock, pass, *zone, from, to);
 }
 
 /// Three callers in three threads, each with a zone of its own, send letters round. Says of each
 /// whether all its calls were Done, with a higher stamp than their letters'.
-///
-/// Errors: no memory for a channel.
-pub fn three_threads<N: OfTable + Send + Sync, R: Threads + Wait + Sync>(
+pub fn three_threads<N: OfTable + Send + Sync, R: Threads + Wait + Sync + Abort>(
     rt: &R,
     alloc: Global,
     interlock: &Interlock,
-    callers: ((Pass, Zone), (Pass, Zone), (Pass, Zone)),
-) -> Result<[bool; 3], AllocError>
-    requires same_interlock { (callers.0.0.table ≡ interlock.now.table)
-        × (callers.1.0.table ≡ interlock.now.table) × (callers.2.0.table ≡ interlock.now.table) }
+    passes: Passes,
+) -> [bool; 3]
+    requires same_interlock { ArePassesOf interlock.now passes }
     requires table { interlock.now.table ≡ N.table }
-    requires sync { IsSync R.row }
 {
-    let (first, second, third) = callers;
-    let (to_first, from_third) = unbounded::<StampedLetter<N>, Global>(alloc)?;
-    let (to_second, from_first) = unbounded::<StampedLetter<N>, Global>(alloc)?;
-    let (to_third, from_second) = unbounded::<StampedLetter<N>, Global>(alloc)?;
-    let ((one, two), three) = join(
+    let (to_first, from_third) = unbounded::<StampedLetter<N>, Global>(alloc).expect(rt, "memory");
+    let (to_second, from_first) = unbounded::<StampedLetter<N>, Global>(alloc).expect(rt, "memory");
+    let (to_third, from_second) = unbounded::<StampedLetter<N>, Global>(alloc).expect(rt, "memory");
+    let mut members = [
+        member_of(interlock, passes.table, Zone::Z1, from_third, to_second),
+        member_of(interlock, passes.press, Zone::Z3, from_first, to_third),
+        member_of(interlock, passes.feed, Zone::Z6, from_second, to_first),
+    ];
+    for_each_mut(
         rt,
-        move || -> (bool, bool)
-            requires { IsSync R.row × (first.0.table ≡ interlock.now.table)
-                × (second.0.table ≡ interlock.now.table) × (interlock.now.table ≡ N.table) }
-        {
-            join(
-                rt,
-                move || -> bool
-                    requires { (first.0.table ≡ interlock.now.table)
-                        × (interlock.now.table ≡ N.table) }
-                { go_round(rt, interlock, first, from_third, to_second) },
-                move || -> bool
-                    requires { (second.0.table ≡ interlock.now.table)
-                        × (interlock.now.table ≡ N.table) }
-                { go_round(rt, interlock, second, from_first, to_third) },
-            )
-        },
-        move || -> bool
-            requires { (third.0.table ≡ interlock.now.table) × (interlock.now.table ≡ N.table) }
-        { go_round(rt, interlock, third, from_second, to_first) },
+        &mut members,
+        3,
+        &|_: usize, member: &mut Member<N>|
+            requires { interlock.now.table ≡ N.table }
+        { join_ring(rt, interlock, member) },
     );
-    Ok([one, two, three])
+    [
+        members[0].are_done,
+        members[1].are_done,
+        members[2].are_done,
+    ]
 }

@@ -6,7 +6,7 @@ use Rattle.cell_interlock.specs.Views.{PassView, ReceiptView}
 use Rattle.cell_interlock.specs.Calls.{IfSettled, IsStampedAfter, stamp_in}
 use Rattle.cell_interlock.specs.Seen.{HasSeenMore}
 use Rattle.cell_interlock.proofs.lemmas.Order.{stamp_seen, stamped_after}
-use Rattle.test_callers.specs.Letters.{HasEvent, ComesLater, HasItsStamp}
+use Rattle.interlock_tests.specs.Letters.{HasEvent, ComesLater, HasItsStamp}
 
 still_has : (e : Event) (h k : List Event) → BeginsWith k h → HasEvent h e → HasEvent k e
 still_has e h k b f = record { before = f.before; later = f.later ++ b.0; is = b.1 ∙ (ap (λ (l : List Event). l ++ b.0) f.is ∙ append_assoc f.before (e ∷ f.later) b.0) }

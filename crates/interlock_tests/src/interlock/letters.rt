@@ -1,15 +1,16 @@
 //! Letters between callers in different threads: a receipt of one event, sent through a channel.
-ghost use Rattle.std.specs.Prelude.{◌≡◌, IfOk, IfSome};
+ghost use Rattle.std.specs.Prelude.{◌≡◌, IfSome};
 ghost use Rattle.cell_types.specs.declared.answer.Answer.TheVariants.{Done};
 ghost use Rattle.cell_rules.specs.Seen.{event};
 ghost use Rattle.cell_interlock.specs.Calls.{IfSettled};
-ghost use Rattle.test_callers.specs.Letters.{ComesLater};
+ghost use Rattle.interlock_tests.specs.Letters.{ComesLater};
 
 use cell_interlock::{Interlock, Pass, Receipt};
 use cell_types::{Answer, Call, Reply};
 use crossbeam_channel::{Receiver, Sender, unbounded};
-use std::alloc::{AllocError, Global};
+use std::alloc::Global;
 use std::marker::{Brand, Model, PhantomData};
+use std::process::Abort;
 use std::sync::Wait;
 use std::thread::{Threads, join};
 
@@ -53,7 +54,7 @@ pub struct Letter<N: News> {
 impl<N: News> Model for Letter<N> {
     ghost use Rattle.std.specs.Prelude.{◌≡◌};
     ghost use Rattle.cell_interlock.specs.Views.{ReceiptView};
-    ghost use Rattle.test_callers.specs.Letters.{HasEvent};
+    ghost use Rattle.interlock_tests.specs.Letters.{HasEvent};
 
     ghost Value = { ReceiptView };
 
@@ -112,26 +113,24 @@ fn hear_and_call<N: News, R: Wait>(
 
 /// Two callers in two threads: the second one's call comes after the first one's, of which a
 /// letter tells it. It makes none if the first call isn't Done.
-///
-/// Errors: no memory for the channel.
-pub fn two_threads<N: News + Send + Sync, R: Threads + Wait + Sync>(
+pub fn two_threads<N: News + Send + Sync, R: Threads + Wait + Sync + Abort>(
     rt: &R,
     alloc: Global,
     interlock: &Interlock,
     first: (Pass, Call),
     second: (Pass, Call),
-) -> Result<(Reply, Option<(Reply, Pass)>), AllocError>
+) -> (Reply, Option<(Reply, Pass)>)
     requires same_interlock { (first.0.table ≡ interlock.now.table)
         × (second.0.table ≡ interlock.now.table) }
     requires table { interlock.now.table ≡ N.table }
     requires news { N.event ≡ event first.0.machine first.1 Done }
-    ensures order { IfOk result (λ both. IfSome both.1 (λ heard. IfSettled heard.0 (λ answer.
+    ensures order { IfSome result.1 (λ heard. IfSettled heard.0 (λ answer.
         ComesLater (event first.0.machine first.1 Done)
-        (event second.0.machine second.1 answer) heard.1.seen))) }
+        (event second.0.machine second.1 answer) heard.1.seen)) }
 {
     let (teller, call) = first;
     let (hearer, next) = second;
-    let (to, from) = unbounded::<Letter<N>, Global>(alloc)?;
+    let (to, from) = unbounded::<Letter<N>, Global>(alloc).expect(rt, "memory");
     // where no thread can be made, the teller goes first
     let (heard, told) = join(
         rt,
@@ -145,5 +144,5 @@ pub fn two_threads<N: News + Send + Sync, R: Threads + Wait + Sync>(
                 × (N.event ≡ event teller.machine call Done) }
         { call_and_tell(rt, interlock, teller, call, to) },
     );
-    Ok((told, heard))
+    (told, heard)
 }

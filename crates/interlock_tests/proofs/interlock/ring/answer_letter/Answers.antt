@@ -1,8 +1,8 @@
 use Rattle.std.proofs.Common.{rules, subst}
 use Rattle.cell_interlock.specs.Calls.{IsStampedAfter}
-use Rattle.test_callers.specs.Letters.{StampedView}
-use Rattle.test_callers.proofs.Hearing.{stamped_later, stamp_told}
-use Rattle.test_callers.proofs.ring.answer_letter.Goals as goal
+use Rattle.interlock_tests.specs.Letters.{StampedView}
+use Rattle.interlock_tests.proofs.Hearing.{stamped_later, stamp_told}
+use Rattle.interlock_tests.proofs.interlock.ring.answer_letter.Goals as goal
 
 pub returns-clause-stamp : goal.returns-clause-stamp
 returns-clause-stamp g c = stamp_told _ _ _ _ _ _ _ c.ask.ensures.seen c.ask.ensures.pass.opening
