@@ -18,8 +18,7 @@ use fault::SixFault;
 use lookout::Lookout;
 use rounds::Audits;
 use six::{AxisPoints, RoundPlan, SixStatuses, drive};
-use std::env;
-use std::io;
+use std::{env, io};
 
 // The full places at the start: a plate is at the feed belt's entry.
 const PLACES: [bool; 10] = [

@@ -173,8 +173,8 @@ fn is_cut<T: Threads + Sync>(
     found == status && taken.len() == left && text.starts_with(taken)
 }
 
-/// Whether a writer that fails leads to this status wherever it fails; of a screen, after each 97th byte and each of the
-/// last ones.
+/// Whether a writer that fails leads to this status wherever it fails; of a screen, after each 97th byte and each of
+/// the last ones.
 fn are_all_cut<T: Threads + Sync>(
     rt: &T,
     alloc: Global,
