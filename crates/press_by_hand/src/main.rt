@@ -12,9 +12,11 @@ ghost use Rattle.cell_types.specs.declared.machine.Machine.TheVariants.{Press};
 use cell_control::Wired;
 use cell_interlock::{Interlock, Pass, PassLine};
 use cell_rules::{Line, State};
+use cell_sensors::PressSense;
 use cell_table_press::PressProgram;
 use fault::PressFault;
 use std::alloc::Global;
+use std::io;
 use texts::{motor_word, read_switches};
 
 // The full places at the start: a plate that isn't forged is in the press.
@@ -25,22 +27,30 @@ const PLACES: [bool; 10] = [
 // The number of exchanges that a call may lose before it is Busy.
 const TRIES: u8 = 8;
 
+// Gives the press a turn, and prints its motor's command, and after a fault also why.
+fn turn<L: Line>(
+    rt: &HostRuntime,
+    press: &mut Wired<PressProgram, L>,
+    switches: PressSense,
+) -> io::Result<()> {
+    let told = press.turn(&switches);
+    let motor = motor_word(told.act.press);
+    match told.fault {
+        None => println!(rt; "{motor}"),
+        Some(fault) => println!(rt; "{motor}: {fault}"),
+    }
+}
+
 // Drives the press by each line, until the input ends.
 fn drive<L: Line>(
     rt: &HostRuntime,
     alloc: Global,
     press: &mut Wired<PressProgram, L>,
-) -> Result<(), PressFault> {
+) -> io::Result<()> {
     for text in rt.lines(alloc) {
-        let Some(switches) = read_switches(text?.as_bytes()) else {
-            println!(rt; "off unread")?;
-            continue;
-        };
-        let told = press.turn(&switches);
-        let motor = motor_word(told.act.press);
-        match told.fault {
-            None => println!(rt; "{motor}")?,
-            Some(fault) => println!(rt; "{motor}: {fault}")?,
+        match read_switches(text?.as_bytes()) {
+            Some(switches) => turn(rt, press, switches)?,
+            None => println!(rt; "off unread")?,
         }
     }
     Ok(())

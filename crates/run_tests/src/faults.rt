@@ -3,7 +3,7 @@
 use cell_control::CtlFault;
 use cell_sensors::SensorFault;
 use cell_types::Refusal;
-use std::alloc::AllocError;
+use std::alloc::Global;
 use test_doubles::part;
 
 const FAULTS: [CtlFault; 5] = [
@@ -22,11 +22,18 @@ const TEXTS: &str = "\
     out of memory|\
     stopped in an earlier turn";
 
-#[test]
-fn faults_have_texts(rt: HostRuntime) -> Result<(), AllocError> {
-    for number in 0..5usize {
-        let printed = FAULTS[number].to_string(rt.alloc())?;
-        assert!(rt; printed.as_str() == part(TEXTS, "|", number), "{printed}");
+// Whether a fault is told by this text.
+fn is_told(alloc: Global, fault: &CtlFault, text: &str) -> bool {
+    match fault.to_string(alloc) {
+        Ok(told) => told.as_str() == text,
+        Err(_) => false,
     }
-    Ok(())
+}
+
+#[test]
+fn faults_have_texts(rt: HostRuntime) {
+    for number in 0..5usize {
+        let text = part(TEXTS, "|", number);
+        assert!(rt; is_told(rt.alloc(), &FAULTS[number], text), "{text}");
+    }
 }

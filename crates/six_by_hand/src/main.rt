@@ -13,12 +13,12 @@ mod rounds;
 mod six;
 
 use cell_rules::State;
-use cell_sensors::{Points, position_on_line};
+use cell_sensors::{Points, PointsFault, position_on_line};
 use fault::SixFault;
 use lookout::Lookout;
 use rounds::Audits;
 use six::{AxisPoints, RoundPlan, SixStatuses, drive};
-use std::env;
+use std::{env, io};
 
 // The full places at the start: a plate is at the feed belt's entry.
 const PLACES: [bool; 10] = [
@@ -44,11 +44,8 @@ const LONG: RoundPlan = RoundPlan {
 fn main(rt: HostRuntime) -> Result<(), SixFault> {
     let alloc = rt.alloc();
     let opening = State::start(PLACES, 0)?;
-    let points = AxisPoints {
-        arm: Points::new(0, 1000, 0, 1000, 5)?,
-        rotation: Points::new(0, 2000, 0, 2000, 5)?,
-        turn: Points::new(0, 500, 0, 500, 5)?,
-    };
+    let points = axis_points()?;
+    let (plan, is_long) = asked_plan(&rt)?;
     let gauges = (
         move |raw: u16| position_on_line(&points.arm, raw),
         move |raw: u16| position_on_line(&points.arm, raw),
@@ -56,14 +53,19 @@ fn main(rt: HostRuntime) -> Result<(), SixFault> {
         move |raw: u16| position_on_line(&points.turn, raw),
         move |raw: u16| position_on_line(&points.arm, raw),
     );
-    let mut words = env::args(&rt)?;
-    let _name = words.next();
-    let rounds = words.next();
-    let is_long = rounds.is_some();
-    let plan = plan_of(rounds, words.next());
     let mut audits = Audits::new(alloc);
     let (six, watch) = drive(&rt, alloc, opening, gauges, points, plan, &mut audits)?;
-    tell(&rt, &six, &watch, &audits, is_long)
+    tell(&rt, &six, &watch, &audits, is_long)?;
+    Ok(())
+}
+
+// The points of the potentiometers.
+fn axis_points() -> Result<AxisPoints, PointsFault> {
+    Ok(AxisPoints {
+        arm: Points::new(0, 1000, 0, 1000, 5)?,
+        rotation: Points::new(0, 2000, 0, 2000, 5)?,
+        turn: Points::new(0, 500, 0, 500, 5)?,
+    })
 }
 
 // Prints how the machines ended, and what the audits and the watch counted.
@@ -73,22 +75,39 @@ fn tell(
     watch: &Lookout,
     audits: &Audits,
     is_long: bool,
-) -> Result<(), SixFault> {
-    println!(rt; "feed {:?}", six.feed)?;
-    println!(rt; "table {:?}", six.table)?;
-    println!(rt; "robot {:?}", six.robot)?;
-    println!(rt; "press {:?}", six.press)?;
-    println!(rt; "deposit {:?}", six.deposit)?;
-    println!(rt; "crane {:?}", six.crane)?;
-    println!(rt; "audited {}", audits.rounds)?;
-    println!(rt; "rounds {}", audits.plates)?;
-    println!(rt; "looks {}", watch.looks)?;
-    println!(rt; "stops {}", watch.stops)?;
+) -> io::Result<()> {
+    tell_ends(rt, six)?;
+    println!(rt; "audited {}\nrounds {}", audits.rounds, audits.plates)?;
+    println!(rt; "looks {}\nstops {}", watch.looks, watch.stops)?;
     if is_long {
-        println!(rt; "done {}", audits.done)?;
-        println!(rt; "renewed {}", audits.renewed)?;
+        println!(rt; "done {}\nrenewed {}", audits.done, audits.renewed)?;
     }
     Ok(())
+}
+
+// Prints how each machine ended.
+fn tell_ends(rt: &HostRuntime, six: &SixStatuses) -> io::Result<()> {
+    let ends = [
+        ("feed", six.feed),
+        ("table", six.table),
+        ("robot", six.robot),
+        ("press", six.press),
+        ("deposit", six.deposit),
+        ("crane", six.crane),
+    ];
+    for (name, status) in &ends {
+        println!(rt; "{name} {status:?}")?;
+    }
+    Ok(())
+}
+
+// The plan that the words after the program's name ask for, and whether there are any.
+fn asked_plan(rt: &HostRuntime) -> io::Result<(RoundPlan, bool)> {
+    let mut words = env::args(rt)?;
+    let _name = words.next();
+    let rounds = words.next();
+    let is_long = rounds.is_some();
+    Ok((plan_of(rounds, words.next()), is_long))
 }
 
 // The plan that two words ask for, or one, or none.

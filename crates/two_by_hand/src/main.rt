@@ -17,27 +17,36 @@ use std::alloc::Global;
 // The number of exchanges that a call may lose before it is Busy.
 const TRIES: u8 = 8;
 
+// The answer to a line.
+fn answer(interlock: &Interlock, ram: &mut Pass, loader: &mut Pass, text: &str) -> &'static str
+    requires ram { ram.old.table ≡ interlock.now.table }
+    requires loader { loader.old.table ≡ interlock.now.table }
+    ensures ram { ram.new.table ≡ interlock.now.table }
+    ensures loader { loader.new.table ≡ interlock.now.table }
+{
+    match Request::read(text) {
+        Some(request) => reply_word(match request.party() {
+            Party::Ram => interlock.ask(ram, request.call()),
+            Party::Loader => interlock.ask(loader, request.call()),
+        }),
+        None => "unread",
+    }
+}
+
 // Answers each line, until the input ends.
 fn serve(
     rt: &HostRuntime,
     alloc: Global,
     interlock: &Interlock,
-    mut ram: Pass,
-    mut loader: Pass,
+    ram: &mut Pass,
+    loader: &mut Pass,
 ) -> Result<(), TwoFault>
-    requires ram { ram.table ≡ interlock.now.table }
-    requires loader { loader.table ≡ interlock.now.table }
+    requires ram { ram.old.table ≡ interlock.now.table }
+    requires loader { loader.old.table ≡ interlock.now.table }
 {
     for text in rt.lines(alloc) {
-        let Some(request) = Request::read(text?.as_bytes()) else {
-            println!(rt; "unread")?;
-            continue;
-        };
-        let reply = match request.party() {
-            Party::Ram => interlock.ask(&mut ram, request.call()),
-            Party::Loader => interlock.ask(&mut loader, request.call()),
-        };
-        println!(rt; "{}", reply_word(reply))?;
+        let answer = answer(interlock, ram, loader, text?.as_str());
+        println!(rt; "{answer}")?;
     }
     Ok(())
 }
@@ -45,6 +54,6 @@ fn serve(
 fn main(rt: HostRuntime) -> Result<(), TwoFault> {
     let alloc = rt.alloc();
     let opening = State::start([false; 10], 0)?;
-    let (interlock, passes) = Interlock::new(alloc, opening, TRIES)?;
-    serve(&rt, alloc, &interlock, passes.press, passes.robot)
+    let (interlock, mut passes) = Interlock::new(alloc, opening, TRIES)?;
+    serve(&rt, alloc, &interlock, &mut passes.press, &mut passes.robot)
 }

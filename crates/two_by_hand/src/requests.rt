@@ -5,7 +5,7 @@ ghost use Rattle.two_by_hand.specs.Requests as specs;
 use cell_types::{Answer, Call, Pose, Refusal, Reply, Zone};
 
 /// Who asks.
-#[derive(Clone, Copy, Debug, PartialEq, Eq)]
+#[derive(Clone, Copy)]
 pub enum Party {
     /// The ram of the press, which hosts its interior.
     Ram,
@@ -14,7 +14,7 @@ pub enum Party {
 }
 
 /// What is asked.
-#[derive(Clone, Copy, Debug, PartialEq, Eq)]
+#[derive(Clone, Copy)]
 pub enum Request {
     /// The ram wants the interior for itself.
     RamIn,
@@ -32,16 +32,16 @@ pub enum Request {
 
 impl Request {
     /// The request with this text, or `None` if none has it.
-    pub fn read(text: &[u8]) -> Option<Request>
+    pub fn read(text: &str) -> Option<Request>
         ensures { (request : Request) → (result ≡ Some request) ↔ (text.now ≡ specs.request_text request) }
     {
         match text {
-            b"ram in" => Some(Request::RamIn),
-            b"ram moves" => Some(Request::RamMoves),
-            b"ram opens" => Some(Request::RamOpens),
-            b"ram out" => Some(Request::RamOut),
-            b"loader in" => Some(Request::LoaderIn),
-            b"loader out" => Some(Request::LoaderOut),
+            "ram in" => Some(Request::RamIn),
+            "ram moves" => Some(Request::RamMoves),
+            "ram opens" => Some(Request::RamOpens),
+            "ram out" => Some(Request::RamOut),
+            "loader in" => Some(Request::LoaderIn),
+            "loader out" => Some(Request::LoaderOut),
             _ => None,
         }
     }

@@ -31,6 +31,21 @@ pub fn run<T: Threads + Sync, R: Read, W: Write, P: Write>(
     }
 }
 
+/// The exit status of the program that is started by a line of words, with a clock that can't be read; 254 if it tells
+/// any progress.
+pub fn run_unseen<T: Threads + Sync, R: Read, W: Write>(
+    rt: &T,
+    alloc: Global,
+    line: &str,
+    reader: &mut R,
+    writer: &mut W,
+) -> u8 {
+    let clock = GivenClock::new(None, None);
+    let mut progress = Vec::new(alloc);
+    let status = run(rt, &clock, alloc, line, reader, writer, &mut progress);
+    if progress.is_empty() { status } else { 254 }
+}
+
 /// A clock that shows these times one after another, in thousandths of a second. At `None` it can't
 /// be read.
 #[derive(Drop)]

@@ -5,7 +5,6 @@ use cell_explorer::{Explored, explore_start, take_turns};
 use cell_rules::State;
 use cell_types::Machine;
 use std::alloc::{AllocError, Global};
-use std::test::Fail;
 
 /// The one plate is at the feed belt's entry.
 const ONE_PLATE: [bool; 10] = [
@@ -28,18 +27,27 @@ const MORE_PLATES: [[bool; 10]; 4] = [
     ],
 ];
 
-fn is_explored(alloc: Global, places: [bool; 10]) -> Result<bool, Fail> {
-    let found = explore_start(alloc, &State::start(places, 0)?)?;
-    Ok(!matches!(found, Explored::Refusal(_)))
+/// Whether a search from a start with these plates finds its memory, and no refusal.
+fn is_explored(alloc: Global, places: [bool; 10]) -> bool {
+    match State::start(places, 0) {
+        Ok(start) => is_unrefused(alloc, &start),
+        Err(_) => false,
+    }
+}
+
+fn is_unrefused(alloc: Global, start: &State) -> bool {
+    match explore_start(alloc, start) {
+        Ok(Explored::Refusal(_)) | Err(_) => false,
+        Ok(_) => true,
+    }
 }
 
 // A search finds its memory with each number of plates that a start has.
 #[test]
-fn explores_starts_with_more_plates(rt: HostRuntime) -> Result<(), Fail> {
+fn explores_starts_with_more_plates(rt: HostRuntime) {
     for number in 0..4usize {
-        assert!(rt; is_explored(rt.alloc(), MORE_PLATES[number])?);
+        assert!(rt; is_explored(rt.alloc(), MORE_PLATES[number]), "{number}");
     }
-    Ok(())
 }
 
 /// Adds this number of rounds of all machines.
@@ -50,15 +58,19 @@ fn push_rounds(way: &mut Vec<Machine>, count: usize) -> Result<(), AllocError> {
     Ok(())
 }
 
-// Rounds of all machines, many times over: someone still asks in the last one.
+/// Whether someone still asks in the last one of 500 rounds.
+fn is_asking(alloc: Global, start: &State, way: &[Machine]) -> bool {
+    match take_turns(alloc, start, way) {
+        Ok(walk) => walk.asks.len() == 3_500 && walk.asks.as_slice()[3_493..].contains(&true),
+        Err(_) => false,
+    }
+}
+
+// Rounds of all machines, many times over.
 #[test]
 fn takes_many_turns(rt: HostRuntime) {
     let start = State::start(ONE_PLATE, 0).expect(&rt, "a start");
     let mut way = Vec::new(rt.alloc());
     let is_made = push_rounds(&mut way, 500).is_ok();
-    let is_asking = match take_turns(rt.alloc(), &start, way.as_slice()) {
-        Ok(walk) => walk.asks.len() == 3_500 && walk.asks.as_slice()[3_493..].contains(&true),
-        Err(_) => false,
-    };
-    assert!(rt; is_made && is_asking);
+    assert!(rt; is_made && is_asking(rt.alloc(), &start, way.as_slice()));
 }

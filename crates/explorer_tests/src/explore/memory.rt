@@ -1,28 +1,18 @@
 //! Runs of the program in which one allocation fails, whichever it is.
 
-use super::doubles::{GivenClock, run};
+use super::doubles::{GivenClock, run_unseen};
 use explore_app::serve::serve_all;
 use std::alloc::Global;
 use std::thread::Threads;
-
-/// Words, the status where memory lasts, and the last line of what is written then.
-type Row = (&'static str, u8, &'static str);
+use test_doubles::{count_parts, part};
 
 /// Room for a text.
 const ROOM: usize = 2_000;
 
-const ROWS: &[Row] = &[
-    (
-        "./explore",
-        1,
-        "schedule = \"fffttttttppppppppppppppppppppppppppppppddddftrrpdccc\"\n",
-    ),
-    (
-        "./explore --help",
-        0,
-        "With --all it is 0 whatever was found of the starts.\n",
-    ),
-];
+/// Words, the status where memory lasts, and the last line of what is written then. A bar separates the rows.
+const ROWS: &str = "\
+./explore => 1 => schedule = \"fffttttttppppppppppppppppppppppppppppppddddftrrpdccc\"\n|\
+./explore --help => 0 => With --all it is 0 whatever was found of the starts.\n";
 
 const LINE: &str = "plates 0 starts 1: 1 stand still after 21 to 21 turns\n";
 
@@ -30,34 +20,26 @@ const LINE: &str = "plates 0 starts 1: 1 stand still after 21 to 21 turns\n";
 // ran out. With status 255 there was none for the words.
 fn is_right(status: u8, written: &[u8], wanted: u8, end: &str) -> bool {
     (status == wanted && written.ends_with(end.as_bytes()))
-        || (status == 1 && written == b"fault memory\n".as_slice())
+        || (status == 1 && written == "fault memory\n".as_bytes())
         || (status == 255 && written.is_empty())
 }
 
-fn is_served<T: Threads + Sync>(rt: &T, alloc: Global, row: &Row) -> bool {
-    let (line, wanted, end) = *row;
-    let clock = GivenClock::new(None, None);
+fn is_served<T: Threads + Sync>(rt: &T, alloc: Global, row: &str) -> bool {
+    let wanted = if part(row, " => ", 1) == "0" { 0 } else { 1 };
     let mut reader = "start = \"0000000000\"\n".as_bytes();
     let mut room = [0u8; ROOM];
     let mut writer = &mut room[..];
-    let mut progress = &mut [0u8; 100][..];
-    let status = run(
-        rt,
-        &clock,
-        alloc,
-        line,
-        &mut reader,
-        &mut writer,
-        &mut progress,
-    );
+    let status = run_unseen(rt, alloc, part(row, " => ", 0), &mut reader, &mut writer);
     let left = writer.len();
+    let end = part(row, " => ", 2);
     is_right(status, &room[..ROOM.saturating_sub(left)], wanted, end)
 }
 
 #[test]
 fn serves_without_memory(rt: HostRuntime) {
-    for row in ROWS {
-        assert!(rt; is_served(&rt, rt.alloc(), row), "{}", row.0);
+    for number in 0..count_parts(ROWS, "|") {
+        let row = part(ROWS, "|", number);
+        assert!(rt; is_served(&rt, rt.alloc(), row), "{row}");
     }
 }
 

@@ -56,17 +56,21 @@ fn push_machines(way: &mut Vec<Machine>, letters: &str) -> Result<(), AllocError
     Ok(())
 }
 
+/// What a letter says that a turn would do.
+fn prospect_of(letter: Option<&u8>) -> Prospect {
+    match letter {
+        Some(b'a') => Prospect::Acts,
+        Some(b'w') => Prospect::Waits,
+        _ => Prospect::Stops,
+    }
+}
+
 /// Has the walk say that the next turn of each machine but the watch would do this.
 fn expect(walk: &mut Walk, prospects: &str) {
     for number in 0..6usize {
         let machine = Machine::ALL[number];
-        let prospect = match prospects.as_bytes().get(number) {
-            Some(b'a') => Prospect::Acts,
-            Some(b'w') => Prospect::Waits,
-            _ => Prospect::Stops,
-        };
         let next = NextTurn {
-            prospect,
+            prospect: prospect_of(prospects.as_bytes().get(number)),
             ..*walk.next.at(machine)
         };
         walk.next.put(machine, next);

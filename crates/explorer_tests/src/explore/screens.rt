@@ -1,6 +1,6 @@
 //! How plates starve. The numbers of turns are those that plain Rust finds, written apart from the proved program.
 
-use super::doubles::{GivenClock, run};
+use super::doubles::run_unseen;
 use cell_config::read_config;
 use cell_configured::simulate_configured;
 use cell_types::{Answer, Call, Entry, Machine, Posture, Refusal, Zone};
@@ -72,20 +72,10 @@ fn have_asked(alloc: Global, config: &str, last: &[(Call, Answer); 6]) -> bool {
 // A simulation of the schedule goes round four times: the press has claimed its zone four times, and was refused.
 #[test]
 fn shows_how_plates_starve(rt: HostRuntime) {
-    let clock = GivenClock::new(None, None);
     let mut reader = "start = \"1000000000\"\n".as_bytes();
     let mut written = Vec::new(rt.alloc());
-    let mut progress = Vec::new(rt.alloc());
     let line = "./explore --starve";
-    let status = run(
-        &rt,
-        &clock,
-        rt.alloc(),
-        line,
-        &mut reader,
-        &mut written,
-        &mut progress,
-    );
+    let status = run_unseen(&rt, rt.alloc(), line, &mut reader, &mut written);
     let is_shown = match str::from_utf8(written.as_slice()) {
         Ok(screen) => screen.starts_with(STARVING) && have_asked(rt.alloc(), screen, &LAST),
         Err(_) => false,

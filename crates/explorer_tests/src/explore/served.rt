@@ -1,7 +1,7 @@
 //! What the program answers to its words and its input: screens, exit statuses, help, fault lines; and where reading or
 //! writing fails. The numbers of turns are those that plain Rust finds, written apart from the proved program.
 
-use super::doubles::{GivenClock, run};
+use super::doubles::{GivenClock, run_unseen};
 use explore_app::serve::start;
 use std::alloc::Global;
 use std::thread::Threads;
@@ -68,26 +68,14 @@ start = \"0000000001\"
 
 /// Whether the program answers a row so, and tells no progress.
 fn is_row<T: Threads + Sync>(rt: &T, alloc: Global, row: &str) -> bool {
-    let clock = GivenClock::new(None, None);
-    let mut reader = part(row, " => ", 2).as_bytes();
+    let (line, input) = (part(row, " => ", 0), part(row, " => ", 2));
+    let (status, text) = (part(row, " => ", 1), part(row, " => ", 3));
     let mut written = Vec::new(alloc);
-    let mut progress = Vec::new(alloc);
-    let line = part(row, " => ", 0);
-    let status = run(
-        rt,
-        &clock,
-        alloc,
-        line,
-        &mut reader,
-        &mut written,
-        &mut progress,
-    );
-    let digit = [b'0'.wrapping_add(status)];
-    let text = part(row, " => ", 3);
-    digit.as_slice() == part(row, " => ", 1).as_bytes()
+    let found = run_unseen(rt, alloc, line, &mut input.as_bytes(), &mut written);
+    let digit = [b'0'.wrapping_add(found)];
+    digit.as_slice() == status.as_bytes()
         && written.as_slice().starts_with(text.as_bytes())
         && (written.len() == text.len() || !text.ends_with("\n"))
-        && progress.is_empty()
 }
 
 #[test]
@@ -148,7 +136,7 @@ fn refuses_bytes(rt: HostRuntime) {
         &mut written,
         &mut progress,
     );
-    let is_told = written.as_slice() == b"error: a word isn't UTF-8\n".as_slice();
+    let is_told = written.as_slice() == "error: a word isn't UTF-8\n".as_bytes();
     assert!(rt; status == 2 && is_told && progress.is_empty());
 }
 
@@ -156,20 +144,10 @@ const EMPTY: &str = "start = \"0000000000\"\n";
 
 /// Whether a reader that fails after `left` bytes leads to status 1 and the line of a failed read.
 fn is_failed_read<T: Threads + Sync>(rt: &T, alloc: Global, left: usize) -> bool {
-    let clock = GivenClock::new(None, None);
     let mut reader = FailingReader::new(EMPTY.as_bytes(), left);
     let mut written = Vec::new(alloc);
-    let mut progress = Vec::new(alloc);
-    let status = run(
-        rt,
-        &clock,
-        alloc,
-        "./explore",
-        &mut reader,
-        &mut written,
-        &mut progress,
-    );
-    status == 1 && written.as_slice() == b"fault read\n".as_slice()
+    let status = run_unseen(rt, alloc, "./explore", &mut reader, &mut written);
+    status == 1 && written.as_slice() == "fault read\n".as_bytes()
 }
 
 #[test]
@@ -188,49 +166,38 @@ fn is_cut<T: Threads + Sync>(
     text: &[u8],
     left: usize,
 ) -> bool {
-    let clock = GivenClock::new(None, None);
-    let mut reader = part(row, " => ", 1).as_bytes();
+    let (line, input) = (part(row, " => ", 0), part(row, " => ", 1));
     let mut writer = FailingWriter::new(alloc, left);
-    let mut progress = Vec::new(alloc);
-    let line = part(row, " => ", 0);
-    let found = run(
-        rt,
-        &clock,
-        alloc,
-        line,
-        &mut reader,
-        &mut writer,
-        &mut progress,
-    );
+    let found = run_unseen(rt, alloc, line, &mut input.as_bytes(), &mut writer);
     let taken = writer.taken.as_slice();
     found == status && taken.len() == left && text.starts_with(taken)
 }
 
-/// Whether a writer that fails leads to status 1, or to that of refused words, wherever it fails; of a screen, after
-/// each 97th byte and each of the last ones.
-fn are_cut<T: Threads + Sync>(rt: &T, alloc: Global, row: &str) -> bool {
-    let clock = GivenClock::new(None, None);
-    let (line, input) = (part(row, " => ", 0), part(row, " => ", 1));
-    let mut whole = Vec::new(alloc);
-    let mut progress = Vec::new(alloc);
-    let mut reader = input.as_bytes();
-    let found = run(
-        rt,
-        &clock,
-        alloc,
-        line,
-        &mut reader,
-        &mut whole,
-        &mut progress,
-    );
-    let status = if found == 2 { 2 } else { 1 };
-    let step = if input == EMPTY { 97 } else { 1 };
+/// Whether a writer that fails leads to this status wherever it fails; of a screen, after each 97th byte and each of
+/// the last ones.
+fn are_all_cut<T: Threads + Sync>(
+    rt: &T,
+    alloc: Global,
+    row: &str,
+    status: u8,
+    text: &[u8],
+) -> bool {
+    let step = if part(row, " => ", 1) == EMPTY { 97 } else { 1 };
     let mut are_all = true;
-    for left in 0..whole.len().saturating_add(1) {
-        let is_tried = left % step == 0 || left.saturating_add(4) > whole.len();
-        are_all = are_all && (!is_tried || is_cut(rt, alloc, row, status, whole.as_slice(), left));
+    for left in 0..text.len().saturating_add(1) {
+        let is_tried = left % step == 0 || left.saturating_add(4) > text.len();
+        are_all = are_all && (!is_tried || is_cut(rt, alloc, row, status, text, left));
     }
     are_all
+}
+
+/// Whether a writer that fails leads to status 1, or to that of refused words.
+fn are_cut<T: Threads + Sync>(rt: &T, alloc: Global, row: &str) -> bool {
+    let (line, input) = (part(row, " => ", 0), part(row, " => ", 1));
+    let mut whole = Vec::new(alloc);
+    let found = run_unseen(rt, alloc, line, &mut input.as_bytes(), &mut whole);
+    let status = if found == 2 { 2 } else { 1 };
+    are_all_cut(rt, alloc, row, status, whole.as_slice())
 }
 
 /// Words and an input.

@@ -4,7 +4,7 @@
 use super::doubles::GivenClock;
 use explore_app::every_start::starts_with;
 use explore_app::serve::serve_all;
-use std::alloc::{AllocError, Global};
+use std::alloc::Global;
 use std::thread::Threads;
 use test_doubles::FailingWriter;
 
@@ -21,11 +21,20 @@ const BOTH: usize = 196;
 
 const SIX_PLATES: &str = "plates 6 starts 140: 140 stand still after 16 to 105 turns\n";
 
+/// Whether the starts with a number of plates have this line.
+fn has_line<T: Threads + Sync>(rt: &T, alloc: Global, plates: u32, wanted: &str) -> bool {
+    match starts_with(rt, alloc, plates) {
+        Ok(starts) => match starts.line(alloc, plates) {
+            Ok(line) => line.as_str() == wanted,
+            Err(_) => false,
+        },
+        Err(_) => false,
+    }
+}
+
 #[test]
-fn explores_all_starts_with_six_plates(rt: HostRuntime) -> Result<(), AllocError> {
-    let line = starts_with(&rt, rt.alloc(), 6)?.line(rt.alloc(), 6)?;
-    assert!(rt; line.as_str() == SIX_PLATES, "{line}");
-    Ok(())
+fn explores_all_starts_with_six_plates(rt: HostRuntime) {
+    assert!(rt; has_line(&rt, rt.alloc(), 6, SIX_PLATES));
 }
 
 /// The most plates, the number of bytes of their lines, after how many bytes the writer and the progress fail, and the

@@ -68,6 +68,12 @@ fn push_link(calls: &mut Vec<Call>, link: u8, steps: usize) -> Result<(), AllocE
     Ok(())
 }
 
+/// Adds a program.
+fn push_list(lists: &mut Vec<Vec<Call>>, alloc: Global, calls: &[Call]) -> Result<(), AllocError> {
+    lists.push(calls.to_vec(alloc)?)?;
+    Ok(())
+}
+
 /// Adds the programs, of this many steps for each link. The machine after the links takes the plate, and waits for
 /// another one; those after it wait for a zone that isn't theirs. The last machine has this one.
 fn push_programs(
@@ -79,12 +85,11 @@ fn push_programs(
     for link in 0..LINKS {
         lists.push(link_program(alloc, link, steps)?)?;
     }
-    lists.push(vec![in alloc; Call::Take(6), Call::Take(6)]?)?;
+    push_list(lists, alloc, &[Call::Take(6), Call::Take(6)])?;
     for _ in LINKS + 1..LAST {
-        lists.push(vec![in alloc; Call::Release(0)]?)?;
+        push_list(lists, alloc, &[Call::Release(0)])?;
     }
-    lists.push(last.to_vec(alloc)?)?;
-    Ok(())
+    push_list(lists, alloc, last)
 }
 
 /// The program of a link.

@@ -11,14 +11,19 @@ fn push_config(text: &mut String, row: &str) -> Result<(), AllocError> {
     let repeats = part(row, " => ", 3);
     write!(text, "{others}start = \"{start}\"\nschedule = \"")?;
     for number in 0..count_parts(repeats, ";") {
-        let repeat = part(repeats, ";", number);
-        let letters = part(repeat, " ", 1);
-        let count: u32 = part(repeat, " ", 0).parse().unwrap_or(0);
-        for _ in 0..count {
-            text.push_str(letters)?;
-        }
+        push_repeat(text, part(repeats, ";", number))?;
     }
     text.push_str("\"\n")
+}
+
+/// Adds letters as often as a part says.
+fn push_repeat(text: &mut String, repeat: &str) -> Result<(), AllocError> {
+    let letters = part(repeat, " ", 1);
+    let count: u32 = part(repeat, " ", 0).parse().unwrap_or(0);
+    for _ in 0..count {
+        text.push_str(letters)?;
+    }
+    Ok(())
 }
 
 /// Cuts a page into its head, the text of the element of the lines, and its tail.

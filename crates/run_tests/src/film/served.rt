@@ -60,7 +60,7 @@ fn refuses_bytes(rt: HostRuntime) {
     let mut reader = "start = 5\n".as_bytes();
     let mut written = Vec::new(rt.alloc());
     let status = start(rt.alloc(), &env, &mut reader, &mut written);
-    let is_told = written.as_slice() == b"error: a word isn't UTF-8\n".as_slice();
+    let is_told = written.as_slice() == "error: a word isn't UTF-8\n".as_bytes();
     assert!(rt; status == 2 && is_told && reader.len() == 10);
 }
 
@@ -72,7 +72,7 @@ fn is_failed_read(alloc: Global, left: usize) -> bool {
     let mut reader = FailingReader::new(PRESS.as_bytes(), left);
     let mut written = Vec::new(alloc);
     let status = run(alloc, "./film", &mut reader, &mut written);
-    status == 1 && written.as_slice() == b"fault read\n".as_slice()
+    status == 1 && written.as_slice() == "fault read\n".as_bytes()
 }
 
 #[test]

@@ -52,10 +52,9 @@ const WATCH: Turn = Turn {
     busy: false,
 };
 
-// These turns, with those of the watch between them: it stops the cell after every 97th turn, and
-// resumes after a number of further ones.
-fn with_stops(alloc: Global, turns: &[Turn], pause: usize) -> Result<Vec<Turn>, AllocError> {
-    let mut all = Vec::new(alloc);
+// Adds these turns, with those of the watch between them: it stops the cell after every 97th turn, and resumes after a
+// number of further ones.
+fn push_with_stops(all: &mut Vec<Turn>, turns: &[Turn], pause: usize) -> Result<(), AllocError> {
     let mut is_stopped = false;
     for (number, turn) in turns.iter().enumerate() {
         all.push(*turn)?;
@@ -72,7 +71,16 @@ fn with_stops(alloc: Global, turns: &[Turn], pause: usize) -> Result<Vec<Turn>, 
     if is_stopped {
         all.push(WATCH)?;
     }
-    Ok(all)
+    Ok(())
+}
+
+// These turns, with those of the watch between them.
+fn with_stops(alloc: Global, turns: &[Turn], pause: usize) -> Result<Vec<Turn>, AllocError> {
+    let mut all = Vec::new(alloc);
+    match push_with_stops(&mut all, turns, pause) {
+        Ok(()) => Ok(all),
+        Err(error) => Err(error),
+    }
 }
 
 // The order of the turns: one machine after another; or a random one, by a seed.
@@ -164,35 +172,47 @@ const ROUNDS: &[Round] = &[
     },
 ];
 
-// A round's turns.
-fn turns_of(alloc: Global, round: &Round) -> Result<Vec<Turn>, AllocError> {
-    let turns = match round.order {
+// The turns of a round, but for those of the watch.
+fn turns_of_six(alloc: Global, round: &Round) -> Result<Vec<Turn>, AllocError> {
+    match round.order {
         Order::InTurn => in_turn(alloc, round.count),
         Order::OfSix(seed) => by_chance(alloc, seed, round.count),
-    }?;
+    }
+}
+
+// Whether a round with these turns, and those of the watch, ends as it should.
+fn goes_by(alloc: Global, round: &Round, turns: &[Turn]) -> bool {
     match round.pause {
-        Some(pause) => with_stops(alloc, turns.as_slice(), pause),
-        None => Ok(turns),
+        Some(pause) => match with_stops(alloc, turns, pause) {
+            Ok(all) => ends_so(round, run(alloc, round.start, all.as_slice())),
+            Err(_) => false,
+        },
+        None => ends_so(round, run(alloc, round.start, turns)),
     }
 }
 
 // Whether no machine is stopped for good in a round's run, and it ends so.
-fn goes_round(alloc: Global, round: &Round) -> Result<bool, AllocError> {
-    let turns = turns_of(alloc, round)?;
-    Ok(match run(alloc, round.start, turns.as_slice()) {
-        Some(record) => ends_so(round, &record),
-        None => false,
-    })
+fn goes_round(alloc: Global, round: &Round) -> bool {
+    match turns_of_six(alloc, round) {
+        Ok(turns) => goes_by(alloc, round, turns.as_slice()),
+        Err(_) => false,
+    }
 }
 
-// Whether no machine was stopped in a run, and it ended as its round says.
-fn ends_so(round: &Round, record: &RunRecord) -> bool {
+// Whether there is a record, no machine was stopped in its run, and it ended as its round says.
+fn ends_so(round: &Round, record: Option<RunRecord>) -> bool {
+    match record {
+        Some(record) => record.status == [Status::Fine; 7] && has_end(round, &record),
+        None => false,
+    }
+}
+
+fn has_end(round: &Round, record: &RunRecord) -> bool {
     let Some(end) = record.end else {
         return false;
     };
     let done = record.counts.map(|counts| counts.done);
-    record.status == [Status::Fine; 7]
-        && end.stamp() == round.stamp
+    end.stamp() == round.stamp
         && full_places(&end) == places_of(round.places)
         && round.done.unwrap_or(done) == done
         && round.axes.unwrap_or(record.axes) == record.axes
@@ -200,9 +220,8 @@ fn ends_so(round: &Round, record: &RunRecord) -> bool {
 
 // No machine is stopped for good.
 #[test]
-fn rounds_end_so(rt: HostRuntime) -> Result<(), AllocError> {
+fn rounds_end_so(rt: HostRuntime) {
     for round in ROUNDS {
-        assert!(rt; goes_round(rt.alloc(), round)?, "{}", round.stamp);
+        assert!(rt; goes_round(rt.alloc(), round), "{}", round.stamp);
     }
-    Ok(())
 }

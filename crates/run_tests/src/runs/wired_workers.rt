@@ -2,6 +2,7 @@
 //! answer; in others the gate refuses machines.
 ghost use Rattle.std.specs.Prelude.{◌≡◌};
 ghost use Rattle.cell_rules.specs.Start.{IsStartState};
+ghost use Rattle.cell_threads.specs.Six.{AreReadyAt};
 
 use super::gates::CountingGate;
 use cell_belts_crane::{CraneProgram, DepositProgram, FeedProgram};
@@ -16,7 +17,7 @@ use cell_sensors::{
     SensorFault, TableSense, position_on_line,
 };
 use cell_table_press::{PressProgram, TableProgram};
-use cell_threads::{RunFault, SixOf, SixRecord, run_workers};
+use cell_threads::{RunFault, SixOf, SixRecord, Worker, run_workers};
 use std::alloc::Global;
 use std::process::Abort;
 use std::sync::Wait;
@@ -133,6 +134,38 @@ fn run_by<R: Threads + Wait + Sync, F: Gauge + Copy + Send>(
         deposit: still(DepositProgram, opening, DepositSense { barrier: false }),
         crane: still(crane, opening, AT_DEPOSIT),
     };
+    run_six(rt, alloc, workers, opening, turns, gate)
+}
+
+// Runs six workers, whichever they are. It says nothing of the run, so `run_by` doesn't carry what is told of one.
+fn run_six<R, W1, W2, W3, W4, W5, W6>(
+    rt: &R,
+    alloc: Global,
+    workers: SixOf<W1, W2, W3, W4, W5, W6>,
+    opening: State,
+    turns: u32,
+    gate: &CountingGate,
+) -> Result<
+    SixRecord<W1::Output, W2::Output, W3::Output, W4::Output, W5::Output, W6::Output>,
+    RunFault,
+>
+where
+    R: Threads + Wait + Sync,
+    W1: Worker + Send,
+    W2: Worker + Send,
+    W3: Worker + Send,
+    W4: Worker + Send,
+    W5: Worker + Send,
+    W6: Worker + Send,
+    W1::Output: Send,
+    W2::Output: Send,
+    W3::Output: Send,
+    W4::Output: Send,
+    W5::Output: Send,
+    W6::Output: Send,
+    requires ready { AreReadyAt W1.is_ready W2.is_ready W3.is_ready W4.is_ready W5.is_ready W6.is_ready opening
+        workers }
+{
     run_workers(rt, alloc, workers, opening, 64, turns, gate)
 }
 
