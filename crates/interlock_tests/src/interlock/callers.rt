@@ -1,5 +1,5 @@
-//! Callers who make their calls by single steps, so a table can say how the calls overlap. None of them may wait: see
-//! `waiting.rt`.
+//! Callers who make their calls by single steps, so a table can say how the calls overlap. None of
+//! them may wait: see `waiting.rt`.
 ghost use Rattle.cell_interlock.specs.Ends.{ArePassesOf, IsPassOf};
 ghost use Rattle.cell_interlock.specs.Tries.{after_look};
 ghost use Rattle.interlock_tests.specs.Held.{IsOwn, IsHeld, AreHeld};

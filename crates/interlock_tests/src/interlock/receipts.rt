@@ -1,8 +1,8 @@
 //! Receipts between threads.
 
 use super::letters::two_threads;
-use super::opened;
 use super::ring::three_threads;
+use super::{opened, stations_of};
 use cell_interlock::Pass;
 use cell_types::{Answer, Call, Reply, Zone};
 use std::marker::Brand;
@@ -20,8 +20,9 @@ fn is_heard(told: Reply, heard: Option<(Reply, Pass)>) -> bool {
 #[test]
 fn a_letter_is_heard(rt: HostRuntime) {
     let (interlock, passes) = opened(&rt, rt.alloc(), 2);
-    let first = (passes.press, Call::Claim(Zone::Z3));
-    let second = (passes.table, Call::Claim(Zone::Z1));
+    let (_feed, table, _robot, press) = stations_of(&interlock, passes);
+    let first = (press, Call::Claim(Zone::Z3));
+    let second = (table, Call::Claim(Zone::Z1));
     let (told, heard) = two_threads::<Brand, HostRuntime>(
         &rt,
         rt.alloc(),
@@ -36,6 +37,8 @@ fn a_letter_is_heard(rt: HostRuntime) {
 #[test]
 fn letters_go_round(rt: HostRuntime) {
     let (interlock, passes) = opened(&rt, rt.alloc(), 64);
-    let are_done = three_threads::<Brand, HostRuntime>(&rt, rt.alloc(), &interlock, passes);
+    let (feed, table, _robot, press) = stations_of(&interlock, passes);
+    let callers = (table, press, feed);
+    let are_done = three_threads::<Brand, HostRuntime>(&rt, rt.alloc(), &interlock, callers);
     assert!(rt; are_done == [true; 3]);
 }

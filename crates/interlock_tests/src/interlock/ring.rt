@@ -3,10 +3,9 @@
 ghost use Rattle.std.specs.Prelude.{◌≡◌};
 ghost use Rattle.cell_rules.specs.History.{after};
 ghost use Rattle.cell_interlock.specs.Calls.{IsStampedAfter, stamp_in};
-ghost use Rattle.cell_interlock.specs.Ends.{ArePassesOf};
 ghost use Rattle.cell_interlock.specs.Seen.{IsSamePass};
 
-use cell_interlock::{Interlock, Pass, Passes, Receipt};
+use cell_interlock::{Interlock, Pass, Receipt};
 use cell_types::{Answer, Call, Reply, Zone};
 use crossbeam_channel::{Receiver, Sender, unbounded};
 use std::alloc::Global;
@@ -199,24 +198,27 @@ fn join_ring<N: OfTable, R: Wait>(rt: &R, interlock: &Interlock, member: &mut Me
     *are_done = go_round(rt, interlock, pass, *zone, from, to);
 }
 
-/// Three callers in three threads, each with a zone of its own, send letters round. Says of each
-/// whether all its calls were Done, with a higher stamp than their letters'.
+/// The table, the press and the feed belt in three threads, each with a zone of its own, send
+/// letters round. Says of each whether all its calls were Done, with a higher stamp than their
+/// letters'.
 pub fn three_threads<N: OfTable + Send + Sync, R: Threads + Wait + Sync + Abort>(
     rt: &R,
     alloc: Global,
     interlock: &Interlock,
-    passes: Passes,
+    callers: (Pass, Pass, Pass),
 ) -> [bool; 3]
-    requires same_interlock { ArePassesOf interlock.now passes }
+    requires first { callers.0.table ≡ interlock.now.table }
+    requires second { callers.1.table ≡ interlock.now.table }
+    requires third { callers.2.table ≡ interlock.now.table }
     requires table { interlock.now.table ≡ N.table }
 {
     let (to_first, from_third) = unbounded::<StampedLetter<N>, Global>(alloc).expect(rt, "memory");
     let (to_second, from_first) = unbounded::<StampedLetter<N>, Global>(alloc).expect(rt, "memory");
     let (to_third, from_second) = unbounded::<StampedLetter<N>, Global>(alloc).expect(rt, "memory");
     let mut members = [
-        member_of(interlock, passes.table, Zone::Z1, from_third, to_second),
-        member_of(interlock, passes.press, Zone::Z3, from_first, to_third),
-        member_of(interlock, passes.feed, Zone::Z6, from_second, to_first),
+        member_of(interlock, callers.0, Zone::Z1, from_third, to_second),
+        member_of(interlock, callers.1, Zone::Z3, from_first, to_third),
+        member_of(interlock, callers.2, Zone::Z6, from_second, to_first),
     ];
     for_each_mut(
         rt,

@@ -5,7 +5,7 @@ ghost use Rattle.cell_types.specs.declared.machine.Machine.TheVariants.{Press, R
 
 use super::callers::{StepOutcome, own_in, pass_in};
 use super::closing::{Owned, PRESS_3, state_of};
-use super::opened;
+use super::{opened, stations_of};
 use cell_interlock::{Interlock, Pass, Passes};
 use cell_types::{Answer, Call, Machine, Posture, Refusal, Reply, Zone};
 
@@ -55,8 +55,8 @@ fn are_answered(interlock: Interlock, mut passes: Passes) -> bool
         && state_of(3, THREE_ZONES, false) == Some(ended.state)
 }
 
-/// Whether the robot, which hears of the press's claim, is refused at a look, and then they meet. The other steps of a
-/// call are taken in `callers.rt`.
+/// Whether the robot, which hears of the press's claim, is refused at a look, and then they meet. The
+/// other steps of a call are taken in `callers.rt`.
 fn are_met(interlock: &Interlock, mut press: Pass, robot: Pass) -> bool
     requires { IsPassOf interlock.now Press press × IsPassOf interlock.now Robot robot }
 {
@@ -84,5 +84,6 @@ fn callers_do_not_wait(rt: HostRuntime) {
 #[test]
 fn callers_who_meet_do_not_wait(rt: HostRuntime) {
     let (interlock, passes) = opened(&rt, rt.alloc(), 1);
-    assert!(rt; are_met(&interlock, passes.press, passes.robot));
+    let (_feed, _table, robot, press) = stations_of(&interlock, passes);
+    assert!(rt; are_met(&interlock, press, robot));
 }
