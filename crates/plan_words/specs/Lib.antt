@@ -1,0 +1,13 @@
+pub mod Group
+pub mod Words
+pub mod Run
+pub mod Motors
+pub mod Groups
+pub mod Table
+pub mod Rows
+pub mod Least
+pub mod Stops
+pub mod Route
+pub mod Engine
+pub mod Joined
+pub mod Drives
