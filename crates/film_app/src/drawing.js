@@ -43,6 +43,9 @@ function zoneLabel(zone, {owner, flag, posture}) {
     + write(x, y + 7, "short", `${name} ${owner ? markOf(owner) : "-"} ${SHORT[posture]}${dot}`);
 }
 
+// The style of a step's text: small enough that it ends within this width in a font with wide letters, too.
+const stepStyle = (step, width) => `${SOFT};font-size:${Math.min(13, Math.floor(width / step.length / 0.062) / 10)}px`;
+
 // Wide enough for the longest name.
 const cardWidth = () => Math.min(Math.max(148, 44 + 12.3 * Math.max(...MACHINES.map((it) => it.length))), 220);
 
@@ -58,7 +61,8 @@ function card(machine, frame) {
     + rect(x - half + 3, y - 15, mark, 30, 4, paint(colour(machine)))
     + write(x - half + 3 + mark / 2, y + 5, "name", markOf(machine), "middle", inkOn(machine))
     + write(left, y - 2, "name long", machine, "start") + write(left, y + 7, "name short", machine, "start")
-    + write(left, y + 12, "small step", step, "start", SOFT) + (isBarred ? stopSign(x + half - 12, y - 7) : "");
+    + write(left, y + 12, "small step", step, "start", stepStyle(step, x + half - 4 - left))
+    + (isBarred ? stopSign(x + half - 12, y - 7) : "");
 }
 
 function stopSign(x, y) {

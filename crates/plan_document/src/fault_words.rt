@@ -290,7 +290,7 @@ fn write_first<W: fmt::Write>(f: &mut fmt::Formatter<W>, first: Option<usize>) -
 }
 
 impl fmt::Display for TooWide {
-    /// Says what would help: to leave out so many bits, in places and in zones.
+    /// Says what would help: to leave out this number of bits, in places and in zones.
     fn fmt<W: fmt::Write>(&self, f: &mut fmt::Formatter<W>) -> fmt::Result {
         let TooWide {
             zones,

@@ -96,7 +96,7 @@ pub record BitsAreTold : Type 0 where
 abbrev pub reads : Text → Text → Text
 reads name meaning = codes "#define PLAN_" ++ (capitals name ++ (codes "(word) " ++ meaning))
 
--- bits of a zone, from the one so many above its lowest, and what is done with them
+-- bits of a zone, from the one `above` its lowest by this number, and what is done with them
 abbrev pub bits_above : Text → ℕ → Text → Text
 bits_above zone above rest =
     codes "((word) >> (PLAN_BIT_ZONE_" ++ (capitals zone ++ (codes " + " ++ (decimal above ++ (codes ") & " ++ rest))))

@@ -33,7 +33,7 @@ posture_name Moving = codes "MOVING"
 posture_name OpenIn = codes "OPENIN"
 posture_name OpenOut = codes "OPENOUT"
 
--- one bit, so many above the lowest: 0 is closed, and 1 the posture of this name
+-- one bit, `above` the lowest by this number: 0 is closed, and 1 the posture of this name
 abbrev pub two_reading : Text → ℕ → Text → Text
 two_reading other above zone =
     codes "#define PLAN_POSTURE_OF_"

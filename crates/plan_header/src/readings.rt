@@ -99,7 +99,7 @@ fn posture_name(posture: Posture) -> &'static str
     }
 }
 
-/// Adds a zone's posture, whose bits begin so many above the zone's lowest.
+/// Adds a zone's posture, whose bits begin `above` bits above the zone's lowest.
 fn push_posture(
     text: &mut String,
     zone: &str,

@@ -115,7 +115,7 @@ pub(crate) fn push_label(
     push_closing(text, content)
 }
 
-/// Adds how a text of so many letters begins.
+/// Adds how a text of `count` letters begins.
 fn push_opening(text: &mut String, class: &str, spot: Spot, count: usize) -> Result<(), AllocError>
     requires { spot.width ≤ 500 }
     ensures { OnOk result (string_bytes text.new ≡ string_bytes text.old
@@ -156,7 +156,7 @@ pub(crate) fn push_slanted(
     push_closing(text, content)
 }
 
-/// Adds how a text of so many letters begins at a slant.
+/// Adds how a text of `count` letters begins at a slant.
 fn push_slope(text: &mut String, class: &str, spot: Spot, count: usize) -> Result<(), AllocError>
     requires { spot.width ≤ 500 }
     ensures { OnOk result (string_bytes text.new ≡ string_bytes text.old

@@ -5,7 +5,7 @@
 //! with; and perhaps, after another arrow, what the row shows.
 //!
 //! In such a text `[..]` stands for any text. Between two `@` stand a number, a blank and a part of an input or of a
-//! text: the part is there so many times, `#` in it being the number of each, from 1 on.
+//! text: the part is there N times, where N is the number, and `#` in it is the number of each, from 1 on.
 
 use plan_app::serve::start;
 use std::alloc::{AllocError, Global};

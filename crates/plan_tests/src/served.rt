@@ -93,7 +93,7 @@ fn serves(rt: HostRuntime) {
     );
 }
 
-/// Whether it is told that reading has failed, after so many bytes.
+/// Whether it is told that reading has failed, after `left` bytes.
 fn is_failed_read<T: Threads + Wait + Clock + Sync>(
     rt: &T,
     alloc: Global,
@@ -126,7 +126,7 @@ const WRITTEN: &str = "\
     ./plan explore => [[machine]]\nname = \"a\"\nstart,\n|\
     ./plan --help => ";
 
-/// Whether a writer that fails after so many bytes of a text leads to status 1, and has taken these.
+/// Whether a writer that fails after `left` bytes of a text leads to status 1, and has taken these.
 fn is_cut<T: Threads + Wait + Clock + Sync>(
     rt: &T,
     alloc: Global,

@@ -69,7 +69,7 @@ wide_shape = record { flag = true; moves = true; opens_in = true; opens_out = tr
 abbrev pub gate_shape : ZoneShape
 gate_shape = record { flag = true; moves = false; opens_in = true; opens_out = false }
 
--- so many zones of five bits, and places
+-- a number of zones of five bits, and of places
 abbrev pub wide_counts : ℕ → ℕ → Counts
 wide_counts zones places =
     record { zones = zones; places = places; shapes = replicate zones wide_shape }

@@ -63,7 +63,7 @@ module _ {D : Type 0} (reads : D → Option ℕ → D → Type 0) (drives : D �
         → AreAllPermitted plan (at_work job.controller work.line job.devices) work.worked.come.turns
         work.worked.come.taken
 
--- each event is of one of the first machines, so many
+-- each event is of one of the first `n` machines
 abbrev pub AreOfMachines : ℕ → List Event → Type 0
 AreOfMachines n [] = ⊤
 AreOfMachines n (e ∷ history) = (e.machine < n) × AreOfMachines n history

@@ -126,7 +126,7 @@ module _ {D S Fault : Type 0} (reads : D → Option ℕ → D → Type 0) (drive
   AreRounds before [] = ⊤
   AreRounds before (now ∷ later) = TakesRound before now × AreRounds now later
 
-  -- so many rounds lead from one moment to another
+  -- this number of rounds leads from one moment to another
   pub record HasRenewed (rounds : ℕ) (first last : RoundMoment D S) : Type 0 where
     pub moments : List (RoundMoment D S)
     pub taken : AreRounds first moments

@@ -11,7 +11,7 @@ use Rattle.plan_workers.specs.Audited.{Journals}
 abbrev pub HasNoStranger : Journals → Type 0
 HasNoStranger journals = (m : ℕ) → watch < m → journals m ≡ []
 
--- what is left of journals of which so many entries have been read
+-- what is left of journals, of each of which this number of entries has been read
 abbrev pub rest_of : List ℕ → Journals → Journals
 rest_of read journals m = drop (get_or read m 0) (journals m)
 

@@ -1,4 +1,5 @@
-//! A gate that counts how often machines ask it, and may have them wait for each other.
+//! A gate that counts how often machines ask it, and may have them wait for each other. It has counters for the calls
+//! of their potentiometers' closures.
 ghost use Rattle.std.specs.Prelude.{◌<◌};
 
 use cell_threads::Gate;
@@ -28,7 +29,11 @@ pub struct Doorkeeper {
     asked: [AtomicU64; 7],
     // How often `end` said that each takes no more turns.
     ended: [AtomicU64; 7],
-    // How many asks had another number than that of the machine's asks before, or waited in vain.
+    /// How often the closures were called: of the first arm, the second arm and the robot's rotation, of the table's
+    /// rotation, and of the gripper's height.
+    pub calls: [AtomicU64; 5],
+    // How many asks had another number than that of the machine's asks before, came before or after another number of
+    // calls of its closures, or waited in vain.
     astray: AtomicU64,
 }
 
@@ -39,6 +44,7 @@ impl Doorkeeper {
             waits,
             asked: [zero(), zero(), zero(), zero(), zero(), zero(), zero()],
             ended: [zero(), zero(), zero(), zero(), zero(), zero(), zero()],
+            calls: [zero(), zero(), zero(), zero(), zero()],
             astray: zero(),
         }
     }
@@ -55,6 +61,25 @@ impl Doorkeeper {
         }
         let of_watch = self.asked[6].load(Ordering::SeqCst) | self.ended[6].load(Ordering::SeqCst);
         of_watch == 0 && self.astray.load(Ordering::SeqCst) == 0
+    }
+
+    /// Whether each closure was called once in each of its machine's turns, if the six machines took this number.
+    pub fn was_called(&self, turns: &[u32; 6]) -> bool {
+        let [_, table, robot, _, _, crane] = *turns;
+        self.is_called(Machine::Robot, u64::from(robot))
+            && self.is_called(Machine::Table, u64::from(table))
+            && self.is_called(Machine::Crane, u64::from(crane))
+    }
+
+    // Whether each closure of a machine was called this number of times.
+    fn is_called(&self, machine: Machine, times: u64) -> bool {
+        let [arm1, arm2, rotation, turn, gripper] = &self.calls;
+        match machine {
+            Machine::Robot => is_at(arm1, times) && is_at(arm2, times) && is_at(rotation, times),
+            Machine::Table => is_at(turn, times),
+            Machine::Crane => is_at(gripper, times),
+            Machine::Feed | Machine::Press | Machine::Deposit | Machine::Watch => true,
+        }
     }
 
     /// Whether some first machines have asked this number of times, and the others never.
@@ -98,6 +123,11 @@ impl Doorkeeper {
     }
 }
 
+// Whether a number is this.
+fn is_at(number: &AtomicU64, wanted: u64) -> bool {
+    number.load(Ordering::SeqCst) == wanted
+}
+
 // Whether a number comes to be this or more, at one of many looks.
 fn does_come(number: &AtomicU64, wanted: u64) -> bool {
     for _ in 0..200_000_000u32 {
@@ -131,7 +161,8 @@ impl Gate for Doorkeeper {
     fn pass(&self, machine: Machine, turn: u32) -> bool {
         let at = place_of(machine);
         let before = self.asked[at].fetch_add(1, Ordering::SeqCst);
-        if before != u64::from(turn) || !self.may_begin(machine, turn) {
+        let is_called = self.is_called(machine, before);
+        if before != u64::from(turn) || !is_called || !self.may_begin(machine, turn) {
             self.astray.fetch_add(1, Ordering::SeqCst);
         }
         at < self.lets.len() && turn < self.lets[at]
