@@ -66,16 +66,18 @@ start = \"0000000001\"
 ./explore  => 2 =>  => error: the only argument is |\
 ./explore explore => 2 =>  => error: the only argument is ";
 
-/// Whether the program answers a row so, and tells no progress.
+/// Whether the program answers a row so, reads all its input, and tells no progress.
 fn is_row<T: Threads + Sync>(rt: &T, alloc: Global, row: &str) -> bool {
     let (line, input) = (part(row, " => ", 0), part(row, " => ", 2));
     let (status, text) = (part(row, " => ", 1), part(row, " => ", 3));
+    let mut reader = input.as_bytes();
     let mut written = Vec::new(alloc);
-    let found = run_unseen(rt, alloc, line, &mut input.as_bytes(), &mut written);
+    let found = run_unseen(rt, alloc, line, &mut reader, &mut written);
     let digit = [b'0'.wrapping_add(found)];
     digit.as_slice() == status.as_bytes()
         && written.as_slice().starts_with(text.as_bytes())
         && (written.len() == text.len() || !text.ends_with("\n"))
+        && reader.is_empty()
 }
 
 #[test]
@@ -119,25 +121,72 @@ fn shows_rings(rt: HostRuntime) {
     }
 }
 
-#[test]
-fn refuses_bytes(rt: HostRuntime) {
+/// The help. No clause has its text.
+const HELP: &str = "\
+Reads a configuration, as `cell sim` does, and explores every schedule from its start: whether
+the six machines can come to a standstill, in which no machine can go on. Its schedule isn't used.
+It prints a configuration whose comments say what was found: the number of situations, or the ring of
+those who wait, and a schedule that leads there: explore < examples/standstill.toml | cell sim
+Where there is no standstill, it says within how many steps plates move. A step is a turn that
+changes something. A schedule is fair with bound k if the press is passed over fewer than k times
+while it could go on, and each other machine waits for fewer than k steps on end.
+--starve shows a round of turns that move no plate, though each machine waits for few steps on end,
+and a schedule that goes round: explore --starve < examples/four_plates.toml | cell sim
+--all explores all 685 starts in two threads, by their plates.
+--version prints the version.
+Standard error says how long it took.
+Exit status: 0 on success and for help; 2 for bad arguments; otherwise 1: a standstill, a fair
+schedule in which a machine starves, a refused configuration, a failed read or write, or no memory.
+With --all it is 0 whatever was found of the starts.
+";
+
+/// Arguments, the status and the text. The name is no word: it may be any bytes, or absent.
+const STARTED: &[(&[&[u8]], u8, &str)] = &[
+    (&[], 1, "fault config letter\n"),
+    (&[b"bad\xff", b"--help"], 0, HELP),
+    (&[b"./explore", b"\xff"], 2, "error: a word isn't UTF-8\n"),
+    (
+        &[b"bad\xff", b"--all", b"\xff"],
+        2,
+        "error: a word isn't UTF-8\n",
+    ),
+];
+
+/// Whether the program that is started with these arguments answers so. It reads its input and tells its time only if
+/// it is asked of a start.
+fn is_started_by<T: Threads + Sync>(
+    rt: &T,
+    alloc: Global,
+    arguments: &[&[u8]],
+    status: u8,
+    text: &str,
+) -> bool {
     let clock = GivenClock::new(Some(100), Some(2_600));
-    let env = Given {
-        arguments: &[b"bad\xff", b"--all", b"\xff"],
-    };
-    let mut written = Vec::new(rt.alloc());
-    let mut progress = Vec::new(rt.alloc());
-    let status = start(
-        &rt,
+    let env = Given { arguments };
+    let mut reader = "start = \"0000000000\"\nschedule = \"x\"\n".as_bytes();
+    let mut written = Vec::new(alloc);
+    let mut progress = Vec::new(alloc);
+    let found = start(
+        rt,
         &clock,
-        rt.alloc(),
+        alloc,
         &env,
-        &mut "".as_bytes(),
+        &mut reader,
         &mut written,
         &mut progress,
     );
-    let is_told = written.as_slice() == "error: a word isn't UTF-8\n".as_bytes();
-    assert!(rt; status == 2 && is_told && progress.is_empty());
+    found == status
+        && written.as_slice() == text.as_bytes()
+        && reader.is_empty() == (status == 1)
+        && progress.is_empty() != (status == 1)
+}
+
+#[test]
+fn starts(rt: HostRuntime) {
+    for (arguments, status, text) in STARTED {
+        let is_started = is_started_by(&rt, rt.alloc(), arguments, *status, text);
+        assert!(rt; is_started, "{} arguments", arguments.len());
+    }
 }
 
 const EMPTY: &str = "start = \"0000000000\"\n";
