@@ -52,48 +52,49 @@ fn progress_of(
     )
 }
 
-/// How many turns come again and again in an order in which that machine starves, or all do; 0 if none does. `None` if
-/// that isn't known.
-fn turns_in(progress: &Progress) -> Option<usize> {
+/// How many turns come again and again in an order in which that machine starves, or all do; and how soon it goes on if
+/// it doesn't: how often `k` turns can pass, and how often `k * k`. `None` if that isn't known.
+fn figures_of(progress: &Progress) -> Option<(usize, usize, usize)> {
     match progress {
-        Progress::Starves(order) => Some(order.cycle.len()),
-        Progress::Within(_) => Some(0),
+        Progress::Starves(order) => Some((order.cycle.len(), 0, 0)),
+        Progress::Within(bound) => Some((0, bound.plain, bound.helped)),
         _ => None,
     }
 }
 
 /// The same of a plan, with plates in these places. `None` also if memory runs out.
-fn turns_by(
+fn figures_by(
     alloc: Global,
     plan: &ProgrammedPlan,
     places: [bool; 2],
     who: Option<u8>,
     strong: &[u8],
-) -> Option<usize> {
+) -> Option<(usize, usize, usize)> {
     let opening = opening_with(places);
     let progress = progress_of(alloc, plan, &opening, who, strong).ok()?;
-    turns_in(&progress)
+    figures_of(&progress)
 }
 
 /// The same of a document.
-fn starving_turns(
+fn figures(
     alloc: Global,
     document: &str,
     places: [bool; 2],
     who: Option<u8>,
     strong: &[u8],
-) -> Option<usize> {
+) -> Option<(usize, usize, usize)> {
     let plan = plan_in(alloc, document)?;
-    turns_by(alloc, &plan, places, who, strong)
+    figures_by(alloc, &plan, places, who, strong)
 }
 
-// The press alone takes its four turns, unless the loader is never passed over for ever. Some machine goes on anyway,
-// but at a standstill.
+// The press alone takes its four turns, unless the loader is never passed over for ever: then it goes on as soon as the
+// cart at a dock does (`going.rt`), where the programs are the same. Some machine goes on anyway, within `k` turns, but
+// at a standstill.
 #[test]
 fn strong_fairness_helps(rt: HostRuntime) {
     let (none, one) = ([false, false], [true, false]);
-    assert!(rt; starving_turns(rt.alloc(), SHARING, none, Some(0), &[]) == Some(4));
-    assert!(rt; starving_turns(rt.alloc(), SHARING, none, Some(0), &[0]) == Some(0));
-    assert!(rt; starving_turns(rt.alloc(), SHARING, none, None, &[]) == Some(0));
-    assert!(rt; starving_turns(rt.alloc(), STANDS, one, None, &[0, 1]) == Some(1));
+    assert!(rt; figures(rt.alloc(), SHARING, none, Some(0), &[]) == Some((4, 0, 0)));
+    assert!(rt; figures(rt.alloc(), SHARING, none, Some(0), &[0]) == Some((0, 3, 3)));
+    assert!(rt; figures(rt.alloc(), SHARING, none, None, &[]) == Some((0, 1, 0)));
+    assert!(rt; figures(rt.alloc(), STANDS, one, None, &[0, 1]) == Some((1, 0, 0)));
 }

@@ -106,14 +106,46 @@ fn is_failed_read<T: Threads + Wait + Clock + Sync>(
     status == 1 && written.as_slice() == b"fault read\n".as_slice()
 }
 
-// Who asks for help reads nothing.
 #[test]
 fn tells_a_failed_read(rt: HostRuntime) {
     for left in 0..=PRESS.len() {
         let is_told = is_failed_read(&rt, rt.alloc(), b"check", left)
-            && is_failed_read(&rt, rt.alloc(), b"replay", left)
-            && !is_failed_read(&rt, rt.alloc(), b"--help", left);
+            && is_failed_read(&rt, rt.alloc(), b"replay", left);
         assert!(rt; is_told, "after {left}");
+    }
+}
+
+/// Lines of words that ask for help or for the version.
+const ASKED: &str = "\
+    ./plan --help|\
+    ./plan -h checks|\
+    ./plan check --help|\
+    ./plan replay -h|\
+    ./plan explore --help --version|\
+    ./plan header --help|\
+    ./plan draw --help|\
+    ./plan run --help|\
+    ./plan --version";
+
+/// Whether these words end well, and nothing of the input is read.
+fn is_left_alone<T: Threads + Wait + Clock + Sync>(
+    rt: &T,
+    alloc: Global,
+    line: &str,
+) -> Result<bool, AllocError> {
+    let arguments = arguments_in(alloc, line)?;
+    let mut reader = PRESS.as_bytes();
+    let mut written = Vec::new(alloc);
+    let status = run(rt, alloc, arguments.as_slice(), &mut reader, &mut written);
+    Ok(status == 0 && reader.len() == PRESS.len())
+}
+
+// No clause says so: a program that waits for input before its help would meet them all.
+#[test]
+fn leaves_the_input_alone(rt: HostRuntime) {
+    for number in 0..count_parts(ASKED, "|") {
+        let line = part(ASKED, "|", number);
+        assert!(rt; matches!(is_left_alone(&rt, rt.alloc(), line), Ok(true)), "{line}");
     }
 }
 
