@@ -2,8 +2,8 @@
 
 use super::doubles::are_answered;
 
-/// Machines, poses, places, lines of a program and zones, as many as there may be, and one more. Zones have two bits, or
-/// by poses that move and open them four.
+/// Machines, poses, places, lines of a program and zones: as many as there may be, and one more. Zones have two bits;
+/// those that poses move and open have four.
 const COUNTS: &str = "\
 0: ./plan check
 =>
