@@ -5,7 +5,7 @@ use cell_config::{Config, ConfigFault, read_config};
 use cell_types::Place;
 use std::alloc::{AllocError, Global};
 use std::io::Read;
-use test_doubles::{bytes_in, count_parts, part};
+use test_doubles::{FailingReader, bytes_in, count_parts, part};
 
 /// Whole texts, each with its judgement. It is the text of the fault; or `well`, the places with plates, the stamp, the
 /// turns, with a mark those that get Busy, and of each potentiometer both raw values, both positions and the tolerance,
@@ -250,6 +250,19 @@ fn judges_long_texts(rt: HostRuntime) {
     for number in 0..7usize {
         let row = part(LONG, "|", number);
         assert!(rt; is_long_row(rt.alloc(), row, COUNTS[number]), "{row}");
+    }
+    assert!(rt; is_read_bytewise(rt.alloc()));
+}
+
+/// Whether the longest text is read a byte at a time.
+fn is_read_bytewise(alloc: Global) -> bool {
+    match " ".repeat(alloc, 2_097_131) {
+        Ok(mut text) => {
+            let is_made = text.insert_str(0, START).is_ok() && text.len() == 2_097_152;
+            let mut reader = FailingReader::new(text.as_str().as_bytes(), usize::MAX);
+            is_made && read_config(alloc, &mut reader).is_ok()
+        }
+        Err(_) => false,
     }
 }
 

@@ -129,14 +129,35 @@ fn explains(rt: HostRuntime) {
     }
 }
 
+/// Arguments, the status and the text. The program's own name may be any bytes, or missing; a word may not.
+const STARTED: &[(&[&[u8]], u8, &str)] = &[
+    (&[b"bad\xff", b"\xff"], 2, "error: a word isn't UTF-8\n"),
+    (
+        &[b"bad\xff", b"sim"],
+        1,
+        "config missing: there is no key start, such as start = \"0000000000\"\n",
+    ),
+    (
+        &[],
+        1,
+        "record 0, line 1: there is none; a script begins with a start, such as start,0000000000\n",
+    ),
+];
+
+/// Whether the program, started with these arguments, answers an empty input with this status and text.
+fn is_started_by(alloc: Global, arguments: &[&[u8]], status: u8, text: &str) -> bool {
+    let mut written = Vec::new(alloc);
+    let env = Given { arguments };
+    let answered = start(alloc, &env, &mut "".as_bytes(), &mut written);
+    answered == status && written.as_slice() == text.as_bytes()
+}
+
 #[test]
-fn refuses_bytes(rt: HostRuntime) {
-    let env = Given {
-        arguments: &[b"bad\xff", b"\xff"],
-    };
-    let mut written = Vec::new(rt.alloc());
-    let status = start(rt.alloc(), &env, &mut "".as_bytes(), &mut written);
-    assert!(rt; status == 2 && written.as_slice() == b"error: a word isn't UTF-8\n".as_slice());
+fn starts(rt: HostRuntime) {
+    for (arguments, status, text) in STARTED {
+        let is_started = is_started_by(rt.alloc(), arguments, *status, text);
+        assert!(rt; is_started, "{} arguments", arguments.len());
+    }
 }
 
 /// Whether a writer that fails after this number of bytes leads to the status of a failure, or of refused words, and

@@ -159,7 +159,7 @@ const ROWS: &[Row] = &[
     (6, [9; 6], Waits::ForAll(0, 9)),
     // they meet at turn 1 alone
     (3, [9; 6], Waits::ForAll(1, 2)),
-    // the feed belt is shut out of turn 1
+    // the feed belt is shut out of turn 1 alone
     (3, [1, 9, 9, 9, 9, 9], Waits::Nobody),
     // none is let in; each machine is shut out at another turn
     (6, [0; 6], Waits::Nobody),

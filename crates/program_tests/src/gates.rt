@@ -19,10 +19,10 @@ pub enum Waits {
     InOrder,
 }
 
-/// Lets each of six machines begin its first turns, and counts how often each has asked.
+/// Lets each of six machines begin its turns but for one, and counts how often each has asked.
 #[derive(Drop)]
 pub struct Doorkeeper {
-    // How many turns each may begin.
+    // The one turn that each may not begin. It may begin later ones, but a machine that was shut out asks no more.
     lets: [u32; 6],
     waits: Waits,
     // How often each machine has asked, and the watch.
@@ -165,7 +165,7 @@ impl Gate for Doorkeeper {
         if before != u64::from(turn) || !is_called || !self.may_begin(machine, turn) {
             self.astray.fetch_add(1, Ordering::SeqCst);
         }
-        at < self.lets.len() && turn < self.lets[at]
+        at < self.lets.len() && turn != self.lets[at]
     }
 
     fn end(&self, machine: Machine) {

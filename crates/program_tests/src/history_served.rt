@@ -62,8 +62,15 @@ fn is_row<T: Threads + Wait + Sync>(rt: &T, alloc: Global, row: &str) -> bool {
     }
 }
 
-/// The answer to a word that isn't UTF-8.
-const NO_TEXT: &str = " => 2 =>  => error: a word isn't UTF-8\n";
+/// Arguments, and a row that is answered to them. The program's own name may be any bytes, or missing; a word may not.
+const STARTED: &[(&[&[u8]], &str)] = &[
+    (
+        &[b"bad\xff", b"\xff"],
+        " => 2 =>  => error: a word isn't UTF-8\n",
+    ),
+    (&[b"bad\xff"], " => 1 =>  => fault config missing\n"),
+    (&[], " => 1 =>  => fault config missing\n"),
+];
 
 #[test]
 fn is_served_as_cell_serves(rt: HostRuntime) {
@@ -71,5 +78,7 @@ fn is_served_as_cell_serves(rt: HostRuntime) {
         let row = part(ROWS, "|", number);
         assert!(rt; is_row(&rt, rt.alloc(), row), "{row}");
     }
-    assert!(rt; is_started_by(&rt, rt.alloc(), &[b"bad\xff", b"\xff"], NO_TEXT));
+    for (arguments, row) in STARTED {
+        assert!(rt; is_started_by(&rt, rt.alloc(), arguments, row), "{row}");
+    }
 }

@@ -38,12 +38,19 @@ const SCHEDULED: &str = "start = \"0000000000\"\nschedule = \"ftrpdcftrpdcftrpdc
 /// A configuration that is refused.
 const REFUSED: &str = "start = \"0100000000\"\nschedule = \"pPx\"\n";
 
-// Within three turns every machine asks.
+// Within three turns every machine asks. If a word were left out, the refused words would be answered otherwise.
 const ROWS: &[Row] = &[
     ("cell", SCRIPT, 0, TEXT, TEXT),
     ("cell sim", SCHEDULED, 0, "", "audit ok\n"),
     ("cell sim", REFUSED, 1, "", "fault config letter\n"),
     (RUN, EMPTY, 0, "", "audit ok\n"),
+    (
+        "cell sim other.csv",
+        SCHEDULED,
+        2,
+        "",
+        "\n\nUsage: cell sim\n\nFor more information, try '--help'.\n",
+    ),
 ];
 
 // Whether a run writes a whole text, which ends so, or says that memory ran out, perhaps after some lines of an

@@ -55,6 +55,26 @@ fn serves(rt: HostRuntime) {
     }
 }
 
+/// Whether a configuration with one byte too many is refused as too long.
+fn is_too_long<T: Threads + Wait + Sync>(rt: &T, alloc: Global) -> bool {
+    match vec![in alloc; b' '; 2_097_153] {
+        Ok(long) => is_answered(
+            rt,
+            alloc,
+            "cell sim",
+            &mut long.as_slice(),
+            "1",
+            "fault config long\n",
+        ),
+        Err(_) => false,
+    }
+}
+
+#[test]
+fn tells_a_long_configuration(rt: HostRuntime) {
+    assert!(rt; is_too_long(&rt, rt.alloc()));
+}
+
 // A schedule as long as one may be. Nearly every turn asks, so nearly as many entries are audited.
 #[test]
 fn simulates_the_longest_schedule(rt: HostRuntime) -> Result<(), AllocError> {

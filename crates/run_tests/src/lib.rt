@@ -11,3 +11,5 @@ mod film;
 mod resume;
 #[cfg(test)]
 mod runs;
+#[cfg(test)]
+mod stops;

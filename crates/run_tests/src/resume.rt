@@ -3,3 +3,4 @@
 mod machines;
 mod plant;
 mod power_cuts;
+mod wired;

@@ -52,16 +52,34 @@ fn serves(rt: HostRuntime) {
     }
 }
 
-#[test]
-fn refuses_bytes(rt: HostRuntime) {
-    let env = Given {
-        arguments: &[b"bad\xff", b"--help", b"\xff"],
-    };
+/// Arguments, the status, the text, and how many bytes of the input are left. The program's own name may be any bytes,
+/// or missing; a word may not.
+const STARTED: &[(&[&[u8]], u8, &str, usize)] = &[
+    (
+        &[b"bad\xff", b"--help", b"\xff"],
+        2,
+        "error: a word isn't UTF-8\n",
+        10,
+    ),
+    (&[b"bad\xff"], 1, "fault config kind\n", 0),
+    (&[], 1, "fault config kind\n", 0),
+];
+
+/// Whether the program, started with these arguments, answers a configuration so.
+fn is_started_by(alloc: Global, arguments: &[&[u8]], status: u8, text: &str, left: usize) -> bool {
     let mut reader = "start = 5\n".as_bytes();
-    let mut written = Vec::new(rt.alloc());
-    let status = start(rt.alloc(), &env, &mut reader, &mut written);
-    let is_told = written.as_slice() == "error: a word isn't UTF-8\n".as_bytes();
-    assert!(rt; status == 2 && is_told && reader.len() == 10);
+    let mut written = Vec::new(alloc);
+    let env = Given { arguments };
+    let answered = start(alloc, &env, &mut reader, &mut written);
+    answered == status && written.as_slice() == text.as_bytes() && reader.len() == left
+}
+
+#[test]
+fn starts(rt: HostRuntime) {
+    for (arguments, status, text, left) in STARTED {
+        let is_started = is_started_by(rt.alloc(), arguments, *status, text, *left);
+        assert!(rt; is_started, "{} arguments", arguments.len());
+    }
 }
 
 /// A configuration.

@@ -1,9 +1,12 @@
-//! A run without memory, in which the watch stops the cell. That a busy turn stops no machine is what the laws
-//! `sides_by_answers` and `turns_at_a_bench` of `cell_unit` say.
+//! The run in which the feed belt hands a plate to the table, with busy turns and without memory. Another one without
+//! memory, in which the watch stops the cell.
 
 use crate::runs::simulated_cells::run;
 use cell_plant::{RunRecord, Status, Turn};
-use cell_types::Machine;
+use cell_types::{Machine, Place};
+
+// A plate is at the feed belt's end.
+const START: &str = "start = \"0100000000\"";
 
 const EMPTY: &str = "start = \"0000000000\"";
 
@@ -11,6 +14,32 @@ fn turn_of(machine: Machine) -> Turn {
     Turn {
         machine,
         busy: false,
+    }
+}
+
+// Six turns of the table, eleven of the feed belt, and one more of the table.
+fn first_turns() -> [Turn; 18] {
+    let mut turns = [turn_of(Machine::Feed); 18];
+    turns[..6].fill(turn_of(Machine::Table));
+    turns[17] = turn_of(Machine::Table);
+    turns
+}
+
+// Whether there is a record, and no machine was stopped.
+fn stops_nobody(record: Option<RunRecord>) -> bool {
+    match record {
+        Some(record) => record.status == [Status::Fine; 7],
+        None => false,
+    }
+}
+
+// One turn of the feed belt after another is busy: no machine stops.
+#[test]
+fn busy_turns_stop_nobody(rt: HostRuntime) {
+    for busy in 6..17usize {
+        let mut turns = first_turns();
+        turns[busy].busy = true;
+        assert!(rt; stops_nobody(run(rt.alloc(), START, &turns)), "{busy}");
     }
 }
 
@@ -58,12 +87,32 @@ fn lacks_but_memory(record: &RunRecord) -> bool {
     true
 }
 
-// Whichever allocation fails, a run has a record, or the fault says why not.
+// Whether no machine stopped but for memory; without one, the plate is on the table.
+fn ends_or_lacks(record: &RunRecord) -> bool {
+    let is_over = match record.end {
+        Some(end) => end.is_full(Place::Table) && end.stamp() == 11,
+        None => false,
+    };
+    let mut lacks = false;
+    let mut is_right = true;
+    for machine in 0..7usize {
+        let status = record.status[machine];
+        lacks = lacks || status == Status::Memory;
+        is_right = is_right && (status == Status::Fine || status == Status::Memory);
+    }
+    is_right && (lacks || is_over)
+}
+
+// Whichever allocation fails, each run has a record, or the fault says why not.
 #[test]
 fn a_run_without_memory(rt: HostRuntime) {
-    let is_right = match run(rt.alloc(), EMPTY, &TWICE.map(turn_of)) {
+    let is_first_right = match run(rt.alloc(), START, &first_turns()) {
+        Some(record) => ends_or_lacks(&record),
+        None => true,
+    };
+    let is_other_right = match run(rt.alloc(), EMPTY, &TWICE.map(turn_of)) {
         Some(record) => lacks_but_memory(&record),
         None => true,
     };
-    assert!(rt; is_right);
+    assert!(rt; is_first_right && is_other_right);
 }
