@@ -4,6 +4,8 @@
 #![tactic(auto)]
 
 #[cfg(test)]
+mod drives;
+#[cfg(test)]
 mod faults;
 #[cfg(test)]
 mod film;
@@ -11,5 +13,3 @@ mod film;
 mod resume;
 #[cfg(test)]
 mod runs;
-#[cfg(test)]
-mod stops;
