@@ -145,7 +145,10 @@ fn is_left_alone<T: Threads + Wait + Clock + Sync>(
 fn leaves_the_input_alone(rt: HostRuntime) {
     for number in 0..count_parts(ASKED, "|") {
         let line = part(ASKED, "|", number);
-        assert!(rt; matches!(is_left_alone(&rt, rt.alloc(), line), Ok(true)), "{line}");
+        assert!(rt;
+            matches!(is_left_alone(&rt, rt.alloc(), line), Ok(true)),
+            "{line}"
+        );
     }
 }
 

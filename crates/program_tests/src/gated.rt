@@ -14,7 +14,6 @@ use cell_workers::run_cell;
 use std::alloc::Global;
 use std::sync::Wait;
 use std::sync::atomic::{AtomicU64, Ordering};
-use std::test::Fail;
 use std::thread::Threads;
 
 // Raw values from 0 to 4000 over an axis.
@@ -93,18 +92,26 @@ where
     }
 }
 
-// Such a run of a cell without plates from this stamp on, whose closures count their calls. `None` is a fault.
-fn run_counted<R: Threads + Wait + Sync>(
+// Such a run of a cell without plates from this stamp on, whose closures count their calls.
+fn run<R: Threads + Wait + Sync>(
     rt: &R,
     alloc: Global,
     stamp: u32,
     turns: Option<u32>,
     gate: &Doorkeeper,
-) -> Result<Option<RunRecord>, Fail> {
-    let start = State::start([false; 10], stamp)?;
-    let arm = points_of(1000)?;
-    let rotation = points_of(2000)?;
-    let turn = points_of(500)?;
+) -> Option<RunRecord> {
+    let Ok(start) = State::start([false; 10], stamp) else {
+        return None;
+    };
+    let Ok(arm) = points_of(1000) else {
+        return None;
+    };
+    let Ok(rotation) = points_of(2000) else {
+        return None;
+    };
+    let Ok(turn) = points_of(500) else {
+        return None;
+    };
     let calls = &gate.calls;
     let gauges = (
         |raw: u16| line_with_count(&calls[0], arm, raw),
@@ -118,21 +125,7 @@ fn run_counted<R: Threads + Wait + Sync>(
         rotation,
         turn,
     };
-    Ok(run_by(rt, alloc, start, gauges, points, turns, gate))
-}
-
-// Such a run, without the fault of a start or of points.
-fn run<R: Threads + Wait + Sync>(
-    rt: &R,
-    alloc: Global,
-    stamp: u32,
-    turns: Option<u32>,
-    gate: &Doorkeeper,
-) -> Option<RunRecord> {
-    match run_counted(rt, alloc, stamp, turns, gate) {
-        Ok(record) => record,
-        Err(_) => None,
-    }
+    run_by(rt, alloc, start, gauges, points, turns, gate)
 }
 
 // The line, and the call is counted.
