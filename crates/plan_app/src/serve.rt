@@ -217,7 +217,7 @@ where
     }
     let (document, script) = bytes.split_at(plan_length(bytes));
     match plan_of(alloc, document) {
-        Ok(plan) => serve_plan(rt, alloc, request, plan, script, writer),
+        Ok(plan) => serve_plan(rt, alloc, request, &plan, script, writer),
         Err(fault) => refuse_document(alloc, writer, fault),
     }
 }
@@ -227,7 +227,7 @@ fn serve_plan<T, W: Write>(
     rt: &T,
     alloc: Global,
     request: Request,
-    plan: ProgrammedPlan,
+    plan: &ProgrammedPlan,
     script: &[u8],
     writer: &mut W,
 ) -> Exit
@@ -235,38 +235,38 @@ where
     T: Threads + Wait + Clock + Sync,
     ensures status { result ≢ Exit.Refused }
     ensures reported { request ≡ Request.Check → result ≡ Exit.Well →
-        WritesReport plan script.now (W.contents writer.old) (W.contents writer.new) }
+        WritesReport plan.now script.now (W.contents writer.old) (W.contents writer.new) }
     ensures answered { request ≡ Request.Replay → result ≡ Exit.Well →
-        AnswersScript plan.named script.now (W.contents writer.old) (W.contents writer.new) }
+        AnswersScript plan.now.named script.now (W.contents writer.old) (W.contents writer.new) }
     ensures free { request ≡ Request.Explore → result ≡ Exit.Well →
-        FindsFree plan script.now (W.contents writer.old) (W.contents writer.new) }
+        FindsFree plan.now script.now (W.contents writer.old) (W.contents writer.new) }
     ensures paged { request ≡ Request.Page → result ≡ Exit.Well →
-        FindsFree plan script.now (W.contents writer.old) (W.contents writer.new) }
+        FindsFree plan.now script.now (W.contents writer.old) (W.contents writer.new) }
     ensures header { request ≡ Request.Header → result ≡ Exit.Well →
-        Appends (W.contents writer.old) (W.contents writer.new) (header_text plan) }
+        Appends (W.contents writer.old) (W.contents writer.new) (header_text plan.now) }
     ensures python { request ≡ Request.Module → result ≡ Exit.Well →
         Appends (W.contents writer.old) (W.contents writer.new)
-        (module_text plan.named plan.motors.names plan.motors.motors.items) }
+        (module_text plan.now.named plan.now.motors.names plan.now.motors.motors.items) }
     ensures picture { request ≡ Request.Draw → result ≡ Exit.Well →
-        WritesPicture plan (W.contents writer.old) (W.contents writer.new) }
+        WritesPicture plan.now (W.contents writer.old) (W.contents writer.new) }
     ensures ran { (turns : ℕ) → request ≡ Request.Run turns → result ≡ Exit.Well →
-        WritesRun plan turns script.now (W.contents writer.old) (W.contents writer.new) }
+        WritesRun plan.now turns script.now (W.contents writer.old) (W.contents writer.new) }
     ensures shown { (turns : ℕ) → request ≡ Request.RunPage turns → result ≡ Exit.Well →
-        WritesRunPage plan turns script.now (W.contents writer.old) (W.contents writer.new) }
+        WritesRunPage plan.now turns script.now (W.contents writer.old) (W.contents writer.new) }
     ensures failed { result ≡ Exit.Failed →
         WroteUnread (W.contents writer.old) (W.contents writer.new)
-        ⊎ FailsBy request plan script.now (W.contents writer.old) (W.contents writer.new) }
+        ⊎ FailsBy request plan.now script.now (W.contents writer.old) (W.contents writer.new) }
 {
     match request {
-        Request::Header => print_header(alloc, &plan, writer),
-        Request::Module => print_module(alloc, &plan, writer),
-        Request::Draw => print_picture(alloc, &plan, writer),
+        Request::Header => print_header(alloc, plan, writer),
+        Request::Module => print_module(alloc, plan, writer),
+        Request::Draw => print_picture(alloc, plan, writer),
         Request::Replay => replay_script(alloc, &plan.named, script, writer),
-        Request::Explore => explore_script(alloc, &plan, script, writer),
-        Request::Page => page_script(alloc, &plan, script, writer),
-        Request::Run(turns) => run_script(rt, alloc, &plan, turns, script, writer),
-        Request::RunPage(turns) => run_page_script(rt, alloc, &plan, turns, script, writer),
-        _ => report_script(alloc, &plan, script, writer),
+        Request::Explore => explore_script(alloc, plan, script, writer),
+        Request::Page => page_script(alloc, plan, script, writer),
+        Request::Run(turns) => run_script(rt, alloc, plan, turns, script, writer),
+        Request::RunPage(turns) => run_page_script(rt, alloc, plan, turns, script, writer),
+        _ => report_script(alloc, plan, script, writer),
     }
 }
 
@@ -641,21 +641,9 @@ where
     ensures read { TakesAtMost (R.remaining reader.old) (R.remaining reader.new) max_bytes_read }
 {
     match request::request_of(words) {
-        Some(Request::Check) => serve_input(rt, alloc, Request::Check, reader, writer).status(),
-        Some(Request::Header) => serve_input(rt, alloc, Request::Header, reader, writer).status(),
-        Some(Request::Module) => serve_input(rt, alloc, Request::Module, reader, writer).status(),
-        Some(Request::Draw) => serve_input(rt, alloc, Request::Draw, reader, writer).status(),
-        Some(Request::Replay) => serve_input(rt, alloc, Request::Replay, reader, writer).status(),
-        Some(Request::Explore) => serve_input(rt, alloc, Request::Explore, reader, writer).status(),
-        Some(Request::Page) => serve_input(rt, alloc, Request::Page, reader, writer).status(),
-        Some(Request::Run(turns)) => {
-            serve_input(rt, alloc, Request::Run(turns), reader, writer).status()
-        }
-        Some(Request::RunPage(turns)) => {
-            serve_input(rt, alloc, Request::RunPage(turns), reader, writer).status()
-        }
         Some(Request::Help) => print(writer, HELP.as_bytes()).status(),
         Some(Request::Version) => print_version(writer, "plan").status(),
+        Some(request) => serve_input(rt, alloc, request, reader, writer).status(),
         None => refuse_words(writer, OTHER_WORDS).status(),
     }
 }

@@ -7,36 +7,36 @@ pub returns-in-Explore-clause-failed : goal.returns-in-Explore-clause-failed
 returns-in-Explore-clause-failed g c = λ failed.
     let old = g.W.Write.contents c.args.writer.now in
     let new = g.W.Write.contents c.explore_script.new.writer in
-    subst (λ request. WroteUnread old new ⊎ FailsBy request c.args.plan c.args.script.now old new) (sym c.in-Explore.is)
+    subst (λ request. WroteUnread old new ⊎ FailsBy request c.args.plan.now c.args.script.now old new) (sym c.in-Explore.is)
     (c.explore_script.ensures.failed failed)
 
 pub returns-in-Page-clause-failed : goal.returns-in-Page-clause-failed
 returns-in-Page-clause-failed g c = λ failed.
     let old = g.W.Write.contents c.args.writer.now in
     let new = g.W.Write.contents c.page_script.new.writer in
-    subst (λ request. WroteUnread old new ⊎ FailsBy request c.args.plan c.args.script.now old new) (sym c.in-Page.is)
+    subst (λ request. WroteUnread old new ⊎ FailsBy request c.args.plan.now c.args.script.now old new) (sym c.in-Page.is)
     (c.page_script.ensures.failed failed)
 
 pub returns-in-Run-clause-failed : goal.returns-in-Run-clause-failed
 returns-in-Run-clause-failed g c = λ failed.
     let old = g.W.Write.contents c.args.writer.now in
     let new = g.W.Write.contents c.run_script.new.writer in
-    subst (λ request. WroteUnread old new ⊎ FailsBy request c.args.plan c.args.script.now old new) (sym c.in-Run.is)
+    subst (λ request. WroteUnread old new ⊎ FailsBy request c.args.plan.now c.args.script.now old new) (sym c.in-Run.is)
     (c.run_script.ensures.failed failed)
 
 pub returns-in-RunPage-clause-failed : goal.returns-in-RunPage-clause-failed
 returns-in-RunPage-clause-failed g c = λ failed.
     let old = g.W.Write.contents c.args.writer.now in
     let new = g.W.Write.contents c.run_page_script.new.writer in
-    subst (λ request. WroteUnread old new ⊎ FailsBy request c.args.plan c.args.script.now old new) (sym c.in-RunPage.is)
+    subst (λ request. WroteUnread old new ⊎ FailsBy request c.args.plan.now c.args.script.now old new) (sym c.in-RunPage.is)
     (c.run_page_script.ensures.failed failed)
 
-pub returns-clause-failed : goal.returns-clause-failed
-returns-clause-failed g c = λ failed.
+pub returns-in_default-clause-failed : goal.returns-in_default-clause-failed
+returns-in_default-clause-failed g c = λ failed.
     elim (c.report_script.ensures.failed failed) [
       | inl unread ↦ inl unread
       | inr wrote ↦
           inr
-          (report_fails c.args.request c.args.plan c.args.script.now _ _ c.in_default.not-Replay c.in_default.not-Explore
+          (report_fails c.args.request c.args.plan.now c.args.script.now _ _ c.in_default.not-Replay c.in_default.not-Explore
           c.in_default.not-Page c.in_default.not-Header c.in_default.not-Module c.in_default.not-Draw c.in_default.not-Run c.in_default.not-RunPage wrote)
     ]
