@@ -1,5 +1,6 @@
 //! Six workers with devices of your own.
 ghost use Rattle.std.specs.Prelude.{◌≡◌, None};
+ghost use Rattle.cell_threads.specs.Six.{AreReadyAt};
 
 use crate::axis::Axis;
 use crate::devices::{Belt, Crane, DepositBelt, FeedBelt, Press, Robot, Table};
@@ -7,7 +8,7 @@ use crate::lookout::Lookout;
 use crate::rounds::{Audits, RoundsGate};
 use cell_belts_crane::{CraneProgram, DepositProgram, FeedProgram};
 use cell_notes::Status;
-use cell_renewal::{GoingWorker, Renewal, RenewalFault, run_renewed};
+use cell_renewal::{GoingWorker, Renewal, RenewalFault, RenewedWorker, run_renewed};
 use cell_report::AuditFault;
 use cell_robot::RobotProgram;
 use cell_rules::State;
@@ -105,21 +106,65 @@ where
         deposit: GoingWorker::at_start(DepositProgram, Machine::Deposit, opening, deposit),
         crane: GoingWorker::at_start(crane, Machine::Crane, opening, Crane::at_start()),
     };
+    run_six(rt, alloc, workers, opening, plan, audits)
+}
+
+// Runs six workers over one interlock after another, whichever they are. It gives back little of what they leave, and
+// says nothing of the run: so `drive` neither holds the six machines' types again nor carries what is told of a run.
+fn run_six<R, W1, W2, W3, W4, W5, W6>(
+    rt: &R,
+    alloc: Global,
+    workers: SixOf<W1, W2, W3, W4, W5, W6>,
+    opening: State,
+    plan: RoundPlan,
+    audits: &mut Audits,
+) -> Result<(SixStatuses, Lookout), RenewalFault<AuditFault>>
+where
+    R: Threads + Wait + Sync,
+    W1: RenewedWorker + Send,
+    W2: RenewedWorker + Send,
+    W3: RenewedWorker + Send,
+    W4: RenewedWorker + Send,
+    W5: RenewedWorker + Send,
+    W6: RenewedWorker + Send,
+    W1::Output: Send,
+    W2::Output: Send,
+    W3::Output: Send,
+    W4::Output: Send,
+    W5::Output: Send,
+    W6::Output: Send,
+    requires ready { AreReadyAt W1.is_ready W2.is_ready W3.is_ready W4.is_ready W5.is_ready W6.is_ready opening
+        workers }
+    requires first { audits.old.left ≡ None }
+{
     let gate = RoundsGate::new(rt, plan.rounds);
     let renewal = plan.renewal();
     let watch = Lookout::new(STOPS_IN);
-    let left = match run_renewed(rt, alloc, workers, watch, opening, renewal, &gate, audits) {
-        Ok(left) => left,
-        Err(fault) => return Err(fault),
-    };
-    let six = &left.outputs;
-    let statuses = SixOf {
-        feed: six.feed.status,
-        table: six.table.status,
-        robot: six.robot.status,
-        press: six.press.status,
-        deposit: six.deposit.status,
-        crane: six.crane.status,
-    };
-    Ok((statuses, left.watch))
+    let left = run_renewed(rt, alloc, workers, watch, opening, renewal, &gate, audits)?;
+    Ok((
+        statuses_of::<W1, W2, W3, W4, W5, W6>(left.outputs),
+        left.watch,
+    ))
+}
+
+// How each of the six ended.
+fn statuses_of<W1, W2, W3, W4, W5, W6>(
+    six: SixOf<W1::Output, W2::Output, W3::Output, W4::Output, W5::Output, W6::Output>,
+) -> SixStatuses
+where
+    W1: RenewedWorker,
+    W2: RenewedWorker,
+    W3: RenewedWorker,
+    W4: RenewedWorker,
+    W5: RenewedWorker,
+    W6: RenewedWorker,
+{
+    SixOf {
+        feed: W1::status(&six.feed),
+        table: W2::status(&six.table),
+        robot: W3::status(&six.robot),
+        press: W4::status(&six.press),
+        deposit: W5::status(&six.deposit),
+        crane: W6::status(&six.crane),
+    }
 }

@@ -3,7 +3,7 @@ use Rattle.cell_rules.specs.Types.{journal_of}
 use Rattle.cell_rules.specs.Names.{IsAudited}
 use Rattle.six_by_hand.specs.Rounds.{OpensWith}
 use Rattle.six_by_hand.proofs.Following.{opens_first, rounds_follow}
-use Rattle.six_by_hand.proofs.six.drive.Goals as goal
+use Rattle.six_by_hand.proofs.six.run_six.Goals as goal
 
 pub run_renewed-requires-clause-may_take : goal.run_renewed-requires-clause-may_take
 run_renewed-requires-clause-may_take g c κs within = λ now come six watch told. record {
