@@ -3,7 +3,7 @@ ghost use Rattle.std.specs.Prelude.{◌≡◌, ◌↔◌, IfOk, IsTrue};
 ghost use Rattle.cell_rules.specs.ModelState.{ModelState};
 ghost use Rattle.cell_notes.specs.declared.status.Status.TheVariants.{Fine};
 ghost use Rattle.cell_threads.specs.Six.{AreReadyAt};
-ghost use Rattle.cell_renewal.specs.Renewing.{AreAllFine, EndsRound, GoAllOn};
+ghost use Rattle.cell_renewal.specs.Renewing.{AreAllFine, EndsRound, GoAllOn, GoOnAfter};
 ghost use Rattle.cell_renewal.specs.Renewing.{IsTurnedOver, MayAllGoOn, MayTakeEach, MayTakeNext};
 ghost use Rattle.cell_renewal.specs.Renewing.{OpensAfter, RunsRenewed};
 
@@ -307,10 +307,36 @@ where
         W1.ended W2.ended W3.ended W4.ended W5.ended W6.ended
         W1.goes_on W2.goes_on W3.goes_on W4.goes_on W5.goes_on W6.goes_on mark left result }
 {
-    let all_fine = are_all_fine::<W1, W2, W3, W4, W5, W6>(&left.outputs);
-    if !all_fine {
-        return RoundEnd::Ends(left);
+    if are_all_fine::<W1, W2, W3, W4, W5, W6>(&left.outputs) {
+        let (workers, watch, opening) = go_on_after(left, mark);
+        RoundEnd::GoesOn(workers, watch, opening)
+    } else {
+        RoundEnd::Ends(left)
     }
+}
+
+// The workers and the watch of the next round, and the state that its interlock opens with.
+fn go_on_after<W1, W2, W3, W4, W5, W6, H>(
+    left: Leave<W1::Output, W2::Output, W3::Output, W4::Output, W5::Output, W6::Output, H>,
+    mark: u32,
+) -> (SixOf<W1, W2, W3, W4, W5, W6>, H, State)
+where
+    W1: RenewedWorker,
+    W2: RenewedWorker,
+    W3: RenewedWorker,
+    W4: RenewedWorker,
+    W5: RenewedWorker,
+    W6: RenewedWorker,
+    H: Drop,
+    requires may_go_on { (next : ModelState) → OpensAfter mark left.end next
+        → MayAllGoOn W1.machine W2.machine W3.machine W4.machine W5.machine W6.machine W1.left W2.left W3.left
+        W4.left W5.left W6.left
+        left.outputs next }
+    requires fine { AreAllFine W1.ended W2.ended W3.ended W4.ended W5.ended W6.ended left.outputs }
+    ensures { GoOnAfter W1.is_ready W2.is_ready W3.is_ready W4.is_ready W5.is_ready W6.is_ready
+        W1.ended W2.ended W3.ended W4.ended W5.ended W6.ended
+        W1.goes_on W2.goes_on W3.goes_on W4.goes_on W5.goes_on W6.goes_on mark left result.0 result.1 result.2 }
+{
     let Leave {
         end,
         outputs,
@@ -318,7 +344,7 @@ where
     } = left;
     let opening = opening_after(&end, mark);
     let workers = all_go_on(outputs, &opening);
-    RoundEnd::GoesOn(workers, watch, opening)
+    (workers, watch, opening)
 }
 
 // The state that the next interlock opens with.
