@@ -87,9 +87,23 @@ fn free_screen(alloc: Global, start: &State, situations: usize) -> Result<Screen
     ensures { IfOk result (screens.ShowsGoing start.now situations) }
 {
     let plates = explore_machines(alloc, start, Some(Machine::Press))?;
+    going_screen(alloc, start, situations, &plates)
+}
+
+// The same by what was found of plates.
+fn going_screen(
+    alloc: Global,
+    start: &State,
+    situations: usize,
+    plates: &Plates,
+) -> Result<Screen, AllocError>
+    requires go_on { screens.GoOnWithin start.now plates.now }
+    requires starving { screens.MayStarve start.now plates.now }
+    ensures { IfOk result (screens.ShowsGoing start.now situations) }
+{
     let mut text = String::new(alloc);
-    push_free_screen(&mut text, start, situations, &plates)?;
-    if any_starves(&plates) {
+    push_free_screen(&mut text, start, situations, plates)?;
+    if any_starves(plates) {
         Ok(Screen::Warning(text))
     } else {
         Ok(Screen::Free(text))

@@ -171,17 +171,42 @@ fn round_of(
 {
     let mut way = Vec::new(alloc);
     way.extend_from_slice(stem)?;
+    let mut had = machines_in(cycle);
+    let mut round = Vec::new(alloc);
+    'turns: for machine in cycle {
+        push_turns(alloc, start, way.as_slice(), *machine, &mut had, &mut round)?;
+        way.push(*machine)?;
+    }
+    Ok(round)
+}
+
+// Which machines have a turn in a cycle.
+fn machines_in(cycle: &[Machine]) -> ByMachine<bool> {
     let mut had = ByMachine::each(false);
     for machine in cycle {
         had.put(*machine, true);
     }
-    let mut round = Vec::new(alloc);
-    'turns: for machine in cycle {
-        push_waiting(alloc, start, way.as_slice(), &mut had, &mut round)?;
-        push_turn(alloc, start, way.as_slice(), *machine, true, &mut round)?;
-        way.push(*machine)?;
-    }
-    Ok(round)
+    had
+}
+
+// Adds the turns after a way: one of each machine that has had none and waits, and this machine's, if it asks.
+fn push_turns(
+    alloc: Global,
+    start: &State,
+    way: &[Machine],
+    machine: Machine,
+    had: &mut ByMachine<bool>,
+    round: &mut Vec<Step>,
+) -> Result<(), AllocError>
+    requires { All (starving.IsRoundTurn start.now) round.old.items }
+    ensures turns { All (starving.IsRoundTurn start.now) round.new.items }
+    ensures going { OnOk result
+        (starving.going_turns round.new.items ≡ starving.going_turns round.old.items
+        ++ starving.asking_after start.now way.now machine) }
+{
+    push_waiting(alloc, start, way, had, round)?;
+    push_turn(alloc, start, way, machine, true, round)?;
+    Ok(())
 }
 
 // Adds a turn of each machine that has had none and waits after a way.
