@@ -11,6 +11,7 @@ use crate::ending::Ending;
 use cell_config::Config;
 use cell_configured::simulate_configured_observed;
 use cell_explorer::{Situation, Walk};
+use cell_notes::Status;
 use cell_plant::{Frame, MachineSteps, Observer, SeenFault, Turn};
 use cell_rules::{State, answer};
 use cell_types::{Answer, Call, Machine, Refusal, Reply};
@@ -99,6 +100,9 @@ impl Observer for AskSeeker {
         let Ok(()) = self.keep(frame) else {
             return Err(SeekEnd::Memory);
         };
+        if lacks_memory(frame) {
+            return Err(SeekEnd::Memory);
+        }
         if self.skip > 0 {
             self.skip -= 1;
             return Ok(());
@@ -108,6 +112,14 @@ impl Observer for AskSeeker {
         } else {
             Ok(())
         }
+    }
+}
+
+// Whether the machine whose turn it was has stopped, since there was no memory for its call.
+fn lacks_memory(frame: &Frame) -> bool {
+    match frame.turn {
+        Some(turn) => matches!(*frame.status.at(turn.machine), Status::Memory),
+        None => false,
     }
 }
 

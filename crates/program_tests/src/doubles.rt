@@ -97,7 +97,7 @@ pub fn is_row<T: Threads + Wait + Sync>(rt: &T, alloc: Global, row: &str) -> boo
     )
 }
 
-/// Gives a text, a line at a time, and counts these parts.
+/// Gives a text, a line at a time, and counts the lines that it has given whole.
 #[derive(Drop)]
 pub struct LineReader<'a> {
     pub bytes: &'a [u8],
@@ -114,7 +114,7 @@ impl Read for LineReader<'_> {
         let (part, rest) = self.bytes.split_at(count);
         buf[..count].copy_from_slice(part);
         self.bytes = rest;
-        if count > 0 {
+        if count > 0 && count == line {
             self.given = self.given.saturating_add(1);
         }
         Ok(count)
