@@ -1,5 +1,5 @@
 -- The examples of `fault_lines_are_met`, and the law `failed_is_meant`.
-use Rattle.std.proofs.Common.{◌≡◌, ◌∙◌, ◌<◌, ℕ, Bool, true, false, ◌&&◌, nat_eq, [], ◌∷◌, get_or, take, length, codes, Some, Ok, IsTrue, inl, inr, refl, sym, ap, subst, arith}
+use Rattle.std.proofs.Common.{◌≡◌, ◌∙◌, ◌<◌, ◌++◌, ℕ, zero, suc, Bool, true, false, ◌&&◌, nat_eq, List, [], ◌∷◌, get_or, take, length, codes, Some, Ok, IsTrue, inl, inr, refl, sym, ap, subst, arith}
 use Rattle.std.proofs.lemmas.List.{get_or-take, length-take}
 use Rattle.std.specs.List.{starts_with}
 use Rattle.csv_rows.specs.ScriptEnd.{fault_text}
@@ -8,14 +8,19 @@ use Rattle.csv_rows.specs.declared.script_end.ScriptFault.TheVariants.{NoStart, 
 use Rattle.text_io.specs.Output.{WrotePrefix}
 use Rattle.program_shell.specs.Faults.{fault_line}
 use Rattle.plan_rules.specs.declared.state.State.{State}
+use Rattle.plan_explorer.specs.Programs.{PlanPrograms}
+use Rattle.plan_text.specs.Named.{Named}
 use Rattle.plan_text.specs.Names.{Text}
 use Rattle.plan_text.specs.Script.{script_start}
 use Rattle.plan_document.specs.Reading.{IsPlanIn}
 use Rattle.plan_document.specs.declared.resolving.ProgrammedPlan.{ProgrammedPlan}
-use Rattle.plan_app.specs.Failed.{Fails, FailsBy, IsOfDocument, TellsEnd, WroteEnd, WroteFault, WrotePage, WrotePageText, WroteScreen}
+use Rattle.plan_app.specs.Apart.{IsLarge, TellsBy, TellsNext, TellsPart, TellsParts, is_first, some_are_apart}
+use Rattle.plan_app.specs.Failed.{Fails, FailsBy, IsOfDocument, WroteEnd, WroteExploration, WroteFault, WrotePage, WrotePageText}
+use Rattle.plan_app.specs.Going.{going_text}
 use Rattle.plan_app.specs.FailedExamples.{AreNoFault, FailedIsMeant, FaultLines}
 use Rattle.plan_app.specs.Input.{document_in, script_in}
-use Rattle.plan_app.specs.Sizes.{ComeToMore}
+use Rattle.plan_app.specs.Screens.{ByAnswers, TellsScreenBy}
+use Rattle.plan_app.specs.Starving.{any_starves}
 use Rattle.plan_app.specs.declared.request.Request.{Request}
 use Rattle.plan_app.specs.declared.request.Request.TheVariants.{Explore}
 
@@ -41,7 +46,7 @@ asked request bytes new none (inr (inr (inl (words, of, wrote)))) = absurd (begi
 asked request bytes new none (inr (inr (inr fails))) = fails
 
 explored : (plan : ProgrammedPlan) (script new : Text) → AreNoFault new → WroteEnd plan script (Some []) (Some new)
-    → (opening : State) × (script_start plan.named script ≡ Ok opening) × WroteScreen plan opening (Some []) (Some new)
+    → (opening : State) × (script_start plan.named script ≡ Ok opening) × WroteExploration plan opening (Some []) (Some new)
 explored plan script new none (inl (fault, is, wrote)) = absurd (begins (fault_text fault) new none wrote)
 explored plan script new none (inr (opening, is, inl wrote)) = absurd (begins (codes "large") new none wrote.1)
 explored plan script new none (inr (opening, is, inr wrote)) = (opening, is, wrote)
@@ -88,22 +93,54 @@ of_start BadStart wrote = let e : 108 ≡ 98 = sixth (fault_line (fault_text Bad
 of_start (BadRow number) wrote = let e : 108 ≡ 98 = sixth (fault_line (fault_text (BadRow number))) wrote in omega (arith, e)
 of_start Long wrote = let e : 97 ≡ 111 = seventh (fault_line (fault_text Long)) wrote in omega (arith, e)
 
-of_screen : (plan : ProgrammedPlan) (opening : State) (text : Text) → TellsEnd plan opening text → WrotePrefix (Some []) (Some large) text → ⊥
-of_screen plan opening text (inl tells) wrote =
-    let e : 102 ≡ 97 = zeroth text wrote ∙ ap (λ l. get_or l 0 0) tells.told in omega (arith, e)
-of_screen plan opening text (inr (starve, tells)) wrote =
-    let e : 102 ≡ 110 = zeroth text wrote ∙ ap (λ l. get_or l 0 0) tells.told in omega (arith, e)
+-- what is found begins otherwise, or is nothing
+of_screen : (n : Named) (ps : PlanPrograms) (s : State) (starves : ByAnswers Bool) (going : ByAnswers Text) (well : Bool)
+    (text : Text) → TellsScreenBy n ps s starves going well text → 102 ≡ get_or text 0 0 → ⊥
+of_screen n ps s starves going true text tells first =
+    let e : 102 ≡ 110 = first ∙ ap (λ l. get_or l 0 0) tells.told in omega (arith, e)
+of_screen n ps s starves going false text (inl tells) first =
+    let e : 102 ≡ 97 = first ∙ ap (λ l. get_or l 0 0) tells.told in omega (arith, e)
+of_screen n ps s starves going false text (inr tells) first =
+    let e : 102 ≡ 110 = first ∙ ap (λ l. get_or l 0 0) tells.told in omega (arith, e)
+
+of_both : (xs ys : Text) → (102 ≡ get_or xs 0 0 → ⊥) → (102 ≡ get_or ys 0 0 → ⊥) → 102 ≡ get_or (xs ++ ys) 0 0 → ⊥
+of_both [] ys one two first = two first
+of_both (x ∷ xs) ys one two first = one first
+
+of_parts : (n : Named) (ps : PlanPrograms) (s : State) (groups : List ℕ) (count : ℕ) (well : Bool) (text : Text)
+    → TellsParts n ps s groups count well text → 102 ≡ get_or text 0 0 → ⊥
+of_parts n ps s groups zero well text told first =
+    let e : 102 ≡ 0 = first ∙ ap (λ l. get_or l 0 0) told.1 in omega (arith, e)
+of_parts n ps s groups (suc m) well text told first =
+    by (is_first groups m) (of_parts n ps s groups m) told
+  where
+    by : (b : Bool) → ((w : Bool) (t : Text) → TellsParts n ps s groups m w t → 102 ≡ get_or t 0 0 → ⊥)
+        → TellsNext b (TellsParts n ps s groups m) (TellsPart n ps s groups m) well text → ⊥
+    by true earlier (early, late, before, after, all, part, together, is) =
+        of_both before after (earlier early before all)
+        (λ at. let e : 102 ≡ 97 = at ∙ ap (λ l. get_or l 0 0) part.2 in omega (arith, e))
+        (first ∙ ap (λ l. get_or l 0 0) is)
+    by false earlier all = earlier well text all first
+
+of_found : (b : Bool) (n : Named) (ps : PlanPrograms) (s : State) (groups : List ℕ) (well : Bool) (text : Text)
+    → TellsBy b n ps s groups well text → 102 ≡ get_or text 0 0 → ⊥
+of_found true n ps s groups well text tells first = of_parts n ps s groups (length ps) well text tells first
+of_found false n ps s groups well text tells first =
+    of_screen n ps s (any_starves n) (going_text n ps s) well text tells first
 
 large_by : (plan : ProgrammedPlan) (script : Text) → WroteEnd plan script (Some []) (Some large)
-    → (opening : State) × (script_start plan.named script ≡ Ok opening) × ComeToMore plan.named.plan plan.programs opening 1000000
+    → (opening : State) × (script_start plan.named script ≡ Ok opening) × IsLarge plan.named plan.programs opening
 large_by plan script (inl (fault, is, wrote)) = absurd (of_start fault wrote)
 large_by plan script (inr (opening, is, inl wrote)) = (opening, is, wrote.0)
-large_by plan script (inr (opening, is, inr (text, tells, wrote))) = absurd (of_screen plan opening text tells wrote)
+large_by plan script (inr (opening, is, inr (well, text, tells, wrote))) =
+    absurd
+    (of_found (some_are_apart tells.groups plan.programs) plan.named plan.programs opening tells.groups well text tells.told
+    (zeroth text wrote))
 
 is_large : (bytes : Text) → Fails Explore (Some bytes) (Some []) (Some large)
     → (plan : ProgrammedPlan) × IsPlanIn (document_in bytes) plan
     × (opening : State) × (script_start plan.named (script_in bytes) ≡ Ok opening)
-    × ComeToMore plan.named.plan plan.programs opening 1000000
+    × IsLarge plan.named plan.programs opening
 is_large bytes (inl wrote) = let e : 97 ≡ 111 = seventh (fault_line (codes "long")) wrote.1 in absurd (omega (arith, e))
 is_large bytes (inr (inl (inl wrote))) = let e : 108 ≡ 114 = sixth (fault_line (codes "read")) wrote in absurd (omega (arith, e))
 is_large bytes (inr (inl (inr wrote))) = let e : 108 ≡ 109 = sixth (fault_line (codes "memory")) wrote in absurd (omega (arith, e))

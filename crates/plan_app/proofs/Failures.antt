@@ -12,9 +12,9 @@ use Rattle.program_shell.proofs.lemmas.Serving.{if_known}
 use Rattle.plan_rules.specs.declared.state.State.{State}
 use Rattle.plan_document.specs.Reading.{IsPlanIn}
 use Rattle.plan_document.specs.declared.resolving.ProgrammedPlan.{ProgrammedPlan}
-use Rattle.plan_app.specs.Failed.{Fails, FailsBy, FailsIn, WroteFault, WroteReport, WroteScreen, WroteUnread}
+use Rattle.plan_app.specs.Apart.{TellsExploration}
+use Rattle.plan_app.specs.Failed.{Fails, FailsBy, FailsIn, WroteExploration, WroteFault, WroteReport, WroteUnread}
 use Rattle.plan_app.specs.Input.{byte_limit, document_in, script_in}
-use Rattle.plan_app.specs.Screens.{TellsGoing}
 use Rattle.plan_app.specs.declared.request.Request.{Request}
 use Rattle.plan_app.specs.declared.request.Request.TheVariants.{Check, Replay, Explore, Page, Header, Module, Draw, Help, Run, RunPage, Version}
 
@@ -74,7 +74,8 @@ pub by_plan : (request : Request) (bytes : List ℕ) (plan : ProgrammedPlan) (ol
 by_plan request bytes plan old new is (inl unread) = inr (inl unread)
 by_plan request bytes plan old new is (inr fails) = inr (inr (inr (plan, is, fails)))
 
--- a text that says that nothing stands still, and whether some machine starves or plates rest
-pub going_shown : (plan : ProgrammedPlan) (opening : State) (starve : Bool) (text : List ℕ) (old new : Option (List ℕ))
-    → TellsGoing plan.named plan.programs opening starve text → WrotePrefix old new text → WroteScreen plan opening old new
-going_shown plan opening starve text old new tells wrote = (text, inr (starve, tells), wrote)
+-- what was found was written, whether all is well or not
+pub exploration_written : (plan : ProgrammedPlan) (opening : State) (well : Bool) (text : List ℕ) (old new : Option (List ℕ))
+    → TellsExploration plan.named plan.programs opening well text → WrotePrefix old new text
+    → WroteExploration plan opening old new
+exploration_written plan opening well text old new tells wrote = (well, text, tells, wrote)

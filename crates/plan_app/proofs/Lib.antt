@@ -2,6 +2,8 @@ mod Inputs
 mod Failures
 mod Sizes
 mod Screens
+mod GroupsTold
+mod PartsSpeak
 mod WordRows
 mod StarvingRows
 mod SizeRows

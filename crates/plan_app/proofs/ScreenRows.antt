@@ -62,6 +62,7 @@ served-meant = record {
   picture = λ bytes old new said. said;
   answers = λ bytes old new (plan, is, (clean, wrote)). (plan, is, clean, wrote);
   free = λ bytes old new (plan, is, (opening, at, (text, tells, wrote))). (plan, is, opening, at, text, tells, wrote);
+  explored = λ bytes old new (plan, is, (opening, at, (text, tells, wrote))). (plan, is, opening, at, text, tells, wrote);
   silent = λ n ps s (text, tells, all). let e = tells.told in absurd (cc);
   other = λ n ps s (text, tells, all). let e = tells.told in absurd (cc);
   unknown = λ n ps s (text, tells, all). absurd all;

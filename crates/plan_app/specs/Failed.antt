@@ -15,12 +15,13 @@ use Rattle.plan_document.specs.declared.resolving.ProgrammedPlan.{ProgrammedPlan
 use Rattle.plan_header.specs.Printed.{header_of}
 use Rattle.plan_header.specs.Modules.{module_text}
 use Rattle.plan_picture.specs.Pictures.{IsPicture}
+use Rattle.plan_app.specs.Apart.{IsLarge, TellsExploration}
 use Rattle.plan_app.specs.Hazards.{TellsReport, start_if}
 use Rattle.plan_app.specs.Input.{byte_limit, document_in, script_in}
 use Rattle.plan_app.specs.Pages.{IsLongPage, TellsPage}
 use Rattle.plan_app.specs.RunPages.{ShowsRun}
 use Rattle.plan_app.specs.Runs.{HasForeignCall, IsTooLong, IsUnexplained, TellsRun}
-use Rattle.plan_app.specs.Screens.{TellsFree, TellsGoing, TellsStandstill}
+use Rattle.plan_app.specs.Screens.{TellsFree}
 use Rattle.plan_app.specs.Sizes.{ComeToMore}
 use Rattle.plan_app.specs.declared.request.Request.{Request}
 use Rattle.plan_app.specs.declared.request.Request.TheVariants.{Draw, Explore, Header, Module, Page, Replay}
@@ -72,17 +73,18 @@ WroteReportFrom plan start old new =
 abbrev pub WroteReport : ProgrammedPlan → Text → Option Text → Option Text → Type 0
 WroteReport plan script old new = WroteReportFrom plan (start_if (script_start plan.named script)) old new
 
--- a text shows a standstill, or says that there is none, and whether some machine starves or plates rest
-abbrev pub TellsEnd : ProgrammedPlan → State → Text → Type 0
-TellsEnd plan opening text =
-    TellsStandstill plan.named plan.programs opening text
-    ⊎ ((starve : Bool) × TellsGoing plan.named plan.programs opening starve text)
+-- of each group, or of all machines together, a text shows a standstill, or says that there is none, and whether some
+-- machine starves or plates rest
+abbrev pub WroteExploration : ProgrammedPlan → State → Option Text → Option Text → Type 0
+WroteExploration plan opening old new =
+    (well : Bool) × (text : Text) × TellsExploration plan.named plan.programs opening well text × WrotePrefix old new text
 
-abbrev pub WroteScreen : ProgrammedPlan → State → Option Text → Option Text → Type 0
-WroteScreen plan opening old new = (text : Text) × TellsEnd plan opening text × WrotePrefix old new text
+-- of a group, or of all machines together, turns lead to more situations than are explored
+abbrev pub WroteTooMany : ProgrammedPlan → State → Option Text → Option Text → Type 0
+WroteTooMany plan opening old new = IsLarge plan.named plan.programs opening × WroteFault (codes "large") old new
 
 abbrev pub WroteEndFrom : ProgrammedPlan → State → Option Text → Option Text → Type 0
-WroteEndFrom plan opening old new = WroteLarge plan opening old new ⊎ WroteScreen plan opening old new
+WroteEndFrom plan opening old new = WroteTooMany plan opening old new ⊎ WroteExploration plan opening old new
 
 -- the start is the script's, if it has one
 abbrev pub WroteEnd : ProgrammedPlan → Text → Option Text → Option Text → Type 0

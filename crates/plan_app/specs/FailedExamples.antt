@@ -5,10 +5,10 @@ use Rattle.plan_text.specs.Names.{Text}
 use Rattle.plan_text.specs.Script.{script_start}
 use Rattle.plan_document.specs.Reading.{IsPlanIn}
 use Rattle.plan_document.specs.declared.resolving.ProgrammedPlan.{ProgrammedPlan}
-use Rattle.plan_app.specs.Failed.{Fails, FailsBy, IsOfDocument, WroteEnd, WroteFault, WroteScreen}
+use Rattle.plan_app.specs.Apart.{IsLarge}
+use Rattle.plan_app.specs.Failed.{Fails, FailsBy, IsOfDocument, WroteEnd, WroteExploration, WroteFault}
 use Rattle.plan_app.specs.Failed.{WrotePage, WrotePageText}
 use Rattle.plan_app.specs.Input.{document_in, script_in}
-use Rattle.plan_app.specs.Sizes.{ComeToMore}
 use Rattle.plan_app.specs.declared.request.Request.{Request}
 use Rattle.plan_app.specs.declared.request.Request.TheVariants.{Explore}
 
@@ -43,18 +43,18 @@ pub record FailedIsMeant : Type 0 where
   pub asked : (request : Request) (bytes new : Text) → AreNoFault new → Fails request (Some bytes) (Some []) (Some new)
       → (plan : ProgrammedPlan) × IsPlanIn (document_in bytes) plan
       × FailsBy request plan (script_in bytes) (Some []) (Some new)
-  -- of an exploration it is a screen, from the start of the script
+  -- of an exploration it is what was found, from the start of the script
   pub explored : (plan : ProgrammedPlan) (script new : Text) → AreNoFault new
       → WroteEnd plan script (Some []) (Some new)
       → (opening : State) × (script_start plan.named script ≡ Ok opening)
-      × WroteScreen plan opening (Some []) (Some new)
+      × WroteExploration plan opening (Some []) (Some new)
   -- of its page it is the page, or what is printed without one
   pub paged : (plan : ProgrammedPlan) (script new : Text) → AreNoFault new
       → WrotePage plan script (Some []) (Some new)
       → (opening : State) × (script_start plan.named script ≡ Ok opening)
       × WrotePageText plan opening (Some []) (Some new)
-  -- where `fault large` was written, turns lead to more than 1,000,000 situations
+  -- where `fault large` was written, turns lead to more than 1,000,000 situations, of a group or of all machines
   pub large : (bytes : Text) → Fails Explore (Some bytes) (Some []) (Some (codes "fault large\n"))
       → (plan : ProgrammedPlan) × IsPlanIn (document_in bytes) plan
       × (opening : State) × (script_start plan.named (script_in bytes) ≡ Ok opening)
-      × ComeToMore plan.named.plan plan.programs opening 1000000
+      × IsLarge plan.named plan.programs opening

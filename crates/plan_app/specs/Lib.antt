@@ -11,6 +11,8 @@ pub mod Sizes
 pub mod Leads
 pub mod Hazards
 pub mod Screens
+pub mod Apart
+pub mod PartLaws
 pub mod PageData
 pub mod Films
 pub mod Pages

@@ -1,5 +1,5 @@
 -- What `plan explore` prints of a plan and its programs.
-use Rattle.std.specs.Prelude.{◌≡◌, ℕ, Bool, true, false, ◌++◌, codes, flat_map, length, List, [], string_bytes}
+use Rattle.std.specs.Prelude.{◌≡◌, ◌⊎◌, ℕ, Bool, true, false, ◌++◌, codes, flat_map, length, List, [], string_bytes}
 use Rattle.std.specs.Prelude.{slice_get, Some, None}
 use Rattle.plan_types.specs.declared.answer.Event.{Event}
 use Rattle.plan_rules.specs.declared.state.State.{State}
@@ -70,10 +70,14 @@ pub record AreAnswers (n : Named) (ps : PlanPrograms) (opening : State) (answers
   pub moving : MoveOn n ps opening plates
   pub resting : MayRest n ps opening plates
 
+-- whether some starve by the answers, and what is said by them
+abbrev pub ByAnswers : Type 0 → Type 0
+ByAnswers A = List Liveness → Progress → A
+
 -- In no order of turns is there a standstill, and `situations` is the number of situations that the machines come to.
--- What is said of machines that go on is what explorations answer, and `starve` is whether some machine may starve by
--- that, or plates may rest.
-pub record TellsGoing (n : Named) (ps : PlanPrograms) (opening : State) (starve : Bool) (text : Text) : Type 0 where
+-- What is said of machines that go on is said by what explorations answer, and `starve` is whether some starve by that.
+pub record TellsGoingBy (n : Named) (ps : PlanPrograms) (opening : State) (starves : ByAnswers Bool)
+    (going : ByAnswers Text) (starve : Bool) (text : Text) : Type 0 where
   pub free : NoneStandsStill n.plan ps opening
   pub runs : NoRunStandsStill n.plan ps opening
   pub situations : ℕ
@@ -81,8 +85,13 @@ pub record TellsGoing (n : Named) (ps : PlanPrograms) (opening : State) (starve 
   pub answers : List Liveness
   pub plates : Progress
   pub are : AreAnswers n ps opening answers plates
-  pub starving : any_starves n answers plates ≡ starve
-  pub told : text ≡ free_line situations ++ going_text n ps opening answers plates
+  pub starving : starves answers plates ≡ starve
+  pub told : text ≡ free_line situations ++ going answers plates
+
+-- of all machines: some machine may starve, or plates may rest
+abbrev pub TellsGoing : Named → PlanPrograms → State → Bool → Text → Type 0
+TellsGoing n ps opening starve text =
+    TellsGoingBy n ps opening (any_starves n) (going_text n ps opening) starve text
 
 -- by that none starves
 abbrev pub TellsFree : Named → PlanPrograms → State → Text → Type 0
@@ -94,10 +103,23 @@ TellsStarving n ps opening text = TellsGoing n ps opening true text
 
 -- ---- what is printed is what was found
 
+abbrev pub IsScreenBy : Named → PlanPrograms → State → ByAnswers Bool → ByAnswers Text → Screen → Type 0
+IsScreenBy n ps opening starves going (Free text) = TellsGoingBy n ps opening starves going false (string_bytes text)
+IsScreenBy n ps opening starves going (Starving text) = TellsGoingBy n ps opening starves going true (string_bytes text)
+IsScreenBy n ps opening starves going (Standstill text) = TellsStandstill n ps opening (string_bytes text)
+
 abbrev pub IsScreen : Named → PlanPrograms → State → Screen → Type 0
-IsScreen n ps opening (Free text) = TellsFree n ps opening (string_bytes text)
-IsScreen n ps opening (Starving text) = TellsStarving n ps opening (string_bytes text)
-IsScreen n ps opening (Standstill text) = TellsStandstill n ps opening (string_bytes text)
+IsScreen n ps opening screen = IsScreenBy n ps opening (any_starves n) (going_text n ps opening) screen
+
+-- whether all is well by a text: nothing stands still, and none starves
+abbrev pub TellsScreenBy : Named → PlanPrograms → State → ByAnswers Bool → ByAnswers Text → Bool → Text → Type 0
+TellsScreenBy n ps opening starves going true text = TellsGoingBy n ps opening starves going false text
+TellsScreenBy n ps opening starves going false text =
+    TellsStandstill n ps opening text ⊎ TellsGoingBy n ps opening starves going true text
+
+abbrev pub TellsScreen : Named → PlanPrograms → State → Bool → Text → Type 0
+TellsScreen n ps opening well text =
+    TellsScreenBy n ps opening (any_starves n) (going_text n ps opening) well text
 
 -- a screen says that nothing stands still, and whether some starve; or that turns lead to a standstill, where the
 -- machines wait so
@@ -108,10 +130,14 @@ ShowsFree situations going starve (Starving text) =
     (starve ≡ true) × (string_bytes text ≡ free_line situations ++ going)
 ShowsFree situations going starve (Standstill text) = ⊥
 
+abbrev pub ShowsGoingBy : Named → PlanPrograms → State → ByAnswers Bool → ByAnswers Text → ℕ → Screen → Type 0
+ShowsGoingBy n ps opening starves going situations screen =
+    (answers : List Liveness) × (plates : Progress) × AreAnswers n ps opening answers plates
+    × ShowsFree situations (going answers plates) (starves answers plates) screen
+
 abbrev pub ShowsGoing : Named → PlanPrograms → State → ℕ → Screen → Type 0
 ShowsGoing n ps opening situations screen =
-    (answers : List Liveness) × (plates : Progress) × AreAnswers n ps opening answers plates
-    × ShowsFree situations (going_text n ps opening answers plates) (any_starves n answers plates) screen
+    ShowsGoingBy n ps opening (any_starves n) (going_text n ps opening) situations screen
 
 abbrev pub ShowsStandstill : Named → PlanPrograms → State → List Event → List ℕ → Screen → Type 0
 ShowsStandstill n ps opening waiting turns (Free text) = ⊥

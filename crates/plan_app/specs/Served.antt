@@ -11,6 +11,7 @@ use Rattle.plan_text.specs.Script.{script_answers, script_start}
 use Rattle.plan_header.specs.Printed.{header_of}
 use Rattle.plan_header.specs.Modules.{module_text}
 use Rattle.plan_picture.specs.Pictures.{IsPicture}
+use Rattle.plan_app.specs.Apart.{TellsExploration}
 use Rattle.plan_app.specs.Input.{document_in, script_in}
 use Rattle.plan_app.specs.Hazards.{TellsReport, start_if}
 use Rattle.plan_app.specs.RunPages.{ShowsRun}
@@ -24,11 +25,22 @@ abbrev pub AnswersScript : Named → List ℕ → Option (List ℕ) → Option (
 AnswersScript n script old new =
     ((script_answers n script).outcome ≡ Clean) × Appends old new (script_answers n script).text
 
--- that no programs stand still, from a start, and none starves, was written, and nothing else
+-- that no programs stand still, from a start, and none starves, of all machines together, was written, and nothing else
 abbrev pub WritesFree : Named → PlanPrograms → State → Option (List ℕ) → Option (List ℕ) → Type 0
 WritesFree n ps opening old new = (text : List ℕ) × TellsFree n ps opening text × Appends old new text
 
+-- or the same of each group
+abbrev pub WritesExploration : Named → PlanPrograms → State → Option (List ℕ) → Option (List ℕ) → Type 0
+WritesExploration n ps opening old new =
+    (text : List ℕ) × TellsExploration n ps opening true text × Appends old new text
+
 -- the start is the script's
+abbrev pub Explores : ProgrammedPlan → List ℕ → Option (List ℕ) → Option (List ℕ) → Type 0
+Explores plan script old new =
+    (opening : State) × (script_start plan.named script ≡ Ok opening)
+    × WritesExploration plan.named plan.programs opening old new
+
+-- or of all machines together
 abbrev pub FindsFree : ProgrammedPlan → List ℕ → Option (List ℕ) → Option (List ℕ) → Type 0
 FindsFree plan script old new =
     (opening : State) × (script_start plan.named script ≡ Ok opening)
@@ -75,6 +87,11 @@ abbrev pub FindsFreeIn : List ℕ → Option (List ℕ) → Option (List ℕ) �
 FindsFreeIn bytes old new =
     (plan : ProgrammedPlan) × IsPlanIn (document_in bytes) plan × FindsFree plan (script_in bytes) old new
 
+-- or those of each group
+abbrev pub ExploresIn : List ℕ → Option (List ℕ) → Option (List ℕ) → Type 0
+ExploresIn bytes old new =
+    (plan : ProgrammedPlan) × IsPlanIn (document_in bytes) plan × Explores plan (script_in bytes) old new
+
 -- its report was written, by which the motors of each hazard are kept apart, and nothing else
 abbrev pub ReportsIn : List ℕ → Option (List ℕ) → Option (List ℕ) → Type 0
 ReportsIn bytes old new =
@@ -114,6 +131,9 @@ AnswersInput input old new = IfSome input (λ bytes. AnswersIn bytes old new)
 
 abbrev pub FindsInputFree : Option (List ℕ) → Option (List ℕ) → Option (List ℕ) → Type 0
 FindsInputFree input old new = IfSome input (λ bytes. FindsFreeIn bytes old new)
+
+abbrev pub ExploresInput : Option (List ℕ) → Option (List ℕ) → Option (List ℕ) → Type 0
+ExploresInput input old new = IfSome input (λ bytes. ExploresIn bytes old new)
 
 abbrev pub Reports : Option (List ℕ) → Option (List ℕ) → Option (List ℕ) → Type 0
 Reports input old new = IfSome input (λ bytes. ReportsIn bytes old new)

@@ -9,10 +9,10 @@ ghost use Rattle.plan_app.specs.Going.{going_text};
 ghost use Rattle.plan_app.specs.Screens as spec;
 ghost use Rattle.plan_app.specs.Starving.{any_starves as some_starve};
 
+use crate::acting::Acting;
 use crate::going::{push_all, push_line, push_way};
 use crate::starving::any_starves;
 use crate::words::push_counted;
-use plan_document::ProgrammedPlan;
 use plan_explorer::{Explored, Programs, explore, take_turns};
 use plan_liveness::{Liveness, Progress, explore_machines, explore_plates};
 use plan_rules::State;
@@ -41,20 +41,11 @@ pub enum Screen {
 }
 
 /// What `plan explore` prints of a plan and its programs, which begin at an opening. An error says that memory ran out.
-pub fn screen_of(
-    alloc: Global,
-    plan: &ProgrammedPlan,
-    opening: &State,
-) -> Result<Screen, AllocError>
+pub fn screen_of(alloc: Global, plan: &Acting, opening: &State) -> Result<Screen, AllocError>
     ensures { IfOk result
-        (λ screen. spec.IsScreen plan.now.named plan.now.programs opening.now screen) }
+        (λ screen. spec.IsScreen plan.now.named.now plan.now.programs.now opening.now screen) }
 {
-    let ProgrammedPlan {
-        named,
-        programs,
-        ..
-    } = plan;
-    match explore(alloc, named.plan(), opening, programs)? {
+    match explore(alloc, plan.named.plan(), opening, plan.programs)? {
         Explored::Free(situations) => free_screen(alloc, plan, opening, situations),
         Explored::Standstill(turns) => { standstill_screen(alloc, plan, opening, turns.as_slice()) }
     }
@@ -63,11 +54,11 @@ pub fn screen_of(
 /// What is printed where nothing stands still.
 fn free_screen(
     alloc: Global,
-    plan: &ProgrammedPlan,
+    plan: &Acting,
     opening: &State,
     situations: usize,
 ) -> Result<Screen, AllocError>
-    ensures { IfOk result (λ screen. spec.ShowsGoing plan.now.named plan.now.programs opening.now
+    ensures { IfOk result (λ screen. spec.ShowsGoing plan.now.named.now plan.now.programs.now opening.now
         situations screen) }
 {
     let answers = machines_of(alloc, plan, opening)?;
@@ -85,45 +76,45 @@ fn free_screen(
 /// Whether each machine goes on for ever.
 pub(crate) fn machines_of(
     alloc: Global,
-    plan: &ProgrammedPlan,
+    plan: &Acting,
     opening: &State,
 ) -> Result<Vec<Liveness>, AllocError>
-    ensures count { IfOk result (λ answers. length answers.items ≡ length plan.now.programs) }
+    ensures count { IfOk result (λ answers. length answers.items ≡ length plan.now.programs.now) }
     ensures each { IfOk result (λ answers. (m : ℕ) (answer : Liveness)
         → slice_get answers.items m ≡ Some answer
-        → IsLiveness plan.now.named.plan plan.now.programs (first_situation opening.now) m answer) }
+        → IsLiveness plan.now.named.now.plan plan.now.programs.now (first_situation opening.now) m answer) }
 {
-    explore_machines(alloc, plan.named.plan(), opening, &plan.programs)
+    explore_machines(alloc, plan.named.plan(), opening, plan.programs)
 }
 
 /// Whether plates move for ever.
 pub(crate) fn plates_of(
     alloc: Global,
-    plan: &ProgrammedPlan,
+    plan: &Acting,
     opening: &State,
 ) -> Result<Progress, AllocError>
-    ensures moving { IfOk result (λ plates. spec.MoveOn plan.now.named plan.now.programs opening.now plates) }
-    ensures resting { IfOk result (λ plates. spec.MayRest plan.now.named plan.now.programs opening.now plates) }
+    ensures moving { IfOk result (λ plates. spec.MoveOn plan.now.named.now plan.now.programs.now opening.now plates) }
+    ensures resting { IfOk result (λ plates. spec.MayRest plan.now.named.now plan.now.programs.now opening.now plates) }
 {
-    explore_plates(alloc, plan.named.plan(), opening, &plan.programs, None, &[])
+    explore_plates(alloc, plan.named.plan(), opening, plan.programs, None, &[])
 }
 
 /// The text where nothing stands still.
 fn free_text(
     alloc: Global,
-    plan: &ProgrammedPlan,
+    plan: &Acting,
     opening: &State,
     situations: usize,
     answers: &[Liveness],
     plates: &Progress,
 ) -> Result<Screen, AllocError>
     ensures { IfOk result (λ screen. spec.ShowsFree situations
-        (going_text plan.now.named plan.now.programs opening.now answers.now plates.now)
-        (some_starve plan.now.named answers.now plates.now) screen) }
+        (going_text plan.now.named.now plan.now.programs.now opening.now answers.now plates.now)
+        (some_starve plan.now.named.now answers.now plates.now) screen) }
 {
     let mut text = String::new(alloc);
     push_free(&mut text, plan, opening, situations, answers, plates)?;
-    if any_starves(&plan.named, answers, plates) {
+    if any_starves(plan.named, answers, plates) {
         Ok(Screen::Starving(text))
     } else {
         Ok(Screen::Free(text))
@@ -133,21 +124,21 @@ fn free_text(
 /// Adds the line of the situations, and what is said of machines that go on.
 pub(crate) fn push_free(
     text: &mut String,
-    plan: &ProgrammedPlan,
+    plan: &Acting,
     opening: &State,
     situations: usize,
     answers: &[Liveness],
     plates: &Progress,
 ) -> Result<(), AllocError>
     ensures { OnOk result (string_bytes text.new ≡ string_bytes text.old ++ (spec.free_line situations
-        ++ going_text plan.now.named plan.now.programs opening.now answers.now plates.now)) }
+        ++ going_text plan.now.named.now plan.now.programs.now opening.now answers.now plates.now)) }
 {
     push_situations(text, situations)?;
     push_all(text, plan, opening, answers, plates)
 }
 
 /// Adds how many situations there are, none of them a standstill.
-fn push_situations(text: &mut String, situations: usize) -> Result<(), AllocError>
+pub(crate) fn push_situations(text: &mut String, situations: usize) -> Result<(), AllocError>
     ensures { OnOk result (string_bytes text.new ≡ string_bytes text.old ++ spec.free_line situations) }
 {
     text.push_str(FREE)?;
@@ -156,16 +147,16 @@ fn push_situations(text: &mut String, situations: usize) -> Result<(), AllocErro
 }
 
 /// What is printed of turns that lead to a standstill: what they ask, and what each machine asks at their end.
-fn standstill_screen(
+pub(crate) fn standstill_screen(
     alloc: Global,
-    plan: &ProgrammedPlan,
+    plan: &Acting,
     opening: &State,
     turns: &[u8],
 ) -> Result<Screen, AllocError>
-    ensures { IfOk result (λ screen. spec.ShowsStandstill plan.now.named plan.now.programs opening.now
-        (spec.outlook_after plan.now.named plan.now.programs opening.now turns.now) turns.now screen) }
+    ensures { IfOk result (λ screen. spec.ShowsStandstill plan.now.named.now plan.now.programs.now opening.now
+        (spec.outlook_after plan.now.named.now plan.now.programs.now opening.now turns.now) turns.now screen) }
 {
-    let waiting = waiting_after(alloc, &plan.named, &plan.programs, opening, turns)?;
+    let waiting = waiting_after(alloc, plan.named, plan.programs, opening, turns)?;
     standstill_text(alloc, plan, opening, turns, waiting.as_slice())
 }
 
@@ -187,12 +178,12 @@ fn waiting_after(
 /// The text of a standstill.
 fn standstill_text(
     alloc: Global,
-    plan: &ProgrammedPlan,
+    plan: &Acting,
     opening: &State,
     turns: &[u8],
     waiting: &[Event],
 ) -> Result<Screen, AllocError>
-    ensures { IfOk result (λ screen. spec.ShowsStandstill plan.now.named plan.now.programs opening.now
+    ensures { IfOk result (λ screen. spec.ShowsStandstill plan.now.named.now plan.now.programs.now opening.now
         waiting.now turns.now screen) }
 {
     let mut text = String::new(alloc);
@@ -203,16 +194,16 @@ fn standstill_text(
 /// Adds what is said of a standstill.
 fn push_standstill(
     text: &mut String,
-    plan: &ProgrammedPlan,
+    plan: &Acting,
     opening: &State,
     turns: &[u8],
     waiting: &[Event],
 ) -> Result<(), AllocError>
     ensures { OnOk result (string_bytes text.new ≡ string_bytes text.old
-        ++ spec.standstill_text plan.now.named plan.now.programs opening.now turns.now waiting.now) }
+        ++ spec.standstill_text plan.now.named.now plan.now.programs.now opening.now turns.now waiting.now) }
 {
     push_count(text, turns.len())?;
-    push_waiting(text, &plan.named, waiting)?;
+    push_waiting(text, plan.named, waiting)?;
     push_turns(text, plan, opening, turns)
 }
 
@@ -246,12 +237,12 @@ fn push_wait(text: &mut String, named: &NamedPlan, event: &Event) -> Result<(), 
 /// Adds what the turns that lead to a standstill ask.
 fn push_turns(
     text: &mut String,
-    plan: &ProgrammedPlan,
+    plan: &Acting,
     opening: &State,
     turns: &[u8],
 ) -> Result<(), AllocError>
     ensures { OnOk result (string_bytes text.new ≡ string_bytes text.old
-        ++ spec.turns_text plan.now.named plan.now.programs opening.now turns.now) }
+        ++ spec.turns_text plan.now.named.now plan.now.programs.now opening.now turns.now) }
 {
     text.push_str("turns:\n")?;
     push_way(text, plan, opening, turns)

@@ -3,7 +3,7 @@ ghost use Rattle.std.specs.Prelude.{◌≡◌, ◌++◌, None, OnOk, string_byte
 ghost use Rattle.plan_explorer.specs.Walks as walks;
 ghost use Rattle.plan_app.specs.Going as spec;
 
-use plan_document::ProgrammedPlan;
+use crate::acting::Acting;
 use plan_explorer::Situation;
 use plan_explorer::turning::{call_of, turn};
 use plan_liveness::{Bound, FairOrder, Liveness, Progress, Relay};
@@ -30,13 +30,13 @@ const AGAIN: &str = "  and then again and again\n";
 /// Adds what is said of machines that go on, and of plates.
 pub fn push_all(
     text: &mut String,
-    plan: &ProgrammedPlan,
+    plan: &Acting,
     opening: &State,
     answers: &[Liveness],
     plates: &Progress,
 ) -> Result<(), AllocError>
     ensures { OnOk result (string_bytes text.new ≡ string_bytes text.old
-        ++ spec.going_text plan.now.named plan.now.programs opening.now answers.now plates.now) }
+        ++ spec.going_text plan.now.named.now plan.now.programs.now opening.now answers.now plates.now) }
 {
     push_going(text, plan, opening, answers)?;
     push_plates(text, plan, opening, plates)?;
@@ -46,12 +46,12 @@ pub fn push_all(
 /// Adds whether each machine goes on for ever, by their numbers.
 fn push_going(
     text: &mut String,
-    plan: &ProgrammedPlan,
+    plan: &Acting,
     opening: &State,
     answers: &[Liveness],
 ) -> Result<(), AllocError>
     ensures { OnOk result (string_bytes text.new ≡ string_bytes text.old
-        ++ spec.machines_text plan.now.named plan.now.programs opening.now answers.now) }
+        ++ spec.machines_text plan.now.named.now plan.now.programs.now opening.now answers.now) }
 {
     'machines: for machine in 0..plan.programs.count() {
         push_machine(text, plan, opening, machine, answers)?;
@@ -60,15 +60,15 @@ fn push_going(
 }
 
 /// Adds whether a machine goes on for ever, if it was asked of it.
-fn push_machine(
+pub(crate) fn push_machine(
     text: &mut String,
-    plan: &ProgrammedPlan,
+    plan: &Acting,
     opening: &State,
     machine: u8,
     answers: &[Liveness],
 ) -> Result<(), AllocError>
     ensures { OnOk result (string_bytes text.new ≡ string_bytes text.old
-        ++ spec.machine_text plan.now.named plan.now.programs opening.now answers.now machine) }
+        ++ spec.machine_text plan.now.named.now plan.now.programs.now opening.now answers.now machine) }
 {
     match answers.get(usize::from(machine)) {
         Some(answer) => push_liveness(text, plan, opening, machine, answer),
@@ -79,29 +79,29 @@ fn push_machine(
 /// Adds whether a machine goes on for ever, what that takes, and an order in which it starves.
 fn push_liveness(
     text: &mut String,
-    plan: &ProgrammedPlan,
+    plan: &Acting,
     opening: &State,
     machine: u8,
     found: &Liveness,
 ) -> Result<(), AllocError>
     ensures { OnOk result (string_bytes text.new ≡ string_bytes text.old
-        ++ spec.found_text plan.now.named plan.now.programs opening.now machine found.now) }
+        ++ spec.found_text plan.now.named.now plan.now.programs.now opening.now machine found.now) }
 {
     text.push_str(plan.named.machines().name(machine))?;
-    push_answer(text, &plan.named, machine, found)?;
+    push_answer(text, plan.named, machine, found)?;
     push_starving(text, plan, opening, machine, found)
 }
 
 /// Adds the order in which a machine starves, if there is one.
 fn push_starving(
     text: &mut String,
-    plan: &ProgrammedPlan,
+    plan: &Acting,
     opening: &State,
     machine: u8,
     found: &Liveness,
 ) -> Result<(), AllocError>
     ensures { OnOk result (string_bytes text.new ≡ string_bytes text.old
-        ++ spec.starving_text plan.now.named plan.now.programs opening.now machine found.now) }
+        ++ spec.starving_text plan.now.named.now plan.now.programs.now opening.now machine found.now) }
 {
     match found {
         Liveness::IfOne { order, .. } => push_order(text, plan, opening, machine, order),
@@ -264,14 +264,14 @@ fn push_bringing(text: &mut String, named: &NamedPlan, machine: u8) -> Result<()
 }
 
 /// Adds whether plates move for ever, if the plan has places, and an order in which none moves.
-fn push_plates(
+pub(crate) fn push_plates(
     text: &mut String,
-    plan: &ProgrammedPlan,
+    plan: &Acting,
     opening: &State,
     found: &Progress,
 ) -> Result<(), AllocError>
     ensures { OnOk result (string_bytes text.new ≡ string_bytes text.old
-        ++ spec.plates_if_any plan.now.named plan.now.programs opening.now found.now) }
+        ++ spec.plates_if_any plan.now.named.now plan.now.programs.now opening.now found.now) }
 {
     if plan.named.places().len() == 0 {
         return Ok(());
@@ -294,12 +294,12 @@ fn push_moving(text: &mut String, bound: Bound) -> Result<(), AllocError>
 /// Adds an order in which no plate moves.
 fn push_resting(
     text: &mut String,
-    plan: &ProgrammedPlan,
+    plan: &Acting,
     opening: &State,
     order: &FairOrder,
 ) -> Result<(), AllocError>
     ensures { OnOk result (string_bytes text.new ≡ string_bytes text.old
-        ++ spec.resting_text plan.now.named plan.now.programs opening.now order.now) }
+        ++ spec.resting_text plan.now.named.now plan.now.programs.now opening.now order.now) }
 {
     text.push_str("plates may rest for ever\n  a fair order in which none moves: first\n")?;
     push_turns(text, plan, opening, None, order)
@@ -308,13 +308,13 @@ fn push_resting(
 /// Adds an order in which a machine starves.
 fn push_order(
     text: &mut String,
-    plan: &ProgrammedPlan,
+    plan: &Acting,
     opening: &State,
     machine: u8,
     order: &FairOrder,
 ) -> Result<(), AllocError>
     ensures { OnOk result (string_bytes text.new ≡ string_bytes text.old
-        ++ spec.starves_text plan.now.named plan.now.programs opening.now machine order.now) }
+        ++ spec.starves_text plan.now.named.now plan.now.programs.now opening.now machine order.now) }
 {
     text.push_str("  a fair order in which it starves: first\n")?;
     push_turns(text, plan, opening, Some(machine), order)
@@ -323,13 +323,13 @@ fn push_order(
 /// Adds what is asked in an order, turn by turn: first, and then again and again.
 fn push_turns(
     text: &mut String,
-    plan: &ProgrammedPlan,
+    plan: &Acting,
     opening: &State,
     machine: Option<u8>,
     order: &FairOrder,
 ) -> Result<(), AllocError>
     ensures { OnOk result (string_bytes text.new ≡ string_bytes text.old
-        ++ spec.order_text plan.now.named plan.now.programs opening.now machine order.now) }
+        ++ spec.order_text plan.now.named.now plan.now.programs.now opening.now machine order.now) }
 {
     push_stem(text, plan, opening, order)?;
     push_loop(text, plan, opening, machine, order)
@@ -338,12 +338,12 @@ fn push_turns(
 /// Adds what comes first in an order.
 fn push_stem(
     text: &mut String,
-    plan: &ProgrammedPlan,
+    plan: &Acting,
     opening: &State,
     order: &FairOrder,
 ) -> Result<(), AllocError>
     ensures { OnOk result (string_bytes text.new ≡ string_bytes text.old
-        ++ spec.stem_text plan.now.named plan.now.programs opening.now order.now) }
+        ++ spec.stem_text plan.now.named.now plan.now.programs.now opening.now order.now) }
 {
     push_way(text, plan, opening, order.stem.as_slice())?;
     text.push_str(AGAIN)
@@ -352,12 +352,12 @@ fn push_stem(
 /// Adds what turns from an opening ask, and are answered.
 pub fn push_way(
     text: &mut String,
-    plan: &ProgrammedPlan,
+    plan: &Acting,
     opening: &State,
     turns: &[u8],
 ) -> Result<(), AllocError>
     ensures { OnOk result (string_bytes text.new ≡ string_bytes text.old
-        ++ spec.way_text plan.now.named plan.now.programs opening.now turns.now) }
+        ++ spec.way_text plan.now.named.now plan.now.programs.now opening.now turns.now) }
 {
     push_walk(text, plan, Situation::first(opening), None, turns)
 }
@@ -365,25 +365,25 @@ pub fn push_way(
 /// Adds what comes again and again.
 fn push_loop(
     text: &mut String,
-    plan: &ProgrammedPlan,
+    plan: &Acting,
     opening: &State,
     machine: Option<u8>,
     order: &FairOrder,
 ) -> Result<(), AllocError>
     ensures { OnOk result (string_bytes text.new ≡ string_bytes text.old
-        ++ spec.loop_text plan.now.named plan.now.programs opening.now machine order.now) }
+        ++ spec.loop_text plan.now.named.now plan.now.programs.now opening.now machine order.now) }
 {
     let at = end_of(plan, opening, order.stem.as_slice());
     push_walk(text, plan, at, machine, order.cycle.as_slice())
 }
 
 /// The situation after these turns.
-fn end_of(plan: &ProgrammedPlan, opening: &State, turns: &[u8]) -> Situation
-    ensures { result ≡ spec.after_all plan.now.named plan.now.programs opening.now turns.now }
+fn end_of(plan: &Acting, opening: &State, turns: &[u8]) -> Situation
+    ensures { result ≡ spec.after_all plan.now.named.now plan.now.programs.now opening.now turns.now }
 {
     let mut at = Situation::first(opening);
     'turners: for turner in turns {
-        at = turn(plan.named.plan(), &plan.programs, at, *turner);
+        at = turn(plan.named.plan(), plan.programs, at, *turner);
     }
     at
 }
@@ -392,13 +392,13 @@ fn end_of(plan: &ProgrammedPlan, opening: &State, turns: &[u8]) -> Situation
 /// that changes.
 fn push_walk(
     text: &mut String,
-    plan: &ProgrammedPlan,
+    plan: &Acting,
     start: Situation,
     machine: Option<u8>,
     turns: &[u8],
 ) -> Result<(), AllocError>
     ensures { OnOk result (string_bytes text.new ≡ string_bytes text.old
-        ++ spec.walk_text plan.now.named plan.now.programs machine start None turns.now) }
+        ++ spec.walk_text plan.now.named.now plan.now.programs.now machine start None turns.now) }
 {
     let mut at = start;
     let mut last = None;
@@ -406,13 +406,13 @@ fn push_walk(
         let outlook = outlook_of(plan, &at, machine);
         push_step(
             text,
-            &plan.named,
+            plan.named,
             last,
             outlook,
             event_of(plan, &at, *turner),
         )?;
         last = outlook;
-        at = turn(plan.named.plan(), &plan.programs, at, *turner);
+        at = turn(plan.named.plan(), plan.programs, at, *turner);
     }
     Ok(())
 }
@@ -433,12 +433,8 @@ fn push_step(
 }
 
 /// What the machine that is named asks in a situation, and is answered.
-pub(crate) fn outlook_of(
-    plan: &ProgrammedPlan,
-    at: &Situation,
-    machine: Option<u8>,
-) -> Option<Event>
-    ensures { result ≡ spec.outlook_at plan.now.named plan.now.programs machine at.now }
+pub(crate) fn outlook_of(plan: &Acting, at: &Situation, machine: Option<u8>) -> Option<Event>
+    ensures { result ≡ spec.outlook_at plan.now.named.now plan.now.programs.now machine at.now }
 {
     match machine {
         Some(machine) => event_of(plan, at, machine),
@@ -447,10 +443,10 @@ pub(crate) fn outlook_of(
 }
 
 /// What a machine asks in a situation, if it has a program, and what it is answered.
-pub(crate) fn event_of(plan: &ProgrammedPlan, at: &Situation, machine: u8) -> Option<Event>
-    ensures { result ≡ walks.event_of plan.now.named.plan plan.now.programs at.now machine }
+pub(crate) fn event_of(plan: &Acting, at: &Situation, machine: u8) -> Option<Event>
+    ensures { result ≡ walks.event_of plan.now.named.now.plan plan.now.programs.now at.now machine }
 {
-    let call = call_of(&plan.programs, at, machine)?;
+    let call = call_of(plan.programs, at, machine)?;
     let answer = answer(plan.named.plan(), &at.state, machine, call);
     Some(Event {
         machine,

@@ -7,6 +7,7 @@ ghost use Rattle.plan_app.specs.Drives.{AreDrives};
 ghost use Rattle.plan_app.specs.Hazards as spec;
 ghost use Rattle.plan_app.specs.Rows.{HasEveryRow};
 
+use crate::acting::Acting;
 use crate::drives::{are_driven, drives_of, push_drives};
 use crate::going::push_way;
 use crate::leads::{Lead, is_never, lead_of, opening_by};
@@ -387,7 +388,11 @@ fn push_calls(
     push_two(text, LED, "from ")?;
     push_start(text, &plan.named, opening)?;
     text.push_str(" these calls permit both\n")?;
-    push_way(text, plan, opening, turns)
+    let acting = Acting {
+        named: &plan.named,
+        programs: &plan.programs,
+    };
+    push_way(text, &acting, opening, turns)
 }
 
 /// Adds a start: a digit for each place, as in scripts.

@@ -1,6 +1,7 @@
 //! Laws of what is printed, each the contract of a function that does nothing.
 ghost use Rattle.std.specs.Prelude.{ℕ, Bool, List};
 ghost use Rattle.plan_rules.specs.declared.state.State.{State};
+ghost use Rattle.plan_text.specs.HistoryLaws.{IsStartOf};
 ghost use Rattle.plan_document.specs.declared.resolving.ProgrammedPlan.{ProgrammedPlan};
 ghost use Rattle.plan_app.specs.CountLaws.{CountsTell};
 ghost use Rattle.plan_app.specs.DriveExamples.{DriveLines, RightDrivesArePermitted, RunsAreTold};
@@ -15,6 +16,7 @@ ghost use Rattle.plan_app.specs.InputLaws.{ScriptsAreFound};
 ghost use Rattle.plan_app.specs.LineExamples.{ReportLines, RowsAreTold, WholeReports};
 ghost use Rattle.plan_app.specs.PageExamples.{DataIsTold, LinesAreShown, OrdersAreChosen, OrdersAreShown};
 ghost use Rattle.plan_app.specs.PageLaws.{PagesTell};
+ghost use Rattle.plan_app.specs.PartLaws.{PartsSpeakOfAll};
 ghost use Rattle.plan_app.specs.ReportLaws.{ReportsTell};
 ghost use Rattle.plan_app.specs.RunExamples.{RunTextsAreTold};
 ghost use Rattle.plan_app.specs.RunPageExamples.{RunNotes};
@@ -26,6 +28,11 @@ ghost use Rattle.plan_app.specs.SizeExamples.{SizesAreCounted};
 ghost use Rattle.plan_app.specs.StarvingExamples.{StarvingIsKnown};
 ghost use Rattle.plan_app.specs.WordExamples.{PlatesAreTold, WordsAreTold};
 
+use plan_document::ProgrammedPlan;
+use plan_explorer::laws::groups_are_apart;
+use plan_liveness::laws::{groups_go_on, groups_starve};
+use plan_rules::State;
+use plan_rules::laws::starts_are_sound;
 use plan_text::laws::histories_are_answered;
 
 /// Examples: the whole line of each answer to whether a machine goes on for ever.
@@ -161,6 +168,19 @@ pub fn screens_are_meant()
 pub fn screens_differ()
     ensures { KindsOfScreens }
 {}
+
+/// What is found of a group alone, from the start of a script, is so among all machines: the group never stands still,
+/// or comes to a standstill by these turns, and by no fewer, and then stands still for ever; and each bound holds, and
+/// each machine that may starve may starve. Each group has its part.
+pub fn parts_speak_of_all(plan: &ProgrammedPlan, opening: &State)
+    requires { IsStartOf plan.now.named opening.now }
+    ensures { PartsSpeakOfAll plan.now.named plan.now.programs opening.now }
+{
+    starts_are_sound(plan.named.plan(), opening);
+    groups_are_apart(plan.named.plan(), &plan.programs, opening);
+    groups_go_on(plan.named.plan(), &plan.programs, opening);
+    groups_starve(plan.named.plan(), &plan.programs, opening);
+}
 
 /// What is answered of machines and plates is so.
 pub fn answers_are_meant()

@@ -1,6 +1,8 @@
 //! What the program `plan` does, over any words, reader and writer.
 #![tactic(auto)]
 
+pub mod acting;
+pub mod apart;
 mod drives;
 pub mod explore;
 mod film;

@@ -11,6 +11,7 @@ ghost use Rattle.plan_app.specs.Going as going;
 ghost use Rattle.plan_app.specs.Pages as spec;
 ghost use Rattle.plan_app.specs.Screens as screens;
 
+use crate::acting::Acting;
 use crate::explore::{machines_of, plates_of, push_free};
 use crate::film::push_film;
 use crate::going::{event_of, outlook_of};
@@ -184,29 +185,33 @@ fn going_page(
     requires come { explored.ComeTo plan.now.named.plan plan.now.programs opening.now situations }
     ensures { IfOk result (λ page. spec.IsPage plan.now opening.now page) }
 {
-    let answers = machines_of(alloc, plan, opening)?;
-    let plates = plates_of(alloc, plan, opening)?;
+    let acting = Acting {
+        named: &plan.named,
+        programs: &plan.programs,
+    };
+    let answers = machines_of(alloc, &acting, opening)?;
+    let plates = plates_of(alloc, &acting, opening)?;
     let who = first_starving(&answers, plan.programs.count());
     match order_by(&plan.named, &answers, &plates, who) {
         Some(order) => {
             let film = order_film(alloc, plan, opening, who, order)?;
             film_page(alloc, plan, opening, &film)
         }
-        None => free_page(alloc, plan, opening, situations, &answers, &plates),
+        None => free_page(alloc, &acting, opening, situations, &answers, &plates),
     }
 }
 
 /// What is printed where no machine starves, and no plates rest.
 fn free_page(
     alloc: Global,
-    plan: &ProgrammedPlan,
+    plan: &Acting,
     opening: &State,
     situations: usize,
     answers: &[Liveness],
     plates: &Progress,
 ) -> Result<Page, AllocError>
     ensures { IfOk result (λ page. spec.IsFreeText (screens.free_line situations
-        ++ going.going_text plan.now.named plan.now.programs opening.now answers.now plates.now)
+        ++ going.going_text plan.now.named.now plan.now.programs.now opening.now answers.now plates.now)
         page) }
 {
     let mut text = String::new(alloc);
@@ -334,7 +339,11 @@ fn order_events(
         &plan.programs,
         order.stem.as_slice(),
     )?;
-    let cycle = watched_events(alloc, plan, end, who, order.cycle.as_slice())?;
+    let acting = Acting {
+        named: &plan.named,
+        programs: &plan.programs,
+    };
+    let cycle = watched_events(alloc, &acting, end, who, order.cycle.as_slice())?;
     push_rounds(&mut events, cycle.as_slice())?;
     Ok(events)
 }
@@ -353,13 +362,13 @@ fn push_rounds(events: &mut Vec<Event>, cycle: &[Event]) -> Result<(), AllocErro
 /// changes.
 fn watched_events(
     alloc: Global,
-    plan: &ProgrammedPlan,
+    plan: &Acting,
     start: Situation,
     who: Option<u8>,
     turns: &[u8],
 ) -> Result<Vec<Event>, AllocError>
     ensures { IfOk result (λ events. events.items
-        ≡ spec.watched_events plan.now.named plan.now.programs who start None turns.now) }
+        ≡ spec.watched_events plan.now.named.now plan.now.programs.now who start None turns.now) }
 {
     let mut events = Vec::new(alloc);
     let mut at = start;
@@ -369,7 +378,7 @@ fn watched_events(
         push_if(&mut events, vain_news(last, outlook))?;
         push_if(&mut events, event_of(plan, &at, *turner))?;
         last = outlook;
-        at = turn(plan.named.plan(), &plan.programs, at, *turner);
+        at = turn(plan.named.plan(), plan.programs, at, *turner);
     }
     Ok(events)
 }

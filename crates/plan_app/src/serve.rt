@@ -16,24 +16,25 @@ ghost use Rattle.plan_app.specs.Failed.{Fails, FailsBy, FailsIn, WroteAnswers, W
 ghost use Rattle.plan_app.specs.Failed.{WroteEnd, WroteEndFrom, WroteFault, WroteHeader};
 ghost use Rattle.plan_app.specs.Failed.{WroteRun, WroteRunFrom};
 ghost use Rattle.plan_app.specs.Failed.{WroteModule, WrotePicture, WroteReport, WroteReportFrom};
-ghost use Rattle.plan_app.specs.Failed.{WroteScreen, WroteUnread};
+ghost use Rattle.plan_app.specs.Failed.{WroteUnread};
 ghost use Rattle.plan_app.specs.Input.{byte_limit, max_bytes_read};
-ghost use Rattle.plan_app.specs.Served.{AnswersIn, AnswersInput, AnswersScript, Draws, FindsFree};
-ghost use Rattle.plan_app.specs.Served.{FindsFreeIn, FindsInputFree, Reports, ReportsIn};
-ghost use Rattle.plan_app.specs.Served.{WritesFree, WritesHeader, WritesHeaderIn, WritesModule};
+ghost use Rattle.plan_app.specs.Served.{AnswersIn, AnswersInput, AnswersScript, Draws, Explores};
+ghost use Rattle.plan_app.specs.Served.{ExploresIn, ExploresInput, FindsFree, FindsFreeIn};
+ghost use Rattle.plan_app.specs.Served.{FindsInputFree, Reports, ReportsIn, WritesExploration};
+ghost use Rattle.plan_app.specs.Served.{WritesHeader, WritesHeaderIn, WritesModule};
 ghost use Rattle.plan_app.specs.Served.{WritesModuleIn, WritesPicture, WritesPictureIn};
 ghost use Rattle.plan_app.specs.Served.{ShowsInputRun, TellsInputRun, WritesReport, WritesRun, WritesRunFrom};
 ghost use Rattle.plan_app.specs.Served.{WritesRunIn, WritesRunPage, WritesRunPageIn};
 ghost use Rattle.plan_app.specs.Requests.{request_of};
 
-use crate::explore::{Screen, screen_of};
+use crate::apart::{Exploration, exploration_of};
 use crate::hazards::{Report, report_of};
 use crate::input::{MAX_BYTES, plan_length};
 use crate::request;
 use crate::request::{MAX_TURNS, Request};
 use crate::run::{RunFault, Told, run_and_tell};
 use crate::serve_page::{page_script, run_page_script};
-use crate::size::{MAX_SITUATIONS, is_large};
+use crate::size::MAX_SITUATIONS;
 use plan_document::{PlanTextFault, ProgrammedPlan, plan_of};
 use plan_header::{header_of, module_of};
 use plan_picture::picture_of;
@@ -153,7 +154,7 @@ where
     ensures answered { request ≡ Request.Replay → result ≡ Exit.Well →
         AnswersInput (R.remaining reader.old) (W.contents writer.old) (W.contents writer.new) }
     ensures free { request ≡ Request.Explore → result ≡ Exit.Well →
-        FindsInputFree (R.remaining reader.old) (W.contents writer.old) (W.contents writer.new) }
+        ExploresInput (R.remaining reader.old) (W.contents writer.old) (W.contents writer.new) }
     ensures paged { request ≡ Request.Page → result ≡ Exit.Well →
         FindsInputFree (R.remaining reader.old) (W.contents writer.old) (W.contents writer.new) }
     ensures header { request ≡ Request.Header → result ≡ Exit.Well →
@@ -196,7 +197,7 @@ where
     ensures answered { request ≡ Request.Replay → result ≡ Exit.Well →
         AnswersIn bytes.now (W.contents writer.old) (W.contents writer.new) }
     ensures free { request ≡ Request.Explore → result ≡ Exit.Well →
-        FindsFreeIn bytes.now (W.contents writer.old) (W.contents writer.new) }
+        ExploresIn bytes.now (W.contents writer.old) (W.contents writer.new) }
     ensures paged { request ≡ Request.Page → result ≡ Exit.Well →
         FindsFreeIn bytes.now (W.contents writer.old) (W.contents writer.new) }
     ensures header { request ≡ Request.Header → result ≡ Exit.Well →
@@ -239,7 +240,7 @@ where
     ensures answered { request ≡ Request.Replay → result ≡ Exit.Well →
         AnswersScript plan.now.named script.now (W.contents writer.old) (W.contents writer.new) }
     ensures free { request ≡ Request.Explore → result ≡ Exit.Well →
-        FindsFree plan.now script.now (W.contents writer.old) (W.contents writer.new) }
+        Explores plan.now script.now (W.contents writer.old) (W.contents writer.new) }
     ensures paged { request ≡ Request.Page → result ≡ Exit.Well →
         FindsFree plan.now script.now (W.contents writer.old) (W.contents writer.new) }
     ensures header { request ≡ Request.Header → result ≡ Exit.Well →
@@ -387,7 +388,7 @@ fn explore_script<W: Write>(
 ) -> Exit
     ensures status { result ≢ Exit.Refused }
     ensures free { result ≡ Exit.Well →
-        FindsFree plan.now script.now (W.contents writer.old) (W.contents writer.new) }
+        Explores plan.now script.now (W.contents writer.old) (W.contents writer.new) }
     ensures failed { result ≡ Exit.Failed →
         WroteUnread (W.contents writer.old) (W.contents writer.new)
         ⊎ WroteEnd plan.now script.now (W.contents writer.old) (W.contents writer.new) }
@@ -406,42 +407,16 @@ fn explore_from<W: Write>(
     writer: &mut W,
 ) -> Exit
     ensures status { result ≢ Exit.Refused }
-    ensures free { result ≡ Exit.Well → WritesFree plan.now.named plan.now.programs opening.now
+    ensures free { result ≡ Exit.Well → WritesExploration plan.now.named plan.now.programs opening.now
         (W.contents writer.old) (W.contents writer.new) }
     ensures failed { result ≡ Exit.Failed →
         WroteUnread (W.contents writer.old) (W.contents writer.new)
         ⊎ WroteEndFrom plan.now opening.now (W.contents writer.old) (W.contents writer.new) }
 {
-    match is_large(
-        alloc,
-        plan.named.plan(),
-        &plan.programs,
-        opening,
-        MAX_SITUATIONS,
-    ) {
-        Ok(false) => print_screen(alloc, plan, opening, writer),
-        Ok(true) => fail(writer, "large"),
-        Err(AllocError) => fail(writer, "memory"),
-    }
-}
-
-fn print_screen<W: Write>(
-    alloc: Global,
-    plan: &ProgrammedPlan,
-    opening: &State,
-    writer: &mut W,
-) -> Exit
-    ensures status { result ≢ Exit.Refused }
-    ensures free { result ≡ Exit.Well → WritesFree plan.now.named plan.now.programs opening.now
-        (W.contents writer.old) (W.contents writer.new) }
-    ensures failed { result ≡ Exit.Failed →
-        WroteUnread (W.contents writer.old) (W.contents writer.new)
-        ⊎ WroteScreen plan.now opening.now (W.contents writer.old) (W.contents writer.new) }
-{
-    match screen_of(alloc, plan, opening) {
-        Ok(Screen::Free(text)) => print(writer, text.as_bytes()),
-        Ok(Screen::Starving(text)) => print_warning(writer, text.as_str()),
-        Ok(Screen::Standstill(text)) => print_warning(writer, text.as_str()),
+    match exploration_of(alloc, plan, opening) {
+        Ok(Exploration::Well(text)) => print(writer, text.as_bytes()),
+        Ok(Exploration::Unwell(text)) => print_warning(writer, text.as_str()),
+        Ok(Exploration::Large) => fail(writer, "large"),
         Err(AllocError) => fail(writer, "memory"),
     }
 }
@@ -554,11 +529,12 @@ where
         AnswersInput (R.remaining reader.old) (W.contents writer.old) (W.contents writer.new) }
 
     // With `explore`: status 0 says that no order of turns of this plan's programs leads from the script's start to a
-    // standstill, that no machine starves and no plates rest by what explorations answer, and that this was written.
+    // standstill, that no machine starves and no plates rest by what explorations answer, and that this was written. If
+    // at least two groups of machines that share nothing have programs, it says so of each group.
     ensures explore { request_of (texts_of words.now) ≡ Some Request.Explore → result ≡ 0 →
-        FindsInputFree (R.remaining reader.old) (W.contents writer.old) (W.contents writer.new) }
+        ExploresInput (R.remaining reader.old) (W.contents writer.old) (W.contents writer.new) }
 
-    // With `explore --page`: status 0 says and writes the same; there is no page then.
+    // With `explore --page`: status 0 says and writes the same of all machines together; there is no page then.
     ensures page { request_of (texts_of words.now) ≡ Some Request.Page → result ≡ 0 →
         FindsInputFree (R.remaining reader.old) (W.contents writer.old) (W.contents writer.new) }
 
@@ -594,7 +570,7 @@ where
         (W.contents writer.old) (W.contents writer.new) }
 
     // With `explore`: a standstill, which turns from the script's start lead to, or that there is none, and what
-    // explorations answer of machines and plates.
+    // explorations answer of machines and plates; of each group apart, if at least two have programs.
     ensures explore_fails { request_of (texts_of words.now) ≡ Some Request.Explore → result ≡ 1 →
         Fails Request.Explore (R.remaining reader.old)
         (W.contents writer.old) (W.contents writer.new) }

@@ -21,7 +21,7 @@ fn any_machine_starves(answers: &[Liveness]) -> bool
 }
 
 /// Whether a machine starves in some fair order, which is printed.
-fn may_starve(found: &Liveness) -> bool
+pub(crate) fn may_starve(found: &Liveness) -> bool
     ensures { result ≡ spec.may_starve found.now }
 {
     match found {
@@ -32,7 +32,7 @@ fn may_starve(found: &Liveness) -> bool
 }
 
 /// Whether no plate moves in some fair order, which is printed. Of a plan without places nothing is.
-fn plates_may_rest(named: &NamedPlan, found: &Progress) -> bool
+pub(crate) fn plates_may_rest(named: &NamedPlan, found: &Progress) -> bool
     ensures { result ≡ spec.plates_may_rest named.now found.now }
 {
     if named.places().len() == 0 {

@@ -4,6 +4,8 @@
 #[cfg(test)]
 mod answered_examples;
 #[cfg(test)]
+mod apart;
+#[cfg(test)]
 mod at_work;
 #[cfg(test)]
 mod compiled;

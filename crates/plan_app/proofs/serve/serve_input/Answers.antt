@@ -2,7 +2,7 @@ use Rattle.std.proofs.lemmas.Option.{IfSome_then}
 use Rattle.std.proofs.Common.{◌<◌, ◌≤◌, length, subst, sym}
 use Rattle.plan_app.specs.Failed.{FailsIn}
 use Rattle.plan_app.specs.Input.{byte_limit}
-use Rattle.plan_app.specs.Served.{AnswersIn, FindsFreeIn, ReportsIn, WritesHeaderIn, WritesModuleIn, WritesPictureIn, WritesRunIn, WritesRunPageIn}
+use Rattle.plan_app.specs.Served.{AnswersIn, ExploresIn, FindsFreeIn, ReportsIn, WritesHeaderIn, WritesModuleIn, WritesPictureIn, WritesRunIn, WritesRunPageIn}
 use Rattle.plan_app.proofs.Failures.{fails_whole, unread_fails}
 use Rattle.plan_app.proofs.serve.serve_input.Goals as goal
 
@@ -24,8 +24,8 @@ pub returns-in-Ok-clause-free : goal.returns-in-Ok-clause-free
 returns-in-Ok-clause-free g c = λ request well.
     let short : length c.in-Ok.bytes.items ≤ byte_limit = subst (λ bytes. length bytes ≤ byte_limit) c.as_slice.ensures.value (c.serve_bytes.ensures.short well) in
     IfSome_then (g.R.Read.remaining c.args.reader.now) (c.in-Ok.ensures.whole short)
-    (λ read is. subst (λ bytes. FindsFreeIn bytes (g.W.Write.contents c.args.writer.now) (g.W.Write.contents c.serve_bytes.new.writer)) is
-    (subst (λ bytes. FindsFreeIn bytes (g.W.Write.contents c.args.writer.now) (g.W.Write.contents c.serve_bytes.new.writer)) c.as_slice.ensures.value (c.serve_bytes.ensures.free request well)))
+    (λ read is. subst (λ bytes. ExploresIn bytes (g.W.Write.contents c.args.writer.now) (g.W.Write.contents c.serve_bytes.new.writer)) is
+    (subst (λ bytes. ExploresIn bytes (g.W.Write.contents c.args.writer.now) (g.W.Write.contents c.serve_bytes.new.writer)) c.as_slice.ensures.value (c.serve_bytes.ensures.free request well)))
 
 pub returns-in-Ok-clause-paged : goal.returns-in-Ok-clause-paged
 returns-in-Ok-clause-paged g c = λ request well.

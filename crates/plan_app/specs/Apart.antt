@@ -1,0 +1,203 @@
+-- What `plan explore` prints, and what it prints of groups of machines that share nothing with each other.
+use Rattle.std.specs.Prelude.{◌≡◌, ◌<◌, ℕ, zero, suc, Bool, true, false, ◌&&◌, ◌||◌, not, nat_lt, List, []}
+use Rattle.std.specs.Prelude.{◌++◌, codes, flat_map, length, slice_get, Option, Some, None, String, string_bytes}
+use Rattle.std.specs.declared.alloc.Global.{Global}
+use Rattle.std.specs.Prelude.{if◌then◌else◌}
+use Rattle.std.specs.List.{range_with_len}
+use Rattle.plan_types.specs.Below.{any_below}
+use Rattle.plan_types.specs.declared.call.Call.{Call}
+use Rattle.plan_types.specs.declared.call.Call.TheVariants.{Claim, Give, Yield, Take, Release, SetPose, Inquire, Stop}
+use Rattle.plan_types.specs.declared.call.Call.TheVariants.{Resume}
+use Rattle.plan_rules.specs.declared.state.State.{State}
+use Rattle.plan_explorer.specs.Groups.{AreGroups, AreSmallest, alone, group_in, in_group}
+use Rattle.plan_explorer.specs.Programs.{PlanPrograms, program_of}
+use Rattle.plan_liveness.specs.declared.answer.Liveness.{Liveness}
+use Rattle.plan_liveness.specs.declared.answer.Progress.{Progress}
+use Rattle.plan_text.specs.Named.{Named}
+use Rattle.plan_text.specs.Names.{Text}
+use Rattle.plan_header.specs.Words.{machine_name}
+use Rattle.plan_app.specs.Going.{machine_text, plates_if_any}
+use Rattle.plan_app.specs.Screens.{IsScreenBy, TellsScreen, TellsScreenBy}
+use Rattle.plan_app.specs.Sizes.{ComeToMore}
+use Rattle.plan_app.specs.Starving.{may_starve, plates_may_rest}
+use Rattle.plan_app.specs.declared.apart.Exploration.{Exploration}
+use Rattle.plan_app.specs.declared.apart.Exploration.TheVariants.{Well, Unwell, Large}
+use Rattle.plan_app.specs.declared.explore.Screen.{Screen}
+use Rattle.plan_app.specs.declared.explore.Screen.TheVariants.{Free, Starving, Standstill}
+use Rattle.plan_app.specs.declared.going.TheConstants.{FAIRNESS}
+
+-- ---- groups, by the number of each machine's group
+
+-- the machines of a machine's group
+abbrev pub group_of : List ℕ → ℕ → ℕ → Bool
+group_of groups m = in_group (group_in groups) (group_in groups m)
+
+-- a machine is the first of its group
+abbrev pub is_first : List ℕ → ℕ → Bool
+is_first groups m = not (any_below (group_of groups m) m)
+
+-- two machines with programs, of different groups
+abbrev pub has_program : PlanPrograms → ℕ → Bool
+has_program ps m = nat_lt 0 (length (program_of ps m))
+
+abbrev pub are_apart : List ℕ → PlanPrograms → ℕ → ℕ → Bool
+are_apart groups ps m k = has_program ps m && (has_program ps k && not (group_of groups m k))
+
+abbrev pub is_apart : List ℕ → PlanPrograms → ℕ → Bool
+is_apart groups ps m = any_below (are_apart groups ps m) (length ps)
+
+-- at least two groups have programs
+abbrev pub some_are_apart : List ℕ → PlanPrograms → Bool
+some_are_apart groups ps = any_below (is_apart groups ps) (length ps)
+
+-- ---- what is said of a group, by its programs alone
+
+abbrev pub next_name : Named → List ℕ → ℕ → ℕ → Text
+next_name n groups first m =
+    if nat_lt first m && group_of groups first m then codes ", " ++ machine_name n m else []
+
+-- its machines
+abbrev pub names_text : Named → List ℕ → ℕ → ℕ → Text
+names_text n groups first count =
+    machine_name n first ++ flat_map (next_name n groups first) (range_with_len 0 count)
+
+abbrev pub part_head : Named → List ℕ → ℕ → ℕ → Text
+part_head n groups first count =
+    codes "apart from all others: " ++ (names_text n groups first count ++ codes "\n")
+
+-- a program gives or takes a plate
+abbrev pub hands_over : Option Call → Bool
+hands_over None = false
+hands_over (Some (Claim z)) = false
+hands_over (Some (Give z)) = true
+hands_over (Some (Yield z)) = false
+hands_over (Some (Take z)) = true
+hands_over (Some (Release z)) = false
+hands_over (Some (SetPose p)) = false
+hands_over (Some (Inquire z)) = false
+hands_over (Some Stop) = false
+hands_over (Some Resume) = false
+
+abbrev pub hands_over_at : PlanPrograms → ℕ → ℕ → Bool
+hands_over_at ps m k = hands_over (slice_get (program_of ps m) k)
+
+abbrev pub moves_plates : PlanPrograms → ℕ → Bool
+moves_plates ps m = any_below (hands_over_at ps m) (length (program_of ps m))
+
+abbrev pub some_move_plates : PlanPrograms → Bool
+some_move_plates ps = any_below (moves_plates ps) (length ps)
+
+-- of plates a part speaks only if a program of its group gives or takes
+abbrev pub part_plates : Named → PlanPrograms → State → Progress → Text
+part_plates n ps opening plates = if some_move_plates ps then plates_if_any n ps opening plates else []
+
+-- of machines it speaks of its own
+abbrev pub own_text : (ℕ → Bool) → Named → PlanPrograms → State → List Liveness → ℕ → Text
+own_text ours n ps opening answers m = if ours m then machine_text n ps opening answers m else []
+
+abbrev pub part_text : (ℕ → Bool) → Named → PlanPrograms → State → List Liveness → Progress → Text
+part_text ours n ps opening answers plates =
+    flat_map (own_text ours n ps opening answers) (range_with_len 0 (length ps))
+    ++ (part_plates n ps opening plates ++ FAIRNESS.now)
+
+-- one of its machines may starve, or its plates may rest
+abbrev pub may_starve_if : Option Liveness → Bool
+may_starve_if None = false
+may_starve_if (Some found) = may_starve found
+
+abbrev pub own_starves : (ℕ → Bool) → List Liveness → ℕ → Bool
+own_starves ours answers m = ours m && may_starve_if (slice_get answers m)
+
+abbrev pub part_starves : (ℕ → Bool) → Named → PlanPrograms → List Liveness → Progress → Bool
+part_starves ours n ps answers plates =
+    any_below (own_starves ours answers) (length ps) || (some_move_plates ps && plates_may_rest n plates)
+
+-- what is found of it
+abbrev pub IsPartScreen : Named → PlanPrograms → State → (ℕ → Bool) → Screen → Type 0
+IsPartScreen n ps opening ours screen =
+    IsScreenBy n ps opening (part_starves ours n ps) (part_text ours n ps opening) screen
+
+abbrev pub text_of : Screen → Text
+text_of (Free text) = string_bytes text
+text_of (Starving text) = string_bytes text
+text_of (Standstill text) = string_bytes text
+
+abbrev pub is_well : Screen → Bool
+is_well (Free text) = true
+is_well (Starving text) = false
+is_well (Standstill text) = false
+
+-- the text of a part without its head, and whether all is well in it
+abbrev pub TellsAlone : Named → PlanPrograms → State → (ℕ → Bool) → Bool → Text → Type 0
+TellsAlone n ps opening ours well text =
+    TellsScreenBy n ps opening (part_starves ours n ps) (part_text ours n ps opening) well text
+
+-- this is told of it; or nothing, where turns lead to more situations than are explored
+abbrev pub IsPart : Named → PlanPrograms → State → (ℕ → Bool) → Option (Bool × String Global) → Type 0
+IsPart n ps opening ours None = ComeToMore n.plan ps opening 1000000
+IsPart n ps opening ours (Some told) = TellsAlone n ps opening ours told.0 (string_bytes told.1)
+
+-- its head, and then what is said of its machines alone
+abbrev pub TellsPart : Named → PlanPrograms → State → List ℕ → ℕ → Bool → Text → Type 0
+TellsPart n ps opening groups first well text =
+    (said : Text) × TellsAlone n (alone (group_of groups first) ps) opening (group_of groups first) well said
+    × (text ≡ part_head n groups first (length ps) ++ said)
+
+-- one text is another one, and then a part
+abbrev pub AddsPart : Named → PlanPrograms → State → List ℕ → ℕ → Bool → Text → Text → Type 0
+AddsPart n ps opening groups first well old new =
+    (part : Text) × TellsPart n ps opening groups first well part × (new ≡ old ++ part)
+
+-- ---- what is said of all groups, in the order of their first machines
+
+-- what comes before, and then a part: all is well if it is in both
+abbrev pub TellsBoth : (Bool → Text → Type 0) → (Bool → Text → Type 0) → Bool → Text → Type 0
+TellsBoth before part well text =
+    (early : Bool) × (late : Bool) × (earlier : Text) × (later : Text) × before early earlier × part late later
+    × (well ≡ (early && late)) × (text ≡ earlier ++ later)
+
+abbrev pub TellsNext : Bool → (Bool → Text → Type 0) → (Bool → Text → Type 0) → Bool → Text → Type 0
+TellsNext true before part well text = TellsBoth before part well text
+TellsNext false before part well text = before well text
+
+-- the parts of the groups whose first machine is below a number
+abbrev pub TellsParts : Named → PlanPrograms → State → List ℕ → ℕ → Bool → Text → Type 0
+TellsParts n ps opening groups zero well text = (well ≡ true) × (text ≡ [])
+TellsParts n ps opening groups (suc m) well text =
+    TellsNext (is_first groups m) (TellsParts n ps opening groups m) (TellsPart n ps opening groups m) well text
+
+-- ---- what is printed: of each group if at least two have programs, else of all machines together
+
+abbrev pub TellsBy : Bool → Named → PlanPrograms → State → List ℕ → Bool → Text → Type 0
+TellsBy true n ps opening groups well text = TellsParts n ps opening groups (length ps) well text
+TellsBy false n ps opening groups well text = TellsScreen n ps opening well text
+
+pub record TellsExploration (n : Named) (ps : PlanPrograms) (opening : State) (well : Bool) (text : Text) : Type 0
+  where
+    pub groups : List ℕ
+    pub apart : AreGroups n.plan (group_in groups)
+    pub smallest : AreSmallest n.plan (group_in groups)
+    pub told : TellsBy (some_are_apart groups ps) n ps opening groups well text
+
+-- turns of a group alone lead to more situations than are explored; or those of all machines together
+abbrev pub ComeToMoreBy : Bool → Named → PlanPrograms → State → List ℕ → Type 0
+ComeToMoreBy true n ps opening groups =
+    (first : ℕ) × (first < length ps) × ComeToMore n.plan (alone (group_of groups first) ps) opening 1000000
+ComeToMoreBy false n ps opening groups = ComeToMore n.plan ps opening 1000000
+
+pub record IsLarge (n : Named) (ps : PlanPrograms) (opening : State) : Type 0 where
+  pub groups : List ℕ
+  pub apart : AreGroups n.plan (group_in groups)
+  pub smallest : AreSmallest n.plan (group_in groups)
+  pub more : ComeToMoreBy (some_are_apart groups ps) n ps opening groups
+
+-- by the groups
+abbrev pub IsExplorationBy : Bool → Named → PlanPrograms → State → List ℕ → Exploration → Type 0
+IsExplorationBy apart n ps opening groups (Well text) = TellsBy apart n ps opening groups true (string_bytes text)
+IsExplorationBy apart n ps opening groups (Unwell text) = TellsBy apart n ps opening groups false (string_bytes text)
+IsExplorationBy apart n ps opening groups Large = ComeToMoreBy apart n ps opening groups
+
+abbrev pub IsExploration : Named → PlanPrograms → State → Exploration → Type 0
+IsExploration n ps opening (Well text) = TellsExploration n ps opening true (string_bytes text)
+IsExploration n ps opening (Unwell text) = TellsExploration n ps opening false (string_bytes text)
+IsExploration n ps opening Large = IsLarge n ps opening

@@ -1,0 +1,574 @@
+//! What `plan explore` prints. Groups of machines that share nothing with each other are explored apart, if at least
+//! two of them have programs.
+ghost use Rattle.std.specs.Prelude.{◌≡◌, ◌++◌, ◌<◌, ℕ, List, true, false, ◌&&◌, Some, None, IfOk, IfSome, IfNone, OnOk};
+ghost use Rattle.std.specs.Prelude.{length, flat_map, slice_get, string_bytes};
+ghost use Rattle.std.specs.List.{range_with_len};
+ghost use Rattle.plan_types.specs.Below.{any_below};
+ghost use Rattle.plan_explorer.specs.Groups.{alone, group_in, in_group};
+ghost use Rattle.plan_liveness.specs.declared.answer.Liveness.{Liveness};
+ghost use Rattle.plan_app.specs.Apart as spec;
+ghost use Rattle.plan_app.specs.Screens as screens;
+ghost use Rattle.plan_app.specs.Sizes.{ComeToMore};
+
+use crate::acting::Acting;
+use crate::explore::{
+    Screen, machines_of, plates_of, push_situations, screen_of, standstill_screen,
+};
+use crate::going::{FAIRNESS, push_machine, push_plates};
+use crate::size::{MAX_SITUATIONS, is_large};
+use crate::starving::{may_starve, plates_may_rest};
+use plan_document::ProgrammedPlan;
+use plan_explorer::{Explored, Groups, Programs, explore, groups_of};
+use plan_liveness::{Liveness, Progress};
+use plan_rules::State;
+use plan_text::NamedPlan;
+use plan_types::Call;
+use std::alloc::{AllocError, Global};
+
+/// What `plan explore` prints.
+#[derive(Drop)]
+pub enum Exploration {
+    /// Nothing stands still, and nobody starves, nor do plates rest.
+    Well(String),
+    /// Some machines stand still, or one may starve, or plates may rest.
+    Unwell(String),
+    /// Turns lead to more situations than are explored.
+    Large,
+}
+
+/// What `plan explore` prints of a plan and its programs, which begin at an opening: of each group apart, if at least
+/// two of them have programs, else of all machines together. An error says that memory ran out.
+pub fn exploration_of(
+    alloc: Global,
+    plan: &ProgrammedPlan,
+    opening: &State,
+) -> Result<Exploration, AllocError>
+    ensures { IfOk result (spec.IsExploration plan.now.named plan.now.programs opening.now) }
+{
+    let acting = Acting {
+        named: &plan.named,
+        programs: &plan.programs,
+    };
+    let groups = groups_of(plan.named.plan());
+    if some_are_apart(&groups, &plan.programs) {
+        parts_of(alloc, &acting, opening, &groups)
+    } else {
+        all_of(alloc, &acting, opening)
+    }
+}
+
+// ---- groups
+
+/// The number of a machine's group.
+fn group_number(groups: &Groups, machine: u8) -> u8
+    requires { machine < 15 }
+    ensures { result ≡ group_in groups.now machine }
+{
+    groups[usize::from(machine)]
+}
+
+/// Whether a machine is of the group of another one.
+fn is_of_group(groups: &Groups, first: u8, machine: u8) -> bool
+    requires first { first < 15 }
+    requires machine { machine < 15 }
+    ensures { result ≡ spec.group_of groups.now first machine }
+{
+    group_number(groups, machine) == group_number(groups, first)
+}
+
+/// Whether a machine is the first of its group.
+fn is_first(groups: &Groups, machine: u8) -> bool
+    requires { machine < 15 }
+    ensures { result ≡ spec.is_first groups.now machine }
+{
+    !any_before(groups, machine)
+}
+
+/// Whether a machine before this one is of its group.
+#[tactic(auto, using(plan_types::proofs::lemmas::Below::any_below_more))]
+fn any_before(groups: &Groups, machine: u8) -> bool
+    requires { machine < 15 }
+    ensures { result ≡ any_below (spec.group_of groups.now machine) machine }
+{
+    let mut any = false;
+    for other in 0..machine {
+        any = any || is_of_group(groups, machine, other);
+    }
+    any
+}
+
+/// Whether a machine has a program.
+fn has_program(programs: &Programs, machine: u8) -> bool
+    ensures { result ≡ spec.has_program programs.now machine }
+{
+    programs.step_count(machine) > 0
+}
+
+/// Whether two machines have programs, and are of different groups.
+fn are_apart(groups: &Groups, programs: &Programs, one: u8, other: u8) -> bool
+    requires one { one < 15 }
+    requires other { other < 15 }
+    ensures { result ≡ spec.are_apart groups.now programs.now one other }
+{
+    has_program(programs, one) && has_program(programs, other) && !is_of_group(groups, one, other)
+}
+
+/// Whether a machine has a program, and one of another group has one.
+#[tactic(auto, using(plan_types::proofs::lemmas::Below::any_below_more))]
+fn is_apart(groups: &Groups, programs: &Programs, machine: u8) -> bool
+    requires { machine < 15 }
+    ensures { result ≡ spec.is_apart groups.now programs.now machine }
+{
+    let mut any = false;
+    for other in 0..programs.count() {
+        any = any || are_apart(groups, programs, machine, other);
+    }
+    any
+}
+
+/// Whether at least two groups have programs.
+#[tactic(auto, using(plan_types::proofs::lemmas::Below::any_below_more))]
+fn some_are_apart(groups: &Groups, programs: &Programs) -> bool
+    ensures { result ≡ spec.some_are_apart groups.now programs.now }
+{
+    let mut any = false;
+    for machine in 0..programs.count() {
+        any = any || is_apart(groups, programs, machine);
+    }
+    any
+}
+
+// ---- all machines together
+
+/// What is printed of all machines together.
+fn all_of(alloc: Global, plan: &Acting, opening: &State) -> Result<Exploration, AllocError>
+    ensures { IfOk result (λ found. (groups : List ℕ) → spec.IsExplorationBy false
+        plan.now.named.now plan.now.programs.now opening.now groups found) }
+{
+    if is_large(
+        alloc,
+        plan.named.plan(),
+        plan.programs,
+        opening,
+        MAX_SITUATIONS,
+    )? {
+        return Ok(Exploration::Large);
+    }
+    match screen_of(alloc, plan, opening)? {
+        Screen::Free(text) => Ok(Exploration::Well(text)),
+        Screen::Starving(text) => Ok(Exploration::Unwell(text)),
+        Screen::Standstill(text) => Ok(Exploration::Unwell(text)),
+    }
+}
+
+// ---- each group apart
+
+/// What is printed of each group.
+fn parts_of(
+    alloc: Global,
+    plan: &Acting,
+    opening: &State,
+    groups: &Groups,
+) -> Result<Exploration, AllocError>
+    ensures { IfOk result
+        (spec.IsExplorationBy true plan.now.named.now plan.now.programs.now opening.now groups.now) }
+{
+    let mut text = String::new(alloc);
+    let mut well = true;
+    'machines: for machine in 0..plan.programs.count() {
+        if is_first(groups, machine) {
+            match push_part(&mut text, alloc, plan, opening, groups, machine)? {
+                Some(part) => {
+                    well = both(well, part);
+                }
+                None => return Ok(Exploration::Large),
+            }
+        }
+    }
+    if well {
+        Ok(Exploration::Well(text))
+    } else {
+        Ok(Exploration::Unwell(text))
+    }
+}
+
+/// Whether all is well in what was told, and in a part.
+fn both(well: bool, part: bool) -> bool
+    ensures { result ≡ (well && part) }
+{
+    well && part
+}
+
+/// Adds the part of the group of a machine. Says whether all is well in it; nothing if turns lead to more situations
+/// than are explored.
+fn push_part(
+    text: &mut String,
+    alloc: Global,
+    plan: &Acting,
+    opening: &State,
+    groups: &Groups,
+    first: u8,
+) -> Result<Option<bool>, AllocError>
+    requires { first < 15 }
+    ensures told { IfOk result (λ found. IfSome found (λ well. spec.AddsPart plan.now.named.now
+        plan.now.programs.now opening.now groups.now first well
+        (string_bytes text.old) (string_bytes text.new))) }
+    ensures large { IfOk result (λ found. IfNone found (ComeToMore plan.now.named.now.plan
+        (alone (spec.group_of groups.now first) plan.now.programs.now) opening.now 1000000)) }
+{
+    match part_of(alloc, plan, opening, groups, first)? {
+        Some((well, found)) => {
+            push_head(text, plan, groups, first)?;
+            text.push_str(found.as_str())?;
+            Ok(Some(well))
+        }
+        None => Ok(None),
+    }
+}
+
+/// What is told of the group of a machine alone, and whether all is well; nothing if turns lead to more situations than
+/// are explored.
+fn part_of(
+    alloc: Global,
+    plan: &Acting,
+    opening: &State,
+    groups: &Groups,
+    first: u8,
+) -> Result<Option<(bool, String)>, AllocError>
+    requires { first < 15 }
+    ensures { IfOk result (spec.IsPart plan.now.named.now
+        (alone (spec.group_of groups.now first) plan.now.programs.now) opening.now
+        (spec.group_of groups.now first)) }
+{
+    let group = group_number(groups, first);
+    let programs = plan.programs.alone(alloc, groups, group)?;
+    let part = Acting {
+        named: plan.named,
+        programs: &programs,
+    };
+    told_alone(alloc, &part, opening, groups, first)
+}
+
+/// The same by the programs of the group alone.
+fn told_alone(
+    alloc: Global,
+    plan: &Acting,
+    opening: &State,
+    groups: &Groups,
+    first: u8,
+) -> Result<Option<(bool, String)>, AllocError>
+    requires { first < 15 }
+    ensures { IfOk result (spec.IsPart plan.now.named.now plan.now.programs.now opening.now
+        (spec.group_of groups.now first)) }
+{
+    if is_large(
+        alloc,
+        plan.named.plan(),
+        plan.programs,
+        opening,
+        MAX_SITUATIONS,
+    )? {
+        return Ok(None);
+    }
+    let screen = part_screen(alloc, plan, opening, groups, first)?;
+    Ok(Some(told_by(screen)))
+}
+
+/// Whether all is well by a screen, and its text.
+fn told_by(screen: Screen) -> (bool, String)
+    ensures well { result.0 ≡ spec.is_well screen }
+    ensures text { string_bytes result.1 ≡ spec.text_of screen }
+{
+    match screen {
+        Screen::Free(text) => (true, text),
+        Screen::Starving(text) => (false, text),
+        Screen::Standstill(text) => (false, text),
+    }
+}
+
+/// Adds the head of a part: the machines of a group, by their numbers.
+fn push_head(text: &mut String, plan: &Acting, groups: &Groups, first: u8) -> Result<(), AllocError>
+    requires { first < 15 }
+    ensures { OnOk result (string_bytes text.new ≡ string_bytes text.old
+        ++ spec.part_head plan.now.named.now groups.now first (length plan.now.programs.now)) }
+{
+    text.push_str("apart from all others: ")?;
+    push_names(text, plan, groups, first)?;
+    text.push_str("\n")
+}
+
+/// Adds the names of a group's machines.
+fn push_names(
+    text: &mut String,
+    plan: &Acting,
+    groups: &Groups,
+    first: u8,
+) -> Result<(), AllocError>
+    requires { first < 15 }
+    ensures { OnOk result (string_bytes text.new ≡ string_bytes text.old
+        ++ spec.names_text plan.now.named.now groups.now first (length plan.now.programs.now)) }
+{
+    text.push_str(plan.named.machines().name(first))?;
+    push_others(text, plan, groups, first)
+}
+
+/// Adds the names of a group's machines after its first.
+fn push_others(
+    text: &mut String,
+    plan: &Acting,
+    groups: &Groups,
+    first: u8,
+) -> Result<(), AllocError>
+    requires { first < 15 }
+    ensures { OnOk result (string_bytes text.new ≡ string_bytes text.old
+        ++ flat_map (spec.next_name plan.now.named.now groups.now first)
+        (range_with_len 0 (length plan.now.programs.now))) }
+{
+    'machines: for machine in 0..plan.programs.count() {
+        push_next(text, plan.named, groups, first, machine)?;
+    }
+    Ok(())
+}
+
+/// Adds the name of a machine, if it is of a group and not its first.
+fn push_next(
+    text: &mut String,
+    named: &NamedPlan,
+    groups: &Groups,
+    first: u8,
+    machine: u8,
+) -> Result<(), AllocError>
+    requires first { first < 15 }
+    requires machine { machine < 15 }
+    ensures { OnOk result (string_bytes text.new ≡ string_bytes text.old
+        ++ spec.next_name named.now groups.now first machine) }
+{
+    if first < machine && is_of_group(groups, first, machine) {
+        text.push_str(", ")?;
+        text.push_str(named.machines().name(machine))
+    } else {
+        Ok(())
+    }
+}
+
+// ---- one group, by its programs alone
+
+/// What is found of the group of a machine, by its programs alone.
+fn part_screen(
+    alloc: Global,
+    plan: &Acting,
+    opening: &State,
+    groups: &Groups,
+    first: u8,
+) -> Result<Screen, AllocError>
+    requires { first < 15 }
+    ensures { IfOk result (spec.IsPartScreen plan.now.named.now plan.now.programs.now opening.now
+        (spec.group_of groups.now first)) }
+{
+    match explore(alloc, plan.named.plan(), opening, plan.programs)? {
+        Explored::Free(situations) => part_free(alloc, plan, opening, groups, first, situations),
+        Explored::Standstill(turns) => standstill_screen(alloc, plan, opening, turns.as_slice()),
+    }
+}
+
+/// What is printed of a group where nothing stands still.
+fn part_free(
+    alloc: Global,
+    plan: &Acting,
+    opening: &State,
+    groups: &Groups,
+    first: u8,
+    situations: usize,
+) -> Result<Screen, AllocError>
+    requires { first < 15 }
+    ensures { IfOk result (screens.ShowsGoingBy plan.now.named.now plan.now.programs.now opening.now
+        (spec.part_starves (spec.group_of groups.now first) plan.now.named.now plan.now.programs.now)
+        (spec.part_text (spec.group_of groups.now first) plan.now.named.now plan.now.programs.now opening.now)
+        situations) }
+{
+    let answers = machines_of(alloc, plan, opening)?;
+    let plates = plates_of(alloc, plan, opening)?;
+    let own = Own {
+        groups,
+        first,
+        answers: answers.as_slice(),
+        plates: &plates,
+    };
+    part_text(alloc, plan, opening, &own, situations)
+}
+
+/// What explorations answer of the group of a machine.
+#[derive(Clone, Copy)]
+struct Own<'a> {
+    groups: &'a Groups,
+    first: u8,
+    answers: &'a [Liveness],
+    plates: &'a Progress,
+}
+
+/// The text of a group where nothing stands still.
+fn part_text(
+    alloc: Global,
+    plan: &Acting,
+    opening: &State,
+    own: &Own,
+    situations: usize,
+) -> Result<Screen, AllocError>
+    requires { own.now.first < 15 }
+    ensures { IfOk result (screens.ShowsFree situations
+        (spec.part_text (spec.group_of own.now.groups.now own.now.first) plan.now.named.now plan.now.programs.now
+        opening.now own.now.answers.now own.now.plates.now)
+        (spec.part_starves (spec.group_of own.now.groups.now own.now.first) plan.now.named.now plan.now.programs.now
+        own.now.answers.now own.now.plates.now)) }
+{
+    let mut text = String::new(alloc);
+    push_situations(&mut text, situations)?;
+    push_own(&mut text, plan, opening, own)?;
+    if part_starves(plan, own) {
+        Ok(Screen::Starving(text))
+    } else {
+        Ok(Screen::Free(text))
+    }
+}
+
+/// Adds what is said of a group's machines, and of their plates.
+fn push_own(text: &mut String, plan: &Acting, opening: &State, own: &Own) -> Result<(), AllocError>
+    requires { own.now.first < 15 }
+    ensures { OnOk result (string_bytes text.new ≡ string_bytes text.old
+        ++ spec.part_text (spec.group_of own.now.groups.now own.now.first) plan.now.named.now plan.now.programs.now
+        opening.now own.now.answers.now own.now.plates.now) }
+{
+    push_own_machines(text, plan, opening, own)?;
+    push_own_plates(text, plan, opening, own.plates)?;
+    text.push_str(FAIRNESS)
+}
+
+/// Adds whether each machine of a group goes on for ever.
+fn push_own_machines(
+    text: &mut String,
+    plan: &Acting,
+    opening: &State,
+    own: &Own,
+) -> Result<(), AllocError>
+    requires { own.now.first < 15 }
+    ensures { OnOk result (string_bytes text.new ≡ string_bytes text.old
+        ++ flat_map (spec.own_text (spec.group_of own.now.groups.now own.now.first) plan.now.named.now
+        plan.now.programs.now opening.now own.now.answers.now) (range_with_len 0 (length plan.now.programs.now))) }
+{
+    'machines: for machine in 0..plan.programs.count() {
+        push_own_machine(text, plan, opening, own, machine)?;
+    }
+    Ok(())
+}
+
+/// Adds whether a machine goes on for ever, if it is of a group.
+fn push_own_machine(
+    text: &mut String,
+    plan: &Acting,
+    opening: &State,
+    own: &Own,
+    machine: u8,
+) -> Result<(), AllocError>
+    requires first { own.now.first < 15 }
+    requires machine { machine < 15 }
+    ensures { OnOk result (string_bytes text.new ≡ string_bytes text.old
+        ++ spec.own_text (spec.group_of own.now.groups.now own.now.first) plan.now.named.now plan.now.programs.now
+        opening.now own.now.answers.now machine) }
+{
+    if is_of_group(own.groups, own.first, machine) {
+        push_machine(text, plan, opening, machine, own.answers)
+    } else {
+        Ok(())
+    }
+}
+
+/// Adds whether plates move for ever, if one of these programs gives or takes.
+fn push_own_plates(
+    text: &mut String,
+    plan: &Acting,
+    opening: &State,
+    found: &Progress,
+) -> Result<(), AllocError>
+    ensures { OnOk result (string_bytes text.new ≡ string_bytes text.old
+        ++ spec.part_plates plan.now.named.now plan.now.programs.now opening.now found.now) }
+{
+    if some_move_plates(plan.programs) {
+        push_plates(text, plan, opening, found)
+    } else {
+        Ok(())
+    }
+}
+
+/// Whether a machine of a group may starve, or its plates may rest.
+fn part_starves(plan: &Acting, own: &Own) -> bool
+    requires { own.now.first < 15 }
+    ensures { result ≡ spec.part_starves (spec.group_of own.now.groups.now own.now.first) plan.now.named.now
+        plan.now.programs.now own.now.answers.now own.now.plates.now }
+{
+    any_starves(plan.programs, own)
+        || (some_move_plates(plan.programs) && plates_may_rest(plan.named, own.plates))
+}
+
+/// Whether a machine of a group may starve.
+#[tactic(auto, using(plan_types::proofs::lemmas::Below::any_below_more))]
+fn any_starves(programs: &Programs, own: &Own) -> bool
+    requires { own.now.first < 15 }
+    ensures { result ≡ any_below (spec.own_starves (spec.group_of own.now.groups.now own.now.first)
+        own.now.answers.now) (length programs.now) }
+{
+    let mut any = false;
+    for machine in 0..programs.count() {
+        any = any || own_starves(own, machine);
+    }
+    any
+}
+
+/// Whether a machine is of a group, and may starve.
+fn own_starves(own: &Own, machine: u8) -> bool
+    requires first { own.now.first < 15 }
+    requires machine { machine < 15 }
+    ensures { result ≡ spec.own_starves (spec.group_of own.now.groups.now own.now.first) own.now.answers.now machine }
+{
+    is_of_group(own.groups, own.first, machine) && may_starve_at(own.answers, machine)
+}
+
+/// Whether a machine may starve, if it was asked of it.
+fn may_starve_at(answers: &[Liveness], machine: u8) -> bool
+    ensures { result ≡ spec.may_starve_if (slice_get answers.now machine) }
+{
+    match answers.get(usize::from(machine)) {
+        Some(found) => may_starve(found),
+        None => false,
+    }
+}
+
+/// Whether one of these programs gives or takes.
+#[tactic(auto, using(plan_types::proofs::lemmas::Below::any_below_more))]
+fn some_move_plates(programs: &Programs) -> bool
+    ensures { result ≡ spec.some_move_plates programs.now }
+{
+    let mut any = false;
+    for machine in 0..programs.count() {
+        any = any || moves_plates(programs, machine);
+    }
+    any
+}
+
+/// Whether a machine's program gives or takes.
+#[tactic(auto, using(plan_types::proofs::lemmas::Below::any_below_more))]
+fn moves_plates(programs: &Programs, machine: u8) -> bool
+    ensures { result ≡ spec.moves_plates programs.now machine }
+{
+    let mut any = false;
+    for step in 0..programs.step_count(machine) {
+        any = any || hands_over(programs.call(machine, step));
+    }
+    any
+}
+
+/// Whether a call gives or takes a plate.
+fn hands_over(call: Option<Call>) -> bool
+    ensures { result ≡ spec.hands_over call }
+{
+    matches!(call, Some(Call::Give(_) | Call::Take(_)))
+}
