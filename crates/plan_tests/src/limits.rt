@@ -3,7 +3,7 @@
 use super::doubles::are_answered;
 
 /// Machines, poses, places, lines of a program and zones: as many as there may be, and one more. Zones have two bits;
-/// those that poses move and open have four.
+/// those that poses move and open have four. Ten machines come to 1,048,576 situations.
 const COUNTS: &str = "\
 0: ./plan check
 =>
@@ -198,6 +198,22 @@ host = \"a\"
 guest = \"b\"
 @=>
 fault plan wide: 10 zones and 16 places need 77 bits, and 64 fit: leave out 13 bits (a place has 1, a zone 2 to 5)
+--
+1: ./plan explore
+=>
+[[machine]]
+name = \"hub\"
+@10 [[machine]]
+name = \"m#\"
+poses = [{ name = \"turn\", gives = { z# = \"moving\" } }, { name = \"rest\", gives = { z# = \"closed\" } }]
+program = [\"claim z#\", \"pose turn\", \"pose rest\", \"release z#\"]
+[[zone]]
+name = \"z#\"
+host = \"m#\"
+guest = \"hub\"
+@start,
+=>
+fault large
 ";
 
 /// A comment fills the document.
