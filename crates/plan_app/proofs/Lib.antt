@@ -21,6 +21,7 @@ mod DrivesTold
 mod HazardsTold
 mod ScriptsFound
 mod ScreenRows
+mod PartRows
 mod FailedRows
 mod Numbered
 mod Verdicts

@@ -77,7 +77,8 @@ WroteReport plan script old new = WroteReportFrom plan (start_if (script_start p
 -- machine starves or plates rest
 abbrev pub WroteExploration : ProgrammedPlan → State → Option Text → Option Text → Type 0
 WroteExploration plan opening old new =
-    (well : Bool) × (text : Text) × TellsExploration plan.named plan.programs opening well text × WrotePrefix old new text
+    (well : Bool) × (text : Text) × TellsExploration plan.named plan.programs opening well text
+    × WrotePrefix old new text
 
 -- of a group, or of all machines together, turns lead to more situations than are explored
 abbrev pub WroteTooMany : ProgrammedPlan → State → Option Text → Option Text → Type 0

@@ -32,6 +32,7 @@ pub mod DriveLaws
 pub mod InputExamples
 pub mod InputLaws
 pub mod ScreenExamples
+pub mod PartExamples
 pub mod FailedExamples
 pub mod Simulated
 pub mod SimulatedExamples

@@ -16,6 +16,7 @@ ghost use Rattle.plan_app.specs.InputLaws.{ScriptsAreFound};
 ghost use Rattle.plan_app.specs.LineExamples.{ReportLines, RowsAreTold, WholeReports};
 ghost use Rattle.plan_app.specs.PageExamples.{DataIsTold, LinesAreShown, OrdersAreChosen, OrdersAreShown};
 ghost use Rattle.plan_app.specs.PageLaws.{PagesTell};
+ghost use Rattle.plan_app.specs.PartExamples.{PartsAreTold};
 ghost use Rattle.plan_app.specs.PartLaws.{PartsSpeakOfAll};
 ghost use Rattle.plan_app.specs.ReportLaws.{ReportsTell};
 ghost use Rattle.plan_app.specs.RunExamples.{RunTextsAreTold};
@@ -167,6 +168,11 @@ pub fn screens_are_meant()
 /// Of each kind of screen another text.
 pub fn screens_differ()
     ensures { KindsOfScreens }
+{}
+
+/// Examples: which groups are told apart, the heads and texts of their parts, and by which answers not all is well.
+pub fn parts_are_told()
+    ensures { PartsAreTold }
 {}
 
 /// What is found of a group alone, from the start of a script, is so among all machines: the group never stands still,
