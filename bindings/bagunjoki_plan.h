@@ -52,7 +52,8 @@ enum bagunjoki_plan_posture {
     BAGUNJOKI_PLAN_OPEN_OUT = 3
 };
 
-/* Verbs. The object of SET_POSE is a pose, that of STOP and RESUME is 0, that of all others a zone. */
+/* Verbs. The object of SET_POSE is a pose, that of ADVANCE a place, that of STOP and RESUME is 0, that of all others a
+   zone. */
 enum bagunjoki_plan_verb {
     BAGUNJOKI_PLAN_CLAIM = 1,
     BAGUNJOKI_PLAN_GIVE = 2,
@@ -62,7 +63,8 @@ enum bagunjoki_plan_verb {
     BAGUNJOKI_PLAN_SET_POSE = 6,
     BAGUNJOKI_PLAN_INQUIRE = 8,
     BAGUNJOKI_PLAN_STOP = 9,
-    BAGUNJOKI_PLAN_RESUME = 10
+    BAGUNJOKI_PLAN_RESUME = 10,
+    BAGUNJOKI_PLAN_ADVANCE = 11
 };
 
 /* What else a line of a program may be: it awaits a zone, or runs motors. */
@@ -146,7 +148,7 @@ typedef struct bagunjoki_plan_turned {
 /* A plan that was opened, compiled. Its size never changes; what is in it is the library's alone. */
 typedef struct bagunjoki_plan_opened {
     bool is_plan; /* whether the bytes were a plan's */
-    uint64_t kept[3426];
+    uint64_t kept[3494];
 } bagunjoki_plan_opened;
 
 /* The proved functions. They read nothing but their arguments, keep nothing, and take no memory and no lock. Any thread

@@ -34,7 +34,7 @@ WORD, BYTE, STAMP, TEXT, SIZE = ctypes.c_uint64, ctypes.c_uint8, ctypes.c_uint32
 class RawOpened(ctypes.Structure):
     """A plan that was opened, as C has it."""
 
-    _fields_ = [("is_plan", ctypes.c_bool), ("kept", WORD * 3426)]
+    _fields_ = [("is_plan", ctypes.c_bool), ("kept", WORD * 3494)]
 
 
 OPENED = ctypes.POINTER(RawOpened)

@@ -29,7 +29,7 @@ pub const NOBODY: u8 = NOTHING;
 #[derive(Clone)]
 struct Opened {
     is_plan: bool,
-    kept: [u64; 3426],
+    kept: [u64; 3494],
 }
 
 unsafe extern "C" {

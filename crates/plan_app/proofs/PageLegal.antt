@@ -7,7 +7,7 @@ use Rattle.std.specs.Bool.{then_some}
 use Rattle.std.specs.List.{cons_option, filter_map, range_with_len}
 use Rattle.std.specs.Option.{option_and_then, option_to_list}
 use Rattle.plan_types.specs.declared.call.Call.{Call}
-use Rattle.plan_types.specs.declared.call.Call.TheVariants.{Claim, Give, Yield, Take, Release, SetPose, Inquire, Stop, Resume}
+use Rattle.plan_types.specs.declared.call.Call.TheVariants.{Claim, Give, Yield, Take, Release, SetPose, Inquire, Stop, Resume, Advance}
 use Rattle.plan_types.specs.declared.answer.Refusal.TheVariants.{Worn}
 use Rattle.plan_types.specs.declared.answer.Answer.{Answer}
 use Rattle.plan_types.specs.declared.answer.Answer.TheVariants.{Done, Shown, Refused}
@@ -53,6 +53,7 @@ module _ (t : PlanTable) (s : State) (m : ℕ) (fresh : refusals.worn s ≡ None
   same_refusal (Inquire z) = refl
   same_refusal Stop = ap (λ w. refusals.not_watch m or refusals.while_stopped s or w) (sym fresh)
   same_refusal Resume = ap (λ w. refusals.not_watch m or refusals.not_stopped s or w) (sym fresh)
+  same_refusal (Advance p) = ap (λ w. refusals.not_own_end t m p or refusals.while_stopped s or refusals.source_taken t s p or refusals.sink_empty t s p or w) (sym fresh)
 
   same_accepted : (c : Call) → accepted (unstamped s) c ≡ accepted s c
   same_accepted (Claim z) = refl
@@ -64,6 +65,7 @@ module _ (t : PlanTable) (s : State) (m : ℕ) (fresh : refusals.worn s ≡ None
   same_accepted (Inquire z) = refl
   same_accepted Stop = refl
   same_accepted Resume = refl
+  same_accepted (Advance p) = refl
 
   same_reply : (c : Call) → reply t (unstamped s) m c ≡ reply t s m c
   same_reply c = ap (λ r. answer_by r (accepted (unstamped s) c)) (same_refusal c) ∙ ap (answer_by (refusal t s m c)) (same_accepted c)
@@ -78,6 +80,7 @@ same_change t s m (SetPose p) = refl
 same_change t s m (Inquire z) = refl
 same_change t s m Stop = refl
 same_change t s m Resume = refl
+same_change t s m (Advance p) = refl
 
 same_next : (a : Answer) (t : PlanTable) (s : State) (m : ℕ) (c : Call) → unstamped (next_by a t (unstamped s) m c) ≡ unstamped (next_by a t s m c)
 same_next Done t s m c = same_change t s m c

@@ -10,7 +10,7 @@ use Rattle.std.proofs.lemmas.List.Elements.{All-weaker}
 use Rattle.std.proofs.lemmas.List.Sums.{AllPass-from_list_all}
 use Rattle.plan_types.specs.Table.{machine_of, watch}
 use Rattle.plan_types.specs.declared.call.Call.{Call}
-use Rattle.plan_types.specs.declared.call.Call.TheVariants.{Claim, Give, Yield, Take, Release, Inquire, SetPose, Stop, Resume}
+use Rattle.plan_types.specs.declared.call.Call.TheVariants.{Claim, Give, Yield, Take, Release, Inquire, SetPose, Stop, Resume, Advance}
 use Rattle.plan_types.specs.declared.answer.Event.{Event}
 use Rattle.plan_text.specs.HistoryLaws.{IsCaller, IsOwnCall, IsOwnEvent}
 use Rattle.plan_text.specs.Named.{Named}
@@ -42,6 +42,7 @@ call_is n m (SetPose p) e =
     (below p (length n.poses) h.0, eqb-true (machine_of n.plan p) m h.1)
 call_is n m Stop e = tt
 call_is n m Resume e = tt
+call_is n m (Advance p) e = below p (length n.places) e
 
 event_is : (n : Named) (e : Event) → is_own_event n e ≡ true → IsOwnEvent n e
 event_is n e own =

@@ -1,4 +1,4 @@
--- Machines, zones and a machine's poses are told apart by their names in the plan of a document.
+-- Machines, zones, places and a machine's poses are told apart by their names in the plan of a document.
 use Rattle.std.proofs.Common.{◌≡◌, ◌∙◌, ◌<◌, ◌≤◌, ℕ, zero, suc, ◌+◌, Bool, true, false, ◌&&◌, nat_eq, List, [], ◌∷◌, ◌++◌, codes, Option, Some, None, inl, inr, get_or, length, map, ap, ap₂, sym, refl, arith}
 use Rattle.std.specs.Prelude.{string_bytes}
 use Rattle.std.specs.List.{AllZip, enumerate_from, flat_map, list_all}
@@ -190,7 +190,9 @@ told_apart d n is = record {
   spelled_machines = is.spelled_machines;
   spelled_zones = is.spelled_zones;
   spelled_poses = is.spelled_poses;
+  spelled_places = is.spelled_places;
   machines = machine_told d n is;
   zones = is.distinct_zones;
   poses = pose_told d n is;
+  places = is.distinct_places;
 }

@@ -44,10 +44,12 @@ quoted text = codes "\"" ++ (text ++ codes "\"")
 abbrev pub machine_item : Named → ℕ → Text
 machine_item n m = quoted (machine_name n m)
 
+abbrev pub kept_item : Text → ℕ → Text
+kept_item name keeper =
+    codes "{\"name\": \"" ++ (name ++ (codes "\", \"keeper\": " ++ (decimal keeper ++ codes "}")))
+
 abbrev pub place_item : Named → ℕ → Text
-place_item n p =
-    codes "{\"name\": \"" ++ (name_in n.places p ++ (codes "\", \"keeper\": " ++ (decimal (keeper_of n.plan p)
-    ++ codes "}")))
+place_item n p = kept_item (name_in n.places p) (keeper_of n.plan p)
 
 -- from place to place, or no way
 abbrev pub way_text : Option Way → Text

@@ -6,7 +6,7 @@ use Rattle.std.specs.List.{list_all, range_with_len}
 use Rattle.plan_types.specs.Table.{machine_of, watch}
 use Rattle.plan_types.specs.declared.call.Call.{Call}
 use Rattle.plan_types.specs.declared.call.Call.TheVariants.{Claim, Give, Yield, Take, Release, Inquire, SetPose, Stop}
-use Rattle.plan_types.specs.declared.call.Call.TheVariants.{Resume}
+use Rattle.plan_types.specs.declared.call.Call.TheVariants.{Resume, Advance}
 use Rattle.plan_types.specs.declared.answer.Answer.{Answer}
 use Rattle.plan_types.specs.declared.answer.Answer.TheVariants.{Done, Shown, Refused}
 use Rattle.plan_types.specs.declared.answer.Refusal.{Refusal}
@@ -83,7 +83,7 @@ are_fine stops = list_all is_none stops
 abbrev pub is_caller : Named → ℕ → Bool
 is_caller n machine = nat_eq machine watch || nat_lt machine (length n.machines)
 
--- a call about a zone or a pose that has a name; the pose is the machine's own
+-- a call about a zone, a pose or a place that has a name; the pose is the machine's own
 abbrev pub is_own_call : Named → ℕ → Call → Bool
 is_own_call n machine (Claim zone) = nat_lt zone (length n.zones)
 is_own_call n machine (Give zone) = nat_lt zone (length n.zones)
@@ -94,6 +94,7 @@ is_own_call n machine (Inquire zone) = nat_lt zone (length n.zones)
 is_own_call n machine (SetPose pose) = nat_lt pose (length n.poses) && nat_eq (machine_of n.plan pose) machine
 is_own_call n machine Stop = true
 is_own_call n machine Resume = true
+is_own_call n machine (Advance place) = nat_lt place (length n.places)
 
 abbrev pub is_own_event : Named → Event → Bool
 is_own_event n e = is_caller n e.machine && is_own_call n e.machine e.call

@@ -121,9 +121,16 @@ fn push_place(text: &mut String, named: &NamedPlan, place: u8) -> Result<(), All
     ensures { OnOk result (string_bytes text.new ≡ string_bytes text.old
         ++ spec.next_item (spec.place_item named.now) place) }
 {
-    let name = named.places().name(place);
     let keeper = named.plan().keeper(place);
     push_gap(text, usize::from(place))?;
+    push_kept(text, named.places().name(place), keeper)
+}
+
+/// Adds a place by its name and its keeper.
+fn push_kept(text: &mut String, name: &str, keeper: u8) -> Result<(), AllocError>
+    ensures { OnOk result
+        (string_bytes text.new ≡ string_bytes text.old ++ spec.kept_item name.now keeper) }
+{
     write!(text, "{{\"name\": \"{name}\", \"keeper\": {keeper}}}")
 }
 

@@ -281,7 +281,15 @@ function firstFrame(line) {
   frame.word = BigInt("0x" + word);
   frame.state = unpacked(frame.word);
   frame.plates = firstPlates(frame.state);
+  frame.numbered = Math.max(0, ...frame.plates);
   return frame;
+}
+
+// After an advance a place has the plate that came, with the next number, or no plate.
+function turnPlate(frame, place) {
+  const comes = !frame.plates[place];
+  if (comes) frame.numbered++;
+  frame.plates = replaced(frame.plates, place, comes ? frame.numbered : 0);
 }
 
 function nextFrame(before, line) {
@@ -293,7 +301,9 @@ function nextFrame(before, line) {
     frame.word = BigInt("0x" + word);
     frame.state = unpacked(frame.word);
   }
-  if (answer === "done") frame.plates = movedPlates(before, frame);
+  const place = PLAN.places.findIndex(({name}) => call === "advance " + name);
+  if (answer === "done" && place >= 0) turnPlate(frame, place);
+  else if (answer === "done") frame.plates = movedPlates(before, frame);
   // (who inquires by its program waits until the zone is its own)
   const isShown = answer.startsWith("zone "), isOwn = answer.startsWith(`zone ${machine} `);
   const stays = answer !== "done" && (isShown ? ASK_AGAIN && !isOwn : ASK_AGAIN || !NO_WAITS.includes(answer));

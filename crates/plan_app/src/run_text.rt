@@ -32,7 +32,7 @@ fn is_caller(named: &NamedPlan, machine: u8) -> bool
     machine == WATCH || usize::from(machine) < named.machines().len()
 }
 
-/// Whether a call is about a zone or a pose that has a name, and the pose the machine's own.
+/// Whether a call is about a zone, a pose or a place that has a name, and the pose the machine's own.
 fn is_own_call(named: &NamedPlan, machine: u8, call: Call) -> bool
     ensures { result ≡ spec.is_own_call named.now machine call }
 {
@@ -47,6 +47,7 @@ fn is_own_call(named: &NamedPlan, machine: u8, call: Call) -> bool
             usize::from(pose) < named.poses().len() && named.plan().pose(pose).machine == machine
         }
         Call::Stop | Call::Resume => true,
+        Call::Advance(place) => usize::from(place) < named.places().len(),
     }
 }
 

@@ -1,7 +1,7 @@
 -- The numbers of faults, and the rows of literal steps.
 use Rattle.std.proofs.Common.{◌≡◌, ◌<◌, ◌≤◌, ℕ, Some, refl, ap, arith}
 use Rattle.plan_types.specs.declared.call.Call.{Call}
-use Rattle.plan_types.specs.declared.call.Call.TheVariants.{Claim, Give, Yield, Take, Release, SetPose, Inquire, Stop, Resume}
+use Rattle.plan_types.specs.declared.call.Call.TheVariants.{Claim, Give, Yield, Take, Release, SetPose, Inquire, Stop, Resume, Advance}
 use Rattle.plan_types.specs.declared.answer.Refusal.{Refusal}
 use Rattle.plan_types.specs.declared.answer.Refusal.TheVariants as refusal
 use Rattle.plan_controller.specs.declared.faults.Faults.{Faults}
@@ -57,7 +57,7 @@ faults_have_numbers = record {
 
 -- ---- rows
 
-a_verb : (c : Call) → verb_number c ≤ 10
+a_verb : (c : Call) → verb_number c ≤ 11
 a_verb (Claim z) = omega arith
 a_verb (Give z) = omega arith
 a_verb (Yield z) = omega arith
@@ -67,6 +67,7 @@ a_verb (SetPose p) = omega arith
 a_verb (Inquire z) = omega arith
 a_verb Stop = omega arith
 a_verb Resume = omega arith
+a_verb (Advance p) = omega arith
 
 waits : NoRow (row 0 16 7 0 4)
 waits (Do c f) e = omega (arith, ap (λ (l : ProgramLine). l.kind) e, a_verb c)

@@ -4,7 +4,7 @@ use Rattle.plan_types.specs.declared.posture.Posture.{Posture}
 use Rattle.plan_types.specs.declared.posture.Posture.TheVariants.{Closed, Moving, OpenIn, OpenOut}
 use Rattle.plan_types.specs.declared.call.Call.{Call}
 use Rattle.plan_types.specs.declared.call.Call.TheVariants.{Claim, Give, Yield, Take, Release, SetPose, Inquire, Stop}
-use Rattle.plan_types.specs.declared.call.Call.TheVariants.{Resume}
+use Rattle.plan_types.specs.declared.call.Call.TheVariants.{Resume, Advance}
 use Rattle.plan_types.specs.declared.answer.Answer.TheVariants.{Done, Shown, Refused}
 use Rattle.plan_types.specs.declared.answer.Refusal.TheVariants.{NotParty, Held, AlreadyMine, Shut, NotOwner}
 use Rattle.plan_types.specs.declared.answer.Refusal.TheVariants.{PlateInZone, NoPlate, PlaceFull, WrongWay, Jump}
@@ -29,11 +29,11 @@ reply next answer owner zone posture plate =
 pub record NumbersAreMet : Type 0 where
   pub postures : map posture_number (Closed ∷ Moving ∷ OpenIn ∷ OpenOut ∷ []) ≡ 0 ∷ 1 ∷ 2 ∷ 3 ∷ []
   pub verbs : map verb_number
-      (Claim 9 ∷ Give 9 ∷ Yield 9 ∷ Take 9 ∷ Release 9 ∷ SetPose 9 ∷ Inquire 9 ∷ Stop ∷ Resume ∷ [])
-      ≡ 1 ∷ 2 ∷ 3 ∷ 4 ∷ 5 ∷ 6 ∷ 8 ∷ 9 ∷ 10 ∷ []
+      (Claim 9 ∷ Give 9 ∷ Yield 9 ∷ Take 9 ∷ Release 9 ∷ SetPose 9 ∷ Inquire 9 ∷ Stop ∷ Resume
+      ∷ Advance 9 ∷ []) ≡ 1 ∷ 2 ∷ 3 ∷ 4 ∷ 5 ∷ 6 ∷ 8 ∷ 9 ∷ 10 ∷ 11 ∷ []
   pub objects : map object_number
-      (Claim 11 ∷ Give 12 ∷ Yield 13 ∷ Take 14 ∷ Release 15 ∷ SetPose 63 ∷ Inquire 17 ∷ Stop ∷ Resume ∷ [])
-      ≡ 11 ∷ 12 ∷ 13 ∷ 14 ∷ 15 ∷ 63 ∷ 17 ∷ 0 ∷ 0 ∷ []
+      (Claim 11 ∷ Give 12 ∷ Yield 13 ∷ Take 14 ∷ Release 15 ∷ SetPose 63 ∷ Inquire 17 ∷ Stop ∷ Resume
+      ∷ Advance 15 ∷ []) ≡ 11 ∷ 12 ∷ 13 ∷ 14 ∷ 15 ∷ 63 ∷ 17 ∷ 0 ∷ 0 ∷ 15 ∷ []
   pub refusals : map refusal_number
       (NotParty ∷ Held 7 ∷ AlreadyMine ∷ Shut OpenIn ∷ NotOwner (Some 7) ∷ PlateInZone 7 ∷ NoPlate ∷ PlaceFull
       ∷ WrongWay ∷ Jump ∷ NoPose ∷ Worn ∷ Stopped ∷ NotStopped ∷ [])
@@ -52,6 +52,7 @@ pub record CallsAreMet : Type 0 where
   pub inquire : (z : ℕ) → IsCall 8 z (Inquire z)
   pub stop : IsCall 9 0 Stop
   pub resume : IsCall 10 0 Resume
+  pub advance : (p : ℕ) → IsCall 11 p (Advance p)
   -- they are no other's
   pub one_call : (verb object : ℕ) (a b : Call) → IsCall verb object a → IsCall verb object b → a ≡ b
   pub resume_of_zone : ¬ IsCall 10 1 Resume
@@ -61,10 +62,10 @@ pub record CallsAreMet : Type 0 where
   pub other_object : ¬ IsCall 6 62 (SetPose 63)
   pub some_call : ¬ NoCall 6 63
   pub no_verb : (object : ℕ) → NoCall 0 object
-  pub advance : (object : ℕ) → NoCall 7 object
+  pub advance_of_cell : (object : ℕ) → NoCall 7 object
   pub stop_of_zone : (object : ℕ) → object ≢ 0 → NoCall 9 object
   pub none_to_resume : (object : ℕ) → object ≢ 0 → NoCall 10 object
-  pub past_all : (verb object : ℕ) → 10 < verb → NoCall verb object
+  pub past_all : (verb object : ℕ) → 11 < verb → NoCall verb object
 
 -- an answer's number, the machine, the zone and the posture that it names, and whether it shows a plate: of each answer
 -- and each word after it

@@ -4,7 +4,7 @@ use Rattle.plan_types.specs.declared.posture.Posture.{Posture}
 use Rattle.plan_types.specs.declared.posture.Posture.TheVariants.{Closed, Moving, OpenIn, OpenOut}
 use Rattle.plan_types.specs.declared.call.Call.{Call}
 use Rattle.plan_types.specs.declared.call.Call.TheVariants.{Claim, Give, Yield, Take, Release, SetPose, Inquire, Stop}
-use Rattle.plan_types.specs.declared.call.Call.TheVariants.{Resume}
+use Rattle.plan_types.specs.declared.call.Call.TheVariants.{Resume, Advance}
 use Rattle.plan_controller.specs.declared.faults.Faults.{Faults}
 use Rattle.plan_controller.specs.declared.faults.Mendable.{Mendable}
 use Rattle.plan_controller.specs.declared.faults.Mendable.TheVariants.{Held, Shut, NotOwner, PlateInZone, NoPlate}
@@ -17,7 +17,7 @@ posture_number Moving = 1
 posture_number OpenIn = 2
 posture_number OpenOut = 3
 
--- 7 is the cell's Advance, which plans don't have
+-- 7 is the cell's Advance, which says no place; that of plans is 11
 abbrev pub verb_number : Call → ℕ
 verb_number (Claim _) = 1
 verb_number (Give _) = 2
@@ -28,6 +28,7 @@ verb_number (SetPose _) = 6
 verb_number (Inquire _) = 8
 verb_number Stop = 9
 verb_number Resume = 10
+verb_number (Advance _) = 11
 
 -- that of the refusal
 abbrev pub mendable_number : Mendable → ℕ
@@ -60,6 +61,7 @@ object_number (SetPose p) = p
 object_number (Inquire z) = z
 object_number Stop = 0
 object_number Resume = 0
+object_number (Advance p) = p
 
 -- the two numbers name this call
 abbrev pub IsCall : ℕ → ℕ → Call → Type 0

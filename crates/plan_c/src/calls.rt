@@ -19,6 +19,7 @@ pub(crate) fn call_with(verb: u8, object: u8) -> Option<Call>
         (8, zone) => Some(Call::Inquire(zone)),
         (9, 0) => Some(Call::Stop),
         (10, 0) => Some(Call::Resume),
+        (11, place) => Some(Call::Advance(place)),
         _ => None,
     }
 }

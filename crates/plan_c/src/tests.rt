@@ -424,7 +424,7 @@ fn largest_counts() -> [u8; 780] {
 // An opened plan has as many bytes as in the header for C.
 #[test]
 fn the_largest_counts_are_a_plan(rt: HostRuntime) {
-    assert!(rt; size_of::<Opened>() == 27_416);
+    assert!(rt; size_of::<Opened>() == 27_960);
     let plan = opened(&largest_counts());
     assert!(rt; start_of(&plan, b"") == 0 && step(&plan, 0, [0, 6, 64]).answer == 12);
     assert!(rt; stamp_of(&plan, word_after(&plan, 0, [0, 6, 63], 0)) == 1);

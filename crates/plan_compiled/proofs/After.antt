@@ -3,7 +3,7 @@ use Rattle.std.proofs.Common.{◌≡◌, ℕ, ◌<◌, inl, inr, Bool, true, fal
 use Rattle.std.proofs.lemmas.List.{get_or-set_same, get_or-set_other}
 use Rattle.plan_types.specs.declared.table.Transfer.{Transfer}
 use Rattle.plan_types.specs.declared.call.Call.{Call}
-use Rattle.plan_types.specs.declared.call.Call.TheVariants.{Claim, Give, Yield, Take, Release, SetPose, Inquire, Stop, Resume}
+use Rattle.plan_types.specs.declared.call.Call.TheVariants.{Claim, Give, Yield, Take, Release, SetPose, Inquire, Stop, Resume, Advance}
 use Rattle.plan_types.specs.Table.{PlanTable, zone_count, place_count, transfer_of}
 use Rattle.plan_types.specs.Plan.{IsPlan}
 use Rattle.plan_rules.specs.declared.state.ZoneState.{ZoneState}
@@ -46,6 +46,7 @@ zone_changed t s m c p k z l =
     zone_by t s m (Inquire y) z l n = refl
     zone_by t s m Stop z l n = refl
     zone_by t s m Resume z l n = refl
+    zone_by t s m (Advance q) z l n = refl
 
 -- ---- places
 stays : (b : Bool) → b ≡ ((b && not false) || false)
@@ -86,6 +87,19 @@ filled_at full (Some way) q l =
           ∙ sym (ap (λ b. (get_or full q false && not false) || b) (nat_eq-apart way.to q (λ same. ne (sym same))))
     ]
 
+turned_at : (full : List Bool) (p q : ℕ) → q < length full → get_or (set full p (not (get_or full p false))) q false ≡ (if nat_eq p q then not (get_or full q false) else ((get_or full q false && not false) || false))
+turned_at full p q l =
+    let was = get_or full q false in
+    let stay = (was && not false) || false in
+    elim (same_or_not q p) [
+      | inl e ↦
+          let at_q : get_or (set full p (not (get_or full p false))) q false ≡ get_or (set full q (not was)) q false = ap (λ x. get_or (set full x (not (get_or full x false))) q false) (sym e) in
+          let test : nat_eq p q ≡ true = ap (λ x. nat_eq x q) (sym e) ∙ nat_eq-self q in
+          at_q ∙ get_or-set_same full q (not was) false l ∙ sym (ap (λ b. if b then not was else stay) test)
+      | inr ne ↦ get_or-set_other full p q (not (get_or full p false)) false ne ∙ stays was
+          ∙ sym (ap (λ b. if b then not was else stay) (nat_eq-apart p q (λ same. ne (sym same))))
+    ]
+
 pub place_changed : (t : PlanTable) (s : State) (m : ℕ) (c : Call) (room : Bool) → IsPlan t → IsSound t s → Fits t m c room s → (q : ℕ) → q < place_count t
     → is_full (changed t s m c) q ≡ needs.place_after t m c q (is_full s q)
 place_changed t s m c room p k f q l =
@@ -110,6 +124,7 @@ place_changed t s m c room p k f q l =
     place_by t s m (Inquire z) room p f q l = stays (is_full s q)
     place_by t s m Stop room p f q l = stays (is_full s q)
     place_by t s m Resume room p f q l = stays (is_full s q)
+    place_by t s m (Advance x) room p f q l = turned_at s.full x q l
 
 pub stop_changed : (t : PlanTable) (s : State) (m : ℕ) (c : Call) → (changed t s m c).stopped ≡ needs.stop_after c s.stopped
 stop_changed t s m (Claim z) = refl
@@ -121,3 +136,4 @@ stop_changed t s m (SetPose p) = refl
 stop_changed t s m (Inquire z) = refl
 stop_changed t s m Stop = refl
 stop_changed t s m Resume = refl
+stop_changed t s m (Advance p) = refl

@@ -2,11 +2,11 @@
 use Rattle.std.proofs.Common.{◌≡◌, ℕ, ◌+◌, ◌<◌, ◌≤◌, ◌⊎◌, inl, inr, Bool, true, false, ◌||◌, nat_eq, IsTrue, List, refl, sym, ◌∙◌, subst, arith}
 use Rattle.std.proofs.lemmas.Bool.{eqb-true}
 use Rattle.plan_types.specs.declared.call.Call.{Call}
-use Rattle.plan_types.specs.declared.call.Call.TheVariants.{Claim, Give, Yield, Take, Release, SetPose, Inquire, Stop, Resume}
+use Rattle.plan_types.specs.declared.call.Call.TheVariants.{Claim, Give, Yield, Take, Release, SetPose, Inquire, Stop, Resume, Advance}
 use Rattle.plan_types.specs.Table.{PlanTable, host_of, guest_of}
 use Rattle.plan_types.specs.Plan.{IsPlan}
 use Rattle.plan_rules.specs.declared.state.State.{State}
-use Rattle.plan_rules.proofs.lemmas.DoneCalls.{Party, claim_done, give_done, yield_done, take_done, release_done, pose_done, stop_done, resume_done}
+use Rattle.plan_rules.proofs.lemmas.DoneCalls.{Party, claim_done, give_done, yield_done, take_done, release_done, pose_done, advance_done, stop_done, resume_done}
 use Rattle.plan_rules.proofs.lemmas.Soundness.{done_none, never_done}
 use Rattle.plan_word.specs.OfPlan.{IsOfPlan}
 use Rattle.plan_word.specs.Packed.{packed}
@@ -107,3 +107,9 @@ complete_by t rows starts p all m Stop s o fresh e =
 complete_by t rows starts p all m Resume s o fresh e =
     let is = (resume_done s m (done_none _ _ e)).caller in
     (all m (omega (arith, is))).watch.resume s o fresh e
+complete_by t rows starts p all m (Advance q) s o fresh e =
+    let d = advance_done t s m q (done_none _ _ e) in
+    let few = p.machines_at_most in
+    let own = p.keeper_is_machine q d.there in
+    let is = d.keeper in
+    (all m (omega (arith, few, own, is))).places q d.there s o fresh e

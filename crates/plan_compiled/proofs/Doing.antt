@@ -1,5 +1,5 @@
 -- If a call is done, each zone, each place and the stop are as it needs them.
-use Rattle.std.proofs.Common.{◌≡◌, ◌≢◌, ℕ, zero, suc, ◌<◌, ◌⊎◌, inl, inr, Bool, true, false, ◌&&◌, ◌||◌, not, nat_eq, Option, Some, None, is_none, is_some, unwrap_or, if◌then◌else◌, refl, sym, ap, ◌∙◌, subst, arith}
+use Rattle.std.proofs.Common.{◌≡◌, ◌≢◌, ℕ, zero, suc, ◌<◌, ◌⊎◌, inl, inr, Bool, true, false, ◌&&◌, ◌||◌, not, nat_eq, nat_lt, Option, Some, None, is_none, is_some, unwrap_or, if◌then◌else◌, refl, sym, ap, ◌∙◌, subst, arith}
 use Rattle.std.specs.Option.{option_eq}
 use Rattle.std.proofs.lemmas.Bool.{eqb-true, lt-ltb, and_parts}
 use Rattle.plan_types.specs.declared.posture.Posture.{Posture}
@@ -7,11 +7,11 @@ use Rattle.plan_types.specs.declared.posture.Posture.TheVariants.{Closed, Moving
 use Rattle.plan_types.specs.declared.table.Way.{Way}
 use Rattle.plan_types.specs.declared.table.Transfer.{Transfer}
 use Rattle.plan_types.specs.declared.call.Call.{Call}
-use Rattle.plan_types.specs.declared.call.Call.TheVariants.{Claim, Give, Yield, Take, Release, SetPose, Inquire, Stop, Resume}
+use Rattle.plan_types.specs.declared.call.Call.TheVariants.{Claim, Give, Yield, Take, Release, SetPose, Inquire, Stop, Resume, Advance}
 use Rattle.plan_types.specs.declared.answer.Answer.TheVariants.{Done}
 use Rattle.plan_types.specs.Same.{same_posture}
 use Rattle.plan_types.specs.Below.{any_below}
-use Rattle.plan_types.specs.Table.{PlanTable, zone_count, pose_count, machine_of, host_of, guest_of, zone_row, pose_row, posture_of, transfer_of, transfer_by, watch}
+use Rattle.plan_types.specs.Table.{PlanTable, zone_count, pose_count, machine_of, host_of, guest_of, zone_row, pose_row, posture_of, transfer_of, transfer_by, watch, place_count, keeper_of, is_source, is_sink}
 use Rattle.plan_types.specs.Plan.{IsPlan}
 use Rattle.plan_rules.specs.declared.state.ZoneState.{ZoneState}
 use Rattle.plan_rules.specs.declared.state.State.{State}
@@ -21,7 +21,8 @@ use Rattle.plan_rules.specs.Refusals as refusals
 use Rattle.plan_rules.specs.Refusals.{given_by, transfer_given}
 use Rattle.plan_rules.specs.Reply.{reply}
 use Rattle.plan_rules.proofs.lemmas.Below.{any_below_none, sum_below_at_least}
-use Rattle.plan_rules.proofs.lemmas.DoneCalls.{none_then, claim_done, give_done, yield_done, take_done, release_done, pose_done, stop_done, resume_done, Poses}
+use Rattle.plan_rules.proofs.lemmas.DoneCalls.{none_then, claim_done, give_done, yield_done, take_done, release_done, pose_done, advance_done, stop_done, resume_done, Poses, Advances}
+use Rattle.plan_rules.proofs.lemmas.Advancing.{comes, goes}
 use Rattle.plan_rules.proofs.lemmas.Plates.{no_plates}
 use Rattle.plan_rules.proofs.lemmas.Puts.{nat_eq-self, nat_eq-apart}
 use Rattle.plan_rules.proofs.lemmas.Soundness.{done_none, plate_comes, never_done}
@@ -207,9 +208,9 @@ give_fits t s m z room p e =
       zones = λ y l. both _ _ (at_own s y z (needs.can_give t m z) can)
           (no_end t m (Give z) room (zone_at s y).flag (transfer_of t y (posture_at s y))
           (λ q n. subst (λ x. is_coming t (zone_at s y) x y ≡ false) (there q n) (room_at.coming y l)));
-      places = λ q l. both _ _
+      places = λ q l. both _ _ (both _ _
           (implies_when (needs.needs_room t m (Give z) room q) (not (is_full s q)) (λ n. subst (λ x. not (is_full s x) ≡ true) (there q n) (ap not room_at.none)))
-          (implies_when (needs.is_emptied t m (Give z) q) (is_full s q) (λ n. subst (λ x. is_full s x ≡ true) (left q n) d.plate));
+          (implies_when (needs.is_emptied t m (Give z) q) (is_full s q) (λ n. subst (λ x. is_full s x ≡ true) (left q n) d.plate))) refl;
       stop = ap not d.goes_on;
       fresh = d.holder.fresh;
     }
@@ -262,7 +263,7 @@ pose_fits t s m p room d r = record {
       let moves = moves_on (pose_row t p).after_moving (nat_eq (host_of t y) m) (same_posture v.posture Moving) _ d.no_jump none in
       both _ _ (both _ _ (both _ _ held moves) (r.posture y l))
       (no_end t m (SetPose p) room v.flag (transfer_of t y v.posture) (λ q n. (r.ends q n).coming y l));
-  places = λ q l. both _ _ (implies_when (needs.needs_room t m (SetPose p) room q) (not (is_full s q)) (λ n. ap not (r.ends q n).none)) refl;
+  places = λ q l. both _ _ (both _ _ (implies_when (needs.needs_room t m (SetPose p) room q) (not (is_full s q)) (λ n. ap not (r.ends q n).none)) refl) refl;
   stop = ap not d.goes_on;
   fresh = d.fresh;
 }
@@ -323,6 +324,46 @@ roomy t s m p d one =
           ]
     ]
 
+-- ---- advances
+end_is : (t : PlanTable) (s : State) (m p : ℕ) → Advances t s m p → needs.may_ask t m (Advance p) ≡ true
+end_is t s m p d = both _ _ (both _ _ (lt-ltb p (place_count t) d.there) (ap (nat_eq (keeper_of t p)) (sym d.keeper) ∙ nat_eq-self (keeper_of t p))) d.ends
+
+come_fits : (t : PlanTable) (s : State) (m p : ℕ) → Advances t s m p → is_full s p ≡ false → Fits t m (Advance p) true s
+come_fits t s m p d was =
+    let c = comes t s m p d was in
+    let free = empty t s p (ap (nat_lt 0) c.1) in
+    let here : (q : ℕ) → needs.needs_room t m (Advance p) true q ≡ true → p ≡ q = λ q n. eqb-true p q n in
+    record {
+      may = end_is t s m p d;
+      zones = λ y l. both _ _ refl
+          (no_end t m (Advance p) true (zone_at s y).flag (transfer_of t y (posture_at s y))
+          (λ q n. subst (λ x. is_coming t (zone_at s y) x y ≡ false) (here q n) (free.coming y l)));
+      places = λ q l. both _ _ (both _ _
+          (implies_when (needs.needs_room t m (Advance p) true q) (not (is_full s q)) (λ n. subst (λ x. not (is_full s x) ≡ true) (here q n) (ap not free.none)))
+          refl) (implies_when (nat_eq p q) (is_source t p) (λ n. c.0));
+      stop = ap not d.goes_on;
+      fresh = d.fresh;
+    }
+
+go_fits : (t : PlanTable) (s : State) (m p : ℕ) → Advances t s m p → is_full s p ≡ true → Fits t m (Advance p) false s
+go_fits t s m p d was =
+    let sink = goes t s m p d was in
+    record {
+      may = end_is t s m p d;
+      zones = λ y l. quiet_zone t m (Advance p) false s y (λ q. refl) refl;
+      places = λ q l. both _ _ refl
+          (implies_when (nat_eq p q) (is_sink t p && is_full s q) (λ n. both _ _ sink (subst (λ x. is_full s x ≡ true) (eqb-true p q n) was)));
+      stop = ap not d.goes_on;
+      fresh = d.fresh;
+    }
+
+advance_fits : (t : PlanTable) (s : State) (m p : ℕ) → Advances t s m p → (room : Bool) × Fits t m (Advance p) room s
+advance_fits t s m p d =
+    elim (either (is_full s p)) [
+      | inl full ↦ (false, go_fits t s m p d full)
+      | inr none ↦ (true, come_fits t s m p d none)
+    ]
+
 -- ---- the watch
 stop_fits : (t : PlanTable) (s : State) (m : ℕ) (room : Bool) → refusals.stop_refusal s m ≡ None → Fits t m Stop room s
 stop_fits t s m room e =
@@ -347,3 +388,4 @@ done_fits t s m (SetPose q) p k one e =
 done_fits t s m (Inquire z) p k one e = never_done t s m z e
 done_fits t s m Stop p k one e = (true, stop_fits t s m true (done_none _ _ e))
 done_fits t s m Resume p k one e = (true, resume_fits t s m true (done_none _ _ e))
+done_fits t s m (Advance q) p k one e = advance_fits t s m q (advance_done t s m q (done_none _ _ e))

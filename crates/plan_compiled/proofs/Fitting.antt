@@ -7,13 +7,13 @@ use Rattle.plan_types.specs.declared.posture.Posture.{Posture}
 use Rattle.plan_types.specs.declared.posture.Posture.TheVariants.{Moving, OpenIn}
 use Rattle.plan_types.specs.declared.table.Transfer.{Transfer}
 use Rattle.plan_types.specs.declared.call.Call.{Call}
-use Rattle.plan_types.specs.declared.call.Call.TheVariants.{Claim, Give, Yield, Take, Release, SetPose, Inquire, Stop, Resume}
+use Rattle.plan_types.specs.declared.call.Call.TheVariants.{Claim, Give, Yield, Take, Release, SetPose, Inquire, Stop, Resume, Advance}
 use Rattle.plan_types.specs.declared.answer.Refusal.{Refusal}
 use Rattle.plan_types.specs.declared.answer.Refusal.TheVariants.{NotParty, NoPlate, PlaceFull, Worn, NoPose, NotStopped}
 use Rattle.plan_types.specs.declared.answer.Answer.TheVariants.{Done}
 use Rattle.plan_types.specs.Same.{same_posture, one_posture}
 use Rattle.plan_types.specs.Below.{any_below, sum_below}
-use Rattle.plan_types.specs.Table.{PlanTable, zone_count, place_count, host_of, guest_of, is_party, has_pose, pose_row, posture_of, is_moving_pose, transfer_of, watch}
+use Rattle.plan_types.specs.Table.{PlanTable, zone_count, place_count, host_of, guest_of, is_party, has_pose, pose_row, posture_of, is_moving_pose, transfer_of, watch, keeper_of, is_place_of, is_source, is_sink, has_end}
 use Rattle.plan_types.specs.Plan.{IsPlan}
 use Rattle.plan_types.proofs.lemmas.Below.{first_below_all, below_next}
 use Rattle.plan_rules.specs.declared.state.State.{State}
@@ -76,6 +76,16 @@ quiet t m c room q true None e n = refl
 quiet t m c room q true (Some way) e n =
     false_from_ne_true (nat_eq way.to q) (λ same. let there : needs.needs_room t m c room way.to ≡ true = subst (λ p. needs.needs_room t m c room p ≡ true) (sym (eqb-true way.to q same)) n in cc)
 
+-- what a place that fits has: room, a plate, and what an advance needs
+place_parts : (t : PlanTable) (m : ℕ) (c : Call) (room : Bool) (s : State) → Fits t m c room s → (q : ℕ) → q < place_count t
+    → ((implies (needs.needs_room t m c room q) (not (is_full s q)) ≡ true) × (implies (needs.is_emptied t m c q) (is_full s q) ≡ true))
+    × (needs.end_fits t c room q (is_full s q) ≡ true)
+place_parts t m c room s f q l =
+    let a = implies (needs.needs_room t m c room q) (not (is_full s q)) in
+    let b = implies (needs.is_emptied t m c q) (is_full s q) in
+    let all = and_parts (a && b) (needs.end_fits t c room q (is_full s q)) (f.places q l) in
+    (and_parts a b all.0, all.1)
+
 has_room : (t : PlanTable) (m : ℕ) (c : Call) (room : Bool) (s : State) → Fits t m c room s → (q : ℕ) → q < place_count t → needs.needs_room t m c room q ≡ true → refusals.is_taken t s q ≡ false
 has_room t m c room s f q l n =
     let none : coming t s q ≡ sum_below (λ _. 0) (zone_count t) =
@@ -83,7 +93,7 @@ has_room t m c room s f q l n =
     (λ z k. ap one_if (quiet t m c room q (zone_at s z).flag (transfer_of t z (posture_at s z))
     (and_parts (needs.own_zone_fits t m c room z (zone_at s z)) (not ((zone_at s z).flag && needs.ends_in_need t m c room (transfer_of t z (posture_at s z)))) (f.zones z k)).1 n)) in
     let nothing = nothing_below (zone_count t) in
-    let fits = and_parts (implies (needs.needs_room t m c room q) (not (is_full s q))) (implies (needs.is_emptied t m c q) (is_full s q)) (f.places q l) in
+    let fits = (place_parts t m c room s f q l).0 in
     let empty : is_full s q ≡ false = not-true (is_full s q) (implied (needs.needs_room t m c room q) (not (is_full s q)) fits.0 n) in
     let no_plate : one_if (is_full s q) ≡ 0 = ap one_if empty in
     le-ltb 0 (plates_for t s q) (omega (arith, none, nothing, no_plate))
@@ -189,7 +199,7 @@ gives t s m z room p f =
     let g = giver t s m z room p f in
     let held = holds_clear s m z g.held in
     let is : transfer_given t s m z ≡ Some g.way = ap (λ q. given_by m (transfer_of t z q)) g.posture ∙ g.is in
-    let fits = and_parts (implies (needs.needs_room t m (Give z) room g.way.from) (not (is_full s g.way.from))) (implies (needs.is_emptied t m (Give z) g.way.from) (is_full s g.way.from)) (f.places g.way.from g.from) in
+    let fits = (place_parts t m (Give z) room s f g.way.from g.from).0 in
     let leaves : needs.is_emptied t m (Give z) g.way.from ≡ true = ap (λ o. needs.leads_from o g.way.from) g.is ∙ nat_eq-self g.way.from in
     let full = implied (needs.is_emptied t m (Give z) g.way.from) (is_full s g.way.from) fits.1 leaves in
     let needed : needs.needs_room t m (Give z) room g.way.to ≡ true = ap (λ o. leads_to o g.way.to) g.is ∙ nat_eq-self g.way.to in
@@ -281,6 +291,53 @@ poses t s m p room k f =
     (λ o a r. onto_room t s m p z room k f l r (opened_by (posture_of t p z) (posture_at s z) o a) (transfer_of t z OpenIn) refl)))))
     (not_worn s f.fresh)
 
+-- ---- advances
+end_there : (t : PlanTable) (m p : ℕ) → has_end t m p ≡ true → p < place_count t
+end_there t m p e =
+    let own = and_parts (is_place_of t p m) (is_source t p || is_sink t p) e in
+    ltb-true p (place_count t) (and_parts (nat_lt p (place_count t)) (nat_eq (keeper_of t p) m) own.0).0
+
+room_to_come : (source taken goes : Bool) → taken ≡ false → (source && (taken && not goes)) ≡ false
+room_to_come true false goes e = refl
+room_to_come false taken goes e = refl
+room_to_come true true goes e = cc
+
+room_to_go : (source taken sink full : Bool) → sink ≡ true → full ≡ true → (source && (taken && not (sink && full))) ≡ false
+room_to_go true true true true e f = refl
+room_to_go true false sink full e f = refl
+room_to_go false taken sink full e f = refl
+room_to_go true true false full e f = cc
+room_to_go true true true false e f = cc
+
+plate_or_source : (source full : Bool) → (source || full) ≡ true → (not source && not full) ≡ false
+plate_or_source true full e = refl
+plate_or_source false true e = refl
+plate_or_source false false e = cc
+
+advances_by : (t : PlanTable) (s : State) (m p : ℕ) (room : Bool) → Fits t m (Advance p) room s
+    → (is_source t p && (refusals.is_taken t s p && not (refusals.can_go t s p))) ≡ false
+    → (not (is_source t p) && not (is_full s p)) ≡ false → refusals.advance_refusal t s m p ≡ None
+advances_by t s m p room f free plate =
+    or_none _ _ (or_none _ _ (or_none _ _ (or_none _ _
+    (none_not (has_end t m p) NotParty f.may)
+    (none_if s.stopped _ (not-true s.stopped f.stop)))
+    (none_if (is_source t p && (refusals.is_taken t s p && not (refusals.can_go t s p))) PlaceFull free))
+    (none_if (not (is_source t p) && not (is_full s p)) NoPlate plate))
+    (not_worn s f.fresh)
+
+advances : (t : PlanTable) (s : State) (m p : ℕ) (room : Bool) → Fits t m (Advance p) room s → refusals.advance_refusal t s m p ≡ None
+advances t s m p true f =
+    let l = end_there t m p f.may in
+    let source = own_is p (is_source t p) (place_parts t m (Advance p) true s f p l).1 in
+    let free = has_room t m (Advance p) true s f p l (nat_eq-self p) in
+    advances_by t s m p true f (room_to_come (is_source t p) (refusals.is_taken t s p) (refusals.can_go t s p) free)
+    (plate_or_source (is_source t p) (is_full s p) (or_left (is_source t p) (is_full s p) source))
+advances t s m p false f =
+    let l = end_there t m p f.may in
+    let goes = and_parts (is_sink t p) (is_full s p) (own_is p (is_sink t p && is_full s p) (place_parts t m (Advance p) false s f p l).1) in
+    advances_by t s m p false f (room_to_go (is_source t p) (refusals.is_taken t s p) (is_sink t p) (is_full s p) goes.0 goes.1)
+    (plate_or_source (is_source t p) (is_full s p) (or_right (is_source t p) (is_full s p) goes.1))
+
 -- ---- the watch
 stops : (t : PlanTable) (s : State) (m : ℕ) (room : Bool) → Fits t m Stop room s → refusals.stop_refusal s m ≡ None
 stops t s m room f =
@@ -299,3 +356,4 @@ fits_done t s m (SetPose p) room k f = ap (λ o. answer_by o Done) (poses t s m 
 fits_done t s m (Inquire z) room k f = let no = f.may in cc
 fits_done t s m Stop room k f = ap (λ o. answer_by o Done) (stops t s m room f)
 fits_done t s m Resume room k f = ap (λ o. answer_by o Done) (resumes t s m room f)
+fits_done t s m (Advance p) room k f = ap (λ o. answer_by o Done) (advances t s m p room f)

@@ -5,10 +5,10 @@ use Rattle.std.specs.Option.{option_eq}
 use Rattle.plan_types.specs.declared.posture.Posture.TheVariants.{OpenIn}
 use Rattle.plan_types.specs.declared.call.Call.{Call}
 use Rattle.plan_types.specs.declared.call.Call.TheVariants.{Claim, Give, Yield, Take, Release, SetPose, Inquire, Stop}
-use Rattle.plan_types.specs.declared.call.Call.TheVariants.{Resume}
+use Rattle.plan_types.specs.declared.call.Call.TheVariants.{Resume, Advance}
 use Rattle.plan_types.specs.declared.answer.Answer.TheVariants.{Done}
 use Rattle.plan_types.specs.Same.{same_posture}
-use Rattle.plan_types.specs.Table.{PlanTable, zone_count, posture_of}
+use Rattle.plan_types.specs.Table.{PlanTable, zone_count, place_count, posture_of}
 use Rattle.plan_rules.specs.declared.state.State.{State}
 use Rattle.plan_rules.specs.State.{one_if, last_stamp}
 use Rattle.plan_rules.specs.Sound.{IsLawfulZone}
@@ -26,7 +26,8 @@ use Rattle.plan_compiled.specs.Row.{Row, no_row}
 use Rattle.plan_compiled.specs.Needs.{Fits, zone_fits, place_fits, stop_fits}
 use Rattle.plan_compiled.specs.Rows.{matches, part_in}
 
--- a machine has 146 slots: 16 for each call about a zone, 64 for poses, one for a stop and one for a resume
+-- a machine has 162 slots: 16 for each call about a zone, 64 for poses, one for a stop and one for a resume, 16 for
+-- advances
 abbrev pub own_slot : Call → ℕ
 own_slot (Claim z) = z
 own_slot (Give z) = 16 + z
@@ -37,9 +38,10 @@ own_slot (SetPose p) = 80 + p
 own_slot (Inquire z) = 145
 own_slot Stop = 144
 own_slot Resume = 145
+own_slot (Advance p) = 146 + p
 
 abbrev pub slot : ℕ → Call → ℕ
-slot m call = 146 * m + own_slot call
+slot m call = 162 * m + own_slot call
 
 abbrev pub row_at : List Row → ℕ → Row
 row_at rows i = get_or rows i no_row
@@ -94,6 +96,9 @@ HasAllZoneRows t rows starts m n = (z : ℕ) → z < n → HasZoneRows t rows st
 abbrev pub HasPoseRows : PlanTable → List Row → List ℕ → ℕ → ℕ → Type 0
 HasPoseRows t rows starts m n = (p : ℕ) → p < n → HasRows t rows starts m (SetPose p)
 
+abbrev pub HasPlaceRows : PlanTable → List Row → List ℕ → ℕ → ℕ → Type 0
+HasPlaceRows t rows starts m n = (p : ℕ) → p < n → HasRows t rows starts m (Advance p)
+
 pub record HasWatchRows (t : PlanTable) (rows : List Row) (starts : List ℕ) (m : ℕ) : Type 0 where
   pub stop : HasRows t rows starts m Stop
   pub resume : HasRows t rows starts m Resume
@@ -103,6 +108,7 @@ pub record HasMachineRows (t : PlanTable) (rows : List Row) (starts : List ℕ) 
   pub zones : HasAllZoneRows t rows starts m (zone_count t)
   pub poses : HasPoseRows t rows starts m 64
   pub watch : HasWatchRows t rows starts m
+  pub places : HasPlaceRows t rows starts m (place_count t)
 
 -- ---- what is tested of a call
 -- a pose opens a zone inward

@@ -7,11 +7,11 @@ use Rattle.plan_types.specs.declared.posture.Posture.TheVariants.{Moving, OpenIn
 use Rattle.plan_types.specs.declared.table.Transfer.{Transfer}
 use Rattle.plan_types.specs.declared.call.Call.{Call}
 use Rattle.plan_types.specs.declared.call.Call.TheVariants.{Claim, Give, Yield, Take, Release, SetPose, Inquire, Stop}
-use Rattle.plan_types.specs.declared.call.Call.TheVariants.{Resume}
+use Rattle.plan_types.specs.declared.call.Call.TheVariants.{Resume, Advance}
 use Rattle.plan_types.specs.Same.{same_posture}
 use Rattle.plan_types.specs.Below.{any_below}
 use Rattle.plan_types.specs.Table.{PlanTable, zone_count, place_count, host_of, guest_of, is_party, has_pose, pose_row, posture_of}
-use Rattle.plan_types.specs.Table.{is_moving_pose, transfer_of, watch}
+use Rattle.plan_types.specs.Table.{is_moving_pose, transfer_of, watch, is_source, is_sink, has_end}
 use Rattle.plan_rules.specs.declared.state.ZoneState.{ZoneState}
 use Rattle.plan_rules.specs.declared.state.State.{State}
 use Rattle.plan_rules.specs.State.{zone_at, is_full, leads_to, last_stamp}
@@ -48,6 +48,7 @@ may_ask t m (SetPose p) = has_pose t m p
 may_ask t m (Inquire z) = false
 may_ask t m Stop = nat_eq m watch
 may_ask t m Resume = nat_eq m watch
+may_ask t m (Advance p) = has_end t m p
 
 -- ---- the zone of a call
 abbrev pub can_claim : PlanTable → ℕ → ℕ → ZoneState → Bool
@@ -94,6 +95,7 @@ is_end_of_opened t p q = any_below (opens_to t p q) (zone_count t)
 abbrev pub needs_room : PlanTable → ℕ → Call → Bool → ℕ → Bool
 needs_room t m (Give z) room q = leads_to (given_way t m z) q
 needs_room t m (SetPose p) room q = room && is_end_of_opened t p q
+needs_room t m (Advance p) room q = room && nat_eq p q
 needs_room t m _ room q = false
 
 abbrev pub ends_in_need : PlanTable → ℕ → Call → Bool → Option Transfer → Bool
@@ -121,13 +123,20 @@ abbrev pub is_filled : PlanTable → ℕ → Call → ℕ → Bool
 is_filled t m (Take z) q = leads_to (taken_way t m z) q
 is_filled t m _ q = false
 
+-- with room, a plate comes to a source; without, one goes from a sink
+abbrev pub end_fits : PlanTable → Call → Bool → ℕ → Bool → Bool
+end_fits t (Advance p) room q full = implies (nat_eq p q) (if room then is_source t p else (is_sink t p && full))
+end_fits t _ room q full = true
+
 abbrev pub place_fits : PlanTable → ℕ → Call → Bool → ℕ → Bool → Bool
-place_fits t m c room q full = implies (needs_room t m c room q) (not full) && implies (is_emptied t m c q) full
+place_fits t m c room q full =
+    implies (needs_room t m c room q) (not full) && implies (is_emptied t m c q) full && end_fits t c room q full
 
 abbrev pub stop_fits : PlanTable → Call → Bool → Bool
 stop_fits t (Claim _) stopped = not stopped
 stop_fits t (Give _) stopped = not stopped
 stop_fits t (SetPose p) stopped = not (is_moving_pose t p && stopped)
+stop_fits t (Advance _) stopped = not stopped
 stop_fits t Stop stopped = not stopped
 stop_fits t Resume stopped = stopped
 stop_fits t _ stopped = true
@@ -142,8 +151,14 @@ zone_after t m (Release z) y v = if nat_eq y z then record v { owner = None } el
 zone_after t m (SetPose p) y v = record v { posture = posture_by t p y v }
 zone_after t m _ y v = v
 
+-- an advance fills its place, or empties it
+abbrev pub is_turned : Call → ℕ → Bool
+is_turned (Advance p) q = nat_eq p q
+is_turned _ q = false
+
 abbrev pub place_after : PlanTable → ℕ → Call → ℕ → Bool → Bool
-place_after t m c q full = (full && not (is_emptied t m c q)) || is_filled t m c q
+place_after t m c q full =
+    if is_turned c q then not full else ((full && not (is_emptied t m c q)) || is_filled t m c q)
 
 abbrev pub stop_after : Call → Bool → Bool
 stop_after Stop stopped = true

@@ -2,7 +2,7 @@
 use Rattle.std.specs.Prelude.{◌≡◌, ℕ, nat_eq, if◌then◌else◌}
 use Rattle.plan_types.specs.declared.call.Call.{Call}
 use Rattle.plan_types.specs.declared.call.Call.TheVariants.{Claim, Give, Yield, Take, Release, SetPose, Inquire, Stop}
-use Rattle.plan_types.specs.declared.call.Call.TheVariants.{Resume}
+use Rattle.plan_types.specs.declared.call.Call.TheVariants.{Resume, Advance}
 use Rattle.plan_compiled.specs.declared.part.Part.{Part}
 use Rattle.plan_compiled.specs.declared.row.Row.TheInside.{Inside}
 
@@ -29,6 +29,7 @@ verb_number (SetPose p) = 6
 verb_number (Inquire z) = 8
 verb_number Stop = 9
 verb_number Resume = 10
+verb_number (Advance p) = 11
 
 abbrev pub object_number : Call → ℕ
 object_number (Claim z) = z
@@ -40,6 +41,7 @@ object_number (SetPose p) = p
 object_number (Inquire z) = z
 object_number Stop = 0
 object_number Resume = 0
+object_number (Advance p) = p
 
 -- the call that two numbers tell, whatever they are
 abbrev pub call_told : ℕ → ℕ → Call
@@ -47,7 +49,7 @@ call_told verb object =
     if nat_eq verb 1 then Claim object else if nat_eq verb 2 then Give object else if nat_eq verb 3 then Yield object
     else if nat_eq verb 4 then Take object else if nat_eq verb 5 then Release object
     else if nat_eq verb 6 then SetPose object else if nat_eq verb 8 then Inquire object
-    else if nat_eq verb 9 then Stop else Resume
+    else if nat_eq verb 9 then Stop else if nat_eq verb 11 then Advance object else Resume
 
 abbrev pub row_in : Inside → Row
 row_in a = row_with a.machine (call_told a.verb a.object) a.part

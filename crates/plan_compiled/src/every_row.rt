@@ -1,6 +1,6 @@
 //! Whether each call that is done has its row.
 ghost use Rattle.std.specs.Prelude.{◌≡◌, ◌+◌, ◌≤◌, true, false, length, IsTrue};
-ghost use Rattle.plan_types.specs.Table.{zone_count};
+ghost use Rattle.plan_types.specs.Table.{zone_count, place_count};
 ghost use Rattle.plan_word.specs.Layout.{counts_of};
 ghost use Rattle.plan_compiled.specs.Complete as complete;
 
@@ -148,6 +148,19 @@ fn has_pose_rows(plan: &Plan, layout: &Layout, rows: &[Row], starts: &[u16], mac
     true
 }
 
+fn has_place_rows(plan: &Plan, layout: &Layout, rows: &[Row], starts: &[u16], machine: u8) -> bool
+    requires { layout.now ≡ counts_of plan.now }
+    ensures { IsTrue result → complete.HasPlaceRows plan.now rows.now starts.now machine
+        (place_count plan.now) }
+{
+    for place in 0..plan.place_count() {
+        if !has_rows(plan, layout, rows, starts, machine, Call::Advance(place)) {
+            return false;
+        }
+    }
+    true
+}
+
 fn has_watch_rows(plan: &Plan, layout: &Layout, rows: &[Row], starts: &[u16], machine: u8) -> bool
     requires { layout.now ≡ counts_of plan.now }
     ensures { IsTrue result → complete.HasWatchRows plan.now rows.now starts.now machine }
@@ -164,6 +177,9 @@ fn has_machine_rows(plan: &Plan, layout: &Layout, rows: &[Row], starts: &[u16], 
         return false;
     }
     if !has_pose_rows(plan, layout, rows, starts, machine) {
+        return false;
+    }
+    if !has_place_rows(plan, layout, rows, starts, machine) {
         return false;
     }
     has_watch_rows(plan, layout, rows, starts, machine)

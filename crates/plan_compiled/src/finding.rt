@@ -7,8 +7,9 @@ use crate::covering::Span;
 use crate::row::Row;
 use plan_types::Call;
 
-/// How many slots a machine has: 16 for each call about a zone, 64 for poses, and one for a stop and for a resume.
-const SLOTS: usize = 146;
+/// How many slots a machine has: 16 for each call about a zone, 64 for poses, one for a stop and for a resume, and 16
+/// for advances.
+const SLOTS: usize = 162;
 
 /// How many slots there are, of sixteen machines.
 pub const SLOTS_OF_ALL: usize = SLOTS * 16;
@@ -30,6 +31,7 @@ pub fn slot(machine: u8, call: Call) -> usize
         Call::SetPose(pose) => 80 + usize::from(pose),
         Call::Stop => 144,
         Call::Resume | Call::Inquire(_) => 145,
+        Call::Advance(place) => 146 + usize::from(place),
     };
     SLOTS * usize::from(machine) + own
 }

@@ -81,6 +81,11 @@ fn opens_ways(plan: &Plan, call: Call) -> bool {
     }
 }
 
+/// Whether a call may be done without room, too: a pose that finds a zone open, and an advance from a sink.
+fn goes_without_room(plan: &Plan, call: Call) -> bool {
+    matches!(call, Call::Advance(_)) || opens_ways(plan, call)
+}
+
 /// Appends the row of a draft, if it is right.
 fn push_row(plan: &Plan, layout: &Layout, index: &mut Index, asked: Asked, picks: u8)
     requires layout { layout.now ≡ counts_of plan.now }
@@ -120,7 +125,7 @@ fn push_rows(plan: &Plan, layout: &Layout, index: &mut Index, machine: u8, call:
         room: true,
     };
     push_halves(plan, layout, index, room);
-    if opens_ways(plan, call) {
+    if goes_without_room(plan, call) {
         let shut = Asked {
             machine,
             call,
@@ -170,6 +175,16 @@ fn index_poses(plan: &Plan, layout: &Layout, index: &mut Index, machine: u8)
     }
 }
 
+fn index_places(plan: &Plan, layout: &Layout, index: &mut Index, machine: u8)
+    requires layout { layout.now ≡ counts_of plan.now }
+    requires right { All (IsRight plan.now) index.old.rows }
+    ensures { All (IsRight plan.now) index.new.rows }
+{
+    for place in 0..plan.place_count() {
+        index_call(plan, layout, index, machine, Call::Advance(place));
+    }
+}
+
 fn index_machine(plan: &Plan, layout: &Layout, index: &mut Index, machine: u8)
     requires layout { layout.now ≡ counts_of plan.now }
     requires right { All (IsRight plan.now) index.old.rows }
@@ -179,6 +194,7 @@ fn index_machine(plan: &Plan, layout: &Layout, index: &mut Index, machine: u8)
     index_poses(plan, layout, index, machine);
     index_call(plan, layout, index, machine, Call::Stop);
     index_call(plan, layout, index, machine, Call::Resume);
+    index_places(plan, layout, index, machine);
 }
 
 /// All rows of a plan, and where those of each call begin.

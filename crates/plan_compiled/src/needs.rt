@@ -97,6 +97,7 @@ pub(crate) fn may_ask(plan: &Plan, machine: u8, call: Call) -> bool
         Call::SetPose(pose) => plan.has_pose(machine, pose),
         Call::Inquire(_) => false,
         Call::Stop | Call::Resume => machine == WATCH,
+        Call::Advance(place) => plan.has_end(machine, place),
     }
 }
 
@@ -192,6 +193,7 @@ fn needs_room(plan: &Plan, machine: u8, call: Call, room: bool, place: u8) -> bo
     match call {
         Call::Give(zone) => leads_to(given_way(plan, machine, zone), place),
         Call::SetPose(pose) => room && is_end_of_opened(plan, pose, place),
+        Call::Advance(own) => room && own == place,
         _ => false,
     }
 }
@@ -215,7 +217,7 @@ fn own_zone_fits(plan: &Plan, machine: u8, call: Call, room: bool, zone: u8, at:
         Call::Take(own) => zone != own || can_take(plan, machine, own, at),
         Call::Release(own) => zone != own || can_release(machine, at),
         Call::SetPose(pose) => can_pose(plan, machine, pose, room, zone, at),
-        Call::Inquire(_) | Call::Stop | Call::Resume => true,
+        Call::Inquire(_) | Call::Stop | Call::Resume | Call::Advance(_) => true,
     }
 }
 
@@ -253,6 +255,19 @@ fn is_filled(plan: &Plan, machine: u8, call: Call, place: u8) -> bool
     }
 }
 
+/// Whether a place is as an advance needs it: with room a source, which a plate comes to; without, a sink that has one.
+fn end_fits(plan: &Plan, call: Call, room: bool, place: u8, full: bool) -> bool
+    ensures { result ≡ needs.end_fits plan.now call room place full }
+{
+    match call {
+        Call::Advance(own) => {
+            let row = plan.place(own);
+            own != place || if room { row.source } else { row.sink && full }
+        }
+        _ => true,
+    }
+}
+
 /// Whether a place is as a call needs it.
 pub(crate) fn place_fits(
     plan: &Plan,
@@ -265,7 +280,8 @@ pub(crate) fn place_fits(
     ensures { result ≡ needs.place_fits plan.now machine call room place full }
 {
     let empty = !needs_room(plan, machine, call, room, place) || !full;
-    empty && (!is_emptied(plan, machine, call, place) || full)
+    let filled = !is_emptied(plan, machine, call, place) || full;
+    empty && filled && end_fits(plan, call, room, place, full)
 }
 
 /// Whether the stop is as a call needs it.
@@ -273,7 +289,7 @@ pub(crate) fn stop_fits(plan: &Plan, call: Call, stopped: bool) -> bool
     ensures { result ≡ needs.stop_fits plan.now call stopped }
 {
     match call {
-        Call::Claim(_) | Call::Give(_) | Call::Stop => !stopped,
+        Call::Claim(_) | Call::Give(_) | Call::Advance(_) | Call::Stop => !stopped,
         Call::SetPose(pose) => !(plan.is_moving_pose(pose) && stopped),
         Call::Resume => stopped,
         Call::Yield(_) | Call::Take(_) | Call::Release(_) | Call::Inquire(_) => true,
@@ -308,11 +324,25 @@ pub(crate) fn zone_after(plan: &Plan, machine: u8, call: Call, zone: u8, at: Zon
     }
 }
 
+/// Whether a call fills a place that is empty, and empties one that is full.
+fn is_turned(call: Call, place: u8) -> bool
+    ensures { result ≡ needs.is_turned call place }
+{
+    match call {
+        Call::Advance(own) => own == place,
+        _ => false,
+    }
+}
+
 /// Whether a place is full after a call.
 pub(crate) fn place_after(plan: &Plan, machine: u8, call: Call, place: u8, full: bool) -> bool
     ensures { result ≡ needs.place_after plan.now machine call place full }
 {
-    full && !is_emptied(plan, machine, call, place) || is_filled(plan, machine, call, place)
+    if is_turned(call, place) {
+        !full
+    } else {
+        full && !is_emptied(plan, machine, call, place) || is_filled(plan, machine, call, place)
+    }
 }
 
 /// Whether the plant is stopped after a call.

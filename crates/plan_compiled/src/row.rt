@@ -46,6 +46,7 @@ fn verb_number(call: Call) -> u8
         Call::Inquire(_) => 8,
         Call::Stop => 9,
         Call::Resume => 10,
+        Call::Advance(_) => 11,
     }
 }
 
@@ -60,6 +61,7 @@ fn object_number(call: Call) -> u8
         | Call::Take(object)
         | Call::Release(object)
         | Call::SetPose(object)
+        | Call::Advance(object)
         | Call::Inquire(object) => object,
         Call::Stop | Call::Resume => 0,
     }
@@ -78,6 +80,7 @@ fn call_told(verb: u8, object: u8) -> Call
         6 => Call::SetPose(object),
         8 => Call::Inquire(object),
         9 => Call::Stop,
+        11 => Call::Advance(object),
         _ => Call::Resume,
     }
 }

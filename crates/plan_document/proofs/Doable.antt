@@ -5,15 +5,17 @@ use Rattle.plan_types.specs.declared.posture.Posture.{Posture}
 use Rattle.plan_types.specs.declared.posture.Posture.TheVariants.{Closed, Moving, OpenIn, OpenOut}
 use Rattle.plan_types.specs.declared.table.Transfer.{Transfer}
 use Rattle.plan_types.specs.declared.call.Call.{Call}
-use Rattle.plan_types.specs.declared.call.Call.TheVariants.{Claim, Give, Yield, Take, Release, SetPose, Inquire, Stop, Resume}
+use Rattle.plan_types.specs.declared.call.Call.TheVariants.{Claim, Give, Yield, Take, Release, SetPose, Inquire, Stop, Resume, Advance}
 use Rattle.plan_types.specs.declared.answer.Answer.TheVariants.{Done}
-use Rattle.plan_types.specs.Table.{PlanTable, guest_of, has_pose, host_of, is_party, machine_of, pose_count, transfer_of, zone_count}
+use Rattle.plan_types.specs.Table.{PlanTable, guest_of, has_end, has_pose, host_of, is_party, is_place_of, is_sink, is_source}
+use Rattle.plan_types.specs.Table.{keeper_of, machine_of, place_count, pose_count, transfer_of, zone_count}
 use Rattle.plan_rules.specs.declared.state.State.{State}
 use Rattle.plan_rules.specs.State.{owner_of, posture_at}
 use Rattle.plan_rules.specs.Sound.{IsSound}
 use Rattle.plan_rules.specs.Refusals.{given_by}
 use Rattle.plan_rules.specs.Reply.{reply}
-use Rattle.plan_rules.proofs.lemmas.DoneCalls.{claim_done, give_done, yield_done, take_done, release_done, pose_done}
+use Rattle.plan_rules.specs.DoneLaws.{KeepsEnd}
+use Rattle.plan_rules.proofs.lemmas.DoneCalls.{claim_done, give_done, yield_done, take_done, release_done, pose_done, advance_done}
 use Rattle.plan_rules.proofs.lemmas.Soundness.{done_none, plate_comes}
 use Rattle.plan_document.specs.Laws.{AcceptedLinesHaveReasons, GivesThrough, HasZone, TakesThrough}
 use Rattle.plan_document.proofs.Theirs.{guest_is_party, host_is_party}
@@ -69,6 +71,9 @@ done_may_be t m (SetPose p) s k e =
 done_may_be t m (Inquire z) s k e = refl
 done_may_be t m Stop s k e = refl
 done_may_be t m Resume s k e = refl
+done_may_be t m (Advance p) s k e =
+    let d = advance_done t s m p (done_none _ _ e) in
+    rw (lt-ltb p (place_count t) d.there, eq-eqb (keeper_of t p) m d.keeper) d.ends
 
 pub never_done : (t : PlanTable) (m : ℕ) (c : Call) → may_be_done t m c ≡ false → (s : State) → IsSound t s → reply t s m c ≢ Done
 never_done t m c never s k done = let may = done_may_be t m c s k done in cc
@@ -108,6 +113,20 @@ own_poses t m p e =
     let h = both (nat_lt p (pose_count t)) (nat_eq (machine_of t p) m) e in
     (ltb-true p (pose_count t) h.0, eqb-true (machine_of t p) m h.1)
 
+keeps_end : (t : PlanTable) (m p : ℕ) → has_end t m p ≡ true → KeepsEnd t m p
+keeps_end t m p e =
+    let h = both (is_place_of t p m) (is_source t p || is_sink t p) e in
+    let own = both (nat_lt p (place_count t)) (nat_eq (keeper_of t p) m) h.0 in
+    (ltb-true p (place_count t) own.0, eqb-true (keeper_of t p) m own.1, two_ways (is_source t p) (is_sink t p) h.1)
+
+one_end : (a b : Bool) → (a ≡ true) ⊎ (b ≡ true) → (a || b) ≡ true
+one_end true b one = refl
+one_end false b one = elim one [ inl e ↦ absurd (cc) | inr e ↦ e ]
+
+has_its_end : (t : PlanTable) (m p : ℕ) → KeepsEnd t m p → has_end t m p ≡ true
+has_its_end t m p k =
+    rw (lt-ltb p (place_count t) k.0, eq-eqb (keeper_of t p) m k.1) (one_end (is_source t p) (is_sink t p) k.2)
+
 pub lines_have_reasons : AcceptedLinesHaveReasons
 lines_have_reasons t m = record {
   claims = has_zone t m;
@@ -121,6 +140,8 @@ lines_have_reasons t m = record {
     | inl i ↦ takes_way t m z OpenIn (transfer_of t z OpenIn) refl i
     | inr o ↦ takes_way t m z OpenOut (transfer_of t z OpenOut) refl o
   ];
+  advances = keeps_end t m;
+  may_advance = has_its_end t m;
   poses = own_poses t m;
   may_claim = party t m;
   may_yield = party t m;

@@ -1,5 +1,5 @@
 -- What rows say, one row after another.
-use Rattle.std.proofs.Common.{◌≡◌, ◌∙◌, ◌+◌, ◌<◌, ◌≤◌, ◌++◌, ◌∷◌, [], ℕ, List, Bool, true, length, map, take, get_or, replicate, refl, append_assoc, sym, ap, subst, arith, take_all, string_bytes}
+use Rattle.std.proofs.Common.{◌≡◌, ◌∙◌, ◌+◌, ◌<◌, ◌≤◌, ◌++◌, ◌∷◌, [], ℕ, List, Bool, true, length, map, take, get_or, refl, append_assoc, sym, ap, subst, arith, take_all, string_bytes}
 use Rattle.std.specs.Prelude.{String}
 use Rattle.std.specs.declared.alloc.Global.{Global}
 use Rattle.std.proofs.lemmas.List.{flat_map_more, length-take-le, map_more, map_push, take_more}
@@ -7,7 +7,7 @@ use Rattle.std.proofs.lemmas.List.Folds.{list_all-append}
 use Rattle.std.specs.List.{AllZip, enumerate_from, flat_map, list_all}
 use Rattle.plan_text.specs.Names.{Text, is_name}
 use Rattle.plan_document.specs.Names.{AreNames, all_poses, hazard_names, identifier, identifiers, identifiers_in, machine_names, motor_names, names_in, numbered, numbered_poses, place_names, places_in, pose_names, sensor_identifiers, sensor_identifiers_in, sensor_names, sensors_in, zone_names}
-use Rattle.plan_document.specs.Saying.{keepers}
+use Rattle.plan_document.specs.Saying.{ends_in, place_rows}
 use Rattle.plan_document.specs.declared.document.HazardRow.{HazardRow}
 use Rattle.plan_document.specs.declared.document.MachineRow.{MachineRow}
 use Rattle.plan_document.specs.declared.document.MotorRow.{MotorRow}
@@ -105,8 +105,8 @@ numbered_more rows i row h is =
 flat_numbered_more : {A : Type 0} (f : ℕ × MachineRow → List A) (rows : List MachineRow) (i : ℕ) (row : MachineRow) → i < length rows → row ≡ get_or rows i row → flat_map f (numbered (take (i + 1) rows)) ≡ flat_map f (numbered (take i rows)) ++ f (i, row)
 flat_numbered_more f rows i row h is = ap (flat_map f) (numbered_more rows i row h is) ∙ sym (flat_map_more f [] (numbered (take i rows)) (i, row))
 
-pub keepers_more : (rows : List MachineRow) (i : ℕ) (row : MachineRow) → i < length rows → row ≡ get_or rows i row → keepers (take (i + 1) rows) ≡ keepers (take i rows) ++ replicate (length row.places.items) i
-keepers_more rows i row h is = flat_numbered_more (λ (r : ℕ × MachineRow). replicate (length r.1.places.items) r.0) rows i row h is
+pub place_rows_more : (rows : List MachineRow) (i : ℕ) (row : MachineRow) → i < length rows → row ≡ get_or rows i row → place_rows (take (i + 1) rows) ≡ place_rows (take i rows) ++ ends_in i row
+place_rows_more rows i row h is = flat_numbered_more (λ (r : ℕ × MachineRow). ends_in r.0 r.1) rows i row h is
 
 pub all_poses_more : (rows : List MachineRow) (i : ℕ) (row : MachineRow) → i < length rows → row ≡ get_or rows i row → all_poses (take (i + 1) rows) ≡ all_poses (take i rows) ++ numbered_poses i row.poses.items
 all_poses_more rows i row h is = flat_numbered_more (λ (r : ℕ × MachineRow). numbered_poses r.0 r.1.poses.items) rows i row h is

@@ -1,11 +1,11 @@
 -- Each row of a document, wherever it stands, has its names in the plan: places and zones.
-use Rattle.std.proofs.Common.{◌≡◌, ◌∙◌, ◌+◌, ℕ, List, length, get_or, replicate, refl, sym, ap, subst, string_bytes}
+use Rattle.std.proofs.Common.{◌≡◌, ◌∙◌, ◌+◌, ℕ, List, length, get_or, refl, sym, ap, subst, string_bytes}
 use Rattle.std.proofs.Common.{Option, Some, None}
-use Rattle.std.proofs.lemmas.List.{length-map, length-replicate}
+use Rattle.std.proofs.lemmas.List.{length-map}
 use Rattle.std.specs.Prelude.{String}
 use Rattle.std.specs.declared.alloc.Global.{Global}
 use Rattle.plan_types.specs.declared.table.Way.{Way}
-use Rattle.plan_types.specs.Table.{keeper_of, no_zone, zone_row}
+use Rattle.plan_types.specs.Table.{no_place, no_zone, place_row, zone_row}
 use Rattle.plan_text.specs.Named.{Named}
 use Rattle.plan_text.specs.Names.{Text, name_in, number_in}
 use Rattle.plan_document.specs.declared.document.MachineRow.{MachineRow}
@@ -13,8 +13,8 @@ use Rattle.plan_document.specs.declared.document.WayRow.{WayRow}
 use Rattle.plan_document.specs.declared.document.ZoneRow.{ZoneRow}
 use Rattle.plan_document.specs.Names.{AreDistinct, place_names, places_in}
 use Rattle.plan_document.specs.PlanLaws.{PlacesAreKept, StandsAt, WayHasNames, ZoneHasNames, ZonesHaveNames}
-use Rattle.plan_document.specs.Saying.{IsWayOf, IsZoneOf, keepers}
-use Rattle.plan_document.proofs.Standing.{flat_at, mapped, moved, name_of, named_at, numbered_flat, own_number, read_at, repeated, same_number, zip_at}
+use Rattle.plan_document.specs.Saying.{IsWayOf, IsZoneOf, ends_in, place_of, place_rows}
+use Rattle.plan_document.proofs.Standing.{flat_at, mapped, moved, name_of, named_at, numbered_flat, own_number, read_at, same_number, zip_at}
 
 -- ---- places
 
@@ -26,22 +26,22 @@ own_place places machines distinct is machine row here nth name named =
     (moved places (place_names machines) _ _ (string_bytes name) is refl
     (flat_at places_in machines machine row here nth (string_bytes name) (mapped string_bytes row.places.items nth name named)))
 
--- its keeper is the machine of the row
-own_keeper : (machines : List MachineRow) (machine : ℕ) (row : MachineRow) (here : StandsAt machines machine row) (nth : ℕ) (name : String Global) → StandsAt row.places.items nth name
-    → get_or (keepers machines) (length (place_names here.before) + nth) 0 ≡ machine
-own_keeper machines machine row here nth name named =
-    read_at (keepers machines) _ machine 0
-    (numbered_flat (λ (r : ℕ × MachineRow). replicate (length r.1.places.items) r.0) places_in
-    (λ k r. length-replicate (length r.places.items) k ∙ sym (length-map r.places.items string_bytes))
-    machines machine row here nth machine (repeated row.places.items nth name machine named))
+-- its row is that of its name in the machine's row
+own_row : (machines : List MachineRow) (machine : ℕ) (row : MachineRow) (here : StandsAt machines machine row) (nth : ℕ) (name : String Global) → StandsAt row.places.items nth name
+    → get_or (place_rows machines) (length (place_names here.before) + nth) no_place ≡ place_of machine row (string_bytes name)
+own_row machines machine row here nth name named =
+    read_at (place_rows machines) _ (place_of machine row (string_bytes name)) no_place
+    (numbered_flat (λ (r : ℕ × MachineRow). ends_in r.0 r.1) places_in
+    (λ k r. length-map r.places.items (λ (other : String Global). place_of k r (string_bytes other)) ∙ sym (length-map r.places.items string_bytes))
+    machines machine row here nth (place_of machine row (string_bytes name)) (mapped (λ (other : String Global). place_of machine row (string_bytes other)) row.places.items nth name named))
 
 pub kept : PlacesAreKept
 kept d n is machine row here nth name named place has =
     let own = own_place n.places d.machines.items is.distinct_places is.named_places machine row here nth name named in
     let same : place ≡ length (place_names here.before) + nth = same_number _ _ (sym has ∙ own) in
-    ap (keeper_of n.plan) same
-    ∙ ap (λ ks. get_or ks (length (place_names here.before) + nth) 0) is.places
-    ∙ own_keeper d.machines.items machine row here nth name named
+    ap (place_row n.plan) same
+    ∙ ap (λ rows. get_or rows (length (place_names here.before) + nth) no_place) is.places
+    ∙ own_row d.machines.items machine row here nth name named
 
 -- ---- zones
 

@@ -1,5 +1,5 @@
 -- What it means that a plan is a document's, in examples.
-use Rattle.std.proofs.Common.{◌≡◌, ◌≢◌, ◌∙◌, ℕ, Bool, true, false, ◌&&◌, List, [], ◌∷◌, ◌++◌, codes, length, map, drop, slice_index, nat_eq, Some, None, is_some, refl, sym, ap, subst, arith, replicate, string_bytes}
+use Rattle.std.proofs.Common.{◌≡◌, ◌≢◌, ◌∙◌, ℕ, Bool, true, false, ◌&&◌, List, [], ◌∷◌, ◌++◌, codes, length, map, drop, slice_index, nat_eq, Some, None, is_some, refl, sym, ap, subst, arith, string_bytes}
 use Rattle.std.proofs.lemmas.List.{append-nil}
 use Rattle.std.specs.List.{AllZip, list_all}
 use Rattle.plan_types.specs.declared.call.Call.{Call}
@@ -14,7 +14,7 @@ use Rattle.plan_text.specs.Calls.{verb_word}
 use Rattle.plan_text.specs.Named.{Named}
 use Rattle.plan_text.specs.Names.{Text, is_name, number_in}
 use Rattle.plan_text.specs.declared.calls.Verb.{Verb}
-use Rattle.plan_text.specs.declared.calls.Verb.TheVariants.{Claim, Give as GiveVerb, Yield, Take, Release, Inquire, Pose}
+use Rattle.plan_text.specs.declared.calls.Verb.TheVariants.{Claim, Give as GiveVerb, Yield, Take, Release, Inquire, Pose, Advance}
 use Rattle.plan_document.specs.declared.document.Document.{Document}
 use Rattle.plan_document.specs.declared.document.MachineRow.{MachineRow}
 use Rattle.plan_document.specs.declared.document.PoseRow.{PoseRow}
@@ -25,7 +25,7 @@ use Rattle.plan_document.specs.Laws.{AcceptedLinesAreTheirs, RefusedLinesAreNeve
 use Rattle.plan_document.specs.NameLaws.{NamesAreWords, is_one_word}
 use Rattle.plan_document.specs.Names.{AreDistinct, all_poses, machine_names, names_in, numbered, place_names, pose_names, zone_names}
 use Rattle.plan_document.specs.Postures.{gives_zone}
-use Rattle.plan_document.specs.Saying.{IsCallOf, IsNamedPlanOf, IsPlanOf, IsPoseOf, IsProgramOf, IsZoneOf, is_free, keepers, calls_of, may_be_done, own_call}
+use Rattle.plan_document.specs.Saying.{IsCallOf, IsNamedPlanOf, IsPlanOf, IsPoseOf, IsProgramOf, IsZoneOf, is_free, ends_in, place_rows, calls_of, may_be_done, own_call}
 use Rattle.plan_document.specs.PlanExamples.{AreApart, AreOneWord, DocumentsAreMet, HasTwo, LawsOfLift, LinesAreRead, NamesAreTold, NeverDone, NeverTheirs, PlansHaveNames, PlansHavePrograms, PlansHaveRows, PlansSayRows, PosesAreRead, PosturesAreGiven, WaysAreRead, ZonesAreRead, letters}
 use Rattle.plan_document.specs.WordExamples.{parked}
 
@@ -142,6 +142,7 @@ begins Take name rest e = absurd (impossible (sym (ap (λ (t : Text). nat_eq (sl
 begins Release name rest e = absurd (impossible (sym (ap (λ (t : Text). nat_eq (slice_index t 0) 103) e)))
 begins Inquire name rest e = absurd (impossible (sym (ap (λ (t : Text). nat_eq (slice_index t 0) 103) e)))
 begins Pose name rest e = absurd (impossible (sym (ap (λ (t : Text). nat_eq (slice_index t 0) 103) e)))
+begins Advance name rest e = absurd (impossible (sym (ap (λ (t : Text). nat_eq (slice_index t 0) 103) e)))
 
 -- what a line of this verb asks
 pub asked : (machine : ℕ) (rest : Text) (c : Call) → IsCallOf parked machine (codes "give " ++ rest) c → own_call parked machine GiveVerb rest ≡ Some c
@@ -163,6 +164,7 @@ no_capital Take name e = impossible (sym (ap (λ (t : Text). nat_eq (slice_index
 no_capital Release name e = impossible (sym (ap (λ (t : Text). nat_eq (slice_index t 0) 71) e))
 no_capital Inquire name e = impossible (sym (ap (λ (t : Text). nat_eq (slice_index t 0) 71) e))
 no_capital Pose name e = impossible (sym (ap (λ (t : Text). nat_eq (slice_index t 0) 71) e))
+no_capital Advance name e = impossible (sym (ap (λ (t : Text). nat_eq (slice_index t 0) 71) e))
 
 abbrev begun : Text → Bool
 begun [] = false
@@ -176,6 +178,7 @@ no_letter Take name e = impossible (ap begun e)
 no_letter Release name e = impossible (ap begun e)
 no_letter Inquire name e = impossible (ap begun e)
 no_letter Pose name e = impossible (ap begun e)
+no_letter Advance name e = impossible (ap begun e)
 
 line_rows : LinesAreRead
 line_rows = record {
@@ -243,7 +246,7 @@ rows_of_plans d a b x y n has is = record {
   zone_names = is.named_zones ∙ ap zone_names has.zones;
   place_names = is.named_places ∙ ap place_names has.machines ∙ ap (λ z. map string_bytes a.places.items ++ z) (append-nil (map string_bytes b.places.items));
   pose_names = is.named_poses ∙ ap pose_names has.machines ∙ ap (λ z. names_in a.poses.items ++ z) (append-nil (names_in b.poses.items));
-  keepers = is.places ∙ ap keepers has.machines ∙ ap (λ z. replicate (length a.places.items) 0 ++ z) (append-nil (replicate (length b.places.items) 1));
+  place_rows = is.places ∙ ap place_rows has.machines ∙ ap (λ z. ends_in 0 a ++ z) (append-nil (ends_in 1 b));
   zones = λ first second zones. two (IsZoneOf n.machines n.places) d.zones.items n.plan.zones x y first second is.zones has.zones zones;
   zone_lost = λ zone. lost (IsZoneOf n.machines n.places) d.zones.items n.plan.zones x y zone is.zones has.zones;
   poses = λ p q first second pa qb poses. two (IsPoseOf n.zones) (all_poses d.machines.items) n.plan.poses (0, p) (1, q) first second is.poses (two_poses a b d.machines.items p q has.machines pa qb) poses;

@@ -82,6 +82,8 @@ machines_in : (members : Members) (row : MachineRow) → MachinesAreIn members r
 machines_in members row = record {
   name = λ is. ap (get_member (codes "name")) (same_members members is.members is.is_table) ∙ is.name;
   places = λ is. ap (items_at (codes "places")) (same_members members is.members is.is_table) ∙ is.places;
+  sources = λ is. ap (items_at (codes "sources")) (same_members members is.members is.is_table) ∙ is.sources;
+  sinks = λ is. ap (items_at (codes "sinks")) (same_members members is.members is.is_table) ∙ is.sinks;
   poses = λ is. subst (λ ms. HasRows IsPoseIn (codes "poses") ms row.poses.items) (sym (same_members members is.members is.is_table)) is.poses;
   sensors = λ is. ap (items_at (codes "sensors")) (same_members members is.members is.is_table) ∙ is.sensors;
   program = λ is. ap (items_at (codes "program")) (same_members members is.members is.is_table) ∙ is.program;

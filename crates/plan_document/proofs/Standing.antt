@@ -1,8 +1,8 @@
 -- What stands in lists, and where.
-use Rattle.std.proofs.Common.{◌≡◌, ◌∙◌, ◌+◌, ◌-◌, ◌<◌, ◌++◌, ◌∷◌, [], ◌⊎◌, inl, inr, ℕ, zero, suc, Bool, true, false, ◌&&◌, List, length, map, get_or, replicate, refl, sym, ap, subst, arith}
+use Rattle.std.proofs.Common.{◌≡◌, ◌∙◌, ◌+◌, ◌-◌, ◌<◌, ◌++◌, ◌∷◌, [], ◌⊎◌, inl, inr, ℕ, zero, suc, Bool, true, false, ◌&&◌, List, length, map, get_or, refl, sym, ap, subst, arith}
 use Rattle.std.proofs.Common.{Option, Some, None}
 use Rattle.std.proofs.lemmas.Grind.{flat_map-append, get_or_head}
-use Rattle.std.proofs.lemmas.List.{append_assoc, get_or-append_right, length-append, length-map, length-replicate, map-append}
+use Rattle.std.proofs.lemmas.List.{append_assoc, get_or-append_right, length-append, length-map, map-append}
 use Rattle.std.proofs.lemmas.List.Folds.{list_all-append}
 use Rattle.std.proofs.lemmas.List.FromFn.{length-enumerate_from}
 use Rattle.std.proofs.lemmas.Slice.Eq.{bytes_eq-Decides}
@@ -62,19 +62,6 @@ mapped f xs i x here = record {
   after = map f here.after;
   is = ap (map f) here.is ∙ map-append f here.before (x ∷ here.after);
   count = length-map here.before f ∙ here.count;
-}
-
-halves : {X A : Type 0} (front : List X) (x : X) (back : List X) (a : A) → replicate (length (front ++ x ∷ back)) a ≡ replicate (length front) a ++ a ∷ replicate (length back) a
-halves [] x back a = refl
-halves (b ∷ bs) x back a = ap (λ ys. a ∷ ys) (halves bs x back a)
-
--- the same for each item
-pub repeated : {X A : Type 0} (xs : List X) (i : ℕ) (x : X) (a : A) → StandsAt xs i x → StandsAt (replicate (length xs) a) i a
-repeated xs i x a here = record {
-  before = replicate (length here.before) a;
-  after = replicate (length here.after) a;
-  is = ap (λ ys. replicate (length ys) a) here.is ∙ halves here.before x here.after a;
-  count = length-replicate (length here.before) a ∙ here.count;
 }
 
 number_on : {X : Type 0} (k m : ℕ) (front : List X) (x : X) (back : List X) → k + length front ≡ m → enumerate_from k (front ++ x ∷ back) ≡ enumerate_from k front ++ (m, x) ∷ enumerate_from (m + 1) back

@@ -15,7 +15,7 @@ use Rattle.plan_text.specs.Calls.{verb_word}
 use Rattle.plan_text.specs.Named.{Named}
 use Rattle.plan_text.specs.Names.{Text, number_in}
 use Rattle.plan_text.specs.declared.calls.Verb.{Verb}
-use Rattle.plan_text.specs.declared.calls.Verb.TheVariants.{Claim, Give, Yield, Take, Release, Inquire, Pose}
+use Rattle.plan_text.specs.declared.calls.Verb.TheVariants.{Claim, Give, Yield, Take, Release, Inquire, Pose, Advance}
 use Rattle.plan_document.specs.declared.motors.NamedMotors.{NamedMotors}
 use Rattle.plan_document.specs.StepExamples.{AreOfLift, IsRead, StepsAreMet, StepsAreOfLines, StepsAreRead, StepsAreTold, driven_by}
 use Rattle.plan_document.specs.Saying.{AreMotorsIn, Asks, Awaits, HasFaults, IsCallOf, Runs, is_driven_by, own_motor, words_in}
@@ -40,6 +40,7 @@ no_await Take name rest e = impossible (sym (ap (has_byte 0 97) e))
 no_await Release name rest e = impossible (sym (ap (has_byte 0 97) e))
 no_await Inquire name rest e = impossible (sym (ap (has_byte 0 97) e))
 no_await Pose name rest e = impossible (sym (ap (has_byte 0 97) e))
+no_await Advance name rest e = impossible (sym (ap (has_byte 1 119) e))
 
 no_run : (v : Verb) (name rest : Text) → codes "run " ++ rest ≡ verb_word v ++ codes " " ++ name → ⊥
 no_run Claim name rest e = impossible (sym (ap (has_byte 1 117) e))
@@ -49,6 +50,7 @@ no_run Take name rest e = impossible (sym (ap (has_byte 1 117) e))
 no_run Release name rest e = impossible (sym (ap (has_byte 1 117) e))
 no_run Inquire name rest e = impossible (sym (ap (has_byte 1 117) e))
 no_run Pose name rest e = impossible (sym (ap (has_byte 1 117) e))
+no_run Advance name rest e = impossible (sym (ap (has_byte 1 117) e))
 
 -- what a line asks begins with a verb, also where faults come after it
 as_asked : (line ask name : Text) (v : Verb) (faults : Faults) → ask ≡ verb_word v ++ codes " " ++ name → HasFaults line ask faults → (rest : Text) × (line ≡ verb_word v ++ codes " " ++ rest)

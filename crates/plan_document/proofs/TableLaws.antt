@@ -1,16 +1,16 @@
 -- How many rows a plan has, which names they have, and which calls its programs have.
-use Rattle.std.proofs.Common.{◌≡◌, ◌≢◌, ◌∙◌, ◌+◌, ◌<◌, ◌++◌, ◌∷◌, [], ℕ, Bool, true, false, not, List, length, map, replicate, sum, refl, sym, ap, subst, string_bytes, arith, codes}
+use Rattle.std.proofs.Common.{◌≡◌, ◌≢◌, ◌∙◌, ◌+◌, ◌<◌, ◌++◌, ◌∷◌, [], ℕ, Bool, true, false, not, List, length, map, sum, refl, sym, ap, subst, string_bytes, arith, codes}
 use Rattle.std.proofs.Common.{String}
 use Rattle.std.specs.declared.alloc.Global.{Global}
 use Rattle.std.proofs.Common.{Option, Some, None, is_some, option_map}
-use Rattle.std.proofs.lemmas.List.{length-append, length-map, length-replicate}
+use Rattle.std.proofs.lemmas.List.{length-append, length-map}
 use Rattle.std.proofs.lemmas.List.Folds.{list_all_at}
 use Rattle.std.proofs.lemmas.List.FromFn.{length-enumerate_from}
 use Rattle.std.proofs.lemmas.List.Sums.{sum-map, sum_by-cons}
 use Rattle.std.proofs.lemmas.Slice.Zip.{AllZip-long}
 use Rattle.std.specs.List.{flat_map, list_all, sum_by}
 use Rattle.plan_types.specs.declared.call.Call.{Call}
-use Rattle.plan_types.specs.declared.call.Call.TheVariants.{Claim, Give, Yield, Take, Release, SetPose}
+use Rattle.plan_types.specs.declared.call.Call.TheVariants.{Claim, Give, Yield, Take, Release, SetPose, Advance}
 use Rattle.plan_controller.specs.declared.step.Step.{Step}
 use Rattle.plan_controller.specs.declared.step.Step.TheVariants.{Do, Await, Run}
 use Rattle.plan_text.specs.Calls.{call_text, own_pose, words}
@@ -30,7 +30,7 @@ use Rattle.plan_document.specs.Motors.{IsHazardOf, IsMotorOf}
 use Rattle.plan_document.specs.Names.{AreDistinct, all_poses, identifier, identifiers, identifiers_in, is_title, names_in, numbered, numbered_poses, place_names, places_in, pose_names, sensor_identifiers, sensor_identifiers_in, sensor_names, sensors_in}
 use Rattle.plan_document.specs.PlanLaws.{StandsAt}
 use Rattle.plan_document.specs.Laws.{is_line}
-use Rattle.plan_document.specs.Saying.{IsPlanOf, IsPoseOf, IsProgramOf, IsStepOf, IsZoneOf, calls_of, is_free, keepers, own_call}
+use Rattle.plan_document.specs.Saying.{IsPlanOf, IsPoseOf, IsProgramOf, IsStepOf, IsZoneOf, calls_of, ends_in, is_free, own_call, place_of, place_rows}
 use Rattle.plan_document.specs.TableLaws.{AllStepsAsk, HasLine, NamesAreSpelled, PlansHaveCounts, PlansHaveNames, PosesAreTwoForC, ProgramsHaveLines, RowsAreNamed, SensorsAreTwoForC, TablesHaveCounts}
 use Rattle.plan_document.proofs.PlanLaws.{own_place}
 use Rattle.plan_document.proofs.PlanRows.{are_apart, impossible}
@@ -56,10 +56,10 @@ pose_total : (machines : List MachineRow) → length (pose_names machines) ≡ s
 pose_total machines =
     summed (λ (row : MachineRow). names_in row.poses.items) (λ row. length row.poses.items) (λ row. length-map row.poses.items (λ (p : PoseRow). string_bytes p.name)) machines
 
-keeper_total : (machines : List MachineRow) → length (keepers machines) ≡ length (place_names machines)
-keeper_total machines =
-    as_many (λ (r : ℕ × MachineRow). replicate (length r.1.places.items) r.0) places_in
-    (λ k row. length-replicate (length row.places.items) k ∙ sym (length-map row.places.items string_bytes)) 0 machines
+place_row_total : (machines : List MachineRow) → length (place_rows machines) ≡ length (place_names machines)
+place_row_total machines =
+    as_many (λ (r : ℕ × MachineRow). ends_in r.0 r.1) places_in
+    (λ k row. length-map row.places.items (λ (name : String Global). place_of k row (string_bytes name)) ∙ sym (length-map row.places.items string_bytes)) 0 machines
 
 -- as many names for C as names
 c_total : (machines : List MachineRow) → length (identifiers machines) ≡ length (pose_names machines)
@@ -83,7 +83,7 @@ counts_of : (d : Document) (p : ProgrammedPlan) → IsPlanOf d p → TablesHaveC
 counts_of d p is = record {
   machines = is.named.machines;
   zones = AllZip-long (IsZoneOf p.named.machines p.named.places) d.zones.items p.named.plan.zones is.named.zones;
-  places = ap length is.named.places ∙ keeper_total d.machines.items ∙ place_total d.machines.items;
+  places = ap length is.named.places ∙ place_row_total d.machines.items ∙ place_total d.machines.items;
   poses =
       AllZip-long (IsPoseOf p.named.zones) (all_poses d.machines.items) p.named.plan.poses is.named.poses
       ∙ all_pose_total d.machines.items
@@ -212,6 +212,7 @@ told_by reads own n machine verbs.Yield name c e = reads.same n machine verbs.Yi
 told_by reads own n machine verbs.Take name c e = reads.same n machine verbs.Take name c e
 told_by reads own n machine verbs.Release name c e = reads.same n machine verbs.Release name c e
 told_by reads own n machine verbs.Inquire name c e = reads.same n machine verbs.Inquire name c e
+told_by reads own n machine verbs.Advance name c e = reads.same n machine verbs.Advance name c e
 told_by reads own n machine verbs.Pose name c e = by (own_pose n machine name) refl
   where
     by : (o : Option ℕ) → own_pose n machine name ≡ o → call_text n c ≡ words verbs.Pose name
@@ -232,6 +233,7 @@ line_of n machine verbs.Yield name c e asks = from_map Yield (number_in n.zones 
 line_of n machine verbs.Take name c e asks = from_map Take (number_in n.zones name) c e (λ k. refl)
 line_of n machine verbs.Release name c e asks = from_map Release (number_in n.zones name) c e (λ k. refl)
 line_of n machine verbs.Inquire name c e asks = absurd (asks refl)
+line_of n machine verbs.Advance name c e asks = from_map Advance (number_in n.places name) c e (λ k. refl)
 line_of n machine verbs.Pose name c e asks = from_map SetPose (own_pose n machine name) c e (λ k. refl)
 
 pub lined : CallsAreToldAsRead → OwnPosesComeFirst → ProgramsHaveLines

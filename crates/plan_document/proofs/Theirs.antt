@@ -4,11 +4,11 @@ use Rattle.std.proofs.lemmas.Bool.{cases_lt, eq-eqb, eqb-true, lt-ltb}
 use Rattle.std.proofs.lemmas.List.{get_or_past}
 use Rattle.plan_types.specs.declared.table.Way.{Way}
 use Rattle.plan_types.specs.declared.call.Call.{Call}
-use Rattle.plan_types.specs.declared.call.Call.TheVariants.{Claim, Give, Yield, Take, Release, SetPose, Inquire, Stop, Resume}
+use Rattle.plan_types.specs.declared.call.Call.TheVariants.{Claim, Give, Yield, Take, Release, SetPose, Inquire, Stop, Resume, Advance}
 use Rattle.plan_types.specs.declared.answer.Answer.TheVariants.{Refused}
 use Rattle.plan_types.specs.declared.answer.Refusal.{Refusal}
 use Rattle.plan_types.specs.declared.answer.Refusal.TheVariants.{NotParty, NoPose}
-use Rattle.plan_types.specs.Table.{PlanTable, guest_of, host_of, is_party, no_zone, transfer_by, zone_count, zone_row}
+use Rattle.plan_types.specs.Table.{PlanTable, guest_of, has_end, host_of, is_party, no_zone, transfer_by, zone_count, zone_row}
 use Rattle.plan_rules.specs.declared.state.State.{State}
 use Rattle.plan_rules.specs.Causes.{is_cause}
 use Rattle.plan_rules.specs.RefusalLaws.{RefusalsTell}
@@ -99,3 +99,4 @@ are_theirs law t m (SetPose p) line may s k = (unless_cause law t s m (SetPose p
 are_theirs law t m (Inquire z) line may s k = absurd (impossible line)
 are_theirs law t m Stop line may s k = absurd (impossible line)
 are_theirs law t m Resume line may s k = absurd (impossible line)
+are_theirs law t m (Advance p) line may s k = (unless_cause law t s m (Advance p) NotParty k (denied (has_end t m p) may), unless_cause law t s m (Advance p) NoPose k impossible)

@@ -6,6 +6,7 @@ use Rattle.toml.specs.Data.{Members, member, no_members}
 use Rattle.plan_text.specs.Names.{Text}
 use Rattle.plan_document.specs.declared.fault.Key.{Key}
 use Rattle.plan_document.specs.declared.fault.Key.TheVariants.{Machine, Zone, Name, Places, Poses, Program, Gives}
+use Rattle.plan_document.specs.declared.fault.Key.TheVariants.{Sources, Sinks}
 use Rattle.plan_document.specs.declared.fault.Key.TheVariants.{AfterMoving, Host, Guest, Inward, Outward, Motor, Hazard}
 use Rattle.plan_document.specs.declared.fault.Key.TheVariants.{Holds, Stands, Full, Empty, Motors, Sensors}
 use Rattle.plan_document.specs.declared.fault.RowOf.{RowOf}
@@ -16,6 +17,8 @@ key_word Machine = codes "machine"
 key_word Zone = codes "zone"
 key_word Name = codes "name"
 key_word Places = codes "places"
+key_word Sources = codes "sources"
+key_word Sinks = codes "sinks"
 key_word Poses = codes "poses"
 key_word Sensors = codes "sensors"
 key_word Program = codes "program"
@@ -37,7 +40,7 @@ abbrev pub top_keys : List Key
 top_keys = Machine ∷ Zone ∷ Motor ∷ Hazard ∷ []
 
 abbrev pub machine_keys : List Key
-machine_keys = Name ∷ Places ∷ Poses ∷ Sensors ∷ Program ∷ []
+machine_keys = Name ∷ Places ∷ Sources ∷ Sinks ∷ Poses ∷ Sensors ∷ Program ∷ []
 
 abbrev pub pose_keys : List Key
 pose_keys = Name ∷ Gives ∷ AfterMoving ∷ []

@@ -2,7 +2,7 @@
 use Rattle.std.specs.Prelude.{◌≡◌, ◌≢◌, ◌<◌, ◌⊎◌, ℕ, Bool, Some, true, false, [], ◌∷◌, None, IsTrue}
 use Rattle.plan_types.specs.declared.call.Call.{Call}
 use Rattle.plan_types.specs.declared.call.Call.TheVariants.{Claim, Give, Yield, Take, Release, SetPose, Inquire, Stop}
-use Rattle.plan_types.specs.declared.call.Call.TheVariants.{Resume}
+use Rattle.plan_types.specs.declared.call.Call.TheVariants.{Resume, Advance}
 use Rattle.plan_types.specs.declared.answer.Answer.TheVariants.{Done, Refused}
 use Rattle.plan_types.specs.declared.answer.Refusal.TheVariants.{NotParty, NoPose}
 use Rattle.plan_types.specs.declared.posture.Posture.{Posture}
@@ -11,6 +11,7 @@ use Rattle.plan_types.specs.Table.{PlanTable, guest_of, host_of, machine_of, pla
 use Rattle.plan_types.specs.Table.{zone_count}
 use Rattle.plan_types.specs.Examples.{press_poses, way, zone}
 use Rattle.plan_rules.specs.declared.state.State.{State}
+use Rattle.plan_rules.specs.DoneLaws.{KeepsEnd}
 use Rattle.plan_rules.specs.Reply.{reply}
 use Rattle.plan_rules.specs.Sound.{IsSound}
 use Rattle.plan_document.specs.Saying.{may_be_done}
@@ -51,6 +52,8 @@ pub record LinesHaveReasons (t : PlanTable) (m : ℕ) : Type 0 where
   pub releases : (z : ℕ) → may_be_done t m (Release z) ≡ true → HasZone t m z
   pub gives : (z : ℕ) → may_be_done t m (Give z) ≡ true → GivesThrough t m z
   pub takes : (z : ℕ) → may_be_done t m (Take z) ≡ true → TakesThrough t m z
+  pub advances : (p : ℕ) → may_be_done t m (Advance p) ≡ true → KeepsEnd t m p
+  pub may_advance : (p : ℕ) → KeepsEnd t m p → may_be_done t m (Advance p) ≡ true
   pub poses : (p : ℕ) → may_be_done t m (SetPose p) ≡ true → (p < pose_count t) × (machine_of t p ≡ m)
   pub may_claim : (z : ℕ) → HasZone t m z → may_be_done t m (Claim z) ≡ true
   pub may_yield : (z : ℕ) → HasZone t m z → may_be_done t m (Yield z) ≡ true

@@ -1,5 +1,5 @@
 -- What it means that a plan is a document's, in examples: what each row must have, and what no plan may lack.
-use Rattle.std.specs.Prelude.{◌≡◌, ◌≢◌, ℕ, ◌<◌, List, [], ◌∷◌, ◌++◌, codes, get_or, length, map, replicate}
+use Rattle.std.specs.Prelude.{◌≡◌, ◌≢◌, ℕ, ◌<◌, List, [], ◌∷◌, ◌++◌, codes, get_or, length, map}
 use Rattle.std.specs.Prelude.{string_bytes, Some, None}
 use Rattle.plan_types.specs.declared.call.Call.{Call}
 use Rattle.plan_types.specs.declared.call.Call.TheVariants.{Claim, Give, Yield, Take, Release, SetPose}
@@ -28,7 +28,7 @@ use Rattle.plan_document.specs.NameLaws.{NamedPlansHaveWords, NamesAreWords}
 use Rattle.plan_document.specs.Names.{AreDistinct, AreNames, identifiers, names_in}
 use Rattle.plan_document.specs.Postures.{AreGiven, given}
 use Rattle.plan_document.specs.Saying.{IsCallOf, IsNamedPlanOf, IsPlanOf, IsPoseOf, IsProgramOf, IsWayOf, IsZoneOf}
-use Rattle.plan_document.specs.Saying.{calls_of}
+use Rattle.plan_document.specs.Saying.{calls_of, ends_in}
 use Rattle.plan_document.specs.WordExamples.{parked}
 
 -- ---- names
@@ -154,7 +154,7 @@ pub record PlansHaveRows (d : Document) (a b : MachineRow) (x y : ZoneRow) (n : 
   pub zone_names : n.zones ≡ string_bytes x.name ∷ string_bytes y.name ∷ []
   pub place_names : n.places ≡ map string_bytes a.places.items ++ map string_bytes b.places.items
   pub pose_names : n.poses ≡ names_in a.poses.items ++ names_in b.poses.items
-  pub keepers : n.plan.places ≡ replicate (length a.places.items) 0 ++ replicate (length b.places.items) 1
+  pub place_rows : n.plan.places ≡ ends_in 0 a ++ ends_in 1 b
   pub zones : (first second : PlanZone) → n.plan.zones ≡ first ∷ second ∷ []
       → IsZoneOf n.machines n.places x first × IsZoneOf n.machines n.places y second
   pub zone_lost : (zone : PlanZone) → n.plan.zones ≢ zone ∷ []

@@ -4,7 +4,7 @@ use Rattle.std.specs.Prelude.{String, string_bytes, Some, None, is_some, IsTrue}
 use Rattle.std.specs.declared.alloc.Global.{Global}
 use Rattle.plan_types.specs.declared.posture.Posture.{Posture}
 use Rattle.plan_types.specs.declared.table.Way.{Way}
-use Rattle.plan_types.specs.Table.{guest_of, host_of, keeper_of, machine_of, pose_row, posture_of, zone_row}
+use Rattle.plan_types.specs.Table.{guest_of, host_of, machine_of, place_row, pose_row, posture_of, zone_row}
 use Rattle.plan_motors.specs.declared.motor.Hazard.{Hazard}
 use Rattle.plan_motors.specs.declared.motor.Motor.{Motor}
 use Rattle.plan_motors.specs.Motor.{need_of, place_need}
@@ -21,7 +21,7 @@ use Rattle.plan_document.specs.declared.document.WayRow.{WayRow}
 use Rattle.plan_document.specs.declared.document.ZoneRow.{ZoneRow}
 use Rattle.plan_document.specs.declared.resolving.ProgrammedPlan.{ProgrammedPlan}
 use Rattle.plan_document.specs.Names.{pose_names}
-use Rattle.plan_document.specs.Saying.{IsNamedPlanOf, IsPlanOf}
+use Rattle.plan_document.specs.Saying.{IsNamedPlanOf, IsPlanOf, place_of}
 
 -- a list has an item with a number, from 0
 pub record StandsAt {A : Type 0} (items : List A) (number : ℕ) (one : A) : Type 0 where
@@ -32,12 +32,13 @@ pub record StandsAt {A : Type 0} (items : List A) (number : ℕ) (one : A) : Typ
 
 -- ---- places
 
--- a place that the row of a machine names has that machine as its keeper
+-- a place that the row of a machine names has that machine as its keeper, and is a source, or a sink, if the row lists
+-- it as one
 abbrev pub PlacesAreKept : Type 0
 PlacesAreKept =
     (d : Document) (n : Named) → IsNamedPlanOf d n → (machine : ℕ) (row : MachineRow)
     → StandsAt d.machines.items machine row → (nth : ℕ) (name : String Global) → StandsAt row.places.items nth name
-    → (place : ℕ) → number_in n.places (string_bytes name) ≡ Some place → keeper_of n.plan place ≡ machine
+    → (place : ℕ) → number_in n.places (string_bytes name) ≡ Some place → place_row n.plan place ≡ place_of machine row (string_bytes name)
 
 -- ---- zones
 

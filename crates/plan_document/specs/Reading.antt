@@ -89,6 +89,8 @@ pub record IsMachineIn (value : Data) (row : MachineRow) : Type 0 where
   pub keys : IsTrue (has_only machine_keys members)
   pub name : HasText (codes "name") members row.name
   pub places : HasTexts (codes "places") members row.places.items
+  pub sources : HasTexts (codes "sources") members row.sources.items
+  pub sinks : HasTexts (codes "sinks") members row.sinks.items
   pub poses : HasRows IsPoseIn (codes "poses") members row.poses.items
   pub sensors : HasTexts (codes "sensors") members row.sensors.items
   pub program : HasTexts (codes "program") members row.program.items

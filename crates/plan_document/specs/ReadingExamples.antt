@@ -57,6 +57,10 @@ pub record MachinesAreIn (members : Members) (row : MachineRow) : Type 0 where
   pub name : IsMachineIn (table members) row → get_member (codes "name") members ≡ Some (string (string_bytes row.name))
   pub places : IsMachineIn (table members) row
       → items_at (codes "places") members ≡ Some (map written row.places.items)
+  pub sources : IsMachineIn (table members) row
+      → items_at (codes "sources") members ≡ Some (map written row.sources.items)
+  pub sinks : IsMachineIn (table members) row
+      → items_at (codes "sinks") members ≡ Some (map written row.sinks.items)
   pub poses : IsMachineIn (table members) row → HasRows IsPoseIn (codes "poses") members row.poses.items
   pub sensors : IsMachineIn (table members) row
       → items_at (codes "sensors") members ≡ Some (map written row.sensors.items)

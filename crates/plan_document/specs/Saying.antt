@@ -1,20 +1,22 @@
 -- What a document says: which plan is its plan. A name stands for the number of its row.
-use Rattle.std.specs.Prelude.{◌≡◌, ◌≢◌, ◌⊎◌, ◌≤◌, ℕ, Bool, true, false, ◌||◌, not, nat_eq, List, ◌++◌, map, length}
-use Rattle.std.specs.Prelude.{replicate, codes, String, string_bytes, Option, Some, None, option_map, IsTrue, ⊤}
+use Rattle.std.specs.Prelude.{◌≡◌, ◌≢◌, ◌⊎◌, ◌≤◌, ℕ, Bool, true, false, ◌||◌, ◌&&◌, not, nat_eq, List, ◌++◌, map, length}
+use Rattle.std.specs.Prelude.{codes, String, string_bytes, Option, Some, None, option_map, IsTrue, ⊤}
 use Rattle.std.specs.Prelude.{slice_get, is_none, is_some, option_and_then}
 use Rattle.std.specs.declared.alloc.Global.{Global}
 use Rattle.std.specs.Bool.{then_some}
 use Rattle.std.specs.List.{AllZip, filter_map, flat_map, list_all, list_any, slice_split}
 use Rattle.std.specs.Option.{option_eq}
+use Rattle.std.specs.Str.{bytes_eq}
 use Rattle.plan_types.specs.declared.call.Call.{Call}
 use Rattle.plan_types.specs.declared.call.Call.TheVariants.{Claim, Give, Yield, Take, Release, Inquire, SetPose, Stop}
-use Rattle.plan_types.specs.declared.call.Call.TheVariants.{Resume}
+use Rattle.plan_types.specs.declared.call.Call.TheVariants.{Resume, Advance}
 use Rattle.plan_types.specs.declared.posture.Posture.TheVariants.{OpenIn, OpenOut}
 use Rattle.plan_types.specs.declared.table.Transfer.{Transfer}
 use Rattle.plan_types.specs.declared.table.Way.{Way}
 use Rattle.plan_types.specs.declared.table.PlanZone.{PlanZone}
 use Rattle.plan_types.specs.declared.table.PlanPose.{PlanPose}
-use Rattle.plan_types.specs.Table.{PlanTable, has_pose, is_party, plan_table, transfer_of}
+use Rattle.plan_types.specs.declared.table.PlanPlace.{PlanPlace}
+use Rattle.plan_types.specs.Table.{PlanTable, has_end, has_pose, is_party, transfer_of, whole_table}
 use Rattle.plan_motors.specs.declared.motor.Motor.{Motor}
 use Rattle.plan_drives.specs.Program.{has_bit}
 use Rattle.plan_controller.specs.declared.faults.Faults.{Faults}
@@ -67,9 +69,30 @@ pub record IsPoseOf (zones : List Text) (row : ℕ × PoseRow) (pose : PlanPose)
 
 -- ---- places
 
--- the machine that keeps each place: a machine's number for each place of its row
-abbrev pub keepers : List MachineRow → List ℕ
-keepers machines = flat_map (λ (machine, row). replicate (length row.places.items) machine) (numbered machines)
+-- a name is one of these
+abbrev pub is_listed : List (String Global) → Text → Bool
+is_listed names name = list_any (λ other. bytes_eq (string_bytes other) name) names
+
+-- a machine keeps the places of its row; those that it lists are sources, and sinks
+abbrev pub place_of : ℕ → MachineRow → Text → PlanPlace
+place_of machine row name = record {
+  keeper = machine;
+  source = is_listed row.sources.items name;
+  sink = is_listed row.sinks.items name;
+}
+
+abbrev pub ends_in : ℕ → MachineRow → List PlanPlace
+ends_in machine row = map (λ name. place_of machine row (string_bytes name)) row.places.items
+
+abbrev pub place_rows : List MachineRow → List PlanPlace
+place_rows machines = flat_map (λ (machine, row). ends_in machine row) (numbered machines)
+
+-- the sources and the sinks that a machine lists are places of it
+abbrev pub are_places : MachineRow → List (String Global) → Bool
+are_places row names = list_all (λ name. is_listed row.places.items (string_bytes name)) names
+
+abbrev pub has_ends : MachineRow → Bool
+has_ends row = are_places row row.sources.items && are_places row row.sinks.items
 
 -- ---- programs
 
@@ -106,6 +129,7 @@ may_be_done t machine (SetPose pose) = has_pose t machine pose
 may_be_done t machine (Inquire zone) = true
 may_be_done t machine Stop = true
 may_be_done t machine Resume = true
+may_be_done t machine (Advance place) = has_end t machine place
 
 -- what asks is a verb, but no inquiry, a blank and a name
 pub record IsCallOf (n : Named) (machine : ℕ) (line : Text) (call : Call) : Type 0 where
@@ -225,7 +249,8 @@ pub record IsNamedPlanOf (d : Document) (n : Named) : Type 0 where
   pub machines : n.plan.machines ≡ length d.machines.items
   pub zones : AllZip (IsZoneOf n.machines n.places) d.zones.items n.plan.zones
   pub poses : AllZip (IsPoseOf n.zones) (all_poses d.machines.items) n.plan.poses
-  pub places : n.plan.places ≡ keepers d.machines.items
+  pub places : n.plan.places ≡ place_rows d.machines.items
+  pub ends : IsTrue (list_all has_ends d.machines.items)
 
 -- the plan of a document, its motors and hazards, the sensors and the steps of each machine, and what it asks by them;
 -- no two sensors have one name for C
@@ -242,5 +267,6 @@ pub record IsPlanOf (d : Document) (p : ProgrammedPlan) : Type 0 where
 
 abbrev pub AreRowsOf : Document → Rows → Type 0
 AreRowsOf d rows =
-    let tables = plan_table (length rows.machines) rows.zone_rows.items rows.pose_rows.items rows.keepers.items in
+    let tables =
+    whole_table (length rows.machines) rows.zone_rows.items rows.pose_rows.items rows.place_rows.items in
     IsNamedPlanOf d (named tables rows.machines rows.zones rows.places rows.poses)

@@ -1,11 +1,11 @@
 -- Literal examples of words: keys, names, bytes that part words, and lines that may be.
-use Rattle.std.specs.Prelude.{◌≡◌, true, false, List, [], ◌∷◌, codes, filter, replicate, Some, None}
+use Rattle.std.specs.Prelude.{◌≡◌, true, false, List, [], ◌∷◌, codes, filter, map, replicate, Some, None}
 use Rattle.std.specs.List.{range_with_len}
 use Rattle.toml.specs.Data.{Members, member, no_members, string}
 use Rattle.plan_types.specs.Table.{plan_table}
-use Rattle.plan_types.specs.Examples.{lift_table, lift_zones, pose}
+use Rattle.plan_types.specs.Examples.{lift_table, lift_zones, pose, through_table}
 use Rattle.plan_types.specs.declared.call.Call.TheVariants.{Claim, Give, Yield, Take, Release, SetPose, Inquire, Stop}
-use Rattle.plan_types.specs.declared.call.Call.TheVariants.{Resume}
+use Rattle.plan_types.specs.declared.call.Call.TheVariants.{Resume, Advance}
 use Rattle.plan_text.specs.Names.{Text}
 use Rattle.plan_text.specs.Named.{Named, named}
 use Rattle.plan_text.specs.declared.calls.Verb.TheVariants as verbs
@@ -25,6 +25,8 @@ pub record KeysHaveWords : Type 0 where
   pub zone : key_word key.Zone ≡ codes "zone"
   pub name : key_word key.Name ≡ codes "name"
   pub places : key_word key.Places ≡ codes "places"
+  pub sources : key_word key.Sources ≡ codes "sources"
+  pub sinks : key_word key.Sinks ≡ codes "sinks"
   pub poses : key_word key.Poses ≡ codes "poses"
   pub sensors : key_word key.Sensors ≡ codes "sensors"
   pub program : key_word key.Program ≡ codes "program"
@@ -48,14 +50,16 @@ candidates =
     [] ∷ codes "after_moving" ∷ codes "empty" ∷ codes "full" ∷ codes "gives" ∷ codes "guest" ∷ codes "hazard"
     ∷ codes "holds" ∷ codes "host" ∷ codes "inward" ∷ codes "machine" ∷ codes "machines" ∷ codes "motor"
     ∷ codes "motors" ∷ codes "nam" ∷ codes "name" ∷ codes "Name" ∷ codes "outward" ∷ codes "places" ∷ codes "poses"
-    ∷ codes "program" ∷ codes "sensors" ∷ codes "stands" ∷ codes "zone" ∷ []
+    ∷ codes "program" ∷ codes "sensors" ∷ codes "sinks" ∷ codes "sources" ∷ codes "stands"
+    ∷ codes "zone" ∷ []
 
 -- the keys that a row may have
 pub record RowsHaveKeys : Type 0 where
   pub document : filter (is_word_of (keys_in row.Document)) candidates
       ≡ codes "hazard" ∷ codes "machine" ∷ codes "motor" ∷ codes "zone" ∷ []
   pub machine : filter (is_word_of (keys_in (row.Machine 3))) candidates
-      ≡ codes "name" ∷ codes "places" ∷ codes "poses" ∷ codes "program" ∷ codes "sensors" ∷ []
+      ≡ codes "name" ∷ codes "places" ∷ codes "poses" ∷ codes "program" ∷ codes "sensors" ∷ codes "sinks"
+      ∷ codes "sources" ∷ []
   pub pose : filter (is_word_of (keys_in (row.Pose 3 1))) candidates
       ≡ codes "after_moving" ∷ codes "gives" ∷ codes "name" ∷ []
   pub zone : filter (is_word_of (keys_in (row.Zone 3))) candidates
@@ -126,9 +130,11 @@ pub record OwnCalls : Type 0 where
   pub take : own_call parked 0 verbs.Take (codes "above") ≡ Some (Take 1)
   pub release : own_call parked 0 verbs.Release (codes "below") ≡ Some (Release 0)
   pub inquire : own_call parked 1 verbs.Inquire (codes "above") ≡ Some (Inquire 1)
+  pub advance : own_call parked 0 verbs.Advance (codes "attic") ≡ Some (Advance 2)
   pub no_zone : own_call parked 1 verbs.Claim (codes "ground") ≡ None
+  pub no_place : own_call parked 1 verbs.Advance (codes "below") ≡ None
 
--- the calls of a line that are about a zone or a pose
+-- the calls of a line that are about a zone, a pose or a place
 pub record LinesAreCalls : Type 0 where
   pub claim : is_line (Claim 1) ≡ true
   pub give : is_line (Give 1) ≡ true
@@ -136,6 +142,7 @@ pub record LinesAreCalls : Type 0 where
   pub take : is_line (Take 1) ≡ true
   pub release : is_line (Release 1) ≡ true
   pub pose : is_line (SetPose 1) ≡ true
+  pub advance : is_line (Advance 1) ≡ true
 
 -- lines about the second zone, which the upper floor shares with the lift; plates go through it both ways
 pub record LiftLines : Type 0 where
@@ -157,6 +164,9 @@ pub record LiftLines : Type 0 where
   pub last_pose : may_be_done lift_table 0 (SetPose 4) ≡ true
   pub no_pose : may_be_done lift_table 0 (SetPose 5) ≡ false
   pub floors_pose : may_be_done lift_table 2 (SetPose 4) ≡ false
+  -- the loader's hand is a source, its tray a sink, and the press's place neither
+  pub advances : map (λ p. may_be_done through_table 0 (Advance p)) (0 ∷ 1 ∷ 2 ∷ 3 ∷ []) ≡ true ∷ true ∷ false ∷ false ∷ []
+  pub press_advances : map (λ p. may_be_done through_table 1 (Advance p)) (0 ∷ 1 ∷ 2 ∷ []) ≡ false ∷ false ∷ false ∷ []
   -- anyone may look, and none of these is refused for whose it is
   pub inquires : may_be_done lift_table 2 (Inquire 0) ≡ true
   pub stops : may_be_done loaded 2 Stop ≡ true

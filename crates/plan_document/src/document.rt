@@ -27,6 +27,10 @@ pub struct MachineRow {
     pub name: String,
     /// The names of the places that it keeps.
     pub places: Vec<String>,
+    /// The names of those of its places to which plates come from outside.
+    pub sources: Vec<String>,
+    /// The names of those from which they go there.
+    pub sinks: Vec<String>,
     /// Its poses.
     pub poses: Vec<PoseRow>,
     /// The names of its sensors.

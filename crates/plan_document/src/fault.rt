@@ -39,6 +39,10 @@ pub enum Key {
     Name,
     /// `places`
     Places,
+    /// `sources`
+    Sources,
+    /// `sinks`
+    Sinks,
     /// `poses`
     Poses,
     /// `sensors`
@@ -83,6 +87,8 @@ impl Key {
             Key::Zone => "zone",
             Key::Name => "name",
             Key::Places => "places",
+            Key::Sources => "sources",
+            Key::Sinks => "sinks",
             Key::Poses => "poses",
             Key::Sensors => "sensors",
             Key::Program => "program",
@@ -106,9 +112,11 @@ impl Key {
 /// The keys of a document's top, of a machine, of a pose, of a zone, of a motor and of a hazard.
 const TOP_KEYS: [Key; 4] = [Key::Machine, Key::Zone, Key::Motor, Key::Hazard];
 
-const MACHINE_KEYS: [Key; 5] = [
+const MACHINE_KEYS: [Key; 7] = [
     Key::Name,
     Key::Places,
+    Key::Sources,
+    Key::Sinks,
     Key::Poses,
     Key::Sensors,
     Key::Program,
@@ -163,6 +171,8 @@ pub enum Never {
     TakesNothing,
     /// The machine has no such pose.
     NoPose,
+    /// The place isn't the machine's, or it is neither a source nor a sink.
+    NoEnd,
 }
 
 impl Never {
@@ -173,6 +183,7 @@ impl Never {
             Never::GivesNothing => " is never done: the machine gives no plates through the zone",
             Never::TakesNothing => " is never done: the machine takes no plates through the zone",
             Never::NoPose => " is never done: the machine has no such pose",
+            Never::NoEnd => " is never done: the place is no source and no sink of the machine",
         }
     }
 }

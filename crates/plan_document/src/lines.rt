@@ -241,6 +241,7 @@ fn never(plan: &Plan, machine: u8, call: Call) -> Option<Never>
         Call::Give(zone) => (!gives_plates(plan, machine, zone)).then_some(Never::GivesNothing),
         Call::Take(zone) => (!takes_plates(plan, machine, zone)).then_some(Never::TakesNothing),
         Call::SetPose(pose) => (!plan.has_pose(machine, pose)).then_some(Never::NoPose),
+        Call::Advance(place) => (!plan.has_end(machine, place)).then_some(Never::NoEnd),
         Call::Inquire(_) | Call::Stop | Call::Resume => None,
     }
 }
@@ -279,12 +280,12 @@ fn is_to(machine: u8, way: Option<Transfer>) -> bool
     }
 }
 
-/// What is wrong with a name that no zone has, or no pose of the machine.
+/// What is wrong with a name that no zone has, no place, or no pose of the machine.
 fn unknown(verb: Verb) -> WrongText {
-    if verb == Verb::Pose {
-        WrongText::NoPose
-    } else {
-        WrongText::NoZone
+    match verb {
+        Verb::Pose => WrongText::NoPose,
+        Verb::Advance => WrongText::NoPlace,
+        _ => WrongText::NoZone,
     }
 }
 

@@ -108,7 +108,7 @@ fn named_plan_of(alloc: Global, document: &Document) -> Result<NamedPlan, PlanTe
         machines: rows.machines.len() as u8,
         zones: rows.zone_rows,
         poses: rows.pose_rows,
-        places: rows.keepers,
+        places: rows.place_rows,
     };
     match Plan::new(tables) {
         Ok(plan) => Ok(NamedPlan::new(plan, rows.machines, rows.zones, rows.places, rows.poses)),

@@ -81,12 +81,16 @@ impl RowKind for Machines {
         check_keys(alloc, table, at)?;
         let name = text_at(alloc, table, at, Key::Name)?;
         let places = texts_at(alloc, table, at, Key::Places)?;
+        let sources = texts_at(alloc, table, at, Key::Sources)?;
+        let sinks = texts_at(alloc, table, at, Key::Sinks)?;
         let poses = rows_at(alloc, table, at, Key::Poses, PosesOf { machine: number })?;
         let sensors = texts_at(alloc, table, at, Key::Sensors)?;
         let program = texts_at(alloc, table, at, Key::Program)?;
         Ok(MachineRow {
             name,
             places,
+            sources,
+            sinks,
             poses,
             sensors,
             program,

@@ -1,5 +1,5 @@
 //! From the names in a document's rows to numbers: the tables of a plan.
-ghost use Rattle.std.specs.Prelude.{◌≡◌, ◌++◌, ◌∷◌, ℕ, List, [], Some, None, length, replicate};
+ghost use Rattle.std.specs.Prelude.{◌≡◌, ◌++◌, ◌∷◌, ℕ, List, [], Some, None, length};
 ghost use Rattle.std.specs.Prelude.{◌<◌, IsTrue, OnOk, IfOk, string_bytes};
 ghost use Rattle.std.specs.List.{AllZip, list_all};
 ghost use Rattle.plan_text.specs.Names as spec;
@@ -19,7 +19,7 @@ use plan_text::names::{is_name, is_reserved};
 use plan_text::words::posture_in;
 use plan_text::{MAX_NAMES, Names};
 use plan_types::{
-    MAX_MACHINES, MAX_PLACES, MAX_POSES, MAX_ZONES, PlanPose, PlanZone, Posture, Way,
+    MAX_MACHINES, MAX_PLACES, MAX_POSES, MAX_ZONES, PlanPlace, PlanPose, PlanZone, Posture, Way,
 };
 use std::alloc::{AllocError, Global};
 
@@ -28,8 +28,7 @@ use std::alloc::{AllocError, Global};
 pub struct Rows {
     pub machines: Names,
     pub places: Names,
-    /// The machine that keeps each place.
-    pub keepers: Vec<u8>,
+    pub place_rows: Vec<PlanPlace>,
     pub zones: Names,
     pub zone_rows: Vec<PlanZone>,
     pub poses: Names,
@@ -45,7 +44,7 @@ pub fn rows_of(alloc: Global, document: &Document) -> Result<Rows, DocumentFault
     let mut rows = Rows {
         machines: Names::new(alloc),
         places: Names::new(alloc),
-        keepers: Vec::new(alloc),
+        place_rows: Vec::new(alloc),
         zones: Names::new(alloc),
         zone_rows: Vec::new(alloc),
         poses: Names::new(alloc),
@@ -60,7 +59,7 @@ pub fn rows_of(alloc: Global, document: &Document) -> Result<Rows, DocumentFault
 fn add_rows(alloc: Global, document: &Document, rows: &mut Rows) -> Result<(), DocumentFault>
     requires machines { rows.old.machines ≡ [] }
     requires places { rows.old.places ≡ [] }
-    requires keepers { rows.old.keepers.items ≡ [] }
+    requires place_rows { rows.old.place_rows.items ≡ [] }
     requires zones { rows.old.zones ≡ [] }
     requires zone_rows { rows.old.zone_rows.items ≡ [] }
     requires poses { rows.old.poses ≡ [] }
@@ -73,8 +72,9 @@ fn add_rows(alloc: Global, document: &Document, rows: &mut Rows) -> Result<(), D
         alloc,
         &document.machines,
         &mut rows.places,
-        &mut rows.keepers,
+        &mut rows.place_rows,
     )?;
+    check_ends(alloc, &document.machines)?;
     add_zone_names(alloc, &document.zones, &mut rows.zones)?;
     add_zone_rows(
         alloc,
@@ -193,22 +193,106 @@ fn add_zone_names(alloc: Global, zones: &[ZoneRow], names: &mut Names) -> Result
     Ok(())
 }
 
+/// Whether a name is one of these.
+fn is_listed(names: &[String], name: &str) -> bool
+    ensures { result ≡ saying.is_listed names.now name.now }
+{
+    names.iter().any(|other| other.as_str() == name)
+}
+
+/// The place of a machine with a name.
+fn place_of(row: &MachineRow, keeper: u8, name: &str) -> PlanPlace
+    ensures { result ≡ saying.place_of keeper row.now name.now }
+{
+    PlanPlace {
+        keeper,
+        source: is_listed(&row.sources, name),
+        sink: is_listed(&row.sinks, name),
+    }
+}
+
+fn are_places(row: &MachineRow, names: &[String]) -> bool
+    ensures { result ≡ saying.are_places row.now names.now }
+{
+    names
+        .iter()
+        .all(|name| is_listed(&row.places, name.as_str()))
+}
+
+/// Whether the sources and sinks of a machine are places of it.
+fn has_ends(row: &MachineRow) -> bool
+    ensures { result ≡ saying.has_ends row.now }
+{
+    are_places(row, &row.sources) && are_places(row, &row.sinks)
+}
+
+fn have_ends(machines: &[MachineRow]) -> bool
+    ensures { result ≡ list_all saying.has_ends machines.now }
+{
+    machines.iter().all(|row| has_ends(row))
+}
+
+/// Refuses a source or a sink that is no place of its machine.
+fn check_ends(alloc: Global, machines: &[MachineRow]) -> Result<(), DocumentFault>
+    ensures { OnOk result (IsTrue (list_all saying.has_ends machines.now)) }
+{
+    if have_ends(machines) {
+        Ok(())
+    } else {
+        Err(unknown_end(alloc, machines))
+    }
+}
+
+/// The fault of the first source or sink that is no place of its machine.
+fn unknown_end(alloc: Global, machines: &[MachineRow]) -> DocumentFault {
+    for i in 0..machines.len() {
+        let row = &machines[i];
+        let at = RowOf::Machine(i);
+        if let Some(fault) = unknown_in(alloc, row, &row.sources, at, Key::Sources) {
+            return fault;
+        }
+        if let Some(fault) = unknown_in(alloc, row, &row.sinks, at, Key::Sinks) {
+            return fault;
+        }
+    }
+    RowOf::Document.whole().fault(Wrong::Missing)
+}
+
+fn unknown_in(
+    alloc: Global,
+    row: &MachineRow,
+    names: &[String],
+    at: RowOf,
+    key: Key,
+) -> Option<DocumentFault> {
+    for item in 0..names.len() {
+        let name = names[item].as_str();
+        if !is_listed(&row.places, name) {
+            return Some(
+                at.item(key, item)
+                    .text_fault(alloc, WrongText::NotKept, name),
+            );
+        }
+    }
+    None
+}
+
 /// Adds the places of all machines.
 fn add_all_places(
     alloc: Global,
     machines: &[MachineRow],
     names: &mut Names,
-    keepers: &mut Vec<u8>,
+    rows: &mut Vec<PlanPlace>,
 ) -> Result<(), DocumentFault>
     requires names { names.old ≡ [] }
-    requires keepers { keepers.old.items ≡ [] }
+    requires rows { rows.old.items ≡ [] }
     ensures names { OnOk result (names.new ≡ place_names machines.now) }
     ensures spelled { OnOk result (AreNames names.new) }
     ensures distinct { OnOk result (AreDistinct names.new) }
-    ensures keepers { OnOk result (keepers.new.items ≡ saying.keepers machines.now) }
+    ensures rows { OnOk result (rows.new.items ≡ saying.place_rows machines.now) }
 {
     for i in 0..machines.len() {
-        add_places(alloc, &machines[i], i, names, keepers)?;
+        add_places(alloc, &machines[i], i, names, rows)?;
     }
     Ok(())
 }
@@ -219,13 +303,12 @@ fn add_places(
     row: &MachineRow,
     machine: usize,
     names: &mut Names,
-    keepers: &mut Vec<u8>,
+    rows: &mut Vec<PlanPlace>,
 ) -> Result<(), DocumentFault>
     ensures names { OnOk result (names.new ≡ names.old ++ places_in row.now) }
     ensures spelled { OnOk result (AreNames names.old → AreNames names.new) }
     ensures distinct { OnOk result (AreDistinct names.old → AreDistinct names.new) }
-    ensures keepers { OnOk result (keepers.new.items
-        ≡ keepers.old.items ++ replicate (length row.now.places.items) machine) }
+    ensures rows { OnOk result (rows.new.items ≡ rows.old.items ++ saying.ends_in machine row.now) }
 {
     let row_at = RowOf::Machine(machine);
     let keeper = number_of(machine, row_at.key(Key::Places))?;
@@ -238,7 +321,7 @@ fn add_places(
             MAX_PLACES,
             row_at.item(Key::Places, item),
         )?;
-        keepers.push(keeper)?;
+        rows.push(place_of(row, keeper, name))?;
     }
     Ok(())
 }

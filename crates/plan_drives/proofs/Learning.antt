@@ -9,10 +9,10 @@ use Rattle.plan_types.specs.declared.posture.Posture.TheVariants.{Closed, Moving
 use Rattle.plan_types.specs.declared.table.Way.{Way}
 use Rattle.plan_types.specs.declared.table.Transfer.{Transfer}
 use Rattle.plan_types.specs.declared.call.Call.{Call}
-use Rattle.plan_types.specs.declared.call.Call.TheVariants.{Claim, Give, Yield, Take, Release, SetPose, Inquire, Stop, Resume}
+use Rattle.plan_types.specs.declared.call.Call.TheVariants.{Claim, Give, Yield, Take, Release, SetPose, Inquire, Stop, Resume, Advance}
 use Rattle.plan_types.specs.declared.answer.Answer.TheVariants.{Done}
 use Rattle.plan_types.specs.Same.{same_posture}
-use Rattle.plan_types.specs.Table.{guest_of, PlanTable, zone_count, place_count, host_of, keeper_of, zone_row, posture_of, is_hosted, is_place_of, is_moving_pose, transfer_of, transfer_by}
+use Rattle.plan_types.specs.Table.{guest_of, PlanTable, zone_count, place_count, host_of, keeper_of, zone_row, posture_of, is_hosted, is_place_of, is_moving_pose, transfer_of, transfer_by, is_source, is_sink}
 use Rattle.plan_types.specs.Plan.{IsPlan}
 use Rattle.plan_rules.specs.declared.state.ZoneState.{ZoneState}
 use Rattle.plan_rules.specs.declared.state.State.{State}
@@ -22,13 +22,14 @@ use Rattle.plan_rules.specs.Refusals.{owns}
 use Rattle.plan_rules.specs.Reply.{reply, changed, other_party, emptied, filled}
 use Rattle.plan_rules.proofs.lemmas.Puts.{put_cases, nat_eq-self, nat_eq-apart}
 use Rattle.plan_rules.proofs.lemmas.Zones.{some_is, gives_way, implied}
-use Rattle.plan_rules.proofs.lemmas.DoneCalls.{claim_done, give_done, yield_done, take_done, release_done, pose_done}
+use Rattle.plan_rules.proofs.lemmas.DoneCalls.{claim_done, give_done, yield_done, take_done, release_done, pose_done, advance_done}
+use Rattle.plan_rules.proofs.lemmas.Advancing.{comes, goes}
 use Rattle.plan_rules.proofs.lemmas.Ways.{way_leads}
 use Rattle.plan_rules.proofs.lemmas.Soundness.{done_none, never_done, in_ten, in_sixteen, plate_comes, zone_after_pose}
 use Rattle.plan_motors.specs.declared.motor.ZoneNeed.{ZoneNeed}
 use Rattle.plan_motors.specs.declared.motor.Motor.{Motor}
 use Rattle.plan_motors.specs.Motor.{no_need, need_of, place_need, has_posture, meets, meets_place}
-use Rattle.plan_drives.specs.Facts.{OpensByPoses, some_gives, one_way, posture_owned, no_facts, way_given, way_taken, posture_taken, zone_owned, zone_left, zone_given, zone_taken, zone_posed, zone_facts, begins_at, ends_at, place_facts, facts_after}
+use Rattle.plan_drives.specs.Facts.{OpensByPoses, some_gives, one_way, posture_owned, no_facts, way_given, way_taken, posture_taken, zone_owned, zone_left, zone_given, zone_taken, zone_posed, zone_facts, begins_at, ends_at, place_turned, place_facts, facts_after}
 
 -- a zone whose posture is known is held or hosted
 abbrev IsKept : PlanTable → ℕ → ZoneNeed → ℕ → Type 0
@@ -240,6 +241,7 @@ zones_learned t s f (SetPose q) p k opens known e = λ z l.
 zones_learned t s f (Inquire y) p k opens known e = never_done t s f.machine y e
 zones_learned t s f Stop p k opens known e = known.zones
 zones_learned t s f Resume p k opens known e = known.zones
+zones_learned t s f (Advance y) p k opens known e = known.zones
 
 -- ---- and of places
 
@@ -256,6 +258,21 @@ place_set t s f y b tells same l others q m =
     meets_itself : (c : Bool) → IsTrue (meets_place (Some c) c)
     meets_itself true = refl
     meets_itself false = refl
+
+-- a place that was filled is a source, and one that was emptied a sink
+meets_turned : (source sink : Bool) (known : Option Bool) (full : Bool) → (full ≡ false → source ≡ true) → (full ≡ true → sink ≡ true) → IsTrue (meets_place known full)
+    → IsTrue (meets_place (place_turned source sink known) (not full))
+meets_turned true true None full g h k = refl
+meets_turned true true (Some true) true g h k = refl
+meets_turned true true (Some true) false g h k = cc
+meets_turned true true (Some false) true g h k = cc
+meets_turned true true (Some false) false g h k = refl
+meets_turned true false known true g h k = let e : false ≡ true = h refl in cc
+meets_turned true false known false g h k = refl
+meets_turned false true known true g h k = refl
+meets_turned false true known false g h k = let e : false ≡ true = g refl in cc
+meets_turned false false known true g h k = let e : false ≡ true = h refl in cc
+meets_turned false false known false g h k = let e : false ≡ true = g refl in cc
 
 places_learned : (t : PlanTable) (s : State) (f : Motor) (c : Call) → IsPlan t → IsSound t s → Knows t s f → reply t s f.machine c ≡ Done
     → (q : ℕ) → q < place_count t → IsTrue (meets_place (place_facts t f c q) (is_full (changed t s f.machine c) q))
@@ -276,6 +293,15 @@ places_learned t s f (Take y) p k known e = λ q m.
     let way = takes_way t f.machine y (posture_at s y) comes.way (p.host_is_not_guest y l) comes.is mine in
     subst (λ o. IsTrue (meets_place (place_facts t f (Take y) q) (get_or (filled s.full o) q false))) (sym comes.is)
     (place_set t s f comes.way.to true (ends_at (way_taken t f.machine y)) way.ends (in_sixteen t s comes.way.to p k leads.to) known.places q m)
+places_learned t s f (Advance y) p k known e = λ q m.
+    let d = advance_done t s f.machine y (done_none _ _ e) in
+    let turned : ℕ → Option Bool = λ z. place_turned (is_source t y) (is_sink t y) (place_need f z) in
+    let full = not (is_full s y) in
+    let here = meets_turned (is_source t y) (is_sink t y) (place_need f y) (is_full s y) (λ none. (comes t s f.machine y d none).0) (λ some. goes t s f.machine y d some) (known.places y d.there) in
+    put_cases (λ z u. z < place_count t → IsTrue (meets_place (if nat_eq y z then turned z else place_need f z) u)) s.full full false y (in_sixteen t s y p k d.there)
+    (λ _. subst (λ x. IsTrue (meets_place (if x then turned y else place_need f y) full)) (sym (nat_eq-self y)) here)
+    (λ z ne n. subst (λ x. IsTrue (meets_place (if x then turned z else place_need f z) (is_full s z))) (sym (nat_eq-apart y z (λ e. ne (sym e)))) (known.places z n))
+    q m
 places_learned t s f (Inquire y) p k known e = never_done t s f.machine y e
 places_learned t s f _ p k known e = known.places
 
@@ -320,6 +346,7 @@ zones_kept t s f (SetPose q) p known e = λ z l.
 zones_kept t s f (Inquire y) p known e = known.kept
 zones_kept t s f Stop p known e = known.kept
 zones_kept t s f Resume p known e = known.kept
+zones_kept t s f (Advance y) p known e = known.kept
 
 place_kept : (t : PlanTable) (f : Motor) (y : ℕ) (b : Bool) (tells : Bool) (q : ℕ) → tells ≡ nat_eq y q → y < place_count t → keeper_of t y ≡ f.machine
     → (is_some (place_need f q) ≡ true → is_place_of t q f.machine ≡ true) → is_some (if tells then Some b else place_need f q) ≡ true → is_place_of t q f.machine ≡ true
@@ -327,6 +354,13 @@ place_kept t f y b true q same l mine old some =
     let is : y ≡ q = eqb-true y q (sym same) in
     subst (λ x. is_place_of t x f.machine ≡ true) is (rw (lt-ltb y (place_count t) l, eq-eqb (keeper_of t y) f.machine mine) refl)
 place_kept t f y b false q same l mine old some = old some
+
+advanced_own : (t : PlanTable) (f : Motor) (y : ℕ) (o : Option Bool) (tells : Bool) (q : ℕ) → tells ≡ nat_eq y q → y < place_count t → keeper_of t y ≡ f.machine
+    → (is_some (place_need f q) ≡ true → is_place_of t q f.machine ≡ true) → is_some (if tells then o else place_need f q) ≡ true → is_place_of t q f.machine ≡ true
+advanced_own t f y o true q same l mine old some =
+    let is : y ≡ q = eqb-true y q (sym same) in
+    subst (λ x. is_place_of t x f.machine ≡ true) is (rw (lt-ltb y (place_count t) l, eq-eqb (keeper_of t y) f.machine mine) refl)
+advanced_own t f y o false q same l mine old some = old some
 
 places_own : (t : PlanTable) (s : State) (f : Motor) (c : Call) → IsPlan t → IsSound t s → Knows t s f → reply t s f.machine c ≡ Done
     → (q : ℕ) → q < place_count t → is_some (place_facts t f c q) ≡ true → is_place_of t q f.machine ≡ true
@@ -345,6 +379,9 @@ places_own t s f (Take y) p k known e = λ q m.
     let mine : comes.way.receiver ≡ f.machine = ap (λ o. unwrap_or o f.machine) (sym comes.receiver ∙ d.holder.owner) in
     let way = takes_way t f.machine y (posture_at s y) comes.way (p.host_is_not_guest y l) comes.is mine in
     place_kept t f comes.way.to true (ends_at (way_taken t f.machine y) q) q (way.ends q) leads.to (leads.to_receiver ∙ mine) (known.own q m)
+places_own t s f (Advance y) p k known e = λ q m.
+    let d = advance_done t s f.machine y (done_none _ _ e) in
+    advanced_own t f y (place_turned (is_source t y) (is_sink t y) (place_need f q)) (nat_eq y q) q refl d.there d.keeper (known.own q m)
 places_own t s f _ p k known e = known.own
 
 -- ---- after a done call of its own the machine knows what it has learned

@@ -1,12 +1,14 @@
 -- Literal calls at the press and at the lift, and what they tell; programs that run only what they may; and others,
 -- with what their first motor lacks that may not run.
-use Rattle.std.specs.Prelude.{◌≡◌, ℕ, true, false, List, [], ◌∷◌, ◌++◌, Some, None}
+use Rattle.std.specs.Prelude.{◌≡◌, ℕ, true, false, map, List, [], ◌∷◌, ◌++◌, Some, None}
 use Rattle.plan_types.specs.declared.posture.Posture.TheVariants.{Closed, Moving, OpenIn, OpenOut}
 use Rattle.plan_types.specs.declared.call.Call.TheVariants.{Claim, Give, Yield, Take, Release, SetPose, Inquire, Stop}
+use Rattle.plan_types.specs.declared.call.Call.TheVariants.{Advance}
 use Rattle.plan_types.specs.declared.answer.Refusal.TheVariants.{Held, Shut}
 use Rattle.plan_types.specs.declared.answer.Answer.TheVariants.{Shown}
 use Rattle.plan_types.specs.declared.answer.Event.{Event}
 use Rattle.plan_types.specs.Examples.{way, zone, pose, two_at, press_table, lift_table}
+use Rattle.plan_types.specs.Examples.{open_press_table, through_table}
 use Rattle.plan_types.specs.Table.{PlanTable}
 use Rattle.plan_rules.specs.Examples.{event, did, refused, press_start}
 use Rattle.plan_rules.specs.History.{after}
@@ -63,6 +65,12 @@ pub record FactsAreRight : Type 0 where
   pub asks : need_of (knows 1 (Do (Claim 0) ∷ Do (Inquire 0) ∷ Do Stop ∷ Run 1 ∷ [])) 0 ≡ held None
   -- a call about one zone, or one place, tells nothing of another one
   pub other_zone : zone_facts lift_table (no_facts 0) (Claim 1) 0 ≡ no_need
+  -- what the loader knows of its hand, a source, of its tray, a sink, and of a place that is both
+  pub advanced : map (place_facts through_table (no_facts 0) (Advance 0)) (0 ∷ 1 ∷ 2 ∷ []) ≡ Some true ∷ None ∷ None ∷ []
+  pub emptied : map (place_facts through_table (no_facts 0) (Advance 1)) (0 ∷ 1 ∷ 2 ∷ []) ≡ None ∷ Some false ∷ None ∷ []
+  pub both_unknown : place_facts open_press_table (no_facts 0) (Advance 0) 0 ≡ None
+  pub both_known : map (λ known. place_facts open_press_table (record (no_facts 0) { places = known ∷ [] }) (Advance 0) 0)
+      (Some true ∷ Some false ∷ []) ≡ Some false ∷ Some true ∷ []
   pub other_place : place_facts lift_table (no_facts 0) (Take 1) 1 ≡ None
   pub both_move : zone_facts lift_table (no_facts 0) (SetPose 0) 1 ≡ held (Some Moving)
 

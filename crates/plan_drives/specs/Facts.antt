@@ -1,7 +1,7 @@
 -- What a machine knows by its own done calls, and by owning what it waited for, whatever the others do. It is written
 -- as a motor: what this motor needs is so.
-use Rattle.std.specs.Prelude.{ℕ, ◌<◌, IsTrue, Bool, true, false, ◌&&◌, ◌||◌, nat_eq, map, replicate, List, [], ◌∷◌}
-use Rattle.std.specs.Prelude.{take, Option, Some, None, if◌then◌else◌}
+use Rattle.std.specs.Prelude.{ℕ, ◌<◌, IsTrue, Bool, true, false, ◌&&◌, ◌||◌, not, nat_eq, map, replicate, List, [], ◌∷◌}
+use Rattle.std.specs.Prelude.{take, Option, Some, None, option_map, if◌then◌else◌}
 use Rattle.std.specs.Option.{option_or, option_eq}
 use Rattle.std.specs.List.{range_with_len}
 use Rattle.plan_types.specs.declared.posture.Posture.{Posture}
@@ -10,9 +10,9 @@ use Rattle.plan_types.specs.declared.table.Way.{Way}
 use Rattle.plan_types.specs.Same.{same_posture}
 use Rattle.plan_types.specs.Below.{any_below}
 use Rattle.plan_types.specs.declared.call.Call.{Call}
-use Rattle.plan_types.specs.declared.call.Call.TheVariants.{Claim, Give, Yield, Take, Release, SetPose}
+use Rattle.plan_types.specs.declared.call.Call.TheVariants.{Claim, Give, Yield, Take, Release, SetPose, Advance}
 use Rattle.plan_types.specs.Table.{PlanTable, zone_count, pose_count, zone_row, host_of, guest_of, posture_of}
-use Rattle.plan_types.specs.Table.{is_hosted, is_moving_pose}
+use Rattle.plan_types.specs.Table.{is_hosted, is_moving_pose, is_source, is_sink}
 use Rattle.plan_rules.specs.declared.state.State.{State}
 use Rattle.plan_rules.specs.State.{posture_at}
 use Rattle.plan_rules.specs.Sound.{is_open}
@@ -95,10 +95,18 @@ abbrev pub ends_at : Option Way → ℕ → Bool
 ends_at None p = false
 ends_at (Some way) p = nat_eq way.to p
 
+-- a place that was advanced: a source is full, a sink is empty, and one that is both is what it wasn't before
+abbrev pub place_turned : Bool → Bool → Option Bool → Option Bool
+place_turned true false known = Some true
+place_turned false true known = Some false
+place_turned _ _ known = option_map not known
+
 -- the place from which a plate was given is empty, and the one to which it was taken is full
 abbrev pub place_facts : PlanTable → Motor → Call → ℕ → Option Bool
 place_facts t f (Give y) p = if begins_at (way_given t f.machine y) p then Some false else place_need f p
 place_facts t f (Take y) p = if ends_at (way_taken t f.machine y) p then Some true else place_need f p
+place_facts t f (Advance y) p =
+    if nat_eq y p then place_turned (is_source t y) (is_sink t y) (place_need f p) else place_need f p
 place_facts t f _ p = place_need f p
 
 -- ---- what is known after a done call, after a line, and at a line

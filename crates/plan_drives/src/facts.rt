@@ -187,6 +187,17 @@ fn ends_at(way: Option<Way>, place: u8) -> bool
     }
 }
 
+/// What a machine knows of a place that it has advanced.
+fn place_turned(source: bool, sink: bool, known: Option<bool>) -> Option<bool>
+    ensures { result ≡ facts.place_turned source sink known }
+{
+    match (source, sink) {
+        (true, false) => Some(true),
+        (false, true) => Some(false),
+        _ => known.map(|full| !full),
+    }
+}
+
 /// What a machine knows of a place after a done call.
 fn place_facts(plan: &Plan, known: &Motor, call: Call, place: u8) -> Option<bool>
     ensures { result ≡ facts.place_facts plan.now known.now call place }
@@ -206,6 +217,10 @@ fn place_facts(plan: &Plan, known: &Motor, call: Call, place: u8) -> Option<bool
             } else {
                 before
             }
+        }
+        Call::Advance(own) if own == place => {
+            let row = plan.place(own);
+            place_turned(row.source, row.sink, before)
         }
         _ => before,
     }

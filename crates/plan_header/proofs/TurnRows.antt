@@ -44,6 +44,7 @@ turns-tell = record {
   lists = record { kinds = λ n motors. refl };
   words = record {
     zone = λ n k. refl;
+    place = λ n k. refl;
     pose = λ n k. refl;
     sensor = λ n sensors machine k. refl;
     named = λ n sensors machine k. refl;
@@ -60,6 +61,7 @@ turns-tell = record {
     inquire = λ z f. refl;
     stop = λ f. refl;
     resume = λ f. refl;
+    advance = λ p f. refl;
     await = λ z. refl;
     run = λ motors until. refl;
   };

@@ -1,7 +1,7 @@
 -- What `plan header` prints for turns, whole: of a lift between two floors.
 use Rattle.std.specs.Prelude.{◌≡◌, true, List, [], ◌∷◌, ◌++◌, codes}
 use Rattle.plan_types.specs.declared.call.Call.TheVariants.{Claim, Give, Yield, Take, Release, SetPose, Inquire, Stop}
-use Rattle.plan_types.specs.declared.call.Call.TheVariants.{Resume}
+use Rattle.plan_types.specs.declared.call.Call.TheVariants.{Resume, Advance}
 use Rattle.plan_controller.specs.declared.faults.Faults.{Faults}
 use Rattle.plan_controller.specs.declared.step.Step.{Step}
 use Rattle.plan_controller.specs.declared.step.Step.TheVariants.{Do, Await, Run}
@@ -70,11 +70,12 @@ pub record TurnLines : Type 0 where
   -- the remaining kinds; a pose has the name of its own machine
   pub rows : turns.step_rows presses [] 0
       (Do (Yield 0) no_faults ∷ Do (Inquire 1) no_faults ∷ Do Stop no_faults ∷ Do Resume no_faults
-      ∷ Do (SetPose 3) (record no_faults { held = true }) ∷ [])
+      ∷ Do (SetPose 3) (record no_faults { held = true }) ∷ Do (Advance 2) no_faults ∷ [])
       ≡ codes "    {0, BAGUNJOKI_PLAN_YIELD, PLAN_ZONE_NEAR, 0, 0},\n"
       ++ codes "    {0, BAGUNJOKI_PLAN_INQUIRE, PLAN_ZONE_FAR, 0, 0},\n"
       ++ codes "    {0, BAGUNJOKI_PLAN_STOP, 0, 0, 0},\n    {0, BAGUNJOKI_PLAN_RESUME, 0, 0, 0},\n"
       ++ codes "    {0, BAGUNJOKI_PLAN_SET_POSE, PLAN_POSE_RIGHT_RIGHT_OPEN, 0, 1 << BAGUNJOKI_PLAN_HELD},\n"
+      ++ codes "    {0, BAGUNJOKI_PLAN_ADVANCE, PLAN_PLACE_RIGHT_BED, 0, 0},\n"
   -- each fault by its answer, one after the other
   pub faults : turns.faults_word all_faults
       ≡ codes "1 << BAGUNJOKI_PLAN_HELD | 1 << BAGUNJOKI_PLAN_SHUT | 1 << BAGUNJOKI_PLAN_NOT_OWNER"

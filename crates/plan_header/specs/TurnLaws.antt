@@ -3,7 +3,7 @@
 use Rattle.std.specs.Prelude.{◌≡◌, ℕ, true, false, List, [], ◌∷◌, ◌++◌, codes, filter, get_or, length}
 use Rattle.std.specs.Fmt.{decimal}
 use Rattle.plan_types.specs.declared.call.Call.TheVariants.{Claim, Give, Yield, Take, Release, SetPose, Inquire, Stop}
-use Rattle.plan_types.specs.declared.call.Call.TheVariants.{Resume}
+use Rattle.plan_types.specs.declared.call.Call.TheVariants.{Resume, Advance}
 use Rattle.plan_controller.specs.declared.faults.Faults.{Faults}
 use Rattle.plan_controller.specs.declared.faults.Mendable.{Mendable}
 use Rattle.plan_controller.specs.declared.step.Step.{Step}
@@ -43,6 +43,7 @@ is_defined word number = codes "#define " ++ (word ++ (codes " " ++ (decimal num
 -- each word of a program's line is one that the header defines, as the number of the zone, the pose or the sensor
 pub record WordsAreDefined : Type 0 where
   pub zone : (n : Named) (k : ℕ) → header.number_line (codes "zone") n.zones k ≡ is_defined (turns.zone_word n k) k
+  pub place : (n : Named) (k : ℕ) → header.number_line (codes "place") n.places k ≡ is_defined (turns.place_word n k) k
   pub pose : (n : Named) (k : ℕ) → header.pose_line n k ≡ is_defined (turns.pose_word n k) k
   pub sensor : (n : Named) (sensors : List (List Text)) (machine k : ℕ)
       → turns.sensor_line n sensors machine k ≡ is_defined (turns.sensor_word n sensors machine k) k
@@ -93,6 +94,8 @@ pub record LinesAreTold (n : Named) (sensors : List (List Text)) (m : ℕ) : Typ
       ≡ five nothing (codes "STOP") nothing nothing (turns.faults_word f)
   pub resume : (f : Faults) → turns.step_row n sensors m (Do Resume f)
       ≡ five nothing (codes "RESUME") nothing nothing (turns.faults_word f)
+  pub advance : (p : ℕ) (f : Faults) → turns.step_row n sensors m (Do (Advance p) f)
+      ≡ five nothing (codes "ADVANCE") (turns.place_word n p) nothing (turns.faults_word f)
   pub await : (z : ℕ) → turns.step_row n sensors m (Await z)
       ≡ five nothing (codes "AWAIT") (turns.zone_word n z) nothing nothing
   -- the motors are those that have a bit

@@ -7,7 +7,7 @@ use Rattle.std.specs.List.{join_by, list_any, range_with_len}
 use Rattle.plan_types.specs.Table.{machine_of}
 use Rattle.plan_types.specs.declared.call.Call.{Call}
 use Rattle.plan_types.specs.declared.call.Call.TheVariants.{Claim, Give, Yield, Take, Release, SetPose, Inquire, Stop}
-use Rattle.plan_types.specs.declared.call.Call.TheVariants.{Resume}
+use Rattle.plan_types.specs.declared.call.Call.TheVariants.{Resume, Advance}
 use Rattle.plan_controller.specs.declared.faults.Faults.{Faults}
 use Rattle.plan_controller.specs.declared.faults.Mendable.{Mendable}
 use Rattle.plan_controller.specs.declared.faults.Mendable.TheVariants.{Held, Shut, NotOwner, PlateInZone, NoPlate}
@@ -92,6 +92,9 @@ defined_word name = prefixed (capitals name)
 abbrev pub zone_word : Named → ℕ → Text
 zone_word n zone = defined_word (codes "zone_" ++ zone_name n zone)
 
+abbrev pub place_word : Named → ℕ → Text
+place_word n place = defined_word (codes "place_" ++ name_in n.places place)
+
 abbrev pub pose_word : Named → ℕ → Text
 pose_word n pose =
     defined_word (codes "pose_" ++ (machine_name n (machine_of n.plan pose) ++ (codes "_" ++ name_in n.poses pose)))
@@ -138,6 +141,9 @@ bare kind object faults = row (codes "0") kind object (codes "0") faults
 abbrev pub pose_row : Named → ℕ → Text → Text
 pose_row n pose faults = bare (codes "SET_POSE") (pose_word n pose) faults
 
+abbrev pub place_row : Named → ℕ → Text → Text
+place_row n place faults = bare (codes "ADVANCE") (place_word n place) faults
+
 abbrev pub run_row : Named → List (List Text) → ℕ → ℕ → ℕ → Text
 run_row n sensors machine motors until =
     row (bits_word motors) (codes "RUN") (codes "0") (sensor_word n sensors machine until) (codes "0")
@@ -152,6 +158,7 @@ call_row n (SetPose pose) faults = pose_row n pose faults
 call_row n (Inquire zone) faults = bare (codes "INQUIRE") (zone_word n zone) faults
 call_row n Stop faults = bare (codes "STOP") (codes "0") faults
 call_row n Resume faults = bare (codes "RESUME") (codes "0") faults
+call_row n (Advance place) faults = place_row n place faults
 
 abbrev pub step_row : Named → List (List Text) → ℕ → Step → Text
 step_row n sensors machine (Do call faults) = call_row n call (faults_word faults)

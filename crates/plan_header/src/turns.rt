@@ -426,6 +426,7 @@ fn push_call_with(
         Call::Inquire(zone) => push_of_zone(alloc, text, named, "INQUIRE", zone, faults),
         Call::Stop => push_row(text, "0", "STOP", "0", "0", faults),
         Call::Resume => push_row(text, "0", "RESUME", "0", "0", faults),
+        Call::Advance(place) => push_of_place(alloc, text, named, place, faults),
     }
 }
 
@@ -503,6 +504,30 @@ fn zone_word(alloc: Global, named: &NamedPlan, zone: u8) -> Result<String, Alloc
 {
     let name = named.zones().name(zone);
     let own = format!(in alloc; "zone_{name}")?;
+    defined_word(alloc, own.as_str())
+}
+
+/// Adds a line about a place.
+fn push_of_place(
+    alloc: Global,
+    text: &mut String,
+    named: &NamedPlan,
+    place: u8,
+    faults: &str,
+) -> Result<(), AllocError>
+    ensures { OnOk result (string_bytes text.new
+        ≡ string_bytes text.old ++ spec.place_row named.now place faults.now) }
+{
+    let word = place_word(alloc, named, place)?;
+    push_row(text, "0", "ADVANCE", word.as_str(), "0", faults)
+}
+
+/// The word for a place.
+fn place_word(alloc: Global, named: &NamedPlan, place: u8) -> Result<String, AllocError>
+    ensures { IfOk result (λ word. string_bytes word ≡ spec.place_word named.now place) }
+{
+    let name = named.places().name(place);
+    let own = format!(in alloc; "place_{name}")?;
     defined_word(alloc, own.as_str())
 }
 

@@ -8,7 +8,8 @@ use Rattle.plan_types.specs.declared.answer.Refusal.TheVariants.{NotParty, Stopp
 use Rattle.plan_types.specs.declared.answer.Answer.TheVariants.{Refused}
 use Rattle.plan_types.specs.declared.answer.Event.{Event}
 use Rattle.plan_types.specs.Table.{watch}
-use Rattle.plan_types.specs.Examples.{press_table}
+use Rattle.plan_types.specs.Examples.{press_table, press_zone, press_poses, through_table}
+use Rattle.plan_rules.proofs.Changes.{has_no_ends}
 use Rattle.plan_rules.specs.declared.state.State.{State}
 use Rattle.plan_rules.specs.declared.state.ZoneState.{ZoneState}
 use Rattle.plan_rules.specs.Refusals.{owns}
@@ -80,7 +81,7 @@ holders = record {
 pub counts : CountsBroken
 counts = record {
   sound = λ law. let e : false ≡ true = (law.zone_is_lawful 0 (omega arith)).owner_is_party in cc;
-  plates = λ law. let e : 1 ≡ 2 = law in absurd (omega arith);
+  plates = λ law. let e : 1 ≡ 2 = law (has_no_ends 2 (press_zone ∷ []) press_poses (0 ∷ 1 ∷ [])) in absurd (omega arith);
   stamp = λ law. let e : 7 ≡ 8 = law in absurd (omega arith);
 }
 

@@ -4,7 +4,8 @@ use Rattle.std.proofs.lemmas.List.Elements.{All-nil}
 use Rattle.plan_types.specs.declared.posture.Posture.TheVariants.{Closed, Moving, OpenIn, OpenOut}
 use Rattle.plan_types.specs.declared.call.Call.TheVariants.{Claim, Give}
 use Rattle.plan_types.specs.declared.call.Call.TheVariants.{SetPose}
-use Rattle.plan_types.specs.Examples.{lift_table}
+use Rattle.plan_types.specs.Examples.{lift_table, lift_zones, lift_poses}
+use Rattle.plan_rules.proofs.Changes.{has_no_ends}
 use Rattle.plan_rules.specs.declared.state.State.{State}
 use Rattle.plan_rules.specs.declared.state.ZoneState.{ZoneState}
 use Rattle.plan_rules.specs.Refusals.{owns}
@@ -41,7 +42,7 @@ lift = record {
   moves = λ law. unowned (halted (interior (Some 2) Moving true) true) 0 refl (law.moves 1 (omega arith) refl);
   changes = λ law. let e : 0 ≡ 2 = (law.changes [] [] 2 2 refl 1 OpenOut (omega arith) refl (λ e. cc)).0 in absurd (omega arith);
   guest = λ law. let e : false ≡ true = law 1 (omega arith) (owned (halted (interior (Some 2) Closed true) true) 2 refl) in cc;
-  plates = λ law. let e : 3 ≡ 4 = law in absurd (omega arith);
+  plates = λ law. let e : 3 ≡ 4 = law (has_no_ends 3 lift_zones lift_poses (0 ∷ 1 ∷ 2 ∷ [])) in absurd (omega arith);
   stamp = λ law. let e : 9 ≡ 10 = law in absurd (omega arith);
   by_events = λ law. let e : Closed ≡ OpenOut = law 1 (omega arith) in cc;
   sound = λ law. let e : false ≡ true = (law.zone_is_lawful 1 (omega arith)).owner_is_party in cc;

@@ -1,9 +1,9 @@
 -- What each Done call changes.
-use Rattle.std.proofs.Common.{◌≡◌, ◌≢◌, ℕ, ◌+◌, ◌<◌, inl, inr, Bool, true, false, nat_eq, length, get_or, set, Option, Some, None, unwrap_or, refl, sym, ap, ◌∙◌, subst, if◌then◌else◌}
+use Rattle.std.proofs.Common.{◌≡◌, ◌≢◌, ℕ, ◌+◌, ◌<◌, inl, inr, Bool, true, false, not, nat_eq, length, get_or, set, Option, Some, None, unwrap_or, refl, sym, ap, ◌∙◌, subst, if◌then◌else◌}
 use Rattle.std.proofs.lemmas.List.{get_or-set_same, get_or-set_other}
 use Rattle.plan_types.specs.declared.posture.Posture.{Posture}
 use Rattle.plan_types.specs.declared.call.Call.{Call}
-use Rattle.plan_types.specs.declared.call.Call.TheVariants.{Claim, Give, Yield, Take, Release, SetPose, Stop, Resume}
+use Rattle.plan_types.specs.declared.call.Call.TheVariants.{Claim, Give, Yield, Take, Release, SetPose, Stop, Resume, Advance}
 use Rattle.plan_types.specs.declared.answer.Answer.{Answer}
 use Rattle.plan_types.specs.declared.answer.Answer.TheVariants.{Done, Refused, Shown}
 use Rattle.plan_types.specs.Table.{PlanTable, zone_count, host_of, guest_of, posture_of}
@@ -13,8 +13,8 @@ use Rattle.plan_rules.specs.declared.state.State.{State}
 use Rattle.plan_rules.specs.State.{zone_at, posture_at, is_full, free_zone}
 use Rattle.plan_rules.specs.Sound.{IsSound}
 use Rattle.plan_rules.specs.Reply.{reply, next, next_by, changed, other_party, emptied, filled}
-use Rattle.plan_rules.specs.ChangeLaws.{ZoneBecomes, PlaceBecomes, IsOtherParty, OwnerChanges, PlateLeaves, PlateComes, PosturesChange, StopChanges, ChangesAreThese}
-use Rattle.plan_rules.proofs.lemmas.DoneCalls.{claim_done, give_done, yield_done, take_done, release_done}
+use Rattle.plan_rules.specs.ChangeLaws.{ZoneBecomes, PlaceBecomes, IsOtherParty, OwnerChanges, PlateLeaves, PlateComes, PosturesChange, StopChanges, PlaceChanges, ChangesAreThese}
+use Rattle.plan_rules.proofs.lemmas.DoneCalls.{claim_done, give_done, yield_done, take_done, release_done, advance_done}
 use Rattle.plan_rules.proofs.lemmas.Puts.{nat_eq-self, nat_eq-apart, same_or_not, zone_at-posed}
 use Rattle.plan_rules.proofs.lemmas.Soundness.{done_none, in_ten, in_sixteen, plate_comes}
 use Rattle.plan_rules.proofs.lemmas.Ways.{way_leads}
@@ -108,6 +108,19 @@ module _ (t : PlanTable) (s : State) (m z : ℕ) (p : IsPlan t) (k : IsSound t s
         counted = (ap (λ (x : State). x.stamp) is, ap (λ (x : State). x.stopped) is);
       }
 
+-- ---- advances
+
+place_changes : (t : PlanTable) (s : State) (m p : ℕ) (full : Bool) → IsPlan t → IsSound t s → reply t s m (Advance p) ≡ Done → is_full s p ≡ full → PlaceChanges s (next t s m (Advance p)) p (not full)
+place_changes t s m p full plan k e was =
+    let d = advance_done t s m p (done_none _ _ e) in
+    let after = next t s m (Advance p) in
+    let is : after ≡ changed t s m (Advance p) = ap (λ a. next_by a t s m (Advance p)) e in
+    record {
+      zones = λ z. ap (λ (x : State). zone_at x z) is;
+      place = place_becomes s after p (not full) (in_sixteen t s p plan k d.there) (ap (λ (x : State). x.full) is ∙ ap (λ b. set s.full p (not b)) was);
+      counted = (ap (λ (x : State). x.stamp) is, ap (λ (x : State). x.stopped) is);
+    }
+
 -- ---- poses and stops
 
 postures_change : (t : PlanTable) (s : State) (m p : ℕ) → reply t s m (SetPose p) ≡ Done → PosturesChange t s (next t s m (SetPose p)) p
@@ -145,5 +158,7 @@ changes_are_these t s m z p plan sound = record {
   pose = postures_change t s m p;
   stop = λ e. stop_changes s (next t s m Stop) true (ap (λ a. next_by a t s m Stop) e);
   resume = λ e. stop_changes s (next t s m Resume) false (ap (λ a. next_by a t s m Resume) e);
+  comes = λ e was. place_changes t s m p false plan sound e was;
+  goes = λ e was. place_changes t s m p true plan sound e was;
   undone = λ c other. same_by (reply t s m c) t s m c other;
 }

@@ -8,19 +8,19 @@ use Rattle.plan_types.specs.declared.posture.Posture.TheVariants.{Closed, Moving
 use Rattle.plan_types.specs.declared.table.Transfer.{Transfer}
 use Rattle.plan_types.specs.declared.call.Call.{Call}
 use Rattle.plan_types.specs.declared.call.Call.TheVariants.{Claim, Give, Yield, Take, Release, SetPose, Inquire, Stop}
-use Rattle.plan_types.specs.declared.call.Call.TheVariants.{Resume}
+use Rattle.plan_types.specs.declared.call.Call.TheVariants.{Resume, Advance}
 use Rattle.plan_types.specs.declared.answer.Refusal.{Refusal}
 use Rattle.plan_types.specs.declared.answer.Refusal.TheVariants.{NotParty, AlreadyMine, NotOwner, PlateInZone, NoPlate}
 use Rattle.plan_types.specs.declared.answer.Refusal.TheVariants.{PlaceFull, WrongWay, Jump, NoPose, Worn, Stopped}
 use Rattle.plan_types.specs.declared.answer.Refusal.TheVariants.{NotStopped}
 use Rattle.plan_types.specs.Same.{same_posture}
 use Rattle.plan_types.specs.Below.{first_below, any_below}
-use Rattle.plan_types.specs.Table.{PlanTable, zone_count, host_of, guest_of, is_party, has_pose, pose_row, posture_of, is_moving_pose, transfer_of, watch}
+use Rattle.plan_types.specs.Table.{PlanTable, zone_count, host_of, guest_of, is_party, has_pose, pose_row, posture_of, is_moving_pose, transfer_of, watch, is_source, is_sink, has_end}
 use Rattle.plan_rules.specs.declared.state.State.{State}
 use Rattle.plan_rules.specs.State.{zone_at, owner_of, posture_at, is_full}
 use Rattle.plan_rules.specs.Refusals as refusals
 use Rattle.plan_rules.specs.Refusals.{owns, given_by, is_taken}
-use Rattle.plan_rules.specs.Causes.{number_of, order_of, is_cause, claim_cause, give_cause, yield_cause, take_cause, release_cause, pose_cause, inquire_cause, stop_cause, resume_cause, on_way, on_zone, is_other, is_at_stake, is_opened, lacks_room}
+use Rattle.plan_rules.specs.Causes.{number_of, order_of, is_cause, claim_cause, give_cause, yield_cause, take_cause, release_cause, pose_cause, inquire_cause, stop_cause, resume_cause, advance_cause, on_way, on_zone, is_other, is_at_stake, is_opened, lacks_room}
 use Rattle.plan_rules.proofs.Chains.{Line, line, chain, numbers, Tells, First, is_among, told_by, first_by}
 use Rattle.plan_rules.proofs.Tellings.{never, plain, names_owner, names_zone, names_holder, names_posture, names_moving, option_same, worn_at}
 use Rattle.plan_rules.proofs.lemmas.Puts.{nat_eq-self}
@@ -47,6 +47,7 @@ named t s m (SetPose p) NoPose k = refl
 named t s m (Inquire z) NotParty k = refl
 named t s m Stop NotParty k = refl
 named t s m Resume NotParty k = refl
+named t s m (Advance p) NotParty k = refl
 named t s m _ _ k = cc
 
 -- ---- what is given in a zone
@@ -271,3 +272,15 @@ resume_tells t s m small =
     ∷ line (plain causes Worn (not (nat_lt s.stamp 1048575)) refl (worn_at s.stamp small))
     ∷ [] in
     by_lines causes lines (named t s m Resume)
+
+pub advance_tells : (t : PlanTable) (s : State) (m p : ℕ) → s.stamp ≤ 1048575 → TellsRight (advance_cause t s m p) (1 ∷ 14 ∷ 8 ∷ 7 ∷ 13 ∷ []) (refusals.advance_refusal t s m p)
+advance_tells t s m p small =
+    let causes = advance_cause t s m p in
+    let lines : List (Line causes) =
+    line (plain causes NotParty (not (has_end t m p)) refl refl)
+    ∷ line (plain causes Stopped s.stopped refl refl)
+    ∷ line (plain causes PlaceFull (is_source t p && (is_taken t s p && not (is_sink t p && is_full s p))) refl refl)
+    ∷ line (plain causes NoPlate (not (is_source t p) && not (is_full s p)) refl refl)
+    ∷ line (plain causes Worn (not (nat_lt s.stamp 1048575)) refl (worn_at s.stamp small))
+    ∷ [] in
+    by_lines causes lines (named t s m (Advance p))

@@ -1,13 +1,15 @@
 -- What one call, and a history, change of the postures, the stamp and the plates.
-use Rattle.std.proofs.Common.{◌≡◌, ℕ, ◌+◌, ◌<◌, Bool, true, false, cond, List, [], ◌∷◌, length, get_or, set, Some, None, refl, sym, ap, ◌∙◌, subst, arith, if◌then◌else◌}
+use Rattle.std.proofs.Common.{◌≡◌, ℕ, zero, suc, ◌+◌, ◌<◌, Bool, true, false, ◌&&◌, ◌||◌, not, cond, map, List, [], ◌∷◌, length, get_or, set, Some, None, refl, sym, ap, ◌∙◌, subst, arith, if◌then◌else◌}
 use Rattle.std.proofs.lemmas.List.Sums.{sum_by-cons}
 use Rattle.plan_types.specs.declared.table.Transfer.{Transfer}
 use Rattle.plan_types.specs.declared.call.Call.{Call}
-use Rattle.plan_types.specs.declared.call.Call.TheVariants.{Claim, Give, Yield, Take, Release, SetPose, Inquire, Stop, Resume}
+use Rattle.plan_types.specs.declared.call.Call.TheVariants.{Claim, Give, Yield, Take, Release, SetPose, Inquire, Stop, Resume, Advance}
 use Rattle.plan_types.specs.declared.answer.Answer.{Answer}
 use Rattle.plan_types.specs.declared.answer.Answer.TheVariants.{Done, Shown, Refused}
 use Rattle.plan_types.specs.declared.answer.Event.{Event}
-use Rattle.plan_types.specs.Table.{PlanTable, zone_count, place_count, transfer_of}
+use Rattle.plan_types.specs.declared.table.PlanZone.{PlanZone}
+use Rattle.plan_types.specs.declared.table.PlanPose.{PlanPose}
+use Rattle.plan_types.specs.Table.{PlanTable, zone_count, place_count, transfer_of, plan_table, kept_by, no_place, is_source, is_sink}
 use Rattle.plan_types.specs.Below.{sum_below}
 use Rattle.plan_types.specs.Plan.{IsPlan}
 use Rattle.plan_rules.specs.declared.state.ZoneState.{ZoneState}
@@ -15,12 +17,12 @@ use Rattle.plan_rules.specs.declared.state.State.{State}
 use Rattle.plan_rules.specs.State.{zone_at, posture_at, is_full, one_if, is_coming, plates_of, free_zone}
 use Rattle.plan_rules.specs.Sound.{IsSound}
 use Rattle.plan_rules.specs.Reply.{reply, next, next_by, changed, other_party, all_posed, emptied, filled}
-use Rattle.plan_rules.specs.History.{after, IsLegal, is_done, is_done_answer, posture_given, posture_since, posture_by_events}
-use Rattle.plan_rules.specs.Laws.{StampCountsChanges, PlatesAreKept, PostureByEvents}
+use Rattle.plan_rules.specs.History.{after, IsLegal, is_done, is_done_answer, fills, empties, come, gone, posture_given, posture_since, posture_by_events}
+use Rattle.plan_rules.specs.Laws.{StampCountsChanges, PlatesAreCounted, HasNoEnds, PlatesAreKept, PostureByEvents}
 use Rattle.plan_rules.proofs.lemmas.Below.{sum_below_same, sum_below_at_least}
 use Rattle.plan_rules.proofs.lemmas.Puts.{put_cases, nat_eq-self}
 use Rattle.plan_rules.proofs.lemmas.Zones.{gives_way}
-use Rattle.plan_rules.proofs.lemmas.DoneCalls.{claim_done, give_done, yield_done, take_done, release_done}
+use Rattle.plan_rules.proofs.lemmas.DoneCalls.{claim_done, give_done, yield_done, take_done, release_done, advance_done}
 use Rattle.plan_rules.proofs.lemmas.Plates.{zones_put, places_put, comes}
 use Rattle.plan_rules.proofs.lemmas.Ways.{way_leads}
 use Rattle.plan_rules.proofs.lemmas.Soundness.{done_none, never_done, next_keeps, in_ten, in_sixteen, plate_comes, zone_after_pose}
@@ -41,6 +43,7 @@ posture-changed t s n (SetPose q) z p k e m = ap (λ (v : ZoneState). v.posture)
 posture-changed t s n (Inquire y) z p k e m = refl
 posture-changed t s n Stop z p k e m = refl
 posture-changed t s n Resume z p k e m = refl
+posture-changed t s n (Advance q) z p k e m = refl
 
 posture_by : (a : Answer) (t : PlanTable) (s : State) (n : ℕ) (c : Call) (z : ℕ) → (a ≡ Done → posture_at (changed t s n c) z ≡ posture_given t c z (posture_at s z))
     → posture_at (next_by a t s n c) z ≡ (if is_done_answer a then posture_given t c z (posture_at s z) else posture_at s z)
@@ -104,11 +107,15 @@ room_to_take t s y way k l flag is =
     let most = k.one_plate_a_place way.to in
     empty_place (is_full s way.to) (omega (arith, here, least, most))
 
-pub plates-changed : (t : PlanTable) (s : State) (n : ℕ) (c : Call) → IsPlan t → IsSound t s → reply t s n c ≡ Done → plates_of t (changed t s n c) ≡ plates_of t s
-plates-changed t s n (Claim y) p k e = same_flags t s y (record (zone_at s y) { owner = Some n }) p k (claim_done t s n y (done_none _ _ e)).caller.there refl
-plates-changed t s n (Yield y) p k e = same_flags t s y (record (zone_at s y) { owner = Some (other_party t n y) }) p k (yield_done t s n y (done_none _ _ e)).holder.caller.there refl
-plates-changed t s n (Release y) p k e = same_flags t s y (record (zone_at s y) { owner = None }) p k (release_done t s n y (done_none _ _ e)).holder.caller.there refl
-plates-changed t s n (Give y) p k e =
+neither : {A : Type 0} (b : Bool) → not b ≡ false → b ≡ false → A
+neither true e f = cc
+neither false e f = cc
+
+plates-stay : (t : PlanTable) (s : State) (n : ℕ) (c : Call) → IsPlan t → IsSound t s → reply t s n c ≡ Done → fills s c ≡ false → empties s c ≡ false → plates_of t (changed t s n c) ≡ plates_of t s
+plates-stay t s n (Claim y) p k e f g = same_flags t s y (record (zone_at s y) { owner = Some n }) p k (claim_done t s n y (done_none _ _ e)).caller.there refl
+plates-stay t s n (Yield y) p k e f g = same_flags t s y (record (zone_at s y) { owner = Some (other_party t n y) }) p k (yield_done t s n y (done_none _ _ e)).holder.caller.there refl
+plates-stay t s n (Release y) p k e f g = same_flags t s y (record (zone_at s y) { owner = None }) p k (release_done t s n y (done_none _ _ e)).holder.caller.there refl
+plates-stay t s n (Give y) p k e f g =
     let d = give_done t s n y (done_none _ _ e) in
     let l = d.holder.caller.there in
     let g = gives_way t n y (posture_at s y) d.way (p.host_is_not_guest y l) d.is in
@@ -117,7 +124,7 @@ plates-changed t s n (Give y) p k e =
     let out = full_put t s d.way.from false leads.from (in_sixteen t s d.way.from p k leads.from) in
     let in_zone = flags_put t s y (record (zone_at s y) { owner = Some (other_party t n y); flag = true }) l (in_ten t s y p k l) in
     omega (arith, places, out, in_zone, ap one_if d.plate, ap one_if d.clear)
-plates-changed t s n (Take y) p k e =
+plates-stay t s n (Take y) p k e f g =
     let d = take_done t s n y (done_none _ _ e) in
     let l = d.holder.caller.there in
     let c = plate_comes t s y k l d.plate in
@@ -127,21 +134,79 @@ plates-changed t s n (Take y) p k e =
     let from_zone = flags_put t s y (record (zone_at s y) { flag = false }) l (in_ten t s y p k l) in
     let empty = room_to_take t s y c.way k l d.plate c.is in
     omega (arith, places, to_place, from_zone, ap one_if d.plate, ap one_if empty)
-plates-changed t s n (SetPose q) p k e =
+plates-stay t s n (SetPose q) p k e f g =
     let same = sum_below_same (λ z. one_if (zone_at s z).flag) (λ z. one_if (get_or (all_posed t s q) z free_zone).flag) (zone_count t)
     (λ z l. ap (λ (v : ZoneState). one_if v.flag) (zone_after_pose t s q z p l)) in
     ap (λ m. sum_below (λ z. one_if (is_full s z)) (place_count t) + m) same
+plates-stay t s n (Inquire y) p k e f g = never_done t s n y e
+plates-stay t s n Stop p k e f g = refl
+plates-stay t s n Resume p k e f g = refl
+plates-stay t s n (Advance q) p k e f g = neither (is_full s q) f g
+
+-- a call that is Done changes the plates by the one that comes or goes
+plates-changed : (t : PlanTable) (s : State) (n : ℕ) (c : Call) → IsPlan t → IsSound t s → reply t s n c ≡ Done → plates_of t (changed t s n c) + one_if (empties s c) ≡ plates_of t s + one_if (fills s c)
+plates-changed t s n (Claim y) p k e = ap (λ x. x + 0) (plates-stay t s n (Claim y) p k e refl refl)
+plates-changed t s n (Give y) p k e = ap (λ x. x + 0) (plates-stay t s n (Give y) p k e refl refl)
+plates-changed t s n (Yield y) p k e = ap (λ x. x + 0) (plates-stay t s n (Yield y) p k e refl refl)
+plates-changed t s n (Take y) p k e = ap (λ x. x + 0) (plates-stay t s n (Take y) p k e refl refl)
+plates-changed t s n (Release y) p k e = ap (λ x. x + 0) (plates-stay t s n (Release y) p k e refl refl)
+plates-changed t s n (SetPose q) p k e = ap (λ x. x + 0) (plates-stay t s n (SetPose q) p k e refl refl)
 plates-changed t s n (Inquire y) p k e = never_done t s n y e
 plates-changed t s n Stop p k e = refl
 plates-changed t s n Resume p k e = refl
+plates-changed t s n (Advance q) p k e =
+    let d = advance_done t s n q (done_none _ _ e) in
+    let put = full_put t s q (not (is_full s q)) d.there (in_sixteen t s q p k d.there) in
+    omega (arith, put)
 
-plates_by : (a : Answer) (t : PlanTable) (s : State) (n : ℕ) (c : Call) → (a ≡ Done → plates_of t (changed t s n c) ≡ plates_of t s) → plates_of t (next_by a t s n c) ≡ plates_of t s
+plates_by : (a : Answer) (t : PlanTable) (s : State) (n : ℕ) (c : Call) → (a ≡ Done → plates_of t (changed t s n c) + one_if (empties s c) ≡ plates_of t s + one_if (fills s c))
+    → plates_of t (next_by a t s n c) + one_if (is_done_answer a && empties s c) ≡ plates_of t s + one_if (is_done_answer a && fills s c)
 plates_by Done t s n c k = k refl
 plates_by (Shown o f p) t s n c k = refl
 plates_by (Refused r) t s n c k = refl
 
+pub plates-counted : (t : PlanTable) (s : State) → IsPlan t → IsSound t s → (h : List Event) → IsLegal t s h → PlatesAreCounted t s h
+plates-counted t s p k [] l = refl
+plates-counted t s p k (e ∷ h) l =
+    let A : Answer → Type 0 = λ a. plates_of t (next t s e.machine e.call) + one_if (is_done_answer a && empties s e.call) ≡ plates_of t s + one_if (is_done_answer a && fills s e.call) in
+    let here = subst A (sym l.0) (plates_by (reply t s e.machine e.call) t s e.machine e.call (plates-changed t s e.machine e.call p k)) in
+    let rest = plates-counted t (next t s e.machine e.call) p (next_keeps t s e.machine e.call p k) h l.1 in
+    omega (arith, here, rest)
+
+-- ---- where no place is a source or a sink no plate comes or goes
+
+no_end : (a b : Bool) → (a || b) ≡ true → a ≡ false → b ≡ false → ⊥
+no_end true b e f g = cc
+no_end false true e f g = cc
+no_end false false e f g = cc
+
+none_by : (a : Answer) (t : PlanTable) (s : State) (n : ℕ) (c : Call) → a ≡ reply t s n c → HasNoEnds t → (one_if (is_done_answer a && fills s c) ≡ 0) × (one_if (is_done_answer a && empties s c) ≡ 0)
+none_by Done t s n (Advance p) is none =
+    let d = advance_done t s n p (done_none _ _ (sym is)) in
+    let ends = none p d.there in
+    absurd (no_end (is_source t p) (is_sink t p) d.ends ends.0 ends.1)
+none_by Done t s n _ is none = (refl, refl)
+none_by (Shown o f q) t s n c is none = (refl, refl)
+none_by (Refused r) t s n c is none = (refl, refl)
+
+none_comes_or_goes : (t : PlanTable) (s : State) (h : List Event) → HasNoEnds t → IsLegal t s h → (come t s h ≡ 0) × (gone t s h ≡ 0)
+none_comes_or_goes t s [] none l = (refl, refl)
+none_comes_or_goes t s (e ∷ h) none l =
+    let here = none_by e.answer t s e.machine e.call l.0 none in
+    let rest = none_comes_or_goes t (next t s e.machine e.call) h none l.1 in
+    (omega (arith, here.0, rest.0), omega (arith, here.1, rest.1))
+
 pub plates-kept : (t : PlanTable) (s : State) → IsPlan t → IsSound t s → (h : List Event) → IsLegal t s h → PlatesAreKept t s h
-plates-kept t s p k [] l = refl
-plates-kept t s p k (e ∷ h) l =
-    plates-kept t (next t s e.machine e.call) p (next_keeps t s e.machine e.call p k) h l.1
-    ∙ plates_by (reply t s e.machine e.call) t s e.machine e.call (plates-changed t s e.machine e.call p k)
+plates-kept t s p k h l none =
+    let counted = plates-counted t s p k h l in
+    let all = none_comes_or_goes t s h none l in
+    omega (arith, counted, all.0, all.1)
+
+-- tables without sources and sinks have none
+no_end_in : (keepers : List ℕ) (p : ℕ) → ((get_or (map kept_by keepers) p no_place).source ≡ false) × ((get_or (map kept_by keepers) p no_place).sink ≡ false)
+no_end_in [] p = (refl, refl)
+no_end_in (k ∷ keepers) zero = (refl, refl)
+no_end_in (k ∷ keepers) (suc p) = no_end_in keepers p
+
+pub has_no_ends : (machines : ℕ) (zones : List PlanZone) (poses : List PlanPose) (keepers : List ℕ) → HasNoEnds (plan_table machines zones poses keepers)
+has_no_ends machines zones poses keepers p below = no_end_in keepers p

@@ -1,5 +1,5 @@
 -- When each call is Done.
-use Rattle.std.proofs.Common.{◌≡◌, ◌≢◌, ◌⊎◌, inl, inr, ⊎_elim, ℕ, zero, suc, ◌<◌, Bool, true, false, ◌&&◌, ◌||◌, not, nat_eq, nat_lt, Option, Some, None, unwrap_or, refl, sym, ap, ◌∙◌, subst, arith, if◌then◌else◌}
+use Rattle.std.proofs.Common.{◌≡◌, ◌≢◌, ◌⊎◌, inl, inr, ⊎_elim, ℕ, zero, suc, ◌<◌, Bool, true, false, ◌&&◌, ◌||◌, not, nat_eq, nat_lt, Option, Some, None, unwrap_or, refl, sym, ap, ◌∙◌, subst, arith, if◌then◌else◌, ltb-true}
 use Rattle.std.specs.Bool.{then_some}
 use Rattle.std.proofs.lemmas.Bool.{eqb-true, lt-ltb, false_from_ne_true}
 use Rattle.plan_types.specs.declared.posture.Posture.{Posture}
@@ -10,7 +10,7 @@ use Rattle.plan_types.specs.declared.answer.Refusal.TheVariants.{NotParty, Place
 use Rattle.plan_types.specs.declared.answer.Answer.TheVariants.{Done, Shown}
 use Rattle.plan_types.specs.Same.{same_posture, one_posture}
 use Rattle.plan_types.specs.Below.{any_below}
-use Rattle.plan_types.specs.Table.{PlanTable, zone_count, pose_count, host_of, guest_of, machine_of, pose_row, posture_of, transfer_of, is_moving_pose, has_pose, watch}
+use Rattle.plan_types.specs.Table.{PlanTable, zone_count, pose_count, host_of, guest_of, machine_of, pose_row, posture_of, transfer_of, is_moving_pose, has_pose, watch, place_count, keeper_of, is_place_of, is_source, is_sink, has_end}
 use Rattle.plan_types.proofs.lemmas.Below.{first_below_all}
 use Rattle.plan_rules.specs.declared.state.State.{State}
 use Rattle.plan_rules.specs.State.{zone_at, owner_of, posture_at, is_full, plates_for}
@@ -18,8 +18,9 @@ use Rattle.plan_rules.specs.Sound.{is_open, is_owned_by}
 use Rattle.plan_rules.specs.Refusals as refusals
 use Rattle.plan_rules.specs.Refusals.{◌or◌, owns, is_concerned, posture_with}
 use Rattle.plan_rules.specs.Reply.{answer_by}
-use Rattle.plan_rules.specs.DoneLaws.{IsPartyOf, IsOpen, HasStampsLeft, MayClaim, IsHolder, HasGift, MayGive, MayYield, MayRelease, IsClear, MayPose, MayMark, CallsAreDoneExactly}
-use Rattle.plan_rules.proofs.lemmas.DoneCalls.{claim_done, give_done, yield_done, take_done, release_done, pose_done, stop_done, resume_done, Party, Holder}
+use Rattle.plan_rules.specs.DoneLaws.{IsPartyOf, IsOpen, HasStampsLeft, MayClaim, IsHolder, HasGift, MayGive, MayYield, MayRelease, IsClear, MayPose, MayMark, KeepsEnd, PlateMoves, MayAdvance, CallsAreDoneExactly}
+use Rattle.plan_rules.proofs.lemmas.DoneCalls.{claim_done, give_done, yield_done, take_done, release_done, pose_done, stop_done, resume_done, advance_done, Party, Holder, Advances}
+use Rattle.plan_rules.proofs.lemmas.Advancing.{comes, goes}
 use Rattle.plan_rules.proofs.lemmas.Plates.{no_plates}
 use Rattle.plan_rules.proofs.lemmas.Puts.{nat_eq-self, nat_eq-apart, same_or_not}
 use Rattle.plan_rules.proofs.lemmas.Soundness.{done_none, some_or_none, unless}
@@ -338,6 +339,67 @@ pose_by_words t s m p f =
     let p5 : r5 ≡ None = none_of_both r4 (refusals.first_zone t (refusals.opens_onto_plate t s p)) p4 room in
     none_of_both r5 (refusals.worn s) p5 (fresh_by s f.stamps)
 
+-- ---- advances
+
+pub end_in_words : (t : PlanTable) (m p : ℕ) → has_end t m p ≡ true → KeepsEnd t m p
+end_in_words t m p e =
+    let own = both_true (is_place_of t p m) (is_source t p || is_sink t p) e in
+    let place = both_true (nat_lt p (place_count t)) (nat_eq (keeper_of t p) m) own.0 in
+    (ltb-true p (place_count t) place.0, eqb-true (keeper_of t p) m place.1, either (is_source t p) (is_sink t p) own.1)
+
+pub end_by : (t : PlanTable) (m p : ℕ) → KeepsEnd t m p → has_end t m p ≡ true
+end_by t m p f =
+    rw (lt-ltb p (place_count t) f.0, is_same (keeper_of t p) m f.1)
+    (⊎_elim (λ h. first (is_source t p) (is_sink t p) h) (λ g. second (is_source t p) (is_sink t p) g) f.2)
+
+-- nothing bars the plate that comes or goes
+room_by : (source taken sink full : Bool) → ((source ≡ true) × (taken ≡ false)) ⊎ ((sink ≡ true) × (full ≡ true)) → (source && (taken && not (sink && full))) ≡ false
+room_by true false sink full f = refl
+room_by false taken sink full f = refl
+room_by true true true true f = refl
+room_by true true false full (inl h) = cc
+room_by true true false full (inr h) = cc
+room_by true true true false (inl h) = cc
+room_by true true true false (inr h) = cc
+
+plate_by : (source full : Bool) → (source ≡ true) ⊎ (full ≡ true) → (not source && not full) ≡ false
+plate_by true full f = refl
+plate_by false true f = refl
+plate_by false false (inl h) = cc
+plate_by false false (inr h) = cc
+
+pub has_room : (t : PlanTable) (s : State) (p : ℕ) → PlateMoves t s p → (is_source t p && (refusals.is_taken t s p && not (refusals.can_go t s p))) ≡ false
+has_room t s p f = room_by (is_source t p) (refusals.is_taken t s p) (is_sink t p) (is_full s p) (⊎_elim (λ h. inl (h.0, ap (nat_lt 0) h.1)) (λ g. inr g) f)
+
+pub has_plate : (t : PlanTable) (s : State) (p : ℕ) → PlateMoves t s p → (not (is_source t p) && not (is_full s p)) ≡ false
+has_plate t s p f = plate_by (is_source t p) (is_full s p) (⊎_elim (λ h. inl h.0) (λ g. inr g.1) f)
+
+advance_in_words : (t : PlanTable) (s : State) (m p : ℕ) → refusals.advance_refusal t s m p ≡ None → MayAdvance t s m p
+advance_in_words t s m p e =
+    let f = advance_done t s m p e in
+    record {
+      own = (f.there, f.keeper, either (is_source t p) (is_sink t p) f.ends);
+      runs = f.goes_on;
+      moves = by f (is_full s p) refl;
+      stamps = f.fresh;
+    }
+  where
+    by : Advances t s m p → (full : Bool) → is_full s p ≡ full → PlateMoves t s p
+    by f true e = inr (goes t s m p f e, e)
+    by f false e = inl (comes t s m p f e)
+
+advance_by_words : (t : PlanTable) (s : State) (m p : ℕ) → MayAdvance t s m p → refusals.advance_refusal t s m p ≡ None
+advance_by_words t s m p f =
+    let r0 = refusals.not_own_end t m p in
+    let r1 = r0 or refusals.while_stopped s in
+    let r2 = r1 or refusals.source_taken t s p in
+    let r3 = r2 or refusals.sink_empty t s p in
+    let p0 = no_then_not (has_end t m p) NotParty (end_by t m p f.own) in
+    let p1 : r1 ≡ None = none_of_both r0 (refusals.while_stopped s) p0 (no_then s.stopped _ f.runs) in
+    let p2 : r2 ≡ None = none_of_both r1 (refusals.source_taken t s p) p1 (no_then (is_source t p && (refusals.is_taken t s p && not (refusals.can_go t s p))) _ (has_room t s p f.moves)) in
+    let p3 : r3 ≡ None = none_of_both r2 (refusals.sink_empty t s p) p2 (no_then (not (is_source t p) && not (is_full s p)) _ (has_plate t s p f.moves)) in
+    none_of_both r3 (refusals.worn s) p3 (fresh_by s f.stamps)
+
 -- ---- the watch
 
 stop_by_words : (s : State) (m : ℕ) → MayMark s m false → refusals.stop_refusal s m ≡ None
@@ -373,5 +435,6 @@ done_exactly t s m z p = record {
     λ e. let f = resume_done s m (done_none _ _ e) in record { watch = f.caller; in_turn = f.mark; stamps = f.fresh },
     λ f. done_by _ (resume_by_words s m f),
   );
+  advance = (λ e. advance_in_words t s m p (done_none _ _ e), λ f. done_by _ (advance_by_words t s m p f));
   inquire = λ l. ap (λ r. answer_by r (Shown (zone_at s z).owner (zone_at s z).flag (zone_at s z).posture)) (no_then_not (nat_lt z (zone_count t)) NotParty (lt-ltb z (zone_count t) l));
 }

@@ -4,7 +4,7 @@ use Rattle.std.proofs.lemmas.Bool.{false_from_ne_true}
 use Rattle.plan_types.specs.declared.posture.Posture.TheVariants.{Moving, OpenIn}
 use Rattle.plan_types.specs.declared.table.Transfer.{Transfer}
 use Rattle.plan_types.specs.declared.call.Call.{Call}
-use Rattle.plan_types.specs.declared.call.Call.TheVariants.{Give, Yield, Take, Release, SetPose}
+use Rattle.plan_types.specs.declared.call.Call.TheVariants.{Give, Yield, Take, Release, SetPose, Advance}
 use Rattle.plan_types.specs.declared.answer.Refusal.TheVariants.{PlaceFull}
 use Rattle.plan_types.specs.declared.answer.Event.{Event}
 use Rattle.plan_types.specs.Same.{same_posture, one_posture}
@@ -16,12 +16,13 @@ use Rattle.plan_rules.specs.State.{zone_at, owner_of, posture_at, plates_for}
 use Rattle.plan_rules.specs.Sound.{IsSound}
 use Rattle.plan_rules.specs.Refusals.{owns, posture_with, is_concerned, stands_at, is_onto_taken, opens_onto_plate}
 use Rattle.plan_rules.specs.History.{after, IsLegal}
-use Rattle.plan_rules.specs.Laws.{PosesFit, HandoverByHolder, HasZone, done}
+use Rattle.plan_rules.specs.Laws.{PosesFit, HandoverByHolder, AdvancesFit, HasZone, done}
 use Rattle.plan_rules.proofs.lemmas.Below.{any_below_none}
 use Rattle.plan_rules.proofs.lemmas.Puts.{nat_eq-self}
 use Rattle.plan_rules.proofs.lemmas.Zones.{owner_is}
 use Rattle.plan_rules.proofs.Given.{gives_moving}
-use Rattle.plan_rules.proofs.lemmas.DoneCalls.{none_then, pose_done, give_done, yield_done, take_done, release_done, Poses, Holder}
+use Rattle.plan_rules.proofs.lemmas.DoneCalls.{none_then, pose_done, give_done, yield_done, take_done, release_done, advance_done, Poses, Holder, Advances}
+use Rattle.plan_rules.proofs.lemmas.Advancing.{comes, goes}
 use Rattle.plan_rules.proofs.lemmas.Plates.{no_plates}
 use Rattle.plan_rules.proofs.lemmas.Soundness.{done_none, unless}
 use Rattle.plan_rules.proofs.Histories.{legal-left, replies_done}
@@ -95,3 +96,15 @@ handover_by_holder t s p k h l = record {
   take = λ before rest m z split. has_zone t s h before m (Take z) rest z p k l split (take_done t (after t s before) m z (done_none _ _ (replies_done t s h before m (Take z) rest l split))).holder;
   release = λ before rest m z split. has_zone t s h before m (Release z) rest z p k l split (release_done t (after t s before) m z (done_none _ _ (replies_done t s h before m (Release z) rest l split))).holder;
 }
+
+-- ---- advances
+
+pub advances_fit : (t : PlanTable) (s : State) (h : List Event) → IsLegal t s h → AdvancesFit t s h
+advances_fit t s h l =
+    let found : (before rest : List Event) (m p : ℕ) → h ≡ before ++ done m (Advance p) ∷ rest → Advances t (after t s before) m p
+    = λ before rest m p split. advance_done t (after t s before) m p (done_none _ _ (replies_done t s h before m (Advance p) rest l split)) in
+    record {
+      own = λ before rest m p split. let f = found before rest m p split in (f.there, f.keeper);
+      comes = λ before rest m p split empty. comes t (after t s before) m p (found before rest m p split) empty;
+      goes = λ before rest m p split full. goes t (after t s before) m p (found before rest m p split) full;
+    }

@@ -4,7 +4,7 @@ use Rattle.std.proofs.Math.Bool.{and-true}
 use Rattle.std.proofs.lemmas.Bool.{or_left, or_right, false_from_ne_true}
 use Rattle.std.proofs.lemmas.List.Elements.{All-nil, All-cons, All-head, All-tail}
 use Rattle.plan_types.specs.declared.call.Call.{Call}
-use Rattle.plan_types.specs.declared.call.Call.TheVariants.{Claim, Give, Yield, Take, Release, SetPose, Inquire, Stop, Resume}
+use Rattle.plan_types.specs.declared.call.Call.TheVariants.{Claim, Give, Yield, Take, Release, SetPose, Inquire, Stop, Resume, Advance}
 use Rattle.plan_types.specs.declared.answer.Answer.{Answer}
 use Rattle.plan_types.specs.declared.answer.Answer.TheVariants.{Done, Shown, Refused}
 use Rattle.plan_types.specs.declared.answer.Event.{Event}
@@ -99,6 +99,7 @@ owns-changed t s n (SetPose q) m z p k e = ap (λ o. is_owned_by o m) (owner-pos
 owns-changed t s n (Inquire y) m z p k e = never_done t s n y e
 owns-changed t s n Stop m z p k e = sym (and-true (owns s m z))
 owns-changed t s n Resume m z p k e = sym (and-true (owns s m z))
+owns-changed t s n (Advance q) m z p k e = sym (and-true (owns s m z))
 
 owns-by : (a : Answer) (t : PlanTable) (s : State) (n : ℕ) (c : Call) (m z : ℕ) → (a ≡ Done → owns (changed t s n c) m z ≡ (gains t n c m z || (owns s m z && not (loses n c m z))))
     → owns (next_by a t s n c) m z ≡ ((is_done_answer a && gains t n c m z) || (owns s m z && not (is_done_answer a && loses n c m z)))

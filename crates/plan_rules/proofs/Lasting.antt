@@ -1,9 +1,9 @@
 -- What a machine holds lasts while the machine does nothing.
-use Rattle.std.proofs.Common.{◌≡◌, ℕ, ◌<◌, inl, inr, Bool, true, false, cond, nat_eq, Some, None, List, [], ◌∷◌, ◌++◌, length, get_or, set, refl, sym, ap, ◌∙◌, if◌then◌else◌, unwrap_or, arith}
+use Rattle.std.proofs.Common.{◌≡◌, ℕ, ◌<◌, inl, inr, Bool, true, false, not, cond, nat_eq, Some, None, List, [], ◌∷◌, ◌++◌, length, get_or, set, refl, sym, ap, ◌∙◌, if◌then◌else◌, unwrap_or, arith}
 use Rattle.std.proofs.lemmas.List.{get_or-set_other}
 use Rattle.plan_types.specs.declared.posture.Posture.{Posture}
 use Rattle.plan_types.specs.declared.call.Call.{Call}
-use Rattle.plan_types.specs.declared.call.Call.TheVariants.{Claim, Give, Yield, Take, Release, SetPose, Inquire, Stop, Resume}
+use Rattle.plan_types.specs.declared.call.Call.TheVariants.{Claim, Give, Yield, Take, Release, SetPose, Inquire, Stop, Resume, Advance}
 use Rattle.plan_types.specs.declared.answer.Answer.{Answer}
 use Rattle.plan_types.specs.declared.answer.Answer.TheVariants.{Done, Shown, Refused}
 use Rattle.plan_types.specs.declared.answer.Event.{Event}
@@ -19,7 +19,7 @@ use Rattle.plan_rules.specs.History.{after, IsLegal, is_done_answer, is_done, Ho
 use Rattle.plan_rules.specs.Laws.{RightLasts}
 use Rattle.plan_rules.proofs.lemmas.Puts.{put_cases, apart-nat_eq}
 use Rattle.plan_rules.proofs.lemmas.Zones.{gives_way}
-use Rattle.plan_rules.proofs.lemmas.DoneCalls.{claim_done, give_done, yield_done, take_done, release_done, pose_done, Holder}
+use Rattle.plan_rules.proofs.lemmas.DoneCalls.{claim_done, give_done, yield_done, take_done, release_done, pose_done, advance_done, Holder}
 use Rattle.plan_rules.proofs.lemmas.Ways.{way_leads}
 use Rattle.plan_rules.proofs.lemmas.Soundness.{done_none, never_done, next_keeps, in_ten, plate_comes, posed_zone, zone_after_pose, some_or_none}
 use Rattle.plan_rules.proofs.Histories.{after-append, legal-left, sound-after}
@@ -63,6 +63,7 @@ zone_at-changed t s n (SetPose q) m z p k l d o e =
 zone_at-changed t s n (Inquire y) m z p k l d o e = never_done t s n y e
 zone_at-changed t s n Stop m z p k l d o e = refl
 zone_at-changed t s n Resume m z p k l d o e = refl
+zone_at-changed t s n (Advance q) m z p k l d o e = refl
 
 zone_at-by : (a : Answer) (t : PlanTable) (s : State) (n : ℕ) (c : Call) (z : ℕ) → (a ≡ Done → zone_at (changed t s n c) z ≡ zone_at s z) → zone_at (next_by a t s n c) z ≡ zone_at s z
 zone_at-by Done t s n c z k = k refl
@@ -118,6 +119,9 @@ full-changed t s n (Take y) q p k d e =
   where
     one_owner : (a b : ℕ) → Some a ≡ Some b → a ≡ b
     one_owner a b e = ap (λ o. unwrap_or o a) e
+full-changed t s n (Advance y) q p k d e =
+    let f = advance_done t s n y (done_none _ _ e) in
+    get_or-set_other s.full y q (not (is_full s y)) false (λ same. apart-nat_eq n (keeper_of t q) d (sym (ap (keeper_of t) same ∙ f.keeper)))
 full-changed t s n (Inquire y) q p k d e = never_done t s n y e
 full-changed t s n _ q p k d e = refl
 

@@ -26,3 +26,4 @@ mod PosesRefused
 mod Lowest
 mod Orders
 mod CallChanges
+mod AdvanceRows

@@ -1,12 +1,13 @@
 -- What each law says of a lift: the law, with the lift's numbers.
-use Rattle.std.proofs.Common.{◌≡◌, ℕ, ◌+◌, ◌<◌, true, false, List, [], ◌++◌, refl, sym, ap, ◌∙◌, subst, arith}
+use Rattle.std.proofs.Common.{◌≡◌, ℕ, ◌+◌, ◌<◌, true, false, List, [], ◌∷◌, ◌++◌, refl, sym, ap, ◌∙◌, subst, arith}
 use Rattle.std.proofs.lemmas.List.{append-nil}
 use Rattle.plan_types.specs.declared.posture.Posture.TheVariants.{OpenOut}
 use Rattle.plan_types.specs.declared.call.Call.TheVariants.{Claim, Give, Yield, Take, Release, SetPose, Inquire}
 use Rattle.plan_types.specs.declared.answer.Refusal.TheVariants.{NotParty, PlateInZone, Stopped}
 use Rattle.plan_types.specs.declared.answer.Answer.TheVariants.{Done, Refused}
 use Rattle.plan_types.specs.declared.answer.Event.{Event}
-use Rattle.plan_types.specs.Examples.{lift_table}
+use Rattle.plan_types.specs.Examples.{lift_table, lift_zones, lift_poses}
+use Rattle.plan_rules.proofs.Changes.{has_no_ends}
 use Rattle.plan_types.proofs.lemmas.Checked.{is_plan}
 use Rattle.plan_rules.specs.declared.state.State.{State}
 use Rattle.plan_rules.specs.Sound.{is_open}
@@ -30,7 +31,7 @@ holders s h = record {
 
 counts : (s : State) (h : List Event) → LiftCounts s h
 counts s h = record {
-  plates = λ law three. law ∙ three;
+  plates = λ law three. law (has_no_ends 3 lift_zones lift_poses (0 ∷ 1 ∷ 2 ∷ [])) ∙ three;
   stamp = λ law five. law ∙ ap (λ n. s.stamp + n) five;
   posture = λ law e. law 1 (omega arith) ∙ e;
   one_plate = λ law. law.one_plate_a_place 2;

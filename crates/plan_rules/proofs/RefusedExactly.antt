@@ -1,31 +1,32 @@
 -- For what each call but a pose is refused.
-use Rattle.std.proofs.Common.{◌≡◌, ◌≢◌, ◌↔◌, ◌⊎◌, inl, inr, ⊎_elim, ℕ, Bool, true, false, ◌&&◌, not, nat_eq, nat_lt, List, [], ◌∷◌, Option, Some, None, refl, sym, ap, ◌∙◌, subst, if◌then◌else◌, ltb-true}
+use Rattle.std.proofs.Common.{◌≡◌, ◌≢◌, ◌↔◌, ◌⊎◌, inl, inr, ⊎_elim, ℕ, ◌<◌, Bool, true, false, ◌&&◌, not, nat_eq, nat_lt, List, [], ◌∷◌, Option, Some, None, refl, sym, ap, ◌∙◌, subst, if◌then◌else◌, ltb-true}
 use Rattle.std.specs.Bool.{then_some}
-use Rattle.std.proofs.lemmas.Bool.{eqb-true, lt-ltb, le-ltb}
+use Rattle.std.specs.Cmp.{first_so, second_so}
+use Rattle.std.proofs.lemmas.Bool.{eqb-true, lt-ltb, le-ltb, false_from_ne_true}
 use Rattle.plan_types.specs.declared.posture.Posture.{Posture}
 use Rattle.plan_types.specs.declared.posture.Posture.TheVariants.{Closed, Moving}
 use Rattle.plan_types.specs.declared.table.Transfer.{Transfer}
 use Rattle.plan_types.specs.declared.call.Call.{Call}
-use Rattle.plan_types.specs.declared.call.Call.TheVariants.{Claim, Give, Yield, Take, Release, Inquire, Stop, Resume}
+use Rattle.plan_types.specs.declared.call.Call.TheVariants.{Claim, Give, Yield, Take, Release, Inquire, Stop, Resume, Advance}
 use Rattle.plan_types.specs.declared.answer.Refusal.{Refusal}
 use Rattle.plan_types.specs.declared.answer.Refusal.TheVariants.{NotParty, Held, AlreadyMine, Shut, NotOwner, PlateInZone, NoPlate, PlaceFull, WrongWay, Worn, Stopped, NotStopped}
 use Rattle.plan_types.specs.declared.answer.Answer.TheVariants.{Refused}
 use Rattle.plan_types.specs.Same.{same_posture, one_posture}
-use Rattle.plan_types.specs.Table.{PlanTable, zone_count, guest_of, transfer_of, is_party, watch}
+use Rattle.plan_types.specs.Table.{PlanTable, zone_count, guest_of, transfer_of, is_party, watch, is_source, is_sink, has_end}
 use Rattle.plan_rules.specs.declared.state.State.{State}
 use Rattle.plan_rules.specs.State.{zone_at, owner_of, posture_at, is_full, plates_for, last_stamp}
 use Rattle.plan_rules.specs.Sound.{is_open, is_owned_by}
 use Rattle.plan_rules.specs.Refusals as refusals
 use Rattle.plan_rules.specs.Refusals.{◌or◌, owns}
 use Rattle.plan_rules.specs.Reply.{reply, refusal, answer_by, accepted}
-use Rattle.plan_rules.specs.DoneLaws.{IsPartyOf, IsOpen}
+use Rattle.plan_rules.specs.DoneLaws.{IsPartyOf, IsOpen, KeepsEnd, PlateMoves}
 use Rattle.plan_rules.specs.SayLaws.{GivesNothing}
-use Rattle.plan_rules.specs.RefusedLaws.{HasNoStampLeft, IsHeard, AsksOwn, IsOwnedElse, BarsClaim, HasPlateToGive, BarsGive, BarsYield, BarsTake, BarsRelease, BarsInquire, BarsStop, BarsResume, CallsAreRefusedExactly}
+use Rattle.plan_rules.specs.RefusedLaws.{HasNoStampLeft, IsHeard, AsksOwn, IsOwnedElse, BarsClaim, HasPlateToGive, BarsGive, BarsYield, BarsTake, BarsRelease, BarsInquire, BarsStop, BarsResume, IsOwnEnd, BarsAdvance, CallsAreRefusedExactly}
 use Rattle.plan_rules.proofs.lemmas.DoneCalls.{none_or, party_of}
 use Rattle.plan_rules.proofs.lemmas.Plates.{no_plates}
 use Rattle.plan_rules.proofs.lemmas.Puts.{nat_eq-apart, same_or_not}
 use Rattle.plan_rules.proofs.lemmas.Zones.{both_true, owner_is}
-use Rattle.plan_rules.proofs.DoneExactly.{is_same, is_party_by, owner_by, none_of_both, no_then, no_then_not, party_in_words, open_in_words, is_open_by, guest_by, no_owner_refusal, is_not_moving, opened}
+use Rattle.plan_rules.proofs.DoneExactly.{is_same, is_party_by, owner_by, none_of_both, no_then, no_then_not, party_in_words, open_in_words, is_open_by, guest_by, no_owner_refusal, is_not_moving, opened, end_in_words, end_by, has_room, has_plate}
 use Rattle.plan_rules.proofs.Truth.{one_says, is_not, not_both, not_below, shut_in_words}
 use Rattle.plan_rules.proofs.Refusing.{refusal_of_reply}
 
@@ -383,6 +384,81 @@ module _ (t : PlanTable) (s : State) (m z : ℕ) where
   inquire_by NotParty f = yes_then_not (nat_lt z (zone_count t)) NotParty (le-ltb z (zone_count t) f)
   inquire_by _ f = absurd f
 
+  -- ---- advances
+
+  abbrev ne : Option Refusal
+  ne = refusals.not_own_end t m z
+
+  abbrev sf : Option Refusal
+  sf = refusals.source_taken t s z
+
+  abbrev se : Option Refusal
+  se = refusals.sink_empty t s z
+
+  abbrev no_room : Bool
+  no_room = is_source t z && (refusals.is_taken t s z && not (refusals.can_go t s z))
+
+  abbrev lacks_plate : Bool
+  lacks_plate = not (is_source t z) && not (is_full s z)
+
+  moves_on : (source taken sink full : Bool) → ((source ≡ true) ⊎ (sink ≡ true)) → (source && (taken && not (sink && full))) ≡ false → (not source && not full) ≡ false
+      → ((source ≡ true) × (taken ≡ false)) ⊎ ((sink ≡ true) × (full ≡ true))
+  moves_on true false sink full o e f = inl (refl, refl)
+  moves_on true true true true o e f = inr (refl, refl)
+  moves_on true true false full o e f = cc
+  moves_on true true true false o e f = cc
+  moves_on false taken true true o e f = inr (refl, refl)
+  moves_on false taken sink false o e f = cc
+  moves_on false taken false true (inl h) e f = cc
+  moves_on false taken false true (inr h) e f = cc
+
+  plate_moves : KeepsEnd t m z → no_room ≡ false → lacks_plate ≡ false → PlateMoves t s z
+  plate_moves f e g =
+      ⊎_elim (λ h. inl (h.0, no_plates (plates_for t s z) h.1)) (λ k. inr k)
+      (moves_on (is_source t z) (refusals.is_taken t s z) (is_sink t z) (is_full s z) f.2 e g)
+
+  full_in_words : no_room ≡ true → (is_source t z ≡ true) × (0 < plates_for t s z) × ¬ ((is_sink t z ≡ true) × (is_full s z ≡ true))
+  full_in_words e =
+      let taken = refusals.is_taken t s z in
+      let goes = refusals.can_go t s z in
+      let rest = second_so (is_source t z) (taken && not goes) e in
+      (first_so (is_source t z) (taken && not goes) e, ltb-true 0 (plates_for t s z) (first_so taken (not goes) rest), λ both. not_both goes (rw (both.0, both.1) refl) (is_not goes (second_so taken (not goes) rest)))
+
+  ends : (P : Refusal → Type 0) → (¬ KeepsEnd t m z → P NotParty) → Sorts P ne (KeepsEnd t m z)
+  ends P says = test (not (has_end t m z)) NotParty (λ yes. says (λ keeps. not_both (has_end t m z) (end_by t m z keeps) (is_not (has_end t m z) yes))) (λ own. end_in_words t m z (no_not (has_end t m z) own))
+
+  advance : Sorts (BarsAdvance t s m z) (refusals.advance_refusal t s m z) Unit
+  advance =
+      let P : Refusal → Type 0 = BarsAdvance t s m z in
+      let s1 : Sorts P (ne or st) (IsOwnEnd t s m z) = in_turn ne st (ends P (λ f. f)) (λ f. test s.stopped Stopped (λ yes. (f, yes)) (λ runs. (f, runs))) in
+      let s2 : Sorts P (ne or st or sf) (IsOwnEnd t s m z × (no_room ≡ false)) = in_turn (ne or st) sf s1 (λ f. test no_room PlaceFull (λ yes. let w = full_in_words yes in (f, w.0, w.1, w.2)) (λ no. (f, no))) in
+      let s3 : Sorts P (ne or st or sf or se) (IsOwnEnd t s m z × PlateMoves t s z) = in_turn (ne or st or sf) se s2 (λ f. test lacks_plate NoPlate (λ yes. (f.0, is_not (is_source t z) (first_so (not (is_source t z)) (not (is_full s z)) yes), is_not (is_full s z) (second_so (not (is_source t z)) (not (is_full s z)) yes))) (λ no. (f.0, plate_moves f.0.0 f.1 no))) in
+      in_turn (ne or st or sf or se) wo s3 (λ f. worn P (λ last. (f.0, f.1, last)))
+
+  own_end_by : IsOwnEnd t s m z → (ne or st) ≡ None
+  own_end_by f = none_of_both ne st (no_then_not (has_end t m z) NotParty (end_by t m z f.0)) (no_then s.stopped Stopped f.1)
+
+  cannot_go : (a b : Bool) → ¬ ((a ≡ true) × (b ≡ true)) → (a && b) ≡ false
+  cannot_go true true f = absurd (f (refl, refl))
+  cannot_go true false f = refl
+  cannot_go false b f = refl
+
+  advance_by : (r : Refusal) → BarsAdvance t s m z r → refusals.advance_refusal t s m z ≡ Some r
+  advance_by NotParty f = told ne (st ∷ sf ∷ se ∷ wo ∷ []) NotParty (yes_then_not (has_end t m z) NotParty (false_from_ne_true (has_end t m z) (λ own. f (end_in_words t m z own))))
+  advance_by Stopped f = told (ne or st) (sf ∷ se ∷ wo ∷ []) Stopped (past ne st Stopped (no_then_not (has_end t m z) NotParty (end_by t m z f.0)) (yes_then s.stopped Stopped f.1))
+  advance_by PlaceFull f =
+      let is : no_room ≡ true = rw (f.1, lt-ltb 0 (plates_for t s z) f.2, cannot_go (is_sink t z) (is_full s z) f.3) refl in
+      told (ne or st or sf) (se ∷ wo ∷ []) PlaceFull (past (ne or st) sf PlaceFull (own_end_by f.0) (yes_then no_room PlaceFull is))
+  advance_by NoPlate f =
+      let room : no_room ≡ false = rw f.1 refl in
+      let is : lacks_plate ≡ true = rw (f.1, f.2) refl in
+      told (ne or st or sf or se) (wo ∷ []) NoPlate (past (ne or st or sf) se NoPlate (none_of_both (ne or st) sf (own_end_by f.0) (no_then no_room PlaceFull room)) (yes_then lacks_plate NoPlate is))
+  advance_by Worn f =
+      past (ne or st or sf or se) wo Worn
+      (none_of_both (ne or st or sf) se (none_of_both (ne or st) sf (own_end_by f.0) (no_then no_room PlaceFull (has_room t s z f.1))) (no_then lacks_plate NoPlate (has_plate t s z f.1)))
+      (worn_by f.2)
+  advance_by _ f = absurd f
+
   abbrev nw : Option Refusal
   nw = refusals.not_watch m
 
@@ -432,6 +508,7 @@ calls_are_refused_exactly t s m z r = record {
   inquire = both (Inquire z) (BarsInquire t z) (inquire t s m z).says (inquire_by t s m z);
   stop = both Stop (BarsStop s m) (stop t s m z).says (stop_by t s m z);
   resume = both Resume (BarsResume s m) (resume t s m z).says (resume_by t s m z);
+  advance = both (Advance z) (BarsAdvance t s m z) (advance t s m z).says (advance_by t s m z);
 }
   where
     both : (c : Call) (P : Refusal → Type 0) → ((r : Refusal) → refusal t s m c ≡ Some r → P r) → ((r : Refusal) → P r → refusal t s m c ≡ Some r) → (reply t s m c ≡ Refused r) ↔ P r

@@ -2,7 +2,7 @@
 use Rattle.std.proofs.Common.{◌≡◌, ℕ, Option, Some, None, ap}
 use Rattle.plan_types.specs.declared.call.Call.{Call}
 use Rattle.plan_types.specs.declared.call.Call.TheVariants.{Claim, Give, Yield, Take, Release, SetPose, Inquire, Stop}
-use Rattle.plan_types.specs.declared.call.Call.TheVariants.{Resume}
+use Rattle.plan_types.specs.declared.call.Call.TheVariants.{Resume, Advance}
 use Rattle.plan_types.specs.declared.answer.Refusal.{Refusal}
 use Rattle.plan_types.specs.declared.answer.Answer.{Answer}
 use Rattle.plan_types.specs.declared.answer.Answer.TheVariants.{Refused}
@@ -12,7 +12,7 @@ use Rattle.plan_rules.specs.Sound.{IsSound}
 use Rattle.plan_rules.specs.Reply.{reply, refusal, answer_by, accepted}
 use Rattle.plan_rules.specs.Causes.{order_of, is_cause}
 use Rattle.plan_rules.specs.RefusalLaws.{RefusalsTell}
-use Rattle.plan_rules.proofs.Causing.{TellsRight, claim_tells, give_tells, yield_tells, take_tells, release_tells, pose_tells, inquire_tells, stop_tells, resume_tells}
+use Rattle.plan_rules.proofs.Causing.{TellsRight, claim_tells, give_tells, yield_tells, take_tells, release_tells, pose_tells, inquire_tells, stop_tells, resume_tells, advance_tells}
 
 call_tells : (t : PlanTable) (s : State) (m : ℕ) (c : Call) → IsSound t s → TellsRight (is_cause t s m c) (order_of c) (refusal t s m c)
 call_tells t s m (Claim z) h = claim_tells t s m z h.stamp_in_range
@@ -24,6 +24,7 @@ call_tells t s m (SetPose p) h = pose_tells t s m p h.stamp_in_range
 call_tells t s m (Inquire z) h = inquire_tells t s m z
 call_tells t s m Stop h = stop_tells t s m h.stamp_in_range
 call_tells t s m Resume h = resume_tells t s m h.stamp_in_range
+call_tells t s m (Advance p) h = advance_tells t s m p h.stamp_in_range
 
 -- what nothing refuses is answered by no refusal
 never_refused : (s : State) (c : Call) (r : Refusal) → accepted s c ≡ Refused r → ⊥

@@ -4,7 +4,7 @@ use Rattle.std.proofs.Math.Bool.{and-true}
 use Rattle.std.proofs.lemmas.Bool.{or_left, or_right, false_from_ne_true}
 use Rattle.std.proofs.lemmas.List.Elements.{All-nil, All-cons, All-head, All-tail}
 use Rattle.plan_types.specs.declared.call.Call.{Call}
-use Rattle.plan_types.specs.declared.call.Call.TheVariants.{Claim, Give, SetPose, Stop, Resume}
+use Rattle.plan_types.specs.declared.call.Call.TheVariants.{Claim, Give, SetPose, Stop, Resume, Advance}
 use Rattle.plan_types.specs.declared.answer.Answer.{Answer}
 use Rattle.plan_types.specs.declared.answer.Answer.TheVariants.{Done, Shown, Refused}
 use Rattle.plan_types.specs.declared.answer.Event.{Event}
@@ -13,7 +13,7 @@ use Rattle.plan_rules.specs.declared.state.State.{State}
 use Rattle.plan_rules.specs.Reply.{reply, next, next_by, changed}
 use Rattle.plan_rules.specs.History.{after, IsLegal, is_done_answer, stops, resumes, is_stop, is_resume, NeverResumes, StopsAndStays, IsStopped}
 use Rattle.plan_rules.specs.Laws.{StoppedUntilResumed, is_barred, done}
-use Rattle.plan_rules.proofs.lemmas.DoneCalls.{claim_done, give_done, pose_done, stop_done, resume_done}
+use Rattle.plan_rules.proofs.lemmas.DoneCalls.{claim_done, give_done, pose_done, advance_done, stop_done, resume_done}
 use Rattle.plan_rules.proofs.lemmas.Soundness.{done_none}
 use Rattle.plan_rules.proofs.Given.{gives_moving}
 use Rattle.plan_rules.proofs.Histories.{legal-left, replies_done}
@@ -103,6 +103,7 @@ barred_at : (t : PlanTable) (s : State) (m : ℕ) (c : Call) → reply t s m c �
 barred_at t s m (Claim z) e k = let off = (claim_done t s m z (done_none _ _ e)).goes_on in cc
 barred_at t s m (Give z) e k = let off = (give_done t s m z (done_none _ _ e)).goes_on in cc
 barred_at t s m (SetPose p) e k = only_unless (is_moving_pose t p) s.stopped (pose_done t s m p (done_none _ _ e)).goes_on k
+barred_at t s m (Advance p) e k = let off = (advance_done t s m p (done_none _ _ e)).goes_on in cc
 barred_at t s m _ e k = refl
 
 pub stopped_along : (t : PlanTable) (s : State) (h : List Event) → IsLegal t s h → StoppedUntilResumed t s h

@@ -7,12 +7,12 @@ use Rattle.plan_types.specs.declared.posture.Posture.{Posture}
 use Rattle.plan_types.specs.declared.posture.Posture.TheVariants.{Closed, Moving, OpenIn, OpenOut}
 use Rattle.plan_types.specs.declared.table.Transfer.{Transfer}
 use Rattle.plan_types.specs.declared.call.Call.{Call}
-use Rattle.plan_types.specs.declared.call.Call.TheVariants.{Claim, Give, Yield, Take, Release, SetPose, Inquire, Stop, Resume}
+use Rattle.plan_types.specs.declared.call.Call.TheVariants.{Claim, Give, Yield, Take, Release, SetPose, Inquire, Stop, Resume, Advance}
 use Rattle.plan_types.specs.declared.answer.Refusal.{Refusal}
 use Rattle.plan_types.specs.declared.answer.Refusal.TheVariants.{NotParty, Held, AlreadyMine, Shut, NotOwner, PlateInZone, NoPlate, PlaceFull, WrongWay, Jump, NoPose, Worn, Stopped, NotStopped}
 use Rattle.plan_types.specs.Same.{same_posture, one_posture}
 use Rattle.plan_types.specs.Below.{first_below, any_below}
-use Rattle.plan_types.specs.Table.{PlanTable, zone_count, pose_count, host_of, guest_of, machine_of, pose_row, posture_of, transfer_of, is_moving_pose, has_pose, is_party, watch}
+use Rattle.plan_types.specs.Table.{PlanTable, zone_count, pose_count, host_of, guest_of, machine_of, pose_row, posture_of, transfer_of, is_moving_pose, has_pose, is_party, watch, is_source, is_sink, has_end}
 use Rattle.plan_rules.specs.declared.state.State.{State}
 use Rattle.plan_rules.specs.State.{zone_at, owner_of, posture_at, is_full, plates_for, last_stamp}
 use Rattle.plan_rules.specs.Sound.{is_open}
@@ -24,7 +24,7 @@ use Rattle.plan_rules.specs.SayLaws.{IsAbout, OnGift, Says, RefusalsAreTrue}
 use Rattle.plan_rules.proofs.lemmas.Puts.{nat_eq-apart, same_or_not}
 use Rattle.plan_rules.proofs.lemmas.Soundness.{some_or_none}
 use Rattle.plan_rules.proofs.lemmas.Zones.{both_true, owner_is}
-use Rattle.plan_rules.proofs.DoneExactly.{is_same, is_party_by, owner_by}
+use Rattle.plan_rules.proofs.DoneExactly.{is_same, is_party_by, owner_by, end_by}
 use Rattle.plan_rules.proofs.Refusing.{refusal_of_reply}
 
 -- ---- what holds of the first refusal of several
@@ -351,6 +351,34 @@ module _ (t : PlanTable) (s : State) (m : ℕ) where
   inquire_says : (z : ℕ) (r : Refusal) → refusals.inquire_refusal t z ≡ Some r → Says t s m (Inquire z) r
   inquire_says z = one_says (λ r. Says t s m (Inquire z) r) (not (nat_lt z (zone_count t))) NotParty (λ yes. not_below z (zone_count t) (is_not (nat_lt z (zone_count t)) yes))
 
+  advance_says : (p : ℕ) (r : Refusal) → refusals.advance_refusal t s m p ≡ Some r → Says t s m (Advance p) r
+  advance_says p =
+      let c : Call = Advance p in
+      let P0 : Refusal → Type 0 = λ r. Says t s m c r in
+      let taken = refusals.is_taken t s p in
+      let goes = refusals.can_go t s p in
+      let r0 = refusals.not_own_end t m p in
+      let r1 = r0 or refusals.while_stopped s in
+      let r2 = r1 or refusals.source_taken t s p in
+      let r3 = r2 or refusals.sink_empty t s p in
+      both_say P0 r3 (refusals.worn s)
+      (both_say P0 r2 (refusals.sink_empty t s p)
+      (both_say P0 r1 (refusals.source_taken t s p)
+      (both_say P0 r0 (refusals.while_stopped s)
+      (one_says P0 (not (has_end t m p)) NotParty (λ yes keeps. not_both (has_end t m p) (end_by t m p keeps) (is_not (has_end t m p) yes)))
+      (stopped_says t s m c))
+      (one_says P0 (is_source t p && (taken && not goes)) PlaceFull (λ yes.
+      let rest = second_so (is_source t p) (taken && not goes) yes in (
+        first_so (is_source t p) (taken && not goes) yes,
+        ltb-true 0 (plates_for t s p) (first_so taken (not goes) rest),
+        λ both. not_both goes (rw (both.0, both.1) refl) (is_not goes (second_so taken (not goes) rest)),
+      ))))
+      (one_says P0 (not (is_source t p) && not (is_full s p)) NoPlate (λ yes. (
+        is_not (is_source t p) (first_so (not (is_source t p)) (not (is_full s p)) yes),
+        is_not (is_full s p) (second_so (not (is_source t p)) (not (is_full s p)) yes),
+      ))))
+      (worn_says t s m c)
+
   says : (c : Call) (r : Refusal) → refusal t s m c ≡ Some r → Says t s m c r
   says (Claim z) = claim_says z
   says (Give z) = give_says z
@@ -361,6 +389,7 @@ module _ (t : PlanTable) (s : State) (m : ℕ) where
   says (Inquire z) = inquire_says z
   says Stop = stop_says
   says Resume = resume_says
+  says (Advance p) = advance_says p
 
 pub refusals_are_true : RefusalsAreTrue
 refusals_are_true t s m c r e = says t s m c r (refusal_of_reply t s m c r e)

@@ -1,7 +1,7 @@
 -- A stop bars no other calls.
 use Rattle.std.proofs.Common.{true, false, ◌&&◌, Option, refl, sym, ap, ◌∙◌}
 use Rattle.std.specs.Bool.{then_some}
-use Rattle.plan_types.specs.declared.call.Call.TheVariants.{Claim, Give, SetPose, Stop, Resume}
+use Rattle.plan_types.specs.declared.call.Call.TheVariants.{Claim, Give, SetPose, Stop, Resume, Advance}
 use Rattle.plan_types.specs.declared.answer.Refusal.{Refusal}
 use Rattle.plan_types.specs.declared.answer.Refusal.TheVariants.{Stopped}
 use Rattle.plan_types.specs.declared.answer.Answer.TheVariants.{Done}
@@ -13,6 +13,7 @@ use Rattle.plan_rules.specs.Laws.{StopBarsNoOthers}
 pub stop_bars_no_others : StopBarsNoOthers
 stop_bars_no_others t s m (Claim z) open_to stop resume = cc
 stop_bars_no_others t s m (Give z) open_to stop resume = cc
+stop_bars_no_others t s m (Advance p) open_to stop resume = cc
 stop_bars_no_others t s m (SetPose p) stands stop resume =
     ap (λ (r : Option Refusal). answer_by (refusals.lacks_pose t m p or r
     or refusals.first_zone t (refusals.unowned_by_pose t s m p) or refusals.first_zone t (refusals.plate_under_pose t s m p)

@@ -3,6 +3,7 @@ pub mod Puts
 pub mod Zones
 pub mod DoneCalls
 pub mod Plates
+pub mod Advancing
 pub mod Ways
 pub mod Soundness
 pub mod Starts

@@ -8,7 +8,7 @@ use Rattle.plan_types.specs.declared.posture.Posture.TheVariants.{Closed, Moving
 use Rattle.plan_types.specs.declared.table.Transfer.{Transfer}
 use Rattle.plan_types.specs.declared.call.Call.{Call}
 use Rattle.plan_types.specs.declared.call.Call.TheVariants.{Claim, Give, Yield, Take, Release, SetPose, Inquire, Stop}
-use Rattle.plan_types.specs.declared.call.Call.TheVariants.{Resume}
+use Rattle.plan_types.specs.declared.call.Call.TheVariants.{Resume, Advance}
 use Rattle.plan_types.specs.declared.answer.Refusal.{Refusal}
 use Rattle.plan_types.specs.declared.answer.Refusal.TheVariants.{NotParty, Held, AlreadyMine, Shut, NotOwner}
 use Rattle.plan_types.specs.declared.answer.Refusal.TheVariants.{PlateInZone, NoPlate, PlaceFull, WrongWay, Jump}
@@ -16,7 +16,7 @@ use Rattle.plan_types.specs.declared.answer.Refusal.TheVariants.{NoPose, Worn, S
 use Rattle.plan_types.specs.Same.{same_posture}
 use Rattle.plan_types.specs.Below.{first_below, any_below}
 use Rattle.plan_types.specs.Table.{PlanTable, zone_count, host_of, guest_of, is_party, has_pose, pose_row, posture_of}
-use Rattle.plan_types.specs.Table.{is_moving_pose, transfer_of, watch}
+use Rattle.plan_types.specs.Table.{is_moving_pose, transfer_of, watch, place_count, keeper_of, is_source, is_sink}
 use Rattle.plan_rules.specs.declared.state.State.{State}
 use Rattle.plan_rules.specs.State.{zone_at, owner_of, posture_at, is_full, plates_for}
 
@@ -48,6 +48,7 @@ order_of (SetPose _) = 12 ∷ 14 ∷ 5 ∷ 6 ∷ 10 ∷ 8 ∷ 13 ∷ []
 order_of (Inquire _) = 1 ∷ []
 order_of Stop = 1 ∷ 14 ∷ 13 ∷ []
 order_of Resume = 1 ∷ 15 ∷ 13 ∷ []
+order_of (Advance _) = 1 ∷ 14 ∷ 8 ∷ 7 ∷ 13 ∷ []
 
 -- what the state says of a zone
 abbrev pub is_owned_as : State → ℕ → Option ℕ → Bool
@@ -190,6 +191,18 @@ resume_cause s m NotStopped = not s.stopped
 resume_cause s m Worn = is_worn s
 resume_cause s m _ = false
 
+-- the keeper of a source or of a sink asks; of a source and sink the state tells which it is now
+abbrev pub is_own_end : PlanTable → ℕ → ℕ → Bool
+is_own_end t m p = (nat_lt p (place_count t) && nat_eq (keeper_of t p) m) && (is_source t p || is_sink t p)
+
+abbrev pub advance_cause : PlanTable → State → ℕ → ℕ → Refusal → Bool
+advance_cause t s m p NotParty = not (is_own_end t m p)
+advance_cause t s m p Stopped = s.stopped
+advance_cause t s m p PlaceFull = is_source t p && (is_filled t s p && not (is_sink t p && is_full s p))
+advance_cause t s m p NoPlate = not (is_source t p) && not (is_full s p)
+advance_cause t s m p Worn = is_worn s
+advance_cause t s m p _ = false
+
 -- what a refusal of a call says of the state
 abbrev pub is_cause : PlanTable → State → ℕ → Call → Refusal → Bool
 is_cause t s m (Claim z) r = claim_cause t s m z r
@@ -201,3 +214,4 @@ is_cause t s m (SetPose p) r = pose_cause t s m p r
 is_cause t s m (Inquire z) r = inquire_cause t z r
 is_cause t s m Stop r = stop_cause s m r
 is_cause t s m Resume r = resume_cause s m r
+is_cause t s m (Advance p) r = advance_cause t s m p r

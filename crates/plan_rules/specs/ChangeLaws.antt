@@ -5,6 +5,7 @@ use Rattle.plan_types.specs.declared.posture.Posture.{Posture}
 use Rattle.plan_types.specs.declared.table.Transfer.{Transfer}
 use Rattle.plan_types.specs.declared.call.Call.{Call}
 use Rattle.plan_types.specs.declared.call.Call.TheVariants.{Claim, Give, Yield, Take, Release, SetPose, Stop, Resume}
+use Rattle.plan_types.specs.declared.call.Call.TheVariants.{Advance}
 use Rattle.plan_types.specs.declared.answer.Answer.TheVariants.{Done}
 use Rattle.plan_types.specs.Table.{PlanTable, transfer_of, posture_of}
 use Rattle.plan_types.specs.Plan.{IsPlan}
@@ -70,6 +71,12 @@ pub record PosturesChange (t : PlanTable) (s after : State) (p : ℕ) : Type 0 w
   pub places : PlacesStay s after
   pub counted : IsCounted s after s.stopped
 
+-- a plate comes to a place from outside, or goes from it
+pub record PlaceChanges (s after : State) (p : ℕ) (full : Bool) : Type 0 where
+  pub zones : ZonesStay s after
+  pub place : PlaceBecomes s after p full
+  pub counted : IsCounted s after s.stopped
+
 -- the plant is stopped, or goes on
 pub record StopChanges (s after : State) (stopped : Bool) : Type 0 where
   pub zones : ZonesStay s after
@@ -86,6 +93,8 @@ pub record Changes (t : PlanTable) (s : State) (m z p : ℕ) : Type 0 where
   pub pose : reply t s m (SetPose p) ≡ Done → PosturesChange t s (next t s m (SetPose p)) p
   pub stop : reply t s m Stop ≡ Done → StopChanges s (next t s m Stop) true
   pub resume : reply t s m Resume ≡ Done → StopChanges s (next t s m Resume) false
+  pub comes : reply t s m (Advance p) ≡ Done → is_full s p ≡ false → PlaceChanges s (next t s m (Advance p)) p true
+  pub goes : reply t s m (Advance p) ≡ Done → is_full s p ≡ true → PlaceChanges s (next t s m (Advance p)) p false
   -- what isn't Done changes nothing
   pub undone : (c : Call) → reply t s m c ≢ Done → next t s m c ≡ s
 

@@ -4,10 +4,10 @@ use Rattle.plan_types.specs.declared.posture.Posture.{Posture}
 use Rattle.plan_types.specs.declared.posture.Posture.TheVariants.{Moving, OpenIn, OpenOut}
 use Rattle.plan_types.specs.declared.table.Transfer.{Transfer}
 use Rattle.plan_types.specs.declared.call.Call.TheVariants.{Claim, Give, Yield, Take, Release, SetPose, Inquire, Stop}
-use Rattle.plan_types.specs.declared.call.Call.TheVariants.{Resume}
+use Rattle.plan_types.specs.declared.call.Call.TheVariants.{Resume, Advance}
 use Rattle.plan_types.specs.declared.answer.Answer.TheVariants.{Done, Shown}
 use Rattle.plan_types.specs.Table.{PlanTable, zone_count, pose_count, host_of, guest_of, machine_of, pose_row}
-use Rattle.plan_types.specs.Table.{posture_of, transfer_of}
+use Rattle.plan_types.specs.Table.{posture_of, transfer_of, place_count, keeper_of, is_source, is_sink}
 use Rattle.plan_rules.specs.declared.state.State.{State}
 use Rattle.plan_rules.specs.State.{zone_at, owner_of, posture_at, is_full, plates_for}
 use Rattle.plan_rules.specs.Reply.{reply}
@@ -79,6 +79,22 @@ pub record MayPose (t : PlanTable) (s : State) (m p : ℕ) : Type 0 where
       → transfer_of t z OpenIn ≡ Some way → plates_for t s way.to ≡ 0
   pub stamps : HasStampsLeft s
 
+-- the keeper of a source or of a sink
+abbrev pub KeepsEnd : PlanTable → ℕ → ℕ → Type 0
+KeepsEnd t m p =
+    (p < place_count t) × (keeper_of t p ≡ m) × ((is_source t p ≡ true) ⊎ (is_sink t p ≡ true))
+
+-- a plate comes to a source that has none, and none coming; or one goes from a sink that has one
+abbrev pub PlateMoves : PlanTable → State → ℕ → Type 0
+PlateMoves t s p =
+    ((is_source t p ≡ true) × (plates_for t s p ≡ 0)) ⊎ ((is_sink t p ≡ true) × (is_full s p ≡ true))
+
+pub record MayAdvance (t : PlanTable) (s : State) (m p : ℕ) : Type 0 where
+  pub own : KeepsEnd t m p
+  pub runs : s.stopped ≡ false
+  pub moves : PlateMoves t s p
+  pub stamps : HasStampsLeft s
+
 -- the watch, 15, alone stops and resumes, in turn
 pub record MayMark (s : State) (m : ℕ) (stopped : Bool) : Type 0 where
   pub watch : m ≡ 15
@@ -94,6 +110,7 @@ pub record DoneExactly (t : PlanTable) (s : State) (m z p : ℕ) : Type 0 where
   pub pose : (reply t s m (SetPose p) ≡ Done) ↔ MayPose t s m p
   pub stop : (reply t s m Stop ≡ Done) ↔ MayMark s m false
   pub resume : (reply t s m Resume ≡ Done) ↔ MayMark s m true
+  pub advance : (reply t s m (Advance p) ≡ Done) ↔ MayAdvance t s m p
   -- whoever asks about a zone of the plan is shown it
   pub inquire : z < zone_count t
       → reply t s m (Inquire z) ≡ Shown (owner_of s z) (zone_at s z).flag (posture_at s z)

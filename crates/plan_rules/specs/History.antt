@@ -1,17 +1,18 @@
 -- Histories: lists of events, the oldest first. Each definition over a history takes the plan and the opening, the
 -- state that the history begins with.
-use Rattle.std.specs.Prelude.{◌≡◌, ℕ, Bool, true, false, ◌&&◌, nat_eq, ◌⊎◌, List, [], ◌∷◌, ◌++◌, filter, count_by}
+use Rattle.std.specs.Prelude.{◌≡◌, ℕ, ◌+◌, Bool, true, false, ◌&&◌, not, nat_eq, ◌⊎◌, List, [], ◌∷◌, ◌++◌, filter, count_by}
 use Rattle.std.specs.Prelude.{All, unwrap_or, if◌then◌else◌, IsTrue, ⊤}
 use Rattle.plan_types.specs.declared.posture.Posture.{Posture}
 use Rattle.plan_types.specs.declared.posture.Posture.TheVariants.{Moving}
 use Rattle.plan_types.specs.declared.call.Call.{Call}
 use Rattle.plan_types.specs.declared.call.Call.TheVariants.{Claim, Give, Yield, Release, SetPose, Stop, Resume}
+use Rattle.plan_types.specs.declared.call.Call.TheVariants.{Advance}
 use Rattle.plan_types.specs.declared.answer.Answer.{Answer}
 use Rattle.plan_types.specs.declared.answer.Answer.TheVariants.{Done, Shown, Refused}
 use Rattle.plan_types.specs.declared.answer.Event.{Event}
 use Rattle.plan_types.specs.Table.{PlanTable, is_party, posture_of}
 use Rattle.plan_rules.specs.declared.state.State.{State}
-use Rattle.plan_rules.specs.State.{posture_at}
+use Rattle.plan_rules.specs.State.{posture_at, is_full, one_if}
 use Rattle.plan_rules.specs.Refusals.{owns}
 use Rattle.plan_rules.specs.Reply.{reply, next, other_party}
 
@@ -41,6 +42,26 @@ is_done e = is_done_answer e.answer
 -- how many Done events a history has
 abbrev pub done_count : List Event → ℕ
 done_count history = count_by is_done history
+
+-- a Done advance fills its place, which had no plate before, or empties it
+abbrev pub fills : State → Call → Bool
+fills s (Advance p) = not (is_full s p)
+fills s _ = false
+
+abbrev pub empties : State → Call → Bool
+empties s (Advance p) = is_full s p
+empties s _ = false
+
+-- how many plates have come from outside, and how many have gone there: the Done advances that fill, and that empty
+abbrev pub come : PlanTable → State → List Event → ℕ
+come t s [] = 0
+come t s (e ∷ history) =
+    one_if (is_done e && fills s e.call) + come t (next t s e.machine e.call) history
+
+abbrev pub gone : PlanTable → State → List Event → ℕ
+gone t s [] = 0
+gone t s (e ∷ history) =
+    one_if (is_done e && empties s e.call) + gone t (next t s e.machine e.call) history
 
 -- a machine gains a zone by its own claim, or by a handover from the zone's other party
 abbrev pub gains : PlanTable → ℕ → Call → ℕ → ℕ → Bool

@@ -5,12 +5,13 @@ use Rattle.plan_types.specs.declared.posture.Posture.{Posture}
 use Rattle.plan_types.specs.declared.posture.Posture.TheVariants.{Moving, OpenIn}
 use Rattle.plan_types.specs.declared.call.Call.{Call}
 use Rattle.plan_types.specs.declared.call.Call.TheVariants.{Claim, Give, Yield, Take, Release, SetPose, Stop}
-use Rattle.plan_types.specs.declared.call.Call.TheVariants.{Resume}
+use Rattle.plan_types.specs.declared.call.Call.TheVariants.{Resume, Advance}
 use Rattle.plan_types.specs.declared.table.Transfer.{Transfer}
 use Rattle.plan_types.specs.declared.answer.Answer.TheVariants.{Done}
 use Rattle.plan_types.specs.declared.answer.Event.{Event}
 use Rattle.plan_types.specs.Table.{PlanTable, zone_count, place_count, host_of, guest_of, keeper_of, is_moving_pose}
 use Rattle.plan_types.specs.Table.{posture_of, watch, pose_count, pose_row, machine_of, transfer_of}
+use Rattle.plan_types.specs.Table.{is_source, is_sink}
 use Rattle.plan_types.specs.Plan.{IsPlan}
 use Rattle.plan_rules.specs.declared.state.State.{State}
 use Rattle.plan_rules.specs.State.{zone_at, owner_of, posture_at, is_full, plates_for, plates_of}
@@ -18,6 +19,7 @@ use Rattle.plan_rules.specs.Sound.{IsSound, is_open}
 use Rattle.plan_rules.specs.Refusals.{owns}
 use Rattle.plan_rules.specs.Reply.{reply}
 use Rattle.plan_rules.specs.History.{after, IsLegal, own_events, done_count, Holds, Moves, posture_by_events, IsStopped}
+use Rattle.plan_rules.specs.History.{come, gone}
 
 -- a law holds of each prefix of a history
 abbrev pub Throughout : (List Event → Type 0) → List Event → Type 0
@@ -53,9 +55,28 @@ abbrev pub GuestOnlyWhileOpen : PlanTable → State → List Event → Type 0
 GuestOnlyWhileOpen t s h =
     (z : ℕ) → z < zone_count t → Holds t s h (guest_of t z) z → IsTrue (is_open (posture_by_events t s h z))
 
--- the state after has as many plates as the opening
+-- the plates of the state after are those of the opening, and those that have come from outside, without those that have
+-- gone there
+abbrev pub PlatesAreCounted : PlanTable → State → List Event → Type 0
+PlatesAreCounted t s h = plates_of t (after t s h) + gone t s h ≡ plates_of t s + come t s h
+
+-- no place of the plan is a source or a sink
+abbrev pub HasNoEnds : PlanTable → Type 0
+HasNoEnds t = (p : ℕ) → p < place_count t → (is_source t p ≡ false) × (is_sink t p ≡ false)
+
+-- where no place is a source or a sink, the state after has as many plates as the opening
 abbrev pub PlatesAreKept : PlanTable → State → List Event → Type 0
-PlatesAreKept t s h = plates_of t (after t s h) ≡ plates_of t s
+PlatesAreKept t s h = HasNoEnds t → plates_of t (after t s h) ≡ plates_of t s
+
+-- what holds in the state before an advance that is Done: the machine keeps the place; a plate comes only to a source
+-- that has none, and none coming, and goes only from a sink that has one
+pub record AdvancesFit (t : PlanTable) (s : State) (h : List Event) : Type 0 where
+  pub own : (before rest : List Event) (m p : ℕ) → h ≡ before ++ done m (Advance p) ∷ rest
+      → (p < place_count t) × (keeper_of t p ≡ m)
+  pub comes : (before rest : List Event) (m p : ℕ) → h ≡ before ++ done m (Advance p) ∷ rest
+      → is_full (after t s before) p ≡ false → (is_source t p ≡ true) × (plates_for t (after t s before) p ≡ 0)
+  pub goes : (before rest : List Event) (m p : ℕ) → h ≡ before ++ done m (Advance p) ∷ rest
+      → is_full (after t s before) p ≡ true → is_sink t p ≡ true
 
 -- the stamp counts the Done events
 abbrev pub StampCountsChanges : PlanTable → State → List Event → Type 0
@@ -118,11 +139,12 @@ pub record HandoverByHolder (t : PlanTable) (s : State) (h : List Event) : Type 
   pub release : (before rest : List Event) (m z : ℕ) → h ≡ before ++ done m (Release z) ∷ rest
       → HasZone t s before m z
 
--- the calls that are barred while the plant is stopped: claims, handovers of plates and movements
+-- the calls that are barred while the plant is stopped: claims, handovers of plates, movements and advances
 abbrev pub is_barred : PlanTable → Call → Bool
 is_barred t (Claim _) = true
 is_barred t (Give _) = true
 is_barred t (SetPose p) = is_moving_pose t p
+is_barred t (Advance _) = true
 is_barred t _ = false
 
 -- a state, stopped or not
@@ -153,6 +175,7 @@ pub record Lawful (t : PlanTable) (s : State) (h : List Event) : Type 0 where
   pub one_holder : OneHolder t s h
   pub mover_is_host : MoverIsHost t s h
   pub guest_only_while_open : GuestOnlyWhileOpen t s h
+  pub plates_are_counted : PlatesAreCounted t s h
   pub plates_are_kept : PlatesAreKept t s h
   pub stamp_counts_changes : StampCountsChanges t s h
   pub right_lasts : (before more : List Event) → h ≡ before ++ more → RightLasts t s before more
@@ -160,6 +183,7 @@ pub record Lawful (t : PlanTable) (s : State) (h : List Event) : Type 0 where
   pub stays_sound : StaysSound t s h
   pub poses_fit : PosesFit t s h
   pub handover_by_holder : HandoverByHolder t s h
+  pub advances_fit : AdvancesFit t s h
   pub stopped_until_resumed : StoppedUntilResumed t s h
 
 -- so each law holds of a history of which every law holds
@@ -167,6 +191,7 @@ pub record LawfulSaysEach (t : PlanTable) (s : State) (h : List Event) : Type 0 
   pub holder : Lawful t s h → OneHolder t s h
   pub mover : Lawful t s h → MoverIsHost t s h
   pub guest : Lawful t s h → GuestOnlyWhileOpen t s h
+  pub counted : Lawful t s h → PlatesAreCounted t s h
   pub plates : Lawful t s h → PlatesAreKept t s h
   pub stamp : Lawful t s h → StampCountsChanges t s h
   pub rights : Lawful t s h → (before more : List Event) → h ≡ before ++ more → RightLasts t s before more
@@ -174,6 +199,7 @@ pub record LawfulSaysEach (t : PlanTable) (s : State) (h : List Event) : Type 0 
   pub sound : Lawful t s h → StaysSound t s h
   pub poses : Lawful t s h → PosesFit t s h
   pub handovers : Lawful t s h → HandoverByHolder t s h
+  pub advances : Lawful t s h → AdvancesFit t s h
   pub stops : Lawful t s h → StoppedUntilResumed t s h
 
 abbrev pub EachLawIsSaid : Type 0

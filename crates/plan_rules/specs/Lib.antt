@@ -22,3 +22,4 @@ pub mod SayLaws
 pub mod RefusedLaws
 pub mod PoseLaws
 pub mod ChangeLaws
+pub mod AdvanceExamples

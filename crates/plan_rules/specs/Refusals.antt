@@ -13,7 +13,7 @@ use Rattle.plan_types.specs.declared.answer.Refusal.TheVariants.{NoPose, Worn, S
 use Rattle.plan_types.specs.Same.{same_posture}
 use Rattle.plan_types.specs.Below.{first_below, any_below}
 use Rattle.plan_types.specs.Table.{PlanTable, zone_count, host_of, guest_of, is_party, has_pose, pose_row, posture_of}
-use Rattle.plan_types.specs.Table.{is_moving_pose, transfer_of, watch}
+use Rattle.plan_types.specs.Table.{is_moving_pose, transfer_of, watch, is_source, is_sink, has_end}
 use Rattle.plan_rules.specs.declared.state.State.{State}
 use Rattle.plan_rules.specs.State.{zone_at, owner_of, posture_at, is_full, plates_for, last_stamp}
 use Rattle.plan_rules.specs.Sound.{is_open, is_owned_by}
@@ -152,6 +152,22 @@ opens_onto_plate t s p z =
     && is_onto_taken t s (transfer_of t z OpenIn))
     PlaceFull
 
+-- the caller doesn't keep the place, or the place is neither source nor sink
+abbrev pub not_own_end : PlanTable → ℕ → ℕ → Option Refusal
+not_own_end t m p = then_some (not (has_end t m p)) NotParty
+
+-- a sink has a plate to go outside
+abbrev pub can_go : PlanTable → State → ℕ → Bool
+can_go t s p = is_sink t p && is_full s p
+
+-- a plate would come to a source that has one, or has one coming; one that is a sink, too, loses its own in place of it
+abbrev pub source_taken : PlanTable → State → ℕ → Option Refusal
+source_taken t s p = then_some (is_source t p && (is_taken t s p && not (can_go t s p))) PlaceFull
+
+-- a sink that is no source has no plate
+abbrev pub sink_empty : PlanTable → State → ℕ → Option Refusal
+sink_empty t s p = then_some (not (is_source t p) && not (is_full s p)) NoPlate
+
 -- the conditions of each call, in their order
 
 abbrev pub claim_refusal : PlanTable → State → ℕ → ℕ → Option Refusal
@@ -189,6 +205,10 @@ pose_refusal t s m p =
     or jump t s m p
     or first_zone t (opens_onto_plate t s p)
     or worn s
+
+abbrev pub advance_refusal : PlanTable → State → ℕ → ℕ → Option Refusal
+advance_refusal t s m p =
+    not_own_end t m p or while_stopped s or source_taken t s p or sink_empty t s p or worn s
 
 abbrev pub stop_refusal : State → ℕ → Option Refusal
 stop_refusal s m = not_watch m or while_stopped s or worn s

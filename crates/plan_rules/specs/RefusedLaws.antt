@@ -4,16 +4,17 @@ use Rattle.std.specs.Prelude.{◌≡◌, ◌≢◌, ◌↔◌, ◌⊎◌, ℕ, �
 use Rattle.plan_types.specs.declared.posture.Posture.{Posture}
 use Rattle.plan_types.specs.declared.posture.Posture.TheVariants.{Closed, Moving}
 use Rattle.plan_types.specs.declared.call.Call.TheVariants.{Claim, Give, Yield, Take, Release, Inquire, Stop, Resume}
+use Rattle.plan_types.specs.declared.call.Call.TheVariants.{Advance}
 use Rattle.plan_types.specs.declared.answer.Refusal.{Refusal}
 use Rattle.plan_types.specs.declared.answer.Refusal.TheVariants.{NotParty, Held, AlreadyMine, Shut, NotOwner}
 use Rattle.plan_types.specs.declared.answer.Refusal.TheVariants.{PlateInZone, NoPlate, PlaceFull, WrongWay}
 use Rattle.plan_types.specs.declared.answer.Refusal.TheVariants.{Worn, Stopped, NotStopped}
 use Rattle.plan_types.specs.declared.answer.Answer.TheVariants.{Refused}
-use Rattle.plan_types.specs.Table.{PlanTable, zone_count, guest_of}
+use Rattle.plan_types.specs.Table.{PlanTable, zone_count, guest_of, is_source, is_sink}
 use Rattle.plan_rules.specs.declared.state.State.{State}
 use Rattle.plan_rules.specs.State.{zone_at, owner_of, posture_at, is_full, plates_for}
 use Rattle.plan_rules.specs.Reply.{reply}
-use Rattle.plan_rules.specs.DoneLaws.{IsPartyOf, IsOpen}
+use Rattle.plan_rules.specs.DoneLaws.{IsPartyOf, IsOpen, KeepsEnd, PlateMoves}
 use Rattle.plan_rules.specs.SayLaws.{OnGift, GivesNothing}
 
 abbrev pub HasNoStampLeft : State → Type 0
@@ -102,6 +103,20 @@ BarsResume s m NotStopped = (m ≡ 15) × (s.stopped ≡ false)
 BarsResume s m Worn = (m ≡ 15) × (s.stopped ≡ true) × HasNoStampLeft s
 BarsResume s m _ = ⊥
 
+-- the keeper of a source or sink asks, while the plant runs
+abbrev pub IsOwnEnd : PlanTable → State → ℕ → ℕ → Type 0
+IsOwnEnd t s m p = KeepsEnd t m p × (s.stopped ≡ false)
+
+abbrev pub BarsAdvance : PlanTable → State → ℕ → ℕ → Refusal → Type 0
+BarsAdvance t s m p NotParty = ¬ KeepsEnd t m p
+BarsAdvance t s m p Stopped = KeepsEnd t m p × (s.stopped ≡ true)
+BarsAdvance t s m p PlaceFull =
+    IsOwnEnd t s m p × (is_source t p ≡ true) × (0 < plates_for t s p)
+    × ¬ ((is_sink t p ≡ true) × (is_full s p ≡ true))
+BarsAdvance t s m p NoPlate = IsOwnEnd t s m p × (is_source t p ≡ false) × (is_full s p ≡ false)
+BarsAdvance t s m p Worn = IsOwnEnd t s m p × PlateMoves t s p × HasNoStampLeft s
+BarsAdvance t s m p _ = ⊥
+
 pub record RefusedExactly (t : PlanTable) (s : State) (m z : ℕ) (r : Refusal) : Type 0 where
   pub claim : (reply t s m (Claim z) ≡ Refused r) ↔ BarsClaim t s m z r
   pub give : (reply t s m (Give z) ≡ Refused r) ↔ BarsGive t s m z r
@@ -111,6 +126,7 @@ pub record RefusedExactly (t : PlanTable) (s : State) (m z : ℕ) (r : Refusal) 
   pub inquire : (reply t s m (Inquire z) ≡ Refused r) ↔ BarsInquire t z r
   pub stop : (reply t s m Stop ≡ Refused r) ↔ BarsStop s m r
   pub resume : (reply t s m Resume ≡ Refused r) ↔ BarsResume s m r
+  pub advance : (reply t s m (Advance z) ≡ Refused r) ↔ BarsAdvance t s m z r
 
 abbrev pub CallsAreRefusedExactly : Type 0
 CallsAreRefusedExactly = (t : PlanTable) (s : State) (m z : ℕ) (r : Refusal) → RefusedExactly t s m z r

@@ -1,21 +1,21 @@
 -- The reply to a call, and the state that it leaves.
-use Rattle.std.specs.Prelude.{ℕ, ◌+◌, Bool, true, false, nat_eq, List, map, set, Option, Some, None}
+use Rattle.std.specs.Prelude.{ℕ, ◌+◌, Bool, true, false, not, nat_eq, List, map, set, Option, Some, None}
 use Rattle.std.specs.Prelude.{if◌then◌else◌}
 use Rattle.std.specs.List.{range_with_len}
 use Rattle.plan_types.specs.declared.table.Transfer.{Transfer}
 use Rattle.plan_types.specs.declared.call.Call.{Call}
 use Rattle.plan_types.specs.declared.call.Call.TheVariants.{Claim, Give, Yield, Take, Release, SetPose, Inquire, Stop}
-use Rattle.plan_types.specs.declared.call.Call.TheVariants.{Resume}
+use Rattle.plan_types.specs.declared.call.Call.TheVariants.{Resume, Advance}
 use Rattle.plan_types.specs.declared.answer.Refusal.{Refusal}
 use Rattle.plan_types.specs.declared.answer.Answer.{Answer}
 use Rattle.plan_types.specs.declared.answer.Answer.TheVariants.{Done, Shown, Refused}
 use Rattle.plan_types.specs.Table.{PlanTable, host_of, guest_of, transfer_of}
 use Rattle.plan_rules.specs.declared.state.ZoneState.{ZoneState}
 use Rattle.plan_rules.specs.declared.state.State.{State}
-use Rattle.plan_rules.specs.State.{zone_at, posture_at}
+use Rattle.plan_rules.specs.State.{zone_at, posture_at, is_full}
 use Rattle.plan_rules.specs.Refusals.{claim_refusal, give_refusal, yield_refusal, take_refusal, release_refusal}
-use Rattle.plan_rules.specs.Refusals.{pose_refusal, stop_refusal, resume_refusal, inquire_refusal, transfer_given}
-use Rattle.plan_rules.specs.Refusals.{posture_with}
+use Rattle.plan_rules.specs.Refusals.{pose_refusal, stop_refusal, resume_refusal, inquire_refusal, advance_refusal}
+use Rattle.plan_rules.specs.Refusals.{transfer_given, posture_with}
 
 -- the first refusal of a call
 abbrev pub refusal : PlanTable → State → ℕ → Call → Option Refusal
@@ -28,6 +28,7 @@ refusal t s m (SetPose p) = pose_refusal t s m p
 refusal t s m (Inquire z) = inquire_refusal t z
 refusal t s m Stop = stop_refusal s m
 refusal t s m Resume = resume_refusal s m
+refusal t s m (Advance p) = advance_refusal t s m p
 
 -- what a call is answered if nothing refuses it: an inquiry by the state of the zone
 abbrev pub accepted : State → Call → Answer
@@ -78,6 +79,8 @@ zones_after t s m _ = s.zones
 abbrev pub places_after : PlanTable → State → ℕ → Call → List Bool
 places_after t s m (Give z) = emptied s.full (transfer_given t s m z)
 places_after t s m (Take z) = filled s.full (transfer_of t z (posture_at s z))
+-- a plate comes to a place that has none, and goes from one that has one
+places_after t s m (Advance p) = set s.full p (not (is_full s p))
 places_after t s m _ = s.full
 
 -- whether the plant is stopped after a Done call

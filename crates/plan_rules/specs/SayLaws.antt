@@ -4,18 +4,18 @@ use Rattle.plan_types.specs.declared.posture.Posture.TheVariants.{Closed, Moving
 use Rattle.plan_types.specs.declared.table.Transfer.{Transfer}
 use Rattle.plan_types.specs.declared.call.Call.{Call}
 use Rattle.plan_types.specs.declared.call.Call.TheVariants.{Claim, Give, Yield, Take, Release, SetPose, Inquire, Stop}
-use Rattle.plan_types.specs.declared.call.Call.TheVariants.{Resume}
+use Rattle.plan_types.specs.declared.call.Call.TheVariants.{Resume, Advance}
 use Rattle.plan_types.specs.declared.answer.Refusal.{Refusal}
 use Rattle.plan_types.specs.declared.answer.Refusal.TheVariants.{NotParty, Held, AlreadyMine, Shut, NotOwner}
 use Rattle.plan_types.specs.declared.answer.Refusal.TheVariants.{PlateInZone, NoPlate, PlaceFull, WrongWay, Jump}
 use Rattle.plan_types.specs.declared.answer.Refusal.TheVariants.{NoPose, Worn, Stopped, NotStopped}
 use Rattle.plan_types.specs.declared.answer.Answer.TheVariants.{Refused}
 use Rattle.plan_types.specs.Table.{PlanTable, zone_count, pose_count, host_of, machine_of, pose_row, posture_of}
-use Rattle.plan_types.specs.Table.{transfer_of}
+use Rattle.plan_types.specs.Table.{transfer_of, is_source, is_sink}
 use Rattle.plan_rules.specs.declared.state.State.{State}
 use Rattle.plan_rules.specs.State.{zone_at, owner_of, posture_at, is_full, plates_for}
 use Rattle.plan_rules.specs.Reply.{reply}
-use Rattle.plan_rules.specs.DoneLaws.{IsPartyOf}
+use Rattle.plan_rules.specs.DoneLaws.{IsPartyOf, KeepsEnd}
 
 -- the zones that a call is about: its own; of a pose those that the machine hosts
 abbrev pub IsAbout : PlanTable → ℕ → Call → ℕ → Type 0
@@ -31,11 +31,13 @@ IsAbout t m _ y = ⊥
 abbrev pub OfSome : PlanTable → ℕ → Call → (ℕ → Type 0) → Type 0
 OfSome t m c holds = (y : ℕ) × IsAbout t m c y × holds y
 
--- the caller is no party of the zone, or not the watch; or the zone asked about isn't in the plan
+-- the caller is no party of the zone, or not the watch, or keeps no such source or sink; or the zone asked about isn't
+-- in the plan
 abbrev pub HasNoPart : PlanTable → ℕ → Call → Type 0
 HasNoPart t m (Inquire z) = zone_count t ≤ z
 HasNoPart t m Stop = m ≢ 15
 HasNoPart t m Resume = m ≢ 15
+HasNoPart t m (Advance p) = ¬ KeepsEnd t m p
 HasNoPart t m c = OfSome t m c (λ z. ¬ IsPartyOf t m z)
 
 -- the way of the machine's plate through a zone passes a test
@@ -47,6 +49,7 @@ OnGift t s m z holds =
 abbrev pub LacksPlate : PlanTable → State → ℕ → Call → Type 0
 LacksPlate t s m (Give z) = OnGift t s m z (λ way. is_full s way.from ≡ false)
 LacksPlate t s m (Take z) = (zone_at s z).flag ≡ false
+LacksPlate t s m (Advance p) = (is_source t p ≡ false) × (is_full s p ≡ false)
 LacksPlate t s m _ = ⊥
 
 -- a plate would come to a place that has one, or has one coming
@@ -55,6 +58,8 @@ LacksRoom t s m (Give z) = OnGift t s m z (λ way. 0 < plates_for t s way.to)
 LacksRoom t s m (SetPose p) =
     (z : ℕ) × (z < zone_count t) × (posture_of t p z ≡ Some OpenIn) × (posture_at s z ≢ OpenIn)
     × (way : Transfer) × (transfer_of t z OpenIn ≡ Some way) × (0 < plates_for t s way.to)
+LacksRoom t s m (Advance p) =
+    (is_source t p ≡ true) × (0 < plates_for t s p) × ¬ ((is_sink t p ≡ true) × (is_full s p ≡ true))
 LacksRoom t s m _ = ⊥
 
 abbrev pub GivesNothing : PlanTable → State → ℕ → Call → Type 0

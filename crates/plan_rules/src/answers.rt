@@ -33,6 +33,7 @@ impl State {
             Call::Inquire(zone) => inquire_refusal(plan, zone),
             Call::Stop => self.stop_refusal(machine),
             Call::Resume => self.resume_refusal(machine),
+            Call::Advance(place) => self.advance_refusal(plan, machine, place),
         }
     }
 
@@ -110,7 +111,7 @@ impl State {
             }
             Call::Release(zone) => self.with_owner(zone, None),
             Call::SetPose(pose) => self.zones_after_pose(plan, pose),
-            Call::Inquire(_) | Call::Stop | Call::Resume => self.zones,
+            Call::Inquire(_) | Call::Stop | Call::Resume | Call::Advance(_) => self.zones,
         }
     }
 
@@ -141,6 +142,7 @@ impl State {
                 zone,
                 self.zone(zone).posture,
             )),
+            Call::Advance(place) => self.with_place(place, !self.is_full(place)),
             _ => self.full,
         }
     }

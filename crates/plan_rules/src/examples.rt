@@ -6,6 +6,7 @@ ghost use Rattle.plan_rules.specs.StateExamples.{StatesAreMet};
 ghost use Rattle.plan_rules.specs.EventExamples.{EventsAreMet};
 ghost use Rattle.plan_rules.specs.HoldingExamples.{HoldingIsMet};
 ghost use Rattle.plan_rules.specs.PartExamples.{PartsAreMet};
+ghost use Rattle.plan_rules.specs.AdvanceExamples.{AdvancesAreMet};
 
 /// Histories of a press, of a lift, of two doors, of two presses and of two gates, written out, are legal: each refusal
 /// stands in one of them, and each call is done in one. The pose that moves one door leaves the other alone, and wants
@@ -40,4 +41,11 @@ pub fn states_are_met()
 pub fn events_are_met()
     ensures events { EventsAreMet }
     ensures holding { HoldingIsMet }
+{}
+
+/// What advances are answered in literal states of two presses with sources and sinks, and of one without; what they
+/// leave; the order of their refusals, and each cause. Literal histories, in which plates come and go, are counted; and
+/// some that aren't legal break the laws of advances.
+pub fn advances_are_met()
+    ensures { AdvancesAreMet }
 {}

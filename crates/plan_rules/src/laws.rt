@@ -47,7 +47,17 @@ pub fn guest_only_while_open(plan: &Plan, opening: &State, history: &[Event])
     let _ = plan.machines();
 }
 
-/// The number of plates, in places and in zones, never changes.
+/// The number of plates, in places and in zones, grows by those that have come from outside, and shrinks by those that
+/// have gone there.
+pub fn plates_are_counted(plan: &Plan, opening: &State, history: &[Event])
+    requires sound { IsSound plan.now opening.now }
+    requires legal { IsLegal plan.now opening.now history.now }
+    ensures { Throughout (law.PlatesAreCounted plan.now opening.now) history.now }
+{
+    let _ = plan.machines();
+}
+
+/// Where no place is a source or a sink, the number of plates never changes.
 pub fn plates_are_kept(plan: &Plan, opening: &State, history: &[Event])
     requires sound { IsSound plan.now opening.now }
     requires legal { IsLegal plan.now opening.now history.now }
@@ -119,6 +129,13 @@ pub fn handover_by_holder(plan: &Plan, opening: &State, history: &[Event])
 {
     let _ = plan.machines();
 }
+
+/// A machine advances only its own places; a plate comes only to a source that has none, and none coming, and goes only
+/// from a sink that has one.
+pub fn advances_fit(plan: &Plan, opening: &State, history: &[Event])
+    requires { IsLegal plan.now opening.now history.now }
+    ensures { law.AdvancesFit plan.now opening.now history.now }
+{}
 
 /// On every sound state each refusal has its cause: its meaning in the table of causes holds of the state, with
 /// whatever the refusal names. And if a cause holds, the call isn't Done: it is refused for this cause, or for one that

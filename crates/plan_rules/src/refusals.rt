@@ -28,6 +28,12 @@ fn not_watch(machine: u8) -> Option<Refusal>
     (machine != WATCH).then_some(Refusal::NotParty)
 }
 
+fn not_own_end(plan: &Plan, machine: u8, place: u8) -> Option<Refusal>
+    ensures { result ≡ refusals.not_own_end plan.now machine place }
+{
+    (!plan.has_end(machine, place)).then_some(Refusal::NotParty)
+}
+
 fn held_refusal(owner: Option<u8>, machine: u8) -> Option<Refusal>
     ensures { result ≡ refusals.held_by owner machine }
 {
@@ -239,6 +245,37 @@ impl State {
             .or(self.not_owner(machine, zone))
             .or(self.plate_in_zone(zone))
             .or(self.shut_while_moving(zone))
+            .or(self.worn_refusal())
+    }
+
+    fn can_go(&self, plan: &Plan, place: u8) -> bool
+        ensures { result ≡ refusals.can_go plan.now self.now place }
+    {
+        plan.place(place).sink && self.is_full(place)
+    }
+
+    fn source_taken(&self, plan: &Plan, place: u8) -> Option<Refusal>
+        ensures { result ≡ refusals.source_taken plan.now self.now place }
+    {
+        let source = plan.place(place).source;
+        let bars = source && self.is_taken(plan, place) && !self.can_go(plan, place);
+        bars.then_some(Refusal::PlaceFull)
+    }
+
+    fn sink_empty(&self, plan: &Plan, place: u8) -> Option<Refusal>
+        ensures { result ≡ refusals.sink_empty plan.now self.now place }
+    {
+        let bars = !plan.place(place).source && !self.is_full(place);
+        bars.then_some(Refusal::NoPlate)
+    }
+
+    pub(crate) fn advance_refusal(&self, plan: &Plan, machine: u8, place: u8) -> Option<Refusal>
+        ensures { result ≡ refusals.advance_refusal plan.now self.now machine place }
+    {
+        not_own_end(plan, machine, place)
+            .or(self.while_stopped())
+            .or(self.source_taken(plan, place))
+            .or(self.sink_empty(plan, place))
             .or(self.worn_refusal())
     }
 

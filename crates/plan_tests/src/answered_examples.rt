@@ -271,7 +271,7 @@ press,clam
 0 0 start 0
 1 1 done
 record 2, field 2: this isn't a verb; known: stop, resume, and with a name claim, give, yield, take, release, \
-    inquire, pose
+    inquire, pose, advance
 fault badrow 2
 --
 1: ./plan replay
@@ -280,7 +280,7 @@ start,00
 watch,stop,interior
 =>
 0 0 start 0
-record 1, field 2: this isn't a verb that takes a name; known: claim, give, yield, take, release, inquire, pose
+record 1, field 2: this isn't a verb that takes a name; known: claim, give, yield, take, release, inquire, pose, advance
 fault badrow 1
 --
 0: ./plan replay
@@ -463,9 +463,119 @@ start,10
 fault plan the document: there is no [[machine]]
 ";
 
+/// A press that a loader feeds from a source, its hand, and empties into a sink, its tray.
+const THROUGH: &str = "\
+[[machine]]
+name = \"loader\"
+places = [\"hand\", \"tray\"]
+sources = [\"hand\"]
+sinks = [\"tray\"]
+program = [\"advance hand\", \"give interior\", \"take interior\", \"release interior\", \"advance tray\"]
+
+[[machine]]
+name = \"press\"
+places = [\"die\"]
+poses = [
+  { name = \"load\", gives = { interior = \"openin\" }, after_moving = true },
+  { name = \"unload\", gives = { interior = \"openout\" }, after_moving = true },
+  { name = \"closed\", gives = { interior = \"closed\" }, after_moving = true },
+  { name = \"travelling\", gives = { interior = \"moving\" } },
+]
+program = [\"claim interior\", \"pose travelling\", \"pose load\", \"yield interior\", \"take interior\",
+  \"pose travelling\", \"pose closed\", \"pose travelling\", \"pose unload\", \"give interior\"]
+
+[[zone]]
+name = \"interior\"
+host = \"press\"
+guest = \"loader\"
+inward = [\"hand\", \"die\"]
+outward = [\"die\", \"tray\"]
+";
+
+/// Plates come and go: what is refused on the way, and that they move for ever though none is taken back.
+const OF_THROUGH: &str = "\
+0: ./plan check
+=>
+=>
+2 machines: loader press
+1 zone: interior
+3 places: hand tray die
+4 poses: load unload closed travelling
+a word of 29 bits
+bit 0, 5 bits: zone interior
+bit 5, 1 bit: place hand
+bit 6, 1 bit: place tray
+bit 7, 1 bit: place die
+bit 8, 20 bits: stamp
+bit 28, 1 bit: stop
+rows: each call that is done has its row
+--
+0: ./plan replay
+=>
+start,000
+loader,advance,tray
+loader,advance,hand
+loader,advance,hand
+press,advance,hand
+loader,advance,die
+press,advance,die
+watch,stop
+loader,advance,hand
+watch,resume
+press,claim,interior
+press,pose,travelling
+press,pose,load
+press,yield,interior
+loader,give,interior
+loader,advance,hand
+press,take,interior
+press,pose,travelling
+press,pose,unload
+press,give,interior
+loader,take,interior
+loader,advance,tray
+loader,advance,tray
+=>
+0 0 start 0
+1 0 noplate
+2 1 done
+3 1 placefull
+4 1 notparty
+5 1 notparty
+6 1 notparty
+7 2 done
+8 2 stopped
+9 3 done
+10 4 done
+11 5 done
+12 6 done
+13 7 done
+14 8 done
+15 9 done
+16 10 done
+17 11 done
+18 12 done
+19 13 done
+20 14 done
+21 15 done
+22 15 noplate
+--
+0: ./plan explore
+=>
+start,000
+=>
+no standstill in any order of turns before the last stamp: 27 situations
+loader goes on for ever in each fair order: within k * 7 turns
+press goes on for ever in each fair order: within k * 5 turns
+plates move for ever in each fair order: within k * 6 turns
+in an order that is fair with bound k, each machine that could go on at k turns on end goes on;
+a machine isn't passed over for ever if it goes on wherever it could at k turns, on end or not
+";
+
 #[test]
 fn answers_scripts(rt: HostRuntime) {
     are_answered(&rt, rt.alloc(), PRESS, OF_PRESS);
     are_answered(&rt, rt.alloc(), STANDS, STANDSTILL);
+    are_answered(&rt, rt.alloc(), THROUGH, OF_THROUGH);
     are_answered(&rt, rt.alloc(), "", OTHERS);
 }

@@ -52,7 +52,7 @@ fault plan line 2: machine 1: name: it takes a text; put quotes round it
 [[machine]]
 names = \"a\"
 =>
-fault plan line 2: machine 1: \"names\" isn't a key here; known: name, places, poses, sensors, program
+fault plan line 2: machine 1: \"names\" isn't a key here; known: name, places, sources, sinks, poses, sensors, program
 --
 1: ./plan check
 =>
@@ -100,6 +100,44 @@ name = \"a\"
 places = [\"p\", \"p\"]
 =>
 fault plan line 3: machine a: places: \"p\" is defined twice, first on line 3
+--
+1: ./plan check
+=>
+[[machine]]
+name = \"a\"
+places = [\"p\"]
+sources = [\"p\"]
+sinks = [\"p\", \"q\"]
+[[machine]]
+name = \"b\"
+places = [\"q\"]
+=>
+fault plan line 5: machine a: sinks: the machine doesn't keep \"q\"
+--
+1: ./plan check
+=>
+[[machine]]
+name = \"a\"
+places = [\"p\", \"q\"]
+sources = [\"p\"]
+program = [\"advance p\", \"advance q\"]
+=>
+fault plan line 5: machine a: program: \"advance q\" is never done: the place is no source and no sink of the machine
+--
+1: ./plan check
+=>
+[[machine]]
+name = \"a\"
+program = [\"advance p\"]
+=>
+fault plan line 3: machine a: program: no place is named \"p\"
+--
+1: ./plan check
+=>
+[[machine]]
+name = \"advance\"
+=>
+fault plan line 2: machine 1: name: \"advance\" is a word of scripts, and names no machine
 --
 1: ./plan check
 =>
@@ -211,7 +249,7 @@ places = []
 programs = [
 ]
 =>
-fault plan line 5: machine a: \"programs\" isn't a key here; known: name, places, poses, sensors, program
+fault plan line 5: machine a: \"programs\" isn't a key here; known: name, places, sources, sinks, poses, sensors, program
 =>
 A key is unknown, and stands below known ones.
 --

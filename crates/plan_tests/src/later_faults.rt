@@ -18,7 +18,7 @@ const LATER: &str = "\
 =>
 zone = 1
 =>
-fault plan line 7: machine b: \"zone\" isn't a key here; known: name, places, poses, sensors, program
+fault plan line 7: machine b: \"zone\" isn't a key here; known: name, places, sources, sinks, poses, sensors, program
 --
 1: ./plan check
 =>

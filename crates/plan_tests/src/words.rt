@@ -2,7 +2,8 @@
 
 use plan_rules::State;
 use plan_types::{
-    Answer, Call, MAX_ZONES, Plan, PlanFault, PlanPose, PlanZone, Posture, Tables, WATCH, Way,
+    Answer, Call, MAX_ZONES, Plan, PlanFault, PlanPlace, PlanPose, PlanZone, Posture, Tables,
+    WATCH, Way,
 };
 use plan_word::{Layout, pack, stamp_of, step_word, unpack};
 use std::alloc::{AllocError, Global};
@@ -52,7 +53,9 @@ fn tables_of(alloc: Global, size: Size) -> Result<Tables, AllocError> {
         })?;
     }
     for place in 0..places {
-        tables.places.push(u8::from(place == 0))?;
+        tables
+            .places
+            .push(PlanPlace::kept_by(u8::from(place == 0)))?;
     }
     Ok(tables)
 }

@@ -11,7 +11,7 @@ use Rattle.plan_text.specs.Names.{Text, name_in, number_if, number_in}
 use Rattle.plan_text.specs.Named.{Named}
 use Rattle.plan_text.specs.Calls.{call_of, call_text, own_pose, pose_if, pose_named, words}
 use Rattle.plan_text.specs.declared.calls.Verb.{Verb}
-use Rattle.plan_text.specs.declared.calls.Verb.TheVariants.{Claim, Give, Yield, Take, Release, Inquire, Pose}
+use Rattle.plan_text.specs.declared.calls.Verb.TheVariants.{Claim, Give, Yield, Take, Release, Inquire, Pose, Advance}
 
 or_cases : (a b : Option ℕ) (v : ℕ) → option_or a b ≡ Some v → (a ≡ Some v) ⊎ (b ≡ Some v)
 or_cases None b v e = inr e
@@ -62,6 +62,11 @@ about_zone n verb name c make tells e =
     let h = mapped make (number_in n.zones name) c e in
     ap (call_text n) (sym h.2) ∙ tells h.0 ∙ ap (words verb) (name_of_number n.zones name h.0 h.1)
 
+about_place : (n : Named) (name : Text) (c : Call) → option_map call.Advance (number_in n.places name) ≡ Some c → call_text n c ≡ words Advance name
+about_place n name c e =
+    let h = mapped call.Advance (number_in n.places name) c e in
+    ap (call_text n) (sym h.2) ∙ ap (words Advance) (name_of_number n.places name h.0 h.1)
+
 pub told_as_read : (n : Named) (machine : ℕ) (verb : Verb) (name : Text) (c : Call) → call_of n machine verb name ≡ Some c → call_text n c ≡ words verb name
 told_as_read n machine Claim name c e = about_zone n Claim name c call.Claim (λ z. refl) e
 told_as_read n machine Give name c e = about_zone n Give name c call.Give (λ z. refl) e
@@ -72,3 +77,4 @@ told_as_read n machine Inquire name c e = about_zone n Inquire name c call.Inqui
 told_as_read n machine Pose name c e =
     let h = mapped call.SetPose (pose_named n machine name) c e in
     ap (call_text n) (sym h.2) ∙ ap (words Pose) (pose_name n machine name h.0 h.1)
+told_as_read n machine Advance name c e = about_place n name c e

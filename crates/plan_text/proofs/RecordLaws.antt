@@ -26,7 +26,7 @@ use Rattle.plan_text.specs.RecordLaws.{IsCallAbout, IsCallAlone, IsZeroOrOne, Re
 use Rattle.plan_text.specs.Requests.{call_in, request, request_by, request_of, stop_by}
 use Rattle.plan_text.specs.Starts.{are_places, full_places, is_flag, stamp_in, start_fields, start_in, start_of}
 use Rattle.plan_text.specs.declared.calls.Verb.{Verb}
-use Rattle.plan_text.specs.declared.calls.Verb.TheVariants.{Claim, Give, Yield, Take, Release, Inquire, Pose}
+use Rattle.plan_text.specs.declared.calls.Verb.TheVariants.{Claim, Give, Yield, Take, Release, Inquire, Pose, Advance}
 use Rattle.plan_text.specs.declared.request.Request.{Request}
 use Rattle.plan_text.proofs.TextLaws.{of_verb}
 
@@ -197,14 +197,15 @@ no_caller n who rest none few =
     let short : nat_lt 3 (length (who ∷ rest)) ≡ false = le-ltb 3 (length (who ∷ rest)) (omega arith) in
     rw (short, none) refl
 
-no_zone : (verb : Verb) → verb ≢ Pose → no_object (Some verb) ≡ codes "field 3: no zone has this name"
-no_zone Claim other = refl
-no_zone Give other = refl
-no_zone Yield other = refl
-no_zone Take other = refl
-no_zone Release other = refl
-no_zone Inquire other = refl
-no_zone Pose other = absurd (other refl)
+no_zone : (verb : Verb) → verb ≢ Pose → verb ≢ Advance → no_object (Some verb) ≡ codes "field 3: no zone has this name"
+no_zone Claim other end = refl
+no_zone Give other end = refl
+no_zone Yield other end = refl
+no_zone Take other end = refl
+no_zone Release other end = refl
+no_zone Inquire other end = refl
+no_zone Pose other end = absurd (other refl)
+no_zone Advance other end = absurd (end refl)
 
 pub reasons_are_of_fields : (n : Named) (row rest : Row) (who word name : Text) (machine : ℕ) (verb : Verb) → ReasonsAreOfFields n row rest who word name machine verb
 unfolding field_at
@@ -217,5 +218,6 @@ reasons_are_of_fields n row rest who word name machine verb = record {
   no_name = λ a b. rw (a, b) refl;
   other_verb = λ a b. rw (a, b) refl;
   no_pose = λ a b. rw (a, b) refl;
-  no_zone = λ a b other. rw (a, b) (no_zone verb other);
+  no_zone = λ a b other end. rw (a, b) (no_zone verb other end);
+  no_place = λ a b. rw (a, b) refl;
 }

@@ -12,7 +12,7 @@ use Rattle.csv.specs.declared.parser.State.TheVariants as st
 use Rattle.csv.proofs.RoundTrip.{read-write}
 use Rattle.csv_rows.specs.Rows.{Row}
 use Rattle.plan_types.specs.declared.call.Call.{Call}
-use Rattle.plan_types.specs.declared.call.Call.TheVariants.{Claim, Give, Yield, Take, Release, Inquire, SetPose, Stop, Resume}
+use Rattle.plan_types.specs.declared.call.Call.TheVariants.{Claim, Give, Yield, Take, Release, Inquire, SetPose, Stop, Resume, Advance}
 use Rattle.plan_types.specs.declared.answer.Event.{Event}
 use Rattle.plan_rules.specs.declared.state.State.{State}
 use Rattle.plan_rules.specs.State.{is_full}
@@ -114,6 +114,7 @@ verb-plain verbs.Take = refl
 verb-plain verbs.Release = refl
 verb-plain verbs.Inquire = refl
 verb-plain verbs.Pose = refl
+verb-plain verbs.Advance = refl
 
 two-read : (word : Text) (verb : Verb) (name : Text) → IsPlain word → IsPlain name → Reads (word ∷ two_fields verb name)
 two-read word verb name p q = reads-plain word (verb_word verb) (name ∷ []) (p, (verb-plain verb, (q, tt)))
@@ -126,6 +127,7 @@ call-reads n word (Take z) k p = two-read word verbs.Take (name_in n.zones z) p 
 call-reads n word (Release z) k p = two-read word verbs.Release (name_in n.zones z) p (names-plain n.zones z k.spelled_zones)
 call-reads n word (Inquire z) k p = two-read word verbs.Inquire (name_in n.zones z) p (names-plain n.zones z k.spelled_zones)
 call-reads n word (SetPose q) k p = two-read word verbs.Pose (name_in n.poses q) p (names-plain n.poses q k.spelled_poses)
+call-reads n word (Advance q) k p = two-read word verbs.Advance (name_in n.places q) p (names-plain n.places q k.spelled_places)
 call-reads n word Stop k p = reads-plain word (codes "stop") [] (p, (refl, tt))
 call-reads n word Resume k p = reads-plain word (codes "resume") [] (p, (refl, tt))
 

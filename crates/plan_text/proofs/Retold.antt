@@ -24,7 +24,7 @@ use Rattle.csv_rows.specs.declared.script_end.ScriptFault.TheVariants.{BadStart,
 use Rattle.csv_rows.specs.declared.script_end.Outcome.TheVariants.{Clean}
 use Rattle.plan_types.specs.Table.{machine_of, place_count}
 use Rattle.plan_types.specs.declared.call.Call.{Call}
-use Rattle.plan_types.specs.declared.call.Call.TheVariants.{Claim, Give, Yield, Take, Release, Inquire, SetPose, Stop, Resume}
+use Rattle.plan_types.specs.declared.call.Call.TheVariants.{Claim, Give, Yield, Take, Release, Inquire, SetPose, Stop, Resume, Advance}
 use Rattle.plan_types.specs.declared.answer.Event.{Event}
 use Rattle.plan_rules.specs.declared.state.State.{State}
 use Rattle.plan_rules.specs.History.{IsLegal}
@@ -73,6 +73,7 @@ call_read n machine who (Take z) k w own = about n machine who verbs.Take (name_
 call_read n machine who (Release z) k w own = about n machine who verbs.Release (name_in n.zones z) (Release z) w refl (ap (option_map Release) (k.zones z own))
 call_read n machine who (Inquire z) k w own = about n machine who verbs.Inquire (name_in n.zones z) (Inquire z) w refl (ap (option_map Inquire) (k.zones z own))
 call_read n machine who (SetPose p) k w own = about n machine who verbs.Pose (name_in n.poses p) (SetPose p) w refl (pose_read n machine p k own.0 own.1)
+call_read n machine who (Advance q) k w own = about n machine who verbs.Advance (name_in n.places q) (Advance q) w refl (ap (option_map Advance) (k.places q own))
 call_read n machine who Stop k w own = (records_read n machine who [] [] verbs.Claim Stop []).of_stop w
 call_read n machine who Resume k w own = (records_read n machine who [] [] verbs.Claim Resume []).of_resume w
 

@@ -52,6 +52,7 @@ reason_rows = record {
   empty_word = refl;
   empty_name = refl;
   call_too_long = refl;
+  advance = refl;
   pose = refl;
 }
 

@@ -23,7 +23,7 @@ use Rattle.plan_text.specs.Named.{Named}
 use Rattle.plan_text.specs.Names.{Text, is_name_byte, is_reserved, name_in, number_if, number_in}
 use Rattle.plan_text.specs.TextLaws.{FirstOwnPosesCount, FirstsHaveNumbers, IsLetter, IsOfNames, IsTaken, TextsAreNames, TextsAreTaken, UnknownNamesCallNothing, WordsAreOfOne}
 use Rattle.plan_text.specs.declared.calls.Verb.{Verb}
-use Rattle.plan_text.specs.declared.calls.Verb.TheVariants.{Claim, Give, Yield, Take, Release, Inquire, Pose}
+use Rattle.plan_text.specs.declared.calls.Verb.TheVariants.{Claim, Give, Yield, Take, Release, Inquire, Pose, Advance}
 use Rattle.plan_text.proofs.CallTexts.{passed}
 
 -- ---- names
@@ -104,9 +104,10 @@ texts_are_taken name verb = record {
       one_of (codes "release") name _ (IsTaken name) e (λ is. inl (Release, is)) (λ e.
       one_of (codes "inquire") name _ (IsTaken name) e (λ is. inl (Inquire, is)) (λ e.
       one_of (codes "pose") name _ (IsTaken name) e (λ is. inl (Pose, is)) (λ e.
+      one_of (codes "advance") name _ (IsTaken name) e (λ is. inl (Advance, is)) (λ e.
       one_of (codes "stop") name _ (IsTaken name) e (λ is. inr (3, omega arith, sym is)) (λ e.
       one_of (codes "resume") name _ (IsTaken name) e (λ is. inr (4, omega arith, sym is)) (λ e.
-      absurd (let lie : false ≡ true = e in cc)))))))))))));
+      absurd (let lie : false ≡ true = e in cc))))))))))))));
   verbs = by verb;
 }
   where
@@ -118,6 +119,7 @@ texts_are_taken name verb = record {
     by Release = refl
     by Inquire = refl
     by Pose = refl
+    by Advance = refl
 
 -- ---- words
 
@@ -143,6 +145,7 @@ verb_told Take = refl
 verb_told Release = refl
 verb_told Inquire = refl
 verb_told Pose = refl
+verb_told Advance = refl
 
 posture_told : (p : Posture) → posture_of (posture_word p) ≡ Some p
 posture_told posture.Closed = refl
@@ -202,17 +205,19 @@ first_own_poses_count n machine pose name = record {
       cc;
 }
 
-no_zone : (n : Named) (machine : ℕ) (verb : Verb) (name : Text) → verb ≢ Pose → number_in n.zones name ≡ None → call_of n machine verb name ≡ None
-no_zone n machine Claim name other none = ap (option_map call.Claim) none
-no_zone n machine Give name other none = ap (option_map call.Give) none
-no_zone n machine Yield name other none = ap (option_map call.Yield) none
-no_zone n machine Take name other none = ap (option_map call.Take) none
-no_zone n machine Release name other none = ap (option_map call.Release) none
-no_zone n machine Inquire name other none = ap (option_map call.Inquire) none
-no_zone n machine Pose name other none = absurd (other refl)
+no_zone : (n : Named) (machine : ℕ) (verb : Verb) (name : Text) → verb ≢ Pose → verb ≢ Advance → number_in n.zones name ≡ None → call_of n machine verb name ≡ None
+no_zone n machine Claim name other end none = ap (option_map call.Claim) none
+no_zone n machine Give name other end none = ap (option_map call.Give) none
+no_zone n machine Yield name other end none = ap (option_map call.Yield) none
+no_zone n machine Take name other end none = ap (option_map call.Take) none
+no_zone n machine Release name other end none = ap (option_map call.Release) none
+no_zone n machine Inquire name other end none = ap (option_map call.Inquire) none
+no_zone n machine Pose name other end none = absurd (other refl)
+no_zone n machine Advance name other end none = absurd (end refl)
 
 pub unknown_names_call_nothing : (n : Named) (machine : ℕ) (verb : Verb) (name : Text) → UnknownNamesCallNothing n machine verb name
 unknown_names_call_nothing n machine verb name = record {
   no_zone = no_zone n machine verb name;
+  no_place = λ none. ap (option_map call.Advance) none;
   no_pose = λ own none. ap (λ o. option_map call.SetPose (option_or o (number_in n.poses name))) own ∙ ap (option_map call.SetPose) none;
 }

@@ -11,7 +11,7 @@ use Rattle.plan_types.specs.declared.call.Call.TheVariants as call
 use Rattle.plan_text.specs.Names.{Text, name_in, number_in}
 use Rattle.plan_text.specs.Named.{Named}
 use Rattle.plan_text.specs.declared.calls.Verb.{Verb}
-use Rattle.plan_text.specs.declared.calls.Verb.TheVariants.{Claim, Give, Yield, Take, Release, Inquire, Pose}
+use Rattle.plan_text.specs.declared.calls.Verb.TheVariants.{Claim, Give, Yield, Take, Release, Inquire, Pose, Advance}
 
 abbrev pub verb_word : Verb → Text
 verb_word Claim = codes "claim"
@@ -21,9 +21,10 @@ verb_word Take = codes "take"
 verb_word Release = codes "release"
 verb_word Inquire = codes "inquire"
 verb_word Pose = codes "pose"
+verb_word Advance = codes "advance"
 
 abbrev pub all_verbs : List Verb
-all_verbs = Claim ∷ Give ∷ Yield ∷ Take ∷ Release ∷ Inquire ∷ Pose ∷ []
+all_verbs = Claim ∷ Give ∷ Yield ∷ Take ∷ Release ∷ Inquire ∷ Pose ∷ Advance ∷ []
 
 -- the verb with this word
 abbrev pub verb_of : Text → Option Verb
@@ -46,7 +47,7 @@ own_pose n machine name = first_below (pose_if n machine name) (length n.poses)
 abbrev pub pose_named : Named → ℕ → Text → Option ℕ
 pose_named n machine name = option_or (own_pose n machine name) (number_in n.poses name)
 
--- the call of a machine with this verb and this name of a zone or a pose
+-- the call of a machine with this verb and this name of a zone, a pose or a place
 abbrev pub call_of : Named → ℕ → Verb → Text → Option Call
 call_of n machine Claim name = option_map call.Claim (number_in n.zones name)
 call_of n machine Give name = option_map call.Give (number_in n.zones name)
@@ -55,8 +56,9 @@ call_of n machine Take name = option_map call.Take (number_in n.zones name)
 call_of n machine Release name = option_map call.Release (number_in n.zones name)
 call_of n machine Inquire name = option_map call.Inquire (number_in n.zones name)
 call_of n machine Pose name = option_map call.SetPose (pose_named n machine name)
+call_of n machine Advance name = option_map call.Advance (number_in n.places name)
 
--- the words of a call about a zone or a pose, and of one without
+-- the words of a call about a zone, a pose or a place, and of one without
 abbrev pub words : Verb → Text → Text
 words verb name = verb_word verb ++ codes " " ++ name
 
@@ -70,3 +72,4 @@ call_text n (call.Inquire zone) = words Inquire (name_in n.zones zone)
 call_text n (call.SetPose pose) = words Pose (name_in n.poses pose)
 call_text n call.Stop = codes "stop"
 call_text n call.Resume = codes "resume"
+call_text n (call.Advance place) = words Advance (name_in n.places place)

@@ -17,7 +17,7 @@ use Rattle.plan_text.specs.Named.{Named}
 use Rattle.plan_text.specs.Names.{Text, name_in}
 use Rattle.plan_text.specs.Script.{line_of}
 use Rattle.plan_text.specs.declared.calls.Verb.{Verb}
-use Rattle.plan_text.specs.declared.calls.Verb.TheVariants.{Claim, Give, Yield, Take, Release, Inquire, Pose}
+use Rattle.plan_text.specs.declared.calls.Verb.TheVariants.{Claim, Give, Yield, Take, Release, Inquire, Pose, Advance}
 
 -- ---- record 0
 
@@ -55,6 +55,7 @@ call_fields n (call.Inquire zone) = two_fields Inquire (name_in n.zones zone)
 call_fields n (call.SetPose pose) = two_fields Pose (name_in n.poses pose)
 call_fields n call.Stop = codes "stop" ∷ []
 call_fields n call.Resume = codes "resume" ∷ []
+call_fields n (call.Advance place) = two_fields Advance (name_in n.places place)
 
 -- who called, and what: the answer isn't told
 abbrev pub event_row : Named → Event → Row

@@ -21,7 +21,7 @@ abbrev pub each_verb : List Event
 each_verb =
     event 0 (call.Claim 1) Done ∷ event 1 (call.Give 0) Done ∷ event 2 (call.Yield 1) Done ∷ event 0 (call.Take 0) Done
     ∷ event 1 (call.Release 0) Done ∷ event 2 (call.Inquire 1) Done ∷ event 2 (call.SetPose 3) Done
-    ∷ event 15 call.Stop Done ∷ event 0 call.Resume Done ∷ []
+    ∷ event 15 call.Stop Done ∷ event 0 call.Resume Done ∷ event 1 (call.Advance 1) Done ∷ []
 
 -- the lift claims a zone, which the upper floor then can't; the watch stops the plant, and the lower floor is barred
 abbrev pub session : List Event
@@ -40,7 +40,7 @@ pub record ScriptsOfHistories : Type 0 where
   pub lines : map (event_line floors) each_verb
       ≡ codes "lift,claim,above\n" ∷ codes "low,give,below\n" ∷ codes "high,yield,above\n" ∷ codes "lift,take,below\n"
       ∷ codes "low,release,below\n" ∷ codes "high,inquire,above\n" ∷ codes "high,pose,away\n" ∷ codes "watch,stop\n"
-      ∷ codes "lift,resume\n" ∷ []
+      ∷ codes "lift,resume\n" ∷ codes "low,advance,ground\n" ∷ []
   -- of a name that two machines' poses have, the record is the same
   pub same_name : map (event_line floors)
       (event 1 (call.SetPose 1) Done ∷ event 1 (call.SetPose 2) (Refused NoPose) ∷ [])

@@ -6,7 +6,7 @@ use Rattle.csv_rows.specs.declared.script_end.Outcome.TheVariants.{Clean}
 use Rattle.plan_types.specs.Table.{machine_of, place_count, watch}
 use Rattle.plan_types.specs.declared.call.Call.{Call}
 use Rattle.plan_types.specs.declared.call.Call.TheVariants.{Claim, Give, Yield, Take, Release, Inquire, SetPose, Stop}
-use Rattle.plan_types.specs.declared.call.Call.TheVariants.{Resume}
+use Rattle.plan_types.specs.declared.call.Call.TheVariants.{Resume, Advance}
 use Rattle.plan_types.specs.declared.answer.Event.{Event}
 use Rattle.plan_rules.specs.declared.state.State.{State}
 use Rattle.plan_rules.specs.History.{IsLegal}
@@ -19,21 +19,23 @@ use Rattle.plan_text.specs.Names.{is_name, name_in, number_in}
 use Rattle.plan_text.specs.Requests.{request_of}
 use Rattle.plan_text.specs.Script.{script_answers, script_start, start_line}
 
--- each machine, zone and pose has a name, and none has that of another: of poses none of the same machine, and no
+-- each machine, zone, pose and place has a name, and none has that of another: of poses none of the same machine, and no
 -- machine has that of the watch
 pub record AreToldApart (n : Named) : Type 0 where
   pub spelled_machines : IsTrue (list_all is_name n.machines)
   pub spelled_zones : IsTrue (list_all is_name n.zones)
   pub spelled_poses : IsTrue (list_all is_name n.poses)
+  pub spelled_places : IsTrue (list_all is_name n.places)
   pub machines : (m : ℕ) → m < length n.machines → caller_of n (name_in n.machines m) ≡ Some m
   pub zones : (z : ℕ) → z < length n.zones → number_in n.zones (name_in n.zones z) ≡ Some z
   pub poses : (p : ℕ) → p < length n.poses → own_pose n (machine_of n.plan p) (name_in n.poses p) ≡ Some p
+  pub places : (p : ℕ) → p < length n.places → number_in n.places (name_in n.places p) ≡ Some p
 
 -- a machine or the watch
 abbrev pub IsCaller : Named → ℕ → Type 0
 IsCaller n machine = (machine ≡ watch) ⊎ (machine < length n.machines)
 
--- a call about a zone or a pose that has a name; the pose is the machine's own
+-- a call about a zone, a pose or a place that has a name; the pose is the machine's own
 abbrev pub IsOwnCall : Named → ℕ → Call → Type 0
 IsOwnCall n machine (Claim zone) = zone < length n.zones
 IsOwnCall n machine (Give zone) = zone < length n.zones
@@ -44,6 +46,7 @@ IsOwnCall n machine (Inquire zone) = zone < length n.zones
 IsOwnCall n machine (SetPose pose) = (pose < length n.poses) × (machine_of n.plan pose ≡ machine)
 IsOwnCall n machine Stop = ⊤
 IsOwnCall n machine Resume = ⊤
+IsOwnCall n machine (Advance place) = place < length n.places
 
 abbrev pub IsOwnEvent : Named → Event → Type 0
 IsOwnEvent n e = IsCaller n e.machine × IsOwnCall n e.machine e.call

@@ -16,7 +16,7 @@ use Rattle.plan_text.specs.Named.{Named}
 use Rattle.plan_text.specs.Answers.{answer_text, posture_of, posture_word}
 use Rattle.plan_text.specs.Calls.{call_of, call_text, caller_of, own_pose, verb_of, verb_word, words}
 use Rattle.plan_text.specs.declared.calls.Verb.{Verb}
-use Rattle.plan_text.specs.declared.calls.Verb.TheVariants.{Claim, Give, Yield, Take, Release, Inquire, Pose}
+use Rattle.plan_text.specs.declared.calls.Verb.TheVariants.{Claim, Give, Yield, Take, Release, Inquire, Pose, Advance}
 
 -- a word tells a verb, and is read as the verb
 pub record IsWordOf (verb : Verb) (word : Text) : Type 0 where
@@ -31,6 +31,7 @@ pub record VerbsHaveWords : Type 0 where
   pub release : IsWordOf Release (codes "release")
   pub inquire : IsWordOf Inquire (codes "inquire")
   pub pose : IsWordOf Pose (codes "pose")
+  pub advance : IsWordOf Advance (codes "advance")
 
 -- the same of postures
 pub record IsWordOfPosture (posture : Posture) (word : Text) : Type 0 where
@@ -60,6 +61,7 @@ pub record WordsAreTaken : Type 0 where
   pub release : is_reserved (codes "release") ≡ true
   pub inquire : is_reserved (codes "inquire") ≡ true
   pub pose : is_reserved (codes "pose") ≡ true
+  pub advance : is_reserved (codes "advance") ≡ true
   pub stop : is_reserved (codes "stop") ≡ true
   pub resume : is_reserved (codes "resume") ≡ true
   pub press : is_reserved (codes "press") ≡ false
@@ -90,6 +92,7 @@ pub record LawsOfWords (n : Named) (name : Text) (c : Call) : Type 0 where
   pub release : CallsAreToldAsRead → call_of n 4 Release name ≡ Some c → call_text n c ≡ codes "release " ++ name
   pub inquire : CallsAreToldAsRead → call_of n 4 Inquire name ≡ Some c → call_text n c ≡ codes "inquire " ++ name
   pub pose : CallsAreToldAsRead → call_of n 4 Pose name ≡ Some c → call_text n c ≡ codes "pose " ++ name
+  pub advance : CallsAreToldAsRead → call_of n 4 Advance name ≡ Some c → call_text n c ≡ codes "advance " ++ name
   pub comes_first : OwnPosesComeFirst → own_pose n 4 name ≡ Some 7 → call_of n 4 Pose name ≡ Some (SetPose 7)
   pub is_own : OwnPosesComeFirst → own_pose n 4 name ≡ Some 7 → machine_of n.plan 7 ≡ 4
   pub is_found : OwnPosesComeFirst → 7 < length n.poses → machine_of n.plan 7 ≡ 4
@@ -115,6 +118,7 @@ pub record CallsByNumber (n : Named) (number : ℕ) : Type 0 where
   pub release : call_text n (call.Release number) ≡ codes "release " ++ name_in n.zones number
   pub inquire : call_text n (call.Inquire number) ≡ codes "inquire " ++ name_in n.zones number
   pub pose : call_text n (SetPose number) ≡ codes "pose " ++ name_in n.poses number
+  pub advance : call_text n (call.Advance number) ≡ codes "advance " ++ name_in n.places number
   pub stop : call_text n call.Stop ≡ codes "stop"
   pub resume : call_text n call.Resume ≡ codes "resume"
   pub read : (machine : ℕ) (name : Text) → number_in n.zones name ≡ Some number

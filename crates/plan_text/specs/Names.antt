@@ -34,7 +34,7 @@ is_name text =
 abbrev pub script_words : List Text
 script_words =
     codes "watch" ∷ codes "free" ∷ codes "start" ∷ codes "claim" ∷ codes "give" ∷ codes "yield" ∷ codes "take"
-    ∷ codes "release" ∷ codes "inquire" ∷ codes "pose" ∷ codes "stop" ∷ codes "resume" ∷ []
+    ∷ codes "release" ∷ codes "inquire" ∷ codes "pose" ∷ codes "advance" ∷ codes "stop" ∷ codes "resume" ∷ []
 
 abbrev pub is_reserved : Text → Bool
 is_reserved name = list_any (λ word. bytes_eq word name) script_words

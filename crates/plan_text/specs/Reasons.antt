@@ -7,20 +7,22 @@ use Rattle.plan_text.specs.Names.{Text}
 use Rattle.plan_text.specs.Named.{Named}
 use Rattle.plan_text.specs.Calls.{caller_of, verb_of}
 use Rattle.plan_text.specs.declared.calls.Verb.{Verb}
-use Rattle.plan_text.specs.declared.calls.Verb.TheVariants.{Pose}
+use Rattle.plan_text.specs.declared.calls.Verb.TheVariants.{Pose, Advance}
 
 -- a verb about a name that no zone has, or no pose
 abbrev pub no_object : Option Verb → Text
 no_object None =
-    codes "field 2: this isn't a verb that takes a name; known: claim, give, yield, take, release, inquire, pose"
+    codes "field 2: this isn't a verb that takes a name; "
+    ++ codes "known: claim, give, yield, take, release, inquire, pose, advance"
 no_object (Some Pose) = codes "field 3: no pose has this name"
+no_object (Some Advance) = codes "field 3: no place has this name"
 no_object (Some _) = codes "field 3: no zone has this name"
 
 -- a verb alone
 abbrev pub no_name : Option Verb → Text
 no_name None =
     codes "field 2: this isn't a verb; known: stop, resume, "
-    ++ codes "and with a name claim, give, yield, take, release, inquire, pose"
+    ++ codes "and with a name claim, give, yield, take, release, inquire, pose, advance"
 no_name (Some _) = codes "field 3: a name is missing"
 
 abbrev pub wrong_words : Option Text → Option Text → Text

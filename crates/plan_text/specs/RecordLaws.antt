@@ -14,7 +14,7 @@ use Rattle.plan_text.specs.Reasons.{why_no_call}
 use Rattle.plan_text.specs.Requests.{request_of}
 use Rattle.plan_text.specs.Starts.{start_in}
 use Rattle.plan_text.specs.declared.calls.Verb.{Verb}
-use Rattle.plan_text.specs.declared.calls.Verb.TheVariants.{Pose}
+use Rattle.plan_text.specs.declared.calls.Verb.TheVariants.{Pose, Advance}
 use Rattle.plan_text.specs.declared.request.Request.{Request}
 
 -- ---- calls
@@ -69,14 +69,16 @@ pub record ReasonsAreOfFields (n : Named) (row rest : Row) (who word name : Text
   pub other_word : caller_of n who ≡ Some machine → verb_of word ≡ None
       → why_no_call n (who ∷ word ∷ [])
       ≡ codes "field 2: this isn't a verb; known: stop, resume, "
-      ++ codes "and with a name claim, give, yield, take, release, inquire, pose"
+      ++ codes "and with a name claim, give, yield, take, release, inquire, pose, advance"
   pub no_name : caller_of n who ≡ Some machine → verb_of word ≡ Some verb
       → why_no_call n (who ∷ word ∷ []) ≡ codes "field 3: a name is missing"
   pub other_verb : caller_of n who ≡ Some machine → verb_of word ≡ None
       → why_no_call n (who ∷ word ∷ name ∷ [])
       ≡ codes "field 2: this isn't a verb that takes a name; "
-      ++ codes "known: claim, give, yield, take, release, inquire, pose"
+      ++ codes "known: claim, give, yield, take, release, inquire, pose, advance"
   pub no_pose : caller_of n who ≡ Some machine → verb_of word ≡ Some Pose
       → why_no_call n (who ∷ word ∷ name ∷ []) ≡ codes "field 3: no pose has this name"
-  pub no_zone : caller_of n who ≡ Some machine → verb_of word ≡ Some verb → verb ≢ Pose
+  pub no_place : caller_of n who ≡ Some machine → verb_of word ≡ Some Advance
+      → why_no_call n (who ∷ word ∷ name ∷ []) ≡ codes "field 3: no place has this name"
+  pub no_zone : caller_of n who ≡ Some machine → verb_of word ≡ Some verb → verb ≢ Pose → verb ≢ Advance
       → why_no_call n (who ∷ word ∷ name ∷ []) ≡ codes "field 3: no zone has this name"

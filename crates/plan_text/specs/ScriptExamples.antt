@@ -69,12 +69,12 @@ pub record ReasonsAreTold : Type 0 where
   pub verb : why (codes "low" ∷ []) ≡ codes "field 2: a verb is missing"
   pub word : why (codes "low" ∷ codes "wait" ∷ [])
       ≡ codes "field 2: this isn't a verb; known: stop, resume, "
-      ++ codes "and with a name claim, give, yield, take, release, inquire, pose"
+      ++ codes "and with a name claim, give, yield, take, release, inquire, pose, advance"
   pub name : why (codes "watch" ∷ codes "claim" ∷ []) ≡ codes "field 3: a name is missing"
   pub pose_name : why (codes "watch" ∷ codes "pose" ∷ []) ≡ codes "field 3: a name is missing"
   pub verb_of_name : why (codes "low" ∷ codes "stop" ∷ codes "beyond" ∷ [])
       ≡ codes "field 2: this isn't a verb that takes a name; "
-      ++ codes "known: claim, give, yield, take, release, inquire, pose"
+      ++ codes "known: claim, give, yield, take, release, inquire, pose, advance"
   pub zone : why (codes "high" ∷ codes "inquire" ∷ codes "beyond" ∷ []) ≡ codes "field 3: no zone has this name"
   -- by each verb, by each caller, and where a field is empty
   pub zones : map (λ verb. why (codes "high" ∷ verb ∷ codes "beyond" ∷ [])) zone_verbs
@@ -88,13 +88,14 @@ pub record ReasonsAreTold : Type 0 where
       ≡ replicate 3 (codes "field 1: no machine has this name")
   pub empty_verb : why (codes "lift" ∷ [] ∷ codes "above" ∷ [])
       ≡ codes "field 2: this isn't a verb that takes a name; "
-      ++ codes "known: claim, give, yield, take, release, inquire, pose"
+      ++ codes "known: claim, give, yield, take, release, inquire, pose, advance"
   pub empty_word : why (codes "lift" ∷ [] ∷ [])
       ≡ codes "field 2: this isn't a verb; known: stop, resume, "
-      ++ codes "and with a name claim, give, yield, take, release, inquire, pose"
+      ++ codes "and with a name claim, give, yield, take, release, inquire, pose, advance"
   pub empty_name : why (codes "lift" ∷ codes "give" ∷ [] ∷ []) ≡ codes "field 3: no zone has this name"
   pub call_too_long : why (codes "low" ∷ codes "claim" ∷ codes "below" ∷ codes "now" ∷ [])
       ≡ codes "field 4: a record has at most three fields"
+  pub advance : why (codes "high" ∷ codes "advance" ∷ codes "below" ∷ []) ≡ codes "field 3: no place has this name"
   pub pose : why (codes "high" ∷ codes "pose" ∷ codes "below" ∷ []) ≡ codes "field 3: no pose has this name"
 
 -- ---- answers

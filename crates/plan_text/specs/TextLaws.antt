@@ -8,7 +8,7 @@ use Rattle.plan_text.specs.Calls.{call_of, own_pose, verb_of, verb_word}
 use Rattle.plan_text.specs.Named.{Named}
 use Rattle.plan_text.specs.Names.{Text, is_name, is_reserved, name_in, number_in}
 use Rattle.plan_text.specs.declared.calls.Verb.{Verb}
-use Rattle.plan_text.specs.declared.calls.Verb.TheVariants.{Pose}
+use Rattle.plan_text.specs.declared.calls.Verb.TheVariants.{Pose, Advance}
 
 -- ---- names
 
@@ -62,5 +62,6 @@ pub record FirstOwnPosesCount (n : Named) (machine pose : ℕ) (name : Text) : T
 
 -- no verb about a name that nothing has is a call, whatever the name: nor about the empty one
 pub record UnknownNamesCallNothing (n : Named) (machine : ℕ) (verb : Verb) (name : Text) : Type 0 where
-  pub no_zone : verb ≢ Pose → number_in n.zones name ≡ None → call_of n machine verb name ≡ None
+  pub no_zone : verb ≢ Pose → verb ≢ Advance → number_in n.zones name ≡ None → call_of n machine verb name ≡ None
   pub no_pose : own_pose n machine name ≡ None → number_in n.poses name ≡ None → call_of n machine Pose name ≡ None
+  pub no_place : number_in n.places name ≡ None → call_of n machine Advance name ≡ None

@@ -42,7 +42,7 @@ pub record BytesOfNames : Type 0 where
 
 -- no other words are taken
 pub record OtherWordsAreFree : Type 0 where
-  pub count : length script_words ≡ 12
+  pub count : length script_words ≡ 13
   pub empty : is_reserved [] ≡ false
   pub part : is_reserved (codes "watc") ≡ false
   pub longer : is_reserved (codes "watchs") ≡ false
@@ -79,6 +79,7 @@ pub record RequestsAreRead : Type 0 where
   pub take : three_words (codes "lift") (codes "take") (codes "below") ≡ asks 0 (call.Take 0)
   pub release : three_words (codes "high") (codes "release") (codes "above") ≡ asks 2 (call.Release 1)
   pub inquire : three_words (codes "watch") (codes "inquire") (codes "above") ≡ asks 15 (call.Inquire 1)
+  pub advance : three_words (codes "lift") (codes "advance") (codes "attic") ≡ asks 0 (call.Advance 2)
   -- the own pose of that name, or else the first of another machine
   pub own : three_words (codes "high") (codes "pose") (codes "away") ≡ asks 2 (call.SetPose 3)
   pub own_second : three_words (codes "high") (codes "pose") (codes "open") ≡ asks 2 (call.SetPose 2)
@@ -109,6 +110,8 @@ pub record NoRequests : Type 0 where
   pub take_place : three_words (codes "low") (codes "take") (codes "ground") ≡ None
   pub release_pose : three_words (codes "low") (codes "release") (codes "open") ≡ None
   pub inquire_machine : three_words (codes "low") (codes "inquire") (codes "high") ≡ None
+  pub advance_zone : three_words (codes "low") (codes "advance") (codes "below") ≡ None
+  pub advance_alone : two_words (codes "low") (codes "advance") ≡ None
   pub pose_zone : three_words (codes "low") (codes "pose") (codes "below") ≡ None
   pub no_verb : three_words (codes "low") (codes "claims") (codes "below") ≡ None
   pub capital : three_words (codes "low") (codes "Claim") (codes "below") ≡ None
@@ -144,6 +147,7 @@ pub record CallsAreTold : Type 0 where
   pub other_pose : call_text floors (call.SetPose 1) ≡ codes "pose open"
   pub stop : call_text floors call.Stop ≡ codes "stop"
   pub resume : call_text floors call.Resume ≡ codes "resume"
+  pub advance : call_text floors (call.Advance 1) ≡ codes "advance ground"
 
 -- what an answer names: each machine, each zone, each posture
 pub record AnswersName : Type 0 where

@@ -23,6 +23,8 @@ pub enum Verb {
     Inquire,
     /// `pose`
     Pose,
+    /// `advance`
+    Advance,
 }
 
 impl Verb {
@@ -38,6 +40,7 @@ impl Verb {
             Verb::Release => "release",
             Verb::Inquire => "inquire",
             Verb::Pose => "pose",
+            Verb::Advance => "advance",
         }
     }
 
@@ -65,6 +68,9 @@ impl Verb {
         }
         if word == Verb::Pose.word().as_bytes() {
             return Some(Verb::Pose);
+        }
+        if word == Verb::Advance.word().as_bytes() {
+            return Some(Verb::Advance);
         }
         None
     }
@@ -111,7 +117,7 @@ impl NamedPlan {
         self.own_pose(machine, name).or(self.poses.number_of(name))
     }
 
-    /// What a machine asks with this verb about the zone or the pose that has this name. `None` if none has it.
+    /// What a machine asks with this verb about the zone, the pose or the place that has this name. `None` if none has it.
     pub fn call(&self, machine: u8, verb: Verb, name: &[u8]) -> Option<Call>
         ensures { result ≡ spec.call_of self.now machine verb name.now }
     {
@@ -123,6 +129,7 @@ impl NamedPlan {
             Verb::Release => Some(Call::Release(self.zones.number_of(name)?)),
             Verb::Inquire => Some(Call::Inquire(self.zones.number_of(name)?)),
             Verb::Pose => Some(Call::SetPose(self.pose_named(machine, name)?)),
+            Verb::Advance => Some(Call::Advance(self.places.number_of(name)?)),
         }
     }
 
@@ -141,11 +148,12 @@ impl NamedPlan {
             Call::SetPose(pose) => push_words(text, Verb::Pose, self.poses.name(pose)),
             Call::Stop => text.push_str("stop"),
             Call::Resume => text.push_str("resume"),
+            Call::Advance(place) => push_words(text, Verb::Advance, self.places.name(place)),
         }
     }
 }
 
-/// Appends the words of a call about a zone or a pose.
+/// Appends the words of a call about a zone, a pose or a place.
 fn push_words(text: &mut String, verb: Verb, name: &str) -> Result<(), AllocError>
     ensures { OnOk result
         (string_bytes text.new ≡ string_bytes text.old ++ spec.words verb name.now) }

@@ -113,6 +113,7 @@ fn push_fields(text: &mut String, named: &NamedPlan, call: Call) -> Result<(), A
         Call::SetPose(pose) => push_two(text, Verb::Pose, named.poses().name(pose)),
         Call::Stop => text.push_str(",stop\n"),
         Call::Resume => text.push_str(",resume\n"),
+        Call::Advance(place) => push_two(text, Verb::Advance, named.places().name(place)),
     }
 }
 

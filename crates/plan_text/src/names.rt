@@ -116,9 +116,9 @@ fn is_name_byte(byte: u8) -> bool
 }
 
 /// The words that mean something in a script or in an answer, and name no machine.
-const RESERVED: [&str; 12] = [
+const RESERVED: [&str; 13] = [
     "watch", "free", "start", "claim", "give", "yield", "take", "release", "inquire", "pose",
-    "stop", "resume",
+    "advance", "stop", "resume",
 ];
 
 /// Whether a word means something in a script or in an answer. Such a word names no machine.

@@ -11,12 +11,12 @@ use csv::ByteRecord;
 const NO_MACHINE: &str = "field 1: no machine has this name";
 
 /// What is said of a word before a name that isn't a verb, or not of a name.
-const NO_VERB_OF_A_NAME: &str =
-    "field 2: this isn't a verb that takes a name; known: claim, give, yield, take, release, inquire, pose";
+const NO_VERB_OF_A_NAME: &str = "field 2: this isn't a verb that takes a name; \
+     known: claim, give, yield, take, release, inquire, pose, advance";
 
 /// What is said of a word with nothing after it that isn't a verb.
 const NO_VERB: &str = "field 2: this isn't a verb; known: stop, resume, \
-     and with a name claim, give, yield, take, release, inquire, pose";
+     and with a name claim, give, yield, take, release, inquire, pose, advance";
 
 /// What is wrong with a verb and a name after it.
 fn no_object(verb: Option<Verb>) -> &'static str
@@ -25,6 +25,7 @@ fn no_object(verb: Option<Verb>) -> &'static str
     match verb {
         None => NO_VERB_OF_A_NAME,
         Some(Verb::Pose) => "field 3: no pose has this name",
+        Some(Verb::Advance) => "field 3: no place has this name",
         Some(_) => "field 3: no zone has this name",
     }
 }

@@ -9,8 +9,9 @@ use Rattle.plan_types.specs.declared.posture.Posture.TheVariants.{Closed, Moving
 use Rattle.plan_types.specs.declared.table.Way.{Way}
 use Rattle.plan_types.specs.declared.table.PlanZone.{PlanZone}
 use Rattle.plan_types.specs.declared.table.PlanPose.{PlanPose}
+use Rattle.plan_types.specs.declared.table.PlanPlace.{PlanPlace}
 use Rattle.plan_types.specs.declared.sheet.Sheet.TheInside.{Inside}
-use Rattle.plan_types.specs.Table.{PlanTable, plan_table, zone_count, pose_count, place_count}
+use Rattle.plan_types.specs.Table.{PlanTable, whole_table, zone_count, pose_count, place_count, no_place}
 use Rattle.plan_types.specs.Bytes.{way_byte, from_byte, to_byte, zone_bytes, posture_byte, pose_bytes}
 use Rattle.plan_types.specs.Kept.{way_told, posture_told, zone_told, pose_told, table_in, filled, kept, IsKept}
 
@@ -65,12 +66,12 @@ table_back : (t : PlanTable) → table_in (kept t) ≡ t
 table_back t =
     let zones = rows_back zone_bytes zone_told zone_back (replicate 8 0) 10 t.zones in
     let poses = rows_back pose_bytes pose_told pose_back (replicate 12 0) 64 t.poses in
-    let places = take_at t.places (replicate (16 - length t.places) 0) (place_count t) refl in
+    let places = take_at t.places (replicate (16 - length t.places) no_place) (place_count t) refl in
     let kept_poses = take (pose_count t) (map pose_told (kept t).poses) in
     let kept_places = take (place_count t) (kept t).places in
-    ap (λ zs. plan_table t.machines zs kept_poses kept_places) zones
-    ∙ ap (λ ps. plan_table t.machines t.zones ps kept_places) poses
-    ∙ ap (λ ps. plan_table t.machines t.zones t.poses ps) places
+    ap (λ zs. whole_table t.machines zs kept_poses kept_places) zones
+    ∙ ap (λ ps. whole_table t.machines t.zones ps kept_places) poses
+    ∙ ap (λ ps. whole_table t.machines t.zones t.poses ps) places
 
 is_kept : (a : Inside) (t : PlanTable) → zone_count t ≤ 10 → pose_count t ≤ 64 → place_count t ≤ 16 → kept t ≡ a
     → IsKept a × (table_in a ≡ t)
@@ -130,7 +131,7 @@ posed a count poses = record {
   places = a.places;
 }
 
-abbrev placed : Inside → ℕ → List ℕ → Inside
+abbrev placed : Inside → ℕ → List PlanPlace → Inside
 placed a count places = record {
   machines = a.machines;
   zone_count = a.zone_count;
@@ -144,13 +145,13 @@ placed a count places = record {
 pub zone_kept : (a : Inside) → IsKept a → (z : PlanZone) (t : PlanTable) → table_in a ≡ t → zone_count t < 10
     → (row : List ℕ) → row ≡ zone_bytes z → (at : ℕ) → at ≡ a.zone_count
     → IsKept (zoned a (a.zone_count + 1) (set a.zones at row))
-    × (table_in (zoned a (a.zone_count + 1) (set a.zones at row)) ≡ plan_table t.machines (t.zones ++ z ∷ []) t.poses t.places)
+    × (table_in (zoned a (a.zone_count + 1) (set a.zones at row)) ≡ whole_table t.machines (t.zones ++ z ∷ []) t.poses t.places)
 zone_kept a is z t told room row row_is at at_is =
     let same : kept t ≡ a = ap kept (sym told) ∙ is.as_bytes in
     let count : zone_count t ≡ a.zone_count = ap (λ (b : Inside). b.zone_count) same in
     let poses : pose_count t ≡ a.pose_count = ap (λ (b : Inside). b.pose_count) same in
     let places : place_count t ≡ a.place_count = ap (λ (b : Inside). b.place_count) same in
-    let more = plan_table t.machines (t.zones ++ z ∷ []) t.poses t.places in
+    let more = whole_table t.machines (t.zones ++ z ∷ []) t.poses t.places in
     let long = length_more t.zones z in
     let fields : kept more ≡ zoned (kept t) (zone_count t + 1) (set (kept t).zones (zone_count t) (zone_bytes z)) =
     ap₂ (zoned (kept t)) long (row_more zone_bytes t.zones z (replicate 8 0) 10 room) in
@@ -164,12 +165,12 @@ zone_kept a is z t told room row row_is at at_is =
 pub pose_kept : (a : Inside) → IsKept a → (p : PlanPose) (t : PlanTable) → table_in a ≡ t → pose_count t < 64
     → (row : List ℕ) → row ≡ pose_bytes p → (at : ℕ) → at ≡ a.pose_count
     → IsKept (posed a (a.pose_count + 1) (set a.poses at row))
-    × (table_in (posed a (a.pose_count + 1) (set a.poses at row)) ≡ plan_table t.machines t.zones (t.poses ++ p ∷ []) t.places)
+    × (table_in (posed a (a.pose_count + 1) (set a.poses at row)) ≡ whole_table t.machines t.zones (t.poses ++ p ∷ []) t.places)
 pose_kept a is p t told room row row_is at at_is =
     let same : kept t ≡ a = ap kept (sym told) ∙ is.as_bytes in
     let zones : zone_count t ≡ a.zone_count = ap (λ (b : Inside). b.zone_count) same in
     let places : place_count t ≡ a.place_count = ap (λ (b : Inside). b.place_count) same in
-    let more = plan_table t.machines t.zones (t.poses ++ p ∷ []) t.places in
+    let more = whole_table t.machines t.zones (t.poses ++ p ∷ []) t.places in
     let long = length_more t.poses p in
     let fields : kept more ≡ posed (kept t) (pose_count t + 1) (set (kept t).poses (pose_count t) (pose_bytes p)) =
     ap₂ (posed (kept t)) long (row_more pose_bytes t.poses p (replicate 12 0) 64 room) in
@@ -180,21 +181,21 @@ pose_kept a is p t told room row row_is at at_is =
     is_kept _ more (omega (arith, zones, is.zones_fit)) (omega (arith, room, long)) (omega (arith, places, is.places_fit))
     (fields ∙ moved ∙ put)
 
-pub place_kept : (a : Inside) → IsKept a → (keeper : ℕ) (t : PlanTable) → table_in a ≡ t → place_count t < 16
+pub place_kept : (a : Inside) → IsKept a → (p : PlanPlace) (t : PlanTable) → table_in a ≡ t → place_count t < 16
     → (at : ℕ) → at ≡ a.place_count
-    → IsKept (placed a (a.place_count + 1) (set a.places at keeper))
-    × (table_in (placed a (a.place_count + 1) (set a.places at keeper)) ≡ plan_table t.machines t.zones t.poses (t.places ++ keeper ∷ []))
-place_kept a is keeper t told room at at_is =
+    → IsKept (placed a (a.place_count + 1) (set a.places at p))
+    × (table_in (placed a (a.place_count + 1) (set a.places at p)) ≡ whole_table t.machines t.zones t.poses (t.places ++ p ∷ []))
+place_kept a is p t told room at at_is =
     let same : kept t ≡ a = ap kept (sym told) ∙ is.as_bytes in
     let zones : zone_count t ≡ a.zone_count = ap (λ (b : Inside). b.zone_count) same in
     let poses : pose_count t ≡ a.pose_count = ap (λ (b : Inside). b.pose_count) same in
-    let more = plan_table t.machines t.zones t.poses (t.places ++ keeper ∷ []) in
-    let long = length_more t.places keeper in
-    let fields : kept more ≡ placed (kept t) (place_count t + 1) (set (kept t).places (place_count t) keeper) =
-    ap₂ (placed (kept t)) long (filled_more t.places keeper 0 16 room) in
-    let moved : placed (kept t) (place_count t + 1) (set (kept t).places (place_count t) keeper)
-    ≡ placed a (a.place_count + 1) (set a.places a.place_count keeper) =
-    ap (λ (b : Inside). placed b (b.place_count + 1) (set b.places b.place_count keeper)) same in
-    let put = ap (λ n. placed a (a.place_count + 1) (set a.places n keeper)) (sym at_is) in
+    let more = whole_table t.machines t.zones t.poses (t.places ++ p ∷ []) in
+    let long = length_more t.places p in
+    let fields : kept more ≡ placed (kept t) (place_count t + 1) (set (kept t).places (place_count t) p) =
+    ap₂ (placed (kept t)) long (filled_more t.places p no_place 16 room) in
+    let moved : placed (kept t) (place_count t + 1) (set (kept t).places (place_count t) p)
+    ≡ placed a (a.place_count + 1) (set a.places a.place_count p) =
+    ap (λ (b : Inside). placed b (b.place_count + 1) (set b.places b.place_count p)) same in
+    let put = ap (λ n. placed a (a.place_count + 1) (set a.places n p)) (sym at_is) in
     is_kept _ more (omega (arith, zones, is.zones_fit)) (omega (arith, poses, is.poses_fit)) (omega (arith, room, long))
     (fields ∙ moved ∙ put)

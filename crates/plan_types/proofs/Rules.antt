@@ -7,14 +7,15 @@ use Rattle.std.specs.Cmp.{first_so, second_so}
 use Rattle.plan_types.specs.declared.table.Way.{Way}
 use Rattle.plan_types.specs.declared.table.PlanZone.{PlanZone}
 use Rattle.plan_types.specs.declared.table.PlanPose.{PlanPose}
-use Rattle.plan_types.specs.Table.{PlanTable, no_zone, no_pose, zone_row, pose_row, is_place_of}
+use Rattle.plan_types.specs.declared.table.PlanPlace.{PlanPlace}
+use Rattle.plan_types.specs.Table.{PlanTable, no_zone, no_pose, no_place, zone_row, pose_row, is_place_of}
 use Rattle.plan_types.specs.Plan.{IsPlan, leads}
 use Rattle.plan_types.specs.TableLaws.{Keeps, GoesBetween, KeepsZoneRules, KeepsPoseRules, KeepsRules}
 
 pub keeps : (t : PlanTable) (m p : ℕ) → is_place_of t p m ≡ true → Keeps t m p
 keeps t m p e =
     let below = nat_lt p (length t.places) in
-    let same = nat_eq (get_or t.places p 0) m in
+    let same = nat_eq (get_or t.places p no_place).keeper m in
     (ltb-true _ _ (first_so below same e), eqb-true _ _ (second_so below same e))
 
 pub is_kept : (t : PlanTable) (m p : ℕ) → Keeps t m p → is_place_of t p m ≡ true
@@ -58,7 +59,9 @@ rules_of_plan t plan = record {
   poses = omega (arith, plan.poses_at_most);
   places = omega (arith, plan.places_at_most);
   width = omega (arith, plan.fits_a_word);
-  keepers = λ k d below. rw (sym (get_or_default t.places k 0 d below)) (plan.keeper_is_machine k below);
+  keepers = λ k d below.
+      subst (λ (row : PlanPlace). row.keeper < t.machines) (get_or_default t.places k no_place d below)
+      (plan.keeper_is_machine k below);
   zone_rows = λ k d below.
       subst (λ (row : PlanZone). KeepsZoneRules t row) (get_or_default t.zones k no_zone d below)
       (zone_rules t plan k below);
@@ -77,7 +80,7 @@ plan_by_rules t rules =
       poses_at_most = omega (arith, rules.poses);
       places_at_most = omega (arith, rules.places);
       fits_a_word = omega (arith, rules.width);
-      keeper_is_machine = λ p below. rules.keepers p 0 below;
+      keeper_is_machine = λ p below. rules.keepers p no_place below;
       host_is_machine = λ z below. (zone z below).host;
       guest_is_machine = λ z below. (zone z below).guest;
       host_is_not_guest = λ z below. (zone z below).two;

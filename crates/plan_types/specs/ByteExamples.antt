@@ -3,8 +3,9 @@
 use Rattle.std.specs.Prelude.{◌≡◌, ℕ, true, false, [], ◌∷◌, replicate, Some, None}
 use Rattle.plan_types.specs.declared.posture.Posture.TheVariants.{Closed, Moving, OpenIn, OpenOut}
 use Rattle.plan_types.specs.declared.table.PlanPose.{PlanPose}
-use Rattle.plan_types.specs.Table.{plan_table}
-use Rattle.plan_types.specs.Examples.{way, zone, pose, two_at, press_table, lift_table}
+use Rattle.plan_types.specs.declared.table.PlanPlace.{PlanPlace}
+use Rattle.plan_types.specs.Table.{whole_table, plan_table, kept_by}
+use Rattle.plan_types.specs.Examples.{way, zone, pose, two_at, press_table, lift_table, hand}
 use Rattle.plan_types.specs.Readings.{unlike_table}
 use Rattle.plan_types.specs.Bytes.{bytes_of, HasWholeRows}
 
@@ -81,5 +82,9 @@ pub record BytesAreRight : Type 0 where
   -- a table without rows has no bytes
   pub nothing : bytes_of (plan_table 0 [] [] []) ≡ 0 ∷ 0 ∷ 0 ∷ 0 ∷ []
   pub places_alone : bytes_of (plan_table 3 [] [] (2 ∷ 1 ∷ [])) ≡ 3 ∷ 0 ∷ 0 ∷ 2 ∷ 2 ∷ 1 ∷ []
+  -- a place that is neither source nor sink, a source, a sink, and both
+  pub ends : bytes_of (whole_table 15 [] []
+      (kept_by 14 ∷ record { keeper = 14; source = true; sink = false } ∷ record { keeper = 3; source = false; sink = true }
+      ∷ hand ∷ [])) ≡ 15 ∷ 0 ∷ 0 ∷ 4 ∷ 14 ∷ 78 ∷ 131 ∷ 192 ∷ []
   pub pose_alone : bytes_of (plan_table 5 [] (pose 4 true None (Some OpenIn) ∷ []) [])
       ≡ 5 ∷ 0 ∷ 1 ∷ 0 ∷ 4 ∷ 1 ∷ 0 ∷ 3 ∷ 0 ∷ 0 ∷ 0 ∷ 0 ∷ 0 ∷ 0 ∷ 0 ∷ 0 ∷ []

@@ -10,7 +10,8 @@ use Rattle.plan_types.specs.declared.fault.PlanFault.TheVariants.{TooManyMachine
 use Rattle.plan_types.specs.declared.fault.PlanFault.TheVariants.{TooManyPlaces, TooWide, NoSuchKeeper, NoSuchHost}
 use Rattle.plan_types.specs.declared.fault.PlanFault.TheVariants.{NoSuchGuest, HostIsGuest, InwardAstray}
 use Rattle.plan_types.specs.declared.fault.PlanFault.TheVariants.{OutwardAstray, NoSuchMachine, ForeignZone}
-use Rattle.plan_types.specs.Table.{PlanTable, plan_table}
+use Rattle.plan_types.specs.declared.table.PlanPlace.{PlanPlace}
+use Rattle.plan_types.specs.Table.{PlanTable, whole_table, plan_table, kept_by}
 use Rattle.plan_types.specs.Plan.{IsPlan}
 use Rattle.plan_types.specs.Faults.{plan_fault}
 
@@ -41,6 +42,13 @@ press_poses =
 abbrev pub press_table : PlanTable
 press_table = plan_table 2 (press_zone ∷ []) press_poses (0 ∷ 1 ∷ [])
 
+-- the press again, whose loader fills its hand from outside and empties it there
+abbrev pub hand : PlanPlace
+hand = record { keeper = 0; source = true; sink = true }
+
+abbrev pub open_press_table : PlanTable
+open_press_table = whole_table 2 (press_zone ∷ []) press_poses (hand ∷ kept_by 1 ∷ [])
+
 -- machine 0 is the lift, 1 the lower floor, 2 the upper one; places: each machine's own
 -- poses: 0 travelling, 1 loading below, 2 unloading above, 3 unloading below, 4 loading above
 abbrev pub lift_zones : List PlanZone
@@ -61,6 +69,14 @@ roads_table =
     plan_table 3 (zone 0 1 None None ∷ zone 0 2 None None ∷ [])
     (pose 0 false (Some Moving) (Some Moving) ∷ pose 0 true (Some OpenIn) (Some Closed)
     ∷ pose 0 true (Some Closed) (Some OpenIn) ∷ []) []
+
+-- machine 0 loads the press from its hand, a source, and takes the plates out to its tray, a sink; places: 0 the hand,
+-- 1 the tray, 2 the press's
+abbrev pub through_table : PlanTable
+through_table =
+    whole_table 2 (zone 1 0 (way 0 2) (way 2 1) ∷ []) press_poses
+    (record { keeper = 0; source = true; sink = false } ∷ record { keeper = 0; source = false; sink = true }
+    ∷ kept_by 1 ∷ [])
 
 -- a pose that gives one zone a posture and leaves the others
 abbrev pub pose_at : ℕ → ℕ → Posture → PlanPose
@@ -163,6 +179,8 @@ pub record ExamplesArePlans : Type 0 where
   pub press : IsPlan press_table
   pub lift : IsPlan lift_table
   pub large : IsPlan large_table
+  pub open_press : IsPlan open_press_table
+  pub through : IsPlan through_table
   pub one_machine : IsPlan (plan_table 1 [] [] [])
   pub nothing : IsPlan (plan_table 0 [] [] [])
   pub eight_move : IsPlan (eight_posed Moving)

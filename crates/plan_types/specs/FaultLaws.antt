@@ -9,7 +9,7 @@ use Rattle.plan_types.specs.declared.fault.PlanFault.TheVariants.{OutwardAstray,
 use Rattle.plan_types.specs.declared.table.PlanZone.{PlanZone}
 use Rattle.plan_types.specs.declared.table.PlanPose.{PlanPose}
 use Rattle.plan_types.specs.Below.{sum_below}
-use Rattle.plan_types.specs.Table.{PlanTable, no_zone, no_pose, zone_bits}
+use Rattle.plan_types.specs.Table.{PlanTable, no_zone, no_pose, no_place, zone_bits}
 use Rattle.plan_types.specs.TableLaws.{GoesBetween}
 use Rattle.plan_types.specs.Faults.{plan_fault}
 
@@ -34,7 +34,7 @@ Says t TooManyPlaces = 16 < length t.places
 -- the bits of each zone, one for each place, twenty-one for the stamp and the stop
 Says t (TooWide missing) =
     (0 < missing) × (sum_below (zone_bits t) (length t.zones) + length t.places + 21 ≡ 64 + missing)
-Says t (NoSuchKeeper p) = (p < length t.places) × (t.machines ≤ get_or t.places p 0)
+Says t (NoSuchKeeper p) = (p < length t.places) × (t.machines ≤ (get_or t.places p no_place).keeper)
 Says t (NoSuchHost z) = OfZone t z (λ row. t.machines ≤ row.host)
 Says t (NoSuchGuest z) = OfZone t z (λ row. t.machines ≤ row.guest)
 Says t (HostIsGuest z) = OfZone t z (λ row. row.host ≡ row.guest)

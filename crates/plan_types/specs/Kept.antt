@@ -7,7 +7,7 @@ use Rattle.plan_types.specs.declared.table.Way.{Way}
 use Rattle.plan_types.specs.declared.table.PlanZone.{PlanZone}
 use Rattle.plan_types.specs.declared.table.PlanPose.{PlanPose}
 use Rattle.plan_types.specs.declared.sheet.Sheet.TheInside.{Inside}
-use Rattle.plan_types.specs.Table.{PlanTable, plan_table, zone_count, pose_count, place_count}
+use Rattle.plan_types.specs.Table.{PlanTable, whole_table, zone_count, pose_count, place_count, no_place}
 use Rattle.plan_types.specs.Bytes.{zone_bytes, pose_bytes}
 
 -- what some bytes tell, whatever they are
@@ -37,7 +37,7 @@ pose_told row = record {
 -- the tables that a sheet keeps
 abbrev pub table_in : Inside → PlanTable
 table_in a =
-    plan_table a.machines (take a.zone_count (map zone_told a.zones)) (take a.pose_count (map pose_told a.poses))
+    whole_table a.machines (take a.zone_count (map zone_told a.zones)) (take a.pose_count (map pose_told a.poses))
     (take a.place_count a.places)
 
 -- some rows, and blank ones up to a number of rows
@@ -53,7 +53,7 @@ kept t = record {
   place_count = place_count t;
   zones = filled (map zone_bytes t.zones) (replicate 8 0) 10;
   poses = filled (map pose_bytes t.poses) (replicate 12 0) 64;
-  places = filled t.places 0 16;
+  places = filled t.places no_place 16;
 }
 
 -- tables that a sheet has room for

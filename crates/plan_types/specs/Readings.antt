@@ -14,10 +14,12 @@ use Rattle.plan_types.specs.Below.{first_below, any_below, sum_below}
 use Rattle.plan_types.specs.Table.{PlanTable, plan_table, watch, is_party, has_pose, is_moving_pose, transfer_of}
 use Rattle.plan_types.specs.Table.{zone_count, pose_count, place_count, word_width, zone_row, pose_row, keeper_of}
 use Rattle.plan_types.specs.Table.{host_of, guest_of, machine_of, posture_of, is_hosted, is_place_of}
+use Rattle.plan_types.specs.Table.{place_row, kept_by, is_source, is_sink, has_end}
 use Rattle.plan_types.specs.Plan.{leads}
 use Rattle.plan_types.specs.Table.{zone_shape, postures_of, posture_bits, shape_bits, zone_bits}
 use Rattle.plan_types.specs.Examples.{way, zone, pose, press_table, lift_table, large_table, two_at, gives_at, counted}
 use Rattle.plan_types.specs.Examples.{wide_table, gated_table, roads_table, rack_table, lathe_table, plant_table}
+use Rattle.plan_types.specs.Examples.{open_press_table, through_table}
 
 -- one pose, which gives two zones a posture
 abbrev pub gives_both : Posture → Posture → PlanTable
@@ -205,6 +207,18 @@ pub record RightsTell : Type 0 where
   pub hosted_first : is_hosted unlike_table 0 1 ≡ true
   pub kept_first : is_place_of unlike_table 0 18 ≡ true
 
+-- sources and sinks: of a plan without them there are none, and past the table's end there is none
+pub record EndsTell : Type 0 where
+  pub sources : map (is_source through_table) (0 ∷ 1 ∷ 2 ∷ 3 ∷ []) ≡ true ∷ false ∷ false ∷ false ∷ []
+  pub sinks : map (is_sink through_table) (0 ∷ 1 ∷ 2 ∷ 3 ∷ []) ≡ false ∷ true ∷ false ∷ false ∷ []
+  pub keepers : map (keeper_of through_table) (0 ∷ 1 ∷ 2 ∷ 3 ∷ []) ≡ 0 ∷ 0 ∷ 1 ∷ 0 ∷ []
+  pub both : map (has_end open_press_table 0) (0 ∷ 1 ∷ 2 ∷ []) ≡ true ∷ false ∷ false ∷ []
+  pub loaders : map (has_end through_table 0) (0 ∷ 1 ∷ 2 ∷ 3 ∷ []) ≡ true ∷ true ∷ false ∷ false ∷ []
+  pub anothers : map (has_end through_table 1) (0 ∷ 1 ∷ 2 ∷ 3 ∷ []) ≡ false ∷ false ∷ false ∷ false ∷ []
+  pub none : map (has_end press_table 0) (0 ∷ 1 ∷ 2 ∷ []) ≡ false ∷ false ∷ false ∷ []
+  pub row : place_row press_table 1 ≡ kept_by 1
+  pub no_row : place_row through_table 3 ≡ kept_by 0
+
 abbrev pub postures : List Posture
 postures = Closed ∷ Moving ∷ OpenIn ∷ OpenOut ∷ []
 
@@ -239,6 +253,7 @@ pub record TablesTell : Type 0 where
   pub rows : RowsTell
   pub shapes : ShapesTell
   pub rights : RightsTell
+  pub ends : EndsTell
   pub same_postures : SamePostures
   pub numbers_below : NumbersBelow
   pub moving_poses : MovingPoses

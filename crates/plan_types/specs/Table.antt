@@ -1,5 +1,5 @@
 -- The tables of a plan, and what they say of a zone, a pose or a place by its number.
-use Rattle.std.specs.Prelude.{ℕ, ◌+◌, Bool, true, false, ◌&&◌, ◌||◌, nat_eq, nat_lt, List, length, get_or, replicate}
+use Rattle.std.specs.Prelude.{ℕ, ◌+◌, Bool, true, false, ◌&&◌, ◌||◌, nat_eq, nat_lt, List, length, get_or, map, replicate}
 use Rattle.std.specs.Prelude.{Option, Some, None, option_map, is_some}
 use Rattle.std.specs.Option.{option_eq}
 use Rattle.std.specs.List.{list_any}
@@ -9,6 +9,7 @@ use Rattle.plan_types.specs.declared.posture.Posture.TheVariants.{Closed, Moving
 use Rattle.plan_types.specs.declared.table.Way.{Way}
 use Rattle.plan_types.specs.declared.table.PlanZone.{PlanZone}
 use Rattle.plan_types.specs.declared.table.PlanPose.{PlanPose}
+use Rattle.plan_types.specs.declared.table.PlanPlace.{PlanPlace}
 use Rattle.plan_types.specs.declared.table.Transfer.{Transfer}
 use Rattle.plan_types.specs.declared.shape.Postures.{Postures}
 use Rattle.plan_types.specs.declared.shape.Postures.TheVariants.{Shut, Two, All}
@@ -16,20 +17,28 @@ use Rattle.plan_types.specs.declared.shape.ZoneShape.{ZoneShape}
 use Rattle.plan_types.specs.Below.{any_below, sum_below}
 use Rattle.plan_types.specs.Same.{same_posture}
 
--- how many machines there are, the zones, the poses, and the machine that keeps each place
+-- how many machines there are, the zones, the poses and the places
 pub record PlanTable : Type 0 where
   pub machines : ℕ
   pub zones : List PlanZone
   pub poses : List PlanPose
-  pub places : List ℕ
+  pub places : List PlanPlace
 
-abbrev pub plan_table : ℕ → List PlanZone → List PlanPose → List ℕ → PlanTable
-plan_table machines zones poses places = record {
+abbrev pub whole_table : ℕ → List PlanZone → List PlanPose → List PlanPlace → PlanTable
+whole_table machines zones poses places = record {
   machines = machines;
   zones = zones;
   poses = poses;
   places = places;
 }
+
+-- a place of a machine that no plate comes to from outside, and that none leaves for it
+abbrev pub kept_by : ℕ → PlanPlace
+kept_by keeper = record { keeper = keeper; source = false; sink = false }
+
+-- tables without sources and sinks: of each place the machine that keeps it
+abbrev pub plan_table : ℕ → List PlanZone → List PlanPose → List ℕ → PlanTable
+plan_table machines zones poses keepers = whole_table machines zones poses (map kept_by keepers)
 
 -- the watch's number
 abbrev pub watch : ℕ
@@ -51,14 +60,27 @@ no_zone = record { host = 0; guest = 0; inward = None; outward = None }
 abbrev pub no_pose : PlanPose
 no_pose = record { machine = 0; after_moving = false; gives = replicate 10 None }
 
+abbrev pub no_place : PlanPlace
+no_place = kept_by 0
+
 abbrev pub zone_row : PlanTable → ℕ → PlanZone
 zone_row t z = get_or t.zones z no_zone
 
 abbrev pub pose_row : PlanTable → ℕ → PlanPose
 pose_row t p = get_or t.poses p no_pose
 
+abbrev pub place_row : PlanTable → ℕ → PlanPlace
+place_row t p = get_or t.places p no_place
+
 abbrev pub keeper_of : PlanTable → ℕ → ℕ
-keeper_of t p = get_or t.places p 0
+keeper_of t p = (place_row t p).keeper
+
+-- plates come to a place from outside, and leave one for outside
+abbrev pub is_source : PlanTable → ℕ → Bool
+is_source t p = (place_row t p).source
+
+abbrev pub is_sink : PlanTable → ℕ → Bool
+is_sink t p = (place_row t p).sink
 
 abbrev pub host_of : PlanTable → ℕ → ℕ
 host_of t z = (zone_row t z).host
@@ -84,6 +106,10 @@ is_party t m z = nat_lt z (zone_count t) && (nat_eq m (host_of t z) || nat_eq m 
 -- a machine keeps a place of the plan
 abbrev pub is_place_of : PlanTable → ℕ → ℕ → Bool
 is_place_of t p m = nat_lt p (place_count t) && nat_eq (keeper_of t p) m
+
+-- a machine may ask for plates to come to a place, or to leave it: it keeps the place, which is a source or a sink
+abbrev pub has_end : PlanTable → ℕ → ℕ → Bool
+has_end t m p = is_place_of t p m && (is_source t p || is_sink t p)
 
 -- a machine has a pose of the plan
 abbrev pub has_pose : PlanTable → ℕ → ℕ → Bool

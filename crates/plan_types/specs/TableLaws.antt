@@ -8,7 +8,9 @@ use Rattle.plan_types.specs.declared.posture.Posture.TheVariants.{Closed, Moving
 use Rattle.plan_types.specs.declared.table.Way.{Way}
 use Rattle.plan_types.specs.declared.table.PlanZone.{PlanZone}
 use Rattle.plan_types.specs.declared.table.PlanPose.{PlanPose}
-use Rattle.plan_types.specs.Table.{PlanTable, plan_table, zone_row, pose_row, keeper_of, posture_of, is_moving_pose}
+use Rattle.plan_types.specs.declared.table.PlanPlace.{PlanPlace}
+use Rattle.plan_types.specs.Table.{PlanTable, whole_table, zone_row, pose_row, place_row, posture_of, is_moving_pose}
+use Rattle.plan_types.specs.Table.{no_place, keeper_of, is_source, is_sink, has_end}
 use Rattle.plan_types.specs.Table.{transfer_of, no_zone, no_pose, has_pose, is_hosted, is_party, is_place_of}
 use Rattle.plan_types.specs.Table.{is_given, zone_shape, zone_bits, word_width}
 use Rattle.plan_types.specs.Plan.{IsPlan}
@@ -17,13 +19,13 @@ use Rattle.plan_types.specs.Readings.{transfer}
 
 -- tables, with rows and then one more before their own zones, poses or places
 abbrev pub with_zone : PlanTable → List PlanZone → PlanZone → PlanTable
-with_zone t rows row = plan_table t.machines (rows ++ row ∷ t.zones) t.poses t.places
+with_zone t rows row = whole_table t.machines (rows ++ row ∷ t.zones) t.poses t.places
 
 abbrev pub with_pose : PlanTable → List PlanPose → PlanPose → PlanTable
-with_pose t rows row = plan_table t.machines t.zones (rows ++ row ∷ t.poses) t.places
+with_pose t rows row = whole_table t.machines t.zones (rows ++ row ∷ t.poses) t.places
 
-abbrev pub with_place : PlanTable → List ℕ → ℕ → PlanTable
-with_place t keepers keeper = plan_table t.machines t.zones t.poses (keepers ++ keeper ∷ t.places)
+abbrev pub with_place : PlanTable → List PlanPlace → PlanPlace → PlanTable
+with_place t rows row = whole_table t.machines t.zones t.poses (rows ++ row ∷ t.places)
 
 -- a row's number is how many rows come before it; from the table's length on there is none
 pub record RowsByNumber : Type 0 where
@@ -31,10 +33,11 @@ pub record RowsByNumber : Type 0 where
       → zone_row (with_zone t rows row) (length rows) ≡ row
   pub pose : (t : PlanTable) (rows : List PlanPose) (row : PlanPose)
       → pose_row (with_pose t rows row) (length rows) ≡ row
-  pub keeper : (t : PlanTable) (rows : List ℕ) (m : ℕ) → keeper_of (with_place t rows m) (length rows) ≡ m
+  pub place : (t : PlanTable) (rows : List PlanPlace) (row : PlanPlace)
+      → place_row (with_place t rows row) (length rows) ≡ row
   pub zone_past_the_end : (t : PlanTable) (z : ℕ) → length t.zones ≤ z → zone_row t z ≡ no_zone
   pub pose_past_the_end : (t : PlanTable) (p : ℕ) → length t.poses ≤ p → pose_row t p ≡ no_pose
-  pub keeper_past_the_end : (t : PlanTable) (p : ℕ) → length t.places ≤ p → keeper_of t p ≡ 0
+  pub place_past_the_end : (t : PlanTable) (p : ℕ) → length t.places ≤ p → place_row t p ≡ no_place
 
 -- OpenIn gives a plate's way inward, from the guest to the host; OpenOut its way outward, from the host to the guest;
 -- there is none in another posture, none by a row without that way, and none through a zone past the table's end
@@ -62,7 +65,11 @@ pub record PosesByZone : Type 0 where
 
 -- a place of the tables that a machine keeps
 abbrev pub Keeps : PlanTable → ℕ → ℕ → Type 0
-Keeps t m p = (p < length t.places) × (get_or t.places p 0 ≡ m)
+Keeps t m p = (p < length t.places) × ((get_or t.places p no_place).keeper ≡ m)
+
+-- the row of a source or of a sink
+abbrev pub IsEnd : PlanPlace → Type 0
+IsEnd row = (row.source ≡ true) ⊎ (row.sink ≡ true)
 
 -- who hosts a zone, is its party, keeps a place or has a pose: exactly those whom the row of this number names
 pub record RightsByRow (t : PlanTable) (m : ℕ) : Type 0 where
@@ -71,6 +78,8 @@ pub record RightsByRow (t : PlanTable) (m : ℕ) : Type 0 where
       × ((m ≡ (get_or t.zones z no_zone).host) ⊎ (m ≡ (get_or t.zones z no_zone).guest)))
   pub keeps : (p : ℕ) → (is_place_of t p m ≡ true) ↔ Keeps t m p
   pub poses : (p : ℕ) → (has_pose t m p ≡ true) ↔ ((p < length t.poses) × ((get_or t.poses p no_pose).machine ≡ m))
+  -- who may ask for plates to come or go: the keeper of a place whose row says that it is a source or a sink
+  pub ends : (p : ℕ) → (has_end t m p ≡ true) ↔ (Keeps t m p × IsEnd (get_or t.places p no_place))
   -- the bits of each zone, one for each place, twenty-one for the stamp and the stop
   pub width : word_width t ≡ sum_below (zone_bits t) (length t.zones) + length t.places + 21
 
@@ -105,7 +114,7 @@ pub record KeepsRules (t : PlanTable) : Type 0 where
   pub places : length t.places < 17
   -- twenty-one of a word's 64 bits are for the stamp and the stop
   pub width : length t.places + sum_below (zone_bits t) (length t.zones) < 44
-  pub keepers : All (λ m. m < t.machines) t.places
+  pub keepers : All (λ row. row.keeper < t.machines) t.places
   pub zone_rows : All (KeepsZoneRules t) t.zones
   pub pose_rows : All (KeepsPoseRules t) t.poses
 

@@ -6,7 +6,8 @@ use crate::posture::Posture;
 /// Why a call is refused.
 #[derive(Clone, Copy, Debug, PartialEq, Eq)]
 pub enum Refusal {
-    /// The caller is no party of the zone, or there is no such zone; `Stop`, `Resume`: the caller isn't the watch.
+    /// The caller is no party of the zone, or there is no such zone; `Stop`, `Resume`: the caller isn't the watch;
+    /// `Advance`: it doesn't keep such a place, or the place is neither source nor sink.
     NotParty,
     /// Another machine owns the zone.
     Held(u8),
@@ -18,9 +19,9 @@ pub enum Refusal {
     NotOwner(Option<u8>),
     /// A plate is in this zone.
     PlateInZone(u8),
-    /// There is no plate at the giving place or, for `Take`, in the zone.
+    /// There is no plate at the giving place, for `Take` in the zone, for `Advance` at a sink.
     NoPlate,
-    /// The receiving place has a plate, or one is on its way to it.
+    /// The receiving place has a plate, or one is on its way to it; `Advance`: so does a source.
     PlaceFull,
     /// The caller gives nothing in this zone while it has this posture.
     WrongWay,

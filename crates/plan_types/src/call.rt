@@ -21,4 +21,6 @@ pub enum Call {
     Stop,
     /// To let them go on.
     Resume,
+    /// To let a plate come from outside to an own place that is a source, or one go outside from a sink.
+    Advance(u8),
 }

@@ -7,7 +7,7 @@ ghost use Rattle.plan_types.specs.Readings.{TablesTell};
 ghost use Rattle.plan_types.specs.Examples as examples;
 
 use crate::posture::Posture;
-use crate::table::{MAX_ZONES, PlanPose, PlanZone, Tables, Way};
+use crate::table::{MAX_ZONES, PlanPlace, PlanPose, PlanZone, Tables, Way};
 use std::alloc::{AllocError, Global};
 
 fn way(from: u8, to: u8) -> Option<Way>
@@ -53,7 +53,7 @@ pub fn press(alloc: Global) -> Result<Tables, AllocError>
             pose(1, true, Some(Posture::Closed), None),
             pose(1, false, Some(Posture::Moving), None),
         ]?,
-        places: vec![in alloc; 0, 1]?,
+        places: vec![in alloc; PlanPlace::kept_by(0), PlanPlace::kept_by(1)]?,
     })
 }
 
@@ -85,7 +85,11 @@ pub fn lift(alloc: Global) -> Result<Tables, AllocError>
             pose(0, true, Some(Posture::OpenOut), closed),
             pose(0, true, closed, Some(Posture::OpenIn)),
         ]?,
-        places: vec![in alloc; 0, 1, 2]?,
+        places: vec![in alloc;
+            PlanPlace::kept_by(0),
+            PlanPlace::kept_by(1),
+            PlanPlace::kept_by(2),
+        ]?,
     })
 }
 

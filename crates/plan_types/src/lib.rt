@@ -26,7 +26,7 @@ pub use posture::Posture;
 pub use read::read_plan;
 pub use shape::{Postures, ZoneShape};
 pub use table::{
-    MAX_MACHINES, MAX_PLACES, MAX_POSES, MAX_ZONES, PlanPose, PlanZone, Tables, Transfer, WATCH,
-    Way,
+    MAX_MACHINES, MAX_PLACES, MAX_POSES, MAX_ZONES, PlanPlace, PlanPose, PlanZone, Tables,
+    Transfer, WATCH, Way,
 };
 pub use write::write_plan;

@@ -1,5 +1,5 @@
 //! A plan: tables that were checked.
-ghost use Rattle.std.specs.Prelude.{◌≡◌, ◌≤◌, ◌↔◌, [], Some, IsOk, IfOk, IfErr};
+ghost use Rattle.std.specs.Prelude.{◌≡◌, ◌≤◌, ◌<◌, ◌↔◌, [], Some, IsOk, IfOk, IfErr};
 ghost use Rattle.plan_types.specs.Table as table;
 ghost use Rattle.plan_types.specs.Table.{plan_table};
 ghost use Rattle.plan_types.specs.Plan.{IsPlan};
@@ -9,7 +9,7 @@ use crate::fault::PlanFault;
 use crate::posture::Posture;
 use crate::shape::ZoneShape;
 use crate::sheet::Sheet;
-use crate::table::{PlanPose, PlanZone, Tables, Transfer, Way};
+use crate::table::{PlanPlace, PlanPose, PlanZone, Tables, Transfer, Way};
 use std::marker::Model;
 
 /// A plan of a plant. Each plan is one that [`Plan::new`] has accepted.
@@ -136,6 +136,23 @@ impl Plan {
         ensures { result ≡ table.keeper_of self.now place }
     {
         self.sheet.keeper(usize::from(place))
+    }
+
+    /// The row of a place, or one that says nothing if there is no such place.
+    #[tactic(auto, using(crate::proofs::PlaceBytes::is_narrow))]
+    pub fn place(&self, place: u8) -> PlanPlace
+        ensures row { result ≡ table.place_row self.now place }
+        ensures narrow { result.keeper < 64 }
+    {
+        self.sheet.place(usize::from(place))
+    }
+
+    /// Whether a machine keeps a place of the plan that is a source or a sink.
+    pub fn has_end(&self, machine: u8, place: u8) -> bool
+        ensures { result ≡ table.has_end self.now machine place }
+    {
+        let row = self.place(place);
+        place < self.place_count() && row.keeper == machine && (row.source || row.sink)
     }
 
     /// Whether a machine is the host or the guest of a zone of the plan.

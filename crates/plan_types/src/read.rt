@@ -1,21 +1,22 @@
 //! Bytes to plans.
-ghost use Rattle.std.specs.Prelude.{◌≡◌, ◌≢◌, ◌≤◌, ◌↔◌, [], Some, List, All, IfSome, IsNone, flat_map, length};
+ghost use Rattle.std.specs.Prelude.{◌≡◌, ◌≢◌, ◌≤◌, ◌↔◌, [], Some, List, All, IfSome, IsNone, flat_map, map, length};
 ghost use Rattle.plan_types.specs.declared.table.PlanZone.{PlanZone};
 ghost use Rattle.plan_types.specs.declared.table.PlanPose.{PlanPose};
-ghost use Rattle.plan_types.specs.Table.{PlanTable, plan_table};
-ghost use Rattle.plan_types.specs.Bytes.{bytes_of, zone_bytes, pose_bytes, HasWholeRows, IsForTenZones, IsPlanOf};
+ghost use Rattle.plan_types.specs.Table.{PlanTable, whole_table};
+ghost use Rattle.plan_types.specs.Bytes.{bytes_of, zone_bytes, pose_bytes, place_byte, HasWholeRows, IsForTenZones};
+ghost use Rattle.plan_types.specs.Bytes.{HasNarrowPlaces, IsNarrow, IsPlanOf};
 ghost use Rattle.plan_types.specs.Parts.{IsPartsOf};
 
 use crate::plan::Plan;
-use crate::rows::{POSE_BYTES, ZONE_BYTES, pose_with, zone_with};
-use crate::sheet::{Sheet, push_places};
+use crate::rows::{POSE_BYTES, ZONE_BYTES, place_with, pose_with, zone_with};
+use crate::sheet::Sheet;
 use crate::table::{MAX_PLACES, MAX_POSES, MAX_ZONES};
 
 fn read_zones(start: Sheet, bytes: &[u8]) -> Option<Sheet>
     requires empty { start.zones ≡ [] }
     requires few { length bytes.now ≤ 80 }
     ensures zones { IfSome result (λ read.
-        (read ≡ plan_table start.machines read.zones start.poses start.places)
+        (read ≡ whole_table start.machines read.zones start.poses start.places)
         × (flat_map zone_bytes read.zones ≡ bytes.now)) }
     ensures none { IsNone result → (zones : List PlanZone) → flat_map zone_bytes zones ≢ bytes.now }
 {
@@ -35,7 +36,7 @@ fn read_poses(start: Sheet, bytes: &[u8]) -> Option<Sheet>
     requires empty { start.poses ≡ [] }
     requires few { length bytes.now ≤ 768 }
     ensures poses { IfSome result (λ read.
-        (read ≡ plan_table start.machines start.zones read.poses start.places)
+        (read ≡ whole_table start.machines start.zones read.poses start.places)
         × (flat_map pose_bytes read.poses ≡ bytes.now)) }
     ensures whole { IfSome result HasWholeRows }
     ensures none { IsNone result →
@@ -51,6 +52,21 @@ fn read_poses(start: Sheet, bytes: &[u8]) -> Option<Sheet>
         rest = after;
     }
     if rest.is_empty() { Some(sheet) } else { None }
+}
+
+#[tactic(auto, using(crate::proofs::PlaceBytes::bytes_more, crate::proofs::PlaceBytes::narrow_more))]
+fn read_places(start: Sheet, bytes: &[u8]) -> Sheet
+    requires empty { start.places ≡ [] }
+    requires few { length bytes.now ≤ 16 }
+    ensures places { result ≡ whole_table start.machines start.zones start.poses result.places }
+    ensures bytes { map place_byte result.places ≡ bytes.now }
+    ensures narrow { HasNarrowPlaces result }
+{
+    let mut sheet = start;
+    for byte in bytes {
+        sheet.push_place(place_with(*byte));
+    }
+    sheet
 }
 
 /// The rows of each table.
@@ -98,9 +114,8 @@ fn read_sheet(bytes: &[u8]) -> Option<Sheet>
         return None;
     }
     let sheet = read_zones(Sheet::new(parts.machines), parts.zones)?;
-    let mut sheet = read_poses(sheet, parts.poses)?;
-    push_places(&mut sheet, parts.places);
-    Some(sheet)
+    let sheet = read_poses(sheet, parts.poses)?;
+    Some(read_places(sheet, parts.places))
 }
 
 /// The plan with these bytes; `None` if they are no plan's. It takes no memory.

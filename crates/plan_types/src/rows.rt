@@ -1,5 +1,5 @@
 //! The bytes of one row, and the row that has them.
-ghost use Rattle.std.specs.Prelude.{◌≡◌, ◌↔◌, ◌∷◌, [], Bool, List, None, Option, get_or, map, nat_eq, IfSome};
+ghost use Rattle.std.specs.Prelude.{◌≡◌, ◌↔◌, ◌<◌, ◌∷◌, [], Bool, List, None, Option, get_or, map, nat_eq, IfSome};
 ghost use Rattle.std.specs.List.{list_any};
 ghost use mir.Val.{bool_byte};
 ghost use Rattle.plan_types.specs.declared.posture.Posture.{Posture};
@@ -10,7 +10,7 @@ ghost use Rattle.plan_types.specs.Bytes as bytes;
 ghost use Rattle.plan_types.specs.Kept as kept;
 ghost use Rattle.plan_types.specs.Table.{is_moving};
 
-use crate::{MAX_ZONES, PlanPose, PlanZone, Posture, Way};
+use crate::{MAX_ZONES, PlanPlace, PlanPose, PlanZone, Posture, Way};
 
 /// The bytes of a zone.
 pub(crate) const ZONE_BYTES: usize = 8;
@@ -235,4 +235,25 @@ pub(crate) fn pose_with(row: &[u8; POSE_BYTES]) -> Option<PlanPose>
         after_moving,
         gives,
     })
+}
+
+/// The byte of a place.
+pub(crate) fn place_row(place: PlanPlace) -> u8
+    requires { place.keeper < 64 }
+    ensures { result ≡ bytes.place_byte place }
+{
+    place.keeper + 64 * u8::from(place.source) + 128 * u8::from(place.sink)
+}
+
+/// The place with a byte.
+#[tactic(auto, using(crate::proofs::PlaceBytes::told_back))]
+pub(crate) fn place_with(byte: u8) -> PlanPlace
+    ensures byte { bytes.place_byte result ≡ byte }
+    ensures narrow { result.keeper < 64 }
+{
+    PlanPlace {
+        keeper: byte % 64,
+        source: byte % 128 >= 64,
+        sink: byte >= 128,
+    }
 }

@@ -2,7 +2,7 @@
 ghost use Rattle.std.specs.Prelude.{◌≡◌, ◌≤◌, ◌<◌, ◌∷◌, ◌++◌, [], length};
 ghost use Rattle.plan_types.specs.Below.{any_below, sum_below};
 ghost use Rattle.plan_types.specs.Table as table;
-ghost use Rattle.plan_types.specs.Table.{plan_table};
+ghost use Rattle.plan_types.specs.Table.{whole_table};
 ghost use Rattle.plan_types.specs.Kept as kept;
 
 use crate::posture::Posture;
@@ -10,7 +10,7 @@ use crate::rows::{
     POSE_BYTES, ZONE_BYTES, gives_moving, pose_row, pose_told, posture_in_row, zone_row, zone_told,
 };
 use crate::shape::ZoneShape;
-use crate::table::{MAX_PLACES, MAX_POSES, MAX_ZONES, PlanPose, PlanZone, Tables};
+use crate::table::{MAX_PLACES, MAX_POSES, MAX_ZONES, PlanPlace, PlanPose, PlanZone, Tables};
 use std::marker::Model;
 
 const NO_ZONE: PlanZone = PlanZone {
@@ -26,6 +26,12 @@ const NO_POSE: PlanPose = PlanPose {
     gives: [None; MAX_ZONES],
 };
 
+const NO_PLACE: PlanPlace = PlanPlace {
+    keeper: 0,
+    source: false,
+    sink: false,
+};
+
 /// Tables, plan or not. It takes no memory beyond itself, and C can keep it.
 #[repr(C)]
 #[derive(Clone, Copy, Debug)]
@@ -36,7 +42,7 @@ pub struct Sheet {
     place_count: u8,
     zones: [[u8; ZONE_BYTES]; MAX_ZONES],
     poses: [[u8; POSE_BYTES]; MAX_POSES],
-    places: [u8; MAX_PLACES],
+    places: [PlanPlace; MAX_PLACES],
 }
 
 impl Model for Sheet {
@@ -58,7 +64,7 @@ impl Model for Sheet {
 impl Sheet {
     /// No rows yet.
     pub(crate) fn new(machines: u8) -> Sheet
-        ensures { result ≡ plan_table machines [] [] [] }
+        ensures { result ≡ whole_table machines [] [] [] }
     {
         Sheet {
             machines,
@@ -67,14 +73,14 @@ impl Sheet {
             place_count: 0,
             zones: [[0; ZONE_BYTES]; MAX_ZONES],
             poses: [[0; POSE_BYTES]; MAX_POSES],
-            places: [0; MAX_PLACES],
+            places: [NO_PLACE; MAX_PLACES],
         }
     }
 
     /// Appends a zone.
     pub(crate) fn push_zone(&mut self, zone: PlanZone)
         requires { table.zone_count self.old < 10 }
-        ensures { self.new ≡ plan_table self.old.machines (self.old.zones ++ zone ∷ []) self.old.poses
+        ensures { self.new ≡ whole_table self.old.machines (self.old.zones ++ zone ∷ []) self.old.poses
             self.old.places }
     {
         self.zones[usize::from(self.zone_count)] = zone_row(zone);
@@ -84,7 +90,7 @@ impl Sheet {
     /// Appends a pose.
     pub(crate) fn push_pose(&mut self, pose: PlanPose)
         requires { table.pose_count self.old < 64 }
-        ensures { self.new ≡ plan_table self.old.machines self.old.zones (self.old.poses ++ pose ∷ [])
+        ensures { self.new ≡ whole_table self.old.machines self.old.zones (self.old.poses ++ pose ∷ [])
             self.old.places }
     {
         self.poses[usize::from(self.pose_count)] = pose_row(pose);
@@ -92,12 +98,12 @@ impl Sheet {
     }
 
     /// Appends a place.
-    pub(crate) fn push_place(&mut self, keeper: u8)
+    pub(crate) fn push_place(&mut self, place: PlanPlace)
         requires { table.place_count self.old < 16 }
-        ensures { self.new ≡ plan_table self.old.machines self.old.zones self.old.poses
-            (self.old.places ++ keeper ∷ []) }
+        ensures { self.new ≡ whole_table self.old.machines self.old.zones self.old.poses
+            (self.old.places ++ place ∷ []) }
     {
-        self.places[usize::from(self.place_count)] = keeper;
+        self.places[usize::from(self.place_count)] = place;
         self.place_count += 1;
     }
 
@@ -269,22 +275,29 @@ impl Sheet {
         self.zones_width() + self.place_count() + 21
     }
 
-    /// The machine that keeps a place; the first where there is no such place.
-    pub(crate) fn keeper(&self, place: usize) -> u8
-        ensures { result ≡ table.keeper_of self.now place }
+    /// The row of a place, or one that says nothing.
+    pub(crate) fn place(&self, place: usize) -> PlanPlace
+        ensures { result ≡ table.place_row self.now place }
     {
         if place < usize::from(self.place_count) {
             self.places[place]
         } else {
-            0
+            NO_PLACE
         }
+    }
+
+    /// The machine that keeps a place; the first where there is no such place.
+    pub(crate) fn keeper(&self, place: usize) -> u8
+        ensures { result ≡ table.keeper_of self.now place }
+    {
+        self.place(place).keeper
     }
 }
 
 fn push_zones(sheet: &mut Sheet, zones: &[PlanZone])
     requires empty { sheet.old.zones ≡ [] }
     requires few { length zones.now ≤ 10 }
-    ensures { sheet.new ≡ plan_table sheet.old.machines zones.now sheet.old.poses sheet.old.places }
+    ensures { sheet.new ≡ whole_table sheet.old.machines zones.now sheet.old.poses sheet.old.places }
 {
     for zone in zones {
         sheet.push_zone(*zone);
@@ -294,21 +307,20 @@ fn push_zones(sheet: &mut Sheet, zones: &[PlanZone])
 fn push_poses(sheet: &mut Sheet, poses: &[PlanPose])
     requires empty { sheet.old.poses ≡ [] }
     requires few { length poses.now ≤ 64 }
-    ensures { sheet.new ≡ plan_table sheet.old.machines sheet.old.zones poses.now sheet.old.places }
+    ensures { sheet.new ≡ whole_table sheet.old.machines sheet.old.zones poses.now sheet.old.places }
 {
     for pose in poses {
         sheet.push_pose(*pose);
     }
 }
 
-/// Appends places to none.
-pub(crate) fn push_places(sheet: &mut Sheet, places: &[u8])
+fn push_places(sheet: &mut Sheet, places: &[PlanPlace])
     requires empty { sheet.old.places ≡ [] }
     requires few { length places.now ≤ 16 }
-    ensures { sheet.new ≡ plan_table sheet.old.machines sheet.old.zones sheet.old.poses places.now }
+    ensures { sheet.new ≡ whole_table sheet.old.machines sheet.old.zones sheet.old.poses places.now }
 {
-    for keeper in places {
-        sheet.push_place(*keeper);
+    for place in places {
+        sheet.push_place(*place);
     }
 }
 

@@ -1,5 +1,8 @@
 //! The rows of a plan's tables. Machines, zones, poses and places are numbers: their places in these tables, from 0.
 
+ghost use Rattle.std.specs.Prelude.{◌≡◌};
+ghost use Rattle.plan_types.specs.Table as table;
+
 use crate::posture::Posture;
 use std::marker::Model;
 
@@ -51,6 +54,31 @@ pub struct PlanPose {
     pub gives: [Option<Posture>; MAX_ZONES],
 }
 
+/// A place of plates, for one plate.
+#[repr(C)]
+#[derive(Clone, Copy, Debug, PartialEq, Eq)]
+pub struct PlanPlace {
+    /// The machine that keeps it.
+    pub keeper: u8,
+    /// Whether the machine fills it from outside.
+    pub source: bool,
+    /// Whether the machine empties it to outside.
+    pub sink: bool,
+}
+
+impl PlanPlace {
+    /// A place that no plate comes to from outside, and that none leaves for it.
+    pub const fn kept_by(keeper: u8) -> PlanPlace
+        ensures { result ≡ table.kept_by keeper }
+    {
+        PlanPlace {
+            keeper,
+            source: false,
+            sink: false,
+        }
+    }
+}
+
 /// How a plate passes through a zone: who gives it, who receives it, and from which place to which.
 #[derive(Clone, Copy, Debug, PartialEq, Eq)]
 pub struct Transfer {
@@ -73,14 +101,14 @@ pub struct Tables {
     pub zones: Vec<PlanZone>,
     /// The poses of all machines.
     pub poses: Vec<PlanPose>,
-    /// The places of plates, one plate each: the machine that keeps each.
-    pub places: Vec<u8>,
+    /// The places of plates.
+    pub places: Vec<PlanPlace>,
 }
 
 impl Model for Tables {
-    ghost use Rattle.plan_types.specs.Table.{PlanTable, plan_table};
+    ghost use Rattle.plan_types.specs.Table.{PlanTable, whole_table};
 
     ghost Value = { PlanTable };
 
-    ghost view = { λ a. plan_table a.machines a.zones.items a.poses.items a.places.items };
+    ghost view = { λ a. whole_table a.machines a.zones.items a.poses.items a.places.items };
 }

@@ -1,9 +1,9 @@
 //! Plans to bytes.
-ghost use Rattle.std.specs.Prelude.{◌≡◌, IfOk, OnOk, flat_map, ◌++◌};
-ghost use Rattle.plan_types.specs.Bytes.{bytes_of, zone_bytes, pose_bytes};
+ghost use Rattle.std.specs.Prelude.{◌≡◌, IfOk, OnOk, flat_map, map, ◌++◌};
+ghost use Rattle.plan_types.specs.Bytes.{bytes_of, zone_bytes, pose_bytes, place_byte};
 
 use crate::plan::Plan;
-use crate::rows::{pose_row, zone_row};
+use crate::rows::{place_row, pose_row, zone_row};
 use std::alloc::{AllocError, Global};
 
 #[tactic(auto, using(crate::proofs::Writing::zones_more))]
@@ -28,10 +28,10 @@ fn write_poses(out: &mut Vec<u8>, plan: &Plan) -> Result<(), AllocError>
 
 #[tactic(auto, using(crate::proofs::Writing::places_more))]
 fn write_places(out: &mut Vec<u8>, plan: &Plan) -> Result<(), AllocError>
-    ensures { OnOk result (out.new.items ≡ out.old.items ++ plan.now.places) }
+    ensures { OnOk result (out.new.items ≡ out.old.items ++ map place_byte plan.now.places) }
 {
     for place in 0..plan.place_count() {
-        out.push(plan.keeper(place))?;
+        out.push(place_row(plan.place(place)))?;
     }
     Ok(())
 }

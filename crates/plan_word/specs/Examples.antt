@@ -3,10 +3,13 @@ use Rattle.std.specs.Prelude.{◌≡◌, ℕ, ◌-◌, Bool, true, false, [], �
 use Rattle.plan_types.specs.declared.posture.Posture.{Posture}
 use Rattle.plan_types.specs.declared.posture.Posture.TheVariants.{Closed, Moving, OpenIn, OpenOut}
 use Rattle.plan_types.specs.Examples.{press_table, lift_table, counted, wide_table, gated_table, roads_table}
-use Rattle.plan_types.specs.Examples.{rack_table}
+use Rattle.plan_types.specs.Examples.{rack_table, through_table}
+use Rattle.plan_types.specs.declared.call.Call.TheVariants.{Advance}
 use Rattle.plan_rules.specs.declared.state.ZoneState.{ZoneState}
 use Rattle.plan_rules.specs.declared.state.State.{State}
 use Rattle.plan_rules.specs.State.{free_zone, zone_at, start_state}
+use Rattle.plan_rules.specs.Reply.{next}
+use Rattle.plan_rules.specs.AdvanceExamples.{at, empty_start}
 use Rattle.plan_rules.specs.Examples.{press_start, full_press, lift_start, presses_table}
 use Rattle.plan_word.specs.declared.layout.Field.TheVariants.{Zone, Place, Stamp, Stop}
 use Rattle.plan_word.specs.Layout.{most_zones}
@@ -105,6 +108,10 @@ pub record WordsAreRight : Type 0 where
   pub nothing : packed (wide_table 8 3) (start_state (replicate 16 false) 0) ≡ 0
   -- the rack in bits 0 to 2, the presses from 3 and 8, the places in 13 to 16, the stamp from 17
   pub rack_word : packed rack_table at_rack ≡ 0xA404E
+  -- the zone in bits 0 to 4, the hand, the tray and the press in 5, 6 and 7, the stamp from 8: a plate comes to the
+  -- hand, and one goes from the tray
+  pub comes : packed through_table (next through_table empty_start 0 (Advance 0)) ≡ 0x120
+  pub goes : packed through_table (next through_table (at true true false 1) 0 (Advance 1)) ≡ 0x220
   -- ten gates of four bits
   pub gates_word : packed (gated_table 10 3) at_last_gate ≡ 0x80001CD000000000
   -- zones of two, three and four bits: with no flag, and with one posture, two, or all

@@ -8,8 +8,8 @@ ghost use Rattle.plan_word.specs.Packed.{packed};
 ghost use Rattle.plan_word.specs.Reading.{state_told};
 
 use crate::guards::{
-    claim_refusal, give_refusal, release_refusal, resume_refusal, stop_refusal, take_refusal,
-    yield_refusal,
+    advance_refusal, claim_refusal, give_refusal, release_refusal, resume_refusal, stop_refusal,
+    take_refusal, yield_refusal,
 };
 use crate::layout::Layout;
 use crate::pose_guards::pose_refusal;
@@ -30,6 +30,7 @@ fn refusal(plan: &Plan, layout: &Layout, word: u64, machine: u8, call: Call) -> 
         Call::Inquire(zone) => (!(zone < plan.zone_count())).then_some(Refusal::NotParty),
         Call::Stop => stop_refusal(plan, layout, word, machine),
         Call::Resume => resume_refusal(plan, layout, word, machine),
+        Call::Advance(place) => advance_refusal(plan, layout, word, machine, place),
     }
 }
 

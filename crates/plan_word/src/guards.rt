@@ -232,3 +232,31 @@ pub(crate) fn resume_refusal(
     }
     worn(plan, layout, word)
 }
+
+pub(crate) fn advance_refusal(
+    plan: &Plan,
+    layout: &Layout,
+    word: u64,
+    machine: u8,
+    place: u8,
+) -> Option<Refusal>
+    requires { layout.now ≡ counts_of plan.now }
+    ensures { result ≡ refusals.advance_refusal plan.now (state_told plan.now word) machine place }
+{
+    if !plan.has_end(machine, place) {
+        return Some(Refusal::NotParty);
+    }
+    if is_stopped_in(layout, word) {
+        return Some(Refusal::Stopped);
+    }
+    let row = plan.place(place);
+    let full = is_full_in(plan, layout, word, place);
+    let goes = row.sink && full;
+    if row.source && !goes && is_taken(plan, layout, word, place) {
+        return Some(Refusal::PlaceFull);
+    }
+    if !row.source && !full {
+        return Some(Refusal::NoPlate);
+    }
+    worn(plan, layout, word)
+}

@@ -5,7 +5,7 @@ use Rattle.std.proofs.lemmas.Bool.{eqb-true}
 use Rattle.plan_types.specs.declared.table.Transfer.{Transfer}
 use Rattle.plan_types.specs.declared.answer.Refusal.{Refusal}
 use Rattle.plan_types.specs.declared.answer.Refusal.TheVariants.{NotParty, Held, NoPlate}
-use Rattle.plan_types.specs.Table.{PlanTable, zone_count, host_of, guest_of, is_party, has_pose, pose_count, machine_of, is_moving_pose, pose_row, watch}
+use Rattle.plan_types.specs.Table.{PlanTable, zone_count, host_of, guest_of, is_party, has_pose, pose_count, machine_of, is_moving_pose, pose_row, watch, place_count, keeper_of, is_place_of, is_source, is_sink, has_end}
 use Rattle.plan_types.specs.Below.{any_below}
 use Rattle.plan_rules.specs.declared.state.State.{State}
 use Rattle.plan_rules.specs.State.{zone_at, owner_of, posture_at, is_full}
@@ -209,6 +209,37 @@ pose_done t s m p e =
       no_jump = none_then _ _ h3.1;
       room = λ z l. first_below_none (refusals.opens_onto_plate t s p) (zone_count t) h4.1 z l;
       fresh = fresh s h5.1;
+    }
+
+pub record Advances (t : PlanTable) (s : State) (m p : ℕ) : Type 0 where
+  pub there : p < place_count t
+  pub keeper : keeper_of t p ≡ m
+  pub ends : (is_source t p || is_sink t p) ≡ true
+  pub goes_on : s.stopped ≡ false
+  pub room : (is_source t p && (refusals.is_taken t s p && not (is_sink t p && is_full s p))) ≡ false
+  pub plate : (not (is_source t p) && not (is_full s p)) ≡ false
+  pub fresh : s.stamp < 1048575
+
+pub advance_done : (t : PlanTable) (s : State) (m p : ℕ) → refusals.advance_refusal t s m p ≡ None → Advances t s m p
+advance_done t s m p e =
+    let r0 = refusals.not_own_end t m p in
+    let r1 = r0 or refusals.while_stopped s in
+    let r2 = r1 or refusals.source_taken t s p in
+    let r3 = r2 or refusals.sink_empty t s p in
+    let h3 = none_or r3 (refusals.worn s) e in
+    let h2 = none_or r2 (refusals.sink_empty t s p) h3.0 in
+    let h1 = none_or r1 (refusals.source_taken t s p) h2.0 in
+    let h0 = none_or r0 (refusals.while_stopped s) h1.0 in
+    let own = both_true (is_place_of t p m) (is_source t p || is_sink t p) (none_then_not (has_end t m p) NotParty h0.0) in
+    let place = both_true (nat_lt p (place_count t)) (nat_eq (keeper_of t p) m) own.0 in
+    record {
+      there = ltb-true _ _ place.0;
+      keeper = eqb-true _ _ place.1;
+      ends = own.1;
+      goes_on = none_then _ _ h0.1;
+      room = none_then _ _ h1.1;
+      plate = none_then _ _ h2.1;
+      fresh = fresh s h3.1;
     }
 
 pub record Stops (s : State) (m : ℕ) (b : Bool) : Type 0 where

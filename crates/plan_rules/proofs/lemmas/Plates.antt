@@ -96,3 +96,15 @@ plates_taken t s y p v way l m flag clear is most =
           omega (arith, put, old, new, here, one, most)
       | inr ne ↦ let still = ap one_if (get_or-set_other s.full way.to p true false ne) in omega (arith, put, old, new, still, most)
     ]
+
+-- a plate comes from outside, or goes there
+pub plates_advanced : (t : PlanTable) (s : State) (p q : ℕ) (b : Bool) → p < length s.full → plates_for t s q ≤ 1 → one_if b + coming t s p ≤ 1
+    → one_if (get_or (set s.full p b) q false) + coming t s q ≤ 1
+plates_advanced t s p q b l most room =
+    elim (same_or_not q p) [
+      | inl e ↦
+          let here = ap one_if (ap (λ x. get_or (set s.full p b) x false) e ∙ get_or-set_same s.full p b false l) in
+          let same = ap (coming t s) e in
+          omega (arith, here, same, room)
+      | inr ne ↦ let still = ap one_if (get_or-set_other s.full p q b false ne) in omega (arith, still, most)
+    ]

@@ -5,7 +5,7 @@ use Rattle.plan_types.specs.declared.posture.Posture.{Posture}
 use Rattle.plan_types.specs.declared.posture.Posture.TheVariants.{Moving}
 use Rattle.plan_types.specs.declared.table.Transfer.{Transfer}
 use Rattle.plan_types.specs.declared.call.Call.{Call}
-use Rattle.plan_types.specs.declared.call.Call.TheVariants.{Claim, Give, Yield, Take, Release, SetPose, Inquire, Stop, Resume}
+use Rattle.plan_types.specs.declared.call.Call.TheVariants.{Claim, Give, Yield, Take, Release, SetPose, Inquire, Stop, Resume, Advance}
 use Rattle.plan_types.specs.declared.answer.Refusal.{Refusal}
 use Rattle.plan_types.specs.declared.answer.Refusal.TheVariants.{Shut}
 use Rattle.plan_types.specs.declared.answer.Answer.{Answer}
@@ -23,8 +23,9 @@ use Rattle.plan_rules.specs.Reply.{reply, refusal, changed, next, next_by, answe
 use Rattle.plan_rules.proofs.lemmas.Below.{sum_below_same}
 use Rattle.plan_rules.proofs.lemmas.Puts.{nat_eq-self, put_cases, zone_at-posed}
 use Rattle.plan_rules.proofs.lemmas.Zones.{implied, owner_is, lawful_claimed, lawful_open, lawful_released, lawful_taken, lawful_posed, implies_none, other_is_party, Gives, gives_way}
-use Rattle.plan_rules.proofs.lemmas.DoneCalls.{none_then, claim_done, give_done, yield_done, take_done, release_done, pose_done, stop_done, resume_done, Poses}
-use Rattle.plan_rules.proofs.lemmas.Plates.{coming_in, plates_same, plates_given, plates_taken, no_plates}
+use Rattle.plan_rules.proofs.lemmas.DoneCalls.{none_then, claim_done, give_done, yield_done, take_done, release_done, pose_done, advance_done, stop_done, resume_done, Poses}
+use Rattle.plan_rules.proofs.lemmas.Advancing.{one_at_most}
+use Rattle.plan_rules.proofs.lemmas.Plates.{coming_in, plates_same, plates_given, plates_taken, plates_advanced, no_plates}
 use Rattle.plan_rules.proofs.lemmas.Ways.{way_leads}
 
 -- a call that is Done isn't refused
@@ -212,6 +213,22 @@ pose_keeps t s m p k h e =
           subst (λ n. one_if (is_full s q) + n ≤ 1) (sym same) (h.one_plate_a_place q);
     }
 
+-- ---- advances
+
+advance_keeps : (t : PlanTable) (s : State) (m p : ℕ) → IsPlan t → IsSound t s → refusals.advance_refusal t s m p ≡ None → IsSound t (changed t s m (Advance p))
+advance_keeps t s m p plan k e =
+    let d = advance_done t s m p e in
+    let l = in_sixteen t s p plan k d.there in
+    let full = not (is_full s p) in
+    let small : s.stamp + 1 ≤ 1048575 = let less = d.fresh in omega arith in
+    record {
+      stamp_in_range = small;
+      has_ten_zones = k.has_ten_zones;
+      has_sixteen_places = length-set s.full p full ∙ k.has_sixteen_places;
+      zone_is_lawful = k.zone_is_lawful;
+      one_plate_a_place = λ q. plates_advanced t s p q full l (k.one_plate_a_place q) (one_at_most t s m p d k (is_full s p) refl);
+    }
+
 -- ---- any call
 
 -- the stamp alone grows, and the plant is stopped or goes on
@@ -243,6 +260,7 @@ changed_keeps t s m (SetPose q) p h e = pose_keeps t s m q p h (done_none _ _ e)
 changed_keeps t s m (Inquire z) p h e = never_done t s m z e
 changed_keeps t s m Stop p h e = stamped t s true h (stop_done s m (done_none _ _ e)).fresh
 changed_keeps t s m Resume p h e = stamped t s false h (resume_done s m (done_none _ _ e)).fresh
+changed_keeps t s m (Advance q) p h e = advance_keeps t s m q p h (done_none _ _ e)
 
 next_by_keeps : (a : Answer) (t : PlanTable) (s : State) (m : ℕ) (c : Call) → IsSound t s → (a ≡ Done → IsSound t (changed t s m c)) → IsSound t (next_by a t s m c)
 next_by_keeps Done t s m c h k = k refl

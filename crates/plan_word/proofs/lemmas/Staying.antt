@@ -1,5 +1,5 @@
 -- A call on a state of a plan leaves a state of the plan.
-use Rattle.std.proofs.Common.{◌≡◌, ◌≢◌, ℕ, zero, suc, ◌<◌, ◌≤◌, inl, inr, Bool, true, false, ◌&&◌, get_or, set, replicate, Option, Some, None, refl, ap, ap₂, ◌∙◌, arith, unwrap_or}
+use Rattle.std.proofs.Common.{◌≡◌, ◌≢◌, ℕ, zero, suc, ◌<◌, ◌≤◌, inl, inr, Bool, true, false, not, ◌&&◌, get_or, set, replicate, Option, Some, None, refl, ap, ap₂, ◌∙◌, arith, unwrap_or}
 use Rattle.std.proofs.lemmas.Bool.{cases_lt, lt-ltb}
 use Rattle.std.proofs.lemmas.List.{get_or-set_other, get_or_past}
 use Rattle.std.specs.Option.{option_eq}
@@ -7,7 +7,7 @@ use Rattle.plan_types.specs.declared.posture.Posture.{Posture}
 use Rattle.plan_types.specs.declared.posture.Posture.TheVariants.{Closed, Moving, OpenIn, OpenOut}
 use Rattle.plan_types.specs.Same.{same_posture}
 use Rattle.plan_types.specs.declared.call.Call.{Call}
-use Rattle.plan_types.specs.declared.call.Call.TheVariants.{Claim, Give, Yield, Take, Release, SetPose, Inquire, Stop, Resume}
+use Rattle.plan_types.specs.declared.call.Call.TheVariants.{Claim, Give, Yield, Take, Release, SetPose, Inquire, Stop, Resume, Advance}
 use Rattle.plan_types.specs.declared.answer.Answer.{Answer}
 use Rattle.plan_types.specs.declared.answer.Answer.TheVariants.{Done, Shown, Refused}
 use Rattle.plan_types.specs.Table.{postures_of, PlanTable, zone_count, pose_count, place_count, posture_of, gives, is_given, postures_by, zone_shape}
@@ -19,7 +19,7 @@ use Rattle.plan_rules.specs.Sound.{IsStart}
 use Rattle.plan_rules.specs.Reply.{reply, next, next_by, changed, other_party, posed, all_posed, emptied, filled}
 use Rattle.plan_rules.proofs.lemmas.Puts.{put_cases, zone_at-posed}
 use Rattle.plan_rules.proofs.lemmas.Zones.{gives_way}
-use Rattle.plan_rules.proofs.lemmas.DoneCalls.{claim_done, give_done, yield_done, take_done, release_done, pose_done}
+use Rattle.plan_rules.proofs.lemmas.DoneCalls.{claim_done, give_done, yield_done, take_done, release_done, pose_done, advance_done}
 use Rattle.plan_rules.proofs.lemmas.Ways.{way_leads}
 use Rattle.plan_rules.proofs.lemmas.Soundness.{done_none, some_or_none, plate_comes, changed_keeps}
 use Rattle.plan_rules.proofs.lemmas.Starts.{start_is_sound}
@@ -66,6 +66,7 @@ zones_changed t s m (SetPose q) p k e = pose_put t s m q p e k.no_more_zones
 zones_changed t s m (Inquire y) p k e = k.no_more_zones
 zones_changed t s m Stop p k e = k.no_more_zones
 zones_changed t s m Resume p k e = k.no_more_zones
+zones_changed t s m (Advance q) p k e = k.no_more_zones
 
 -- each zone has a posture that its field tells
 abbrev PosturesTold : PlanTable → State → Type 0
@@ -131,6 +132,7 @@ postures_changed t s m (SetPose q) p k e = pose_told t s m q p k e
 postures_changed t s m (Inquire y) p k e = k.postures_told
 postures_changed t s m Stop p k e = k.postures_told
 postures_changed t s m Resume p k e = k.postures_told
+postures_changed t s m (Advance q) p k e = k.postures_told
 
 places_changed : (t : PlanTable) (s : State) (m : ℕ) (c : Call) → IsPlan t → IsOfPlan t s → reply t s m c ≡ Done → NoMorePlates t (changed t s m c)
 places_changed t s m (Claim y) p k e = k.no_more_plates
@@ -140,6 +142,7 @@ places_changed t s m (SetPose q) p k e = k.no_more_plates
 places_changed t s m (Inquire y) p k e = k.no_more_plates
 places_changed t s m Stop p k e = k.no_more_plates
 places_changed t s m Resume p k e = k.no_more_plates
+places_changed t s m (Advance q) p k e = place_put t s q (not (is_full s q)) (advance_done t s m q (done_none _ _ e)).there k.no_more_plates
 places_changed t s m (Give y) p k e =
     let d = give_done t s m y (done_none _ _ e) in
     let l = d.holder.caller.there in

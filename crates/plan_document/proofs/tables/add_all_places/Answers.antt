@@ -1,6 +1,7 @@
-use Rattle.std.proofs.Common.{◌∙◌, ◌++◌, ap, sym, arith, length, replicate}
+use Rattle.std.proofs.Common.{◌∙◌, ◌++◌, ap, sym, arith}
 use Rattle.plan_document.specs.Names.{places_in}
-use Rattle.plan_document.proofs.Growing.{keepers_more, place_names_more}
+use Rattle.plan_document.proofs.Growing.{place_names_more, place_rows_more}
+use Rattle.plan_document.specs.Saying.{ends_in}
 use Rattle.plan_document.proofs.tables.add_all_places.Goals as goal
 
 pub loop-i-preserved : goal.loop-i-preserved
@@ -13,8 +14,8 @@ loop-i-preserved c =
           ∙ sym (place_names_more c.args.machines.now c.loop-i.i row (omega arith) c.index-machines-i.is);
       spelled = c.in_ok-add_places.ensures.spelled c.loop-i.invariant.spelled;
       distinct = c.in_ok-add_places.ensures.distinct c.loop-i.invariant.distinct;
-      keepers =
-          c.in_ok-add_places.ensures.keepers
-          ∙ ap (λ ks. ks ++ replicate (length row.places.items) c.loop-i.i) c.loop-i.invariant.keepers
-          ∙ sym (keepers_more c.args.machines.now c.loop-i.i row (omega arith) c.index-machines-i.is);
+      rows =
+          c.in_ok-add_places.ensures.rows
+          ∙ ap (λ rows. rows ++ ends_in c.loop-i.i row) c.loop-i.invariant.rows
+          ∙ sym (place_rows_more c.args.machines.now c.loop-i.i row (omega arith) c.index-machines-i.is);
     }

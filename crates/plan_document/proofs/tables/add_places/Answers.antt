@@ -8,5 +8,5 @@ loop-item-preserved c = record {
   names = grind (arith, common_steps);
   spelled = λ all. names_more c.loop-item.names _ _ (c.loop-item.invariant.spelled all) c.in_ok-add_name.ensures.spelled c.in_ok-add_name.ensures.name;
   distinct = λ all. c.in_ok-add_name.ensures.distinct (c.loop-item.invariant.distinct all);
-  keepers = grind (arith, common_steps);
+  rows = grind (arith, common_steps);
 }

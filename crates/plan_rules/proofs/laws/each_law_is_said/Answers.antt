@@ -9,6 +9,7 @@ returns-clause-each c = λ t s h. record {
   holder = λ law. law.one_holder;
   mover = λ law. law.mover_is_host;
   guest = λ law. law.guest_only_while_open;
+  counted = λ law. law.plates_are_counted;
   plates = λ law. law.plates_are_kept;
   stamp = λ law. law.stamp_counts_changes;
   rights = λ law. law.right_lasts;
@@ -16,5 +17,6 @@ returns-clause-each c = λ t s h. record {
   sound = λ law. law.stays_sound;
   poses = λ law. law.poses_fit;
   handovers = λ law. law.handover_by_holder;
+  advances = λ law. law.advances_fit;
   stops = λ law. law.stopped_until_resumed;
 }

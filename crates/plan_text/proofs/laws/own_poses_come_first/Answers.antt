@@ -1,5 +1,5 @@
 use Rattle.std.proofs.Common.{◌≡◌, true, false, is_some, sym, ap, ◌∙◌}
-use Rattle.plan_text.specs.declared.calls.Verb.TheVariants.{Claim, Give, Yield, Take, Release, Inquire, Pose}
+use Rattle.plan_text.specs.declared.calls.Verb.TheVariants.{Claim, Give, Yield, Take, Release, Inquire, Pose, Advance}
 use Rattle.plan_text.proofs.OwnPoses.{comes_first, is_found, is_own, others_named}
 use Rattle.plan_text.proofs.laws.own_poses_come_first.Goals as goal
 
@@ -18,6 +18,7 @@ returns-clause-of_one c = λ n name call. record {
   release = λ law e. law.same n 4 Release name call e;
   inquire = λ law e. law.same n 4 Inquire name call e;
   pose = λ law e. law.same n 4 Pose name call e;
+  advance = λ law e. law.same n 4 Advance name call e;
   comes_first = λ law e. law.first n 4 7 name e;
   is_own = λ law e. law.own n 4 7 name e;
   is_found = λ law few own none. let e : false ≡ true = sym (ap is_some none) ∙ law.found n 4 7 few own in cc;

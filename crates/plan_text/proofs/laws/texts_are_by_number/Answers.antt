@@ -18,6 +18,7 @@ returns-clause-calls c = λ n number. record {
   release = refl;
   inquire = refl;
   pose = refl;
+  advance = refl;
   stop = refl;
   resume = refl;
   read = λ machine name e. ap

@@ -41,5 +41,6 @@ returns c = record {
   no_poses = All-nil IsForTenZones;
   nothing = refl;
   places_alone = refl;
+  ends = refl;
   pose_alone = refl;
 }

@@ -3,7 +3,7 @@ use Rattle.plan_types.specs.declared.posture.Posture.TheVariants.{Moving, OpenOu
 use Rattle.plan_types.specs.declared.fault.PlanFault.{PlanFault}
 use Rattle.plan_types.specs.Table.{PlanTable, plan_table}
 use Rattle.plan_types.specs.Faults.{plan_fault}
-use Rattle.plan_types.specs.Examples.{IsNoPlan, press_table, lift_table, large_table, eight_posed, roads_table, rack_table, lathe_table, plant_table, gated_table}
+use Rattle.plan_types.specs.Examples.{IsNoPlan, press_table, lift_table, large_table, eight_posed, roads_table, rack_table, lathe_table, plant_table, gated_table, open_press_table, through_table}
 use Rattle.plan_types.proofs.lemmas.Checked.{is_plan, no_fault_of_plan}
 use Rattle.plan_types.proofs.examples.examples_are_plans.Goals as goal
 
@@ -12,6 +12,8 @@ returns-clause-plans c = record {
   press = is_plan press_table refl;
   lift = is_plan lift_table refl;
   large = is_plan large_table refl;
+  open_press = is_plan open_press_table refl;
+  through = is_plan through_table refl;
   one_machine = is_plan (plan_table 1 [] [] []) refl;
   nothing = is_plan (plan_table 0 [] [] []) refl;
   eight_move = is_plan (eight_posed Moving) refl;

@@ -1,5 +1,5 @@
 use Rattle.std.proofs.lemmas.List.{get_or_past}
-use Rattle.plan_types.specs.Table.{no_zone, no_pose}
+use Rattle.plan_types.specs.Table.{no_zone, no_pose, no_place}
 use Rattle.plan_types.proofs.RowReading.{element_after}
 use Rattle.plan_types.proofs.laws.rows_by_number.Goals as goal
 
@@ -7,8 +7,8 @@ pub returns : goal.returns
 returns c = record {
   zone = λ t rows row. element_after rows t.zones row no_zone;
   pose = λ t rows row. element_after rows t.poses row no_pose;
-  keeper = λ t rows m. element_after rows t.places m 0;
+  place = λ t rows row. element_after rows t.places row no_place;
   zone_past_the_end = λ t z past. get_or_past t.zones z no_zone past;
   pose_past_the_end = λ t p past. get_or_past t.poses p no_pose past;
-  keeper_past_the_end = λ t p past. get_or_past t.places p 0 past;
+  place_past_the_end = λ t p past. get_or_past t.places p no_place past;
 }

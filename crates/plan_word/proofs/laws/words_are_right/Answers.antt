@@ -7,7 +7,7 @@ use Rattle.plan_word.proofs.laws.words_are_right.Goals as goal
 
 pub returns-clause-words : goal.returns-clause-words
 unfolding packed
-returns-clause-words c = record { press_starts = refl; press_given = refl; press_stopped = refl; press_full = refl; lift_starts = refl; lift_lifted = refl; two_presses_word = refl; most_zones_word = refl; last_of_places = refl; nothing = refl; rack_word = refl; gates_word = refl; rack_zones = refl; roads = refl; gates = refl; bare = refl; not_told = refl; codes = refl; owners = refl; owners_below = refl; postures = refl; zones = refl; held = refl; parts = refl; of_zones = refl; of_places = refl }
+returns-clause-words c = record { press_starts = refl; press_given = refl; press_stopped = refl; press_full = refl; lift_starts = refl; lift_lifted = refl; two_presses_word = refl; most_zones_word = refl; last_of_places = refl; nothing = refl; rack_word = refl; comes = refl; goes = refl; gates_word = refl; rack_zones = refl; roads = refl; gates = refl; bare = refl; not_told = refl; codes = refl; owners = refl; owners_below = refl; postures = refl; zones = refl; held = refl; parts = refl; of_zones = refl; of_places = refl }
 
 pub returns-clause-states : goal.returns-clause-states
 unfolding state_told
