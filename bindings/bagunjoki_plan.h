@@ -76,7 +76,7 @@ enum bagunjoki_plan_kind {
 /* Answers. Only DONE changes the word. 1 to 15 are refusals. */
 enum bagunjoki_plan_answer {
     BAGUNJOKI_PLAN_DONE = 0,
-    BAGUNJOKI_PLAN_NOT_PARTY = 1, /* the caller is no party of the zone, or there is no such zone */
+    BAGUNJOKI_PLAN_NOT_PARTY = 1, /* the caller is no party of such a zone, or has no such source or sink */
     BAGUNJOKI_PLAN_HELD = 2,      /* by the reply's owner */
     BAGUNJOKI_PLAN_ALREADY_MINE = 3,
     BAGUNJOKI_PLAN_SHUT = 4,          /* the zone has the reply's posture */
@@ -334,11 +334,13 @@ static inline bool bagunjoki_plan_renew(const bagunjoki_plan_opened *plan, bagun
 #define BAGUNJOKI_PLAN_RECORD 75
 
 /* The names of a plan, as `plan header` prints them:
-   {PLAN_NAMES_OF_MACHINES, PLAN_NAMES_OF_ZONES, PLAN_NAMES_OF_POSES}. */
+   {PLAN_NAMES_OF_MACHINES, PLAN_NAMES_OF_ZONES, PLAN_NAMES_OF_POSES, PLAN_NAMES_OF_PLACES}.
+   A list may be null, and is then one without names: so is that of places where it is left out. */
 typedef struct bagunjoki_plan_names {
     const char *const *machines;
     const char *const *zones;
     const char *const *poses;
+    const char *const *places; /* which BAGUNJOKI_PLAN_ADVANCE is about, and no other call */
 } bagunjoki_plan_names;
 
 /* A call with its answer, as a log keeps it: 8 bytes. */
@@ -369,6 +371,7 @@ static inline size_t bagunjoki_plan_append(char *record, size_t size, size_t len
 
 /* The name with a number, or null if there is none. */
 static inline const char *bagunjoki_plan_name(const char *const *names, uint8_t number) {
+    if (!names) return 0;
     while (*names && number > 0) {
         names++;
         number--;
@@ -394,16 +397,17 @@ static inline bool bagunjoki_plan_shares_name(const char *const *poses, const ch
    may then mean the machine's own one. */
 static inline size_t bagunjoki_plan_log(char *record, size_t size, const bagunjoki_plan_names *names,
                                         bagunjoki_plan_entry entry) {
-    static const char *const verbs[] = {0,      "claim", "give",    "yield", "take",  "release",
-                                        "pose", 0,       "inquire", "stop",  "resume"};
+    static const char *const verbs[] = {0,      "claim", "give",    "yield", "take",   "release",
+                                        "pose", 0,       "inquire", "stop",  "resume", "advance"};
     size_t verb = entry.verb == BAGUNJOKI_PLAN_AWAIT ? (size_t)BAGUNJOKI_PLAN_INQUIRE : entry.verb;
     bool is_alone = verb == BAGUNJOKI_PLAN_STOP || verb == BAGUNJOKI_PLAN_RESUME;
-    bool is_pose = verb == BAGUNJOKI_PLAN_SET_POSE;
+    bool is_pose = verb == BAGUNJOKI_PLAN_SET_POSE, is_place = verb == BAGUNJOKI_PLAN_ADVANCE;
     bool is_answered = entry.answer <= BAGUNJOKI_PLAN_NOT_STOPPED || entry.answer == BAGUNJOKI_PLAN_SHOWN;
     bool is_watch = entry.machine == BAGUNJOKI_PLAN_WATCH;
     const char *caller = is_watch ? "watch" : bagunjoki_plan_name(names->machines, entry.machine);
     const char *word = verb < sizeof verbs / sizeof *verbs ? verbs[verb] : 0;
-    const char *object = bagunjoki_plan_name(is_pose ? names->poses : names->zones, entry.object);
+    const char *const *about = is_pose ? names->poses : is_place ? names->places : names->zones;
+    const char *object = bagunjoki_plan_name(about, entry.object);
     size_t length = bagunjoki_plan_append(record, size, 0, "");
     if (!is_answered || !caller || !word || (!object && !is_alone)) return length;
     if (is_pose && entry.answer == BAGUNJOKI_PLAN_NO_POSE && bagunjoki_plan_shares_name(names->poses, object))

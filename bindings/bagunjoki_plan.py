@@ -17,10 +17,11 @@ where the system finds it. The status is as that of `python3 -m bagunjoki`.
 """
 
 import ctypes
+import enum
 from typing import NamedTuple, Optional, Tuple
 
 import bagunjoki
-from bagunjoki import LAST_STAMP, WITHOUT_OBJECT, Answer, Posture, RawReply, Verb, Word, name_of, word_of
+from bagunjoki import LAST_STAMP, Answer, Posture, RawReply, Word, name_of, word_of
 
 __version__ = "1.0.0"
 
@@ -29,6 +30,24 @@ WATCH, NOTHING = 15, 255
 # Bits of the stamp.
 STAMP_BITS = 20
 WORD, BYTE, STAMP, TEXT, SIZE = ctypes.c_uint64, ctypes.c_uint8, ctypes.c_uint32, ctypes.c_char_p, ctypes.c_size_t
+
+
+class Verb(enum.IntEnum):
+    """What is asked: of a zone, a pose (SET_POSE) or a place (ADVANCE), or of nothing (STOP, RESUME)."""
+
+    CLAIM = 1
+    GIVE = 2
+    YIELD = 3
+    TAKE = 4
+    RELEASE = 5
+    SET_POSE = 6
+    INQUIRE = 8
+    STOP = 9
+    RESUME = 10
+    ADVANCE = 11
+
+
+WITHOUT_OBJECT = (Verb.STOP, Verb.RESUME)
 
 
 class RawOpened(ctypes.Structure):
@@ -196,13 +215,15 @@ class PlanWord(Word):
         super().__init__(places, stamp, PlanLibrary(plant, library or load_library()), renews)
 
     def numbers(self, machine, verb, thing):
-        verb, caller = name_of(Verb, verb), self.plant.machine(machine)
-        if verb == Verb.ADVANCE:
-            raise ValueError("advance is no call of a plan")
+        """The three numbers of a call. A verb of the cell is taken by its word, as its numbers are others."""
+        verb = name_of(Verb, word_of(verb) if isinstance(verb, bagunjoki.Verb) else verb)
+        caller = self.plant.machine(machine)
         if (verb in WITHOUT_OBJECT) != (thing is None):
             raise ValueError(f"{word_of(verb)} takes {'no' if thing else 'an'} object")
         if verb == Verb.SET_POSE:
             about = thing if isinstance(thing, int) else self.plant.pose(machine, thing)
+        elif verb == Verb.ADVANCE:
+            about = number_in(self.plant.places, thing, "place")
         else:
             about = 0 if thing is None else number_in(self.plant.zones, thing, "zone")
         return caller, verb, about
@@ -215,6 +236,8 @@ class PlanWord(Word):
             words.append(name_in([it for _, it in plant.poses], about, "pose"))
             if plant.pose(caller, words[-1]) != about:
                 raise ValueError(f"pose {about} has no record: {words[-1]} means another one")
+        elif verb == Verb.ADVANCE:
+            words.append(name_in(plant.places, about, "place"))
         elif verb not in WITHOUT_OBJECT:
             words.append(name_in(plant.zones, about, "zone"))
         return ",".join(words)

@@ -15,6 +15,7 @@ enum { LOAD, UNLOAD, CLOSED, TRAVELLING };
 static const char *const PLAN_NAMES_OF_MACHINES[] = {"loader", "press", 0};
 static const char *const PLAN_NAMES_OF_ZONES[] = {"interior", 0};
 static const char *const PLAN_NAMES_OF_POSES[] = {"load", "unload", "closed", "travelling", 0};
+static const char *const PLAN_NAMES_OF_PLACES[] = {"hand", "die", 0};
 static const uint8_t PLAN_BYTES[] = {
     2, 1, 4, 2,
     1, 0, 1, 0, 1, 1, 1, 0,
@@ -99,7 +100,8 @@ static void write_script(FILE *script, FILE *answers, const char *start) {
         "done",      "notparty", "held", "already", "shut",   "notowner", "platein", "noplate",
         "placefull", "wrongway", "jump", "",        "nopose", "worn",     "stopped", "notstopped",
     };
-    const bagunjoki_plan_names names = {PLAN_NAMES_OF_MACHINES, PLAN_NAMES_OF_ZONES, PLAN_NAMES_OF_POSES};
+    const bagunjoki_plan_names names = {PLAN_NAMES_OF_MACHINES, PLAN_NAMES_OF_ZONES, PLAN_NAMES_OF_POSES,
+                                        PLAN_NAMES_OF_PLACES};
     char record[BAGUNJOKI_PLAN_RECORD];
     unsigned number = 0;
     bagunjoki_plan_log_start(record, sizeof record, (const uint8_t *)start, 2, 0);

@@ -1,8 +1,8 @@
 //! Two machines at a press, each a thread, as in plan_press.c: the loader puts plates into the press and takes them out.
 //!
 //!     BAGUNJOKI_PREFIX=PREFIX cargo run --manifest-path ../rust/Cargo.toml --features plan --example plan_press
-use bagunjoki::plan::{Interlock, Motor, Plan};
-use bagunjoki::{Answer, Verb};
+use bagunjoki::Answer;
+use bagunjoki::plan::{Interlock, Motor, Plan, Verb};
 use std::thread;
 
 /// What `plan header` prints of this plan, as far as it is used here.

@@ -1,6 +1,6 @@
 /* A log's records: of each verb, of entries that have none, of the longest names, and of starts. Each is written for
-   each size of room too. Then the entries of calls at the press of plan_types::examples. It prints them all, and last
-   how many records were written wrongly. */
+   each size of room too. Then the entries of calls, with their records: at the press of plan_types::examples, and at one
+   through which plates go, from a source to a sink. It prints them all, and last how many records were written wrongly. */
 #include <bagunjoki_plan.h>
 #include <stdio.h>
 #include <string.h>
@@ -17,10 +17,22 @@ static const uint8_t PLAN_BYTES[] = {
     0, 1,
 };
 
+/* The same press, but that its loader has two places: the hand is a source, the tray a sink. */
+static const uint8_t THROUGH_BYTES[] = {
+    2, 1, 4, 3,
+    1, 0, 1, 0, 2, 1, 2, 1,
+    1, 1, 3, 0, 0, 0, 0, 0, 0, 0, 0, 0,
+    1, 1, 4, 0, 0, 0, 0, 0, 0, 0, 0, 0,
+    1, 1, 1, 0, 0, 0, 0, 0, 0, 0, 0, 0,
+    1, 0, 2, 0, 0, 0, 0, 0, 0, 0, 0, 0,
+    64, 128, 1,
+};
+
 /* Names of a plan in which two machines have a pose of one name. */
 static const char *const machines[] = {"loader", "press", 0};
 static const char *const zones[] = {"interior", "gate", 0};
 static const char *const poses[] = {"load", "travelling", "closed", "travelling", 0};
+static const char *const places[] = {"hand", "tray", "die", 0};
 /* The longest that there are. */
 static const char *const longest[] = {"a2345678901234567890123456789012", 0};
 
@@ -39,6 +51,9 @@ static const uint8_t calls[][4] = {
     {BAGUNJOKI_PLAN_WATCH, BAGUNJOKI_PLAN_STOP, 0, DONE},
     {PRESS, BAGUNJOKI_PLAN_RESUME, 0, BAGUNJOKI_PLAN_NOT_PARTY},
     {BAGUNJOKI_PLAN_WATCH, BAGUNJOKI_PLAN_RESUME, 0, BAGUNJOKI_PLAN_NOT_STOPPED},
+    {LOADER, BAGUNJOKI_PLAN_ADVANCE, 0, DONE},
+    {LOADER, BAGUNJOKI_PLAN_ADVANCE, 1, BAGUNJOKI_PLAN_NO_PLATE},
+    {PRESS, BAGUNJOKI_PLAN_ADVANCE, 2, BAGUNJOKI_PLAN_NOT_PARTY},
 };
 
 /* The same of those that have no record. */
@@ -53,9 +68,10 @@ static const uint8_t without_record[][4] = {
     {255, BAGUNJOKI_PLAN_INQUIRE, 0, BAGUNJOKI_PLAN_SHOWN},
     {PRESS, BAGUNJOKI_PLAN_CLAIM, 2, BAGUNJOKI_PLAN_NOT_PARTY},
     {PRESS, BAGUNJOKI_PLAN_SET_POSE, 4, BAGUNJOKI_PLAN_NO_POSE},
+    {LOADER, BAGUNJOKI_PLAN_ADVANCE, 3, BAGUNJOKI_PLAN_NOT_PARTY},
     {PRESS, 0, 0, DONE}, /* no verb */
     {PRESS, 7, 0, DONE},
-    {PRESS, 11, 0, DONE},
+    {PRESS, 12, 0, DONE},
     {LOADER, BAGUNJOKI_PLAN_SET_POSE, 3, BAGUNJOKI_PLAN_NO_POSE}, /* the loader's own would be meant */
 };
 
@@ -106,35 +122,61 @@ static size_t print_start(const char *digits, uint32_t stamp) {
     return print_record(&source);
 }
 
-/* Calls on one word after another, and the orders of their entries. */
-static void print_orders(void) {
-    static const uint8_t made[][3] = {
-        {LOADER, BAGUNJOKI_PLAN_GIVE, 0},  {PRESS, BAGUNJOKI_PLAN_CLAIM, 0},   {PRESS, BAGUNJOKI_PLAN_CLAIM, 0},
-        {LOADER, BAGUNJOKI_PLAN_CLAIM, 0}, {LOADER, BAGUNJOKI_PLAN_INQUIRE, 0}, {PRESS, BAGUNJOKI_PLAN_SET_POSE, 3},
-    };
-    bagunjoki_plan_opened plan = bagunjoki_plan_open(PLAN_BYTES, sizeof PLAN_BYTES);
-    uint64_t word = bagunjoki_plan_start(&plan, (const uint8_t *)"10", 2, 7);
-    for (size_t k = 0; k < sizeof made / sizeof *made; k++) {
-        bagunjoki_plan_reply reply = bagunjoki_plan_step(&plan, word, made[k][0], made[k][1], made[k][2]);
+/* A call: by whom, its verb and its object. */
+typedef uint8_t made_call[3];
+
+/* Calls on one word after another, from a start with the stamp 7: of each the order of its entry, the answer, and the
+   record. */
+static void print_calls(const bagunjoki_plan_opened *plan, const char *digits, const made_call *made, size_t count,
+                        const bagunjoki_plan_names *names) {
+    uint64_t word = bagunjoki_plan_start(plan, (const uint8_t *)digits, strlen(digits), 7);
+    for (size_t k = 0; k < count; k++) {
+        bagunjoki_plan_reply reply = bagunjoki_plan_step(plan, word, made[k][0], made[k][1], made[k][2]);
         bagunjoki_plan_entry entry =
-            bagunjoki_plan_note(&plan, made[k][0], made[k][1], made[k][2], reply.next, reply.answer);
+            bagunjoki_plan_note(plan, made[k][0], made[k][1], made[k][2], reply.next, reply.answer);
+        char record[BAGUNJOKI_PLAN_RECORD];
+        bagunjoki_plan_log(record, sizeof record, names, entry);
         word = reply.next;
-        printf("%u: %u %u %u: %u\n", (unsigned)entry.order, entry.machine, entry.verb, entry.object, entry.answer);
+        printf("%u: %u %s", (unsigned)entry.order, entry.answer, record);
     }
 }
 
+#define COUNT(list) (sizeof(list) / sizeof *(list))
+
+static void print_all_calls(const bagunjoki_plan_names *names) {
+    static const made_call at_press[] = {
+        {LOADER, BAGUNJOKI_PLAN_GIVE, 0},  {PRESS, BAGUNJOKI_PLAN_CLAIM, 0},   {PRESS, BAGUNJOKI_PLAN_CLAIM, 0},
+        {LOADER, BAGUNJOKI_PLAN_CLAIM, 0}, {LOADER, BAGUNJOKI_PLAN_INQUIRE, 0}, {PRESS, BAGUNJOKI_PLAN_SET_POSE, 3},
+    };
+    static const made_call through[] = {
+        {LOADER, BAGUNJOKI_PLAN_ADVANCE, 1}, {LOADER, BAGUNJOKI_PLAN_ADVANCE, 1},
+        {LOADER, BAGUNJOKI_PLAN_ADVANCE, 0}, {LOADER, BAGUNJOKI_PLAN_ADVANCE, 0},
+        {PRESS, BAGUNJOKI_PLAN_ADVANCE, 0},  {PRESS, BAGUNJOKI_PLAN_ADVANCE, 2},
+        {BAGUNJOKI_PLAN_WATCH, BAGUNJOKI_PLAN_STOP, 0}, {LOADER, BAGUNJOKI_PLAN_ADVANCE, 1},
+    };
+    bagunjoki_plan_opened plan = bagunjoki_plan_open(PLAN_BYTES, sizeof PLAN_BYTES);
+    print_calls(&plan, "10", at_press, COUNT(at_press), names);
+    plan = bagunjoki_plan_open(THROUGH_BYTES, sizeof THROUGH_BYTES);
+    print_calls(&plan, "010", through, COUNT(through), names);
+}
+
 int main(void) {
-    const bagunjoki_plan_names names = {machines, zones, poses}, by_longest = {longest, longest, longest};
+    const bagunjoki_plan_names names = {machines, zones, poses, places};
+    const bagunjoki_plan_names without_places = {machines, zones, poses, 0}, without_names = {0, 0, 0, 0};
+    const bagunjoki_plan_names by_longest = {longest, longest, longest, longest};
     static const uint8_t released[] = {0, BAGUNJOKI_PLAN_RELEASE, 0, DONE};
+    static const uint8_t advanced[] = {LOADER, BAGUNJOKI_PLAN_ADVANCE, 0, DONE};
     unsigned found = 0;
-    for (size_t k = 0; k < sizeof calls / sizeof *calls; k++) print_entry(&names, calls[k]);
-    for (size_t k = 0; k < sizeof without_record / sizeof *without_record; k++)
-        found += print_entry(&names, without_record[k]) > 0;
+    for (size_t k = 0; k < COUNT(calls); k++) print_entry(&names, calls[k]);
+    for (size_t k = 0; k < COUNT(without_record); k++) found += print_entry(&names, without_record[k]) > 0;
+    for (size_t k = 0; k < COUNT(calls); k++)
+        found += calls[k][0] != BAGUNJOKI_PLAN_WATCH && print_entry(&without_names, calls[k]) > 0;
+    found += print_entry(&without_places, advanced) > 0;
     printf("%u of %u\n", (unsigned)print_entry(&by_longest, released) + 1, BAGUNJOKI_PLAN_RECORD);
     print_start("10", 0);
     print_start("0", 7);
     printf("%u\n", (unsigned)print_start("1111111111111111", 1048575));
-    print_orders();
+    print_all_calls(&names);
     printf("%u records that aren't there, %u written wrongly\n", found, wrong);
     return found > 0 || wrong > 0;
 }

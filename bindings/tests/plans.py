@@ -21,6 +21,8 @@ STRUCTS = [f"crates/plan_c/src/{it}.rt" for it in ("reply", "line", "turn")]
 EXPORTS = "crates/plan_c/src/exports.rt"
 TESTS = "crates/plan_c/src/tests.rt"
 HEADER = "bindings/bagunjoki_plan.h"
+MODULE = "bindings/bagunjoki_plan.py"
+CRATE = "bindings/rust/src/plan.rs"
 LATHE_HEADER = "bindings/examples/plan_lathe.h"
 BUSY = 66
 # The structs of the header, by those of the crate.
@@ -68,31 +70,59 @@ loader,inquire,interior
 watch,stop
 press,resume
 watch,resume
+loader,advance,hand
+loader,advance,tray
+press,advance,die
 {LONGEST},release,{LONGEST}
 75 of 75
 start,10
 start,0,7
 start,1111111111111111,1048575
 31
-15: 0 2 0: 5
-16: 1 1 0: 0
-17: 1 1 0: 3
-17: 0 1 0: 2
-17: 0 8 0: 32
-18: 1 6 3: 0
+15: 5 loader,give,interior
+16: 0 press,claim,interior
+17: 3 press,claim,interior
+17: 2 loader,claim,interior
+17: 32 loader,inquire,interior
+18: 0 press,pose,travelling
+16: 0 loader,advance,tray
+17: 7 loader,advance,tray
+18: 0 loader,advance,hand
+19: 8 loader,advance,hand
+19: 1 press,advance,hand
+19: 1 press,advance,die
+20: 0 watch,stop
+21: 14 loader,advance,tray
 0 records that aren't there, 0 written wrongly
 """
-# The same in Python: calls by words and by numbers, and those that no record means.
-LOGGED = """from bagunjoki_plan import Plant
+# The calls through that press, in Rust, and what it is answered once the watch resumes: DONE, and NOT_PARTY of no place.
+ENDS_IN_RUST = """16: 0 11 1: 0
+17: 0 11 1: 7
+18: 0 11 0: 0
+19: 0 11 0: 8
+19: 1 11 0: 1
+19: 1 11 2: 1
+20: 15 9 0: 0
+21: 0 11 1: 14
+0
+1
+"""
+# The same in Python: calls by words and by numbers, and those that no record means. The hand is a source, the tray a sink.
+LOGGED = """from bagunjoki import Verb as cell_verbs
+from bagunjoki_plan import Plant, Verb
 poses = (("loader", "travelling"), ("press", "load"), ("press", "travelling"))
-plan = (2, 1, 3, 2, 1, 0, 1, 0, 1, 1, 1, 0, 0, 0, *[0] * 10, 1, 1, 3, *[0] * 9, 1, 0, 2, *[0] * 9, 0, 1)
-cell = Plant(("loader", "press"), ("interior",), ("hand", "die"), poses, (), plan).word("10")
+plan = (2, 1, 3, 3, 1, 0, 1, 0, 2, 1, 2, 1, 0, 0, *[0] * 10, 1, 1, 3, *[0] * 9, 1, 0, 2, *[0] * 9, 64, 128, 1)
+cell = Plant(("loader", "press"), ("interior",), ("hand", "tray", "die"), poses, (), plan).word("010")
 calls = [("press", "claim", "interior"), (1, "pose", "travelling"), ("loader", "pose", 0), ("loader", "pose", "load")]
-calls += [("watch", "stop"), (15, "inquire", 0)]
+calls += [("loader", "advance", "tray"), (0, "advance", 1), ("loader", Verb.ADVANCE, "hand"), ("loader", 11, 0)]
+calls += [("loader", cell_verbs.ADVANCE, "hand"), ("press", "advance", "die")]
+calls += [("watch", "stop"), (15, "inquire", 0), ("loader", "advance", "tray")]
 for call in calls:
     reply = cell.ask(*call)
     print(reply.order, cell.record(*call), reply)
-for call in (("loader", "pose", 2), (2, "claim", 0), ("press", "claim", 1), ("press", "pose", 3)):
+print(cell.full_places())
+wrong = [("loader", "pose", 2), (2, "claim", 0), ("press", "claim", 1), ("press", "pose", 3), ("loader", "advance", 3)]
+for call in (*wrong, ("loader", "advance", "interior"), ("loader", "advance"), ("loader", 7, "hand")):
     try:
         print(cell.record(*call))
     except ValueError as why:
@@ -102,12 +132,24 @@ LOGGED_SAID = """2 press,claim,interior done
 4 press,pose,travelling done
 6 loader,pose,travelling done
 7 loader,pose,load nopose
-8 watch,stop done
-9 watch,inquire,interior zone press 0 moving
+8 loader,advance,tray done
+9 loader,advance,tray noplate
+10 loader,advance,hand done
+11 loader,advance,hand placefull
+11 loader,advance,hand placefull
+11 press,advance,die notparty
+12 watch,stop done
+13 watch,inquire,interior zone press 0 moving
+13 loader,advance,tray stopped
+['hand']
 pose 2 has no record: travelling means another one
 2 is no machine
 1 is no zone
 3 is no pose
+3 is no place
+interior is no place
+advance takes an object
+7 is not a valid Verb
 """
 
 
@@ -179,6 +221,14 @@ def verbs_of_header(root):
     return {number: word for number, word in enumerate(words) if word != "0"}
 
 
+def verbs_elsewhere(root):
+    """The numbers of verbs as the Python module and the crate for cargo have them, by their files."""
+    module = re.search(r"^class Verb\(.*?\n\n\n", text_of(f"{root}/{MODULE}"), re.M | re.S)[0]
+    crate = re.search(r"^pub enum Verb \{(.*?)\n\}", text_of(f"{root}/{CRATE}"), re.M | re.S)[1]
+    found = {MODULE: re.findall(r"^    (\w+) = (\d+)$", module, re.M), CRATE: re.findall(r"(\w+) = (\d+),", crate)}
+    return {path: {compare.snake(name): int(number) for name, number in verbs} for path, verbs in found.items()}
+
+
 def bytes_of(text, begin, end):
     """The numbers that stand between two texts."""
     return [int(it) for it in re.findall(r"\d+", re.search(rf"{begin}(.*?){end}", text, re.S)[1])]
@@ -192,6 +242,10 @@ def differences(root):
     for what, wanted, found in (*pairs, functions, ("verbs", verbs_of_crates(root), verbs_of_header(root))):
         if found != wanted:
             said.append(f"{what} are {found} in {HEADER}, and {wanted} in the crates")
+    for path, verbs in verbs_elsewhere(root).items():
+        wanted = table(text_of(f"{root}/{NUMBERS}"), "verb_number")
+        if verbs != wanted:
+            said.append(f"verbs are {verbs} in {path}, and {wanted} in the crates")
     for name, path in PLANS:
         wanted = bytes_of(text_of(f"{root}/{EXAMPLES}"), rf"bytes_of {name}_table ≡", r"\[\]")
         if bytes_of(text_of(f"{root}/{path}"), r"PLAN_BYTES\[\] = \{", r"\};") != wanted:

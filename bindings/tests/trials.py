@@ -145,18 +145,21 @@ def example_by_pkg_config(trials):
 def example_in_rust(trials):
     """The crate for cargo, by rustc alone: a machine may have no cargo."""
     shared = {"LD_LIBRARY_PATH": f"{trials.prefix}/lib"}
-    wants(trials.run([by_rustc(trials, "interior", "bagunjoki")], **shared), INTERIOR)
-    return wants(trials.run([by_rustc(trials, "plan_press", "bagunjoki", "bagunjoki_plan")], **shared), plans.PRESS)
+    wants(trials.run([by_rustc(trials, "examples/interior", "bagunjoki")], **shared), INTERIOR)
+    of_plans = {"examples/plan_press": plans.PRESS, "tests/plan_ends": plans.ENDS_IN_RUST}
+    for source, wanted in of_plans.items():
+        wants(trials.run([by_rustc(trials, source, "bagunjoki", "bagunjoki_plan")], **shared), wanted)
+    return ""
 
 
-def by_rustc(trials, example, *libraries):
-    """An example over the crate, which is compiled for these libraries."""
-    to, words = f"{trials.room}/{example}_in_rust", ["rustc", "-O", "--edition", "2021", "-L", f"{trials.prefix}/lib", "-L", trials.room]
+def by_rustc(trials, source, *libraries):
+    """A program over the crate, which is compiled for these libraries."""
+    to, words = f"{trials.room}/{os.path.basename(source)}_in_rust", ["rustc", "-O", "--edition", "2021", "-L", f"{trials.prefix}/lib", "-L", trials.room]
     crate = ["--crate-name", "bagunjoki", "--crate-type", "rlib", f"{trials.here}/rust/src/lib.rs"]
     crate += ["--cfg", 'feature="plan"'] if "bagunjoki_plan" in libraries else []
     trials.run([*words, *crate, "-o", f"{trials.room}/libbagunjoki.rlib"])
     links = [f"-ldylib={it}" for it in libraries]
-    trials.run([*words, f"{trials.here}/examples/{example}.rs", "--extern", "bagunjoki", *links, "-o", to])
+    trials.run([*words, f"{trials.here}/{source}.rs", "--extern", "bagunjoki", *links, "-o", to])
     return to
 
 

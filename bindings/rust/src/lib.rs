@@ -150,10 +150,10 @@ impl Shared {
         self.0.load(SeqCst)
     }
 
-    fn ask(&self, rules: &impl Rules, machine: u8, verb: Verb, object: u8, tries: u32) -> Reply {
+    fn ask(&self, rules: &impl Rules, machine: u8, verb: u8, object: u8, tries: u32) -> Reply {
         let mut word = self.word();
         for _ in 0..tries {
-            let reply = rules.step(word, machine, verb as u8, object);
+            let reply = rules.step(word, machine, verb, object);
             if reply.answer != Answer::DONE {
                 return reply;
             }
@@ -162,14 +162,14 @@ impl Shared {
                 Err(found) => word = found,
             }
         }
-        let reply = rules.step(word, machine, verb as u8, object);
+        let reply = rules.step(word, machine, verb, object);
         match reply.answer {
             Answer::DONE => Reply { answer: Answer::BUSY, next: word, ..reply },
             _ => reply,
         }
     }
 
-    fn settle(&self, rules: &impl Rules, machine: u8, verb: Verb, object: u8) -> Reply {
+    fn settle(&self, rules: &impl Rules, machine: u8, verb: u8, object: u8) -> Reply {
         loop {
             let reply = self.ask(rules, machine, verb, object, LAST_STAMP);
             if reply.answer != Answer::BUSY {
@@ -229,12 +229,12 @@ impl Interlock {
 
     /// A call, with at most this number of exchanges; what `bagunjoki_ask` of the header does.
     pub fn ask(&self, machine: Machine, verb: Verb, object: u8, tries: u32) -> Reply {
-        self.0.ask(&Cell, machine as u8, verb, object, tries)
+        self.0.ask(&Cell, machine as u8, verb as u8, object, tries)
     }
 
     /// Asks until it is answered; what `bagunjoki_settle` of the header does.
     pub fn settle(&self, machine: Machine, verb: Verb, object: u8) -> Reply {
-        self.0.settle(&Cell, machine as u8, verb, object)
+        self.0.settle(&Cell, machine as u8, verb as u8, object)
     }
 
     /// If the stamp is `from` or later, makes it `to`; what `bagunjoki_renew` of the header does. Whether nothing is left to do.

@@ -1,8 +1,7 @@
 //! The interlock of any plant, by its plan, over its library for C.
 //!
 //! ```no_run
-//! use bagunjoki::Verb;
-//! use bagunjoki::plan::{Interlock, Plan};
+//! use bagunjoki::plan::{Interlock, Plan, Verb};
 //!
 //! const BYTES: &[u8] = &[/* PLAN_BYTES of `plan header` */];
 //! let plan = Plan::open(BYTES).expect("a plan");
@@ -12,7 +11,7 @@
 //!
 //! Numbers of machines, zones, poses and places are those that `plan header` prints, from 0. Where a reply names no
 //! machine, zone or posture, it has `NOTHING`. The duties are those of `bagunjoki_plan.h`.
-use crate::{Reply, Rules, Shared, Verb};
+use crate::{Reply, Rules, Shared};
 use std::sync::atomic::AtomicU64;
 
 /// The watch's number as a machine: it inquires, stops and resumes.
@@ -23,6 +22,23 @@ pub const NOTHING: u8 = 255;
 
 /// As the owner in a reply: no machine owns the zone.
 pub const NOBODY: u8 = NOTHING;
+
+/// What is asked. The object of `SetPose` is a pose, that of `Advance` a place, that of `Stop` and `Resume` is 0, that of all others a
+/// zone.
+#[repr(u8)]
+#[derive(Clone, Copy, Debug, PartialEq, Eq)]
+pub enum Verb {
+    Claim = 1,
+    Give = 2,
+    Yield = 3,
+    Take = 4,
+    Release = 5,
+    SetPose = 6,
+    Inquire = 8,
+    Stop = 9,
+    Resume = 10,
+    Advance = 11,
+}
 
 /// What `bagunjoki_plan_open` gives. Only the library makes one, so its fields are private.
 #[repr(C)]
@@ -114,12 +130,12 @@ impl Interlock {
 
     /// A call of a machine, with at most this number of exchanges; what `bagunjoki_plan_ask` of the header does.
     pub fn ask(&self, machine: u8, verb: Verb, object: u8, tries: u32) -> Reply {
-        self.shared.ask(&self.plan, machine, verb, object, tries)
+        self.shared.ask(&self.plan, machine, verb as u8, object, tries)
     }
 
     /// Asks until it is answered; what `bagunjoki_plan_settle` of the header does.
     pub fn settle(&self, machine: u8, verb: Verb, object: u8) -> Reply {
-        self.shared.settle(&self.plan, machine, verb, object)
+        self.shared.settle(&self.plan, machine, verb as u8, object)
     }
 
     /// If the stamp is `from` or later, makes it `to`; what `bagunjoki_plan_renew` of the header does. Whether nothing is left to do.
