@@ -11,7 +11,7 @@
 #endif
 
 enum { CLOSED, MOVING, OPEN_IN, OPEN_OUT };
-enum { CLAIM = 1, GIVE, YIELD, TAKE, RELEASE, SET_POSE, INQUIRE = 8, STOP, RESUME, WATCH = 15, NOBODY = 255 };
+enum { CLAIM = 1, GIVE, YIELD, TAKE, RELEASE, SET_POSE, INQUIRE = 8, STOP, RESUME, ADVANCE, WATCH = 15, NOBODY = 255 };
 enum { HEAD = 20, MOST = 884, ZONES = 10, POSES = 64, PLACES = 16 };
 
 /* A zone: its parties; its lowest bit, how many it has, and the codes that they may have; the lowest bit of its
@@ -33,9 +33,17 @@ struct pose {
     } at[ZONES];
 };
 
+/* A place: its bit, the machine that keeps it, and whether plates come to it from outside, or go there from it. */
+struct place {
+    uint64_t bit;
+    uint8_t keeper;
+    bool source, sink;
+};
+
 struct plan {
-    unsigned zone_count, pose_count;
+    unsigned zone_count, pose_count, place_count;
     uint64_t above, places, unit, last, stop;
+    struct place place_rows[PLACES];
     struct zone zones[ZONES];
     struct pose poses[POSES];
 };
@@ -167,12 +175,24 @@ static struct reply set_pose(const struct plan *plan, uint64_t word, uint64_t ta
     return done(plan, word, next);
 }
 
+static struct reply advance(const struct plan *plan, uint64_t word, uint64_t taken, uint8_t machine, unsigned number) {
+    if (number >= plan->place_count) return refuse(word, BAGUNJOKI_NOT_PARTY);
+    const struct place *place = &plan->place_rows[number];
+    if (place->keeper != machine || !(place->source || place->sink)) return refuse(word, BAGUNJOKI_NOT_PARTY);
+    if (word & plan->stop) return refuse(word, BAGUNJOKI_STOPPED);
+    bool is_full = word & place->bit;
+    if (place->source && taken & place->bit && !(place->sink && is_full)) return refuse(word, BAGUNJOKI_PLACE_FULL);
+    if (!place->source && !is_full) return refuse(word, BAGUNJOKI_NO_PLATE);
+    return done(plan, word, word ^ place->bit);
+}
+
 static __attribute__((noinline)) struct reply step(const struct plan *plan, uint64_t word, uint8_t machine,
                                                    uint8_t verb, uint8_t object) {
     uint64_t taken;
     if (!is_state(plan, word, &taken)) return refuse(word, BAGUNJOKI_NO_STATE);
     if (verb >= CLAIM && verb <= RELEASE) return zone_call(plan, word, taken, machine, verb, object);
     if (verb == SET_POSE) return set_pose(plan, word, taken, machine, object);
+    if (verb == ADVANCE) return advance(plan, word, taken, machine, object);
     if (verb == INQUIRE) {
         if (object >= plan->zone_count) return refuse(word, BAGUNJOKI_NOT_PARTY);
         const struct zone *zone = &plan->zones[object];
@@ -224,7 +244,7 @@ static struct plan plan_of(const uint8_t *bytes) {
     struct plan plan = {0};
     plan.zone_count = bytes[1];
     plan.pose_count = bytes[2];
-    unsigned places = bytes[3], first = 0;
+    unsigned places = plan.place_count = bytes[3], first = 0;
     for (unsigned k = 0; k < plan.zone_count; k++) {
         lay_out(&plan.zones[k], first, bytes + 4 + 8 * k, bytes + 4 + 8 * plan.zone_count + 2 + k, plan.pose_count);
         first += plan.zones[k].bits;
@@ -256,6 +276,10 @@ static struct plan plan_of(const uint8_t *bytes) {
             pose->at[pose->count].gives = (int8_t)(bytes[2 + zone] - 1);
             pose->moves |= pose->at[pose->count++].gives == MOVING;
         }
+    }
+    for (unsigned k = 0; k < places; k++) {
+        struct place place = {1ull << (first + k), bytes[k] & 63, bytes[k] & 64, bytes[k] & 128};
+        plan.place_rows[k] = place;
     }
     return plan;
 }
