@@ -5,7 +5,7 @@
 
 Of NUMBER inputs some six in ten are documents for `plan check`, three are scripts for `plan replay` and one is for `plan explore`. The
 seed decides them all: plan_inputs.py makes the plans, half of them with sensors, runs and waits, a third with calls that stop on some
-refusals; it spoils half of the documents by a fault of each kind, and changes some bytes.
+refusals, most with sources and sinks; it spoils half of the documents by a fault of each kind, and changes some bytes.
 PROGRAM is crates/plan/out/plan if absent, which ./plan builds.
 
 Compared are the status, what `check` and `replay` print, byte by byte, but for which of two lines says of a plan's rows, and of a

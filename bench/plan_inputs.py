@@ -59,13 +59,26 @@ def verbs_of(machine, zone):
     return verbs + ["take"] * any(it[1] in machine["places"] for it in ways)
 
 
+def ends(r, machine):
+    """Makes some of a machine's places sources, sinks, or both: of half of the machines none."""
+    for key in ("sources", "sinks") if machine["places"] and r.randrange(2) else ():
+        machine[key] = [it for it in machine["places"] if r.randrange(3)]
+
+
+def ends_of(machine):
+    """The sources and sinks of a machine, each once."""
+    return [it for it in machine["places"] if it in machine.get("sources", []) + machine.get("sinks", [])]
+
+
 def program(r, machine, zones, most):
     """The lines of a program, each of which may be done."""
-    own = [it for it in zones if machine["name"] in (it["host"], it["guest"])]
+    own, own_ends = [it for it in zones if machine["name"] in (it["host"], it["guest"])], ends_of(machine)
     lines = []
-    for _ in range(r.randrange(most + 1) if own else 0):
+    for _ in range(r.randrange(most + 1) if own or own_ends else 0):
         poses = [it["name"] for it in machine["poses"]]
-        if poses and r.randrange(3) == 0:
+        if own_ends and (not own or r.randrange(4) == 0):
+            lines.append(f"advance {r.choice(own_ends)}")
+        elif poses and r.randrange(3) == 0:
             lines.append(f"pose {r.choice(poses)}")
         else:
             zone = r.choice(own)
@@ -86,6 +99,7 @@ def crowd(r):
         gives = {it["name"]: posture if r.randrange(6) else r.choice(POSTURES) for it in zones}
         machines[0]["poses"].append({"name": f"all_{posture}", "gives": gives})
     for row in machines:
+        ends(r, row)
         row["program"] = program(r, row, zones, 4)
     return {"machine": machines, "zone": zones, **motor_rows(r, machines, zones)}
 
@@ -124,6 +138,7 @@ def plan(r, small=False):
         for pose in (pose for row in machines for pose in row["poses"]):
             pose["gives"].pop(gone, None)
     for row in machines:
+        ends(r, row)
         row["program"] = program(r, row, zones, 4 if small else 8)
     return {"machine": machines, "zone": zones, **motor_rows(r, machines, zones)}
 
@@ -161,7 +176,7 @@ def rounds(r, document):
                 lines += [f"claim {it['name']}", *(r.sample(poses, r.randrange(min(3, len(poses)) + 1))), f"release {it['name']}"]
             elif row["name"] == it["guest"] and r.randrange(4):
                 lines += [f"claim {it['name']}", f"release {it['name']}"]
-        row["program"] = lines
+        row["program"] = lines + [f"advance {it}" for it in ends_of(row) if r.randrange(3) == 0]
 
 
 def hand_over(r, document):
@@ -250,7 +265,7 @@ def spoil(r, document):
     machines, zones = items(document, "machine"), items(document, "zone")
     poses = [it for row in machines for it in items(row, "poses")]
     machine = r.choice(machines) if machines else {}
-    kinds = [spoil_key, spoil_value, spoil_name, spoil_program, spoil_program, spoil_many, spoil_for_c]
+    kinds = [spoil_key, spoil_value, spoil_name, spoil_program, spoil_program, spoil_many, spoil_for_c, spoil_ends]
     kinds += [spoil_drives] * 4 if any(items(it, "sensors") for it in machines) else []
     kinds += [spoil_faults] * 2 if items(machine, "program") else []
     kinds += [spoil_zone] * 2 if zones else []
@@ -276,7 +291,7 @@ def spoil_value(r, document, machine, zone, pose):
 
 def spoil_name(r, document, machine, zone, pose):
     rows = items(document, "machine") + items(document, "zone")
-    taken = ("watch", "free", "start", "claim", "pose", "stop", "inquire")
+    taken = ("watch", "free", "start", "claim", "pose", "stop", "inquire", "advance")
     others = [it["name"] for it in rows if "name" in it] or ["x"]
     r.choice((machine, machine, zone, pose))["name"] = r.choice((r.choice(WORDS), r.choice(WORDS), r.choice(others), r.choice(taken)))
     if places := items(machine, "places"):
@@ -284,10 +299,24 @@ def spoil_name(r, document, machine, zone, pose):
             places.insert(r.randrange(3), r.choice((r.choice(WORDS), r.choice(places))))
 
 
+def spoil_ends(r, document, machine, zone, pose):
+    """Adds a source or a sink, which may be right, or a line that advances some place, as right."""
+    places = [it for row in items(document, "machine") for it in items(row, "places") if isinstance(it, str)] + ["nowhere"]
+    own = items(machine, "places") or places
+    if r.randrange(2):
+        listed = machine.setdefault(r.choice(("sources", "sinks")), [])
+        if isinstance(listed, list):
+            listed.insert(r.randrange(len(listed) + 1), r.choice((*own, r.choice(places), r.choice(WORDS))))
+    else:
+        found = items(machine, "program")
+        found.insert(r.randrange(len(found) + 1), f"advance {r.choice((*own, r.choice(places)))}")
+
+
 def spoil_program(r, document, machine, zone, pose):
     lines = ("claim", "claim ", "claim  z1", " claim z1", "open z1", "claim nowhere", "pose nothing", "inquire z1", "stop", "resume", "")
+    lines += ("advance", "advance ", "advance nowhere")
     name = zone.get("name", "z9")
-    line = r.choice(lines) if r.randrange(3) == 0 else f"{r.choice((*VERBS, *VERBS, 'inquire', 'pose'))} {name}"
+    line = r.choice(lines) if r.randrange(3) == 0 else f"{r.choice((*VERBS, *VERBS, 'inquire', 'pose', 'advance'))} {name}"
     if r.randrange(12) == 0:
         machine["program"] = [f"claim {name}"] * r.choice((255, 256, 300))
     else:
@@ -573,6 +602,7 @@ def start(r, places):
 def calls_of(r, document):
     """All calls of parties and of poses' machines, those that move plates more often."""
     calls = [(row["name"], "pose", it["name"]) for row in document["machine"] for it in row["poses"]] * 2
+    calls += [(row["name"], "advance", it) for row in document["machine"] for it in ends_of(row)] * 2
     for zone in document["zone"]:
         verbs = ("claim", "claim", "give", "give", "give", "take", "take", "yield", "release")
         calls += [(zone[party], verb, zone["name"]) for party in ("host", "guest") for verb in verbs]
@@ -606,12 +636,14 @@ def script(r, document):
         caller = r.choice((*machines, "watch"))
         if form == 12:
             call = ("watch" if r.randrange(5) else caller, r.choice(("resume", "resume", "resume", "stop")), None)
+        elif form == 13 and rules.keeper:
+            call = (caller, "advance", r.choice([*rules.keeper]))
         elif form < 15 and rules.zones or not rules.poses:
             call = (caller, r.choice(("inquire", "inquire", *VERBS)), r.choice(rules.zones or ["z1"]))
         else:
             call = (caller, "pose", r.choice([it for _, it in rules.poses]))
         records.append([it for it in call if it])
-        if call[1] in ("stop", "resume") or call[1] == "pose" or call[2] in rules.zones:
+        if call[1] in ("stop", "resume", "pose", "advance") or call[2] in rules.zones:
             state = rules.reply(state, *call)[1]
     if r.randrange(12) == 0:
         words = [*machines, "claim", "pose", "stop", "", " ", "z1", "watch", "free", "CLAIM", "advance"]
