@@ -215,7 +215,7 @@ class PlanWord(Word):
         super().__init__(places, stamp, PlanLibrary(plant, library or load_library()), renews)
 
     def numbers(self, machine, verb, thing):
-        """The three numbers of a call. A verb of the cell is taken by its word, as its numbers are others."""
+        """The three numbers of a call. A verb of the cell is taken by its word: its ADVANCE has another number."""
         verb = name_of(Verb, word_of(verb) if isinstance(verb, bagunjoki.Verb) else verb)
         caller = self.plant.machine(machine)
         if (verb in WITHOUT_OBJECT) != (thing is None):

@@ -1,6 +1,7 @@
 /* A log's records: of each verb, of entries that have none, of the longest names, and of starts. Each is written for
-   each size of room too. Then the entries of calls, with their records: at the press of plan_types::examples, and at one
-   through which plates go, from a source to a sink. It prints them all, and last how many records were written wrongly. */
+   each size of room too. Then the entries of calls, with their records: at the press of plan_types::examples, and at
+   one through which plates go, from a source to a sink. It prints them all, and last how many records were written
+   wrongly. */
 #include <bagunjoki_plan.h>
 #include <stdio.h>
 #include <string.h>
