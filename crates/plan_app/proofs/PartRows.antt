@@ -16,6 +16,7 @@ parts-told = record {
   gives = refl;
   takes = refl;
   others = refl;
+  advances = refl;
   nothing = refl;
   text = refl;
   no_plates = refl;

@@ -7,7 +7,7 @@ use Rattle.std.specs.List.{range_with_len}
 use Rattle.plan_types.specs.Below.{any_below}
 use Rattle.plan_types.specs.declared.call.Call.{Call}
 use Rattle.plan_types.specs.declared.call.Call.TheVariants.{Claim, Give, Yield, Take, Release, SetPose, Inquire, Stop}
-use Rattle.plan_types.specs.declared.call.Call.TheVariants.{Resume}
+use Rattle.plan_types.specs.declared.call.Call.TheVariants.{Resume, Advance}
 use Rattle.plan_rules.specs.declared.state.State.{State}
 use Rattle.plan_explorer.specs.Groups.{AreGroups, AreSmallest, alone, group_in, in_group}
 use Rattle.plan_explorer.specs.Programs.{PlanPrograms, program_of}
@@ -65,7 +65,7 @@ abbrev pub part_head : Named → List ℕ → ℕ → ℕ → Text
 part_head n groups first count =
     codes "apart from all others: " ++ (names_text n groups first count ++ codes "\n")
 
--- a program gives or takes a plate
+-- a call gives or takes a plate, or lets one come or go
 abbrev pub hands_over : Option Call → Bool
 hands_over None = false
 hands_over (Some (Claim z)) = false
@@ -77,6 +77,7 @@ hands_over (Some (SetPose p)) = false
 hands_over (Some (Inquire z)) = false
 hands_over (Some Stop) = false
 hands_over (Some Resume) = false
+hands_over (Some (Advance p)) = true
 
 abbrev pub hands_over_at : PlanPrograms → ℕ → ℕ → Bool
 hands_over_at ps m k = hands_over (slice_get (program_of ps m) k)
@@ -87,7 +88,7 @@ moves_plates ps m = any_below (hands_over_at ps m) (length (program_of ps m))
 abbrev pub some_move_plates : PlanPrograms → Bool
 some_move_plates ps = any_below (moves_plates ps) (length ps)
 
--- of plates a part speaks only if a program of its group gives or takes
+-- of plates a part speaks only if a program of its group moves some
 abbrev pub part_plates : Named → PlanPrograms → State → Progress → Text
 part_plates n ps opening plates = if some_move_plates ps then plates_if_any n ps opening plates else []
 

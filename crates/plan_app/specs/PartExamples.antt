@@ -1,6 +1,6 @@
 -- Which groups are told apart, and lines of their parts.
 use Rattle.std.specs.Prelude.{◌≡◌, ℕ, true, false, List, [], ◌∷◌, ◌++◌, codes, None}
-use Rattle.plan_types.specs.declared.call.Call.TheVariants.{Claim, Give, Yield, Take, Release, SetPose, Inquire}
+use Rattle.plan_types.specs.declared.call.Call.TheVariants.{Claim, Give, Yield, Take, Release, SetPose, Inquire, Advance}
 use Rattle.plan_types.specs.Table.{plan_table}
 use Rattle.plan_explorer.specs.Examples.{start}
 use Rattle.plan_explorer.specs.Programs.{PlanPrograms}
@@ -41,10 +41,11 @@ pub record PartsAreTold : Type 0 where
   pub two : some_are_apart pairs three_ask ≡ true
   pub one : some_are_apart pairs ((Give 0 ∷ []) ∷ [] ∷ (Take 0 ∷ []) ∷ [] ∷ []) ≡ false
   pub none : some_are_apart pairs ([] ∷ [] ∷ [] ∷ [] ∷ []) ≡ false
-  -- who gives or takes moves plates
+  -- who gives or takes moves plates, and who lets them come or go
   pub gives : some_move_plates three_ask ≡ true
   pub takes : some_move_plates ([] ∷ (Claim 0 ∷ Take 0 ∷ []) ∷ []) ≡ true
   pub others : some_move_plates ((Claim 0 ∷ Yield 0 ∷ Release 0 ∷ SetPose 1 ∷ Inquire 0 ∷ []) ∷ []) ≡ false
+  pub advances : some_move_plates ([] ∷ (Claim 0 ∷ Advance 0 ∷ []) ∷ []) ≡ true
   pub nothing : hands_over None ≡ false
   -- of its own machines a part says what is answered, and of plates if they move some
   pub text : part_text (group_of pairs 0) four three_ask (start true true)
@@ -54,7 +55,7 @@ pub record PartsAreTold : Type 0 where
   pub no_plates : part_text (group_of pairs 1) four ([] ∷ (Claim 1 ∷ []) ∷ []) (start true true)
       (Silent ∷ bound_five ∷ []) (Within (record { plain = 6; helped = 0 }))
       ≡ codes "b goes on for ever in each fair order: within k * 5 turns\n" ++ FAIRNESS.now
-  -- who starves among others isn't counted, nor plates that nobody gives or takes
+  -- who starves among others isn't counted, nor plates that nobody moves
   pub starves : (order : FairOrder) → part_starves (group_of pairs 0) four three_ask
       (bound_five ∷ Silent ∷ Starves order ∷ Silent ∷ []) (Within (record { plain = 6; helped = 0 })) ≡ true
   pub not_ours : (order : FairOrder) → part_starves (group_of pairs 1) four three_ask

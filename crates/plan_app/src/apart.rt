@@ -482,7 +482,7 @@ fn push_own_machine(
     }
 }
 
-/// Adds whether plates move for ever, if one of these programs gives or takes.
+/// Adds whether plates move for ever, if one of these programs moves some.
 fn push_own_plates(
     text: &mut String,
     plan: &Acting,
@@ -542,7 +542,7 @@ fn may_starve_at(answers: &[Liveness], machine: u8) -> bool
     }
 }
 
-/// Whether one of these programs gives or takes.
+/// Whether one of these programs moves plates.
 #[tactic(auto, using(plan_types::proofs::lemmas::Below::any_below_more))]
 fn some_move_plates(programs: &Programs) -> bool
     ensures { result ≡ spec.some_move_plates programs.now }
@@ -554,7 +554,7 @@ fn some_move_plates(programs: &Programs) -> bool
     any
 }
 
-/// Whether a machine's program gives or takes.
+/// Whether a machine's program moves plates.
 #[tactic(auto, using(plan_types::proofs::lemmas::Below::any_below_more))]
 fn moves_plates(programs: &Programs, machine: u8) -> bool
     ensures { result ≡ spec.moves_plates programs.now machine }
@@ -566,9 +566,9 @@ fn moves_plates(programs: &Programs, machine: u8) -> bool
     any
 }
 
-/// Whether a call gives or takes a plate.
+/// Whether a call gives or takes a plate, or lets one come or go.
 fn hands_over(call: Option<Call>) -> bool
     ensures { result ≡ spec.hands_over call }
 {
-    matches!(call, Some(Call::Give(_) | Call::Take(_)))
+    matches!(call, Some(Call::Give(_) | Call::Take(_) | Call::Advance(_)))
 }
