@@ -1,5 +1,5 @@
 -- The laws of `reports_tell`.
-use Rattle.std.proofs.Common.{◌+◌, ◌*◌, ◌++◌, [], codes, nat_eq, refl, ap}
+use Rattle.std.proofs.Common.{◌+◌, ◌++◌, [], codes, nat_eq, refl, ap}
 use Rattle.std.proofs.Common.{if◌then◌else◌}
 use Rattle.std.proofs.lemmas.Bool.{eqb-true, false_from_ne_true, lt-ltb}
 use Rattle.plan_types.specs.Table.{place_count, zone_count}
