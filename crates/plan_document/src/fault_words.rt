@@ -27,8 +27,8 @@ const NO_TITLE: &str =
 
 /// What is said of a line that isn't a step.
 const NO_STEP: &str =
-    " isn't a step: claim, give, yield, take or release with a zone, pose with a pose, \
-     await with a sensor or a zone, or run with motors, until and a sensor";
+    " isn't a step: claim, give, yield, take or release with a zone, advance with a place, \
+     pose with a pose, await with a sensor or a zone, or run with motors, until and a sensor";
 
 /// What is said of a word that isn't a refusal on which a line may stop its machine.
 const NO_REFUSAL: &str =
