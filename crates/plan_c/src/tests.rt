@@ -152,6 +152,43 @@ fn is_answered_in_numbers(rt: HostRuntime) {
     assert!(rt; start_of(&plan, b"1") == u64::MAX && stamp_of(&plan, u64::MAX) == u32::MAX);
 }
 
+// ---- a source and a sink
+
+// The bytes of a press whose loader has a hand, a source, and a tray, a sink.
+const THROUGH: [u8; 63] = [
+    2, 1, 4, 3, 1, 0, 1, 0, 2, 1, 2, 1, 1, 1, 3, 0, 0, 0, 0, 0, 0, 0, 0, 0, 1, 1, 4, 0, 0, 0, 0, 0,
+    0, 0, 0, 0, 1, 1, 1, 0, 0, 0, 0, 0, 0, 0, 0, 0, 1, 0, 2, 0, 0, 0, 0, 0, 0, 0, 0, 0, 64, 128, 1,
+];
+
+// Advances among other calls, each with its answer, and the stamp after it.
+const ADVANCES: &[([u8; 3], u8, u32)] = &[
+    ([0, 11, 1], 0, 1),
+    ([0, 11, 1], 7, 1),
+    ([0, 11, 0], 0, 2),
+    ([0, 11, 0], 8, 2),
+    ([1, 11, 0], 1, 2),
+    ([1, 11, 2], 1, 2),
+    ([0, 11, 3], 1, 2),
+    ([15, 9, 0], 0, 3),
+    ([0, 11, 1], 14, 3),
+    ([15, 10, 0], 0, 4),
+];
+
+#[test]
+fn plates_come_and_go(rt: HostRuntime) {
+    let plan = opened(&THROUGH);
+    let mut word = start_of(&plan, b"010");
+    for (call, answer, stamp) in ADVANCES {
+        let reply = step(&plan, word, *call);
+        word = reply.next;
+        assert!(rt;
+            reply.answer == *answer && stamp_of(&plan, word) == *stamp,
+            "after {word:x}"
+        );
+    }
+    assert!(rt; word == restamped(&plan, start_of(&plan, b"100"), 4));
+}
+
 // ---- turns
 
 fn line(motors: u64, kind: u8, object: u8, until: u8) -> ProgramLine {
