@@ -14,7 +14,7 @@ use Rattle.plan_text.specs.Names.{Text}
 use Rattle.plan_text.specs.Script.{script_start}
 use Rattle.plan_document.specs.Reading.{IsPlanIn}
 use Rattle.plan_document.specs.declared.resolving.ProgrammedPlan.{ProgrammedPlan}
-use Rattle.plan_app.specs.Apart.{IsLarge, TellsBy, TellsNext, TellsPart, TellsParts, is_first, some_are_apart}
+use Rattle.plan_app.specs.Apart.{TellsBy, TellsLarge, TellsNext, TellsPart, TellsParts, is_first, some_are_apart}
 use Rattle.plan_app.specs.Failed.{Fails, FailsBy, IsOfDocument, WroteEnd, WroteExploration, WroteFault, WrotePage, WrotePageText}
 use Rattle.plan_app.specs.Going.{going_text}
 use Rattle.plan_app.specs.FailedExamples.{AreNoFault, FailedIsMeant, FaultLines}
@@ -48,50 +48,47 @@ asked request bytes new none (inr (inr (inr fails))) = fails
 explored : (plan : ProgrammedPlan) (script new : Text) → AreNoFault new → WroteEnd plan script (Some []) (Some new)
     → (opening : State) × (script_start plan.named script ≡ Ok opening) × WroteExploration plan opening (Some []) (Some new)
 explored plan script new none (inl (fault, is, wrote)) = absurd (begins (fault_text fault) new none wrote)
-explored plan script new none (inr (opening, is, inl wrote)) = absurd (begins (codes "large") new none wrote.1)
+explored plan script new none (inr (opening, is, inl (words, tells, wrote))) = absurd (begins words new none wrote)
 explored plan script new none (inr (opening, is, inr wrote)) = (opening, is, wrote)
 
 paged : (plan : ProgrammedPlan) (script new : Text) → AreNoFault new → WrotePage plan script (Some []) (Some new)
     → (opening : State) × (script_start plan.named script ≡ Ok opening) × WrotePageText plan opening (Some []) (Some new)
 paged plan script new none (inl (fault, is, wrote)) = absurd (begins (fault_text fault) new none wrote)
-paged plan script new none (inr (opening, is, inl wrote)) = absurd (begins (codes "large") new none wrote.1)
+paged plan script new none (inr (opening, is, inl (words, tells, wrote))) = absurd (begins words new none wrote)
 paged plan script new none (inr (opening, is, inr (inl wrote))) = absurd (begins (codes "long") new none wrote.1)
 paged plan script new none (inr (opening, is, inr (inr wrote))) = (opening, is, wrote)
 
--- ---- `fault large`
+-- ---- `fault large: `
 
-abbrev large : Text
-large = codes "fault large\n"
+abbrev large : Text → Text
+large rest = codes "fault large: " ++ rest
 
 -- its first byte is `f`, that at 6 is `l`, and that at 7 is `a`
-within : (k : ℕ) → k < 12 → k < length large
-within k few = few
+zeroth : (rest text : Text) → WrotePrefix (Some []) (Some (large rest)) text → 102 ≡ get_or text 0 0
+zeroth rest text wrote = byte_at (large rest) text 0 wrote (omega arith)
 
-zeroth : (text : Text) → WrotePrefix (Some []) (Some large) text → 102 ≡ get_or text 0 0
-zeroth text wrote = byte_at large text 0 wrote (within 0 (omega arith))
+sixth : (rest text : Text) → WrotePrefix (Some []) (Some (large rest)) text → 108 ≡ get_or text 6 0
+sixth rest text wrote = byte_at (large rest) text 6 wrote (omega arith)
 
-sixth : (text : Text) → WrotePrefix (Some []) (Some large) text → 108 ≡ get_or text 6 0
-sixth text wrote = byte_at large text 6 wrote (within 6 (omega arith))
-
-seventh : (text : Text) → WrotePrefix (Some []) (Some large) text → 97 ≡ get_or text 7 0
-seventh text wrote = byte_at large text 7 wrote (within 7 (omega arith))
+seventh : (rest text : Text) → WrotePrefix (Some []) (Some (large rest)) text → 97 ≡ get_or text 7 0
+seventh rest text wrote = byte_at (large rest) text 7 wrote (omega arith)
 
 both : (a b : Bool) → IsTrue (a && b) → IsTrue a
 both true b k = refl
 both false b k = k
 
-of_document : (words : Text) → IsOfDocument words → WroteFault words (Some []) (Some large) → ⊥
-of_document [] of wrote = let lie : false ≡ true = of in cc
-of_document (w ∷ ws) of wrote =
+of_document : (rest words : Text) → IsOfDocument words → WroteFault words (Some []) (Some (large rest)) → ⊥
+of_document rest [] of wrote = let lie : false ≡ true = of in cc
+of_document rest (w ∷ ws) of wrote =
     let is : IsTrue (nat_eq 112 w) = both (nat_eq 112 w) (starts_with nat_eq ws (codes "lan ")) of in
-    let e : 108 ≡ w = sixth (fault_line (w ∷ ws)) wrote in
+    let e : 108 ≡ w = sixth rest (fault_line (w ∷ ws)) wrote in
     let lie : false ≡ true = subst (λ b. IsTrue (nat_eq 112 b)) (sym e) is in cc
 
-of_start : (fault : ScriptFault) → WroteFault (fault_text fault) (Some []) (Some large) → ⊥
-of_start NoStart wrote = let e : 108 ≡ 110 = sixth (fault_line (fault_text NoStart)) wrote in omega (arith, e)
-of_start BadStart wrote = let e : 108 ≡ 98 = sixth (fault_line (fault_text BadStart)) wrote in omega (arith, e)
-of_start (BadRow number) wrote = let e : 108 ≡ 98 = sixth (fault_line (fault_text (BadRow number))) wrote in omega (arith, e)
-of_start Long wrote = let e : 97 ≡ 111 = seventh (fault_line (fault_text Long)) wrote in omega (arith, e)
+of_start : (rest : Text) (fault : ScriptFault) → WroteFault (fault_text fault) (Some []) (Some (large rest)) → ⊥
+of_start rest NoStart wrote = let e : 108 ≡ 110 = sixth rest (fault_line (fault_text NoStart)) wrote in omega (arith, e)
+of_start rest BadStart wrote = let e : 108 ≡ 98 = sixth rest (fault_line (fault_text BadStart)) wrote in omega (arith, e)
+of_start rest (BadRow number) wrote = let e : 108 ≡ 98 = sixth rest (fault_line (fault_text (BadRow number))) wrote in omega (arith, e)
+of_start rest Long wrote = let e : 97 ≡ 111 = seventh rest (fault_line (fault_text Long)) wrote in omega (arith, e)
 
 -- what is found begins otherwise, or is nothing
 of_screen : (n : Named) (ps : PlanPrograms) (s : State) (starves : ByAnswers Bool) (going : ByAnswers Text) (well : Bool)
@@ -128,26 +125,28 @@ of_found true n ps s groups well text tells first = of_parts n ps s groups (leng
 of_found false n ps s groups well text tells first =
     of_screen n ps s (any_starves n) (going_text n ps s) well text tells first
 
-large_by : (plan : ProgrammedPlan) (script : Text) → WroteEnd plan script (Some []) (Some large)
-    → (opening : State) × (script_start plan.named script ≡ Ok opening) × IsLarge plan.named plan.programs opening
-large_by plan script (inl (fault, is, wrote)) = absurd (of_start fault wrote)
-large_by plan script (inr (opening, is, inl wrote)) = (opening, is, wrote.0)
-large_by plan script (inr (opening, is, inr (well, text, tells, wrote))) =
+abbrev IsTold : ProgrammedPlan → Text → Text → Type 0
+IsTold plan script rest =
+    (opening : State) × (script_start plan.named script ≡ Ok opening)
+    × (words : Text) × TellsLarge plan.named plan.programs opening words × WroteFault words (Some []) (Some (large rest))
+
+large_by : (plan : ProgrammedPlan) (script rest : Text) → WroteEnd plan script (Some []) (Some (large rest)) → IsTold plan script rest
+large_by plan script rest (inl (fault, is, wrote)) = absurd (of_start rest fault wrote)
+large_by plan script rest (inr (opening, is, inl (words, tells, wrote))) = (opening, is, words, tells, wrote)
+large_by plan script rest (inr (opening, is, inr (well, text, tells, wrote))) =
     absurd
     (of_found (some_are_apart tells.groups plan.programs) plan.named plan.programs opening tells.groups well text tells.told
-    (zeroth text wrote))
+    (zeroth rest text wrote))
 
-is_large : (bytes : Text) → Fails Explore (Some bytes) (Some []) (Some large)
-    → (plan : ProgrammedPlan) × IsPlanIn (document_in bytes) plan
-    × (opening : State) × (script_start plan.named (script_in bytes) ≡ Ok opening)
-    × IsLarge plan.named plan.programs opening
-is_large bytes (inl wrote) = let e : 97 ≡ 111 = seventh (fault_line (codes "long")) wrote.1 in absurd (omega (arith, e))
-is_large bytes (inr (inl (inl wrote))) = let e : 108 ≡ 114 = sixth (fault_line (codes "read")) wrote in absurd (omega (arith, e))
-is_large bytes (inr (inl (inr wrote))) = let e : 108 ≡ 109 = sixth (fault_line (codes "memory")) wrote in absurd (omega (arith, e))
-is_large bytes (inr (inr (inl (words, of, wrote)))) = absurd (of_document words of wrote)
-is_large bytes (inr (inr (inr (plan, is, fails)))) =
-    let (opening, begun, more) = large_by plan (script_in bytes) fails in
-    (plan, is, opening, begun, more)
+is_large : (bytes rest : Text) → Fails Explore (Some bytes) (Some []) (Some (large rest))
+    → (plan : ProgrammedPlan) × IsPlanIn (document_in bytes) plan × IsTold plan (script_in bytes) rest
+is_large bytes rest (inl wrote) = let e : 97 ≡ 111 = seventh rest (fault_line (codes "long")) wrote.1 in absurd (omega (arith, e))
+is_large bytes rest (inr (inl (inl wrote))) = let e : 108 ≡ 114 = sixth rest (fault_line (codes "read")) wrote in absurd (omega (arith, e))
+is_large bytes rest (inr (inl (inr wrote))) = let e : 108 ≡ 109 = sixth rest (fault_line (codes "memory")) wrote in absurd (omega (arith, e))
+is_large bytes rest (inr (inr (inl (words, of, wrote)))) = absurd (of_document rest words of wrote)
+is_large bytes rest (inr (inr (inr (plan, is, fails)))) =
+    let (opening, begun, words, tells, wrote) = large_by plan (script_in bytes) rest fails in
+    (plan, is, opening, begun, words, tells, wrote)
 
 pub failed-meant : FailedIsMeant
 failed-meant = record { asked = asked; explored = explored; paged = paged; large = is_large }

@@ -1,18 +1,18 @@
 -- What was found of groups, or of all machines together, is what is printed.
-use Rattle.std.proofs.Common.{◌≡◌, ◌+◌, ◌&&◌, ℕ, Bool, true, false, List, Result, Ok, Err, IfOk, inl, inr, refl, sym, subst}
+use Rattle.std.proofs.Common.{◌≡◌, ◌+◌, ◌<◌, ◌&&◌, ℕ, length, Bool, true, false, List, Result, Ok, Err, IfOk, inl, inr, refl, sym, subst}
 use Rattle.std.proofs.Common.{string_bytes, add-one}
 use Rattle.plan_rules.specs.declared.state.State.{State}
-use Rattle.plan_explorer.specs.Groups.{AreGroups, AreSmallest, group_in}
+use Rattle.plan_explorer.specs.Groups.{AreGroups, AreSmallest, alone, group_in}
 use Rattle.plan_explorer.specs.Programs.{PlanPrograms}
 use Rattle.plan_text.specs.Named.{Named}
 use Rattle.plan_text.specs.Names.{Text}
-use Rattle.plan_app.specs.Apart.{AddsPart, ComeToMoreBy, IsExploration, IsExplorationBy, TellsBy, TellsNext, TellsPart}
-use Rattle.plan_app.specs.Apart.{TellsParts, is_first, is_well, some_are_apart, text_of}
-use Rattle.plan_app.specs.Screens.{ByAnswers, IsScreenBy, TellsScreenBy}
+use Rattle.plan_app.specs.Apart.{AddsPart, IsExploration, IsExplorationBy, IsLargePart, IsPart, IsPartScreen, TellsBy, TellsLargeBy, TellsNext, TellsPart}
+use Rattle.plan_app.specs.Apart.{TellsParts, group_of, is_first, some_are_apart, told_by}
+use Rattle.plan_app.specs.Screens.{IsUnfinished}
 use Rattle.plan_app.specs.declared.apart.Exploration.{Exploration}
 use Rattle.plan_app.specs.declared.apart.Exploration.TheVariants.{Well, Unwell, Large}
 use Rattle.plan_app.specs.declared.explore.Screen.{Screen}
-use Rattle.plan_app.specs.declared.explore.Screen.TheVariants.{Free, Starving, Standstill}
+use Rattle.plan_app.specs.declared.explore.Screen.TheVariants.{Free, Starving, Standstill, Unfinished}
 
 is_exploration : (apart : Bool) (n : Named) (ps : PlanPrograms) (opening : State) (groups : List ℕ) (found : Exploration)
     → AreGroups n.plan (group_in groups) → AreSmallest n.plan (group_in groups) → some_are_apart groups ps ≡ apart
@@ -29,11 +29,11 @@ is_exploration apart n ps opening groups (Unwell text) are smallest by found = r
   smallest = smallest;
   told = subst (λ b. TellsBy b n ps opening groups false (string_bytes text)) (sym by) found;
 }
-is_exploration apart n ps opening groups Large are smallest by found = record {
+is_exploration apart n ps opening groups (Large words) are smallest by found = record {
   groups = groups;
   apart = are;
   smallest = smallest;
-  more = subst (λ b. ComeToMoreBy b n ps opening groups) (sym by) found;
+  told = subst (λ b. TellsLargeBy b n ps opening groups (string_bytes words)) (sym by) found;
 }
 
 pub exploration_is : {E : Type 0} (apart : Bool) (n : Named) (ps : PlanPrograms) (opening : State) (groups : List ℕ)
@@ -44,13 +44,28 @@ exploration_is apart n ps opening groups (Ok found) are smallest by is =
     is_exploration apart n ps opening groups found are smallest by is
 exploration_is apart n ps opening groups (Err e) are smallest by is = tt
 
--- what a screen tells
-pub screen_told : (n : Named) (ps : PlanPrograms) (opening : State) (starves : ByAnswers Bool) (going : ByAnswers Text)
-    (screen : Screen) → IsScreenBy n ps opening starves going screen
-    → TellsScreenBy n ps opening starves going (is_well screen) (text_of screen)
-screen_told n ps opening starves going (Free text) is = is
-screen_told n ps opening starves going (Starving text) is = inr is
-screen_told n ps opening starves going (Standstill text) is = inl is
+-- what a screen tells of a group
+pub part_told : (n : Named) (ps : PlanPrograms) (opening : State) (ours : ℕ → Bool) (screen : Screen)
+    → IsPartScreen n ps opening ours screen → IsPart n ps opening ours (told_by screen)
+part_told n ps opening ours (Free text) is = is
+part_told n ps opening ours (Starving text) is = inr is
+part_told n ps opening ours (Standstill text) is = inl is
+part_told n ps opening ours (Unfinished turns) is = is
+
+-- the words of a group that comes to more situations than are explored
+large_told : (n : Named) (ps : PlanPrograms) (opening : State) (groups : List ℕ) (first turns : ℕ) (found : Exploration)
+    → first < length ps → IsUnfinished n (alone (group_of groups first) ps) opening turns
+    → IsLargePart n groups first (length ps) turns found → IsExplorationBy true n ps opening groups found
+large_told n ps opening groups first turns (Well text) few is said = absurd said
+large_told n ps opening groups first turns (Unwell text) few is said = absurd said
+large_told n ps opening groups first turns (Large words) few is said = (first, few, turns, is, said)
+
+pub large_is_told : {E : Type 0} (n : Named) (ps : PlanPrograms) (opening : State) (groups : List ℕ) (first turns : ℕ)
+    (r : Result Exploration E) → first < length ps → IsUnfinished n (alone (group_of groups first) ps) opening turns
+    → IfOk r (λ found. IsLargePart n groups first (length ps) turns found)
+    → IfOk r (λ found. IsExplorationBy true n ps opening groups found)
+large_is_told n ps opening groups first turns (Ok found) few is said = large_told n ps opening groups first turns found few is said
+large_is_told n ps opening groups first turns (Err e) few is said = tt
 
 -- one part more
 pub next_part : (n : Named) (ps : PlanPrograms) (opening : State) (groups : List ℕ) (m : ℕ) (well part : Bool)

@@ -10,7 +10,7 @@ use Rattle.plan_app.specs.GoingExamples.{loaded, press}
 use Rattle.plan_explorer.specs.Examples.{patient}
 use Rattle.plan_motors.specs.declared.verdict.Verdict.TheVariants.{Possible}
 use Rattle.plan_app.specs.declared.leads.Lead.{Lead}
-use Rattle.plan_app.specs.declared.leads.Lead.TheVariants.{Unsought, Never, Turns, Large}
+use Rattle.plan_app.specs.declared.leads.Lead.TheVariants.{Unsought, Never, Turns, Unfinished}
 use Rattle.plan_picture.specs.Pictures.{opening}
 use Rattle.plan_app.specs.Hazards.{IsFindingOf, are_kept, is_kept, lead_text, motors_text}
 use Rattle.plan_app.specs.declared.hazards.Finding.{Finding}
@@ -38,9 +38,10 @@ turns_told : (lead : Lead) → AreTurns lead (0 ∷ 1 ∷ 1 ∷ []) → lead_tex
 turns_told Unsought is = absurd is
 turns_told Never is = absurd is
 turns_told (Turns turns) is = rw is refl
-turns_told Large is = absurd is
+turns_told (Unfinished fewer) is = absurd is
 
 pub lead-lines : LeadLines
+unfolding digits
 lead-lines = record {
   never = refl;
   no_places = λ t. refl;

@@ -1,12 +1,10 @@
 mod Inputs
 mod Failures
-mod Sizes
 mod Screens
 mod GroupsTold
 mod PartsSpeak
 mod WordRows
 mod StarvingRows
-mod SizeRows
 mod LineRows
 mod ReportsTold
 mod GoingRows

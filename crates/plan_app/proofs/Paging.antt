@@ -26,7 +26,7 @@ use Rattle.plan_app.specs.Pages.{IsFreeText, IsPage, Shows, first_starving, orde
 use Rattle.plan_app.specs.Screens.{AreAnswers, free_line}
 use Rattle.plan_app.specs.Starving.{any_starves, may_rest, may_starve}
 use Rattle.plan_app.specs.declared.page.Page.{Page}
-use Rattle.plan_app.specs.declared.page.Page.TheVariants.{Free, Found, Long}
+use Rattle.plan_app.specs.declared.page.Page.TheVariants.{Free, Found, Long, Large}
 use Rattle.plan_app.proofs.GoingTold.{none_starves}
 
 -- ---- a page, made part by part
@@ -121,6 +121,7 @@ free_is_page plan opening situations answers plates (Ok (Free text)) free runs c
 }
 free_is_page plan opening situations answers plates (Ok (Found text)) free runs come are none shown = absurd shown
 free_is_page plan opening situations answers plates (Ok Long) free runs come are none shown = absurd shown
+free_is_page plan opening situations answers plates (Ok (Large words)) free runs come are none shown = absurd shown
 
 -- ---- an order is found
 

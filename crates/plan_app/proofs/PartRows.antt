@@ -10,6 +10,7 @@ parts-told = record {
   head = refl;
   other = refl;
   alone = refl;
+  large = refl;
   two = refl;
   one = refl;
   none = refl;

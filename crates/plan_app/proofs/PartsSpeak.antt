@@ -23,8 +23,8 @@ use Rattle.plan_liveness.specs.Progress.{GoesOn, Starves}
 use Rattle.plan_text.specs.Named.{Named}
 use Rattle.plan_text.specs.Names.{Text}
 use Rattle.plan_app.specs.Apart.{TellsNext, TellsPart, TellsParts, group_of, is_first, part_starves, part_text}
-use Rattle.plan_app.specs.PartLaws.{GoingIsOfAll, HoldsAmongAll, PartsSpeakOfAll, StandstillIsOfAll, StarvesAmongAll}
-use Rattle.plan_app.specs.Screens.{MoveOn, TellsGoingBy, TellsStandstill}
+use Rattle.plan_app.specs.PartLaws.{GoingIsOfAll, HoldsAmongAll, IsUnfinishedAmongAll, PartsSpeakOfAll, StandstillIsOfAll, StarvesAmongAll}
+use Rattle.plan_app.specs.Screens.{IsUnfinished, MoveOn, TellsGoingBy, TellsStandstill}
 
 -- the machines of a group share nothing with the others
 share : (n : Named) (groups : List ℕ) (first : ℕ) → AreGroups n.plan (group_in groups) → ShareNothing n.plan (group_of groups first)
@@ -102,6 +102,9 @@ module _ (n : Named) (ps : PlanPrograms) (s : State) (ours : ℕ → Bool) (a : 
         };
       }
 
+  unfinished : (turns : ℕ) → IsUnfinished n (alone ours ps) s turns → IsUnfinishedAmongAll n.plan ps s ours turns
+  unfinished turns is = record { more = a.more 1000000 is.more; before = a.standstills.before turns is.before }
+
 -- a group has its part
 abbrev Told : Named → PlanPrograms → State → List ℕ → ℕ → Bool → Type 0
 Told n ps s groups first well =
@@ -144,5 +147,9 @@ parts_speak n ps s apart goes starve sound = record {
       let ours = group_of groups first in
       let nothing = share n groups first are in
       stands n ps s ours (apart ours nothing sound) (goes ours nothing sound) (starve ours nothing sound) text tells;
+  unfinished = λ groups are first turns is.
+      let ours = group_of groups first in
+      let nothing = share n groups first are in
+      unfinished n ps s ours (apart ours nothing sound) (goes ours nothing sound) (starve ours nothing sound) turns is;
   parts = λ groups count well text told first few is. parts n ps s groups count well text told first few is;
 }

@@ -10,6 +10,8 @@ standstill-lines = record {
   one_turn = refl;
   turns = refl;
   free = refl;
+  large = refl;
+  at_the_start = refl;
   waits = refl;
   outlook = refl;
   whole = refl;
@@ -25,6 +27,7 @@ screens-meant = record {
   starving_runs = λ n ps s text is. is.runs;
   starving_none = λ n ps s text is turns. is.free turns;
   stands = λ n ps s text is. (is.turns, is.lead, is.shortest, is.told);
+  unfinished = λ n ps s turns is. (is.more, is.before);
 }
 
 pub kinds-of-screens : KindsOfScreens
@@ -35,6 +38,7 @@ kinds-of-screens = record {
   free_though_starving = λ text shows. let e = shows.0 in cc;
   starving_though_free = λ text shows. let e = shows.0 in cc;
   standstill = λ starve text shows. absurd shows;
+  unfinished = λ starve turns shows. absurd shows;
   waits = λ text shows. shows;
   free_at_a_standstill = λ text shows. absurd shows;
   starving_at_a_standstill = λ text shows. absurd shows;

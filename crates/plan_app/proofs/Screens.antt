@@ -4,16 +4,16 @@ use Rattle.plan_types.specs.Table.{PlanTable}
 use Rattle.plan_rules.specs.declared.state.State.{State}
 use Rattle.plan_explorer.specs.declared.exploring.Explored.{Explored}
 use Rattle.plan_explorer.specs.declared.exploring.Explored.TheVariants as explored
-use Rattle.plan_explorer.specs.Explored.{AreShortest, ComeTo, IfFree, LeadToStandstill, NoneStandsStill}
+use Rattle.plan_explorer.specs.Explored.{AreShortest, ComeTo, ComeToMore, IfFree, IfUnfinished, LeadToStandstill, NoneStandsStill, NoneStandsStillBefore}
 use Rattle.plan_explorer.specs.Programs.{PlanPrograms}
 use Rattle.plan_explorer.specs.Runs.{NoRunStandsStill}
 use Rattle.plan_text.specs.Named.{Named}
 use Rattle.plan_text.specs.Names.{Text}
 use Rattle.plan_liveness.specs.declared.answer.Liveness.{Liveness}
 use Rattle.plan_liveness.specs.declared.answer.Progress.{Progress}
-use Rattle.plan_app.specs.Screens.{AreAnswers, ByAnswers, IsScreenBy, ShowsFree, ShowsGoingBy, ShowsStandstill, outlook_after}
+use Rattle.plan_app.specs.Screens.{AreAnswers, ByAnswers, IsScreenBy, IsUnfinished, ShowsFree, ShowsGoingBy, ShowsStandstill, outlook_after}
 use Rattle.plan_app.specs.declared.explore.Screen.{Screen}
-use Rattle.plan_app.specs.declared.explore.Screen.TheVariants.{Free, Starving, Standstill}
+use Rattle.plan_app.specs.declared.explore.Screen.TheVariants.{Free, Starving, Standstill, Unfinished}
 
 free_is_screen : (n : Named) (ps : PlanPrograms) (opening : State) (starves : ByAnswers Bool) (going : ByAnswers Text)
     (situations : ℕ) (screen : Screen) → NoneStandsStill n.plan ps opening → NoRunStandsStill n.plan ps opening
@@ -42,6 +42,7 @@ free_is_screen n ps opening starves going situations (Starving text) none runs c
   told = shown.1;
 }
 free_is_screen n ps opening starves going situations (Standstill text) none runs come (answers, plates, are, shown) = absurd shown
+free_is_screen n ps opening starves going situations (Unfinished turns) none runs come (answers, plates, are, shown) = absurd shown
 
 pub free_is_shown : {E : Type 0} (n : Named) (ps : PlanPrograms) (opening : State) (starves : ByAnswers Bool)
     (going : ByAnswers Text) (situations : ℕ) (r : Result Screen E) → NoneStandsStill n.plan ps opening
@@ -67,6 +68,7 @@ standstill_is_screen : (n : Named) (ps : PlanPrograms) (opening : State) (starve
     → IsScreenBy n ps opening starves going screen
 standstill_is_screen n ps opening starves going turns (Free text) lead shortest shown = absurd shown
 standstill_is_screen n ps opening starves going turns (Starving text) lead shortest shown = absurd shown
+standstill_is_screen n ps opening starves going turns (Unfinished fewer) lead shortest shown = absurd shown
 standstill_is_screen n ps opening starves going turns (Standstill text) lead shortest shown = record {
   turns = turns;
   lead = lead;
@@ -107,3 +109,14 @@ standstill_is_found n ps opening starves going t turns told r same all lead shor
     standstill_is_shown n ps opening starves going told r
     (subst (λ p. LeadToStandstill p ps opening told) same (subst (LeadToStandstill t ps opening) (sym all) lead))
     (subst (λ p. AreShortest p ps opening told) same (subst (AreShortest t ps opening) (sym all) shortest)) shown
+
+pub unfinished_is_found : (n : Named) (ps : PlanPrograms) (opening : State) (t : PlanTable) (found : Explored) (turns : ℕ)
+    → t ≡ n.plan → found ≡ explored.Unfinished turns → IfUnfinished found (λ _. ComeToMore t ps opening 1000000)
+    → IfUnfinished found (NoneStandsStillBefore t ps opening) → IsUnfinished n ps opening turns
+unfinished_is_found n ps opening t found turns same is more before =
+    let many : ComeToMore t ps opening 1000000 = subst (λ f. IfUnfinished f (λ _. ComeToMore t ps opening 1000000)) is more in
+    let none : NoneStandsStillBefore t ps opening turns = subst (λ f. IfUnfinished f (NoneStandsStillBefore t ps opening)) is before in
+    record {
+      more = subst (λ p. ComeToMore p ps opening 1000000) same many;
+      before = subst (λ p. NoneStandsStillBefore p ps opening turns) same none;
+    }

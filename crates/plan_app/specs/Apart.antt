@@ -1,6 +1,7 @@
 -- What `plan explore` prints, and what it prints of groups of machines that share nothing with each other.
 use Rattle.std.specs.Prelude.{◌≡◌, ◌<◌, ℕ, zero, suc, Bool, true, false, ◌&&◌, ◌||◌, not, nat_lt, List, []}
-use Rattle.std.specs.Prelude.{◌++◌, codes, flat_map, length, slice_get, Option, Some, None, String, string_bytes}
+use Rattle.std.specs.Prelude.{◌++◌, codes, flat_map, length, slice_get, Option, Some, None, Result, Ok, Err}
+use Rattle.std.specs.Prelude.{String, string_bytes}
 use Rattle.std.specs.declared.alloc.Global.{Global}
 use Rattle.std.specs.Prelude.{if◌then◌else◌}
 use Rattle.std.specs.List.{range_with_len}
@@ -17,13 +18,13 @@ use Rattle.plan_text.specs.Named.{Named}
 use Rattle.plan_text.specs.Names.{Text}
 use Rattle.plan_header.specs.Words.{machine_name}
 use Rattle.plan_app.specs.Going.{machine_text, plates_if_any}
-use Rattle.plan_app.specs.Screens.{IsScreenBy, TellsScreen, TellsScreenBy}
-use Rattle.plan_app.specs.Sizes.{ComeToMore}
+use Rattle.plan_app.specs.Screens.{IsScreenBy, IsUnfinished, TellsScreen, TellsScreenBy, TellsUnfinished}
+use Rattle.plan_app.specs.Screens.{unfinished_words}
 use Rattle.plan_app.specs.Starving.{may_starve, plates_may_rest}
 use Rattle.plan_app.specs.declared.apart.Exploration.{Exploration}
 use Rattle.plan_app.specs.declared.apart.Exploration.TheVariants.{Well, Unwell, Large}
 use Rattle.plan_app.specs.declared.explore.Screen.{Screen}
-use Rattle.plan_app.specs.declared.explore.Screen.TheVariants.{Free, Starving, Standstill}
+use Rattle.plan_app.specs.declared.explore.Screen.TheVariants.{Free, Starving, Standstill, Unfinished}
 use Rattle.plan_app.specs.declared.going.TheConstants.{FAIRNESS}
 
 -- ---- groups, by the number of each machine's group
@@ -118,25 +119,22 @@ abbrev pub IsPartScreen : Named → PlanPrograms → State → (ℕ → Bool) �
 IsPartScreen n ps opening ours screen =
     IsScreenBy n ps opening (part_starves ours n ps) (part_text ours n ps opening) screen
 
-abbrev pub text_of : Screen → Text
-text_of (Free text) = string_bytes text
-text_of (Starving text) = string_bytes text
-text_of (Standstill text) = string_bytes text
-
-abbrev pub is_well : Screen → Bool
-is_well (Free text) = true
-is_well (Starving text) = false
-is_well (Standstill text) = false
+-- whether all is well by a screen, and its text; or how far the exploration came
+abbrev pub told_by : Screen → Result (Bool × String Global) ℕ
+told_by (Free text) = Ok (true, text)
+told_by (Starving text) = Ok (false, text)
+told_by (Standstill text) = Ok (false, text)
+told_by (Unfinished turns) = Err turns
 
 -- the text of a part without its head, and whether all is well in it
 abbrev pub TellsAlone : Named → PlanPrograms → State → (ℕ → Bool) → Bool → Text → Type 0
 TellsAlone n ps opening ours well text =
     TellsScreenBy n ps opening (part_starves ours n ps) (part_text ours n ps opening) well text
 
--- this is told of it; or nothing, where turns lead to more situations than are explored
-abbrev pub IsPart : Named → PlanPrograms → State → (ℕ → Bool) → Option (Bool × String Global) → Type 0
-IsPart n ps opening ours None = ComeToMore n.plan ps opening 1000000
-IsPart n ps opening ours (Some told) = TellsAlone n ps opening ours told.0 (string_bytes told.1)
+-- this is told of it; or how far the exploration came, where turns lead to more situations than are explored
+abbrev pub IsPart : Named → PlanPrograms → State → (ℕ → Bool) → Result (Bool × String Global) ℕ → Type 0
+IsPart n ps opening ours (Ok told) = TellsAlone n ps opening ours told.0 (string_bytes told.1)
+IsPart n ps opening ours (Err turns) = IsUnfinished n ps opening turns
 
 -- its head, and then what is said of its machines alone
 abbrev pub TellsPart : Named → PlanPrograms → State → List ℕ → ℕ → Bool → Text → Type 0
@@ -180,25 +178,42 @@ pub record TellsExploration (n : Named) (ps : PlanPrograms) (opening : State) (w
     pub smallest : AreSmallest n.plan (group_in groups)
     pub told : TellsBy (some_are_apart groups ps) n ps opening groups well text
 
--- turns of a group alone lead to more situations than are explored; or those of all machines together
-abbrev pub ComeToMoreBy : Bool → Named → PlanPrograms → State → List ℕ → Type 0
-ComeToMoreBy true n ps opening groups =
-    (first : ℕ) × (first < length ps) × ComeToMore n.plan (alone (group_of groups first) ps) opening 1000000
-ComeToMoreBy false n ps opening groups = ComeToMore n.plan ps opening 1000000
+-- where turns of a group alone lead to more situations than are explored, its machines are named
+abbrev pub large_part : Named → List ℕ → ℕ → ℕ → ℕ → Text
+large_part n groups first count turns =
+    codes "large: " ++ (names_text n groups first count ++ (codes ": " ++ unfinished_words turns))
 
-pub record IsLarge (n : Named) (ps : PlanPrograms) (opening : State) : Type 0 where
+abbrev pub TellsLargePart : Named → PlanPrograms → State → List ℕ → ℕ → Text → Type 0
+TellsLargePart n ps opening groups first words =
+    (turns : ℕ) × IsUnfinished n (alone (group_of groups first) ps) opening turns
+    × (words ≡ large_part n groups first (length ps) turns)
+
+-- or turns of all machines together do
+abbrev pub TellsLargeBy : Bool → Named → PlanPrograms → State → List ℕ → Text → Type 0
+TellsLargeBy true n ps opening groups words =
+    (first : ℕ) × (first < length ps) × TellsLargePart n ps opening groups first words
+TellsLargeBy false n ps opening groups words = TellsUnfinished n ps opening words
+
+pub record TellsLarge (n : Named) (ps : PlanPrograms) (opening : State) (words : Text) : Type 0 where
   pub groups : List ℕ
   pub apart : AreGroups n.plan (group_in groups)
   pub smallest : AreSmallest n.plan (group_in groups)
-  pub more : ComeToMoreBy (some_are_apart groups ps) n ps opening groups
+  pub told : TellsLargeBy (some_are_apart groups ps) n ps opening groups words
 
 -- by the groups
 abbrev pub IsExplorationBy : Bool → Named → PlanPrograms → State → List ℕ → Exploration → Type 0
 IsExplorationBy apart n ps opening groups (Well text) = TellsBy apart n ps opening groups true (string_bytes text)
 IsExplorationBy apart n ps opening groups (Unwell text) = TellsBy apart n ps opening groups false (string_bytes text)
-IsExplorationBy apart n ps opening groups Large = ComeToMoreBy apart n ps opening groups
+IsExplorationBy apart n ps opening groups (Large words) = TellsLargeBy apart n ps opening groups (string_bytes words)
+
+-- it is these words
+abbrev pub IsLargePart : Named → List ℕ → ℕ → ℕ → ℕ → Exploration → Type 0
+IsLargePart n groups first count turns (Well text) = ⊥
+IsLargePart n groups first count turns (Unwell text) = ⊥
+IsLargePart n groups first count turns (Large words) =
+    string_bytes words ≡ large_part n groups first count turns
 
 abbrev pub IsExploration : Named → PlanPrograms → State → Exploration → Type 0
 IsExploration n ps opening (Well text) = TellsExploration n ps opening true (string_bytes text)
 IsExploration n ps opening (Unwell text) = TellsExploration n ps opening false (string_bytes text)
-IsExploration n ps opening Large = IsLarge n ps opening
+IsExploration n ps opening (Large words) = TellsLarge n ps opening (string_bytes words)

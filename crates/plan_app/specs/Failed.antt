@@ -15,14 +15,13 @@ use Rattle.plan_document.specs.declared.resolving.ProgrammedPlan.{ProgrammedPlan
 use Rattle.plan_header.specs.Printed.{header_of}
 use Rattle.plan_header.specs.Modules.{module_text}
 use Rattle.plan_picture.specs.Pictures.{IsPicture}
-use Rattle.plan_app.specs.Apart.{IsLarge, TellsExploration}
+use Rattle.plan_app.specs.Apart.{TellsExploration, TellsLarge}
 use Rattle.plan_app.specs.Hazards.{TellsReport, start_if}
 use Rattle.plan_app.specs.Input.{byte_limit, document_in, script_in}
 use Rattle.plan_app.specs.Pages.{IsLongPage, TellsPage}
 use Rattle.plan_app.specs.RunPages.{ShowsRun}
 use Rattle.plan_app.specs.Runs.{HasForeignCall, IsTooLong, IsUnexplained, TellsRun}
-use Rattle.plan_app.specs.Screens.{TellsFree}
-use Rattle.plan_app.specs.Sizes.{ComeToMore}
+use Rattle.plan_app.specs.Screens.{TellsFree, TellsUnfinished}
 use Rattle.plan_app.specs.declared.request.Request.{Request}
 use Rattle.plan_app.specs.declared.request.Request.TheVariants.{Draw, Explore, Header, Module, Page, Replay}
 use Rattle.plan_app.specs.declared.request.Request.TheVariants.{Run, RunPage}
@@ -53,10 +52,10 @@ abbrev pub WroteStartFault : Named → Text → Option Text → Option Text → 
 WroteStartFault n script old new =
     (fault : ScriptFault) × (script_start n script ≡ Err fault) × WroteFault (fault_text fault) old new
 
--- turns lead to more situations than are explored
+-- turns lead to more situations than are explored, and how far the exploration came
 abbrev pub WroteLarge : ProgrammedPlan → State → Option Text → Option Text → Type 0
 WroteLarge plan opening old new =
-    ComeToMore plan.named.plan plan.programs opening 1000000 × WroteFault (codes "large") old new
+    (words : Text) × TellsUnfinished plan.named plan.programs opening words × WroteFault words old new
 
 -- ---- by a plan
 
@@ -80,9 +79,10 @@ WroteExploration plan opening old new =
     (well : Bool) × (text : Text) × TellsExploration plan.named plan.programs opening well text
     × WrotePrefix old new text
 
--- of a group, or of all machines together, turns lead to more situations than are explored
+-- the same of a group, or of all machines together
 abbrev pub WroteTooMany : ProgrammedPlan → State → Option Text → Option Text → Type 0
-WroteTooMany plan opening old new = IsLarge plan.named plan.programs opening × WroteFault (codes "large") old new
+WroteTooMany plan opening old new =
+    (words : Text) × TellsLarge plan.named plan.programs opening words × WroteFault words old new
 
 abbrev pub WroteEndFrom : ProgrammedPlan → State → Option Text → Option Text → Type 0
 WroteEndFrom plan opening old new = WroteTooMany plan opening old new ⊎ WroteExploration plan opening old new

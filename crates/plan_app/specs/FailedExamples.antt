@@ -1,11 +1,11 @@
 -- What was written where the program failed: the lines of faults, and what a run says of the plan in its input.
-use Rattle.std.specs.Prelude.{◌≡◌, ◌≢◌, ℕ, [], ◌∷◌, codes, Some, Ok}
+use Rattle.std.specs.Prelude.{◌≡◌, ◌≢◌, ℕ, [], ◌∷◌, ◌++◌, codes, Some, Ok}
 use Rattle.plan_rules.specs.declared.state.State.{State}
 use Rattle.plan_text.specs.Names.{Text}
 use Rattle.plan_text.specs.Script.{script_start}
 use Rattle.plan_document.specs.Reading.{IsPlanIn}
 use Rattle.plan_document.specs.declared.resolving.ProgrammedPlan.{ProgrammedPlan}
-use Rattle.plan_app.specs.Apart.{IsLarge}
+use Rattle.plan_app.specs.Apart.{TellsLarge}
 use Rattle.plan_app.specs.Failed.{Fails, FailsBy, IsOfDocument, WroteEnd, WroteExploration, WroteFault}
 use Rattle.plan_app.specs.Failed.{WrotePage, WrotePageText}
 use Rattle.plan_app.specs.Input.{document_in, script_in}
@@ -53,8 +53,10 @@ pub record FailedIsMeant : Type 0 where
       → WrotePage plan script (Some []) (Some new)
       → (opening : State) × (script_start plan.named script ≡ Ok opening)
       × WrotePageText plan opening (Some []) (Some new)
-  -- where `fault large` was written, turns lead to more than 1,000,000 situations, of a group or of all machines
-  pub large : (bytes : Text) → Fails Explore (Some bytes) (Some []) (Some (codes "fault large\n"))
+  -- where `fault large: ` was written, turns lead to more than 1,000,000 situations, of a group or of all machines, and
+  -- the words say which, and how far the exploration came
+  pub large : (bytes rest : Text) → Fails Explore (Some bytes) (Some []) (Some (codes "fault large: " ++ rest))
       → (plan : ProgrammedPlan) × IsPlanIn (document_in bytes) plan
       × (opening : State) × (script_start plan.named (script_in bytes) ≡ Ok opening)
-      × IsLarge plan.named plan.programs opening
+      × (words : Text) × TellsLarge plan.named plan.programs opening words
+      × WroteOf words (codes "fault large: " ++ rest)

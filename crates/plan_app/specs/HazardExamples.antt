@@ -18,7 +18,7 @@ use Rattle.plan_app.specs.Hazards.{verdict_words}
 use Rattle.plan_app.specs.Leads.{opening_by}
 use Rattle.plan_app.specs.declared.hazards.Finding.{Finding}
 use Rattle.plan_app.specs.declared.leads.Lead.{Lead}
-use Rattle.plan_app.specs.declared.leads.Lead.TheVariants.{Unsought, Never, Turns, Large}
+use Rattle.plan_app.specs.declared.leads.Lead.TheVariants.{Unsought, Never, Turns, Unfinished}
 use Rattle.plan_app.specs.GoingExamples.{loaded, press}
 use Rattle.plan_app.specs.WordExamples.{three}
 use Rattle.plan_explorer.specs.Examples.{patient}
@@ -81,7 +81,7 @@ abbrev pub AreTurns : Lead → List ℕ → Type 0
 AreTurns Unsought again = ⊥
 AreTurns Never again = ⊥
 AreTurns (Turns turns) again = turns.items ≡ again
-AreTurns Large again = ⊥
+AreTurns (Unfinished fewer) again = ⊥
 
 abbrev pub press_calls : Text
 press_calls =
@@ -98,9 +98,11 @@ pub record LeadLines : Type 0 where
   pub no_places : (t : PlanTable)
       → lead_text (three t) [] (start_state full_cabin 0) (Possible (lifted free_zone free_zone true false)) Never
       ≡ codes "NOT kept apart: a state permits both; none of the programs leads there from the start\n"
-  pub large : lead_text lift [] (start_state full_cabin 0) (Possible (lifted free_zone free_zone false true)) Large
+  pub large : lead_text lift [] (start_state full_cabin 0) (Possible (lifted free_zone free_zone false true))
+      (Unfinished 12)
       ≡ codes "NOT kept apart: a state permits both; loft full; "
-      ++ codes "calls aren't sought from start 100: more than 1,000,000 situations\n"
+      ++ codes "none of the programs leads there from start 100 in fewer than 12 turns: "
+      ++ codes "more than 1,000,000 situations\n"
   pub at_once : led_text press patient loaded [] ≡ codes "NOT kept apart: start 10 permits both\n"
   pub calls : led_text press patient loaded (0 ∷ 1 ∷ 1 ∷ []) ≡ press_calls
   pub turns : (lead : Lead) → AreTurns lead (0 ∷ 1 ∷ 1 ∷ [])

@@ -25,15 +25,16 @@ use Rattle.plan_app.specs.Going.{way_text}
 use Rattle.plan_app.specs.Leads.{IsLeadOf, opening_by}
 use Rattle.plan_app.specs.Reports.{names_line, report_text}
 use Rattle.plan_app.specs.Rows.{HasEveryRow, rows_line}
+use Rattle.plan_app.specs.Words.{counted}
 use Rattle.plan_header.specs.Words.{machine_name, zone_name}
 use Rattle.plan_picture.specs.Pictures as picture
 use Rattle.plan_picture.specs.Pictures.{IsVerdictOf}
 use Rattle.plan_app.specs.declared.hazards.Finding.{Finding}
-use Rattle.plan_app.specs.declared.hazards.TheConstants.{LARGE, LED, UNKEPT, UNLED, UNSOUGHT}
+use Rattle.plan_app.specs.declared.hazards.TheConstants.{LARGE, LED, UNKEPT, UNLED}
 use Rattle.plan_app.specs.declared.hazards.Report.{Report}
 use Rattle.plan_app.specs.declared.hazards.Report.TheVariants.{Kept, Unkept}
 use Rattle.plan_app.specs.declared.leads.Lead.{Lead}
-use Rattle.plan_app.specs.declared.leads.Lead.TheVariants.{Unsought, Never, Turns, Large}
+use Rattle.plan_app.specs.declared.leads.Lead.TheVariants.{Unsought, Never, Turns, Unfinished}
 
 -- ---- verdicts
 
@@ -107,10 +108,11 @@ abbrev pub unled_line : Named → State → Verdict → Text
 unled_line n begun v =
     verdict_words n v ++ (UNLED.now ++ (start_words n begun ++ codes "\n"))
 
-abbrev pub large_line : Named → State → Verdict → Text
-large_line n begun v =
-    verdict_words n v ++ (UNSOUGHT.now
-    ++ (start_words n begun ++ LARGE.now))
+-- there are more situations than are explored
+abbrev pub large_line : Named → State → Verdict → ℕ → Text
+large_line n begun v turns =
+    verdict_words n v ++ (UNLED.now ++ (start_words n begun ++ (codes " in fewer than "
+    ++ (counted turns (codes "turn") ++ LARGE.now))))
 
 abbrev pub at_once_line : Named → State → Text
 at_once_line n begun = LED.now ++ (start_words n begun ++ codes " permits both\n")
@@ -130,7 +132,7 @@ abbrev pub lead_text : Named → PlanPrograms → State → Verdict → Lead →
 lead_text n ps begun v Unsought = unsought_line n v
 lead_text n ps begun v Never = unled_line n begun v
 lead_text n ps begun v (Turns turns) = led_text n ps begun turns.items
-lead_text n ps begun v Large = large_line n begun v
+lead_text n ps begun v (Unfinished turns) = large_line n begun v turns
 
 -- ---- lines
 

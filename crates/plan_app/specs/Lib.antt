@@ -7,7 +7,6 @@ pub mod Drives
 pub mod ReportLaws
 pub mod Going
 pub mod Starving
-pub mod Sizes
 pub mod Leads
 pub mod Hazards
 pub mod Screens
@@ -20,7 +19,6 @@ pub mod Served
 pub mod Failed
 pub mod WordExamples
 pub mod StarvingExamples
-pub mod SizeExamples
 pub mod LineExamples
 pub mod GoingExamples
 pub mod GoingLaws

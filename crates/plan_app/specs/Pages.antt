@@ -24,13 +24,13 @@ use Rattle.plan_header.specs.Words.{machine_name}
 use Rattle.plan_app.specs.Films.{film_lines}
 use Rattle.plan_app.specs.Going.{after_all, outlook_at, same_outlook}
 use Rattle.plan_app.specs.PageData.{data_of}
-use Rattle.plan_app.specs.Screens.{AreAnswers, TellsFree, outlook_after}
+use Rattle.plan_app.specs.Screens.{AreAnswers, TellsFree, TellsUnfinished, outlook_after}
 use Rattle.plan_app.specs.Words.{counted}
 use Rattle.plan_app.specs.declared.page_head.TheConstants.{PLAN_HEAD}
 use Rattle.plan_app.specs.declared.page_middle.TheConstants.{PLAN_MIDDLE}
 use Rattle.plan_app.specs.declared.page_tail.TheConstants.{PLAN_TAIL}
 use Rattle.plan_app.specs.declared.page.Page.{Page}
-use Rattle.plan_app.specs.declared.page.Page.TheVariants.{Free, Found, Long}
+use Rattle.plan_app.specs.declared.page.Page.TheVariants.{Free, Found, Long, Large}
 
 -- ---- a page
 
@@ -168,14 +168,17 @@ pub record IsLongPage (plan : ProgrammedPlan) (opening : State) : Type 0 where
   pub shows : Shows plan.named plan.programs opening note events
   pub many : max_turns < length events
 
--- what is printed: the page; or that nothing stands still and no machine starves, as without a page; or nothing
+-- what is printed: the page; or that nothing stands still and no machine starves, or that there are more situations than
+-- are explored, as without a page; or nothing
 abbrev pub IsPage : ProgrammedPlan → State → Page → Type 0
 IsPage plan opening (Free text) = TellsFree plan.named plan.programs opening (string_bytes text)
 IsPage plan opening (Found text) = TellsPage plan opening (string_bytes text)
 IsPage plan opening Long = IsLongPage plan opening
+IsPage plan opening (Large words) = TellsUnfinished plan.named plan.programs opening (string_bytes words)
 
 -- it is this text, without a page
 abbrev pub IsFreeText : Text → Page → Type 0
 IsFreeText told (Free text) = string_bytes text ≡ told
 IsFreeText told (Found text) = ⊥
 IsFreeText told Long = ⊥
+IsFreeText told (Large words) = ⊥

@@ -2,8 +2,9 @@
 use Rattle.std.specs.Prelude.{◌≡◌, ◌<◌, ℕ, Bool, true, List, [], ◌∷◌, ◌++◌, filter, length, slice_get, Some, None}
 use Rattle.plan_types.specs.Table.{PlanTable}
 use Rattle.plan_rules.specs.declared.state.State.{State}
-use Rattle.plan_explorer.specs.Explored.{ComeTo}
-use Rattle.plan_explorer.specs.GroupLaws.{AreFewest, LeadThem, NeverStandStill, NoRunOfAllStandsStill}
+use Rattle.plan_explorer.specs.Explored.{ComeTo, ComeToMore}
+use Rattle.plan_explorer.specs.GroupLaws.{AreFewest, LeadThem, NeverStandStill, NeverStandStillBefore}
+use Rattle.plan_explorer.specs.GroupLaws.{NoRunOfAllStandsStill}
 use Rattle.plan_explorer.specs.Groups.{AreGroups, alone, group_in}
 use Rattle.plan_explorer.specs.Programs.{PlanPrograms, program_of}
 use Rattle.plan_explorer.specs.Situations.{first_situation}
@@ -17,7 +18,7 @@ use Rattle.plan_liveness.specs.Progress.{GoesOn}
 use Rattle.plan_text.specs.Named.{Named}
 use Rattle.plan_text.specs.Names.{Text}
 use Rattle.plan_app.specs.Apart.{TellsParts, TellsPart, group_of, is_first, part_starves, part_text}
-use Rattle.plan_app.specs.Screens.{TellsGoingBy, TellsStandstill, free_line, outlook_after, standstill_text}
+use Rattle.plan_app.specs.Screens.{IsUnfinished, TellsGoingBy, TellsStandstill, free_line, outlook_after, standstill_text}
 
 -- ---- machines that go on
 
@@ -62,6 +63,14 @@ pub record StandAmongAll (t : PlanTable) (ps : PlanPrograms) (s : State) (ours :
     pub fewest : AreFewest t ps s ours turns
     pub lasts : (more : List ℕ) → LeadThem t ps s ours (turns ++ more)
 
+-- ---- more situations than are explored
+
+-- all come to more, too; and no turns of all that are fewer than these lead them to a standstill
+pub record IsUnfinishedAmongAll (t : PlanTable) (ps : PlanPrograms) (s : State) (ours : ℕ → Bool) (turns : ℕ)
+    : Type 0 where
+  pub more : ComeToMore t ps s 1000000
+  pub before : NeverStandStillBefore t ps s ours turns
+
 -- ---- what a part tells
 
 -- the text of a group that goes on, and of one that comes to a standstill
@@ -86,6 +95,9 @@ pub record PartsSpeakOfAll (n : Named) (ps : PlanPrograms) (s : State) : Type 0 
   pub standstill : (groups : List ℕ) → AreGroups n.plan (group_in groups) → (first : ℕ) (text : Text)
       → TellsStandstill n (alone (group_of groups first) ps) s text
       → StandstillIsOfAll n ps s (group_of groups first) text
+  pub unfinished : (groups : List ℕ) → AreGroups n.plan (group_in groups) → (first turns : ℕ)
+      → IsUnfinished n (alone (group_of groups first) ps) s turns
+      → IsUnfinishedAmongAll n.plan ps s (group_of groups first) turns
   -- each group has its part, and all is well only if it is in each
   pub parts : (groups : List ℕ) (count : ℕ) (well : Bool) (text : Text) → TellsParts n ps s groups count well text
       → (first : ℕ) → first < count → is_first groups first ≡ true

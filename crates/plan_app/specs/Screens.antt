@@ -3,7 +3,8 @@ use Rattle.std.specs.Prelude.{◌≡◌, ◌⊎◌, ℕ, Bool, true, false, ◌+
 use Rattle.std.specs.Prelude.{slice_get, Some, None}
 use Rattle.plan_types.specs.declared.answer.Event.{Event}
 use Rattle.plan_rules.specs.declared.state.State.{State}
-use Rattle.plan_explorer.specs.Explored.{AreShortest, ComeTo, LeadToStandstill, NoneStandsStill}
+use Rattle.plan_explorer.specs.Explored.{AreShortest, ComeTo, ComeToMore, LeadToStandstill}
+use Rattle.plan_explorer.specs.Explored.{NoneStandsStill, NoneStandsStillBefore}
 use Rattle.plan_explorer.specs.Programs.{PlanPrograms}
 use Rattle.plan_explorer.specs.Runs.{NoRunStandsStill}
 use Rattle.plan_explorer.specs.Situations.{after_turns, first_situation}
@@ -19,7 +20,7 @@ use Rattle.plan_app.specs.Starving.{any_starves}
 use Rattle.plan_app.specs.Words.{counted}
 use Rattle.plan_app.specs.declared.explore.TheConstants.{FREE, SHORTEST, STANDSTILL}
 use Rattle.plan_app.specs.declared.explore.Screen.{Screen}
-use Rattle.plan_app.specs.declared.explore.Screen.TheVariants.{Free, Starving, Standstill}
+use Rattle.plan_app.specs.declared.explore.Screen.TheVariants.{Free, Starving, Standstill, Unfinished}
 
 -- ---- a standstill
 
@@ -101,12 +102,31 @@ TellsFree n ps opening text = TellsGoing n ps opening false text
 abbrev pub TellsStarving : Named → PlanPrograms → State → Text → Type 0
 TellsStarving n ps opening text = TellsGoing n ps opening true text
 
+-- ---- more situations than are explored
+
+-- turns lead to more situations, and no turns that are fewer than these to a standstill
+pub record IsUnfinished (n : Named) (ps : PlanPrograms) (opening : State) (turns : ℕ) : Type 0 where
+  pub more : ComeToMore n.plan ps opening 1000000
+  pub before : NoneStandsStillBefore n.plan ps opening turns
+
+abbrev pub unfinished_words : ℕ → Text
+unfinished_words turns =
+    codes "more than 1,000,000 situations; nothing stands still in fewer than " ++ counted turns (codes "turn")
+
+-- what is said of all machines together
+abbrev pub large_words : ℕ → Text
+large_words turns = codes "large: " ++ unfinished_words turns
+
+abbrev pub TellsUnfinished : Named → PlanPrograms → State → Text → Type 0
+TellsUnfinished n ps opening words = (turns : ℕ) × IsUnfinished n ps opening turns × (words ≡ large_words turns)
+
 -- ---- what is printed is what was found
 
 abbrev pub IsScreenBy : Named → PlanPrograms → State → ByAnswers Bool → ByAnswers Text → Screen → Type 0
 IsScreenBy n ps opening starves going (Free text) = TellsGoingBy n ps opening starves going false (string_bytes text)
 IsScreenBy n ps opening starves going (Starving text) = TellsGoingBy n ps opening starves going true (string_bytes text)
 IsScreenBy n ps opening starves going (Standstill text) = TellsStandstill n ps opening (string_bytes text)
+IsScreenBy n ps opening starves going (Unfinished turns) = IsUnfinished n ps opening turns
 
 abbrev pub IsScreen : Named → PlanPrograms → State → Screen → Type 0
 IsScreen n ps opening screen = IsScreenBy n ps opening (any_starves n) (going_text n ps opening) screen
@@ -129,6 +149,7 @@ ShowsFree situations going starve (Free text) =
 ShowsFree situations going starve (Starving text) =
     (starve ≡ true) × (string_bytes text ≡ free_line situations ++ going)
 ShowsFree situations going starve (Standstill text) = ⊥
+ShowsFree situations going starve (Unfinished turns) = ⊥
 
 abbrev pub ShowsGoingBy : Named → PlanPrograms → State → ByAnswers Bool → ByAnswers Text → ℕ → Screen → Type 0
 ShowsGoingBy n ps opening starves going situations screen =
@@ -144,3 +165,4 @@ ShowsStandstill n ps opening waiting turns (Free text) = ⊥
 ShowsStandstill n ps opening waiting turns (Starving text) = ⊥
 ShowsStandstill n ps opening waiting turns (Standstill text) =
     string_bytes text ≡ standstill_text n ps opening turns waiting
+ShowsStandstill n ps opening waiting turns (Unfinished fewer) = ⊥

@@ -1,6 +1,6 @@
 //! What `plan explore` prints. Groups of machines that share nothing with each other are explored apart, if at least
 //! two of them have programs.
-ghost use Rattle.std.specs.Prelude.{◌≡◌, ◌++◌, ◌<◌, ℕ, List, true, false, ◌&&◌, Some, None, IfOk, IfSome, IfNone, OnOk};
+ghost use Rattle.std.specs.Prelude.{◌≡◌, ◌++◌, ◌<◌, ℕ, List, true, false, ◌&&◌, Some, IfOk, IfErr, OnOk};
 ghost use Rattle.std.specs.Prelude.{length, flat_map, slice_get, string_bytes};
 ghost use Rattle.std.specs.List.{range_with_len};
 ghost use Rattle.plan_types.specs.Below.{any_below};
@@ -8,14 +8,13 @@ ghost use Rattle.plan_explorer.specs.Groups.{alone, group_in, in_group};
 ghost use Rattle.plan_liveness.specs.declared.answer.Liveness.{Liveness};
 ghost use Rattle.plan_app.specs.Apart as spec;
 ghost use Rattle.plan_app.specs.Screens as screens;
-ghost use Rattle.plan_app.specs.Sizes.{ComeToMore};
 
 use crate::acting::Acting;
 use crate::explore::{
-    Screen, machines_of, plates_of, push_situations, screen_of, standstill_screen,
+    MAX_SITUATIONS, Screen, large_words, machines_of, plates_of, push_situations, push_unfinished,
+    screen_of, standstill_screen,
 };
 use crate::going::{FAIRNESS, push_machine, push_plates};
-use crate::size::{MAX_SITUATIONS, is_large};
 use crate::starving::{may_starve, plates_may_rest};
 use plan_document::ProgrammedPlan;
 use plan_explorer::{Explored, Groups, Programs, explore, groups_of};
@@ -32,8 +31,9 @@ pub enum Exploration {
     Well(String),
     /// Some machines stand still, or one may starve, or plates may rest.
     Unwell(String),
-    /// Turns lead to more situations than are explored.
-    Large,
+    /// Turns lead to more situations than are explored. The words of the fault say how far the exploration came, and of
+    /// which machines.
+    Large(String),
 }
 
 /// What `plan explore` prints of a plan and its programs, which begin at an opening: of each group apart, if at least
@@ -145,19 +145,11 @@ fn all_of(alloc: Global, plan: &Acting, opening: &State) -> Result<Exploration, 
     ensures { IfOk result (λ found. (groups : List ℕ) → spec.IsExplorationBy false
         plan.now.named.now plan.now.programs.now opening.now groups found) }
 {
-    if is_large(
-        alloc,
-        plan.named.plan(),
-        plan.programs,
-        opening,
-        MAX_SITUATIONS,
-    )? {
-        return Ok(Exploration::Large);
-    }
     match screen_of(alloc, plan, opening)? {
         Screen::Free(text) => Ok(Exploration::Well(text)),
         Screen::Starving(text) => Ok(Exploration::Unwell(text)),
         Screen::Standstill(text) => Ok(Exploration::Unwell(text)),
+        Screen::Unfinished(turns) => Ok(Exploration::Large(large_words(alloc, turns)?)),
     }
 }
 
@@ -178,10 +170,10 @@ fn parts_of(
     'machines: for machine in 0..plan.programs.count() {
         if is_first(groups, machine) {
             match push_part(&mut text, alloc, plan, opening, groups, machine)? {
-                Some(part) => {
+                Ok(part) => {
                     well = both(well, part);
                 }
-                None => return Ok(Exploration::Large),
+                Err(turns) => return large_part(alloc, plan, groups, machine, turns),
             }
         }
     }
@@ -199,8 +191,26 @@ fn both(well: bool, part: bool) -> bool
     well && part
 }
 
-/// Adds the part of the group of a machine. Says whether all is well in it; nothing if turns lead to more situations
-/// than are explored.
+/// The words of the fault of a group that comes to more situations than are explored.
+fn large_part(
+    alloc: Global,
+    plan: &Acting,
+    groups: &Groups,
+    first: u8,
+    turns: usize,
+) -> Result<Exploration, AllocError>
+    requires { first < 15 }
+    ensures { IfOk result (spec.IsLargePart plan.now.named.now groups.now first (length plan.now.programs.now) turns) }
+{
+    let mut words = String::from_str(alloc, "large: ")?;
+    push_names(&mut words, plan, groups, first)?;
+    words.push_str(": ")?;
+    push_unfinished(&mut words, turns)?;
+    Ok(Exploration::Large(words))
+}
+
+/// Adds the part of the group of a machine. Says whether all is well in it; or how far the exploration came, if turns
+/// lead to more situations than are explored.
 fn push_part(
     text: &mut String,
     alloc: Global,
@@ -208,33 +218,33 @@ fn push_part(
     opening: &State,
     groups: &Groups,
     first: u8,
-) -> Result<Option<bool>, AllocError>
+) -> Result<Result<bool, usize>, AllocError>
     requires { first < 15 }
-    ensures told { IfOk result (λ found. IfSome found (λ well. spec.AddsPart plan.now.named.now
+    ensures told { IfOk result (λ found. IfOk found (λ well. spec.AddsPart plan.now.named.now
         plan.now.programs.now opening.now groups.now first well
         (string_bytes text.old) (string_bytes text.new))) }
-    ensures large { IfOk result (λ found. IfNone found (ComeToMore plan.now.named.now.plan
-        (alone (spec.group_of groups.now first) plan.now.programs.now) opening.now 1000000)) }
+    ensures large { IfOk result (λ found. IfErr found (screens.IsUnfinished plan.now.named.now
+        (alone (spec.group_of groups.now first) plan.now.programs.now) opening.now)) }
 {
     match part_of(alloc, plan, opening, groups, first)? {
-        Some((well, found)) => {
+        Ok((well, found)) => {
             push_head(text, plan, groups, first)?;
             text.push_str(found.as_str())?;
-            Ok(Some(well))
+            Ok(Ok(well))
         }
-        None => Ok(None),
+        Err(turns) => Ok(Err(turns)),
     }
 }
 
-/// What is told of the group of a machine alone, and whether all is well; nothing if turns lead to more situations than
-/// are explored.
+/// Whether all is well in the group of a machine alone, and what is told of it; or how far the exploration came, if turns
+/// lead to more situations than are explored.
 fn part_of(
     alloc: Global,
     plan: &Acting,
     opening: &State,
     groups: &Groups,
     first: u8,
-) -> Result<Option<(bool, String)>, AllocError>
+) -> Result<Result<(bool, String), usize>, AllocError>
     requires { first < 15 }
     ensures { IfOk result (spec.IsPart plan.now.named.now
         (alone (spec.group_of groups.now first) plan.now.programs.now) opening.now
@@ -256,33 +266,24 @@ fn told_alone(
     opening: &State,
     groups: &Groups,
     first: u8,
-) -> Result<Option<(bool, String)>, AllocError>
+) -> Result<Result<(bool, String), usize>, AllocError>
     requires { first < 15 }
     ensures { IfOk result (spec.IsPart plan.now.named.now plan.now.programs.now opening.now
         (spec.group_of groups.now first)) }
 {
-    if is_large(
-        alloc,
-        plan.named.plan(),
-        plan.programs,
-        opening,
-        MAX_SITUATIONS,
-    )? {
-        return Ok(None);
-    }
     let screen = part_screen(alloc, plan, opening, groups, first)?;
-    Ok(Some(told_by(screen)))
+    Ok(told_by(screen))
 }
 
-/// Whether all is well by a screen, and its text.
-fn told_by(screen: Screen) -> (bool, String)
-    ensures well { result.0 ≡ spec.is_well screen }
-    ensures text { string_bytes result.1 ≡ spec.text_of screen }
+/// Whether all is well by a screen, and its text; or how far the exploration came.
+fn told_by(screen: Screen) -> Result<(bool, String), usize>
+    ensures { result ≡ spec.told_by screen }
 {
     match screen {
-        Screen::Free(text) => (true, text),
-        Screen::Starving(text) => (false, text),
-        Screen::Standstill(text) => (false, text),
+        Screen::Free(text) => Ok((true, text)),
+        Screen::Starving(text) => Ok((false, text)),
+        Screen::Standstill(text) => Ok((false, text)),
+        Screen::Unfinished(turns) => Err(turns),
     }
 }
 
@@ -365,9 +366,11 @@ fn part_screen(
     ensures { IfOk result (spec.IsPartScreen plan.now.named.now plan.now.programs.now opening.now
         (spec.group_of groups.now first)) }
 {
-    match explore(alloc, plan.named.plan(), opening, plan.programs)? {
+    let named = plan.named.plan();
+    match explore(alloc, named, opening, plan.programs, MAX_SITUATIONS)? {
         Explored::Free(situations) => part_free(alloc, plan, opening, groups, first, situations),
         Explored::Standstill(turns) => standstill_screen(alloc, plan, opening, turns.as_slice()),
+        Explored::Unfinished(turns) => Ok(Screen::Unfinished(turns)),
     }
 }
 

@@ -23,6 +23,9 @@ use std::alloc::{AllocError, Global};
 /// What is said where nothing stands still.
 const FREE: &str = "no standstill in any order of turns before the last stamp: ";
 
+/// The most situations that are explored.
+pub(crate) const MAX_SITUATIONS: usize = 1_000_000;
+
 /// What is said of a standstill, before the number of turns that lead to it.
 const STANDSTILL: &str = "a standstill after ";
 
@@ -38,6 +41,8 @@ pub enum Screen {
     Starving(String),
     /// Some order leads to a standstill.
     Standstill(String),
+    /// Turns lead to more situations than are explored, and none that are fewer than these to a standstill.
+    Unfinished(usize),
 }
 
 /// What `plan explore` prints of a plan and its programs, which begin at an opening. An error says that memory ran out.
@@ -45,9 +50,11 @@ pub fn screen_of(alloc: Global, plan: &Acting, opening: &State) -> Result<Screen
     ensures { IfOk result
         (λ screen. spec.IsScreen plan.now.named.now plan.now.programs.now opening.now screen) }
 {
-    match explore(alloc, plan.named.plan(), opening, plan.programs)? {
+    let named = plan.named.plan();
+    match explore(alloc, named, opening, plan.programs, MAX_SITUATIONS)? {
         Explored::Free(situations) => free_screen(alloc, plan, opening, situations),
-        Explored::Standstill(turns) => { standstill_screen(alloc, plan, opening, turns.as_slice()) }
+        Explored::Standstill(turns) => standstill_screen(alloc, plan, opening, turns.as_slice()),
+        Explored::Unfinished(turns) => Ok(Screen::Unfinished(turns)),
     }
 }
 
@@ -246,4 +253,21 @@ fn push_turns(
 {
     text.push_str("turns:\n")?;
     push_way(text, plan, opening, turns)
+}
+
+/// The words of the fault of more situations than are explored.
+pub(crate) fn large_words(alloc: Global, turns: usize) -> Result<String, AllocError>
+    ensures { IfOk result (λ words. string_bytes words ≡ spec.large_words turns) }
+{
+    let mut words = String::from_str(alloc, "large: ")?;
+    push_unfinished(&mut words, turns)?;
+    Ok(words)
+}
+
+/// Adds that there are more situations than are explored, and how far the exploration came.
+pub(crate) fn push_unfinished(text: &mut String, turns: usize) -> Result<(), AllocError>
+    ensures { OnOk result (string_bytes text.new ≡ string_bytes text.old ++ spec.unfinished_words turns) }
+{
+    text.push_str("more than 1,000,000 situations; nothing stands still in fewer than ")?;
+    push_counted(text, turns, "turn")
 }

@@ -13,6 +13,7 @@ use crate::going::push_way;
 use crate::leads::{Lead, is_never, lead_of, opening_by};
 use crate::report::{push_names, push_report};
 use crate::rows::{has_every_row, push_rows};
+use crate::words::push_counted;
 use plan_document::ProgrammedPlan;
 use plan_drives::Undriven;
 use plan_header::motor_at;
@@ -33,10 +34,7 @@ const LED: &str = "NOT kept apart: ";
 /// What is said of such a state to which no turns lead, before the start.
 const UNLED: &str = "; none of the programs leads there from ";
 
-/// What is said of such a state if no turns are sought, before the start.
-const UNSOUGHT: &str = "; calls aren't sought from ";
-
-/// What stands after the start: why.
+/// What stands after the number of turns: why no more were sought.
 const LARGE: &str = ": more than 1,000,000 situations\n";
 
 /// What is shown of a hazard.
@@ -305,7 +303,7 @@ fn push_lead(
         Lead::Unsought => push_unsought(text, &plan.named, verdict),
         Lead::Never => push_unled(text, &plan.named, opening, verdict),
         Lead::Turns(turns) => push_led(text, plan, opening, turns.as_slice()),
-        Lead::Large => push_large(text, &plan.named, opening, verdict),
+        Lead::Unfinished(turns) => push_large(text, &plan.named, opening, verdict, *turns),
     }
 }
 
@@ -333,19 +331,23 @@ fn push_unled(
     text.push_str("\n")
 }
 
-/// Adds the state that permits both, and that there are too many situations to seek turns that lead there.
+/// Adds the state that permits both, and that no program leads there in fewer turns than these, since there are more
+/// situations than are explored.
 fn push_large(
     text: &mut String,
     named: &NamedPlan,
     opening: &State,
     verdict: Verdict,
+    turns: usize,
 ) -> Result<(), AllocError>
     ensures { OnOk result (string_bytes text.new ≡ string_bytes text.old
-        ++ spec.large_line named.now opening.now verdict) }
+        ++ spec.large_line named.now opening.now verdict turns) }
 {
     push_shown(text, named, verdict)?;
-    text.push_str(UNSOUGHT)?;
+    text.push_str(UNLED)?;
     push_start(text, named, opening)?;
+    text.push_str(" in fewer than ")?;
+    push_counted(text, turns, "turn")?;
     text.push_str(LARGE)
 }
 

@@ -25,7 +25,6 @@ ghost use Rattle.plan_app.specs.RunLaws.{RunsAreReplayed, WritingsAreReplayed};
 ghost use Rattle.plan_app.specs.ScreenExamples.{AnswersAreMeant, KindsOfScreens, ScreensAreMeant};
 ghost use Rattle.plan_app.specs.ScreenExamples.{ServedIsMeant, StandstillLines};
 ghost use Rattle.plan_app.specs.SimulatedExamples.{SimulationsAreMet};
-ghost use Rattle.plan_app.specs.SizeExamples.{SizesAreCounted};
 ghost use Rattle.plan_app.specs.StarvingExamples.{StarvingIsKnown};
 ghost use Rattle.plan_app.specs.WordExamples.{PlatesAreTold, WordsAreTold};
 
@@ -206,11 +205,6 @@ pub fn fault_lines_are_met()
 /// Of a run that failed: what was written is a fault's line, or what was asked for, by the plan of the input.
 pub fn failed_is_meant()
     ensures { FailedIsMeant }
-{}
-
-/// Examples: how many situations small programs come to, by what `is_large` ensures.
-pub fn sizes_are_counted()
-    ensures { SizesAreCounted }
 {}
 
 /// Examples: what simulated sensors show, turn by turn.

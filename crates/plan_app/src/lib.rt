@@ -25,6 +25,5 @@ pub mod run_text;
 pub mod serve;
 mod serve_page;
 pub mod simulated;
-pub mod size;
 mod starving;
 mod words;

@@ -12,7 +12,7 @@ ghost use Rattle.plan_app.specs.Pages as spec;
 ghost use Rattle.plan_app.specs.Screens as screens;
 
 use crate::acting::Acting;
-use crate::explore::{machines_of, plates_of, push_free};
+use crate::explore::{MAX_SITUATIONS, large_words, machines_of, plates_of, push_free};
 use crate::film::push_film;
 use crate::going::{event_of, outlook_of};
 use crate::page_data::push_data;
@@ -46,6 +46,8 @@ pub enum Page {
     Found(String),
     /// Such an order has more turns than a page shows.
     Long,
+    /// Turns lead to more situations than are explored: the words of the fault, which say how far the exploration came.
+    Large(String),
 }
 
 /// What a page shows.
@@ -83,9 +85,11 @@ pub fn page_of(alloc: Global, plan: &ProgrammedPlan, opening: &State) -> Result<
     requires { IsStartOf plan.now.named opening.now }
     ensures { IfOk result (λ page. spec.IsPage plan.now opening.now page) }
 {
-    match explore(alloc, plan.named.plan(), opening, &plan.programs)? {
+    let named = plan.named.plan();
+    match explore(alloc, named, opening, &plan.programs, MAX_SITUATIONS)? {
         Explored::Free(situations) => going_page(alloc, plan, opening, situations),
         Explored::Standstill(turns) => still_page(alloc, plan, opening, turns.as_slice()),
+        Explored::Unfinished(turns) => Ok(Page::Large(large_words(alloc, turns)?)),
     }
 }
 

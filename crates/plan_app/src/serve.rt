@@ -416,7 +416,7 @@ fn explore_from<W: Write>(
     match exploration_of(alloc, plan, opening) {
         Ok(Exploration::Well(text)) => print(writer, text.as_bytes()),
         Ok(Exploration::Unwell(text)) => print_warning(writer, text.as_str()),
-        Ok(Exploration::Large) => fail(writer, "large"),
+        Ok(Exploration::Large(words)) => fail(writer, words.as_str()),
         Err(AllocError) => fail(writer, "memory"),
     }
 }

@@ -1,7 +1,7 @@
 //! Prints the page of what was explored, or of a run.
 ghost use Rattle.std.specs.Prelude.{◌≡◌, ◌≢◌, ◌⊎◌};
 ghost use Rattle.plan_text.specs.HistoryLaws.{IsStartOf};
-ghost use Rattle.plan_app.specs.Failed.{WroteFound, WrotePage, WrotePageFrom, WroteUnread};
+ghost use Rattle.plan_app.specs.Failed.{WrotePage, WrotePageFrom, WroteUnread};
 ghost use Rattle.plan_app.specs.Failed.{WroteRunPage, WroteRunPageFrom};
 ghost use Rattle.plan_app.specs.Served.{FindsFree, WritesFree, WritesRunPage, WritesRunPageFrom};
 
@@ -9,7 +9,6 @@ use crate::page::{Page, page_of};
 use crate::run::{RunFault, Told};
 use crate::run_page::run_and_show;
 use crate::serve::{fail_to_read, print_warning, refuse_start};
-use crate::size::{MAX_SITUATIONS, is_large};
 use plan_document::ProgrammedPlan;
 use plan_rules::State;
 use plan_text::laws::histories_are_answered;
@@ -57,37 +56,11 @@ fn page_from<W: Write>(
         WroteUnread (W.contents writer.old) (W.contents writer.new)
         ⊎ WrotePageFrom plan.now opening.now (W.contents writer.old) (W.contents writer.new) }
 {
-    match is_large(
-        alloc,
-        plan.named.plan(),
-        &plan.programs,
-        opening,
-        MAX_SITUATIONS,
-    ) {
-        Ok(false) => print_page(alloc, plan, opening, writer),
-        Ok(true) => fail(writer, "large"),
-        Err(AllocError) => fail(writer, "memory"),
-    }
-}
-
-fn print_page<W: Write>(
-    alloc: Global,
-    plan: &ProgrammedPlan,
-    opening: &State,
-    writer: &mut W,
-) -> Exit
-    requires { IsStartOf plan.now.named opening.now }
-    ensures status { result ≢ Exit.Refused }
-    ensures free { result ≡ Exit.Well → WritesFree plan.now.named plan.now.programs opening.now
-        (W.contents writer.old) (W.contents writer.new) }
-    ensures failed { result ≡ Exit.Failed →
-        WroteUnread (W.contents writer.old) (W.contents writer.new)
-        ⊎ WroteFound plan.now opening.now (W.contents writer.old) (W.contents writer.new) }
-{
     match page_of(alloc, plan, opening) {
         Ok(Page::Free(text)) => print(writer, text.as_bytes()),
         Ok(Page::Found(text)) => print_warning(writer, text.as_str()),
         Ok(Page::Long) => fail(writer, "long"),
+        Ok(Page::Large(words)) => fail(writer, words.as_str()),
         Err(AllocError) => fail(writer, "memory"),
     }
 }

@@ -213,7 +213,7 @@ host = \"m#\"
 guest = \"hub\"
 @start,
 =>
-fault large
+fault large: more than 1,000,000 situations; nothing stands still in fewer than 20 turns
 ";
 
 /// A comment fills the document.

@@ -1,29 +1,33 @@
-//! How many situations are too many to be explored.
+//! How far an exploration comes that has a limit of situations.
 
 use super::answered_examples::PRESS;
 use super::explorations::{opening_with, plan_in};
-use plan_app::size::is_large;
-use plan_document::ProgrammedPlan;
+use plan_explorer::{Explored, explore};
 use std::alloc::Global;
 
-/// Whether turns of a plan lead to more situations than this number. `None` if memory runs out.
-fn has_more(alloc: Global, plan: &ProgrammedPlan, places: [bool; 2], most: usize) -> Option<bool> {
-    let opening = opening_with(places);
-    is_large(alloc, plan.named.plan(), &plan.programs, &opening, most).ok()
-}
-
-/// The same of the press.
-fn is_larger(alloc: Global, places: [bool; 2], most: usize) -> Option<bool> {
+/// What an exploration of the press finds, with plates at these places, up to this number of situations.
+fn explored(alloc: Global, places: [bool; 2], most: usize) -> Option<Explored> {
     let plan = plan_in(alloc, PRESS)?;
-    has_more(alloc, &plan, places, most)
+    let opening = opening_with(places);
+    explore(alloc, plan.named.plan(), &opening, &plan.programs, most).ok()
 }
 
-// With two plates the press comes to a standstill, which is the third situation.
+/// In fewer turns than this nothing stands still; `None` if there aren't more situations.
+fn turns_within(alloc: Global, places: [bool; 2], most: usize) -> Option<usize> {
+    match explored(alloc, places, most)? {
+        Explored::Unfinished(turns) => Some(turns),
+        Explored::Free(_) | Explored::Standstill(_) => None,
+    }
+}
+
+// With one plate the press comes to 15 situations. With two it comes to a standstill, which is the third situation.
 #[test]
-fn tells_large_plants(rt: HostRuntime) {
+fn explorations_stop_past_their_limit(rt: HostRuntime) {
     let (one, two) = ([true, false], [true, true]);
-    assert!(rt; is_larger(rt.alloc(), one, 14) == Some(true));
-    assert!(rt; is_larger(rt.alloc(), one, 15) == Some(false));
-    assert!(rt; is_larger(rt.alloc(), two, 2) == Some(true));
-    assert!(rt; is_larger(rt.alloc(), two, 3) == Some(false));
+    let alloc = rt.alloc();
+    assert!(rt; matches!(explored(alloc, one, 15), Some(Explored::Free(15))));
+    assert!(rt; turns_within(alloc, one, 14).is_some());
+    assert!(rt; turns_within(alloc, one, 1) == Some(1));
+    assert!(rt; turns_within(alloc, two, 2).is_some());
+    assert!(rt; matches!(explored(alloc, two, 3), Some(Explored::Standstill(_))));
 }

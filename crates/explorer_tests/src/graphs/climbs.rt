@@ -1,7 +1,7 @@
-//! Searches of climbs: the fewest turns to a number, or how many numbers can be reached.
+//! Searches of climbs: the fewest turns to a number, or how many numbers can be reached, or how far a search came.
 
 use crate::graphs::Climb;
-use graph_search::{Found, search};
+use graph_search::{Found, FoundWithin, search, search_within};
 
 // The turns that are found, as a text; or the number of nodes.
 fn found_is(rt: HostRuntime, start: u8, goal: u8, wanted: &[usize]) -> bool {
@@ -30,4 +30,27 @@ fn the_nodes_that_can_be_reached_are_counted(rt: HostRuntime) {
     assert!(rt; reaches(rt, 19, 39, 3));
     assert!(rt; reaches(rt, 20, 39, 1));
     assert!(rt; reaches(rt, 0, 21, 30));
+}
+
+// With a limit of nodes: how many turns lead to the first number at which the search hasn't looked.
+fn stops_at(rt: HostRuntime, goal: u8, most: usize, wanted: usize) -> bool {
+    matches!(
+        search_within(rt.alloc(), &Climb { goal }, 1, most),
+        Ok(FoundWithin::Unfinished(turns)) if turns == wanted
+    )
+}
+
+// From 1 turns lead to 2, then to 3 and 4, to 6, 5 and 8, and to 7, 12 and others. The goal 39 isn't reached.
+#[test]
+fn a_search_stops_past_its_limit(rt: HostRuntime) {
+    assert!(rt; stops_at(rt, 39, 0, 0));
+    assert!(rt; stops_at(rt, 39, 1, 1));
+    assert!(rt; stops_at(rt, 39, 5, 3));
+    assert!(rt; stops_at(rt, 39, 28, 6));
+    assert!(rt; stops_at(rt, 1, 0, 0));
+    assert!(rt; stops_at(rt, 10, 9, 3));
+    let all = search_within(rt.alloc(), &Climb { goal: 39 }, 1, 29);
+    assert!(rt; matches!(all, Ok(FoundWithin::Nothing(29))));
+    let at_once = search_within(rt.alloc(), &Climb { goal: 1 }, 1, 1);
+    assert!(rt; matches!(at_once, Ok(FoundWithin::Turns(turns)) if turns.is_empty()));
 }

@@ -93,9 +93,10 @@ fn situations(
     programs: &Programs,
     opening: &State,
 ) -> Result<usize, Fail> {
-    match explore(alloc, plan, opening, programs)? {
+    match explore(alloc, plan, opening, programs, usize::MAX)? {
         Explored::Free(situations) => Ok(situations),
         Explored::Standstill(_) => Err(Fail::from("a standstill")),
+        Explored::Unfinished(_) => Err(Fail::from("no limit")),
     }
 }
 
@@ -143,10 +144,10 @@ fn presses_are_explored_apart(rt: HostRuntime) -> Result<(), Fail> {
         let group = 2 * press + 1;
         assert!(rt; groups[loader] == group && groups[loader + 1] == group);
         let Explored::Free(alone) = explore_group(
-            alloc, &plan, &opening, &programs, &groups, group,
+            alloc, &plan, &opening, &programs, &groups, group, 15,
         )?
         else {
-            return Err(Fail::from("a standstill"));
+            return Err(Fail::from("a standstill, or more situations"));
         };
         assert!(rt; alone == 15);
         let programs = programs.alone(alloc, &groups, group)?;

@@ -151,7 +151,7 @@ fn push_way(turns: &mut Vec<u8>, steps: usize) -> Result<(), AllocError> {
 /// Whether these turns are the fewest that lead to the end, and they are taken.
 fn are_fewest(alloc: Global, plan: &Plan, programs: &Programs, way: &[u8]) -> bool {
     let opening = opening();
-    let is_found = match explore(alloc, plan, &opening, programs) {
+    let is_found = match explore(alloc, plan, &opening, programs, usize::MAX) {
         Ok(Explored::Standstill(turns)) => turns.as_slice() == way,
         _ => false,
     };
@@ -212,7 +212,7 @@ fn one_of_fifteen_machines_goes_on(rt: HostRuntime) {
     let programs = programs(rt.alloc(), 9, &last).expect(&rt, "programs");
     // before the turns of each step and at the end, with the last machine at either of its steps
     let wanted = 2 * (7 * 9 + 2);
-    let is_found = match explore(rt.alloc(), &plan, &opening(), &programs) {
+    let is_found = match explore(rt.alloc(), &plan, &opening(), &programs, usize::MAX) {
         Ok(Explored::Free(situations)) => situations == wanted,
         _ => false,
     };

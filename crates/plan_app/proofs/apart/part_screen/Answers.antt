@@ -1,7 +1,7 @@
 use Rattle.std.proofs.Common.{subst}
 use Rattle.plan_explorer.specs.Explored.{AreShortest, IfStandstill, LeadToStandstill}
 use Rattle.plan_app.specs.Apart.{group_of, part_starves, part_text}
-use Rattle.plan_app.proofs.Screens.{free_is_found, standstill_is_found}
+use Rattle.plan_app.proofs.Screens.{free_is_found, standstill_is_found, unfinished_is_found}
 use Rattle.plan_app.proofs.apart.part_screen.Goals as goal
 
 pub returns-in-Free : goal.returns-in-Free
@@ -11,13 +11,13 @@ returns-in-Free c =
     let ps = c.args.plan.now.programs.now in
     let opening = c.args.opening.now in
     let ours = group_of c.args.groups.now c.args.first in
-    free_is_found n ps opening (part_starves ours n ps) (part_text ours n ps opening) c.plan.result.now _
-    c.in-Free.situations c.part_free.result c.plan.ensures c.in-Free.is e.free e.runs e.situations c.part_free.ensures
+    free_is_found n ps opening (part_starves ours n ps) (part_text ours n ps opening) c.plan-named.result.now _
+    c.in-Free.situations c.part_free.result c.plan-named.ensures c.in-Free.is e.free e.runs e.situations c.part_free.ensures
 
 pub returns-in-Standstill : goal.returns-in-Standstill
 returns-in-Standstill c =
     let e = c.in_ok-situations.ensures in
-    let t = c.plan.result.now in
+    let t = c.plan-named.result.now in
     let n = c.args.plan.now.named.now in
     let ps = c.args.plan.now.programs.now in
     let opening = c.args.opening.now in
@@ -25,5 +25,11 @@ returns-in-Standstill c =
     let lead = subst (λ f. IfStandstill f (LeadToStandstill t ps opening)) c.in-Standstill.is e.standstill in
     let shortest = subst (λ f. IfStandstill f (AreShortest t ps opening)) c.in-Standstill.is e.shortest in
     standstill_is_found n ps opening (part_starves ours n ps) (part_text ours n ps opening) t c.in-Standstill.turns.items
-    c.as_slice.result.now c.standstill_screen.result c.plan.ensures c.as_slice.ensures.value lead shortest
+    c.as_slice.result.now c.standstill_screen.result c.plan-named.ensures c.as_slice.ensures.value lead shortest
     c.standstill_screen.ensures
+
+pub returns-in-Unfinished : goal.returns-in-Unfinished
+returns-in-Unfinished c =
+    let e = c.in_ok-situations.ensures in
+    unfinished_is_found c.args.plan.now.named.now c.args.plan.now.programs.now c.args.opening.now c.plan-named.result.now _
+    c.in-Unfinished.turns c.plan-named.ensures c.in-Unfinished.is e.more e.unfinished

@@ -1,8 +1,8 @@
 use Rattle.std.proofs.Common.{◌+◌, ◌∙◌, string_bytes, subst, sym}
-use Rattle.std.proofs.Common.{IfSome}
+use Rattle.std.proofs.Common.{IfOk, IfErr}
 use Rattle.plan_app.specs.Apart.{AddsPart, TellsParts}
-use Rattle.plan_app.proofs.GroupsTold.{next_part, no_part}
-use Rattle.plan_app.proofs.apart.parts_of.Goals.{then-is_first+in_ok-part+in-Some, else-is_first}
+use Rattle.plan_app.proofs.GroupsTold.{large_is_told, next_part, no_part}
+use Rattle.plan_app.proofs.apart.parts_of.Goals.{then-is_first+in_ok-part+in-Ok, else-is_first}
 use Rattle.plan_app.proofs.apart.parts_of.Goals as goal
 
 pub machines-preserved : goal.machines-preserved
@@ -14,16 +14,19 @@ machines-preserved c =
     let m = c.machines.machine in
     let before = string_bytes c.machines.text in
     elim c.if-is_first.branch [
-      | then-is_first+in_ok-part+in-Some w ↦
+      | then-is_first+in_ok-part+in-Ok w ↦
           (let after = string_bytes w.push_part.new.text in
-          let adds : AddsPart n ps s groups m w.in-Some.part before after =
-          subst (λ found. IfSome found (λ well. AddsPart n ps s groups m well before after)) w.in-Some.is w.in_ok-part.ensures.told in
+          let adds : AddsPart n ps s groups m w.in-Ok.part before after =
+          subst (λ found. IfOk found (λ well. AddsPart n ps s groups m well before after)) w.in-Ok.is w.in_ok-part.ensures.told in
           subst (λ text. TellsParts n ps s groups (m + 1) c.if-is_first.well (string_bytes text)) (sym w.text-is)
           (subst (λ well. TellsParts n ps s groups (m + 1) well after) (sym (w.well-is ∙ w.both-well.ensures))
-          (next_part n ps s groups m c.machines.well w.in-Some.part before after (sym c.is_first.ensures ∙ w.if-is_first.true)
+          (next_part n ps s groups m c.machines.well w.in-Ok.part before after (sym c.is_first.ensures ∙ w.if-is_first.true)
           c.machines.invariant adds)))
       | else-is_first w ↦
           subst (λ text. TellsParts n ps s groups (m + 1) c.if-is_first.well (string_bytes text)) (sym w.text-is)
           (subst (λ well. TellsParts n ps s groups (m + 1) well before) (sym w.well-is)
           (no_part n ps s groups m c.machines.well before (sym c.is_first.ensures ∙ w.if-is_first.false) c.machines.invariant))
     ]
+
+pub returns-then-is_first-in-Err : goal.returns-then-is_first-in-Err
+returns-then-is_first-in-Err c = ?

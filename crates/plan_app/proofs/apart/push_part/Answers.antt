@@ -4,18 +4,18 @@ use Rattle.plan_explorer.specs.Groups.{alone}
 use Rattle.plan_app.specs.Apart.{IsPart, TellsAlone, group_of, part_head}
 use Rattle.plan_app.proofs.apart.push_part.Goals as goal
 
-pub returns-in_ok-push_str-in-Some-clause-told : goal.returns-in_ok-push_str-in-Some-clause-told
-returns-in_ok-push_str-in-Some-clause-told c =
+pub returns-in_ok-push_str-in-Ok-clause-told : goal.returns-in_ok-push_str-in-Ok-clause-told
+returns-in_ok-push_str-in-Ok-clause-told c =
     let n = c.args.plan.now.named.now in
     let ours = group_of c.args.groups.now c.args.first in
     let qs = alone ours c.args.plan.now.programs.now in
-    let found = string_bytes c.in-Some.found in
+    let found = string_bytes c.in-Ok.found in
     let head = part_head n c.args.groups.now c.args.first (length c.args.plan.now.programs.now) in
-    let said : TellsAlone n qs c.args.opening.now ours c.in-Some.well found =
-    subst (IsPart n qs c.args.opening.now ours) c.in-Some.is c.in_ok-well.ensures in (
+    let said : TellsAlone n qs c.args.opening.now ours c.in-Ok.well found =
+    subst (IsPart n qs c.args.opening.now ours) c.in-Ok.is c.in_ok-well.ensures in (
       head ++ found,
       (found, said, refl),
-      c.in_ok-push_str-in-Some.ensures.bytes
-          ∙ ap₂ (λ a b. a ++ b) c.in_ok-push_head-in-Some.ensures c.as_str.ensures.value
+      c.in_ok-push_str-in-Ok.ensures.bytes
+          ∙ ap₂ (λ a b. a ++ b) c.in_ok-push_head-in-Ok.ensures c.as_str.ensures.value
           ∙ append_assoc (string_bytes c.args.text.now) head found,
     )

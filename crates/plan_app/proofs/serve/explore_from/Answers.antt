@@ -1,6 +1,7 @@
-use Rattle.std.proofs.Common.{true, false, string_bytes, inr, subst}
+use Rattle.std.proofs.Common.{true, false, string_bytes, inl, inr, subst}
 use Rattle.text_io.specs.Output.{WrotePrefix}
-use Rattle.plan_app.specs.Apart.{IsExploration, TellsExploration}
+use Rattle.plan_app.specs.Apart.{IsExploration, TellsExploration, TellsLarge}
+use Rattle.plan_app.specs.Failed.{WroteFault}
 use Rattle.plan_app.proofs.Failures.{exploration_written, printed_prefix}
 use Rattle.plan_app.proofs.serve.explore_from.Goals as goal
 
@@ -30,3 +31,14 @@ returns-in-Ok-Unwell-clause-failed g c = λ failed.
     let wrote : WrotePrefix old new text =
     subst (λ t. WrotePrefix old new t) c.as_str.ensures.value c.print_warning.ensures.line in
     inr (inr (exploration_written plan opening false text old new tells wrote))
+
+pub returns-in-Ok-Large-clause-failed : goal.returns-in-Ok-Large-clause-failed
+returns-in-Ok-Large-clause-failed g c = λ failed.
+    let plan = c.args.plan.now in
+    let opening = c.args.opening.now in
+    let old = g.W.Write.contents c.args.writer.now in
+    let new = g.W.Write.contents c.fail.new.writer in
+    let words = string_bytes c.in-Ok-Large.words in
+    let tells : TellsLarge plan.named plan.programs opening words =
+    subst (IsExploration plan.named plan.programs opening) c.in-Ok-Large.field-0-is c.in-Ok-Large.ensures in
+    inr (inl (words, tells, subst (λ w. WroteFault w old new) c.as_str-in-Ok-Large.ensures.value c.fail.ensures.line))
