@@ -18,12 +18,24 @@ rows-apart s i j l same =
     subst (λ m. at.row s i + 20 ≤ at.lane s m + 44 + 20 * at.owned s m j) same
     (let more = one_counted (at.owner_of s) (at.owner_of s i) i j l refl in omega (arith, more))
 
+arrows-of-rows : (s : Scene) (i j : ℕ) → i < j → at.owner_of s i ≡ at.owner_of s j
+    → at.sink_line s i + 12 ≤ at.source_line s j
+arrows-of-rows s i j l same = let apart = rows-apart s i j l same in omega (arith, apart)
+
+arrows-above-end : (s : Scene) (i : ℕ) → i < at.thing_count s
+    → at.sink_line s i + 14 ≤ at.lane s (at.owner_of s i) + at.lane_height s (at.owner_of s i)
+arrows-above-end s i l = let above = above-end s i l in omega (arith, above)
+
 pub all-is-apart : AllIsApart
 all-is-apart = record {
   lanes = next-lane;
   below_name = λ s i. omega arith;
   above_end = above-end;
   rows = rows-apart;
+  arrows = λ s i. omega arith;
+  arrows_of_rows = arrows-of-rows;
+  arrows_below_name = λ s i. omega arith;
+  arrows_above_end = arrows-above-end;
   columns = λ k. omega arith;
   hazards_after_zones = λ s z k l. omega arith;
   next_hazard = λ s k. omega arith;

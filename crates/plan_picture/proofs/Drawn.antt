@@ -1,15 +1,16 @@
 -- The law `all_is_drawn`.
-use Rattle.std.proofs.Common.{◌<◌, ℕ, ◌+◌, List, ◌++◌, codes, length, sym, subst}
-use Rattle.std.proofs.Common.{Some, slice_get}
-use Rattle.plan_types.specs.Table.{guest_of, host_of, zone_row}
+use Rattle.std.proofs.Common.{◌<◌, ℕ, ◌+◌, Bool, List, [], ◌++◌, codes, length, sym, subst}
+use Rattle.std.proofs.Common.{Some, slice_get, IsTrue, if◌then◌else◌}
+use Rattle.plan_types.specs.Table.{guest_of, host_of, is_sink, is_source, zone_row}
 use Rattle.plan_motors.specs.declared.verdict.Verdict.{Verdict}
 use Rattle.plan_motors.specs.OfPlan.{hazard_at}
 use Rattle.plan_picture.specs.Elements.{box, circle}
 use Rattle.plan_picture.specs.Pictures as picture
 use Rattle.plan_picture.specs.Pictures.{picture_text}
-use Rattle.plan_picture.specs.PictureLaws.{AllIsDrawn, Has, HazardsAreDrawn, LanesAreDrawn, ZonesAreDrawn}
+use Rattle.plan_picture.specs.PictureLaws.{AllIsDrawn, EndsAreDrawn, Has, HazardsAreDrawn, LanesAreDrawn, ZonesAreDrawn}
 use Rattle.plan_picture.specs.Scenes as at
 use Rattle.plan_picture.specs.Scenes.{Scene}
+use Rattle.plan_picture.proofs.Counted.{sinks-counted, sources-counted}
 use Rattle.plan_picture.proofs.lemmas.Having.{in_each, in_first, in_second, whole}
 
 -- what is in the lanes or in the columns is in the picture
@@ -67,9 +68,30 @@ in-hazard s vs p k l h =
 lanes-drawn : LanesAreDrawn
 lanes-drawn = record {
   machine = λ s vs k l. in-machine s vs _ k l (in_second (picture.lane_box s k) _ _ (in_second (picture.machine_box s k) _ _ (whole _)));
-  place = λ s vs k l. in-place s vs _ k l (in_second (circle (codes "place") 38 (at.row s k) 5) _ _ (whole _));
+  place = λ s vs k l. in-place s vs _ k l (in_first (picture.ring_part s k) (picture.source_part s k ++ picture.sink_part s k) _
+      (in_second (circle (codes "place") 38 (at.row s k) 5) _ _ (whole _)));
   motor = λ s vs k l. in-motor s vs _ k l
       (in_second (circle (codes "motor") 38 (at.row s (at.motor_thing s k)) 5) _ _ (whole _));
+}
+
+-- where a test says so a part is there
+if-true : (b : Bool) (p : List ℕ) → IsTrue b → Has (if b then p else []) p
+if-true b p is = subst (λ test. Has (if test then p else []) p) (sym is) (whole p)
+
+ends-drawn : EndsAreDrawn
+ends-drawn = record {
+  source = λ s vs k l is.
+      in-place s vs _ k l
+      (in_second (picture.ring_part s k) (picture.source_part s k ++ picture.sink_part s k) _
+      (in_first (picture.source_part s k) (picture.sink_part s k) _
+      (if-true (is_source s.named.plan k) (picture.source_arrow s k) is)));
+  sink = λ s vs k l is.
+      in-place s vs _ k l
+      (in_second (picture.ring_part s k) (picture.source_part s k ++ picture.sink_part s k) _
+      (in_second (picture.source_part s k) (picture.sink_part s k) _
+      (if-true (is_sink s.named.plan k) (picture.sink_arrow s k) is)));
+  sources = sources-counted;
+  sinks = sinks-counted;
 }
 
 -- the two ends of a zone, and its ways
@@ -157,4 +179,4 @@ hazards-drawn = record {
 }
 
 pub all-is-drawn : AllIsDrawn
-all-is-drawn = record { lanes = lanes-drawn; zones = zones-drawn; hazards = hazards-drawn }
+all-is-drawn = record { lanes = lanes-drawn; ends = ends-drawn; zones = zones-drawn; hazards = hazards-drawn }

@@ -10,6 +10,7 @@ elements-met = record {
   others = refl;
   unprintable = refl;
   upright = refl;
+  level = refl;
   circle = refl;
   short = refl;
   long = refl;
@@ -21,6 +22,9 @@ unfolding digits
 parts-met = record {
   machine = refl;
   place = refl;
+  both = refl;
+  source = refl;
+  sink = refl;
   motor = refl;
   title = refl;
   parties = refl;

@@ -43,6 +43,12 @@ upright class x from to =
     codes "<line class=\"" ++ (class ++ (codes "\" x1=\"" ++ (decimal x ++ (codes "\" y1=\"" ++ (decimal from
     ++ (codes "\" x2=\"" ++ (decimal x ++ (codes "\" y2=\"" ++ (decimal to ++ codes "\"/>\n")))))))))
 
+-- a level line at a height, from one distance from the left to another
+abbrev pub level : Text → ℕ → ℕ → ℕ → Text
+level class y from to =
+    codes "<line class=\"" ++ (class ++ (codes "\" x1=\"" ++ (decimal from ++ (codes "\" y1=\"" ++ (decimal y
+    ++ (codes "\" x2=\"" ++ (decimal to ++ (codes "\" y2=\"" ++ (decimal y ++ codes "\"/>\n")))))))))
+
 abbrev pub circle : Text → ℕ → ℕ → ℕ → Text
 circle class x y radius =
     codes "<circle class=\"" ++ (class ++ (codes "\" cx=\"" ++ (decimal x ++ (codes "\" cy=\"" ++ (decimal y

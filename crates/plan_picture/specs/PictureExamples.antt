@@ -1,11 +1,11 @@
 -- Elements and parts of pictures, whole: of a press and its loader.
 use Rattle.std.specs.Prelude.{◌≡◌, [], ◌∷◌, ◌++◌, codes}
-use Rattle.plan_types.specs.Examples.{press_table}
+use Rattle.plan_types.specs.Examples.{open_press_table, press_table, through_table}
 use Rattle.plan_motors.specs.declared.exclusion.Cause.TheVariants.{Zone}
 use Rattle.plan_motors.specs.declared.verdict.Verdict.TheVariants.{Excluded}
 use Rattle.plan_motors.specs.Examples.{arm, hazard, ram}
 use Rattle.plan_text.specs.Named.{named}
-use Rattle.plan_picture.specs.Elements.{circle, escaped, label, slanted, upright}
+use Rattle.plan_picture.specs.Elements.{circle, escaped, label, level, slanted, upright}
 use Rattle.plan_picture.specs.Pictures as picture
 use Rattle.plan_picture.specs.Scenes as at
 use Rattle.plan_picture.specs.Scenes.{Scene}
@@ -21,6 +21,22 @@ press = record {
   hazard_names = codes "arm & ram" ∷ [];
 }
 
+-- the press again, whose loader fills its hand from outside and empties it there
+abbrev pub open_press : Scene
+open_press = record press { named = record press.named { plan = open_press_table } }
+
+-- a loader that fills its hand from outside, and empties its tray there
+abbrev pub through : Scene
+through = record {
+  named =
+      named through_table (codes "loader" ∷ codes "press" ∷ []) (codes "interior" ∷ [])
+      (codes "hand" ∷ codes "tray" ∷ codes "die" ∷ []) [];
+  motors = [];
+  motor_names = [];
+  hazards = [];
+  hazard_names = [];
+}
+
 pub record ElementsAreMet : Type 0 where
   pub entities : escaped (codes "a<b>&\"c' ~") ≡ codes "a&lt;b&gt;&amp;&quot;c&#39; ~"
   pub others :
@@ -29,6 +45,8 @@ pub record ElementsAreMet : Type 0 where
   pub unprintable : escaped (31 ∷ 32 ∷ 126 ∷ 127 ∷ 195 ∷ []) ≡ codes "? ~??"
   pub upright : upright (codes "way") 328 274 370
       ≡ codes "<line class=\"way\" x1=\"328\" y1=\"274\" x2=\"328\" y2=\"370\"/>\n"
+  pub level : level (codes "source") 270 2 32
+      ≡ codes "<line class=\"source\" x1=\"2\" y1=\"270\" x2=\"32\" y2=\"270\"/>\n"
   pub circle : circle (codes "guest") 310 248 7 ≡ codes "<circle class=\"guest\" cx=\"310\" cy=\"248\" r=\"7\"/>\n"
   -- a name of 12 letters fits 112 pixels at 13 a letter, one of 16 doesn't
   pub short : label (codes "danger") 462 298 13 112 (codes "arm_in_press")
@@ -47,6 +65,19 @@ pub record PartsAreMet : Type 0 where
   pub place : picture.place_part press 1
       ≡ codes "<circle class=\"place\" cx=\"38\" cy=\"370\" r=\"5\"/>\n"
       ++ codes "<text class=\"place\" x=\"52\" y=\"374\" font-size=\"13\">die</text>\n"
+  pub both : picture.place_part open_press 0
+      ≡ codes "<circle class=\"place\" cx=\"38\" cy=\"274\" r=\"5\"/>\n"
+      ++ (codes "<text class=\"place\" x=\"52\" y=\"278\" font-size=\"13\">hand</text>\n"
+      ++ (codes "<line class=\"source\" x1=\"2\" y1=\"270\" x2=\"32\" y2=\"270\"/>\n"
+      ++ codes "<line class=\"sink\" x1=\"32\" y1=\"278\" x2=\"2\" y2=\"278\"/>\n"))
+  pub source : picture.place_part through 0
+      ≡ codes "<circle class=\"place\" cx=\"38\" cy=\"274\" r=\"5\"/>\n"
+      ++ (codes "<text class=\"place\" x=\"52\" y=\"278\" font-size=\"13\">hand</text>\n"
+      ++ codes "<line class=\"source\" x1=\"2\" y1=\"270\" x2=\"32\" y2=\"270\"/>\n")
+  pub sink : picture.place_part through 1
+      ≡ codes "<circle class=\"place\" cx=\"38\" cy=\"294\" r=\"5\"/>\n"
+      ++ (codes "<text class=\"place\" x=\"52\" y=\"298\" font-size=\"13\">tray</text>\n"
+      ++ codes "<line class=\"sink\" x1=\"32\" y1=\"298\" x2=\"2\" y2=\"298\"/>\n")
   pub motor : picture.motor_part press 0
       ≡ codes "<circle class=\"motor\" cx=\"38\" cy=\"390\" r=\"5\"/>\n"
       ++ codes "<text class=\"motor\" x=\"52\" y=\"394\" font-size=\"13\">ram</text>\n"

@@ -4,7 +4,7 @@ use Rattle.std.specs.Prelude.{Option, Some, None, replicate, false, slice_get, I
 use Rattle.std.specs.Fmt.{decimal}
 use Rattle.std.specs.List.{AllZip, range_with_len}
 use Rattle.plan_types.specs.declared.table.Way.{Way}
-use Rattle.plan_types.specs.Table.{PlanTable, guest_of, host_of, zone_row}
+use Rattle.plan_types.specs.Table.{PlanTable, guest_of, host_of, is_sink, is_source, zone_row}
 use Rattle.plan_rules.specs.declared.state.State.{State}
 use Rattle.plan_rules.specs.State.{start_state}
 use Rattle.plan_motors.specs.declared.exclusion.Cause.TheVariants.{Zone, Place}
@@ -19,7 +19,7 @@ use Rattle.plan_text.specs.Named.{Named}
 use Rattle.plan_text.specs.Names.{Text, name_in}
 use Rattle.plan_document.specs.declared.resolving.ProgrammedPlan.{ProgrammedPlan}
 use Rattle.plan_header.specs.Words.{machine_name, zone_name}
-use Rattle.plan_picture.specs.Elements.{box, circle, label, slanted, upright}
+use Rattle.plan_picture.specs.Elements.{box, circle, label, level, slanted, upright}
 use Rattle.plan_picture.specs.Scenes as at
 use Rattle.plan_picture.specs.Scenes.{Scene, scene}
 use Rattle.plan_picture.specs.declared.picture.TheConstants.{FIRST, SECOND, STYLE, THIRD}
@@ -46,8 +46,24 @@ thing_at class y name = circle class 38 y 5 ++ label class 52 (y + 4) 13 210 nam
 abbrev pub thing_part : Scene → Text → ℕ → Text → Text
 thing_part s class thing name = thing_at class (at.row s thing) name
 
+abbrev pub ring_part : Scene → ℕ → Text
+ring_part s p = thing_part s (codes "place") p (name_in s.named.places p)
+
+-- an arrow across the left edge of the box: from outside to a source, from a sink to outside
+abbrev pub source_arrow : Scene → ℕ → Text
+source_arrow s p = level (codes "source") (at.source_line s p) 2 32
+
+abbrev pub source_part : Scene → ℕ → Text
+source_part s p = if is_source s.named.plan p then source_arrow s p else []
+
+abbrev pub sink_arrow : Scene → ℕ → Text
+sink_arrow s p = level (codes "sink") (at.sink_line s p) 32 2
+
+abbrev pub sink_part : Scene → ℕ → Text
+sink_part s p = if is_sink s.named.plan p then sink_arrow s p else []
+
 abbrev pub place_part : Scene → ℕ → Text
-place_part s p = thing_part s (codes "place") p (name_in s.named.places p)
+place_part s p = ring_part s p ++ (source_part s p ++ sink_part s p)
 
 abbrev pub motor_part : Scene → ℕ → Text
 motor_part s m = thing_part s (codes "motor") (at.motor_thing s m) (name_in s.motor_names m)

@@ -61,6 +61,13 @@ lane_height s machine = 42 + 20 * owned s machine (thing_count s)
 abbrev pub row : Scene → ℕ → ℕ
 row s thing = lane s (owner_of s thing) + 44 + 20 * owned s (owner_of s thing) thing
 
+-- the heights of a place's arrows: of that which comes from outside, and of that which goes there
+abbrev pub source_line : Scene → ℕ → ℕ
+source_line s place = row s place - 4
+
+abbrev pub sink_line : Scene → ℕ → ℕ
+sink_line s place = row s place + 4
+
 -- ---- the left ends of columns, and the size of the whole
 
 abbrev pub column : ℕ → ℕ

@@ -217,6 +217,22 @@ pub(crate) fn push_upright(
     )
 }
 
+/// Adds a level line at a height, from one distance from the left to another.
+pub(crate) fn push_level(
+    text: &mut String,
+    class: &str,
+    y: usize,
+    from: usize,
+    to: usize,
+) -> Result<(), AllocError>
+    ensures { OnOk result (string_bytes text.new ≡ string_bytes text.old ++ spec.level class.now y from to) }
+{
+    write!(
+        text,
+        "<line class=\"{class}\" x1=\"{from}\" y1=\"{y}\" x2=\"{to}\" y2=\"{y}\"/>\n"
+    )
+}
+
 /// Adds a circle: its middle and its radius.
 pub(crate) fn push_circle(
     text: &mut String,

@@ -6,9 +6,12 @@ ghost use Rattle.plan_picture.specs.Pictures as spec;
 ghost use Rattle.plan_picture.specs.Pictures.{IsPicture};
 ghost use Rattle.plan_picture.specs.Scenes.{scene};
 
-use crate::elements::{Spot, push_box, push_circle, push_label, push_slanted, push_upright};
+use crate::elements::{
+    Spot, push_box, push_circle, push_label, push_level, push_slanted, push_upright,
+};
 use crate::positions::{
-    hazard_column, height, lane, lane_height, lanes_end, motor_thing, row, width, zone_column,
+    hazard_column, height, lane, lane_height, lanes_end, motor_thing, row, sink_line, source_line,
+    width, zone_column,
 };
 use crate::verdicts::{verdict_class, verdict_words, verdicts_of};
 use plan_document::ProgrammedPlan;
@@ -29,6 +32,7 @@ line.zone { stroke: #222222; stroke-width: 2; }
 .guest { fill: #ffffff; stroke: #222222; stroke-width: 2; }
 .way { stroke: #1450a0; stroke-width: 2; marker-start: url(#from); marker-end: url(#to); }
 circle.place { fill: #ffffff; stroke: #1450a0; stroke-width: 2; }
+.source, .sink { stroke: #1450a0; stroke-width: 2; marker-end: url(#to); }
 text.place, .end { fill: #1450a0; }
 circle.motor, text.motor, .danger, text.hazard, .unkept { fill: #b01818; }
 line.hazard { stroke: #b01818; stroke-width: 2; stroke-dasharray: 6 4; }
@@ -47,7 +51,7 @@ line.hazard { marker-start: url(#danger); marker-end: url(#danger); }
 ";
 
 /// What the marks of lanes mean.
-const FIRST: &str = "Each box is a machine with its places (rings) and its motors (dots).";
+const FIRST: &str = "Box: machine. Rings: places, arrows from or to outside. Dots: motors.";
 
 /// What the marks of zones mean.
 const SECOND: &str = "A column is a zone: host (square), guest (ring), ways of plates.";
@@ -243,13 +247,47 @@ fn push_places(text: &mut String, plan: &ProgrammedPlan) -> Result<(), AllocErro
     Ok(())
 }
 
-/// Adds a place.
+/// Adds a place, with an arrow if it is a source, and one if it is a sink.
 fn push_place(text: &mut String, plan: &ProgrammedPlan, place: u8) -> Result<(), AllocError>
     ensures { OnOk result
         (string_bytes text.new ≡ string_bytes text.old ++ spec.place_part (scene plan.now) place) }
 {
+    push_ring(text, plan, place)?;
+    push_source(text, plan, place)?;
+    push_sink(text, plan, place)
+}
+
+/// Adds the ring of a place, and its name.
+fn push_ring(text: &mut String, plan: &ProgrammedPlan, place: u8) -> Result<(), AllocError>
+    ensures { OnOk result
+        (string_bytes text.new ≡ string_bytes text.old ++ spec.ring_part (scene plan.now) place) }
+{
     let name = plan.named.places().name(place);
     push_thing(text, plan, "place", usize::from(place), name)
+}
+
+/// Adds an arrow from outside to a place, if it is a source.
+fn push_source(text: &mut String, plan: &ProgrammedPlan, place: u8) -> Result<(), AllocError>
+    ensures { OnOk result
+        (string_bytes text.new ≡ string_bytes text.old ++ spec.source_part (scene plan.now) place) }
+{
+    if plan.named.plan().place(place).source {
+        push_level(text, "source", source_line(plan, place), 2, 32)
+    } else {
+        Ok(())
+    }
+}
+
+/// Adds an arrow from a place to outside, if it is a sink.
+fn push_sink(text: &mut String, plan: &ProgrammedPlan, place: u8) -> Result<(), AllocError>
+    ensures { OnOk result
+        (string_bytes text.new ≡ string_bytes text.old ++ spec.sink_part (scene plan.now) place) }
+{
+    if plan.named.plan().place(place).sink {
+        push_level(text, "sink", sink_line(plan, place), 32, 2)
+    } else {
+        Ok(())
+    }
 }
 
 /// Adds each motor.

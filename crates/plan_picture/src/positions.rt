@@ -100,6 +100,20 @@ pub(crate) fn row(plan: &ProgrammedPlan, thing: usize) -> usize
     lane(plan, owner) + 44 + 20 * owned(plan, owner, thing)
 }
 
+/// The height of the arrow that comes from outside to a place.
+pub(crate) fn source_line(plan: &ProgrammedPlan, place: u8) -> usize
+    ensures { result ≡ spec.source_line (scene plan.now) place }
+{
+    row(plan, usize::from(place)) - 4
+}
+
+/// The height of the arrow that goes from a place to outside.
+pub(crate) fn sink_line(plan: &ProgrammedPlan, place: u8) -> usize
+    ensures { result ≡ spec.sink_line (scene plan.now) place }
+{
+    row(plan, usize::from(place)) + 4
+}
+
 // ---- columns, and the size of the whole
 
 /// The left end of a zone's column.

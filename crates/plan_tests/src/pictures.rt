@@ -33,6 +33,7 @@ line.zone { stroke: #222222; stroke-width: 2; }
 .guest { fill: #ffffff; stroke: #222222; stroke-width: 2; }
 .way { stroke: #1450a0; stroke-width: 2; marker-start: url(#from); marker-end: url(#to); }
 circle.place { fill: #ffffff; stroke: #1450a0; stroke-width: 2; }
+.source, .sink { stroke: #1450a0; stroke-width: 2; marker-end: url(#to); }
 text.place, .end { fill: #1450a0; }
 circle.motor, text.motor, .danger, text.hazard, .unkept { fill: #b01818; }
 line.hazard { stroke: #b01818; stroke-width: 2; stroke-dasharray: 6 4; }
@@ -79,8 +80,8 @@ line.hazard { marker-start: url(#danger); marker-end: url(#danger); }
 <line class=\"hazard\" x1=\"450\" y1=\"390\" x2=\"450\" y2=\"294\"/>
 <text class=\"danger\" x=\"462\" y=\"394\" font-size=\"13\">ram</text>
 <text class=\"danger\" x=\"462\" y=\"298\" font-size=\"13\">arm_in_press</text>
-<text class=\"legend\" x=\"20\" y=\"436\" font-size=\"12\">Each box is a machine with its places (rings) and its \
-    motors (dots).</text>
+<text class=\"legend\" x=\"20\" y=\"436\" font-size=\"12\">Box: machine. Rings: places, arrows from or to outside. \
+    Dots: motors.</text>
 <text class=\"legend\" x=\"20\" y=\"452\" font-size=\"12\">A column is a zone: host (square), guest (ring), ways of \
     plates.</text>
 <text class=\"legend\" x=\"20\" y=\"468\" font-size=\"12\">Dashed: motors that are never to run both, and what \
