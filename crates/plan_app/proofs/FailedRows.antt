@@ -1,5 +1,5 @@
 -- The examples of `fault_lines_are_met`, and the law `failed_is_meant`.
-use Rattle.std.proofs.Common.{◌≡◌, ◌∙◌, ◌<◌, ◌++◌, ℕ, zero, suc, Bool, true, false, ◌&&◌, nat_eq, List, [], ◌∷◌, get_or, take, length, codes, Some, Ok, IsTrue, inl, inr, refl, sym, ap, subst, arith}
+use Rattle.std.proofs.Common.{◌≡◌, ◌∙◌, ◌<◌, ◌++◌, ◌+◌, ℕ, zero, suc, Bool, true, false, ◌&&◌, nat_eq, List, [], ◌∷◌, get_or, take, length, length-append, codes, Some, Ok, IsTrue, inl, inr, refl, sym, ap, subst, arith}
 use Rattle.std.proofs.lemmas.List.{get_or-take, length-take}
 use Rattle.std.specs.List.{starts_with}
 use Rattle.csv_rows.specs.ScriptEnd.{fault_text}
@@ -63,15 +63,19 @@ paged plan script new none (inr (opening, is, inr (inr wrote))) = (opening, is, 
 abbrev large : Text → Text
 large rest = codes "fault large: " ++ rest
 
+within : (k : ℕ) (rest : Text) → k < 13 → k < length (large rest)
+within k rest few =
+    let e : length (large rest) ≡ 13 + length rest = length-append (codes "fault large: ") rest in omega (arith, few, e)
+
 -- its first byte is `f`, that at 6 is `l`, and that at 7 is `a`
 zeroth : (rest text : Text) → WrotePrefix (Some []) (Some (large rest)) text → 102 ≡ get_or text 0 0
-zeroth rest text wrote = byte_at (large rest) text 0 wrote (omega arith)
+zeroth rest text wrote = byte_at (large rest) text 0 wrote (within 0 rest (omega arith))
 
 sixth : (rest text : Text) → WrotePrefix (Some []) (Some (large rest)) text → 108 ≡ get_or text 6 0
-sixth rest text wrote = byte_at (large rest) text 6 wrote (omega arith)
+sixth rest text wrote = byte_at (large rest) text 6 wrote (within 6 rest (omega arith))
 
 seventh : (rest text : Text) → WrotePrefix (Some []) (Some (large rest)) text → 97 ≡ get_or text 7 0
-seventh rest text wrote = byte_at (large rest) text 7 wrote (omega arith)
+seventh rest text wrote = byte_at (large rest) text 7 wrote (within 7 rest (omega arith))
 
 both : (a b : Bool) → IsTrue (a && b) → IsTrue a
 both true b k = refl

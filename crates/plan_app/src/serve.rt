@@ -28,13 +28,13 @@ ghost use Rattle.plan_app.specs.Served.{WritesRunIn, WritesRunPage, WritesRunPag
 ghost use Rattle.plan_app.specs.Requests.{request_of};
 
 use crate::apart::{Exploration, exploration_of};
+use crate::explore::MAX_SITUATIONS;
 use crate::hazards::{Report, report_of};
 use crate::input::{MAX_BYTES, plan_length};
 use crate::request;
 use crate::request::{MAX_TURNS, Request};
 use crate::run::{RunFault, Told, run_and_tell};
 use crate::serve_page::{page_script, run_page_script};
-use crate::size::MAX_SITUATIONS;
 use plan_document::{PlanTextFault, ProgrammedPlan, plan_of};
 use plan_header::{header_of, module_of};
 use plan_picture::picture_of;

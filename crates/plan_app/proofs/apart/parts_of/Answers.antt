@@ -1,6 +1,7 @@
-use Rattle.std.proofs.Common.{◌+◌, ◌∙◌, string_bytes, subst, sym}
-use Rattle.std.proofs.Common.{IfOk, IfErr}
-use Rattle.plan_app.specs.Apart.{AddsPart, TellsParts}
+use Rattle.std.proofs.Common.{◌+◌, ◌<◌, ◌∙◌, IfErr, IfOk, arith, length, string_bytes, subst, sym}
+use Rattle.plan_explorer.specs.Groups.{alone}
+use Rattle.plan_app.specs.Apart.{AddsPart, TellsParts, group_of}
+use Rattle.plan_app.specs.Screens.{IsUnfinished}
 use Rattle.plan_app.proofs.GroupsTold.{large_is_told, next_part, no_part}
 use Rattle.plan_app.proofs.apart.parts_of.Goals.{then-is_first+in_ok-part+in-Ok, else-is_first}
 use Rattle.plan_app.proofs.apart.parts_of.Goals as goal
@@ -29,4 +30,13 @@ machines-preserved c =
     ]
 
 pub returns-then-is_first-in-Err : goal.returns-then-is_first-in-Err
-returns-then-is_first-in-Err c = ?
+returns-then-is_first-in-Err c =
+    let n = c.args.plan.now.named.now in
+    let ps = c.args.plan.now.programs.now in
+    let s = c.args.opening.now in
+    let groups = c.args.groups.now in
+    let m = c.machines.machine in
+    let is : IsUnfinished n (alone (group_of groups m) ps) s c.in-Err.turns =
+    subst (λ found. IfErr found (IsUnfinished n (alone (group_of groups m) ps) s)) c.in-Err.is c.in_ok-part.ensures.large in
+    let few : m < length ps = let h = c.machines-test.true in let e = c.count-machine-end.ensures.count in omega arith in
+    large_is_told n ps s groups m c.in-Err.turns c.large_part.result few is c.large_part.ensures
