@@ -18,7 +18,7 @@ use Rattle.plan_text.specs.Named.{Named}
 use Rattle.plan_app.specs.Going.{going_text, line_of, way_text}
 use Rattle.plan_app.specs.Starving.{any_starves}
 use Rattle.plan_app.specs.Words.{counted}
-use Rattle.plan_app.specs.declared.explore.TheConstants.{FREE, SHORTEST, STANDSTILL}
+use Rattle.plan_app.specs.declared.explore.TheConstants.{FREE, SHORTEST, STANDSTILL, UNFINISHED}
 use Rattle.plan_app.specs.declared.explore.Screen.{Screen}
 use Rattle.plan_app.specs.declared.explore.Screen.TheVariants.{Free, Starving, Standstill, Unfinished}
 
@@ -110,8 +110,7 @@ pub record IsUnfinished (n : Named) (ps : PlanPrograms) (opening : State) (turns
   pub before : NoneStandsStillBefore n.plan ps opening turns
 
 abbrev pub unfinished_words : ℕ → Text
-unfinished_words turns =
-    codes "more than 1,000,000 situations; nothing stands still in fewer than " ++ counted turns (codes "turn")
+unfinished_words turns = UNFINISHED.now ++ counted turns (codes "turn")
 
 -- what is said of all machines together
 abbrev pub large_words : ℕ → Text

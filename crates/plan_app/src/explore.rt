@@ -32,6 +32,9 @@ const STANDSTILL: &str = "a standstill after ";
 /// What is said after it.
 const SHORTEST: &str = ", and no fewer\n";
 
+/// What is said past the limit, before the number of turns.
+const UNFINISHED: &str = "more than 1,000,000 situations; nothing stands still in fewer than ";
+
 /// What `plan explore` prints.
 #[derive(Drop)]
 pub enum Screen {
@@ -268,6 +271,6 @@ pub(crate) fn large_words(alloc: Global, turns: usize) -> Result<String, AllocEr
 pub(crate) fn push_unfinished(text: &mut String, turns: usize) -> Result<(), AllocError>
     ensures { OnOk result (string_bytes text.new ≡ string_bytes text.old ++ spec.unfinished_words turns) }
 {
-    text.push_str("more than 1,000,000 situations; nothing stands still in fewer than ")?;
+    text.push_str(UNFINISHED)?;
     push_counted(text, turns, "turn")
 }
