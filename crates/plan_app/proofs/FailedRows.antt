@@ -143,7 +143,9 @@ large_by plan script rest (inr (opening, is, inr (well, text, tells, wrote))) =
     (zeroth rest text wrote))
 
 is_large : (bytes rest : Text) → Fails Explore (Some bytes) (Some []) (Some (large rest))
-    → (plan : ProgrammedPlan) × IsPlanIn (document_in bytes) plan × IsTold plan (script_in bytes) rest
+    → (plan : ProgrammedPlan) × IsPlanIn (document_in bytes) plan × (opening : State)
+    × (script_start plan.named (script_in bytes) ≡ Ok opening) × (words : Text)
+    × TellsLarge plan.named plan.programs opening words × WroteFault words (Some []) (Some (large rest))
 is_large bytes rest (inl wrote) = let e : 97 ≡ 111 = seventh rest (fault_line (codes "long")) wrote.1 in absurd (omega (arith, e))
 is_large bytes rest (inr (inl (inl wrote))) = let e : 108 ≡ 114 = sixth rest (fault_line (codes "read")) wrote in absurd (omega (arith, e))
 is_large bytes rest (inr (inl (inr wrote))) = let e : 108 ≡ 109 = sixth rest (fault_line (codes "memory")) wrote in absurd (omega (arith, e))

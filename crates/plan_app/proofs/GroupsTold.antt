@@ -58,7 +58,7 @@ large_told : (n : Named) (ps : PlanPrograms) (opening : State) (groups : List �
     → IsLargePart n groups first (length ps) turns found → IsExplorationBy true n ps opening groups found
 large_told n ps opening groups first turns (Well text) few is said = absurd said
 large_told n ps opening groups first turns (Unwell text) few is said = absurd said
-large_told n ps opening groups first turns (Large words) few is said = (first, few, turns, is, said)
+large_told n ps opening groups first turns (Large words) few is said = (first, few, (turns, is, said))
 
 pub large_is_told : {E : Type 0} (n : Named) (ps : PlanPrograms) (opening : State) (groups : List ℕ) (first turns : ℕ)
     (r : Result Exploration E) → first < length ps → IsUnfinished n (alone (group_of groups first) ps) opening turns

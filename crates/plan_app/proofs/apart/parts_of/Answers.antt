@@ -29,8 +29,8 @@ machines-preserved c =
           (no_part n ps s groups m c.machines.well before (sym c.is_first.ensures ∙ w.if-is_first.false) c.machines.invariant))
     ]
 
-pub returns-then-is_first-in-Err : goal.returns-then-is_first-in-Err
-returns-then-is_first-in-Err c =
+pub returns-in-Err : goal.returns-in-Err
+returns-in-Err c =
     let n = c.args.plan.now.named.now in
     let ps = c.args.plan.now.programs.now in
     let s = c.args.opening.now in

@@ -41,9 +41,9 @@ still_page-requires-clause-shortest c =
     (subst (λ t. AreShortest t ps opening c.in-Standstill.turns.items) c.plan-named.ensures
     (subst (λ f. IfStandstill f (AreShortest c.plan-named.result.now ps opening)) c.in-Standstill.is c.in_ok-situations.ensures.shortest))
 
-pub returns-in-Unfinished : goal.returns-in-Unfinished
-returns-in-Unfinished c =
+pub returns-in_ok-large_words-in-Unfinished : goal.returns-in_ok-large_words-in-Unfinished
+returns-in_ok-large_words-in-Unfinished c =
     let e = c.in_ok-situations.ensures in
     let is = unfinished_is_found c.args.plan.now.named c.args.plan.now.programs c.args.opening.now c.plan-named.result.now _
     c.in-Unfinished.turns c.plan-named.ensures c.in-Unfinished.is e.more e.unfinished in
-    (c.in-Unfinished.turns, is, c.in_ok-large_words.ensures)
+    (c.in-Unfinished.turns, is, c.in_ok-large_words-in-Unfinished.ensures)
