@@ -27,3 +27,6 @@ mod Lowest
 mod Orders
 mod CallChanges
 mod AdvanceRows
+mod SpaceRows
+mod Stamps
+mod Plain

@@ -1,5 +1,6 @@
 pub mod Below
 pub mod Puts
+pub mod Spaces
 pub mod Zones
 pub mod DoneCalls
 pub mod Plates

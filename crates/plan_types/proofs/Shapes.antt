@@ -21,10 +21,10 @@ or_true : (b : Bool) → (b || true) ≡ true
 or_true true = refl
 or_true false = refl
 
-abbrev Passed : (ℕ → Bool) → ℕ → Type 0
+abbrev pub Passed : (ℕ → Bool) → ℕ → Type 0
 Passed f n = (i : ℕ) × (i < n) × (f i ≡ true)
 
-any_found : (f : ℕ → Bool) (n : ℕ) → any_below f n ≡ true → Passed f n
+pub any_found : (f : ℕ → Bool) (n : ℕ) → any_below f n ≡ true → Passed f n
 any_found f zero e = cc
 any_found f (suc n) e =
     elim (either (any_below f n) (f n) e) [

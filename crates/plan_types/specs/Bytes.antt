@@ -24,11 +24,12 @@ abbrev pub to_byte : Option Way → ℕ
 to_byte None = 0
 to_byte (Some way) = way.to
 
--- a zone: its host, its guest, the way inward, the way outward
+-- a zone: its host, its guest, the way inward, with 2 more at its first byte if the zone joins the one before it, and
+-- the way outward
 abbrev pub zone_bytes : PlanZone → List ℕ
 zone_bytes z =
     z.host ∷ z.guest
-    ∷ way_byte z.inward ∷ from_byte z.inward ∷ to_byte z.inward
+    ∷ (way_byte z.inward + 2 * bool_byte z.joins) ∷ from_byte z.inward ∷ to_byte z.inward
     ∷ way_byte z.outward ∷ from_byte z.outward ∷ to_byte z.outward ∷ []
 
 -- the posture that a pose gives a zone; 0 if it gives none

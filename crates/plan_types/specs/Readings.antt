@@ -141,7 +141,7 @@ pub record RowsTell : Type 0 where
 
 abbrev pub shape : Bool → Bool → Bool → Bool → ZoneShape
 shape flag moves opens_in opens_out =
-    record { flag = flag; moves = moves; opens_in = opens_in; opens_out = opens_out }
+    record { guests = 1; flag = flag; moves = moves; opens_in = opens_in; opens_out = opens_out }
 
 -- tables whose zone has one way, and to which poses give these postures
 abbrev pub given : List Posture → PlanTable
