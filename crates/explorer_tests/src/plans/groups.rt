@@ -7,7 +7,7 @@ use plan_explorer::{Explored, Programs, explore, explore_group, groups_of};
 use plan_liveness::{Liveness, explore_machines};
 use plan_rules::State;
 use plan_rules::laws::starts_are_sound;
-use plan_types::{Call, Plan, PlanPose, PlanZone, Posture, Tables, Way};
+use plan_types::{Call, Plan, PlanPlace, PlanPose, PlanZone, Posture, Tables, Way};
 use std::alloc::Global;
 use std::test::Fail;
 
@@ -49,8 +49,8 @@ fn tables(alloc: Global, presses: u8) -> Result<Tables, Fail>
         poses.push(pose_of(press, true, Posture::OpenOut))?;
         poses.push(pose_of(press, true, Posture::Closed))?;
         poses.push(pose_of(press, false, Posture::Moving))?;
-        places.push(loader)?;
-        places.push(loader + 1)?;
+        places.push(PlanPlace::kept_by(loader))?;
+        places.push(PlanPlace::kept_by(loader + 1))?;
     }
     Ok(Tables {
         machines: 2 * presses,

@@ -4,7 +4,7 @@
 use plan_explorer::{Explored, Programs, explore, take_turns};
 use plan_liveness::{Liveness, Progress, explore_machines, explore_plates};
 use plan_rules::State;
-use plan_types::{Call, Plan, PlanPose, PlanZone, Posture, Tables, Way};
+use plan_types::{Call, Plan, PlanPlace, PlanPose, PlanZone, Posture, Tables, Way};
 use std::alloc::{AllocError, Global};
 
 /// How many machines hand the plate on. The zone with the number of each leads to the next one.
@@ -34,7 +34,7 @@ fn pose_of(machine: u8) -> PlanPose {
 fn push_tables(
     zones: &mut Vec<PlanZone>,
     poses: &mut Vec<PlanPose>,
-    places: &mut Vec<u8>,
+    places: &mut Vec<PlanPlace>,
 ) -> Result<(), AllocError> {
     for link in 0..LINKS {
         zones.push(PlanZone {
@@ -47,10 +47,10 @@ fn push_tables(
             }),
         })?;
         poses.push(pose_of(link))?;
-        places.push(link)?;
+        places.push(PlanPlace::kept_by(link))?;
     }
     poses.push(pose_of(LAST))?;
-    places.push(LINKS)?;
+    places.push(PlanPlace::kept_by(LINKS))?;
     Ok(())
 }
 
