@@ -34,10 +34,25 @@ fn the_nodes_that_can_be_reached_are_counted(rt: HostRuntime) {
 
 // With a limit of nodes: how many turns lead to the first number at which the search hasn't looked.
 fn stops_at(rt: HostRuntime, goal: u8, most: usize, wanted: usize) -> bool {
-    matches!(
-        search_within(rt.alloc(), &Climb { goal }, 1, most),
-        Ok(FoundWithin::Unfinished(turns)) if turns == wanted
-    )
+    match search_within(rt.alloc(), &Climb { goal }, 1, most) {
+        Ok(FoundWithin::Unfinished(turns)) => turns == wanted,
+        _ => false,
+    }
+}
+
+// With a limit that is just enough, all numbers are counted, and a goal at the start is found.
+fn counts_all(rt: HostRuntime, most: usize) -> bool {
+    match search_within(rt.alloc(), &Climb { goal: 39 }, 1, most) {
+        Ok(FoundWithin::Nothing(nodes)) => nodes == most,
+        _ => false,
+    }
+}
+
+fn finds_at_once(rt: HostRuntime) -> bool {
+    match search_within(rt.alloc(), &Climb { goal: 1 }, 1, 1) {
+        Ok(FoundWithin::Turns(turns)) => turns.is_empty(),
+        _ => false,
+    }
 }
 
 // From 1 turns lead to 2, then to 3 and 4, to 6, 5 and 8, and to 7, 12 and others. The goal 39 isn't reached.
@@ -49,8 +64,6 @@ fn a_search_stops_past_its_limit(rt: HostRuntime) {
     assert!(rt; stops_at(rt, 39, 28, 6));
     assert!(rt; stops_at(rt, 1, 0, 0));
     assert!(rt; stops_at(rt, 10, 9, 3));
-    let all = search_within(rt.alloc(), &Climb { goal: 39 }, 1, 29);
-    assert!(rt; matches!(all, Ok(FoundWithin::Nothing(29))));
-    let at_once = search_within(rt.alloc(), &Climb { goal: 1 }, 1, 1);
-    assert!(rt; matches!(at_once, Ok(FoundWithin::Turns(turns)) if turns.is_empty()));
+    assert!(rt; counts_all(rt, 29));
+    assert!(rt; finds_at_once(rt));
 }
