@@ -370,8 +370,8 @@ machine = [
   { name = \"b\", program = [\"\"] },
 ]
 =>
-fault plan line 3: machine b: program: \"\" isn't a step: claim, give, yield, take or release with a zone, pose with a \
-pose, await with a sensor or a zone, or run with motors, until and a sensor
+fault plan line 3: machine b: program: \"\" isn't a step: claim, give, yield, take or release with a zone, advance \
+with a place, pose with a pose, await with a sensor or a zone, or run with motors, until and a sensor
 =>
 All machines stand in a list.
 --

@@ -231,8 +231,8 @@ fault plan line 13: machine c: pose x: gives: \"shut\" isn't a posture; known: c
 name = \"c\"
 program = [\"claim\"]
 =>
-fault plan line 13: machine c: program: \"claim\" isn't a step: claim, give, yield, take or release with a zone, pose \
-    with a \
+fault plan line 13: machine c: program: \"claim\" isn't a step: claim, give, yield, take or release with a zone, \
+    advance with a place, pose with a \
 pose, await with a sensor or a zone, or run with motors, until and a sensor
 --
 1: ./plan check
@@ -242,7 +242,7 @@ name = \"c\"
 program = [\"inquire z\"]
 =>
 fault plan line 13: machine c: program: \"inquire z\" isn't a step: claim, give, yield, take or release with a zone, \
-    pose with a \
+    advance with a place, pose with a \
 pose, await with a sensor or a zone, or run with motors, until and a sensor
 --
 1: ./plan check
