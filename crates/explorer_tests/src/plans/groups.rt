@@ -3,8 +3,9 @@
 ghost use Rattle.std.specs.Prelude.{◌<◌, ◌≤◌, IfOk};
 ghost use Rattle.plan_rules.specs.Sound.{IsSound};
 
-use plan_explorer::{Explored, Programs, explore, explore_group, groups_of};
+use plan_explorer::{Explored, Programs, Witness, explore, explore_group, groups_of, seek_hazard};
 use plan_liveness::{Liveness, explore_machines};
+use plan_motors::{Motor, NO_NEED, ZoneNeed};
 use plan_rules::State;
 use plan_rules::laws::starts_are_sound;
 use plan_types::{Call, Plan, PlanPlace, PlanPose, PlanZone, Posture, Tables, Way};
@@ -163,4 +164,43 @@ fn is_within(answer: Option<&Liveness>, plain: usize) -> bool {
         Some(Liveness::Always(bound)) => bound.plain == plain && bound.helped == 0,
         _ => false,
     }
+}
+
+/// A motor that is driven only while its machine holds a zone in a posture.
+fn motor_of(machine: u8, zone: u8, posture: Posture) -> Motor
+    requires { zone < 10 }
+{
+    let mut zones = [NO_NEED; 10];
+    zones[usize::from(zone)] = ZoneNeed {
+        holds: true,
+        posture: Some(posture),
+    };
+    Motor {
+        machine,
+        zones,
+        places: [None; 16],
+    }
+}
+
+/// To how many situations a search for a hazard comes, if nothing leads there.
+fn sought(alloc: Global, first: &Motor, second: &Motor) -> Result<Option<usize>, Fail> {
+    let (plan, programs, opening) = plant(alloc, 3)?;
+    match seek_hazard(alloc, &plan, &opening, &programs, first, second, 225)? {
+        Witness::Never(situations) => Ok(Some(situations)),
+        Witness::Turns(_) => Ok(None),
+        Witness::Unfinished(_) => Err(Fail::from("more situations")),
+    }
+}
+
+#[test]
+fn hazards_are_sought_apart(rt: HostRuntime) -> Result<(), Fail> {
+    let alloc = rt.alloc();
+    let ram = motor_of(1, 0, Posture::Moving);
+    let arm = motor_of(0, 0, Posture::OpenIn);
+    let other_ram = motor_of(3, 1, Posture::Moving);
+    let other_arm = motor_of(2, 1, Posture::Closed);
+    assert!(rt; sought(alloc, &ram, &arm)? == Some(15));
+    assert!(rt; sought(alloc, &ram, &other_arm)? == Some(225));
+    assert!(rt; sought(alloc, &ram, &other_ram)? == None);
+    Ok(())
 }
