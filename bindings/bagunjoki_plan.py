@@ -145,13 +145,17 @@ class Plant:
 
 
 def zone_widths(plan):
-    """How many bits each zone has in the word, by the plan's bytes: four counts, and then rows of zones and of poses. There are two
-    for its owner, one for its flag if a plate has a way through it, and as many for its posture as poses give it postures besides
-    `closed`, but at most two."""
+    """How many bits each zone has in the word, by the plan's bytes: four counts, and then rows of zones and of poses. There are those
+    for its space's owner, one for its flag if a plate has a way through it, and as many for its posture as poses give it postures
+    besides `closed`, but at most two. A zone that is of one space with the one before it has none for the owner; the first zone of
+    a space has two for one guest or two, three for up to six, and four for more."""
     zones, poses = plan[1], plan[2]
     rows, given = [plan[4 + 8 * it :] for it in range(zones)], 6 + 8 * zones
     others = [{plan[given + 12 * pose + it] for pose in range(poses)} - {0, 1} for it in range(zones)]
-    return [2 + (row[2] or row[5]) + min(len(its), 2) for row, its in zip(rows, others)]
+    joined = [it > 0 and row[2] > 1 for it, row in enumerate(rows)] + [False]
+    guests = [0 if joined[it] else joined.index(False, it + 1) - it for it in range(zones)]
+    owners = [0 if it == 0 else 2 if it < 3 else 3 if it < 7 else 4 for it in guests]
+    return [owner + (row[2] % 2 or row[5]) + min(len(its), 2) for owner, row, its in zip(owners, rows, others)]
 
 
 def number_in(names, name, kind):

@@ -1,7 +1,8 @@
 //! What `plan check` prints of any plan.
 ghost use Rattle.std.specs.Prelude.{◌≡◌, ◌≤◌, ◌++◌, OnOk, flat_map, length, string_bytes};
 ghost use Rattle.std.specs.List.{range_with_len};
-ghost use Rattle.plan_word.specs.Layout.{counts_of};
+ghost use Rattle.plan_word.specs.Layout.{counts_of, start_of};
+ghost use Rattle.plan_word.specs.declared.layout.Field.TheVariants.{Zone as ZoneField};
 ghost use Rattle.plan_app.specs.Reports as spec;
 
 use crate::words::ending;
@@ -78,15 +79,91 @@ fn push_fields(text: &mut String, named: &NamedPlan) -> Result<(), AllocError>
     push_field(text, named.layout(), Field::Stop, "stop", "")
 }
 
-/// Adds the fields of the zones.
+/// Adds the fields of the zones, and what their spaces have.
 fn push_zones(text: &mut String, named: &NamedPlan) -> Result<(), AllocError>
     ensures { OnOk result (string_bytes text.new ≡ string_bytes text.old
-        ++ flat_map (spec.zone_line named.now) (range_with_len 0 (length named.now.zones))) }
+        ++ flat_map (spec.zone_lines named.now) (range_with_len 0 (length named.now.zones))) }
 {
     'zones: for zone in 0..named.zones().len() as u8 {
-        push_zone(text, named, zone)?;
+        push_zone_lines(text, named, zone)?;
     }
     Ok(())
+}
+
+/// Adds the field of a zone, and before it what its space has, if this is its first zone.
+fn push_zone_lines(text: &mut String, named: &NamedPlan, zone: u8) -> Result<(), AllocError>
+    ensures { OnOk result (string_bytes text.new ≡ string_bytes text.old ++ spec.zone_lines named.now zone) }
+{
+    push_space(text, named, zone)?;
+    push_zone(text, named, zone)
+}
+
+/// Adds what a space has, if it has a name of its own and this is its first zone.
+fn push_space(text: &mut String, named: &NamedPlan, zone: u8) -> Result<(), AllocError>
+    ensures { OnOk result (string_bytes text.new ≡ string_bytes text.old ++ spec.space_line named.now zone) }
+{
+    if begins_space(named, zone) {
+        push_space_at(text, named, zone)
+    } else {
+        Ok(())
+    }
+}
+
+/// Adds what the space of a zone has; nothing if there is no such zone.
+fn push_space_at(text: &mut String, named: &NamedPlan, zone: u8) -> Result<(), AllocError>
+    ensures { OnOk result (string_bytes text.new ≡ string_bytes text.old ++ spec.space_at named.now zone) }
+{
+    match named.layout().start(Field::Zone(zone)) {
+        Some(first) => push_space_bits(text, named, zone, first),
+        None => Ok(()),
+    }
+}
+
+/// Whether a zone is the first one of a space with a name of its own.
+fn begins_space(named: &NamedPlan, zone: u8) -> bool
+    ensures { result ≡ spec.begins_space named.now zone }
+{
+    named.plan().space(zone) == zone && named.spaces().name(zone) != named.zones().name(zone)
+}
+
+/// Adds the lowest bit of a space, by its first zone, how many bits it has, and its name.
+fn push_space_bits(
+    text: &mut String,
+    named: &NamedPlan,
+    zone: u8,
+    first: u8,
+) -> Result<(), AllocError>
+    requires { first ≡ start_of (counts_of named.now.plan) (ZoneField zone) }
+    ensures { OnOk result (string_bytes text.new ≡ string_bytes text.old ++ spec.space_words named.now zone) }
+{
+    let count = space_bits(named, zone);
+    let ending = ending(count);
+    let name = named.spaces().name(zone);
+    writeln!(text, "bit {first}, {count} bit{ending}: space {name}")
+}
+
+/// How many bits a zone's space has.
+#[tactic(auto, using(plan_types::proofs::lemmas::Below::sum_below_more))]
+fn space_bits(named: &NamedPlan, zone: u8) -> usize
+    ensures bits { result ≡ spec.space_bits named.now.plan zone }
+{
+    let mut count = 0;
+    for other in 0..named.plan().zone_count() {
+        count += bits_near(named, zone, other);
+    }
+    count
+}
+
+/// How many bits another zone adds to those of a zone's space.
+fn bits_near(named: &NamedPlan, zone: u8, other: u8) -> usize
+    ensures bits { result ≡ spec.bits_near named.now.plan zone other }
+    ensures few { result ≤ 20 }
+{
+    if named.plan().same_space(other, zone) {
+        usize::from(named.layout().bits_of(Field::Zone(other)))
+    } else {
+        0
+    }
 }
 
 /// Adds the field of a zone.

@@ -366,7 +366,7 @@ fn push_zones(text: &mut String, plan: &ProgrammedPlan) -> Result<(), AllocError
     Ok(())
 }
 
-/// Adds a zone: its name, its host and its guest, the ways of plates, and the places at their ends.
+/// Adds a zone: its name, its host and its guest, the ways of plates, the places at their ends, and its space.
 fn push_zone(text: &mut String, plan: &ProgrammedPlan, zone: u8) -> Result<(), AllocError>
     ensures { OnOk result
         (string_bytes text.new ≡ string_bytes text.old ++ spec.zone_part (scene plan.now) zone) }
@@ -374,7 +374,8 @@ fn push_zone(text: &mut String, plan: &ProgrammedPlan, zone: u8) -> Result<(), A
     push_zone_title(text, plan, zone)?;
     push_parties(text, plan, zone)?;
     push_ways(text, plan, zone)?;
-    push_ends(text, plan, zone)
+    push_ends(text, plan, zone)?;
+    push_space(text, plan, zone)
 }
 
 /// Adds a zone's name.
@@ -577,6 +578,58 @@ fn push_end_label(
         width: 82,
     };
     push_label(text, "end", spot, plan.named.places().name(place))
+}
+
+/// Adds the space of a zone, if that has another name: the name, and a line from the host's mark at the zone before to
+/// the one here, if both are of one space.
+fn push_space(text: &mut String, plan: &ProgrammedPlan, zone: u8) -> Result<(), AllocError>
+    ensures { OnOk result
+        (string_bytes text.new ≡ string_bytes text.old ++ spec.space_part (scene plan.now) zone) }
+{
+    push_space_title(text, plan, zone)?;
+    push_space_line(text, plan, zone)
+}
+
+/// Adds the name of a zone's space, if that is another one than the zone's.
+fn push_space_title(text: &mut String, plan: &ProgrammedPlan, zone: u8) -> Result<(), AllocError>
+    ensures { OnOk result
+        (string_bytes text.new ≡ string_bytes text.old ++ spec.space_title (scene plan.now) zone) }
+{
+    let space = plan.named.spaces().name(zone);
+    if space == plan.named.zones().name(zone) {
+        Ok(())
+    } else {
+        push_space_name(text, zone, space)
+    }
+}
+
+/// Adds the name of the space of a zone.
+fn push_space_name(text: &mut String, zone: u8, space: &str) -> Result<(), AllocError>
+    ensures { OnOk result
+        (string_bytes text.new ≡ string_bytes text.old ++ spec.space_name_part zone space.now) }
+{
+    let spot = Spot {
+        x: zone_column(zone) + 34,
+        y: 220,
+        most: 13,
+        width: 280,
+    };
+    push_slanted(text, "space", spot, space)
+}
+
+/// Adds a line to the host's mark from the one at the zone before, if both zones are of one space.
+fn push_space_line(text: &mut String, plan: &ProgrammedPlan, zone: u8) -> Result<(), AllocError>
+    ensures { OnOk result
+        (string_bytes text.new ≡ string_bytes text.old ++ spec.space_line (scene plan.now) zone) }
+{
+    let row = plan.named.plan().zone(zone);
+    if row.joins {
+        let column = zone_column(zone);
+        let y = lane(plan, row.host) + 18;
+        push_level(text, "zone", y, column - 123, column + 3)
+    } else {
+        Ok(())
+    }
 }
 
 // ---- hazards

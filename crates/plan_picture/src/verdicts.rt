@@ -80,7 +80,7 @@ pub fn push_verdict(
 {
     match verdict {
         Verdict::Excluded(Cause::Zone(zone)) => {
-            push_two(text, "kept apart by ", named.zones().name(zone))
+            push_two(text, "kept apart by ", named.spaces().name(zone))
         }
         Verdict::Excluded(Cause::Place(place)) => {
             push_two(text, "kept apart by place ", named.places().name(place))
