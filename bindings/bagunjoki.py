@@ -266,14 +266,16 @@ def reply_of(raw, stamp):
 class Word:
     """An interlock, whose state is one word. Threads of one program may share it: a lock keeps their calls apart."""
 
+    no_word = NO_WORD
+
     def __init__(self, places="0000000000", stamp=0, library=None, renews=False):
         """A start: ten digits, 1 where there is a plate, and the first stamp. If it renews, a call after the last stamp
         first gives it the stamp 0; if not, such a call is worn."""
         self.library, self.renews = library or load_library(), renews
         digits = places.encode()
-        self.value = self.library.bagunjoki_start(digits, len(digits), stamp) if 0 <= stamp <= LAST_STAMP else NO_WORD
+        self.value = self.library.bagunjoki_start(digits, len(digits), stamp) if 0 <= stamp <= LAST_STAMP else self.no_word
         self.lock = threading.Lock()
-        if self.value == NO_WORD:
+        if self.value == self.no_word:
             raise ValueError(f"no start has the places {places} and the stamp {stamp}")
 
     def ask(self, machine, verb, thing=None):
@@ -302,8 +304,8 @@ class Word:
 
     def restamped(self, stamp):
         """The word of the same state with another stamp."""
-        value = self.library.bagunjoki_restamp(self.value, stamp) if 0 <= stamp <= LAST_STAMP else NO_WORD
-        if value == NO_WORD:
+        value = self.library.bagunjoki_restamp(self.value, stamp) if 0 <= stamp <= LAST_STAMP else self.no_word
+        if value == self.no_word:
             raise ValueError(f"no state of {self.value:#x} has the stamp {stamp}")
         return value
 

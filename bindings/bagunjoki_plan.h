@@ -97,8 +97,8 @@ enum bagunjoki_plan_answer {
     BAGUNJOKI_PLAN_NO_PLAN = 67   /* the bytes that were opened are no plan's */
 };
 
-/* Instead of a word, and of a stamp. */
-#define BAGUNJOKI_PLAN_NO_WORD UINT64_MAX
+/* Instead of a word, and of a stamp. No state of any plan has this word: its first zone's guest would own it closed. */
+#define BAGUNJOKI_PLAN_NO_WORD UINT64_C(0x8000000000000002)
 #define BAGUNJOKI_PLAN_NO_STAMP UINT32_MAX
 
 /* The last stamp: when a word has it, the interlock is worn. bagunjoki_plan_renew keeps it from that. */
@@ -148,7 +148,7 @@ typedef struct bagunjoki_plan_turned {
 /* A plan that was opened, compiled. Its size never changes; what is in it is the library's alone. */
 typedef struct bagunjoki_plan_opened {
     bool is_plan; /* whether the bytes were a plan's */
-    uint64_t kept[3494];
+    uint64_t kept[3495];
 } bagunjoki_plan_opened;
 
 /* The proved functions. They read nothing but their arguments, keep nothing, and take no memory and no lock. Any thread
@@ -156,7 +156,7 @@ typedef struct bagunjoki_plan_opened {
    `count` lines; none may be null. */
 
 /* Opens a plan. If the bytes are no plan's, `is_plan` is false, and all calls by it are NO_PLAN. It takes some 210 KB
-   of stack, and some milliseconds; the others take half a KB. */
+   of stack, and some milliseconds; the others take up to 1.5 KB. */
 bagunjoki_plan_opened bagunjoki_plan_open(const uint8_t *bytes, size_t length);
 
 /* A call on a word. It changes no shared word. A machine past the plan's may inquire. */

@@ -27,6 +27,8 @@ __version__ = "1.0.0"
 
 # Who stops and resumes, and where a reply names no machine, zone or posture.
 WATCH, NOTHING = 15, 255
+# Instead of a word. No state of any plan has it.
+NO_WORD = 0x8000000000000002
 # Bits of the stamp.
 STAMP_BITS = 20
 WORD, BYTE, STAMP, TEXT, SIZE = ctypes.c_uint64, ctypes.c_uint8, ctypes.c_uint32, ctypes.c_char_p, ctypes.c_size_t
@@ -53,7 +55,7 @@ WITHOUT_OBJECT = (Verb.STOP, Verb.RESUME)
 class RawOpened(ctypes.Structure):
     """A plan that was opened, as C has it."""
 
-    _fields_ = [("is_plan", ctypes.c_bool), ("kept", WORD * 3494)]
+    _fields_ = [("is_plan", ctypes.c_bool), ("kept", WORD * 3495)]
 
 
 OPENED = ctypes.POINTER(RawOpened)
@@ -145,13 +147,17 @@ class Plant:
 
 
 def zone_widths(plan):
-    """How many bits each zone has in the word, by the plan's bytes: four counts, and then rows of zones and of poses. There are two
-    for its owner, one for its flag if a plate has a way through it, and as many for its posture as poses give it postures besides
-    `closed`, but at most two."""
+    """How many bits each zone has in the word, by the plan's bytes: four counts, and then rows of zones and of poses. There are those
+    for its space's owner, one for its flag if a plate has a way through it, and as many for its posture as poses give it postures
+    besides `closed`, but at most two. A zone that is of one space with the one before it has none for the owner; the first zone of
+    a space has two for one guest or two, three for up to six, and four for more."""
     zones, poses = plan[1], plan[2]
     rows, given = [plan[4 + 8 * it :] for it in range(zones)], 6 + 8 * zones
     others = [{plan[given + 12 * pose + it] for pose in range(poses)} - {0, 1} for it in range(zones)]
-    return [2 + (row[2] or row[5]) + min(len(its), 2) for row, its in zip(rows, others)]
+    joined = [it > 0 and row[2] > 1 for it, row in enumerate(rows)] + [False]
+    guests = [0 if joined[it] else joined.index(False, it + 1) - it for it in range(zones)]
+    owners = [0 if it == 0 else 2 if it < 3 else 3 if it < 7 else 4 for it in guests]
+    return [owner + (row[2] % 2 or row[5]) + min(len(its), 2) for owner, row, its in zip(owners, rows, others)]
 
 
 def number_in(names, name, kind):
@@ -209,6 +215,8 @@ class PlanLibrary:
 
 class PlanWord(Word):
     """An interlock, whose state is one word. Threads of one program may share it: a lock keeps their calls apart."""
+
+    no_word = NO_WORD
 
     def __init__(self, plant, places, stamp, library=None, renews=False):
         self.plant = plant

@@ -1,7 +1,8 @@
 /* A plan's names and the layout of its word, as `plan header` prints them. The word of a state has the fields below,
    from the lowest bit: the zones, the places, the stamp and the stop. A zone's bits are, from the lowest, two for its
    owner, one for its flag (a plate is in it) if a plate has a way through it, and for its posture two; or one, 0 for
-   closed, if poses give it one other posture; or none, if it is always closed. */
+   closed, if poses give it one other posture; or none, if it is always closed. The zones of one space have one owner:
+   its bits, two to four, stand in the first of them, and a comment on each other zone names that one. */
 #ifndef PLAN_H
 #define PLAN_H
 

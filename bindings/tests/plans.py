@@ -24,6 +24,9 @@ HEADER = "bindings/bagunjoki_plan.h"
 MODULE = "bindings/bagunjoki_plan.py"
 CRATE = "bindings/rust/src/plan.rs"
 LATHE_HEADER = "bindings/examples/plan_lathe.h"
+# Where it is said how many bytes an opened plan has, and where how many words of eight bytes stand after the first.
+BYTES = {TESTS: r"size_of::<Opened>\(\) == (\d+_\d+)", "crates/plan_c/README.md": r"(\d+,\d+) bytes", "docs/FROM_C.md": r"(\d+,\d+) bytes"}
+KEPT = {HEADER: r"uint64_t kept\[(\d+)\]", MODULE: r'"kept", WORD \* (\d+)', CRATE: r"kept: \[u64; (\d+)\]"}
 BUSY = 66
 # The structs of the header, by those of the crate.
 KINDS = {"Reply": "reply", "ProgramLine": "line", "Place": "place", "Turned": "turned"}
@@ -52,6 +55,7 @@ a line has 16 bytes
 """
 LATHE = "".join(f"{it}: 100 rounds, stopped by 0\n" for it in ("conveyor", "feeder", "lathe", "unloader"))
 LATHE += "no two motors of a hazard were on together\n"
+SIDES = "11 of 11 words are as by hand\n"
 # By hand: the rack is closed or openin, and no plate is in it; at the presses there is all.
 READINGS = "rack: 5 0\nleft: f 1\nright: f 1\n"
 LATHES = [[], ["processes"], ["cuts"], ["processes", "cuts"]]
@@ -171,18 +175,22 @@ def of_crates(root):
     return found, limits, {kind: re.findall(r"^    pub (\w+): (\w+),$", body, re.M) for kind, body in bodies.items()}
 
 
+def limit(text):
+    """The number that a text in C is."""
+    return 2**32 - 1 if text == "UINT32_MAX" else int(re.sub(r"UINT64_C\((\w+)\)", r"\1", text), 0)
+
+
 def of_header(root):
     """The same as the header has them."""
     text = text_of(f"{root}/{HEADER}")
     found = {}
     for kind, cases in re.findall(r"^enum bagunjoki_plan_(\w+) \{(.*?)\};", text, re.M | re.S):
         found[kind] = {name: int(number) for name, number in re.findall(r"BAGUNJOKI_PLAN_(\w+) = (\d+)", cases)}
-    most = {"UINT64_MAX": 2**64 - 1, "UINT32_MAX": 2**32 - 1}
-    limits = re.findall(r"#define BAGUNJOKI_PLAN_(\w+) (\d+|UINT\d\d_MAX)$", text, re.M)
+    limits = re.findall(r"#define BAGUNJOKI_PLAN_(\w+) (\d+|UINT32_MAX|UINT64_C\(0x\w+\))$", text, re.M)
     body = lambda name: re.search(rf"typedef struct bagunjoki_plan_{name} \{{(.*?)\}}", text, re.S)[1]
     named = {kind: re.findall(r"^    (\w+) (\w+);", body(name), re.M) for kind, name in KINDS.items()}
     fields = {kind: [(name, TYPES.get(it, it)) for it, name in its] for kind, its in named.items()}
-    return found, {name: most.get(number) or int(number) for name, number in limits}, fields
+    return found, {name: limit(number) for name, number in limits}, fields
 
 
 def functions_of_crate(root):
@@ -229,6 +237,19 @@ def verbs_elsewhere(root):
     return {path: {compare.snake(name): int(number) for name, number in verbs} for path, verbs in found.items()}
 
 
+def no_words(root):
+    """What stands for no word in the Python module and the crate for cargo, by their files."""
+    said = {MODULE: r"^NO_WORD = (0x\w+)$", CRATE: r"NO_WORD: u64 = (0x\w+);"}
+    return {path: int(re.search(it, text_of(f"{root}/{path}"), re.M)[1], 0) for path, it in said.items()}
+
+
+def sizes(root):
+    """How many bytes an opened plan has, by the files that say so."""
+    number = lambda path, said: int(re.sub("[,_]", "", re.search(said, text_of(f"{root}/{path}"))[1]))
+    found = {path: number(path, said) for path, said in BYTES.items()}
+    return found | {path: 8 + 8 * number(path, said) for path, said in KEPT.items()}
+
+
 def bytes_of(text, begin, end):
     """The numbers that stand between two texts."""
     return [int(it) for it in re.findall(r"\d+", re.search(rf"{begin}(.*?){end}", text, re.S)[1])]
@@ -246,6 +267,12 @@ def differences(root):
         wanted = table(text_of(f"{root}/{NUMBERS}"), "verb_number")
         if verbs != wanted:
             said.append(f"verbs are {verbs} in {path}, and {wanted} in the crates")
+    for path, word in no_words(root).items():
+        wanted = value(text_of(f"{root}/{REPLIES}"), "no_word")
+        if word != wanted:
+            said.append(f"no word is {word:#x} in {path}, and {wanted:#x} in the crates")
+    wanted, *others = sizes(root).items()
+    said += [f"an opened plan has {size:,} bytes in {path}, and {wanted[1]:,} in {wanted[0]}" for path, size in others if size != wanted[1]]
     for name, path in PLANS:
         wanted = bytes_of(text_of(f"{root}/{EXAMPLES}"), rf"bytes_of {name}_table ≡", r"\[\]")
         if bytes_of(text_of(f"{root}/{path}"), r"PLAN_BYTES\[\] = \{", r"\};") != wanted:
@@ -284,13 +311,26 @@ def lathe_header(trials, program):
     return "" if there else trials.fail(f"it differs: ./plan header < examples/plans/lathe.toml > {LATHE_HEADER}")
 
 
+def header_of(trials, program, plan):
+    """Writes the header of an example's plan."""
+    with open(f"{trials.room}/{plan}.h", "w", encoding="ascii") as to:
+        to.write(trials.run([program, "header"], text_of(f"{trials.root}/examples/plans/{plan}.toml")))
+
+
 def readings(trials, compiler, program, *flags):
     """What the macros of a header read of zones of three and five bits is what the library shows."""
-    with open(f"{trials.room}/two_presses.h", "w", encoding="ascii") as to:
-        to.write(trials.run([program, "header"], text_of(f"{trials.root}/examples/plans/two_presses.toml")))
+    header_of(trials, program, "two_presses")
     reader = trials.compile(compiler, "tests/plan_readings.c", f"-I{trials.room}", *flags, library="bagunjoki_plan")
     said = trials.run([reader])
     return "200,000 words" if said == READINGS else trials.fail(f"it writes\n{said}and not\n{READINGS}")
+
+
+def sides(trials, compiler, program, *flags):
+    """Words of a press with two robots are as by hand, and so is what the macros of its header read of its two sides."""
+    header_of(trials, program, "press_two_robots")
+    reader = trials.compile(compiler, "tests/plan_sides.c", f"-I{trials.room}", *flags, library="bagunjoki_plan")
+    said = trials.run([reader])
+    return "11 words" if said == SIDES else trials.fail(f"it writes\n{said}and not\n{SIDES}")
 
 
 def records(trials, compiler, *flags):

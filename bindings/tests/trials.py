@@ -345,8 +345,10 @@ def in_all_languages(trials, compilers):
         trials.attempt("plan_lathe.h", plans.lathe_header, trials, program)
         for compiler in compilers:
             trials.attempt(f"zones read by a header, {compiler}", plans.readings, trials, compiler, program)
+            trials.attempt(f"sides read by a header, {compiler}", plans.sides, trials, compiler, program)
         for compiler in trials.there("g++", "clang++"):
             trials.attempt(f"zones read by a header, {compiler}", plans.readings, trials, compiler, program, "-x", "c++")
+            trials.attempt(f"sides read by a header, {compiler}", plans.sides, trials, compiler, program, "-x", "c++")
     else:
         trials.absent.append("./plan")
     for version, path in pythons():

@@ -137,6 +137,9 @@ pub fn stamp_of(word: u64) -> u32 {
 
 /// What answers a call on a word: the cell's library, or an opened plan.
 trait Rules {
+    /// Instead of a word.
+    const NO_WORD: u64;
+
     fn step(&self, word: u64, machine: u8, verb: u8, object: u8) -> Reply;
     fn stamp(&self, word: u64) -> u32;
     fn restamp(&self, word: u64, stamp: u32) -> u64;
@@ -178,11 +181,11 @@ impl Shared {
         }
     }
 
-    fn renew(&self, rules: &impl Rules, from: u32, to: u32, tries: u32) -> bool {
+    fn renew<R: Rules>(&self, rules: &R, from: u32, to: u32, tries: u32) -> bool {
         let mut word = self.word();
         for _ in 0..tries {
             let next = rules.restamp(word, to);
-            if rules.stamp(word) < from || next == u64::MAX {
+            if rules.stamp(word) < from || next == R::NO_WORD {
                 break;
             }
             match self.0.compare_exchange(word, next, SeqCst, SeqCst) {
@@ -198,6 +201,8 @@ impl Shared {
 struct Cell;
 
 impl Rules for Cell {
+    const NO_WORD: u64 = u64::MAX;
+
     fn step(&self, word: u64, machine: u8, verb: u8, object: u8) -> Reply {
         bagunjoki_step(word, machine, verb, object)
     }
@@ -219,7 +224,7 @@ impl Interlock {
     pub fn new(places: &str, stamp: u32) -> Option<Interlock> {
         // the library reads these bytes and no others
         let start = unsafe { bagunjoki_start(places.as_ptr(), places.len(), stamp) };
-        (start != u64::MAX).then(|| Interlock(Shared(AtomicU64::new(start))))
+        (start != Cell::NO_WORD).then(|| Interlock(Shared(AtomicU64::new(start))))
     }
 
     /// The word now.

@@ -45,7 +45,7 @@ pub enum Verb {
 #[derive(Clone)]
 struct Opened {
     is_plan: bool,
-    kept: [u64; 3494],
+    kept: [u64; 3495],
 }
 
 unsafe extern "C" {
@@ -76,6 +76,9 @@ impl Plan {
 }
 
 impl Rules for Plan {
+    // no state of any plan has this word
+    const NO_WORD: u64 = 0x8000_0000_0000_0002;
+
     fn step(&self, word: u64, machine: u8, verb: u8, object: u8) -> Reply {
         bagunjoki_plan_step(&self.0, word, machine, verb, object)
     }
@@ -115,7 +118,7 @@ impl Interlock {
         // the library reads these bytes and no others
         let start = unsafe { bagunjoki_plan_start(&plan.0, places.as_ptr(), places.len(), stamp) };
         let begin = || Interlock { plan: plan.clone(), shared: Shared(AtomicU64::new(start)) };
-        (start != u64::MAX).then(begin)
+        (start != Plan::NO_WORD).then(begin)
     }
 
     /// The plan.

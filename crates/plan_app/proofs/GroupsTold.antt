@@ -44,7 +44,7 @@ exploration_is apart n ps opening groups (Ok found) are smallest by is =
     is_exploration apart n ps opening groups found are smallest by is
 exploration_is apart n ps opening groups (Err e) are smallest by is = tt
 
--- what a screen tells of a group
+-- the screen of a group has the facts of what it tells
 pub part_told : (n : Named) (ps : PlanPrograms) (opening : State) (ours : ℕ → Bool) (screen : Screen)
     → IsPartScreen n ps opening ours screen → IsPart n ps opening ours (told_by screen)
 part_told n ps opening ours (Free text) is = is

@@ -42,11 +42,11 @@ module _ (t : PlanTable) (s : State) (m : ℕ) (fresh : refusals.worn s ≡ None
   same_refusal : (c : Call) → refusal t (unstamped s) m c ≡ refusal t s m c
   same_refusal (Claim z) = ap (λ w. refusals.not_party t m z or refusals.while_stopped s or refusals.already_mine s m z or refusals.held s m z or refusals.shut_to_guest t s m z or w) (sym fresh)
   same_refusal (Give z) =
-      ap (λ w. refusals.not_party t m z or refusals.while_stopped s or refusals.not_owner s m z or refusals.plate_in_zone s z or refusals.wrong_way (refusals.transfer_given t s m z)
+      ap (λ w. refusals.not_party t m z or refusals.while_stopped s or refusals.not_owner s m z or refusals.plate_in_zone t s z or refusals.wrong_way (refusals.transfer_given t s m z)
       or refusals.nothing_to_give s (refusals.transfer_given t s m z) or refusals.no_room t s (refusals.transfer_given t s m z) or w) (sym fresh)
-  same_refusal (Yield z) = ap (λ w. refusals.not_party t m z or refusals.not_owner s m z or refusals.plate_in_zone s z or refusals.shut s z or w) (sym fresh)
+  same_refusal (Yield z) = ap (λ w. refusals.not_party t m z or refusals.not_owner s m z or refusals.plate_in_zone t s z or refusals.shut s z or w) (sym fresh)
   same_refusal (Take z) = ap (λ w. refusals.not_party t m z or refusals.not_owner s m z or refusals.no_plate_in_zone s z or w) (sym fresh)
-  same_refusal (Release z) = ap (λ w. refusals.not_party t m z or refusals.not_owner s m z or refusals.plate_in_zone s z or refusals.shut_while_moving s z or w) (sym fresh)
+  same_refusal (Release z) = ap (λ w. refusals.not_party t m z or refusals.not_owner s m z or refusals.plate_in_zone t s z or refusals.shut_while_moving s z or w) (sym fresh)
   same_refusal (SetPose p) =
       ap (λ w. refusals.lacks_pose t m p or refusals.moves_while_stopped t s p or refusals.first_zone t (refusals.unowned_by_pose t s m p) or refusals.first_zone t (refusals.plate_under_pose t s m p)
       or refusals.jump t s m p or refusals.first_zone t (refusals.opens_onto_plate t s p) or w) (sym fresh)

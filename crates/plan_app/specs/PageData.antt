@@ -8,7 +8,7 @@ use Rattle.plan_types.specs.declared.table.PlanZone.{PlanZone}
 use Rattle.plan_types.specs.declared.table.Way.{Way}
 use Rattle.plan_types.specs.declared.shape.Postures.{Postures}
 use Rattle.plan_types.specs.declared.shape.Postures.TheVariants.{Shut, Two, All}
-use Rattle.plan_types.specs.Table.{guest_of, host_of, keeper_of, postures_of, zone_row, zone_shape}
+use Rattle.plan_types.specs.Table.{guest_of, host_of, joins, keeper_of, postures_of, zone_row, zone_shape}
 use Rattle.plan_controller.specs.declared.step.Step.{Step}
 use Rattle.plan_controller.specs.declared.step.Step.TheVariants.{Do, Await, Run}
 use Rattle.plan_document.specs.declared.resolving.ProgrammedPlan.{ProgrammedPlan}
@@ -20,7 +20,7 @@ use Rattle.plan_text.specs.Answers.{posture_word}
 use Rattle.plan_text.specs.Calls.{call_text}
 use Rattle.plan_text.specs.Named.{Named}
 use Rattle.plan_text.specs.Names.{Text, name_in}
-use Rattle.plan_app.specs.declared.page_data.TheConstants.{INWARD, MASK, MOTORS, OUTWARD, PATTERN, PLACES}
+use Rattle.plan_app.specs.declared.page_data.TheConstants.{INWARD, JOINS, MASK, MOTORS, OUTWARD, PATTERN, PLACES}
 use Rattle.plan_app.specs.declared.page_data.TheConstants.{POSTURES, PROGRAMS, ZONES}
 
 -- ---- lists
@@ -74,9 +74,16 @@ parties_text n z =
     codes "{\"name\": \"" ++ (zone_name n z ++ (codes "\", \"host\": " ++ (decimal (host_of n.plan z)
     ++ (codes ", \"guest\": " ++ decimal (guest_of n.plan z)))))
 
+-- a zone that is of one space with the zone before it says so
+abbrev pub joins_text : Named → ℕ → Text
+joins_text n z = if joins n.plan z then JOINS.now else []
+
+abbrev pub joined_text : Named → ℕ → Text
+joined_text n z = parties_text n z ++ joins_text n z
+
 abbrev pub zone_item : Named → ℕ → Text
 zone_item n z =
-    parties_text n z ++ (ways_text (zone_row n.plan z) ++ postures_text (postures_of (zone_shape n.plan z)))
+    joined_text n z ++ (ways_text (zone_row n.plan z) ++ postures_text (postures_of (zone_shape n.plan z)))
 
 -- ---- motors: of each its machine, the bits of the plan's word that it looks at, and what they have to be
 

@@ -14,10 +14,9 @@ use Rattle.plan_app.specs.Films.{film_lines}
 use Rattle.plan_app.specs.Going.{asked_line, way_text}
 use Rattle.plan_app.specs.PageData.{data_of}
 use Rattle.plan_app.specs.RunPages.{ShowsRun}
-use Rattle.plan_app.specs.Pages.{Shows, TellsPage, in_vain, watched_events}
+use Rattle.plan_app.specs.Pages.{Shows, TellsPage, in_vain, tail_of, watched_events}
 use Rattle.plan_app.specs.declared.page_head.TheConstants.{PLAN_HEAD}
 use Rattle.plan_app.specs.declared.page_middle.TheConstants.{PLAN_MIDDLE}
-use Rattle.plan_app.specs.declared.page_tail.TheConstants.{PLAN_TAIL}
 
 -- a page has data and lines of what it shows, of 100,000 turns at most
 pub record IsWhole (plan : ProgrammedPlan) (opening : State) (text : Text) : Type 0 where
@@ -26,7 +25,7 @@ pub record IsWhole (plan : ProgrammedPlan) (opening : State) (text : Text) : Typ
   pub shows : Shows plan.named plan.programs opening note events
   pub few : length events ≤ 100000
   pub told : text ≡ PLAN_HEAD.now ++ (data_of plan note ++ (PLAN_MIDDLE.now
-      ++ (film_lines plan.named (unstamped opening) events ++ PLAN_TAIL.now)))
+      ++ (film_lines plan.named (unstamped opening) events ++ tail_of plan.named.plan)))
 
 pub record PagesTell : Type 0 where
   pub whole : (plan : ProgrammedPlan) (opening : State) (text : Text) → TellsPage plan opening text

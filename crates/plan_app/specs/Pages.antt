@@ -3,7 +3,8 @@ use Rattle.std.specs.Prelude.{◌≡◌, ◌⊎◌, ◌<◌, ◌≤◌, ℕ, nat
 use Rattle.std.specs.Prelude.{slice_get, is_some, string_bytes, Option, Some, None, if◌then◌else◌}
 use Rattle.std.specs.Bool.{then_some}
 use Rattle.std.specs.Option.{option_and_then, option_to_list}
-use Rattle.plan_types.specs.Below.{first_below}
+use Rattle.plan_types.specs.Below.{any_below, first_below}
+use Rattle.plan_types.specs.Table.{PlanTable, joins, zone_count}
 use Rattle.plan_types.specs.declared.answer.Event.{Event}
 use Rattle.plan_rules.specs.declared.state.State.{State}
 use Rattle.plan_explorer.specs.declared.situation.Situation.{Situation}
@@ -28,6 +29,7 @@ use Rattle.plan_app.specs.Screens.{AreAnswers, TellsFree, TellsUnfinished, outlo
 use Rattle.plan_app.specs.Words.{counted}
 use Rattle.plan_app.specs.declared.page_head.TheConstants.{PLAN_HEAD}
 use Rattle.plan_app.specs.declared.page_middle.TheConstants.{PLAN_MIDDLE}
+use Rattle.plan_app.specs.declared.page_spaces.TheConstants.{SPACES_TAIL}
 use Rattle.plan_app.specs.declared.page_tail.TheConstants.{PLAN_TAIL}
 use Rattle.plan_app.specs.declared.page.Page.{Page}
 use Rattle.plan_app.specs.declared.page.Page.TheVariants.{Free, Found, Long, Large}
@@ -38,10 +40,15 @@ use Rattle.plan_app.specs.declared.page.Page.TheVariants.{Free, Found, Long, Lar
 unfoldable pub max_turns : ℕ
 max_turns = 100000
 
+-- its end, which reads zones: those of one space by the owner that the first one tells
+abbrev pub tail_of : PlanTable → Text
+tail_of t = if any_below (joins t) (zone_count t) then SPACES_TAIL.now else PLAN_TAIL.now
+
 -- what stands before its data, the data, what stands before its lines, the lines, and its end
 unfoldable pub page_text : ProgrammedPlan → Text → State → List Event → Text
 page_text plan note start events =
-    PLAN_HEAD.now ++ (data_of plan note ++ (PLAN_MIDDLE.now ++ (film_lines plan.named start events ++ PLAN_TAIL.now)))
+    PLAN_HEAD.now ++ (data_of plan note ++ (PLAN_MIDDLE.now
+    ++ (film_lines plan.named start events ++ tail_of plan.named.plan)))
 
 -- ---- a standstill: the turns to it, and then each machine that asks twice, which is refused or waits on
 

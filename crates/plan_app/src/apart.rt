@@ -163,7 +163,8 @@ fn parts_of(
     groups: &Groups,
 ) -> Result<Exploration, AllocError>
     ensures { IfOk result
-        (spec.IsExplorationBy true plan.now.named.now plan.now.programs.now opening.now groups.now) }
+        (spec.IsExplorationBy true plan.now.named.now plan.now.programs.now opening.now
+        groups.now) }
 {
     let mut text = String::new(alloc);
     let mut well = true;
@@ -200,7 +201,8 @@ fn large_part(
     turns: usize,
 ) -> Result<Exploration, AllocError>
     requires { first < 15 }
-    ensures { IfOk result (spec.IsLargePart plan.now.named.now groups.now first (length plan.now.programs.now) turns) }
+    ensures { IfOk result (spec.IsLargePart plan.now.named.now groups.now first
+        (length plan.now.programs.now) turns) }
 {
     let mut words = String::from_str(alloc, "large: ")?;
     push_names(&mut words, plan, groups, first)?;
@@ -385,8 +387,10 @@ fn part_free(
 ) -> Result<Screen, AllocError>
     requires { first < 15 }
     ensures { IfOk result (screens.ShowsGoingBy plan.now.named.now plan.now.programs.now opening.now
-        (spec.part_starves (spec.group_of groups.now first) plan.now.named.now plan.now.programs.now)
-        (spec.part_text (spec.group_of groups.now first) plan.now.named.now plan.now.programs.now opening.now)
+        (spec.part_starves (spec.group_of groups.now first) plan.now.named.now
+        plan.now.programs.now)
+        (spec.part_text (spec.group_of groups.now first) plan.now.named.now plan.now.programs.now
+        opening.now)
         situations) }
 {
     let answers = machines_of(alloc, plan, opening)?;
@@ -419,9 +423,11 @@ fn part_text(
 ) -> Result<Screen, AllocError>
     requires { own.now.first < 15 }
     ensures { IfOk result (screens.ShowsFree situations
-        (spec.part_text (spec.group_of own.now.groups.now own.now.first) plan.now.named.now plan.now.programs.now
+        (spec.part_text (spec.group_of own.now.groups.now own.now.first) plan.now.named.now
+        plan.now.programs.now
         opening.now own.now.answers.now own.now.plates.now)
-        (spec.part_starves (spec.group_of own.now.groups.now own.now.first) plan.now.named.now plan.now.programs.now
+        (spec.part_starves (spec.group_of own.now.groups.now own.now.first) plan.now.named.now
+        plan.now.programs.now
         own.now.answers.now own.now.plates.now)) }
 {
     let mut text = String::new(alloc);
@@ -438,7 +444,8 @@ fn part_text(
 fn push_own(text: &mut String, plan: &Acting, opening: &State, own: &Own) -> Result<(), AllocError>
     requires { own.now.first < 15 }
     ensures { OnOk result (string_bytes text.new ≡ string_bytes text.old
-        ++ spec.part_text (spec.group_of own.now.groups.now own.now.first) plan.now.named.now plan.now.programs.now
+        ++ spec.part_text (spec.group_of own.now.groups.now own.now.first) plan.now.named.now
+        plan.now.programs.now
         opening.now own.now.answers.now own.now.plates.now) }
 {
     push_own_machines(text, plan, opening, own)?;
@@ -455,8 +462,10 @@ fn push_own_machines(
 ) -> Result<(), AllocError>
     requires { own.now.first < 15 }
     ensures { OnOk result (string_bytes text.new ≡ string_bytes text.old
-        ++ flat_map (spec.own_text (spec.group_of own.now.groups.now own.now.first) plan.now.named.now
-        plan.now.programs.now opening.now own.now.answers.now) (range_with_len 0 (length plan.now.programs.now))) }
+        ++ flat_map (spec.own_text (spec.group_of own.now.groups.now own.now.first)
+        plan.now.named.now
+        plan.now.programs.now opening.now own.now.answers.now)
+        (range_with_len 0 (length plan.now.programs.now))) }
 {
     'machines: for machine in 0..plan.programs.count() {
         push_own_machine(text, plan, opening, own, machine)?;
@@ -475,7 +484,8 @@ fn push_own_machine(
     requires first { own.now.first < 15 }
     requires machine { machine < 15 }
     ensures { OnOk result (string_bytes text.new ≡ string_bytes text.old
-        ++ spec.own_text (spec.group_of own.now.groups.now own.now.first) plan.now.named.now plan.now.programs.now
+        ++ spec.own_text (spec.group_of own.now.groups.now own.now.first) plan.now.named.now
+        plan.now.programs.now
         opening.now own.now.answers.now machine) }
 {
     if is_of_group(own.groups, own.first, machine) {
@@ -505,7 +515,8 @@ fn push_own_plates(
 /// Whether a machine of a group may starve, or its plates may rest.
 fn part_starves(plan: &Acting, own: &Own) -> bool
     requires { own.now.first < 15 }
-    ensures { result ≡ spec.part_starves (spec.group_of own.now.groups.now own.now.first) plan.now.named.now
+    ensures { result ≡ spec.part_starves (spec.group_of own.now.groups.now own.now.first)
+        plan.now.named.now
         plan.now.programs.now own.now.answers.now own.now.plates.now }
 {
     any_starves(plan.programs, own)
@@ -530,7 +541,8 @@ fn any_starves(programs: &Programs, own: &Own) -> bool
 fn own_starves(own: &Own, machine: u8) -> bool
     requires first { own.now.first < 15 }
     requires machine { machine < 15 }
-    ensures { result ≡ spec.own_starves (spec.group_of own.now.groups.now own.now.first) own.now.answers.now machine }
+    ensures { result ≡ spec.own_starves (spec.group_of own.now.groups.now own.now.first)
+        own.now.answers.now machine }
 {
     is_of_group(own.groups, own.first, machine) && may_starve_at(own.answers, machine)
 }

@@ -141,7 +141,8 @@ fn push_undriven(
     drives: &[Option<Undriven>],
 ) -> Result<(), AllocError>
     ensures { OnOk result
-        (string_bytes text.new ≡ string_bytes text.old ++ spec.drive_lines named.now motors.now drives.now) }
+        (string_bytes text.new ≡ string_bytes text.old
+        ++ spec.drive_lines named.now motors.now drives.now) }
 {
     'machines: for machine in 0..named.machines().len() as u8 {
         push_drive(text, named, motors, drives, machine)?;
@@ -158,7 +159,8 @@ fn push_drive(
     machine: u8,
 ) -> Result<(), AllocError>
     ensures { OnOk result
-        (string_bytes text.new ≡ string_bytes text.old ++ spec.drive_line named.now motors.now drives.now machine) }
+        (string_bytes text.new ≡ string_bytes text.old
+        ++ spec.drive_line named.now motors.now drives.now machine) }
 {
     match drives.get(usize::from(machine)) {
         Some(Some(undriven)) => push_line(text, named, motors, machine, *undriven),
@@ -185,7 +187,8 @@ fn push_line(
 
 /// Adds what a motor lacks.
 fn push_lack(text: &mut String, named: &NamedPlan, lack: Lack) -> Result<(), AllocError>
-    ensures { OnOk result (string_bytes text.new ≡ string_bytes text.old ++ spec.lack_text named.now lack) }
+    ensures { OnOk result (string_bytes text.new
+        ≡ string_bytes text.old ++ spec.lack_text named.now lack) }
 {
     match lack {
         Lack::NoSuchMotor => text.push_str("is no motor of the plan\n"),
@@ -218,7 +221,8 @@ fn push_posture(
     known: Option<Posture>,
 ) -> Result<(), AllocError>
     ensures { OnOk result
-        (string_bytes text.new ≡ string_bytes text.old ++ spec.posture_needed zone.now needed known) }
+        (string_bytes text.new ≡ string_bytes text.old
+        ++ spec.posture_needed zone.now needed known) }
 {
     let needed = posture_word(needed);
     match known {
@@ -238,7 +242,8 @@ fn push_filling(
     is_known: bool,
 ) -> Result<(), AllocError>
     ensures { OnOk result
-        (string_bytes text.new ≡ string_bytes text.old ++ spec.filling_needed place.now needed is_known) }
+        (string_bytes text.new ≡ string_bytes text.old
+        ++ spec.filling_needed place.now needed is_known) }
 {
     let here = if is_known { "is" } else { "may be" };
     let full = filling(needed);

@@ -68,7 +68,8 @@ fn free_screen(
     opening: &State,
     situations: usize,
 ) -> Result<Screen, AllocError>
-    ensures { IfOk result (λ screen. spec.ShowsGoing plan.now.named.now plan.now.programs.now opening.now
+    ensures { IfOk result (λ screen. spec.ShowsGoing plan.now.named.now plan.now.programs.now
+        opening.now
         situations screen) }
 {
     let answers = machines_of(alloc, plan, opening)?;
@@ -92,7 +93,8 @@ pub(crate) fn machines_of(
     ensures count { IfOk result (λ answers. length answers.items ≡ length plan.now.programs.now) }
     ensures each { IfOk result (λ answers. (m : ℕ) (answer : Liveness)
         → slice_get answers.items m ≡ Some answer
-        → IsLiveness plan.now.named.now.plan plan.now.programs.now (first_situation opening.now) m answer) }
+        → IsLiveness plan.now.named.now.plan plan.now.programs.now (first_situation opening.now) m
+        answer) }
 {
     explore_machines(alloc, plan.named.plan(), opening, plan.programs)
 }
@@ -103,8 +105,10 @@ pub(crate) fn plates_of(
     plan: &Acting,
     opening: &State,
 ) -> Result<Progress, AllocError>
-    ensures moving { IfOk result (λ plates. spec.MoveOn plan.now.named.now plan.now.programs.now opening.now plates) }
-    ensures resting { IfOk result (λ plates. spec.MayRest plan.now.named.now plan.now.programs.now opening.now plates) }
+    ensures moving { IfOk result (λ plates. spec.MoveOn plan.now.named.now plan.now.programs.now
+        opening.now plates) }
+    ensures resting { IfOk result (λ plates. spec.MayRest plan.now.named.now plan.now.programs.now
+        opening.now plates) }
 {
     explore_plates(alloc, plan.named.plan(), opening, plan.programs, None, &[])
 }
@@ -140,8 +144,10 @@ pub(crate) fn push_free(
     answers: &[Liveness],
     plates: &Progress,
 ) -> Result<(), AllocError>
-    ensures { OnOk result (string_bytes text.new ≡ string_bytes text.old ++ (spec.free_line situations
-        ++ going_text plan.now.named.now plan.now.programs.now opening.now answers.now plates.now)) }
+    ensures { OnOk result (string_bytes text.new
+        ≡ string_bytes text.old ++ (spec.free_line situations
+        ++ going_text plan.now.named.now plan.now.programs.now opening.now answers.now
+        plates.now)) }
 {
     push_situations(text, situations)?;
     push_all(text, plan, opening, answers, plates)
@@ -149,7 +155,8 @@ pub(crate) fn push_free(
 
 /// Adds how many situations there are, none of them a standstill.
 pub(crate) fn push_situations(text: &mut String, situations: usize) -> Result<(), AllocError>
-    ensures { OnOk result (string_bytes text.new ≡ string_bytes text.old ++ spec.free_line situations) }
+    ensures { OnOk result (string_bytes text.new
+        ≡ string_bytes text.old ++ spec.free_line situations) }
 {
     text.push_str(FREE)?;
     push_counted(text, situations, "situation")?;
@@ -163,8 +170,10 @@ pub(crate) fn standstill_screen(
     opening: &State,
     turns: &[u8],
 ) -> Result<Screen, AllocError>
-    ensures { IfOk result (λ screen. spec.ShowsStandstill plan.now.named.now plan.now.programs.now opening.now
-        (spec.outlook_after plan.now.named.now plan.now.programs.now opening.now turns.now) turns.now screen) }
+    ensures { IfOk result (λ screen. spec.ShowsStandstill plan.now.named.now plan.now.programs.now
+        opening.now
+        (spec.outlook_after plan.now.named.now plan.now.programs.now opening.now turns.now)
+        turns.now screen) }
 {
     let waiting = waiting_after(alloc, plan.named, plan.programs, opening, turns)?;
     standstill_text(alloc, plan, opening, turns, waiting.as_slice())
@@ -193,7 +202,8 @@ fn standstill_text(
     turns: &[u8],
     waiting: &[Event],
 ) -> Result<Screen, AllocError>
-    ensures { IfOk result (λ screen. spec.ShowsStandstill plan.now.named.now plan.now.programs.now opening.now
+    ensures { IfOk result (λ screen. spec.ShowsStandstill plan.now.named.now plan.now.programs.now
+        opening.now
         waiting.now turns.now screen) }
 {
     let mut text = String::new(alloc);
@@ -210,7 +220,8 @@ fn push_standstill(
     waiting: &[Event],
 ) -> Result<(), AllocError>
     ensures { OnOk result (string_bytes text.new ≡ string_bytes text.old
-        ++ spec.standstill_text plan.now.named.now plan.now.programs.now opening.now turns.now waiting.now) }
+        ++ spec.standstill_text plan.now.named.now plan.now.programs.now opening.now turns.now
+        waiting.now) }
 {
     push_count(text, turns.len())?;
     push_waiting(text, plan.named, waiting)?;
@@ -229,7 +240,8 @@ fn push_count(text: &mut String, count: usize) -> Result<(), AllocError>
 /// Adds a line for each machine that waits.
 fn push_waiting(text: &mut String, named: &NamedPlan, waiting: &[Event]) -> Result<(), AllocError>
     ensures { OnOk result
-        (string_bytes text.new ≡ string_bytes text.old ++ flat_map (spec.wait_line named.now) waiting.now) }
+        (string_bytes text.new ≡ string_bytes text.old
+        ++ flat_map (spec.wait_line named.now) waiting.now) }
 {
     'events: for event in waiting {
         push_wait(text, named, event)?;
@@ -239,7 +251,8 @@ fn push_waiting(text: &mut String, named: &NamedPlan, waiting: &[Event]) -> Resu
 
 /// Adds what a machine asks, and why it waits.
 fn push_wait(text: &mut String, named: &NamedPlan, event: &Event) -> Result<(), AllocError>
-    ensures { OnOk result (string_bytes text.new ≡ string_bytes text.old ++ spec.wait_line named.now event.now) }
+    ensures { OnOk result (string_bytes text.new
+        ≡ string_bytes text.old ++ spec.wait_line named.now event.now) }
 {
     push_line(text, named, " waits: ", *event)
 }
@@ -269,7 +282,8 @@ pub(crate) fn large_words(alloc: Global, turns: usize) -> Result<String, AllocEr
 
 /// Adds that there are more situations than are explored, and how far the exploration came.
 pub(crate) fn push_unfinished(text: &mut String, turns: usize) -> Result<(), AllocError>
-    ensures { OnOk result (string_bytes text.new ≡ string_bytes text.old ++ spec.unfinished_words turns) }
+    ensures { OnOk result (string_bytes text.new
+        ≡ string_bytes text.old ++ spec.unfinished_words turns) }
 {
     text.push_str(UNFINISHED)?;
     push_counted(text, turns, "turn")

@@ -36,7 +36,8 @@ pub fn push_all(
     plates: &Progress,
 ) -> Result<(), AllocError>
     ensures { OnOk result (string_bytes text.new ≡ string_bytes text.old
-        ++ spec.going_text plan.now.named.now plan.now.programs.now opening.now answers.now plates.now) }
+        ++ spec.going_text plan.now.named.now plan.now.programs.now opening.now answers.now
+        plates.now) }
 {
     push_going(text, plan, opening, answers)?;
     push_plates(text, plan, opening, plates)?;
@@ -68,7 +69,8 @@ pub(crate) fn push_machine(
     answers: &[Liveness],
 ) -> Result<(), AllocError>
     ensures { OnOk result (string_bytes text.new ≡ string_bytes text.old
-        ++ spec.machine_text plan.now.named.now plan.now.programs.now opening.now answers.now machine) }
+        ++ spec.machine_text plan.now.named.now plan.now.programs.now opening.now answers.now
+        machine) }
 {
     match answers.get(usize::from(machine)) {
         Some(answer) => push_liveness(text, plan, opening, machine, answer),
@@ -101,7 +103,8 @@ fn push_starving(
     found: &Liveness,
 ) -> Result<(), AllocError>
     ensures { OnOk result (string_bytes text.new ≡ string_bytes text.old
-        ++ spec.starving_text plan.now.named.now plan.now.programs.now opening.now machine found.now) }
+        ++ spec.starving_text plan.now.named.now plan.now.programs.now opening.now machine
+        found.now) }
 {
     match found {
         Liveness::IfOne { order, .. } => push_order(text, plan, opening, machine, order),
@@ -137,7 +140,8 @@ fn push_answer(
 
 /// Adds that a machine goes on in each fair order.
 fn push_always(text: &mut String, bound: Bound) -> Result<(), AllocError>
-    ensures { OnOk result (string_bytes text.new ≡ string_bytes text.old ++ spec.always_text bound) }
+    ensures { OnOk result (string_bytes text.new
+        ≡ string_bytes text.old ++ spec.always_text bound) }
 {
     text.push_str(" goes on for ever in each fair order: ")?;
     push_within(text, bound)
@@ -145,7 +149,8 @@ fn push_always(text: &mut String, bound: Bound) -> Result<(), AllocError>
 
 /// Adds that a machine goes on if no machine is passed over for ever.
 fn push_if_all(text: &mut String, bound: Bound) -> Result<(), AllocError>
-    ensures { OnOk result (string_bytes text.new ≡ string_bytes text.old ++ spec.if_all_text bound) }
+    ensures { OnOk result (string_bytes text.new
+        ≡ string_bytes text.old ++ spec.if_all_text bound) }
 {
     text.push_str(" goes on for ever if no machine is passed over for ever: ")?;
     push_within(text, bound)
@@ -184,7 +189,8 @@ fn push_bound(text: &mut String, bound: Bound) -> Result<(), AllocError>
 
 /// Adds within how many turns a machine goes on.
 fn push_within(text: &mut String, bound: Bound) -> Result<(), AllocError>
-    ensures { OnOk result (string_bytes text.new ≡ string_bytes text.old ++ spec.within_text bound) }
+    ensures { OnOk result (string_bytes text.new
+        ≡ string_bytes text.old ++ spec.within_text bound) }
 {
     text.push_str("within ")?;
     push_bound(text, bound)?;
@@ -210,7 +216,8 @@ fn push_relay(
     machine: u8,
     relay: Relay,
 ) -> Result<(), AllocError>
-    ensures { OnOk result (string_bytes text.new ≡ string_bytes text.old ++ spec.relay_text named.now machine relay) }
+    ensures { OnOk result (string_bytes text.new
+        ≡ string_bytes text.old ++ spec.relay_text named.now machine relay) }
 {
     push_relay_begin(text, named, machine, relay.strong)?;
     push_relay_end(text, named, relay)
@@ -239,7 +246,8 @@ fn push_relay_begin(
 
 /// Adds how soon a machine goes on to which another one brings chances.
 fn push_relay_end(text: &mut String, named: &NamedPlan, relay: Relay) -> Result<(), AllocError>
-    ensures { OnOk result (string_bytes text.new ≡ string_bytes text.old ++ spec.relay_end named.now relay) }
+    ensures { OnOk result (string_bytes text.new
+        ≡ string_bytes text.old ++ spec.relay_end named.now relay) }
 {
     push_rounds(text, relay.rounds)?;
     push_bound(text, relay.bound)?;
@@ -248,7 +256,8 @@ fn push_relay_end(text: &mut String, named: &NamedPlan, relay: Relay) -> Result<
 
 /// Adds how often a relay goes on.
 fn push_rounds(text: &mut String, rounds: usize) -> Result<(), AllocError>
-    ensures { OnOk result (string_bytes text.new ≡ string_bytes text.old ++ spec.rounds_text rounds) }
+    ensures { OnOk result (string_bytes text.new
+        ≡ string_bytes text.old ++ spec.rounds_text rounds) }
 {
     write!(text, "within k * {rounds} * (")
 }
@@ -285,7 +294,8 @@ pub(crate) fn push_plates(
 
 /// Adds that plates move for ever.
 fn push_moving(text: &mut String, bound: Bound) -> Result<(), AllocError>
-    ensures { OnOk result (string_bytes text.new ≡ string_bytes text.old ++ spec.moving_text bound) }
+    ensures { OnOk result (string_bytes text.new
+        ≡ string_bytes text.old ++ spec.moving_text bound) }
 {
     text.push_str("plates move for ever in each fair order: ")?;
     push_within(text, bound)
@@ -314,7 +324,8 @@ fn push_order(
     order: &FairOrder,
 ) -> Result<(), AllocError>
     ensures { OnOk result (string_bytes text.new ≡ string_bytes text.old
-        ++ spec.starves_text plan.now.named.now plan.now.programs.now opening.now machine order.now) }
+        ++ spec.starves_text plan.now.named.now plan.now.programs.now opening.now machine
+        order.now) }
 {
     text.push_str("  a fair order in which it starves: first\n")?;
     push_turns(text, plan, opening, Some(machine), order)
@@ -379,7 +390,8 @@ fn push_loop(
 
 /// The situation after these turns.
 fn end_of(plan: &Acting, opening: &State, turns: &[u8]) -> Situation
-    ensures { result ≡ spec.after_all plan.now.named.now plan.now.programs.now opening.now turns.now }
+    ensures { result ≡ spec.after_all plan.now.named.now plan.now.programs.now opening.now
+        turns.now }
 {
     let mut at = Situation::first(opening);
     'turners: for turner in turns {
@@ -426,7 +438,8 @@ fn push_step(
     asked: Option<Event>,
 ) -> Result<(), AllocError>
     ensures { OnOk result
-        (string_bytes text.new ≡ string_bytes text.old ++ spec.step_text named.now last outlook asked) }
+        (string_bytes text.new ≡ string_bytes text.old
+        ++ spec.step_text named.now last outlook asked) }
 {
     push_news(text, named, last, outlook)?;
     push_asked(text, named, asked)
@@ -462,7 +475,8 @@ fn push_news(
     last: Option<Event>,
     outlook: Option<Event>,
 ) -> Result<(), AllocError>
-    ensures { OnOk result (string_bytes text.new ≡ string_bytes text.old ++ spec.news named.now last outlook) }
+    ensures { OnOk result (string_bytes text.new
+        ≡ string_bytes text.old ++ spec.news named.now last outlook) }
 {
     if outlook == last {
         return Ok(());
@@ -475,7 +489,8 @@ fn push_news(
 
 /// Adds what a machine waits for, or that it could go on.
 fn push_outlook(text: &mut String, named: &NamedPlan, event: Event) -> Result<(), AllocError>
-    ensures { OnOk result (string_bytes text.new ≡ string_bytes text.old ++ spec.told_outlook named.now event) }
+    ensures { OnOk result (string_bytes text.new
+        ≡ string_bytes text.old ++ spec.told_outlook named.now event) }
 {
     match event.answer {
         Answer::Done => push_event(text, named, " could go on: ", event),
@@ -485,7 +500,8 @@ fn push_outlook(text: &mut String, named: &NamedPlan, event: Event) -> Result<()
 
 /// Adds what a turn asks, if anything.
 fn push_asked(text: &mut String, named: &NamedPlan, asked: Option<Event>) -> Result<(), AllocError>
-    ensures { OnOk result (string_bytes text.new ≡ string_bytes text.old ++ spec.asked_line named.now asked) }
+    ensures { OnOk result (string_bytes text.new
+        ≡ string_bytes text.old ++ spec.asked_line named.now asked) }
 {
     match asked {
         Some(event) => push_event(text, named, " asks: ", event),

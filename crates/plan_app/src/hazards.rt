@@ -196,7 +196,8 @@ fn report_with(
     findings: &[Finding],
 ) -> Result<String, AllocError>
     ensures { IfOk result
-        (λ text. string_bytes text ≡ spec.whole_report plan.now start every drives.now findings.now) }
+        (λ text. string_bytes text ≡ spec.whole_report plan.now start every drives.now
+        findings.now) }
 {
     let mut text = String::new(alloc);
     push_whole_report(&mut text, plan, start, every, drives, findings)?;
@@ -229,7 +230,8 @@ fn push_motors(
     findings: &[Finding],
 ) -> Result<(), AllocError>
     ensures { OnOk result (string_bytes text.new ≡ string_bytes text.old
-        ++ spec.motors_text plan.now.named plan.now.programs plan.now.motors.names plan.now.motors.hazard_names
+        ++ spec.motors_text plan.now.named plan.now.programs plan.now.motors.names
+        plan.now.motors.hazard_names
         start findings.now) }
 {
     if plan.motors.names.len() == 0 {
@@ -247,7 +249,8 @@ fn push_hazards(
     findings: &[Finding],
 ) -> Result<(), AllocError>
     ensures { OnOk result (string_bytes text.new ≡ string_bytes text.old
-        ++ spec.hazard_lines plan.now.named plan.now.programs plan.now.motors.hazard_names start findings.now) }
+        ++ spec.hazard_lines plan.now.named plan.now.programs plan.now.motors.hazard_names start
+        findings.now) }
 {
     'hazards: for hazard in 0..plan.motors.hazard_names.len() as u8 {
         push_hazard(text, plan, start, findings, hazard)?;
@@ -264,7 +267,8 @@ fn push_hazard(
     hazard: u8,
 ) -> Result<(), AllocError>
     ensures { OnOk result (string_bytes text.new ≡ string_bytes text.old
-        ++ spec.hazard_line plan.now.named plan.now.programs plan.now.motors.hazard_names start findings.now hazard) }
+        ++ spec.hazard_line plan.now.named plan.now.programs plan.now.motors.hazard_names start
+        findings.now hazard) }
 {
     match findings.get(usize::from(hazard)) {
         Some(finding) => push_finding(text, plan, start, hazard, finding),
@@ -281,7 +285,8 @@ fn push_finding(
     finding: &Finding,
 ) -> Result<(), AllocError>
     ensures { OnOk result (string_bytes text.new ≡ string_bytes text.old
-        ++ spec.finding_line plan.now.named plan.now.programs plan.now.motors.hazard_names start hazard finding.now) }
+        ++ spec.finding_line plan.now.named plan.now.programs plan.now.motors.hazard_names start
+        hazard finding.now) }
 {
     push_two(text, plan.motors.hazard_names.name(hazard), ": ")?;
     let opening = opening_by(start, &finding.verdict);
@@ -309,7 +314,8 @@ fn push_lead(
 
 /// Adds what keeps two motors apart, of which nothing is sought.
 fn push_unsought(text: &mut String, named: &NamedPlan, verdict: Verdict) -> Result<(), AllocError>
-    ensures { OnOk result (string_bytes text.new ≡ string_bytes text.old ++ spec.unsought_line named.now verdict) }
+    ensures { OnOk result (string_bytes text.new
+        ≡ string_bytes text.old ++ spec.unsought_line named.now verdict) }
 {
     push_shown(text, named, verdict)?;
     text.push_str("\n")
@@ -370,7 +376,8 @@ fn push_led(
 
 /// Adds that an opening permits both motors.
 fn push_at_once(text: &mut String, named: &NamedPlan, opening: &State) -> Result<(), AllocError>
-    ensures { OnOk result (string_bytes text.new ≡ string_bytes text.old ++ spec.at_once_line named.now opening.now) }
+    ensures { OnOk result (string_bytes text.new
+        ≡ string_bytes text.old ++ spec.at_once_line named.now opening.now) }
 {
     text.push_str(LED)?;
     push_start(text, named, opening)?;
@@ -399,7 +406,8 @@ fn push_calls(
 
 /// Adds a start: a digit for each place, as in scripts.
 fn push_start(text: &mut String, named: &NamedPlan, opening: &State) -> Result<(), AllocError>
-    ensures { OnOk result (string_bytes text.new ≡ string_bytes text.old ++ spec.start_words named.now opening.now) }
+    ensures { OnOk result (string_bytes text.new
+        ≡ string_bytes text.old ++ spec.start_words named.now opening.now) }
 {
     if named.places().len() == 0 {
         text.push_str("the start")
@@ -413,7 +421,8 @@ fn push_start_digits(
     named: &NamedPlan,
     opening: &State,
 ) -> Result<(), AllocError>
-    ensures { OnOk result (string_bytes text.new ≡ string_bytes text.old ++ spec.start_digits named.now opening.now) }
+    ensures { OnOk result (string_bytes text.new
+        ≡ string_bytes text.old ++ spec.start_digits named.now opening.now) }
 {
     text.push_str("start ")?;
     push_digits(text, named, opening)
@@ -431,14 +440,16 @@ fn push_digits(text: &mut String, named: &NamedPlan, opening: &State) -> Result<
 }
 
 fn push_digit(text: &mut String, opening: &State, place: u8) -> Result<(), AllocError>
-    ensures { OnOk result (string_bytes text.new ≡ string_bytes text.old ++ spec.digit_of opening.now place) }
+    ensures { OnOk result (string_bytes text.new
+        ≡ string_bytes text.old ++ spec.digit_of opening.now place) }
 {
     text.push_str(if opening.is_full(place) { "1" } else { "0" })
 }
 
 /// Adds what keeps two motors apart, or the state that permits both.
 fn push_shown(text: &mut String, named: &NamedPlan, verdict: Verdict) -> Result<(), AllocError>
-    ensures { OnOk result (string_bytes text.new ≡ string_bytes text.old ++ spec.verdict_words named.now verdict) }
+    ensures { OnOk result (string_bytes text.new
+        ≡ string_bytes text.old ++ spec.verdict_words named.now verdict) }
 {
     match verdict {
         Verdict::Possible(state) => push_unkept(text, named, &state),
@@ -447,7 +458,8 @@ fn push_shown(text: &mut String, named: &NamedPlan, verdict: Verdict) -> Result<
 }
 
 fn push_two(text: &mut String, first: &str, second: &str) -> Result<(), AllocError>
-    ensures { OnOk result (string_bytes text.new ≡ string_bytes text.old ++ (first.now ++ second.now)) }
+    ensures { OnOk result (string_bytes text.new
+        ≡ string_bytes text.old ++ (first.now ++ second.now)) }
 {
     text.push_str(first)?;
     text.push_str(second)
@@ -468,7 +480,8 @@ fn push_unkept(text: &mut String, named: &NamedPlan, state: &State) -> Result<()
 /// Adds the zones that aren't free and closed.
 fn push_zones(text: &mut String, named: &NamedPlan, state: &State) -> Result<(), AllocError>
     ensures { OnOk result (string_bytes text.new ≡ string_bytes text.old
-        ++ flat_map (spec.zone_part named.now state.now) (range_with_len 0 (length named.now.zones))) }
+        ++ flat_map (spec.zone_part named.now state.now)
+        (range_with_len 0 (length named.now.zones))) }
 {
     'zones: for zone in 0..named.zones().len() as u8 {
         push_zone_part(text, named, state, zone)?;
@@ -483,7 +496,8 @@ fn push_zone_part(
     state: &State,
     zone: u8,
 ) -> Result<(), AllocError>
-    ensures { OnOk result (string_bytes text.new ≡ string_bytes text.old ++ spec.zone_part named.now state.now zone) }
+    ensures { OnOk result (string_bytes text.new
+        ≡ string_bytes text.old ++ spec.zone_part named.now state.now zone) }
 {
     let at = state.zone(zone);
     if rests(at) {
@@ -507,7 +521,8 @@ fn push_zone(
     zone: u8,
     at: ZoneState,
 ) -> Result<(), AllocError>
-    ensures { OnOk result (string_bytes text.new ≡ string_bytes text.old ++ spec.zone_words named.now zone at) }
+    ensures { OnOk result (string_bytes text.new
+        ≡ string_bytes text.old ++ spec.zone_words named.now zone at) }
 {
     push_two(text, "; ", named.zones().name(zone))?;
     push_owner(text, named, at.owner)?;
@@ -516,7 +531,8 @@ fn push_zone(
 
 /// Adds who holds a zone.
 fn push_owner(text: &mut String, named: &NamedPlan, owner: Option<u8>) -> Result<(), AllocError>
-    ensures { OnOk result (string_bytes text.new ≡ string_bytes text.old ++ spec.owner_words named.now owner) }
+    ensures { OnOk result (string_bytes text.new
+        ≡ string_bytes text.old ++ spec.owner_words named.now owner) }
 {
     match owner {
         None => text.push_str(" free, "),
@@ -530,7 +546,8 @@ fn push_owner(text: &mut String, named: &NamedPlan, owner: Option<u8>) -> Result
 /// Adds the full places.
 fn push_places(text: &mut String, named: &NamedPlan, state: &State) -> Result<(), AllocError>
     ensures { OnOk result (string_bytes text.new ≡ string_bytes text.old
-        ++ flat_map (spec.place_part named.now state.now) (range_with_len 0 (length named.now.places))) }
+        ++ flat_map (spec.place_part named.now state.now)
+        (range_with_len 0 (length named.now.places))) }
 {
     'places: for place in 0..named.places().len() as u8 {
         push_place_part(text, named, state, place)?;
@@ -545,7 +562,8 @@ fn push_place_part(
     state: &State,
     place: u8,
 ) -> Result<(), AllocError>
-    ensures { OnOk result (string_bytes text.new ≡ string_bytes text.old ++ spec.place_part named.now state.now place) }
+    ensures { OnOk result (string_bytes text.new
+        ≡ string_bytes text.old ++ spec.place_part named.now state.now place) }
 {
     if state.is_full(place) {
         push_place(text, named, place)
@@ -556,7 +574,8 @@ fn push_place_part(
 
 /// Adds that a place is full.
 fn push_place(text: &mut String, named: &NamedPlan, place: u8) -> Result<(), AllocError>
-    ensures { OnOk result (string_bytes text.new ≡ string_bytes text.old ++ spec.place_words named.now place) }
+    ensures { OnOk result (string_bytes text.new
+        ≡ string_bytes text.old ++ spec.place_words named.now place) }
 {
     push_two(text, "; ", named.places().name(place))?;
     text.push_str(" full")

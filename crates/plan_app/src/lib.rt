@@ -15,6 +15,7 @@ pub mod page;
 mod page_data;
 mod page_head;
 mod page_middle;
+mod page_spaces;
 mod page_tail;
 pub mod report;
 pub mod request;

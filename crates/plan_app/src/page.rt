@@ -2,7 +2,8 @@
 //! which one of them starves.
 ghost use Rattle.std.specs.Prelude.{◌≡◌, ◌++◌, ◌≤◌, ℕ, Some, None, IfOk, OnOk, length};
 ghost use Rattle.std.specs.Prelude.{option_copied, string_bytes};
-ghost use Rattle.plan_types.specs.Below.{first_below};
+ghost use Rattle.plan_types.specs.Below.{any_below, first_below};
+ghost use Rattle.plan_types.specs.Table.{joins, zone_count};
 ghost use Rattle.plan_word.specs.OfPlan.{IsOfPlan};
 ghost use Rattle.plan_explorer.specs.Explored as explored;
 ghost use Rattle.plan_explorer.specs.Runs.{NoRunStandsStill};
@@ -18,6 +19,7 @@ use crate::going::{event_of, outlook_of};
 use crate::page_data::push_data;
 use crate::page_head::PLAN_HEAD;
 use crate::page_middle::PLAN_MIDDLE;
+use crate::page_spaces::SPACES_TAIL;
 use crate::page_tail::PLAN_TAIL;
 use crate::words::push_counted;
 use plan_document::ProgrammedPlan;
@@ -26,7 +28,7 @@ use plan_explorer::{Explored, Situation, Walk, explore, take_turns};
 use plan_liveness::{FairOrder, Liveness, Progress};
 use plan_rules::State;
 use plan_text::NamedPlan;
-use plan_types::Event;
+use plan_types::{Event, Plan};
 use plan_word::laws::starts_are_of_plan;
 use std::alloc::{AllocError, Global};
 
@@ -75,8 +77,31 @@ pub(crate) fn page_text(
     push_data(&mut page, plan, note)?;
     page.push_str(PLAN_MIDDLE)?;
     push_film(&mut page, &plan.named, start, events)?;
-    page.push_str(PLAN_TAIL)?;
+    page.push_str(tail_of(plan.named.plan()))?;
     Ok(page)
+}
+
+/// The end of a page, which reads the zones of a plan.
+fn tail_of(plan: &Plan) -> &'static str
+    ensures { result.now ≡ spec.tail_of plan.now }
+{
+    if any_joins(plan) {
+        SPACES_TAIL
+    } else {
+        PLAN_TAIL
+    }
+}
+
+/// Whether a zone of a plan is of one space with the zone before it.
+#[tactic(auto, using(plan_types::proofs::lemmas::Below::any_below_more))]
+fn any_joins(plan: &Plan) -> bool
+    ensures { result ≡ any_below (joins plan.now) (zone_count plan.now) }
+{
+    let mut any = false;
+    for zone in 0..plan.zone_count() {
+        any = any || plan.zone(zone).joins;
+    }
+    any
 }
 
 /// What `plan explore --page` prints of a plan and its programs, which begin at an opening. An error says that memory
@@ -215,7 +240,8 @@ fn free_page(
     plates: &Progress,
 ) -> Result<Page, AllocError>
     ensures { IfOk result (λ page. spec.IsFreeText (screens.free_line situations
-        ++ going.going_text plan.now.named.now plan.now.programs.now opening.now answers.now plates.now)
+        ++ going.going_text plan.now.named.now plan.now.programs.now opening.now answers.now
+        plates.now)
         page) }
 {
     let mut text = String::new(alloc);

@@ -18,6 +18,9 @@ const INWARD: &str = ", \"inward\": ";
 
 const OUTWARD: &str = ", \"outward\": ";
 
+/// What a zone has that is of one space with the zone before it.
+const JOINS: &str = ", \"joins\": true";
+
 /// What stands before the postures of a zone.
 const POSTURES: &str = ", \"postures\": [";
 
@@ -150,9 +153,29 @@ fn push_zone(text: &mut String, named: &NamedPlan, zone: u8) -> Result<(), Alloc
         ++ spec.next_item (spec.zone_item named.now) zone) }
 {
     push_gap(text, usize::from(zone))?;
-    push_parties(text, named, zone)?;
+    push_joined(text, named, zone)?;
     push_ways(text, named.plan().zone(zone))?;
     push_postures(text, named.plan().zone_shape(zone).postures())
+}
+
+/// Adds the name and the parties of a zone, and whether it is of one space with the zone before it.
+fn push_joined(text: &mut String, named: &NamedPlan, zone: u8) -> Result<(), AllocError>
+    ensures { OnOk result
+        (string_bytes text.new ≡ string_bytes text.old ++ spec.joined_text named.now zone) }
+{
+    push_parties(text, named, zone)?;
+    push_joins(text, named, zone)
+}
+
+fn push_joins(text: &mut String, named: &NamedPlan, zone: u8) -> Result<(), AllocError>
+    ensures { OnOk result
+        (string_bytes text.new ≡ string_bytes text.old ++ spec.joins_text named.now zone) }
+{
+    if named.plan().zone(zone).joins {
+        text.push_str(JOINS)
+    } else {
+        Ok(())
+    }
 }
 
 #[tactic(auto, unfolding(crate::specs::PageData::parties_text))]
@@ -191,7 +214,8 @@ fn push_way(text: &mut String, way: Option<Way>) -> Result<(), AllocError>
 /// Adds the postures that a zone's field of the word tells, and ends the zone.
 #[tactic(auto, unfolding(crate::specs::PageData::postures_text))]
 fn push_postures(text: &mut String, postures: Postures) -> Result<(), AllocError>
-    ensures { OnOk result (string_bytes text.new ≡ string_bytes text.old ++ spec.postures_text postures) }
+    ensures { OnOk result (string_bytes text.new
+        ≡ string_bytes text.old ++ spec.postures_text postures) }
 {
     text.push_str(POSTURES)?;
     push_told(text, postures)?;
@@ -199,7 +223,8 @@ fn push_postures(text: &mut String, postures: Postures) -> Result<(), AllocError
 }
 
 fn push_told(text: &mut String, postures: Postures) -> Result<(), AllocError>
-    ensures { OnOk result (string_bytes text.new ≡ string_bytes text.old ++ spec.told_text postures) }
+    ensures { OnOk result (string_bytes text.new
+        ≡ string_bytes text.old ++ spec.told_text postures) }
 {
     match postures {
         Postures::Shut => text.push_str("\"closed\""),
@@ -303,7 +328,8 @@ fn push_bits(text: &mut String, mask: u64, pattern: u64) -> Result<(), AllocErro
 }
 
 fn push_hexadecimal(text: &mut String, number: u64) -> Result<(), AllocError>
-    ensures { OnOk result (string_bytes text.new ≡ string_bytes text.old ++ spec.hexadecimal number) }
+    ensures { OnOk result (string_bytes text.new
+        ≡ string_bytes text.old ++ spec.hexadecimal number) }
 {
     write!(text, "{number:x}")
 }

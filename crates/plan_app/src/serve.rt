@@ -407,7 +407,8 @@ fn explore_from<W: Write>(
     writer: &mut W,
 ) -> Exit
     ensures status { result ≢ Exit.Refused }
-    ensures free { result ≡ Exit.Well → WritesExploration plan.now.named plan.now.programs opening.now
+    ensures free { result ≡ Exit.Well → WritesExploration plan.now.named plan.now.programs
+        opening.now
         (W.contents writer.old) (W.contents writer.new) }
     ensures failed { result ≡ Exit.Failed →
         WroteUnread (W.contents writer.old) (W.contents writer.new)
@@ -558,7 +559,8 @@ where
         (W.contents writer.old) (W.contents writer.new) }
 
     // With `run --turns N --page`: the same, and that the page of that history was written.
-    ensures run_page { (turns : ℕ) → request_of (texts_of words.now) ≡ Some (Request.RunPage turns) →
+    ensures run_page { (turns : ℕ) → request_of (texts_of words.now)
+        ≡ Some (Request.RunPage turns) →
         result ≡ 0 → ShowsInputRun turns (R.remaining reader.old)
         (W.contents writer.old) (W.contents writer.new) }
 
@@ -603,7 +605,8 @@ where
         (W.contents writer.old) (W.contents writer.new) }
 
     // With `run --turns N --page`: the page of what they did, also where one was stopped; or the same.
-    ensures run_page_fails { (turns : ℕ) → request_of (texts_of words.now) ≡ Some (Request.RunPage turns) →
+    ensures run_page_fails { (turns : ℕ) → request_of (texts_of words.now)
+        ≡ Some (Request.RunPage turns) →
         result ≡ 1 → Fails (Request.RunPage turns) (R.remaining reader.old)
         (W.contents writer.old) (W.contents writer.new) }
 

@@ -107,7 +107,8 @@ where
         WritesRunPageFrom plan.now turns start.now (W.contents writer.old) (W.contents writer.new) }
     ensures failed { result ≡ Exit.Failed →
         WroteUnread (W.contents writer.old) (W.contents writer.new)
-        ⊎ WroteRunPageFrom plan.now turns start.now (W.contents writer.old) (W.contents writer.new) }
+        ⊎ WroteRunPageFrom plan.now turns start.now (W.contents writer.old)
+        (W.contents writer.new) }
 {
     match run_and_show(rt, alloc, plan, start, turns) {
         Ok(Told::Fine(text)) => print(writer, text.as_bytes()),

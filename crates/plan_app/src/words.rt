@@ -13,7 +13,8 @@ pub(crate) fn ending(count: usize) -> &'static str
 
 /// Adds a number of things of a kind.
 pub(crate) fn push_counted(text: &mut String, count: usize, kind: &str) -> Result<(), AllocError>
-    ensures { OnOk result (string_bytes text.new ≡ string_bytes text.old ++ spec.counted count kind.now) }
+    ensures { OnOk result (string_bytes text.new
+        ≡ string_bytes text.old ++ spec.counted count kind.now) }
 {
     let ending = ending(count);
     write!(text, "{count} {kind}{ending}")

@@ -39,7 +39,7 @@ pub record NumbersAreMet : Type 0 where
       ∷ WrongWay ∷ Jump ∷ NoPose ∷ Worn ∷ Stopped ∷ NotStopped ∷ [])
       ≡ 1 ∷ 2 ∷ 3 ∷ 4 ∷ 5 ∷ 6 ∷ 7 ∷ 8 ∷ 9 ∷ 10 ∷ 12 ∷ 13 ∷ 14 ∷ 15 ∷ []
   pub others : no_call ∷ no_state ∷ no_plan ∷ nothing ∷ no_stamp ∷ no_word ∷ []
-      ≡ 64 ∷ 65 ∷ 67 ∷ 255 ∷ 4294967295 ∷ 18446744073709551615 ∷ []
+      ≡ 64 ∷ 65 ∷ 67 ∷ 255 ∷ 4294967295 ∷ 0x8000000000000002 ∷ []
 
 -- the two numbers of each call, and numbers of none: the cell's Advance, a stop of a zone, verbs before and past all
 pub record CallsAreMet : Type 0 where
@@ -105,4 +105,4 @@ pub record GivenIsMet : Type 0 where
   pub some_state : (t : PlanTable) (s : State) → IsOfPlan t s → ¬ NoState t (packed t s)
   -- of each plan and each state of it
   pub no_word : NoStateHasNoWord → (t : PlanTable) (s : State) → IsPlan t → IsOfPlan t s
-      → packed t s ≢ 18446744073709551615
+      → packed t s ≢ 9223372036854775810

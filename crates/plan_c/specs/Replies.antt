@@ -94,9 +94,10 @@ no_state = 65
 abbrev pub no_plan : ℕ
 no_plan = 67
 
--- no word and no stamp: all bits are set
+-- no word: bits 63 and 1 are set, so the first zone is closed and its guest's, or the word is too long for a plan
+-- without zones; and no stamp: all bits are set
 abbrev pub no_word : ℕ
-no_word = 18446744073709551615
+no_word = 9223372036854775810
 
 abbrev pub no_stamp : ℕ
 no_stamp = 4294967295

@@ -15,8 +15,8 @@ use plan_rules::{LAST_STAMP, State};
 use plan_types::Call;
 use plan_word::{pack, unpack};
 
-/// No word.
-pub(crate) const NO_WORD: u64 = u64::MAX;
+/// No word: one that says that the guest of a closed zone has it.
+pub(crate) const NO_WORD: u64 = 0x8000_0000_0000_0002;
 
 /// No stamp.
 pub(crate) const NO_STAMP: u32 = u32::MAX;

@@ -1,5 +1,6 @@
 //! Tests of the exported functions, on a plan's words.
 
+use crate::by_plan::NO_WORD;
 use crate::calls::call_with;
 use crate::exports::{
     bagunjoki_plan_is_in_step, bagunjoki_plan_may_run, bagunjoki_plan_open, bagunjoki_plan_restamp,
@@ -137,7 +138,7 @@ fn takes_stamps(plan: &Opened, word: u64) -> bool {
     stamp_of(plan, worn) == LAST_STAMP
         && step(plan, worn, [15, 9, 0]).answer == 13
         && restamped(plan, worn, 10) == word
-        && restamped(plan, word, 1_048_576) == u64::MAX
+        && restamped(plan, word, 1_048_576) == NO_WORD
 }
 
 #[test]
@@ -149,7 +150,7 @@ fn is_answered_in_numbers(rt: HostRuntime) {
         assert!(rt; is_row(&plan, &mut word, row), "after {word:x}");
     }
     assert!(rt; takes_stamps(&plan, word));
-    assert!(rt; start_of(&plan, b"1") == u64::MAX && stamp_of(&plan, u64::MAX) == u32::MAX);
+    assert!(rt; start_of(&plan, b"1") == NO_WORD && stamp_of(&plan, u64::MAX) == u32::MAX);
 }
 
 // ---- a source and a sink
@@ -422,8 +423,8 @@ fn bare_zone(guest: u8) -> [u8; 12] {
 fn is_no_plan(plan: &Opened) -> bool {
     !plan.is_plan
         && step(plan, 0, [0, 1, 0]).answer == 67
-        && start_of(plan, b"") == u64::MAX
-        && restamped(plan, 0, 0) == u64::MAX
+        && start_of(plan, b"") == NO_WORD
+        && restamped(plan, 0, 0) == NO_WORD
         && stamp_of(plan, 0) == u32::MAX
 }
 
@@ -461,7 +462,7 @@ fn largest_counts() -> [u8; 780] {
 // An opened plan has as many bytes as in the header for C.
 #[test]
 fn the_largest_counts_are_a_plan(rt: HostRuntime) {
-    assert!(rt; size_of::<Opened>() == 27_960);
+    assert!(rt; size_of::<Opened>() == 27_968);
     let plan = opened(&largest_counts());
     assert!(rt; start_of(&plan, b"") == 0 && step(&plan, 0, [0, 6, 64]).answer == 12);
     assert!(rt; stamp_of(&plan, word_after(&plan, 0, [0, 6, 63], 0)) == 1);
@@ -522,6 +523,26 @@ fn words_of_all_bits_are_answered(rt: HostRuntime) {
     assert!(rt; has_stamps(&plan));
     let shown = step(&plan, 0xFFFF_FD00_0000_0000, [15, 8, 7]);
     assert!(rt; shown.owner == 255 && shown.posture == 0);
+}
+
+// Five spaces of two guests each, which no plate passes, and thirteen places. Once the second guests have all spaces,
+// which are open outward, all places are full, the stamp is the last and the plant is stopped, all bits are set.
+const FIVE_SPACES: [u8; 133] = [
+    3, 10, 3, 13, 0, 1, 0, 0, 0, 0, 0, 0, 0, 2, 2, 0, 0, 0, 0, 0, 0, 1, 0, 0, 0, 0, 0, 0, 0, 2, 2,
+    0, 0, 0, 0, 0, 0, 1, 0, 0, 0, 0, 0, 0, 0, 2, 2, 0, 0, 0, 0, 0, 0, 1, 0, 0, 0, 0, 0, 0, 0, 2, 2,
+    0, 0, 0, 0, 0, 0, 1, 0, 0, 0, 0, 0, 0, 0, 2, 2, 0, 0, 0, 0, 0, 0, 0, 2, 2, 2, 2, 2, 2, 2, 2, 2,
+    2, 0, 0, 3, 3, 3, 3, 3, 3, 3, 3, 3, 3, 0, 0, 4, 4, 4, 4, 4, 4, 4, 4, 4, 4, 0, 0, 0, 0, 0, 0, 0,
+    0, 0, 0, 0, 0, 0,
+];
+
+// So the word with all bits is a state's, and that which stands for none isn't.
+#[test]
+fn all_bits_may_be_set(rt: HostRuntime) {
+    let plan = opened(&FIVE_SPACES);
+    assert!(rt; plan.is_plan && stamp_of(&plan, u64::MAX) == LAST_STAMP);
+    assert!(rt; restamped(&plan, u64::MAX, 0) == 0x8000_07FF_FFFF_FFFF);
+    assert!(rt; restamped(&plan, 0x8000_07FF_FFFF_FFFF, LAST_STAMP) == u64::MAX);
+    assert!(rt; stamp_of(&plan, NO_WORD) == u32::MAX);
 }
 
 // Of `bindings/tests/plan_walk.c`, which makes the same calls by the library.

@@ -1,5 +1,5 @@
 -- A call that the cell does is done by its plan: claim, yield, release, stop, resume; and a take isn't refused.
-use Rattle.std.proofs.Common.{◌≡◌, ℕ, ◌+◌, Bool, ◌&&◌, not, nat_eq, List, set, Option, Some, None, refl, sym, ap, ap₂, ◌∙◌}
+use Rattle.std.proofs.Common.{◌≡◌, ℕ, ◌+◌, Bool, false, ◌&&◌, not, nat_eq, List, set, Option, Some, None, refl, sym, ap, ap₂, ◌∙◌}
 use Rattle.std.specs.Prelude.{option_map}
 use Rattle.std.specs.Bool.{then_some}
 use Rattle.cell_types.specs.declared.machine.Machine.{Machine}
@@ -34,6 +34,7 @@ use Rattle.plan_rules.specs.Reply as plan_reply
 use Rattle.plan_cell.specs.Numbers.{machine_number, zone_number, plan_posture}
 use Rattle.plan_cell.specs.CellPlan.{cell_table}
 use Rattle.plan_cell.specs.Mapping.{plan_state}
+use Rattle.plan_cell.proofs.Alone.{alone, ten, laden_alike}
 use Rattle.plan_cell.proofs.Names.{same_numbers, same_postures, opens_alike, owned_alike, zone_is, guests_alike, party_alike, other_alike, zones_put}
 
 -- ---- one condition
@@ -62,8 +63,8 @@ is_party m z e = not_then _ _ _ _ (ap not (party_alike m z)) e
 pub is_owner : (s : ModelState) (m : Machine) (z : Zone) → cell.not_owner s m z ≡ None → plan.not_owner (plan_state s) (machine_number m) (zone_number z) ≡ None
 is_owner s m z e = not_then _ _ _ _ (ap not (owns_alike s m z)) e
 
-pub is_clear : (s : ModelState) (z : Zone) → cell.plate_in_zone s z ≡ None → plan.plate_in_zone (plan_state s) (zone_number z) ≡ None
-is_clear s z e = not_then _ _ _ _ (flag_alike s z) e
+pub is_clear : (s : ModelState) (z : Zone) → cell.plate_in_zone s z ≡ None → plan.plate_in_zone cell_table (plan_state s) (zone_number z) ≡ None
+is_clear s z e = not_then _ _ _ _ (laden_alike s z) e
 
 pub is_fresh : (s : ModelState) → cell.worn s ≡ None → plan.worn (plan_state s) ≡ None
 is_fresh s e = not_then _ _ _ _ refl e
@@ -179,9 +180,10 @@ with_zones s zones = record { zones = zones; full = (plan_state s).full; stamp =
 
 -- a zone of which only the owner changes
 owner_put : (s : ModelState) (z : Zone) (o : Option Machine) (n : Option ℕ) → n ≡ option_map machine_number o
-    → set (plan_state s).zones (zone_number z) (record (plan_zone_at (plan_state s) (zone_number z)) { owner = n }) ≡ (plan_state (record s { zones = put_zone s.zones z (record (zone_at s z) { owner = o }) })).zones
+    → plan_reply.with_owner cell_table (plan_state s) (zone_number z) n false ≡ (plan_state (record s { zones = put_zone s.zones z (record (zone_at s z) { owner = o }) })).zones
 owner_put s z o n e =
-    ap₂ (λ (v : PlanZoneState) (x : Option ℕ). set (plan_state s).zones (zone_number z) (record v { owner = x })) (zone_is s z) e
+    (alone (plan_state s) (zone_number z)).owner n false (ten z) refl
+    ∙ ap₂ (λ (v : PlanZoneState) (x : Option ℕ). set (plan_state s).zones (zone_number z) (record v { owner = x })) (zone_is s z) e
     ∙ zones_put s (record (zone_at s z) { owner = o }) z
 
 pub claim_alike : (s : ModelState) (m : Machine) (z : Zone) → cell.claim_refusal s m z ≡ None → cell_reply.reply s m (Claim z) ≡ Done → Alike s m (Claim z) (DoClaim (zone_number z))

@@ -47,6 +47,7 @@ use Rattle.plan_cell.specs.CellPlan.{cell_table}
 use Rattle.plan_cell.specs.Mapping.{plan_state}
 use Rattle.plan_cell.specs.Laws.{is_own_rule, RefusedByOwnRule}
 use Rattle.plan_cell.proofs.Names.{same_numbers, same_postures, zone_is, full_is, there, hosted_alike, guests_alike, party_alike, way_is, plan_transfer, PoseRow, pose_known}
+use Rattle.plan_cell.proofs.Alone.{laden_alike}
 use Rattle.plan_cell.proofs.Alike.{owns_alike, flag_alike, posture_alike, opens_at}
 use Rattle.plan_cell.proofs.Plates.{given_alike}
 use Rattle.plan_cell.proofs.Posing.{concern_alike, opens_alike_at}
@@ -67,8 +68,8 @@ party s m z e = back _ _ _ _ (ap not (party_alike m z)) e
 owner : (s : ModelState) (m : Machine) (z : Zone) → plan.not_owner (plan_state s) (machine_number m) (zone_number z) ≡ None → cell.not_owner s m z ≡ None
 owner s m z e = back _ _ _ _ (ap not (owns_alike s m z)) e
 
-clear : (s : ModelState) (z : Zone) → plan.plate_in_zone (plan_state s) (zone_number z) ≡ None → cell.plate_in_zone s z ≡ None
-clear s z e = back _ _ _ _ (flag_alike s z) e
+clear : (s : ModelState) (z : Zone) → plan.plate_in_zone cell_table (plan_state s) (zone_number z) ≡ None → cell.plate_in_zone s z ≡ None
+clear s z e = back _ _ _ _ (laden_alike s z) e
 
 fresh : (s : ModelState) → plan.worn (plan_state s) ≡ None → cell.worn s ≡ None
 fresh s e = back _ _ _ _ refl e
@@ -167,7 +168,7 @@ gives s m z e =
     let r1 = plan.not_party cell_table n y in
     let r2 = plan.◌or◌ r1 (plan.while_stopped S) in
     let r3 = plan.◌or◌ r2 (plan.not_owner S n y) in
-    let r4 = plan.◌or◌ r3 (plan.plate_in_zone S y) in
+    let r4 = plan.◌or◌ r3 (plan.plate_in_zone cell_table S y) in
     let r5 = plan.◌or◌ r4 (plan.wrong_way w) in
     let r6 = plan.◌or◌ r5 (plan.nothing_to_give S w) in
     let r7 = plan.◌or◌ r6 (plan.no_room cell_table S w) in
@@ -175,7 +176,7 @@ gives s m z e =
     let h6 = none_or r6 (plan.no_room cell_table S w) h7.0 in
     let h5 = none_or r5 (plan.nothing_to_give S w) h6.0 in
     let h4 = none_or r4 (plan.wrong_way w) h5.0 in
-    let h3 = none_or r3 (plan.plate_in_zone S y) h4.0 in
+    let h3 = none_or r3 (plan.plate_in_zone cell_table S y) h4.0 in
     let h2 = none_or r2 (plan.not_owner S n y) h3.0 in
     let h1 = none_or r1 (plan.while_stopped S) h2.0 in
     let is = sym (given_alike s m z) in
@@ -215,11 +216,11 @@ yields s m z e =
     let y = zone_number z in
     let r1 = plan.not_party cell_table n y in
     let r2 = plan.◌or◌ r1 (plan.not_owner S n y) in
-    let r3 = plan.◌or◌ r2 (plan.plate_in_zone S y) in
+    let r3 = plan.◌or◌ r2 (plan.plate_in_zone cell_table S y) in
     let r4 = plan.◌or◌ r3 (plan.shut S y) in
     let h4 = none_or r4 (plan.worn S) e in
     let h3 = none_or r3 (plan.shut S y) h4.0 in
-    let h2 = none_or r2 (plan.plate_in_zone S y) h3.0 in
+    let h2 = none_or r2 (plan.plate_in_zone cell_table S y) h3.0 in
     let h1 = none_or r1 (plan.not_owner S n y) h2.0 in
     let before = no_refusal _ _ (no_refusal _ _ (no_refusal _ _ (party s m z h1.0) (owner s m z h1.1)) (clear s z h2.1)) (back _ _ _ _ (ap not (opens_at s z)) h3.1) in
     elim (yield_in_use s m z) [
@@ -234,11 +235,11 @@ releases s m z e =
     let y = zone_number z in
     let r1 = plan.not_party cell_table n y in
     let r2 = plan.◌or◌ r1 (plan.not_owner S n y) in
-    let r3 = plan.◌or◌ r2 (plan.plate_in_zone S y) in
+    let r3 = plan.◌or◌ r2 (plan.plate_in_zone cell_table S y) in
     let r4 = plan.◌or◌ r3 (plan.shut_while_moving S y) in
     let h4 = none_or r4 (plan.worn S) e in
     let h3 = none_or r3 (plan.shut_while_moving S y) h4.0 in
-    let h2 = none_or r2 (plan.plate_in_zone S y) h3.0 in
+    let h2 = none_or r2 (plan.plate_in_zone cell_table S y) h3.0 in
     let h1 = none_or r1 (plan.not_owner S n y) h2.0 in
     let moves : plan_same_posture (plan_zone_at S y).posture IsMoving ≡ same_posture (zone_at s z).posture Moving =
     ap (λ q. plan_same_posture q IsMoving) (posture_alike s z) ∙ same_postures (zone_at s z).posture Moving in
@@ -398,7 +399,7 @@ poses s m p e =
     let own : (z : Zone) → cell.unowned_by_pose s m p z ≡ None = λ z.
     back _ _ _ _ (ap₂ (λ a b. a && not b) (concern_alike s m p k z) (owns_alike s m z)) (first_below_none unowned 6 h2.1 (zone_number z) (below_six z)) in
     let bare : (z : Zone) → cell.plate_under_pose s m p z ≡ None = λ z.
-    back _ _ _ _ (ap₂ (λ a b. a && b) (concern_alike s m p k z) (flag_alike s z)) (first_below_none covered 6 h3.1 (zone_number z) (below_six z)) in
+    back _ _ _ _ (ap₂ (λ a b. a && b) (concern_alike s m p k z) (laden_alike s z)) (first_below_none covered 6 h3.1 (zone_number z) (below_six z)) in
     let before = no_refusal _ _ (no_refusal _ _ (no_refusal _ _ (no_refusal _ _
     (back _ _ _ _ (ap not (has_alike m p)) h1.0) (back _ _ _ _ moving h1.1))
     (none_of_zones (cell.unowned_by_pose s m p) own)) (none_of_zones (cell.plate_under_pose s m p) bare)) (jumps s m p k h4.1) in

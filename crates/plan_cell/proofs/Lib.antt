@@ -1,4 +1,5 @@
 mod Names
+mod Alone
 mod Alike
 mod Plates
 mod Posing

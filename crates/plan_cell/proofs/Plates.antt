@@ -34,6 +34,7 @@ use Rattle.plan_rules.specs.Reply as plan_reply
 use Rattle.plan_cell.specs.Numbers.{machine_number, zone_number, place_number, plan_posture}
 use Rattle.plan_cell.specs.CellPlan.{cell_table}
 use Rattle.plan_cell.specs.Mapping.{plan_zone, plan_state}
+use Rattle.plan_cell.proofs.Alone.{alone, ten}
 use Rattle.plan_cell.proofs.Names.{same_numbers, zone_is, full_is, way_is, plan_transfer, other_alike, zones_put, places_put}
 use Rattle.plan_cell.proofs.Alike.{Alike, alike_by, no_refusal, posture_alike, is_party, is_owner, is_clear, is_fresh, goes_on, take_free}
 
@@ -169,8 +170,10 @@ with_both s zones full = record { zones = zones; full = full; stamp = s.stamp + 
 pub give_alike : (s : ModelState) (m : Machine) (z : Zone) → cell.give_refusal s m z ≡ None → cell_reply.reply s m (Give z) ≡ Done → Alike s m (Give z) (DoGive (zone_number z))
 give_alike s m z e done =
     let v : ZoneState = record (zone_at s z) { owner = Some (cell_reply.other_party m z); flag = true } in
-    let zones : set (plan_state s).zones (zone_number z) (record (plan_zone_at (plan_state s) (zone_number z)) { owner = Some (plan_reply.other_party cell_table (machine_number m) (zone_number z)); flag = true }) ≡ (plan_state (record s { zones = put_zone s.zones z v })).zones =
-    ap₂ (λ (u : PlanZoneState) (o : ℕ). set (plan_state s).zones (zone_number z) (record u { owner = Some o; flag = true })) (zone_is s z) (other_alike m z) ∙ zones_put s v z in
+    let to = Some (plan_reply.other_party cell_table (machine_number m) (zone_number z)) in
+    let zones : plan_reply.with_owner cell_table (plan_state s) (zone_number z) to true ≡ (plan_state (record s { zones = put_zone s.zones z v })).zones =
+    (alone (plan_state s) (zone_number z)).owner to true (ten z) refl
+    ∙ ap₂ (λ (u : PlanZoneState) (o : ℕ). set (plan_state s).zones (zone_number z) (record u { owner = Some o; flag = true })) (zone_is s z) (other_alike m z) ∙ zones_put s v z in
     let places = ap (plan_reply.emptied (plan_state s).full) (given_alike s m z) ∙ emptied_alike s (cell.transfer_given s m z) in
     alike_by s m (Give z) (DoGive (zone_number z)) (give_free s m z e) refl done (ap₂ (with_both s) zones places)
 

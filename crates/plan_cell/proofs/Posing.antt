@@ -40,8 +40,9 @@ use Rattle.plan_rules.specs.Reply as plan_reply
 use Rattle.plan_cell.specs.Numbers.{machine_number, zone_number, pose_number, plan_posture}
 use Rattle.plan_cell.specs.CellPlan.{cell_table}
 use Rattle.plan_cell.specs.Mapping.{plan_zone, plan_state}
+use Rattle.plan_cell.proofs.Alone.{laden_alike}
 use Rattle.plan_cell.proofs.Names.{PoseRow, pose_known, row_of, posture_is, hosted_alike, same_postures, zone_is, way_is, plan_transfer}
-use Rattle.plan_cell.proofs.Alike.{Alike, alike_by, no_refusal, not_then, owns_alike, flag_alike, posture_alike, is_fresh}
+use Rattle.plan_cell.proofs.Alike.{Alike, alike_by, no_refusal, not_then, owns_alike, posture_alike, is_fresh}
 use Rattle.plan_cell.proofs.Plates.{not_taken}
 
 -- no zone of the plan is refused
@@ -208,7 +209,7 @@ pose_free s m p e =
     (none_of_six (plan.unowned_by_pose cell_table (plan_state s) (machine_number m) (pose_number m p)) (λ z.
     not_then _ _ _ _ (ap₂ (λ a b. a && not b) (concern_alike s m p k z) (owns_alike s m z)) (no_zone (cell.unowned_by_pose s m p) h2.1 z))))
     (none_of_six (plan.plate_under_pose cell_table (plan_state s) (machine_number m) (pose_number m p)) (λ z.
-    not_then _ _ _ _ (ap₂ (λ a b. a && b) (concern_alike s m p k z) (flag_alike s z)) (no_zone (cell.plate_under_pose s m p) h3.1 z))))
+    not_then _ _ _ _ (ap₂ (λ a b. a && b) (concern_alike s m p k z) (laden_alike s z)) (no_zone (cell.plate_under_pose s m p) h3.1 z))))
     (no_jump s m p k h4.1))
     (none_of_six (plan.opens_onto_plate cell_table (plan_state s) (pose_number m p)) (λ z. opens_free s m p k z (clear z) (no_zone (cell.opens_onto_plate s m p) h5.1 z))))
     (is_fresh s h7.1)

@@ -16,6 +16,8 @@ use Rattle.cell_rules.specs.ModelState.{ModelState, zone_at, is_full}
 use Rattle.cell_rules.specs.Sound as cell
 use Rattle.cell_rules.proofs.lemmas.Tables.{all_zones, all_places, all_postures, from_zones, from_places, from_postures, and_left, and_right}
 use Rattle.cell_rules.proofs.lemmas.Puts.{each_zone, each_place}
+use Rattle.plan_types.specs.declared.posture.Posture.TheVariants.{Moving as IsMoving}
+use Rattle.plan_types.specs.Same.{same_posture as plan_same_posture}
 use Rattle.plan_types.specs.Table as table
 use Rattle.plan_types.specs.Below.{sum_below}
 use Rattle.plan_rules.specs.State.{zone_at as plan_zone_at, is_full as plan_is_full, one_if, leads_to, is_coming, coming, plates_for}
@@ -25,13 +27,10 @@ use Rattle.plan_cell.specs.Numbers.{machine_number, zone_number, place_number, p
 use Rattle.plan_cell.specs.CellPlan.{cell_table}
 use Rattle.plan_cell.specs.Mapping.{plan_zone, plan_state}
 use Rattle.plan_cell.specs.Laws.{SoundByPlan}
+use Rattle.plan_cell.proofs.Alone.{first, enters_alone}
 use Rattle.plan_cell.proofs.Names.{same_postures, opens_alike, owned_alike, host_is, guest_is, zone_is, full_is, way_is, plan_transfer}
 
 -- ---- the zones
-
-nobody_alike : (o : Option Machine) → is_none (option_map machine_number o) ≡ is_none o
-nobody_alike None = refl
-nobody_alike (Some m) = refl
 
 host_owns : (o : Option Machine) (z : Zone) → plan.is_owned_by (option_map machine_number o) (table.host_of cell_table (zone_number z)) ≡ cell.is_owned_by o (host_of z)
 host_owns o z = ap (plan.is_owned_by (option_map machine_number o)) (host_is z) ∙ owned_alike o (host_of z)
@@ -43,6 +42,12 @@ received_alike : (o : Option Machine) (row : Option Transfer) → plan.is_receiv
 received_alike o None = refl
 received_alike o (Some row) = owned_alike o row.receiver
 
+-- who owns a zone of the cell enters its space
+entrant : (s : ModelState) (o : Option Machine) (z : Zone) → (is_none o || cell.is_owned_by o (host_of z) || cell.is_owned_by o (guest_of z)) ≡ true
+    → plan.is_entrant cell_table (zone_number z) (option_map machine_number o) ≡ true
+entrant s None z e = refl
+entrant s (Some m) z e = enters_alone s m z ∙ ap₂ (λ a b. a || b) (host_owns (Some m) z) (guest_owns (Some m) z) ∙ e
+
 weaker : (f a b : Bool) → cell.implies f (a && b) ≡ true → plan.implies f a ≡ true
 weaker true a b e = and_left a b e
 weaker false a b e = refl
@@ -52,7 +57,7 @@ lawful s k z =
     let v = zone_at s z in
     let row = transfer_of z v.posture in
     record {
-      owner_is_party = ap₂ (λ a b. a || b) (ap₂ (λ a b. a || b) (nobody_alike v.owner) (host_owns v.owner z)) (guest_owns v.owner z) ∙ k.owner_is_party z;
+      owner_is_party = entrant s v.owner z (k.owner_is_party z);
       flag_has_transfer = ap (plan.implies v.flag) (ap (plan.is_received_by (option_map machine_number v.owner)) (way_is z v.posture) ∙ received_alike v.owner row)
           ∙ weaker v.flag (cell.is_received_by v.owner row) (not (cell.is_onto_full s.full row)) (k.flag_has_transfer z);
       guest_only_while_open = ap₂ plan.implies (guest_owns v.owner z) (opens_alike v.posture) ∙ k.guest_only_while_open z;
@@ -73,6 +78,12 @@ zones_are_lawful s k y l =
     let found = zone_with y l in
     let here = subst (plan.IsLawfulZone cell_table (zone_number found.0)) (sym (zone_is s found.0)) (lawful s k found.0) in
     subst (λ x. plan.IsLawfulZone cell_table x (plan_zone_at (plan_state s) x)) found.1 here
+
+of_space : (s : ModelState) (y : ℕ) → plan.IsOfSpace cell_table (plan_state s) y
+of_space s y = record {
+  owner = ap (λ x. (plan_zone_at (plan_state s) x).owner) (sym (first y));
+  motion = ap (λ x. plan_same_posture (plan_zone_at (plan_state s) x).posture IsMoving) (sym (first y));
+}
 
 -- ---- the places
 
@@ -219,5 +230,7 @@ sound_by_plan s k = record {
   has_ten_zones = refl;
   has_sixteen_places = refl;
   zone_is_lawful = zones_are_lawful s k;
+  zone_is_of_space = λ y l. of_space s y;
+  one_plate_a_space = λ y z ly lz same fy fz. sym (first y) ∙ same ∙ first z;
   one_plate_a_place = one_plate s k;
 }

@@ -13,9 +13,11 @@ use Rattle.plan_rules.specs.Sound.{IsSound}
 use Rattle.plan_rules.specs.Refusals.{given_by, transfer_given}
 use Rattle.plan_rules.specs.Reply.{changed, other_party, emptied, filled}
 use Rattle.plan_rules.proofs.lemmas.Puts.{same_or_not, nat_eq-self, nat_eq-apart, zone_at-posed}
+use Rattle.plan_rules.proofs.lemmas.Spaces.{zone_at-handed}
 use Rattle.plan_compiled.specs.Needs as needs
 use Rattle.plan_compiled.specs.Needs.{Fits}
 use Rattle.plan_compiled.proofs.Fitting.{giver, found}
+use Rattle.plan_compiled.proofs.PlainPlans.{AreAlone, handed_at, given_at}
 
 -- ---- zones
 put_at : (s : State) (y : ℕ) (g : ZoneState → ZoneState) (z : ℕ) → z < length s.zones → get_or (set s.zones y (g (zone_at s y))) z free_zone ≡ (if nat_eq z y then g (zone_at s z) else zone_at s z)
@@ -29,24 +31,24 @@ put_at s y g z l =
       | inr ne ↦ get_or-set_other s.zones y z (g (zone_at s y)) free_zone ne ∙ sym (ap (λ b. if b then g (zone_at s z) else zone_at s z) (nat_eq-apart z y ne))
     ]
 
-pub zone_changed : (t : PlanTable) (s : State) (m : ℕ) (c : Call) → IsPlan t → IsSound t s → (z : ℕ) → z < zone_count t → zone_at (changed t s m c) z ≡ needs.zone_after t m c z (zone_at s z)
-zone_changed t s m c p k z l =
+pub zone_changed : (t : PlanTable) (s : State) (m : ℕ) (c : Call) → IsPlan t → AreAlone t s → IsSound t s → (z : ℕ) → z < zone_count t → zone_at (changed t s m c) z ≡ needs.zone_after t m c z (zone_at s z)
+zone_changed t s m c p alone k z l =
     let few = p.zones_at_most in
     let ten = k.has_ten_zones in
     let there : z < length s.zones = omega arith in
-    zone_by t s m c z there (omega arith)
+    zone_by t s m c z alone there (omega arith)
   where
-    zone_by : (t : PlanTable) (s : State) (m : ℕ) (c : Call) (z : ℕ) → z < length s.zones → z < 10 → zone_at (changed t s m c) z ≡ needs.zone_after t m c z (zone_at s z)
-    zone_by t s m (Claim y) z l n = put_at s y (λ v. record v { owner = Some m }) z l
-    zone_by t s m (Give y) z l n = put_at s y (λ v. record v { owner = Some (other_party t m y); flag = true }) z l
-    zone_by t s m (Yield y) z l n = put_at s y (λ v. record v { owner = Some (other_party t m y) }) z l
-    zone_by t s m (Take y) z l n = put_at s y (λ v. record v { flag = false }) z l
-    zone_by t s m (Release y) z l n = put_at s y (λ v. record v { owner = None }) z l
-    zone_by t s m (SetPose q) z l n = zone_at-posed t s q z n
-    zone_by t s m (Inquire y) z l n = refl
-    zone_by t s m Stop z l n = refl
-    zone_by t s m Resume z l n = refl
-    zone_by t s m (Advance q) z l n = refl
+    zone_by : (t : PlanTable) (s : State) (m : ℕ) (c : Call) (z : ℕ) → AreAlone t s → z < length s.zones → z < 10 → zone_at (changed t s m c) z ≡ needs.zone_after t m c z (zone_at s z)
+    zone_by t s m (Claim y) z alone l n = zone_at-handed t s y (Some m) false z n ∙ handed_at t s y (Some m) z ((alone z).same y)
+    zone_by t s m (Give y) z alone l n = zone_at-handed t s y (Some (other_party t m y)) true z n ∙ given_at t s y (Some (other_party t m y)) z ((alone z).same y)
+    zone_by t s m (Yield y) z alone l n = zone_at-handed t s y (Some (other_party t m y)) false z n ∙ handed_at t s y (Some (other_party t m y)) z ((alone z).same y)
+    zone_by t s m (Take y) z alone l n = put_at s y (λ v. record v { flag = false }) z l
+    zone_by t s m (Release y) z alone l n = zone_at-handed t s y None false z n ∙ handed_at t s y None z ((alone z).same y)
+    zone_by t s m (SetPose q) z alone l n = zone_at-posed t s q z n
+    zone_by t s m (Inquire y) z alone l n = refl
+    zone_by t s m Stop z alone l n = refl
+    zone_by t s m Resume z alone l n = refl
+    zone_by t s m (Advance q) z alone l n = refl
 
 -- ---- places
 stays : (b : Bool) → b ≡ ((b && not false) || false)

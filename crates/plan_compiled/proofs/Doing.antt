@@ -15,7 +15,7 @@ use Rattle.plan_types.specs.Table.{PlanTable, zone_count, pose_count, machine_of
 use Rattle.plan_types.specs.Plan.{IsPlan}
 use Rattle.plan_rules.specs.declared.state.ZoneState.{ZoneState}
 use Rattle.plan_rules.specs.declared.state.State.{State}
-use Rattle.plan_rules.specs.State.{zone_at, posture_at, is_full, one_if, leads_to, is_coming, plates_for}
+use Rattle.plan_rules.specs.State.{zone_at, posture_at, is_full, one_if, leads_to, is_coming, plates_for, space_has_plate}
 use Rattle.plan_rules.specs.Sound.{IsSound, implies}
 use Rattle.plan_rules.specs.Refusals as refusals
 use Rattle.plan_rules.specs.Refusals.{given_by, transfer_given}
@@ -26,6 +26,7 @@ use Rattle.plan_rules.proofs.lemmas.Advancing.{comes, goes}
 use Rattle.plan_rules.proofs.lemmas.Plates.{no_plates}
 use Rattle.plan_rules.proofs.lemmas.Puts.{nat_eq-self, nat_eq-apart}
 use Rattle.plan_rules.proofs.lemmas.Soundness.{done_none, plate_comes, never_done}
+use Rattle.plan_rules.proofs.lemmas.Spaces.{clear_zone}
 use Rattle.plan_rules.proofs.lemmas.Zones.{implies_any, implies_from, some_is}
 use Rattle.plan_compiled.specs.Needs as needs
 use Rattle.plan_compiled.specs.Needs.{Fits}
@@ -103,7 +104,7 @@ holds s m z own clear = both _ _ own (ap not clear)
 yield_fits : (t : PlanTable) (s : State) (m z : ℕ) (room : Bool) → refusals.yield_refusal t s m z ≡ None → Fits t m (Yield z) room s
 yield_fits t s m z room e =
     let d = yield_done t s m z e in
-    let can : needs.can_yield m (zone_at s z) ≡ true = both _ _ (holds s m z d.holder.owns d.clear) d.opens in
+    let can : needs.can_yield m (zone_at s z) ≡ true = both _ _ (holds s m z d.holder.owns (clear_zone t s z d.clear z d.holder.caller.there refl)) d.opens in
     record {
       may = d.holder.caller.is;
       zones = λ y l. quiet_zone t m (Yield z) room s y (λ q. refl) (at_own s y z (needs.can_yield m) can);
@@ -116,7 +117,7 @@ release_fits : (t : PlanTable) (s : State) (m z : ℕ) (room : Bool) → refusal
 release_fits t s m z room e =
     let d = release_done t s m z e in
     let still = none_then _ _ d.still in
-    let can : needs.can_release m (zone_at s z) ≡ true = both _ _ (holds s m z d.holder.owns d.clear) (ap not still) in
+    let can : needs.can_release m (zone_at s z) ≡ true = both _ _ (holds s m z d.holder.owns (clear_zone t s z d.clear z d.holder.caller.there refl)) (ap not still) in
     record {
       may = d.holder.caller.is;
       zones = λ y l. quiet_zone t m (Release z) room s y (λ q. refl) (at_own s y z (needs.can_release m) can);
@@ -199,7 +200,7 @@ give_fits t s m z room p e =
     let posture = giving t m z (posture_at s z) d.way (p.host_is_not_guest z l) d.is in
     let way : needs.given_way t m z ≡ Some d.way = ap (λ q. given_by m (transfer_of t z q)) (sym posture) ∙ d.is in
     let same : same_posture (posture_at s z) (needs.giving_posture t m z) ≡ true = ap (same_posture (posture_at s z)) (sym posture) ∙ same_self (posture_at s z) in
-    let can : needs.can_give t m z (zone_at s z) ≡ true = both _ _ (holds s m z d.holder.owns d.clear) same in
+    let can : needs.can_give t m z (zone_at s z) ≡ true = both _ _ (holds s m z d.holder.owns (clear_zone t s z d.clear z d.holder.caller.there refl)) same in
     let room_at = empty t s d.way.to d.room in
     let there : (q : ℕ) → needs.needs_room t m (Give z) room q ≡ true → d.way.to ≡ q = λ q n. eqb-true d.way.to q (ap (λ o. leads_to o q) (sym way) ∙ n) in
     let left : (q : ℕ) → needs.is_emptied t m (Give z) q ≡ true → d.way.from ≡ q = λ q n. eqb-true d.way.from q (ap (λ o. needs.leads_from o q) (sym way) ∙ n) in
@@ -216,6 +217,11 @@ give_fits t s m z room p e =
     }
 
 -- ---- poses
+-- no plate is in the space, so none is in the zone
+none_under : (a b f : Bool) → (a && b) ≡ false → (b ≡ false → f ≡ false) → (a && f) ≡ false
+none_under true b f e k = k e
+none_under false b f e k = refl
+
 held_clear : (a o f : Bool) → (a && not o) ≡ false → (a && f) ≡ false → implies a (o && not f) ≡ true
 held_clear false o f e g = refl
 held_clear true true false e g = refl
@@ -259,7 +265,7 @@ pose_fits t s m p room d r = record {
   zones = λ y l.
       let v = zone_at s y in
       let none : any_below (refusals.stands_at t s m) (zone_count t) ≡ false → refusals.stands_at t s m y ≡ false = λ e. any_below_none (refusals.stands_at t s m) (zone_count t) e y l in
-      let held = held_clear (refusals.is_concerned t s m p y) (refusals.owns s m y) v.flag (d.owned y l) (d.clear y l) in
+      let held = held_clear (refusals.is_concerned t s m p y) (refusals.owns s m y) v.flag (d.owned y l) (none_under (refusals.is_concerned t s m p y) (space_has_plate t s y) v.flag (d.clear y l) (λ e. clear_zone t s y e y l refl)) in
       let moves = moves_on (pose_row t p).after_moving (nat_eq (host_of t y) m) (same_posture v.posture Moving) _ d.no_jump none in
       both _ _ (both _ _ (both _ _ held moves) (r.posture y l))
       (no_end t m (SetPose p) room v.flag (transfer_of t y v.posture) (λ q n. (r.ends q n).coming y l));

@@ -17,7 +17,7 @@ use Rattle.plan_types.specs.Table.{PlanTable, zone_count, place_count, host_of, 
 use Rattle.plan_types.specs.Plan.{IsPlan}
 use Rattle.plan_types.proofs.lemmas.Below.{first_below_all, below_next}
 use Rattle.plan_rules.specs.declared.state.State.{State}
-use Rattle.plan_rules.specs.State.{zone_at, owner_of, posture_at, is_full, one_if, leads_to, is_coming, coming, plates_for, last_stamp}
+use Rattle.plan_rules.specs.State.{zone_at, owner_of, posture_at, is_full, one_if, leads_to, is_coming, coming, plates_for, space_has_plate, last_stamp}
 use Rattle.plan_rules.specs.Sound.{implies, is_open, is_owned_by}
 use Rattle.plan_rules.specs.Refusals as refusals
 use Rattle.plan_rules.specs.Refusals.{◌or◌, given_by, transfer_given}
@@ -28,6 +28,7 @@ use Rattle.plan_rules.proofs.lemmas.Zones.{implied, gives_way}
 use Rattle.plan_rules.proofs.lemmas.Ways.{way_leads}
 use Rattle.plan_compiled.specs.Needs as needs
 use Rattle.plan_compiled.specs.Needs.{Fits}
+use Rattle.plan_compiled.proofs.PlainPlans.{AreAlone}
 
 -- ---- refusals that don't refuse
 or_none : (a b : Option Refusal) → a ≡ None → b ≡ None → (a or b) ≡ None
@@ -113,22 +114,22 @@ claims t s m z room f =
     (none_if (nat_eq m (guest_of t z) && not (is_open v.posture)) _ (not_both (nat_eq m (guest_of t z)) (is_open v.posture) can.1)))
     (not_worn s f.fresh)
 
--- a caller that owns the zone, with no plate in it
-record Clear (s : State) (m z : ℕ) : Type 0 where
+-- a caller that owns the zone, with no plate in its space
+record Clear (t : PlanTable) (s : State) (m z : ℕ) : Type 0 where
   owns : refusals.not_owner s m z ≡ None
-  clear : refusals.plate_in_zone s z ≡ None
+  clear : refusals.plate_in_zone t s z ≡ None
 
-holds_clear : (s : State) (m z : ℕ) → needs.holds_clear m (zone_at s z) ≡ true → Clear s m z
-holds_clear s m z e =
+holds_clear : (t : PlanTable) (s : State) (m z : ℕ) → space_has_plate t s z ≡ (zone_at s z).flag → needs.holds_clear m (zone_at s z) ≡ true → Clear t s m z
+holds_clear t s m z plate e =
     let h = and_parts (is_owned_by (owner_of s z) m) (not (zone_at s z).flag) e in
-    record { owns = none_not (refusals.owns s m z) _ h.0; clear = none_if (zone_at s z).flag _ (not-true (zone_at s z).flag h.1) }
+    record { owns = none_not (refusals.owns s m z) _ h.0; clear = none_if (space_has_plate t s z) _ (plate ∙ not-true (zone_at s z).flag h.1) }
 
-yields : (t : PlanTable) (s : State) (m z : ℕ) (room : Bool) → Fits t m (Yield z) room s → refusals.yield_refusal t s m z ≡ None
-yields t s m z room f =
+yields : (t : PlanTable) (s : State) (m z : ℕ) (room : Bool) → AreAlone t s → Fits t m (Yield z) room s → refusals.yield_refusal t s m z ≡ None
+yields t s m z room alone f =
     let v = zone_at s z in
     let there = there_of t m z f.may in
     let can = and_parts (needs.holds_clear m v) (is_open v.posture) (own_is z (needs.can_yield m v) (own t m (Yield z) room s f z there)) in
-    let held = holds_clear s m z can.0 in
+    let held = holds_clear t s m z ((alone z).plate there) can.0 in
     or_none _ _ (or_none _ _ (or_none _ _ (or_none _ _
     (none_not (is_party t m z) NotParty f.may)
     held.owns)
@@ -136,12 +137,12 @@ yields t s m z room f =
     (none_not (is_open v.posture) _ can.1))
     (not_worn s f.fresh)
 
-releases : (t : PlanTable) (s : State) (m z : ℕ) (room : Bool) → Fits t m (Release z) room s → refusals.release_refusal t s m z ≡ None
-releases t s m z room f =
+releases : (t : PlanTable) (s : State) (m z : ℕ) (room : Bool) → AreAlone t s → Fits t m (Release z) room s → refusals.release_refusal t s m z ≡ None
+releases t s m z room alone f =
     let v = zone_at s z in
     let there = there_of t m z f.may in
     let can = and_parts (needs.holds_clear m v) (not (same_posture v.posture Moving)) (own_is z (needs.can_release m v) (own t m (Release z) room s f z there)) in
-    let held = holds_clear s m z can.0 in
+    let held = holds_clear t s m z ((alone z).plate there) can.0 in
     or_none _ _ (or_none _ _ (or_none _ _ (or_none _ _
     (none_not (is_party t m z) NotParty f.may)
     held.owns)
@@ -194,10 +195,10 @@ giver t s m z room p f =
     let leads = way_leads t p z q way.0 l g.is in
     record { party = may.0; held = can.0; posture = one_posture v.posture q can.1; way = way.0; is = way.1; from = leads.from; to = leads.to }
 
-gives : (t : PlanTable) (s : State) (m z : ℕ) (room : Bool) → IsPlan t → Fits t m (Give z) room s → refusals.give_refusal t s m z ≡ None
-gives t s m z room p f =
+gives : (t : PlanTable) (s : State) (m z : ℕ) (room : Bool) → IsPlan t → AreAlone t s → Fits t m (Give z) room s → refusals.give_refusal t s m z ≡ None
+gives t s m z room p alone f =
     let g = giver t s m z room p f in
-    let held = holds_clear s m z g.held in
+    let held = holds_clear t s m z ((alone z).plate (there_of t m z g.party)) g.held in
     let is : transfer_given t s m z ≡ Some g.way = ap (λ q. given_by m (transfer_of t z q)) g.posture ∙ g.is in
     let fits = (place_parts t m (Give z) room s f g.way.from g.from).0 in
     let leaves : needs.is_emptied t m (Give z) g.way.from ≡ true = ap (λ o. needs.leads_from o g.way.from) g.is ∙ nat_eq-self g.way.from in
@@ -275,14 +276,14 @@ opens_on true true x r e k = refl
 opens_on true false x true e k = k refl refl refl
 opens_on true false x false e k = cc
 
-poses : (t : PlanTable) (s : State) (m p : ℕ) (room : Bool) → IsPlan t → Fits t m (SetPose p) room s → refusals.pose_refusal t s m p ≡ None
-poses t s m p room k f =
+poses : (t : PlanTable) (s : State) (m p : ℕ) (room : Bool) → IsPlan t → AreAlone t s → Fits t m (SetPose p) room s → refusals.pose_refusal t s m p ≡ None
+poses t s m p room k alone f =
     let n = zone_count t in
     or_none _ _ (or_none _ _ (or_none _ _ (or_none _ _ (or_none _ _ (or_none _ _
     (none_not (has_pose t m p) NoPose f.may)
     (none_if (is_moving_pose t p && s.stopped) _ (not-true (is_moving_pose t p && s.stopped) f.stop)))
     (first_below_all (refusals.unowned_by_pose t s m p) n (λ z l. none_if (refusals.is_concerned t s m p z && not (refusals.owns s m z)) _ (can_pose t s m p room f z l).held.owned)))
-    (first_below_all (refusals.plate_under_pose t s m p) n (λ z l. none_if (refusals.is_concerned t s m p z && (zone_at s z).flag) _ (can_pose t s m p room f z l).held.clear)))
+    (first_below_all (refusals.plate_under_pose t s m p) n (λ z l. none_if (refusals.is_concerned t s m p z && space_has_plate t s z) _ (ap (λ b. refusals.is_concerned t s m p z && b) ((alone z).plate l) ∙ (can_pose t s m p room f z l).held.clear))))
     (none_if ((pose_row t p).after_moving && any_below (refusals.stands_at t s m) n) _
     (no_jump (pose_row t p).after_moving (λ z. nat_eq (host_of t z) m) (λ z. same_posture (posture_at s z) Moving) n (λ z l. (can_pose t s m p room f z l).moves))))
     (first_below_all (refusals.opens_onto_plate t s p) n (λ z l.
@@ -346,14 +347,14 @@ stops t s m room f =
 resumes : (t : PlanTable) (s : State) (m : ℕ) (room : Bool) → Fits t m Resume room s → refusals.resume_refusal s m ≡ None
 resumes t s m room f = or_none _ _ (or_none _ _ (none_not (nat_eq m watch) NotParty f.may) (none_not s.stopped NotStopped f.stop)) (not_worn s f.fresh)
 
-pub fits_done : (t : PlanTable) (s : State) (m : ℕ) (c : Call) (room : Bool) → IsPlan t → Fits t m c room s → reply t s m c ≡ Done
-fits_done t s m (Claim z) room k f = ap (λ o. answer_by o Done) (claims t s m z room f)
-fits_done t s m (Give z) room k f = ap (λ o. answer_by o Done) (gives t s m z room k f)
-fits_done t s m (Yield z) room k f = ap (λ o. answer_by o Done) (yields t s m z room f)
-fits_done t s m (Take z) room k f = ap (λ o. answer_by o Done) (takes t s m z room f)
-fits_done t s m (Release z) room k f = ap (λ o. answer_by o Done) (releases t s m z room f)
-fits_done t s m (SetPose p) room k f = ap (λ o. answer_by o Done) (poses t s m p room k f)
-fits_done t s m (Inquire z) room k f = let no = f.may in cc
-fits_done t s m Stop room k f = ap (λ o. answer_by o Done) (stops t s m room f)
-fits_done t s m Resume room k f = ap (λ o. answer_by o Done) (resumes t s m room f)
-fits_done t s m (Advance p) room k f = ap (λ o. answer_by o Done) (advances t s m p room f)
+pub fits_done : (t : PlanTable) (s : State) (m : ℕ) (c : Call) (room : Bool) → IsPlan t → AreAlone t s → Fits t m c room s → reply t s m c ≡ Done
+fits_done t s m (Claim z) room k alone f = ap (λ o. answer_by o Done) (claims t s m z room f)
+fits_done t s m (Give z) room k alone f = ap (λ o. answer_by o Done) (gives t s m z room k alone f)
+fits_done t s m (Yield z) room k alone f = ap (λ o. answer_by o Done) (yields t s m z room alone f)
+fits_done t s m (Take z) room k alone f = ap (λ o. answer_by o Done) (takes t s m z room f)
+fits_done t s m (Release z) room k alone f = ap (λ o. answer_by o Done) (releases t s m z room alone f)
+fits_done t s m (SetPose p) room k alone f = ap (λ o. answer_by o Done) (poses t s m p room k alone f)
+fits_done t s m (Inquire z) room k alone f = let no = f.may in cc
+fits_done t s m Stop room k alone f = ap (λ o. answer_by o Done) (stops t s m room f)
+fits_done t s m Resume room k alone f = ap (λ o. answer_by o Done) (resumes t s m room f)
+fits_done t s m (Advance p) room k alone f = ap (λ o. answer_by o Done) (advances t s m p room f)

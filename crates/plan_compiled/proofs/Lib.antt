@@ -1,3 +1,4 @@
+pub mod PlainPlans
 pub mod Words
 pub mod Fitting
 pub mod After

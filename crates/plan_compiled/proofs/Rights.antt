@@ -11,21 +11,23 @@ use Rattle.plan_rules.specs.declared.state.State.{State}
 use Rattle.plan_rules.specs.State.{zone_at, is_full, one_if, last_stamp}
 use Rattle.plan_rules.specs.Sound.{IsLawfulZone}
 use Rattle.plan_rules.specs.Reply.{next_by, changed}
+use Rattle.plan_rules.specs.PlainLaws.{IsPlain, PlainPlansStay}
 use Rattle.plan_word.specs.declared.layout.Field.{Field}
 use Rattle.plan_word.specs.declared.layout.Field.TheVariants.{Zone, Place, Stamp, Stop}
 use Rattle.plan_word.specs.Layout.{counts_of, has, start_of, width_of}
 use Rattle.plan_word.specs.OfPlan.{IsOfPlan}
 use Rattle.plan_word.specs.Packed.{zone_code, held, packed}
-use Rattle.plan_word.specs.Reading.{told, zone_of_code}
-use Rattle.plan_word.proofs.lemmas.LaidOut.{zone_fits, held_back, laid_out}
-use Rattle.plan_word.proofs.lemmas.RoundTrip.{zone_code_back}
+use Rattle.plan_word.specs.Reading.{told}
+use Rattle.plan_word.proofs.lemmas.LaidOut.{held_back, laid_out}
 use Rattle.plan_compiled.specs.declared.part.Part.{Part}
 use Rattle.plan_compiled.specs.declared.right.Asked.{Asked}
 use Rattle.plan_compiled.specs.Row.{Row, no_row}
+use Rattle.plan_compiled.specs.Alone.{zone_alone}
 use Rattle.plan_compiled.specs.Needs as needs
 use Rattle.plan_compiled.specs.Needs.{Fits}
 use Rattle.plan_compiled.specs.Rows.{matches, written, part_in, IsRight}
 use Rattle.plan_compiled.specs.Right.{AreRightZones, AreRightPlaces, IsRightStop, KeepsStamp}
+use Rattle.plan_compiled.proofs.PlainPlans.{AreAlone, alone_back, code_below}
 use Rattle.plan_compiled.proofs.Words.{told_written, told_matches, whole, stamp_up}
 use Rattle.plan_compiled.proofs.Fitting.{fits_done}
 use Rattle.plan_compiled.proofs.After.{zone_changed, place_changed, stop_changed}
@@ -59,15 +61,15 @@ wanted t p s k e f h =
 becomes : (t : PlanTable) (p : Part) (s : State) → IsOfPlan t s → (f : Field) → IsTrue (has (counts_of t) f) → told (counts_of t) (written p (packed t s)) f ≡ written (part_in (counts_of t) p f) (held t s f)
 becomes t p s k f h = told_written (counts_of t) p (packed t s) f ∙ ap (written (part_in (counts_of t) p f)) (held_back t s k.sound.stamp_in_range f h)
 
-seen : (t : PlanTable) (a : Asked) (p : Part) → Passed t a p → (s : State) → IsOfPlan t s → matches p (packed t s) ≡ true → Seen t a p s
-seen t a p r s k e = record {
+seen : (t : PlanTable) (a : Asked) (p : Part) → IsPlain t → Passed t a p → (s : State) → IsOfPlan t s → matches p (packed t s) ≡ true → Seen t a p s
+seen t a p plain r s k e = record {
   zone = λ z l.
       let v = zone_at s z in
       let h = lt-ltb z (zone_count t) l in
       let lawful = k.sound.zone_is_lawful z l in
-      let back : zone_of_code t z (zone_code t z v) ≡ v = zone_code_back t z v lawful (k.postures_told z l) in
+      let back : zone_alone t z (zone_code t z v) ≡ v = alone_back t s z plain k l in
       let own = part_in (counts_of t) p (Zone z) in
-      let found = r.zones z l (zone_code t z v) (zone_fits t z v) (subst (IsLawfulZone t z) (sym back) lawful) (ap (zone_code t z) back) (wanted t p s k e (Zone z) h) in (
+      let found = r.zones z l (zone_code t z v) (code_below t z v plain) (subst (IsLawfulZone t z) (sym back) lawful) (ap (zone_code t z) back) (wanted t p s k e (Zone z) h) in (
         subst (λ x. IsTrue (needs.zone_fits t a.machine a.call a.room z x)) back found.0,
         becomes t p s k (Zone z) h ∙ found.1 ∙ ap (λ x. zone_code t z (needs.zone_after t a.machine a.call z x)) back,
       );
@@ -95,28 +97,29 @@ fits t a p r s h l = record {
 abbrev unstamped : PlanTable → State → Asked → State
 unstamped t s a = record (changed t s a.machine a.call) { stamp = s.stamp }
 
-each : (t : PlanTable) (a : Asked) (p : Part) (s : State) → IsPlan t → IsOfPlan t s → Seen t a p s → Fits t a.machine a.call a.room s → (f : Field) → IsTrue (has (counts_of t) f)
+each : (t : PlanTable) (a : Asked) (p : Part) (s : State) → IsPlan t → AreAlone t s → IsOfPlan t s → Seen t a p s → Fits t a.machine a.call a.room s → (f : Field) → IsTrue (has (counts_of t) f)
     → told (counts_of t) (written p (packed t s)) f ≡ held t (unstamped t s a) f
-each t a p s k o h f (Zone z) i =
+each t a p s k alone o h f (Zone z) i =
     let l = ltb-true z (zone_count t) i in
-    (h.zone z l).1 ∙ ap (zone_code t z) (sym (zone_changed t s a.machine a.call k o.sound z l))
-each t a p s k o h f (Place q) i =
+    (h.zone z l).1 ∙ ap (zone_code t z) (sym (zone_changed t s a.machine a.call k alone o.sound z l))
+each t a p s k alone o h f (Place q) i =
     let l = ltb-true q (place_count t) i in
     (h.place q l).1 ∙ ap one_if (sym (place_changed t s a.machine a.call a.room k o.sound f q l))
-each t a p s k o h f Stamp i = h.stamp
-each t a p s k o h f Stop i = h.stop.1 ∙ ap one_if (sym (stop_changed t s a.machine a.call))
+each t a p s k alone o h f Stamp i = h.stamp
+each t a p s k alone o h f Stop i = h.stop.1 ∙ ap one_if (sym (stop_changed t s a.machine a.call))
 
-pub rights : (t : PlanTable) (a : Asked) (p : Part) (r : Row) → IsPlan t → Passed t a p → r ≡ record { machine = a.machine; call = a.call; part = p } → IsRight t r
-rights t a p r k q is = subst (IsRight t) (sym is) (record {
-  done = λ s o e l. let h = seen t a p q s o e in fits_done t s a.machine a.call a.room k (fits t a p q s h l);
+pub rights : PlainPlansStay → (t : PlanTable) (a : Asked) (p : Part) (r : Row) → IsPlan t → IsPlain t → Passed t a p → r ≡ record { machine = a.machine; call = a.call; part = p } → IsRight t r
+rights stay t a p r k plain q is = subst (IsRight t) (sym is) (record {
+  done = λ s o e l. let h = seen t a p plain q s o e in fits_done t s a.machine a.call a.room k (λ z. stay t s z plain) (fits t a p q s h l);
   next = λ s o e l.
-      let h = seen t a p q s o e in
+      let alone : AreAlone t s = λ z. stay t s z plain in
+      let h = seen t a p plain q s o e in
       let f = fits t a p q s h l in
-      let done = fits_done t s a.machine a.call a.room k f in
+      let done = fits_done t s a.machine a.call a.room k alone f in
       let w = packed t s in
       let within = (laid_out t s o).bound in
       let below : written p w < 2 ^ width_of (counts_of t) = or_lt (width_of (counts_of t)) (bit_and w p.keep) p.set (let small = and_le_l w p.keep in omega (arith, small, within)) q.stamp.within in
-      let same : packed t (unstamped t s a) ≡ written p w = whole t (unstamped t s a) (written p w) below (each t a p s k o h f) in
+      let same : packed t (unstamped t s a) ≡ written p w = whole t (unstamped t s a) (written p w) below (each t a p s k alone o h f) in
       ap (λ (x : Answer). packed t (next_by x t s a.machine a.call)) done
       ∙ stamp_up t (changed t s a.machine a.call) s.stamp
       ∙ ap (λ n. n + 2 ^ start_of (counts_of t) Stamp) same;

@@ -7,23 +7,25 @@ use Rattle.plan_types.specs.Table.{PlanTable, zone_count, place_count, shape_bit
 use Rattle.plan_rules.specs.declared.state.State.{State}
 use Rattle.plan_rules.specs.State.{zone_at, is_full, one_if}
 use Rattle.plan_rules.specs.Sound.{IsLawfulZone}
+use Rattle.plan_rules.specs.PlainLaws.{IsPlain}
 use Rattle.plan_rules.proofs.lemmas.Puts.{same_or_not}
 use Rattle.plan_word.specs.declared.layout.Field.{Field}
 use Rattle.plan_word.specs.declared.layout.Field.TheVariants.{Zone, Place, Stamp, Stop}
 use Rattle.plan_word.specs.Layout.{Counts, counts_of, shape_at, has, zones_end, width_of}
 use Rattle.plan_word.specs.OfPlan.{IsOfPlan}
 use Rattle.plan_word.specs.Packed.{zone_code, held, packed}
-use Rattle.plan_word.specs.Reading.{told, zone_of_code}
-use Rattle.plan_word.proofs.lemmas.LaidOut.{zone_fits, held_back, laid_out}
-use Rattle.plan_word.proofs.lemmas.RoundTrip.{zone_code_back}
+use Rattle.plan_word.specs.Reading.{told}
+use Rattle.plan_word.proofs.lemmas.LaidOut.{held_back, laid_out}
 use Rattle.plan_compiled.specs.declared.covering.Span.{Span}
 use Rattle.plan_compiled.specs.declared.part.Part.{Part}
 use Rattle.plan_compiled.specs.declared.right.Asked.{Asked}
 use Rattle.plan_compiled.specs.Row.{Row}
+use Rattle.plan_compiled.specs.Alone.{zone_alone}
 use Rattle.plan_compiled.specs.Needs as needs
 use Rattle.plan_compiled.specs.Needs.{Fits}
 use Rattle.plan_compiled.specs.Rows.{matches, part_in}
 use Rattle.plan_compiled.specs.Complete.{row_at, FitsNumber, MatchesAt, HasBit, HasSet, Narrows, LooksAtFields, LookAtFields, LeavesRows, Steps, Covers}
+use Rattle.plan_compiled.proofs.PlainPlans.{alone_back, code_below}
 use Rattle.plan_compiled.proofs.Words.{told_and}
 
 -- ---- bits of sets
@@ -130,18 +132,18 @@ word_met t s p o k =
     eq-eqb (bit_and (packed t s) p.mask) p.wanted (same_word (counts_of t) (bit_and (packed t s) p.mask) p.wanted (omega (arith, within, least)) k.looks.within (each_met t s p o k))
 
 -- ---- one field more
-zone_number : (t : PlanTable) (a : Asked) (s : State) (z : ℕ) → IsOfPlan t s → Fits t a.machine a.call a.room s → z < zone_count t → FitsNumber t a (Zone z) (held t s (Zone z))
-zone_number t a s z o h l =
+zone_number : (t : PlanTable) (a : Asked) (s : State) (z : ℕ) → IsPlain t → IsOfPlan t s → Fits t a.machine a.call a.room s → z < zone_count t → FitsNumber t a (Zone z) (held t s (Zone z))
+zone_number t a s z plain o h l =
     let v = zone_at s z in
     let lawful = o.sound.zone_is_lawful z l in
-    let back : zone_of_code t z (zone_code t z v) ≡ v = zone_code_back t z v lawful (o.postures_told z l) in
+    let back : zone_alone t z (zone_code t z v) ≡ v = alone_back t s z plain o l in
     (subst (IsLawfulZone t z) (sym back) lawful, ap (zone_code t z) back, subst (λ x. IsTrue (needs.zone_fits t a.machine a.call a.room z x)) (sym back) (h.zones z l))
 
-pub leave_zone : (t : PlanTable) (a : Asked) (rows : List Row) (span : Span) (sets next : List Bool) (n m : ℕ) → LeavesRows t a rows span sets n m → n < zone_count t
+pub leave_zone : (t : PlanTable) (a : Asked) (rows : List Row) (span : Span) (sets next : List Bool) (n m : ℕ) → IsPlain t → LeavesRows t a rows span sets n m → n < zone_count t
     → Steps t a (counts_of t) rows span (Zone n) sets next → LeavesRows t a rows span next (n + 1) m
-leave_zone t a rows span sets next n m before l step s o h =
+leave_zone t a rows span sets next n m plain before l step s o h =
     let set = before s o h in
-    let got = step (held t s (Zone n)) (zone_fits t n (zone_at s n)) (zone_number t a s n o h l) set.set set.few set.left in
+    let got = step (held t s (Zone n)) (code_below t n (zone_at s n) plain) (zone_number t a s n plain o h l) set.set set.few set.left in
     record {
       set = got.0;
       few = got.1;

@@ -18,11 +18,12 @@ use Rattle.plan_word.specs.declared.layout.Field.TheVariants.{Zone, Place, Stamp
 use Rattle.plan_word.specs.Layout.{Counts, counts_of, width_of}
 use Rattle.plan_word.specs.OfPlan.{IsOfPlan}
 use Rattle.plan_word.specs.Packed.{zone_code, held, packed}
-use Rattle.plan_word.specs.Reading.{told, zone_of_code}
+use Rattle.plan_word.specs.Reading.{told}
 use Rattle.plan_compiled.specs.declared.covering.Span.{Span}
 use Rattle.plan_compiled.specs.declared.part.Part.{Part}
 use Rattle.plan_compiled.specs.declared.right.Asked.{Asked}
 use Rattle.plan_compiled.specs.Row.{Row, no_row}
+use Rattle.plan_compiled.specs.Alone.{zone_alone}
 use Rattle.plan_compiled.specs.Needs.{Fits, zone_fits, place_fits, stop_fits}
 use Rattle.plan_compiled.specs.Rows.{matches, part_in}
 
@@ -130,8 +131,8 @@ OpensOneAtMost t _ = IsTrue true
 -- a number that a field has in a state that fits
 abbrev pub FitsNumber : PlanTable → Asked → Field → ℕ → Type 0
 FitsNumber t a (Zone z) n =
-    IsLawfulZone t z (zone_of_code t z n) × (zone_code t z (zone_of_code t z n) ≡ n)
-    × IsTrue (zone_fits t a.machine a.call a.room z (zone_of_code t z n))
+    IsLawfulZone t z (zone_alone t z n) × (zone_code t z (zone_alone t z n) ≡ n)
+    × IsTrue (zone_fits t a.machine a.call a.room z (zone_alone t z n))
 FitsNumber t a (Place q) n = (full : Bool) × (n ≡ one_if full) × IsTrue (place_fits t a.machine a.call a.room q full)
 FitsNumber t a Stamp n = ⊥
 FitsNumber t a StopField n = (stopped : Bool) × (n ≡ one_if stopped) × IsTrue (stop_fits t a.call stopped)

@@ -1,3 +1,4 @@
+pub mod Alone
 pub mod Needs
 pub mod Row
 pub mod Rows

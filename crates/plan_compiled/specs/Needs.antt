@@ -1,4 +1,5 @@
--- What a call needs of each zone, of each place and of the stop by itself, and what it makes of each.
+-- What a call needs of each zone, of each place and of the stop by itself, and what it makes of each, where no zone
+-- joins the one before it.
 use Rattle.std.specs.Prelude.{◌≡◌, ℕ, ◌<◌, Bool, true, false, ◌&&◌, ◌||◌, not, nat_eq, Option, Some, None, is_none, is_some}
 use Rattle.std.specs.Prelude.{unwrap_or, if◌then◌else◌}
 use Rattle.std.specs.Option.{option_eq}

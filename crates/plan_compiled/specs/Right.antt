@@ -6,9 +6,10 @@ use Rattle.plan_rules.specs.Sound.{IsLawfulZone}
 use Rattle.plan_word.specs.declared.layout.Field.TheVariants.{Zone, Place, Stamp}
 use Rattle.plan_word.specs.Layout.{Counts, counts_of, width_of}
 use Rattle.plan_word.specs.Packed.{zone_code}
-use Rattle.plan_word.specs.Reading.{zone_of_code, told}
+use Rattle.plan_word.specs.Reading.{told}
 use Rattle.plan_compiled.specs.declared.part.Part.{Part}
 use Rattle.plan_compiled.specs.declared.right.Asked.{Asked}
+use Rattle.plan_compiled.specs.Alone.{zone_alone}
 use Rattle.plan_compiled.specs.Needs.{zone_fits, zone_after, place_fits, place_after, stop_fits, stop_after}
 use Rattle.plan_compiled.specs.Rows.{matches, written, part_in}
 
@@ -16,9 +17,9 @@ use Rattle.plan_compiled.specs.Rows.{matches, written, part_in}
 -- what it makes of them
 abbrev pub IsRightCode : PlanTable → Asked → Part → ℕ → ℕ → Type 0
 IsRightCode t a p z n =
-    IsLawfulZone t z (zone_of_code t z n) → zone_code t z (zone_of_code t z n) ≡ n → IsTrue (matches p n)
-    → IsTrue (zone_fits t a.machine a.call a.room z (zone_of_code t z n))
-    × (written p n ≡ zone_code t z (zone_after t a.machine a.call z (zone_of_code t z n)))
+    IsLawfulZone t z (zone_alone t z n) → zone_code t z (zone_alone t z n) ≡ n → IsTrue (matches p n)
+    → IsTrue (zone_fits t a.machine a.call a.room z (zone_alone t z n))
+    × (written p n ≡ zone_code t z (zone_after t a.machine a.call z (zone_alone t z n)))
 
 abbrev pub AreRightZones : PlanTable → Asked → Part → ℕ → Type 0
 AreRightZones t a p n =

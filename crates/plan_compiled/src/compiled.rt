@@ -5,6 +5,7 @@ ghost use Rattle.plan_types.specs.declared.answer.Answer.TheVariants.{Done};
 ghost use Rattle.plan_rules.specs.declared.state.State.{State};
 ghost use Rattle.plan_rules.specs.State.{last_stamp};
 ghost use Rattle.plan_rules.specs.Reply.{reply, next};
+ghost use Rattle.plan_rules.specs.PlainLaws.{IsPlain};
 ghost use Rattle.plan_word.specs.Layout.{counts_of};
 ghost use Rattle.plan_word.specs.OfPlan.{IsOfPlan};
 ghost use Rattle.plan_word.specs.Packed.{packed};
@@ -34,7 +35,8 @@ fn stamp_bit_of(layout: &Layout) -> u32
 /// A plan, compiled. It takes no memory beyond itself, and C can keep it, if only [`Compiled::new`] makes it.
 ///
 /// Where a plan has more than [`ROWS_OF_ALL`] rows, those that find no room are left out. A call that lacks its row is
-/// answered as rightly, but not as fast, and [`Compiled::is_complete`] says no.
+/// answered as rightly, but not as fast, and [`Compiled::is_complete`] says no. A plan in which a zone joins the one
+/// before it has no rows.
 #[repr(C)]
 #[derive(Debug, Drop)]
 pub struct Compiled {
@@ -147,9 +149,10 @@ impl Compiled {
     }
 
     /// Whether each call that is done, in each state of the plan with a stamp left, has its row. Says no also if a pose
-    /// opens two zones inward.
+    /// opens two zones inward, and of each plan in which a zone joins the one before it.
     pub fn is_complete(&self) -> bool
-        ensures { IsTrue result → IsComplete self.now.table self.now.rows self.now.starts }
+        ensures rows { IsTrue result → IsComplete self.now.table self.now.rows self.now.starts }
+        ensures plain { IsTrue result → IsPlain self.now.table }
     {
         has_every_row(&self.plan, &self.layout, &self.rows, &self.starts)
     }

@@ -5,15 +5,17 @@
 //! that the next field has. If no set loses all its rows, each word has one.
 ghost use Rattle.std.specs.Prelude.{◌≡◌, ◌+◌, ◌<◌, ◌≤◌, ℕ, true, length, bit_and, IsTrue};
 ghost use Rattle.plan_types.specs.Table.{zone_count, place_count};
+ghost use Rattle.plan_rules.specs.PlainLaws.{IsPlain};
 ghost use Rattle.plan_word.specs.Layout.{counts_of, has};
 ghost use Rattle.plan_compiled.specs.Complete as complete;
 
 use crate::needs::{place_fits, stop_fits, zone_fits};
 use crate::part::Part;
+use crate::plain::zone_alone;
 use crate::right::Asked;
 use crate::row::Row;
 use plan_types::{Call, Plan, Posture};
-use plan_word::{Field, Layout, is_lawful_zone, zone_code, zone_of_code};
+use plan_word::{Field, Layout, is_lawful_zone, zone_code};
 
 /// Some consecutive rows.
 #[derive(Clone, Copy, Debug)]
@@ -36,7 +38,7 @@ fn fits_number(plan: &Plan, layout: &Layout, asked: Asked, field: Field, number:
     } = asked;
     match field {
         Field::Zone(zone) => {
-            let at = zone_of_code(plan, layout, zone, number);
+            let at = zone_alone(plan, layout, zone, number);
             is_lawful_zone(plan, zone, at)
                 && zone_code(plan, layout, zone, at) == number
                 && zone_fits(plan, machine, call, room, zone, at)
@@ -201,6 +203,7 @@ fn after_zones(
     sets: &mut [bool; 256],
 )
     requires layout { layout.now ≡ counts_of plan.now }
+    requires plain { IsPlain plan.now }
     requires rows { span.first + span.count ≤ length rows.now }
     requires all { complete.HasSet sets.old 255 }
     ensures { complete.LeavesRows plan.now asked rows.now span sets.new (zone_count plan.now) 0 }
@@ -232,6 +235,7 @@ fn after_places(
 /// Whether one of the rows matches the word of each state that is as a call needs it.
 pub(crate) fn covers(plan: &Plan, layout: &Layout, asked: Asked, rows: &[Row], span: Span) -> bool
     requires layout { layout.now ≡ counts_of plan.now }
+    requires plain { IsPlain plan.now }
     requires rows { span.first + span.count ≤ length rows.now }
     ensures { IsTrue result → complete.Covers plan.now asked rows.now span }
 {

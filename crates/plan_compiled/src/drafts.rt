@@ -8,9 +8,10 @@ ghost use Rattle.plan_word.specs.Layout.{counts_of};
 
 use crate::needs::{place_after, place_fits, stop_after, stop_fits, zone_after, zone_fits};
 use crate::part::Part;
+use crate::plain::zone_alone;
 use crate::right::{Asked, is_right_zone};
 use plan_types::Plan;
-use plan_word::{Field, Layout, is_lawful_zone, zone_code, zone_of_code};
+use plan_word::{Field, Layout, is_lawful_zone, zone_code};
 
 /// The part of every number, which stays.
 const EVERY: Part = Part {
@@ -96,7 +97,7 @@ fn zone_part(plan: &Plan, layout: &Layout, asked: Asked, zone: u8, half: Half) -
     } = asked;
     let mut found = NONE_YET;
     for code in 0..32 {
-        let at = zone_of_code(plan, layout, zone, code);
+        let at = zone_alone(plan, layout, zone, code);
         let fits = is_lawful_zone(plan, zone, at)
             && zone_code(plan, layout, zone, at) == code
             && zone_fits(plan, machine, call, room, zone, at);

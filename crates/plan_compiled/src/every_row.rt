@@ -1,12 +1,14 @@
 //! Whether each call that is done has its row.
 ghost use Rattle.std.specs.Prelude.{◌≡◌, ◌+◌, ◌≤◌, true, false, length, IsTrue};
 ghost use Rattle.plan_types.specs.Table.{zone_count, place_count};
+ghost use Rattle.plan_rules.specs.PlainLaws.{IsPlain};
 ghost use Rattle.plan_word.specs.Layout.{counts_of};
 ghost use Rattle.plan_compiled.specs.Complete as complete;
 
 use crate::covering::{Span, covers, opens_one_at_most};
 use crate::finding::own_rows;
 use crate::needs::may_ask;
+use crate::plain::is_plain;
 use crate::right::Asked;
 use crate::row::Row;
 use plan_types::{Call, Plan};
@@ -25,6 +27,7 @@ fn covers_room(
     call: Call,
 ) -> bool
     requires layout { layout.now ≡ counts_of plan.now }
+    requires plain { IsPlain plan.now }
     requires rows { span.first + span.count ≤ length rows.now }
     ensures { IsTrue result → complete.CoversRoom plan.now rows.now span machine call true }
 {
@@ -46,6 +49,7 @@ fn covers_shut(
     call: Call,
 ) -> bool
     requires layout { layout.now ≡ counts_of plan.now }
+    requires plain { IsPlain plan.now }
     requires rows { span.first + span.count ≤ length rows.now }
     ensures { IsTrue result → complete.CoversRoom plan.now rows.now span machine call false }
 {
@@ -73,7 +77,8 @@ fn has_rows(
     machine: u8,
     call: Call,
 ) -> bool
-    requires { layout.now ≡ counts_of plan.now }
+    requires layout { layout.now ≡ counts_of plan.now }
+    requires plain { IsPlain plan.now }
     ensures { IsTrue result → complete.HasRows plan.now rows.now starts.now machine call }
 {
     let _ = plan.machines();
@@ -107,14 +112,23 @@ fn has_zone_rows(
     machine: u8,
     zone: u8,
 ) -> bool
-    requires { layout.now ≡ counts_of plan.now }
+    requires layout { layout.now ≡ counts_of plan.now }
+    requires plain { IsPlain plan.now }
     ensures { IsTrue result → complete.HasZoneRows plan.now rows.now starts.now machine zone }
 {
-    has_rows(plan, layout, rows, starts, machine, Call::Claim(zone))
-        && has_rows(plan, layout, rows, starts, machine, Call::Give(zone))
-        && has_rows(plan, layout, rows, starts, machine, Call::Yield(zone))
-        && has_rows(plan, layout, rows, starts, machine, Call::Take(zone))
-        && has_rows(plan, layout, rows, starts, machine, Call::Release(zone))
+    if !has_rows(plan, layout, rows, starts, machine, Call::Claim(zone)) {
+        return false;
+    }
+    if !has_rows(plan, layout, rows, starts, machine, Call::Give(zone)) {
+        return false;
+    }
+    if !has_rows(plan, layout, rows, starts, machine, Call::Yield(zone)) {
+        return false;
+    }
+    if !has_rows(plan, layout, rows, starts, machine, Call::Take(zone)) {
+        return false;
+    }
+    has_rows(plan, layout, rows, starts, machine, Call::Release(zone))
 }
 
 fn has_all_zone_rows(
@@ -124,7 +138,8 @@ fn has_all_zone_rows(
     starts: &[u16],
     machine: u8,
 ) -> bool
-    requires { layout.now ≡ counts_of plan.now }
+    requires layout { layout.now ≡ counts_of plan.now }
+    requires plain { IsPlain plan.now }
     ensures { IsTrue result → complete.HasAllZoneRows plan.now rows.now starts.now machine
         (zone_count plan.now) }
 {
@@ -137,7 +152,8 @@ fn has_all_zone_rows(
 }
 
 fn has_pose_rows(plan: &Plan, layout: &Layout, rows: &[Row], starts: &[u16], machine: u8) -> bool
-    requires { layout.now ≡ counts_of plan.now }
+    requires layout { layout.now ≡ counts_of plan.now }
+    requires plain { IsPlain plan.now }
     ensures { IsTrue result → complete.HasPoseRows plan.now rows.now starts.now machine 64 }
 {
     for pose in 0..64u8 {
@@ -149,7 +165,8 @@ fn has_pose_rows(plan: &Plan, layout: &Layout, rows: &[Row], starts: &[u16], mac
 }
 
 fn has_place_rows(plan: &Plan, layout: &Layout, rows: &[Row], starts: &[u16], machine: u8) -> bool
-    requires { layout.now ≡ counts_of plan.now }
+    requires layout { layout.now ≡ counts_of plan.now }
+    requires plain { IsPlain plan.now }
     ensures { IsTrue result → complete.HasPlaceRows plan.now rows.now starts.now machine
         (place_count plan.now) }
 {
@@ -162,7 +179,8 @@ fn has_place_rows(plan: &Plan, layout: &Layout, rows: &[Row], starts: &[u16], ma
 }
 
 fn has_watch_rows(plan: &Plan, layout: &Layout, rows: &[Row], starts: &[u16], machine: u8) -> bool
-    requires { layout.now ≡ counts_of plan.now }
+    requires layout { layout.now ≡ counts_of plan.now }
+    requires plain { IsPlain plan.now }
     ensures { IsTrue result → complete.HasWatchRows plan.now rows.now starts.now machine }
 {
     has_rows(plan, layout, rows, starts, machine, Call::Stop)
@@ -170,7 +188,8 @@ fn has_watch_rows(plan: &Plan, layout: &Layout, rows: &[Row], starts: &[u16], ma
 }
 
 fn has_machine_rows(plan: &Plan, layout: &Layout, rows: &[Row], starts: &[u16], machine: u8) -> bool
-    requires { layout.now ≡ counts_of plan.now }
+    requires layout { layout.now ≡ counts_of plan.now }
+    requires plain { IsPlain plan.now }
     ensures { IsTrue result → complete.HasMachineRows plan.now rows.now starts.now machine }
 {
     if !has_all_zone_rows(plan, layout, rows, starts, machine) {
@@ -185,12 +204,16 @@ fn has_machine_rows(plan: &Plan, layout: &Layout, rows: &[Row], starts: &[u16], 
     has_watch_rows(plan, layout, rows, starts, machine)
 }
 
-/// Whether each call that is done has its row.
+/// Whether no zone joins the one before it, and each call that is done has its row.
 pub(crate) fn has_every_row(plan: &Plan, layout: &Layout, rows: &[Row], starts: &[u16]) -> bool
     requires { layout.now ≡ counts_of plan.now }
-    ensures { IsTrue result → complete.IsComplete plan.now rows.now starts.now }
+    ensures rows { IsTrue result → complete.IsComplete plan.now rows.now starts.now }
+    ensures plain { IsTrue result → IsPlain plan.now }
 {
     let _ = plan.machines();
+    if !is_plain(plan) {
+        return false;
+    }
     for machine in 0..16u8 {
         if !has_machine_rows(plan, layout, rows, starts, machine) {
             return false;

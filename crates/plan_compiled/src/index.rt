@@ -1,12 +1,14 @@
 //! All rows of a plan, and where those of each call begin, in memory of a fixed size.
 ghost use Rattle.std.specs.Prelude.{◌≡◌};
 ghost use Rattle.std.specs.List.{All};
+ghost use Rattle.plan_rules.specs.PlainLaws.{IsPlain};
 ghost use Rattle.plan_word.specs.Layout.{counts_of};
 ghost use Rattle.plan_compiled.specs.Rows.{IsRight};
 
 use crate::drafts::draft;
 use crate::finding::{SLOTS_OF_ALL, slot};
 use crate::needs::may_ask;
+use crate::plain::is_plain;
 use crate::right::{Asked, row_of};
 use crate::row::Row;
 use plan_types::{Call, Plan, Posture};
@@ -89,6 +91,7 @@ fn goes_without_room(plan: &Plan, call: Call) -> bool {
 /// Appends the row of a draft, if it is right.
 fn push_row(plan: &Plan, layout: &Layout, index: &mut Index, asked: Asked, picks: u8)
     requires layout { layout.now ≡ counts_of plan.now }
+    requires plain { IsPlain plan.now }
     requires right { All (IsRight plan.now) index.old.rows }
     ensures { All (IsRight plan.now) index.new.rows }
 {
@@ -102,6 +105,7 @@ fn push_row(plan: &Plan, layout: &Layout, index: &mut Index, asked: Asked, picks
 
 fn push_halves(plan: &Plan, layout: &Layout, index: &mut Index, asked: Asked)
     requires layout { layout.now ≡ counts_of plan.now }
+    requires plain { IsPlain plan.now }
     requires right { All (IsRight plan.now) index.old.rows }
     ensures { All (IsRight plan.now) index.new.rows }
 {
@@ -113,6 +117,7 @@ fn push_halves(plan: &Plan, layout: &Layout, index: &mut Index, asked: Asked)
 /// Appends the rows of a call.
 fn push_rows(plan: &Plan, layout: &Layout, index: &mut Index, machine: u8, call: Call)
     requires layout { layout.now ≡ counts_of plan.now }
+    requires plain { IsPlain plan.now }
     requires right { All (IsRight plan.now) index.old.rows }
     ensures { All (IsRight plan.now) index.new.rows }
 {
@@ -138,6 +143,7 @@ fn push_rows(plan: &Plan, layout: &Layout, index: &mut Index, machine: u8, call:
 /// Appends the rows of a call, and says where they begin.
 fn index_call(plan: &Plan, layout: &Layout, index: &mut Index, machine: u8, call: Call)
     requires layout { layout.now ≡ counts_of plan.now }
+    requires plain { IsPlain plan.now }
     requires right { All (IsRight plan.now) index.old.rows }
     ensures { All (IsRight plan.now) index.new.rows }
 {
@@ -147,6 +153,7 @@ fn index_call(plan: &Plan, layout: &Layout, index: &mut Index, machine: u8, call
 
 fn index_zone(plan: &Plan, layout: &Layout, index: &mut Index, machine: u8, zone: u8)
     requires layout { layout.now ≡ counts_of plan.now }
+    requires plain { IsPlain plan.now }
     requires right { All (IsRight plan.now) index.old.rows }
     ensures { All (IsRight plan.now) index.new.rows }
 {
@@ -157,6 +164,7 @@ fn index_zone(plan: &Plan, layout: &Layout, index: &mut Index, machine: u8, zone
 
 fn index_zones(plan: &Plan, layout: &Layout, index: &mut Index, machine: u8)
     requires layout { layout.now ≡ counts_of plan.now }
+    requires plain { IsPlain plan.now }
     requires right { All (IsRight plan.now) index.old.rows }
     ensures { All (IsRight plan.now) index.new.rows }
 {
@@ -167,6 +175,7 @@ fn index_zones(plan: &Plan, layout: &Layout, index: &mut Index, machine: u8)
 
 fn index_poses(plan: &Plan, layout: &Layout, index: &mut Index, machine: u8)
     requires layout { layout.now ≡ counts_of plan.now }
+    requires plain { IsPlain plan.now }
     requires right { All (IsRight plan.now) index.old.rows }
     ensures { All (IsRight plan.now) index.new.rows }
 {
@@ -177,6 +186,7 @@ fn index_poses(plan: &Plan, layout: &Layout, index: &mut Index, machine: u8)
 
 fn index_places(plan: &Plan, layout: &Layout, index: &mut Index, machine: u8)
     requires layout { layout.now ≡ counts_of plan.now }
+    requires plain { IsPlain plan.now }
     requires right { All (IsRight plan.now) index.old.rows }
     ensures { All (IsRight plan.now) index.new.rows }
 {
@@ -187,6 +197,7 @@ fn index_places(plan: &Plan, layout: &Layout, index: &mut Index, machine: u8)
 
 fn index_machine(plan: &Plan, layout: &Layout, index: &mut Index, machine: u8)
     requires layout { layout.now ≡ counts_of plan.now }
+    requires plain { IsPlain plan.now }
     requires right { All (IsRight plan.now) index.old.rows }
     ensures { All (IsRight plan.now) index.new.rows }
 {
@@ -197,9 +208,9 @@ fn index_machine(plan: &Plan, layout: &Layout, index: &mut Index, machine: u8)
     index_places(plan, layout, index, machine);
 }
 
-/// All rows of a plan, and where those of each call begin.
+/// All rows of a plan, and where those of each call begin. A plan in which a zone joins another has none.
 pub(crate) fn index_of(plan: &Plan, layout: &Layout) -> Index
-    requires layout { layout.now ≡ counts_of plan.now }
+    requires { layout.now ≡ counts_of plan.now }
     ensures { All (IsRight plan.now) result.rows }
 {
     let mut index = Index {
@@ -207,6 +218,9 @@ pub(crate) fn index_of(plan: &Plan, layout: &Layout) -> Index
         rows: [Row::none(); ROWS_OF_ALL],
         count: 0,
     };
+    if !is_plain(plan) {
+        return index;
+    }
     for machine in 0..CALLERS {
         index_machine(plan, layout, &mut index, machine);
     }

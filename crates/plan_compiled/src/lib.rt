@@ -9,6 +9,7 @@ mod finding;
 mod index;
 mod needs;
 mod part;
+mod plain;
 mod right;
 mod row;
 mod told;

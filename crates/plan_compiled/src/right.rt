@@ -1,6 +1,7 @@
 //! Whether a row is right, tested over all numbers of each field of the word.
 ghost use Rattle.std.specs.Prelude.{◌≡◌, ℕ, ◌<◌, IsTrue, IfSome};
 ghost use Rattle.plan_types.specs.Table.{zone_count, place_count};
+ghost use Rattle.plan_rules.specs.PlainLaws.{IsPlain};
 ghost use Rattle.plan_word.specs.Layout.{counts_of, width_of};
 ghost use Rattle.plan_word.specs.declared.layout.Field.TheVariants.{Zone, Place, Stamp, Stop};
 ghost use Rattle.plan_compiled.specs.Needs as needs;
@@ -11,9 +12,11 @@ use crate::needs::{
     may_ask, place_after, place_fits, stop_after, stop_fits, zone_after, zone_fits,
 };
 use crate::part::Part;
+use crate::plain::zone_alone;
 use crate::row::Row;
+use plan_rules::laws::plain_plans_stay;
 use plan_types::{Call, Plan};
-use plan_word::{Field, Layout, is_lawful_zone, zone_code, zone_of_code};
+use plan_word::{Field, Layout, is_lawful_zone, zone_code};
 
 /// A call of a machine; with room, the ends of the ways that a pose opens have to be empty.
 #[derive(Clone, Copy, Debug)]
@@ -42,7 +45,7 @@ fn is_right_code(
         call,
         room,
     } = asked;
-    let at = zone_of_code(plan, layout, zone, code);
+    let at = zone_alone(plan, layout, zone, code);
     if zone_code(plan, layout, zone, at) != code
         || !is_lawful_zone(plan, zone, at)
         || !part.matches(code)
@@ -152,10 +155,12 @@ fn keeps_stamp(layout: &Layout, part: &Part) -> bool
 
 /// The row of a call with this part, if it is right.
 pub(crate) fn row_of(plan: &Plan, layout: &Layout, asked: Asked, part: Part) -> Option<Row>
-    requires { layout.now ≡ counts_of plan.now }
+    requires layout { layout.now ≡ counts_of plan.now }
+    requires plain { IsPlain plan.now }
     ensures { IfSome result (λ row. rows.IsRight plan.now row) }
 {
     let _ = plan.machines();
+    plain_plans_stay();
     if may_ask(plan, asked.machine, asked.call)
         && keeps_stamp(layout, &part)
         && is_right_stop(plan, layout, asked, &part)

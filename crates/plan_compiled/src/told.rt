@@ -2,16 +2,18 @@
 ghost use Rattle.std.specs.Prelude.{◌≡◌, ◌/◌, ◌%◌, ◌<◌, ◌≤◌, ◌^◌, ℕ, IsTrue};
 ghost use Rattle.plan_types.specs.Table.{zone_count, place_count};
 ghost use Rattle.plan_types.specs.Plan.{IsPlan};
+ghost use Rattle.plan_rules.specs.PlainLaws.{IsPlain};
 ghost use Rattle.plan_rules.specs.State.{one_if};
 ghost use Rattle.plan_word.specs.declared.layout.Field.TheVariants.{Zone};
 ghost use Rattle.plan_word.specs.Layout.{bits_of, counts_of};
 ghost use Rattle.plan_word.specs.Reading.{place_told};
 ghost use Rattle.plan_compiled.specs.Ends.{IsEnd, AreEnds, IsTable, TakenBelow};
 
+use crate::plain::{is_plain, zone_alone};
 use plan_types::{MAX_ZONES, Plan};
-use plan_word::{Field, Layout, is_lawful_zone, zone_code, zone_of_code};
+use plan_word::{Field, Layout, is_lawful_zone, zone_code};
 
-/// A zone may not have the code.
+/// A zone may not have the code, or the table doesn't tell.
 const BARRED: u32 = 1 << 31;
 
 /// Of each code of a zone: the place that a plate in the zone comes to, as a set bit, if there is one; or `BARRED`.
@@ -25,10 +27,11 @@ pub struct Ends {
 }
 
 fn end_of(plan: &Plan, layout: &Layout, zone: u8, code: u64) -> u32
-    requires { layout.now ≡ counts_of plan.now }
+    requires layout { layout.now ≡ counts_of plan.now }
+    requires plain { IsPlain plan.now }
     ensures { IsEnd plan.now zone code result }
 {
-    let at = zone_of_code(plan, layout, zone, code);
+    let at = zone_alone(plan, layout, zone, code);
     if zone_code(plan, layout, zone, at) != code || !is_lawful_zone(plan, zone, at) {
         return BARRED;
     }
@@ -39,8 +42,10 @@ fn end_of(plan: &Plan, layout: &Layout, zone: u8, code: u64) -> u32
 }
 
 fn ends_of(plan: &Plan, layout: &Layout, zone: u8) -> Ends
-    requires { layout.now ≡ counts_of plan.now }
+    requires layout { layout.now ≡ counts_of plan.now }
+    requires plain { IsPlain plan.now }
     ensures ends { AreEnds plan.now zone result.ends }
+    ensures few { result.bits ≤ 5 }
     ensures bits { result.bits ≡ bits_of (counts_of plan.now) (Zone zone) }
 {
     let mut ends = [0; 32];
@@ -51,7 +56,7 @@ fn ends_of(plan: &Plan, layout: &Layout, zone: u8) -> Ends
     Ends { bits, ends }
 }
 
-/// The ends of all zones.
+/// The ends of all zones. Of a plan in which a zone joins another it bars each code.
 pub(crate) fn table_of(plan: &Plan, layout: &Layout) -> [Ends; MAX_ZONES]
     requires { layout.now ≡ counts_of plan.now }
     ensures { IsTable plan.now (zone_count plan.now) result }
@@ -60,8 +65,12 @@ pub(crate) fn table_of(plan: &Plan, layout: &Layout) -> [Ends; MAX_ZONES]
         bits: 0,
         ends: [BARRED; 32],
     };
+    let zones = plan.zone_count();
     let mut table = [none; MAX_ZONES];
-    for zone in 0..plan.zone_count() {
+    if !is_plain(plan) {
+        return table;
+    }
+    for zone in 0..zones {
         table[usize::from(zone)] = ends_of(plan, layout, zone);
     }
     table

@@ -6,7 +6,7 @@ use Rattle.std.proofs.lemmas.List.{flat_map_more, length-take-le, map_more, map_
 use Rattle.std.proofs.lemmas.List.Folds.{list_all-append}
 use Rattle.std.specs.List.{AllZip, enumerate_from, flat_map, list_all}
 use Rattle.plan_text.specs.Names.{Text, is_name}
-use Rattle.plan_document.specs.Names.{AreNames, all_poses, hazard_names, identifier, identifiers, identifiers_in, machine_names, motor_names, names_in, numbered, numbered_poses, place_names, places_in, pose_names, sensor_identifiers, sensor_identifiers_in, sensor_names, sensors_in, zone_names}
+use Rattle.plan_document.specs.Names.{AreNames, all_poses, hazard_names, identifier, identifiers, identifiers_in, machine_names, motor_names, names_in, numbered, numbered_poses, place_names, places_in, pose_names, sensor_identifiers, sensor_identifiers_in, sensor_names, sensors_in, space_before, space_name, space_names, taken_in, taken_names, zone_names}
 use Rattle.plan_document.specs.Saying.{ends_in, place_rows}
 use Rattle.plan_document.specs.declared.document.HazardRow.{HazardRow}
 use Rattle.plan_document.specs.declared.document.MachineRow.{MachineRow}
@@ -19,7 +19,7 @@ use Rattle.plan_document.specs.declared.document.ZoneRow.{ZoneRow}
 pub row_more : {X : Type 0} (xs : List X) (i : ℕ) (x : X) → i < length xs → x ≡ get_or xs i x → take (i + 1) xs ≡ take i xs ++ x ∷ []
 row_more xs i x h is = take_more xs i x h ∙ ap (λ z. take i xs ++ z ∷ []) (sym is)
 
-map_row_more : {X Y : Type 0} (f : X → Y) (xs : List X) (i : ℕ) (x : X) → i < length xs → x ≡ get_or xs i x → map f (take (i + 1) xs) ≡ map f (take i xs) ++ f x ∷ []
+pub map_row_more : {X Y : Type 0} (f : X → Y) (xs : List X) (i : ℕ) (x : X) → i < length xs → x ≡ get_or xs i x → map f (take (i + 1) xs) ≡ map f (take i xs) ++ f x ∷ []
 map_row_more f xs i x h is = map_more f xs i x h ∙ ap (λ z. map f (take i xs) ++ f z ∷ []) (sym is)
 
 flat_row_more : {X A : Type 0} (f : X → List A) (xs : List X) (i : ℕ) (x : X) → i < length xs → x ≡ get_or xs i x → flat_map f (take (i + 1) xs) ≡ flat_map f (take i xs) ++ f x
@@ -46,6 +46,13 @@ machine_names_more rows i row h is = map_row_more (λ (r : MachineRow). string_b
 
 pub zone_names_more : (rows : List ZoneRow) (i : ℕ) (row : ZoneRow) → i < length rows → row ≡ get_or rows i row → zone_names (take (i + 1) rows) ≡ zone_names (take i rows) ++ string_bytes row.name ∷ []
 zone_names_more rows i row h is = map_row_more (λ (r : ZoneRow). string_bytes r.name) rows i row h is
+
+pub space_names_more : (rows : List ZoneRow) (i : ℕ) (row : ZoneRow) → i < length rows → row ≡ get_or rows i row → space_names (take (i + 1) rows) ≡ space_names (take i rows) ++ space_name row ∷ []
+space_names_more rows i row h is = map_row_more space_name rows i row h is
+
+pub taken_names_more : (rows : List ZoneRow) (i : ℕ) (row : ZoneRow) → i < length rows → row ≡ get_or rows i row → taken_names (take (i + 1) rows) ≡ (taken_names (take i rows) ++ space_before row) ++ string_bytes row.name ∷ []
+taken_names_more rows i row h is =
+    flat_row_more taken_in rows i row h is ∙ sym (append_assoc (taken_names (take i rows)) (space_before row) (string_bytes row.name ∷ []))
 
 pub motor_names_more : (rows : List MotorRow) (i : ℕ) (row : MotorRow) → i < length rows → row ≡ get_or rows i row → motor_names (take (i + 1) rows) ≡ motor_names (take i rows) ++ string_bytes row.name ∷ []
 motor_names_more rows i row h is = map_row_more (λ (r : MotorRow). string_bytes r.name) rows i row h is
@@ -91,7 +98,7 @@ names_more names name more all one pushed = ap (list_all is_name) pushed ∙ fre
 
 -- ---- numbered rows
 
-number_push : {X : Type 0} (n : ℕ) (xs : List X) (x : X) → enumerate_from n (xs ++ x ∷ []) ≡ enumerate_from n xs ++ (n + length xs, x) ∷ []
+pub number_push : {X : Type 0} (n : ℕ) (xs : List X) (x : X) → enumerate_from n (xs ++ x ∷ []) ≡ enumerate_from n xs ++ (n + length xs, x) ∷ []
 number_push n [] x = let e : n ≡ n + 0 = omega arith in ap (λ k. (k, x) ∷ []) e
 number_push n (y ∷ ys) x =
     let e : n + 1 + length ys ≡ n + length (y ∷ ys) = omega arith in

@@ -1,4 +1,5 @@
 mod Growing
+mod Zoned
 mod Running
 mod Stepping
 mod Given

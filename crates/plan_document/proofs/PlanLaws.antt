@@ -11,7 +11,7 @@ use Rattle.plan_text.specs.Names.{Text, name_in, number_in}
 use Rattle.plan_document.specs.declared.document.MachineRow.{MachineRow}
 use Rattle.plan_document.specs.declared.document.WayRow.{WayRow}
 use Rattle.plan_document.specs.declared.document.ZoneRow.{ZoneRow}
-use Rattle.plan_document.specs.Names.{AreDistinct, place_names, places_in}
+use Rattle.plan_document.specs.Names.{AreDistinct, place_names, places_in, space_name}
 use Rattle.plan_document.specs.PlanLaws.{PlacesAreKept, StandsAt, WayHasNames, ZoneHasNames, ZonesHaveNames}
 use Rattle.plan_document.specs.Saying.{IsWayOf, IsZoneOf, ends_in, place_of, place_rows}
 use Rattle.plan_document.proofs.Standing.{flat_at, mapped, moved, name_of, named_at, numbered_flat, own_number, read_at, same_number, zip_at}
@@ -63,11 +63,13 @@ no_row places None w is e = refl
 no_row places (Some r) None is e = absurd is
 no_row places (Some r) (Some w) is e = absurd (cc)
 
-zone_has : (n : Named) (zone : ℕ) (row : ZoneRow) → name_in n.zones zone ≡ string_bytes row.name → IsZoneOf n.machines n.places row (zone_row n.plan zone) → ZoneHasNames n zone row
-zone_has n zone row named at =
+zone_has : (n : Named) (zone : ℕ) (row : ZoneRow) → name_in n.zones zone ≡ string_bytes row.name → name_in n.spaces zone ≡ space_name row → IsZoneOf n.machines n.places row (zone_row n.plan zone) → ZoneHasNames n zone row
+zone_has n zone row named spaced at =
     let z = zone_row n.plan zone in
     record {
       name = named;
+      space = spaced;
+      joins = at.joins;
       host = name_of n.machines (string_bytes row.host) z.host at.host;
       guest = name_of n.machines (string_bytes row.guest) z.guest at.guest;
       inward = λ r w. way_names n.places row.inward z.inward r w at.inward;
@@ -82,4 +84,5 @@ pub zoned : ZonesHaveNames
 zoned d n is zone row here =
     zone_has n zone row
     (named_at (λ (r : ZoneRow). string_bytes r.name) d.zones.items n.zones zone row is.named_zones here)
+    (named_at space_name d.zones.items n.spaces zone row is.named_spaces here)
     (zip_at (IsZoneOf n.machines n.places) d.zones.items n.plan.zones zone row no_zone is.zones here)

@@ -1,5 +1,7 @@
 -- What it means that a plan is a document's, in examples.
 use Rattle.std.proofs.Common.{◌≡◌, ◌≢◌, ◌∙◌, ℕ, Bool, true, false, ◌&&◌, List, [], ◌∷◌, ◌++◌, codes, length, map, drop, slice_index, nat_eq, Some, None, is_some, refl, sym, ap, subst, arith, string_bytes}
+use Rattle.std.specs.Prelude.{String}
+use Rattle.std.specs.declared.alloc.Global.{Global}
 use Rattle.std.proofs.lemmas.List.{append-nil}
 use Rattle.std.specs.List.{AllZip, list_all}
 use Rattle.plan_types.specs.declared.call.Call.{Call}
@@ -23,10 +25,10 @@ use Rattle.plan_document.specs.declared.document.ZoneRow.{ZoneRow}
 use Rattle.plan_document.specs.declared.resolving.ProgrammedPlan.{ProgrammedPlan}
 use Rattle.plan_document.specs.Laws.{AcceptedLinesAreTheirs, RefusedLinesAreNeverDone}
 use Rattle.plan_document.specs.NameLaws.{NamesAreWords, is_one_word}
-use Rattle.plan_document.specs.Names.{AreDistinct, all_poses, machine_names, names_in, numbered, place_names, pose_names, zone_names}
+use Rattle.plan_document.specs.Names.{AreDistinct, all_poses, machine_names, names_in, numbered, place_names, pose_names, space_names, zone_names}
 use Rattle.plan_document.specs.Postures.{gives_zone}
 use Rattle.plan_document.specs.Saying.{IsCallOf, IsNamedPlanOf, IsPlanOf, IsPoseOf, IsProgramOf, IsZoneOf, is_free, ends_in, place_rows, calls_of, may_be_done, own_call}
-use Rattle.plan_document.specs.PlanExamples.{AreApart, AreOneWord, DocumentsAreMet, HasTwo, LawsOfLift, LinesAreRead, NamesAreTold, NeverDone, NeverTheirs, PlansHaveNames, PlansHavePrograms, PlansHaveRows, PlansSayRows, PosesAreRead, PosturesAreGiven, WaysAreRead, ZonesAreRead, letters}
+use Rattle.plan_document.specs.PlanExamples.{AreApart, AreOneWord, DocumentsAreMet, HasTwo, LawsOfLift, LinesAreRead, NamesAreTold, NeverDone, NeverTheirs, PlansHaveNames, PlansHavePrograms, PlansHaveRows, PlansSayRows, PosesAreRead, PosturesAreGiven, SpacesAreNamed, WaysAreRead, ZonesAreRead, letters}
 use Rattle.plan_document.specs.WordExamples.{parked}
 
 pub impossible : false ≡ true → ⊥
@@ -97,10 +99,19 @@ zone_rows : (row : ZoneRow) (zone : PlanZone) → ZonesAreRead row zone
 zone_rows row zone = record {
   host = λ is. fourth (string_bytes row.host) zone.host is.host;
   guest = λ is. sixth (string_bytes row.guest) zone.guest is.guest;
+  joins = λ is. is.joins;
   no_host = λ is. nobody (string_bytes row.host) zone.host is.host;
   no_guest = λ is. nobody (string_bytes row.guest) zone.guest is.guest;
   inward = λ is. is.inward;
   outward = λ is. is.outward;
+}
+
+space_rows : (x y : ZoneRow) (space : String Global) → SpacesAreNamed x y space
+space_rows x y space = record {
+  listed = λ first listed joined. rw (first, listed, joined) refl;
+  apart = λ first alone other too. rw (first, alone, other, too) refl;
+  of_space = λ listed. rw listed refl;
+  own = λ alone. rw alone refl;
 }
 
 -- ---- poses
@@ -206,6 +217,7 @@ document_rows = record {
   words = word_rows;
   ways = way_rows;
   zones = zone_rows;
+  spaces = space_rows;
   postures = posture_rows;
   poses = pose_rows;
   lines = line_rows;
@@ -219,6 +231,7 @@ names_of_plans d n is = record {
   zones_apart = are_apart n.zones is.distinct_zones;
   places_apart = are_apart n.places is.distinct_places;
   poses_apart = are_apart _ is.distinct_poses;
+  spaces_apart = are_apart _ is.distinct_spaces;
   taken = unless is_free n.machines _ is.free refl;
   no_machine = unless is_name n.machines _ is.spelled_machines refl;
   no_zone = unless is_name n.zones _ is.spelled_zones refl;
@@ -244,6 +257,7 @@ rows_of_plans d a b x y n has is = record {
   count = is.machines ∙ ap length has.machines;
   machines = is.named_machines ∙ ap machine_names has.machines;
   zone_names = is.named_zones ∙ ap zone_names has.zones;
+  space_names = is.named_spaces ∙ ap space_names has.zones;
   place_names = is.named_places ∙ ap place_names has.machines ∙ ap (λ z. map string_bytes a.places.items ++ z) (append-nil (map string_bytes b.places.items));
   pose_names = is.named_poses ∙ ap pose_names has.machines ∙ ap (λ z. names_in a.poses.items ++ z) (append-nil (names_in b.poses.items));
   place_rows = is.places ∙ ap place_rows has.machines ∙ ap (λ z. ends_in 0 a ++ z) (append-nil (ends_in 1 b));

@@ -27,7 +27,7 @@ use Rattle.plan_document.specs.declared.document.PoseRow.{PoseRow}
 use Rattle.plan_document.specs.declared.document.ZoneRow.{ZoneRow}
 use Rattle.plan_document.specs.declared.resolving.ProgrammedPlan.{ProgrammedPlan}
 use Rattle.plan_document.specs.Motors.{IsHazardOf, IsMotorOf}
-use Rattle.plan_document.specs.Names.{AreDistinct, all_poses, identifier, identifiers, identifiers_in, is_title, names_in, numbered, numbered_poses, place_names, places_in, pose_names, sensor_identifiers, sensor_identifiers_in, sensor_names, sensors_in}
+use Rattle.plan_document.specs.Names.{AreDistinct, all_poses, identifier, identifiers, identifiers_in, is_title, names_in, numbered, numbered_poses, place_names, places_in, pose_names, sensor_identifiers, sensor_identifiers_in, sensor_names, sensors_in, space_name, taken_names}
 use Rattle.plan_document.specs.PlanLaws.{StandsAt}
 use Rattle.plan_document.specs.Laws.{is_line}
 use Rattle.plan_document.specs.Saying.{IsPlanOf, IsPoseOf, IsProgramOf, IsStepOf, IsZoneOf, calls_of, ends_in, is_free, own_call, place_of, place_rows}
@@ -107,6 +107,7 @@ counted d p is = (
   record {
     machines = ap length is.named.named_machines ∙ length-map d.machines.items (λ (r : MachineRow). string_bytes r.name) ∙ sym all.machines;
     zones = ap length is.named.named_zones ∙ length-map d.zones.items (λ (r : ZoneRow). string_bytes r.name) ∙ sym all.zones;
+    spaces = ap length is.named.named_spaces ∙ length-map d.zones.items space_name ∙ sym all.zones;
     places = ap length is.named.named_places ∙ place_total d.machines.items ∙ sym all.places;
     poses = ap length is.named.named_poses ∙ pose_total d.machines.items ∙ sym all.poses;
     motors = ap length is.motors.named_motors ∙ length-map d.motors.items (λ (r : MotorRow). string_bytes r.name) ∙ sym all.motors;
@@ -162,6 +163,7 @@ named d p is = (
   λ i j. record {
     machines = are_apart p.named.machines is.named.distinct_machines i j;
     zones = are_apart p.named.zones is.named.distinct_zones i j;
+    taken = are_apart (taken_names d.zones.items) is.named.distinct_spaces i j;
     places = are_apart p.named.places is.named.distinct_places i j;
     motors = are_apart p.motors.names is.motors.distinct_motors i j;
     hazards = are_apart p.motors.hazard_names is.motors.distinct_hazards i j;

@@ -6,7 +6,7 @@ use Rattle.toml.specs.Data.{Members, member, no_members}
 use Rattle.plan_text.specs.Names.{Text}
 use Rattle.plan_document.specs.declared.fault.Key.{Key}
 use Rattle.plan_document.specs.declared.fault.Key.TheVariants.{Machine, Zone, Name, Places, Poses, Program, Gives}
-use Rattle.plan_document.specs.declared.fault.Key.TheVariants.{Sources, Sinks}
+use Rattle.plan_document.specs.declared.fault.Key.TheVariants.{Sources, Sinks, Guests}
 use Rattle.plan_document.specs.declared.fault.Key.TheVariants.{AfterMoving, Host, Guest, Inward, Outward, Motor, Hazard}
 use Rattle.plan_document.specs.declared.fault.Key.TheVariants.{Holds, Stands, Full, Empty, Motors, Sensors}
 use Rattle.plan_document.specs.declared.fault.RowOf.{RowOf}
@@ -26,6 +26,7 @@ key_word Gives = codes "gives"
 key_word AfterMoving = codes "after_moving"
 key_word Host = codes "host"
 key_word Guest = codes "guest"
+key_word Guests = codes "guests"
 key_word Inward = codes "inward"
 key_word Outward = codes "outward"
 key_word Motor = codes "motor"
@@ -48,6 +49,13 @@ pose_keys = Name ∷ Gives ∷ AfterMoving ∷ []
 abbrev pub zone_keys : List Key
 zone_keys = Name ∷ Host ∷ Guest ∷ Inward ∷ Outward ∷ []
 
+-- a zone that lists its guests, and each of these
+abbrev pub space_keys : List Key
+space_keys = Name ∷ Host ∷ Guests ∷ []
+
+abbrev pub side_keys : List Key
+side_keys = Name ∷ Guest ∷ Inward ∷ Outward ∷ []
+
 abbrev pub motor_keys : List Key
 motor_keys = Name ∷ Machine ∷ Holds ∷ Stands ∷ Full ∷ Empty ∷ []
 
@@ -60,6 +68,8 @@ keys_in row.Document = top_keys
 keys_in (row.Machine _) = machine_keys
 keys_in (row.Pose _ _) = pose_keys
 keys_in (row.Zone _) = zone_keys
+keys_in (row.Space _) = space_keys
+keys_in (row.Side _ _) = side_keys
 keys_in (row.Motor _) = motor_keys
 keys_in (row.Hazard _) = hazard_keys
 

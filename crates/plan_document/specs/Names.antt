@@ -1,6 +1,6 @@
 -- The names in a document, by kinds, in the order of its rows.
-use Rattle.std.specs.Prelude.{◌≡◌, ℕ, ◌<◌, Bool, ◌&&◌, not, nat_eq, nat_le, nat_lt, List, ◌++◌, codes, length, map}
-use Rattle.std.specs.Prelude.{string_bytes, Some, IsTrue}
+use Rattle.std.specs.Prelude.{◌≡◌, ℕ, ◌<◌, Bool, ◌&&◌, not, nat_eq, nat_le, nat_lt, List, [], ◌∷◌, ◌++◌, codes, length}
+use Rattle.std.specs.Prelude.{map, string_bytes, Some, option_map, option_to_list, unwrap_or, IsTrue, if◌then◌else◌}
 use Rattle.std.specs.List.{enumerate_from, flat_map, list_all}
 use Rattle.plan_text.specs.Names.{Text, is_name, name_in, number_in}
 use Rattle.plan_document.specs.declared.document.HazardRow.{HazardRow}
@@ -14,6 +14,23 @@ machine_names machines = map (λ row. string_bytes row.name) machines
 
 abbrev pub zone_names : List ZoneRow → List Text
 zone_names zones = map (λ row. string_bytes row.name) zones
+
+-- the name of a zone's space: that of the zone which lists it, or its own
+abbrev pub space_name : ZoneRow → Text
+space_name row = unwrap_or (option_map string_bytes row.space) (string_bytes row.name)
+
+abbrev pub space_names : List ZoneRow → List Text
+space_names zones = map space_name zones
+
+-- the names that a row takes: before that of its first guest a zone's which lists them, and its own
+abbrev pub space_before : ZoneRow → List Text
+space_before row = if row.joins then [] else option_to_list (option_map string_bytes row.space)
+
+abbrev pub taken_in : ZoneRow → List Text
+taken_in row = space_before row ++ string_bytes row.name ∷ []
+
+abbrev pub taken_names : List ZoneRow → List Text
+taken_names zones = flat_map taken_in zones
 
 abbrev pub motor_names : List MotorRow → List Text
 motor_names motors = map (λ row. string_bytes row.name) motors

@@ -1,6 +1,7 @@
 -- What it means that a plan is a document's, in examples: what each row must have, and what no plan may lack.
-use Rattle.std.specs.Prelude.{◌≡◌, ◌≢◌, ℕ, ◌<◌, List, [], ◌∷◌, ◌++◌, codes, get_or, length, map}
-use Rattle.std.specs.Prelude.{string_bytes, Some, None}
+use Rattle.std.specs.Prelude.{◌≡◌, ◌≢◌, ℕ, ◌<◌, true, false, List, [], ◌∷◌, ◌++◌, codes, get_or, length, map}
+use Rattle.std.specs.Prelude.{String, string_bytes, Some, None}
+use Rattle.std.specs.declared.alloc.Global.{Global}
 use Rattle.plan_types.specs.declared.call.Call.{Call}
 use Rattle.plan_types.specs.declared.call.Call.TheVariants.{Claim, Give, Yield, Take, Release, SetPose}
 use Rattle.plan_types.specs.declared.posture.Posture.TheVariants.{Closed, OpenIn, Moving}
@@ -25,7 +26,7 @@ use Rattle.plan_document.specs.declared.document.ZoneRow.{ZoneRow}
 use Rattle.plan_document.specs.declared.resolving.ProgrammedPlan.{ProgrammedPlan}
 use Rattle.plan_document.specs.Laws.{AcceptedLinesAreTheirs, RefusedLinesAreNeverDone}
 use Rattle.plan_document.specs.NameLaws.{NamedPlansHaveWords, NamesAreWords}
-use Rattle.plan_document.specs.Names.{AreDistinct, AreNames, identifiers, names_in}
+use Rattle.plan_document.specs.Names.{AreDistinct, AreNames, identifiers, names_in, space_name, taken_names}
 use Rattle.plan_document.specs.Postures.{AreGiven, given}
 use Rattle.plan_document.specs.Saying.{IsCallOf, IsNamedPlanOf, IsPlanOf, IsPoseOf, IsProgramOf, IsWayOf, IsZoneOf}
 use Rattle.plan_document.specs.Saying.{calls_of, ends_in}
@@ -74,10 +75,20 @@ IsShared row zone = IsZoneOf letters (codes "b" ∷ codes "a" ∷ []) row zone
 pub record ZonesAreRead (row : ZoneRow) (zone : PlanZone) : Type 0 where
   pub host : IsShared row zone → string_bytes row.host ≡ codes "d" → zone.host ≡ 3
   pub guest : IsShared row zone → string_bytes row.guest ≡ codes "f" → zone.guest ≡ 5
+  pub joins : IsShared row zone → zone.joins ≡ row.joins
   pub no_host : IsShared row zone → string_bytes row.host ≢ codes "x"
   pub no_guest : IsShared row zone → string_bytes row.guest ≢ codes "x"
   pub inward : IsShared row zone → IsWayOf (codes "b" ∷ codes "a" ∷ []) row.inward zone.inward
   pub outward : IsShared row zone → IsWayOf (codes "b" ∷ codes "a" ∷ []) row.outward zone.outward
+
+-- the names that rows take, and those of their spaces: a zone that lists its guests has a name beside theirs
+pub record SpacesAreNamed (x y : ZoneRow) (space : String Global) : Type 0 where
+  pub listed : x.joins ≡ false → x.space ≡ Some space → y.joins ≡ true
+      → taken_names (x ∷ y ∷ []) ≡ string_bytes space ∷ string_bytes x.name ∷ string_bytes y.name ∷ []
+  pub apart : x.joins ≡ false → x.space ≡ None → y.joins ≡ false → y.space ≡ None
+      → taken_names (x ∷ y ∷ []) ≡ string_bytes x.name ∷ string_bytes y.name ∷ []
+  pub of_space : x.space ≡ Some space → space_name x ≡ string_bytes space
+  pub own : x.space ≡ None → space_name x ≡ string_bytes x.name
 
 -- ---- poses
 
@@ -124,6 +135,7 @@ pub record DocumentsAreMet : Type 0 where
   pub words : (n : Named) → NamesAreWords n → AreOneWord n
   pub ways : WaysAreRead
   pub zones : (row : ZoneRow) (zone : PlanZone) → ZonesAreRead row zone
+  pub spaces : (x y : ZoneRow) (space : String Global) → SpacesAreNamed x y space
   pub postures : (a b : PostureRow) → PosturesAreGiven a b
   pub poses : (row : PoseRow) (pose : PlanPose) → PosesAreRead row pose
   pub lines : LinesAreRead
@@ -136,6 +148,7 @@ pub record PlansHaveNames (d : Document) (n : Named) (is : IsNamedPlanOf d n) : 
   pub zones_apart : AreApart n.zones
   pub places_apart : AreApart n.places
   pub poses_apart : AreApart (identifiers d.machines.items)
+  pub spaces_apart : AreApart (taken_names d.zones.items)
   pub taken : n.machines ≢ codes "lift" ∷ codes "watch" ∷ []
   pub no_machine : n.machines ≢ codes "lift" ∷ codes "Low" ∷ []
   pub no_zone : n.zones ≢ codes "below" ∷ codes "Above" ∷ []
@@ -152,6 +165,7 @@ pub record PlansHaveRows (d : Document) (a b : MachineRow) (x y : ZoneRow) (n : 
   pub count : n.plan.machines ≡ 2
   pub machines : n.machines ≡ string_bytes a.name ∷ string_bytes b.name ∷ []
   pub zone_names : n.zones ≡ string_bytes x.name ∷ string_bytes y.name ∷ []
+  pub space_names : n.spaces ≡ space_name x ∷ space_name y ∷ []
   pub place_names : n.places ≡ map string_bytes a.places.items ++ map string_bytes b.places.items
   pub pose_names : n.poses ≡ names_in a.poses.items ++ names_in b.poses.items
   pub place_rows : n.plan.places ≡ ends_in 0 a ++ ends_in 1 b

@@ -4,7 +4,7 @@ use Rattle.std.specs.Prelude.{String, string_bytes, Some, None, is_some, IsTrue}
 use Rattle.std.specs.declared.alloc.Global.{Global}
 use Rattle.plan_types.specs.declared.posture.Posture.{Posture}
 use Rattle.plan_types.specs.declared.table.Way.{Way}
-use Rattle.plan_types.specs.Table.{guest_of, host_of, machine_of, place_row, pose_row, posture_of, zone_row}
+use Rattle.plan_types.specs.Table.{guest_of, host_of, joins, machine_of, place_row, pose_row, posture_of, zone_row}
 use Rattle.plan_motors.specs.declared.motor.Hazard.{Hazard}
 use Rattle.plan_motors.specs.declared.motor.Motor.{Motor}
 use Rattle.plan_motors.specs.Motor.{need_of, place_need}
@@ -20,7 +20,7 @@ use Rattle.plan_document.specs.declared.document.PostureRow.{PostureRow}
 use Rattle.plan_document.specs.declared.document.WayRow.{WayRow}
 use Rattle.plan_document.specs.declared.document.ZoneRow.{ZoneRow}
 use Rattle.plan_document.specs.declared.resolving.ProgrammedPlan.{ProgrammedPlan}
-use Rattle.plan_document.specs.Names.{pose_names}
+use Rattle.plan_document.specs.Names.{pose_names, space_name}
 use Rattle.plan_document.specs.Saying.{IsNamedPlanOf, IsPlanOf, place_of}
 
 -- a list has an item with a number, from 0
@@ -49,6 +49,8 @@ pub record WayHasNames (places : List Text) (row : WayRow) (way : Way) : Type 0 
 
 pub record ZoneHasNames (n : Named) (zone : ℕ) (row : ZoneRow) : Type 0 where
   pub name : name_in n.zones zone ≡ string_bytes row.name
+  pub space : name_in n.spaces zone ≡ space_name row
+  pub joins : joins n.plan zone ≡ row.joins
   pub host : name_in n.machines (host_of n.plan zone) ≡ string_bytes row.host
   pub guest : name_in n.machines (guest_of n.plan zone) ≡ string_bytes row.guest
   pub inward : (from_row : WayRow) (way : Way) → row.inward ≡ Some from_row

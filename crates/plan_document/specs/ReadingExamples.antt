@@ -1,5 +1,6 @@
 -- Of which TOML the rows of a document are read, in examples: what each key must have, and what no row may lack.
-use Rattle.std.specs.Prelude.{◌≡◌, Bool, true, List, [], ◌∷◌, codes, map, string_bytes, ℕ, Some, None}
+use Rattle.std.specs.Prelude.{◌≡◌, Bool, true, false, List, [], ◌∷◌, codes, map, String, string_bytes, ℕ, suc, Some, None}
+use Rattle.std.specs.declared.alloc.Global.{Global}
 use Rattle.toml.specs.Data.{Data, Members, array, boolean, get_member, item, member, no_items, no_members, string}
 use Rattle.toml.specs.Data.{table}
 use Rattle.toml.specs.Parse.{parse_document}
@@ -11,7 +12,8 @@ use Rattle.plan_document.specs.declared.document.PostureRow.{PostureRow}
 use Rattle.plan_document.specs.declared.document.WayRow.{WayRow}
 use Rattle.plan_document.specs.declared.document.ZoneRow.{ZoneRow}
 use Rattle.plan_document.specs.declared.resolving.ProgrammedPlan.{ProgrammedPlan}
-use Rattle.plan_document.specs.Reading.{HasRows, IsDocumentIn, IsMachineIn, IsPlanIn, IsPoseIn, IsTruth}
+use Rattle.plan_document.specs.Reading.{AreSidesIn, HasRows, HasZones, IsDocumentIn, IsMachineIn, IsPlain, IsPlainIn}
+use Rattle.plan_document.specs.Reading.{IsPlanIn, IsPoseIn, IsSide, IsTruth}
 use Rattle.plan_document.specs.Reading.{IsWay, IsZoneIn, gives_written, items_at, items_in, written}
 use Rattle.plan_document.specs.Saying.{IsPlanOf}
 
@@ -39,11 +41,12 @@ pub record ValuesAreRead : Type 0 where
       (member (string_bytes b.zone) (string (string_bytes b.posture)) no_members)
   -- a row of a list, none more and none less
   pub row_lost : (members : Members) (value : Data)
-      → items_at (codes "zone") members ≡ Some (value ∷ []) → HasRows IsZoneIn (codes "zone") members [] → ⊥
-  pub row_added : (members : Members) (row : ZoneRow)
-      → items_at (codes "zone") members ≡ Some [] → HasRows IsZoneIn (codes "zone") members (row ∷ []) → ⊥
-  pub row : (members : Members) (value : Data) (row : ZoneRow) → items_at (codes "zone") members ≡ Some (value ∷ [])
-      → HasRows IsZoneIn (codes "zone") members (row ∷ []) → IsZoneIn value row
+      → items_at (codes "machine") members ≡ Some (value ∷ []) → HasRows IsMachineIn (codes "machine") members [] → ⊥
+  pub row_added : (members : Members) (row : MachineRow)
+      → items_at (codes "machine") members ≡ Some [] → HasRows IsMachineIn (codes "machine") members (row ∷ []) → ⊥
+  pub row : (members : Members) (value : Data) (row : MachineRow)
+      → items_at (codes "machine") members ≡ Some (value ∷ [])
+      → HasRows IsMachineIn (codes "machine") members (row ∷ []) → IsMachineIn value row
 
 pub record PosesAreIn (members : Members) (row : PoseRow) : Type 0 where
   pub name : IsPoseIn (table members) row → get_member (codes "name") members ≡ Some (string (string_bytes row.name))
@@ -69,18 +72,47 @@ pub record MachinesAreIn (members : Members) (row : MachineRow) : Type 0 where
   pub no_table : (text : Text) → IsMachineIn (string text) row → ⊥
   pub unknown : (value : Data) → IsMachineIn (table (member (codes "host") value members)) row → ⊥
 
-pub record ZonesAreIn (members : Members) (row : ZoneRow) : Type 0 where
-  pub name : IsZoneIn (table members) row → get_member (codes "name") members ≡ Some (string (string_bytes row.name))
-  pub host : IsZoneIn (table members) row → get_member (codes "host") members ≡ Some (string (string_bytes row.host))
-  pub guest : IsZoneIn (table members) row → get_member (codes "guest") members ≡ Some (string (string_bytes row.guest))
-  pub inward : IsZoneIn (table members) row → IsWay (get_member (codes "inward") members) row.inward
-  pub outward : IsZoneIn (table members) row → IsWay (get_member (codes "outward") members) row.outward
-  pub no_table : (text : Text) → IsZoneIn (string text) row → ⊥
-  pub unknown : (value : Data) → IsZoneIn (table (member (codes "gives") value members)) row → ⊥
+-- a zone of one guest, and the guests that another one lists
+pub record ZonesAreIn (zone : Members) (row : ZoneRow) : Type 0 where
+  pub name : IsPlain zone row → get_member (codes "name") zone ≡ Some (string (string_bytes row.name))
+  pub host : IsPlain zone row → get_member (codes "host") zone ≡ Some (string (string_bytes row.host))
+  pub guest : IsPlain zone row → get_member (codes "guest") zone ≡ Some (string (string_bytes row.guest))
+  pub inward : IsPlain zone row → IsWay (get_member (codes "inward") zone) row.inward
+  pub outward : IsPlain zone row → IsWay (get_member (codes "outward") zone) row.outward
+  pub alone : IsPlain zone row → (row.space ≡ None) × (row.joins ≡ false)
+  pub unknown : (value : Data) → IsPlain (member (codes "gives") value zone) row → ⊥
+  pub no_list : (value : Data) → IsPlain (member (codes "guests") value zone) row → ⊥
+
+pub record SidesAreIn (zone members : Members) (k : ℕ) (row : ZoneRow) : Type 0 where
+  pub name : IsSide zone (k, table members) row
+      → get_member (codes "name") members ≡ Some (string (string_bytes row.name))
+  pub guest : IsSide zone (k, table members) row
+      → get_member (codes "guest") members ≡ Some (string (string_bytes row.guest))
+  pub inward : IsSide zone (k, table members) row → IsWay (get_member (codes "inward") members) row.inward
+  pub outward : IsSide zone (k, table members) row → IsWay (get_member (codes "outward") members) row.outward
+  pub host : IsSide zone (k, table members) row
+      → get_member (codes "host") zone ≡ Some (string (string_bytes row.host))
+  pub space : (space : String Global) → IsSide zone (k, table members) row → row.space ≡ Some space
+      → get_member (codes "name") zone ≡ Some (string (string_bytes space))
+  pub no_space : IsSide zone (k, table members) row → row.space ≡ None → ⊥
+  pub first : IsSide zone (0, table members) row → row.joins ≡ false
+  pub later : IsSide zone (suc k, table members) row → row.joins ≡ true
+  pub no_table : (text : Text) → IsSide zone (k, string text) row → ⊥
+  pub unknown : (value : Data) → IsSide zone (k, table (member (codes "host") value members)) row → ⊥
+
+pub record SpacesAreIn (zone : Members) (a b : Data) (x y : ZoneRow) (rows : List ZoneRow) : Type 0 where
+  pub plain : get_member (codes "guests") zone ≡ None → IsZoneIn (table zone) rows → IsPlainIn zone rows
+  pub listed : get_member (codes "guests") zone ≡ Some a → IsZoneIn (table zone) rows → AreSidesIn zone rows
+  pub no_table : (text : Text) → IsZoneIn (string text) rows → ⊥
+  pub guest_beside : AreSidesIn (member (codes "guest") a zone) rows → ⊥
+  pub none : items_at (codes "guests") zone ≡ Some [] → AreSidesIn zone rows → ⊥
+  pub two : items_at (codes "guests") zone ≡ Some (a ∷ b ∷ []) → AreSidesIn zone (x ∷ y ∷ [])
+      → IsSide zone (0, a) x × IsSide zone (1, b) y
+  pub lost : items_at (codes "guests") zone ≡ Some (a ∷ b ∷ []) → AreSidesIn zone (x ∷ []) → ⊥
 
 pub record DocumentsAreIn (members : Members) (d : Document) : Type 0 where
   pub machines : IsDocumentIn members d → HasRows IsMachineIn (codes "machine") members d.machines.items
-  pub zones : IsDocumentIn members d → HasRows IsZoneIn (codes "zone") members d.zones.items
+  pub zones : IsDocumentIn members d → HasZones members d.zones.items
   pub unknown : (value : Data) → IsDocumentIn (member (codes "name") value members) d → ⊥
 
 pub record PlansAreIn (bytes : List ℕ) (plan : ProgrammedPlan) : Type 0 where
@@ -92,6 +124,8 @@ pub record RowsAreRead : Type 0 where
   pub values : ValuesAreRead
   pub poses : (members : Members) (row : PoseRow) → PosesAreIn members row
   pub machines : (members : Members) (row : MachineRow) → MachinesAreIn members row
-  pub zones : (members : Members) (row : ZoneRow) → ZonesAreIn members row
+  pub zones : (zone : Members) (row : ZoneRow) → ZonesAreIn zone row
+  pub sides : (zone members : Members) (k : ℕ) (row : ZoneRow) → SidesAreIn zone members k row
+  pub spaces : (zone : Members) (a b : Data) (x y : ZoneRow) (rows : List ZoneRow) → SpacesAreIn zone a b x y rows
   pub documents : (members : Members) (d : Document) → DocumentsAreIn members d
   pub plans : (bytes : List ℕ) (plan : ProgrammedPlan) → PlansAreIn bytes plan

@@ -24,7 +24,7 @@ use Rattle.plan_controller.specs.declared.step.Step.{Step}
 use Rattle.plan_controller.specs.declared.step.Step.TheVariants.{Do, Await, Run}
 use Rattle.plan_controller.specs.Faults.{no_faults}
 use Rattle.plan_text.specs.Names.{Text, is_reserved, number_in}
-use Rattle.plan_text.specs.Named.{Named, named}
+use Rattle.plan_text.specs.Named.{Named, named_in}
 use Rattle.plan_text.specs.Answers.{posture_of}
 use Rattle.plan_text.specs.Calls.{call_of, own_pose, verb_word}
 use Rattle.plan_text.specs.declared.calls.Verb.{Verb}
@@ -41,7 +41,8 @@ use Rattle.plan_document.specs.Motors.{AreNamedMotorsOf}
 use Rattle.plan_document.specs.Postures.{AreGiven}
 use Rattle.plan_document.specs.Refusals.{AreFaults}
 use Rattle.plan_document.specs.Names.{AreDistinct, AreNames, all_poses, identifiers, machine_names, numbered}
-use Rattle.plan_document.specs.Names.{place_names, pose_names, sensor_identifiers, sensor_names, sensors_in, zone_names}
+use Rattle.plan_document.specs.Names.{place_names, pose_names, sensor_identifiers, sensor_names, sensors_in, space_names}
+use Rattle.plan_document.specs.Names.{taken_names, zone_names}
 
 -- ---- zones
 
@@ -57,6 +58,7 @@ IsWayOf places (Some row) (Some way) =
 pub record IsZoneOf (machines places : List Text) (row : ZoneRow) (zone : PlanZone) : Type 0 where
   pub host : number_in machines (string_bytes row.host) ≡ Some zone.host
   pub guest : number_in machines (string_bytes row.guest) ≡ Some zone.guest
+  pub joins : zone.joins ≡ row.joins
   pub inward : IsWayOf places row.inward zone.inward
   pub outward : IsWayOf places row.outward zone.outward
 
@@ -231,19 +233,22 @@ abbrev pub is_free : Text → Bool
 is_free name = not (is_reserved name)
 
 -- each table has a row for each row of the document, and each name in it is looked up; all are names, and those of one
--- kind are distinct, of poses those for C
+-- kind are distinct, of poses those for C; no space has the name of another, or of a zone
 pub record IsNamedPlanOf (d : Document) (n : Named) : Type 0 where
   pub free : IsTrue (list_all is_free n.machines)
   pub spelled_machines : AreNames n.machines
   pub spelled_zones : AreNames n.zones
   pub spelled_places : AreNames n.places
   pub spelled_poses : AreNames n.poses
+  pub spelled_spaces : AreNames (taken_names d.zones.items)
   pub distinct_machines : AreDistinct n.machines
   pub distinct_zones : AreDistinct n.zones
   pub distinct_places : AreDistinct n.places
   pub distinct_poses : AreDistinct (identifiers d.machines.items)
+  pub distinct_spaces : AreDistinct (taken_names d.zones.items)
   pub named_machines : n.machines ≡ machine_names d.machines.items
   pub named_zones : n.zones ≡ zone_names d.zones.items
+  pub named_spaces : n.spaces ≡ space_names d.zones.items
   pub named_places : n.places ≡ place_names d.machines.items
   pub named_poses : n.poses ≡ pose_names d.machines.items
   pub machines : n.plan.machines ≡ length d.machines.items
@@ -269,4 +274,4 @@ abbrev pub AreRowsOf : Document → Rows → Type 0
 AreRowsOf d rows =
     let tables =
     whole_table (length rows.machines) rows.zone_rows.items rows.pose_rows.items rows.place_rows.items in
-    IsNamedPlanOf d (named tables rows.machines rows.zones rows.places rows.poses)
+    IsNamedPlanOf d (named_in tables rows.machines rows.zones rows.spaces rows.places rows.poses)

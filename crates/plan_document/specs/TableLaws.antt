@@ -24,7 +24,7 @@ use Rattle.plan_document.specs.declared.document.PoseRow.{PoseRow}
 use Rattle.plan_document.specs.declared.motors.NamedMotors.{NamedMotors}
 use Rattle.plan_document.specs.declared.resolving.ProgrammedPlan.{ProgrammedPlan}
 use Rattle.plan_document.specs.Laws.{is_line}
-use Rattle.plan_document.specs.Names.{is_title, pose_names, sensors_in}
+use Rattle.plan_document.specs.Names.{is_title, pose_names, sensors_in, taken_names}
 use Rattle.plan_document.specs.PlanLaws.{StandsAt}
 use Rattle.plan_document.specs.Refusals.{fault_word}
 use Rattle.plan_document.specs.Saying.{IsNamedPlanOf, IsPlanOf, calls_of, may_be_done}
@@ -47,6 +47,7 @@ pub record TablesHaveCounts (d : Document) (p : ProgrammedPlan) : Type 0 where
 pub record NamesHaveCounts (p : ProgrammedPlan) : Type 0 where
   pub machines : length p.named.machines ≡ p.named.plan.machines
   pub zones : length p.named.zones ≡ zone_count p.named.plan
+  pub spaces : length p.named.spaces ≡ zone_count p.named.plan
   pub places : length p.named.places ≡ place_count p.named.plan
   pub poses : length p.named.poses ≡ pose_count p.named.plan
   pub motors : length p.motors.names ≡ length p.motors.motors.items
@@ -85,9 +86,11 @@ pub record NamesAreSpelled (p : ProgrammedPlan) (number : ℕ) : Type 0 where
 abbrev pub AreTwoNames : List Text → ℕ → ℕ → Type 0
 AreTwoNames names i j = i < length names → j < length names → name_in names i ≡ name_in names j → i ≡ j
 
-pub record NamesAreTwo (p : ProgrammedPlan) (i j : ℕ) : Type 0 where
+-- of zones those of spaces are told apart, too
+pub record NamesAreTwo (d : Document) (p : ProgrammedPlan) (i j : ℕ) : Type 0 where
   pub machines : AreTwoNames p.named.machines i j
   pub zones : AreTwoNames p.named.zones i j
+  pub taken : AreTwoNames (taken_names d.zones.items) i j
   pub places : AreTwoNames p.named.places i j
   pub motors : AreTwoNames p.motors.names i j
   pub hazards : AreTwoNames p.motors.hazard_names i j
@@ -95,7 +98,7 @@ pub record NamesAreTwo (p : ProgrammedPlan) (i j : ℕ) : Type 0 where
 abbrev pub PlansHaveNames : Type 0
 PlansHaveNames =
     (d : Document) (p : ProgrammedPlan) → IsPlanOf d p
-    → RowsAreNamed d p × ((number : ℕ) → NamesAreSpelled p number) × ((i j : ℕ) → NamesAreTwo p i j)
+    → RowsAreNamed d p × ((number : ℕ) → NamesAreSpelled p number) × ((i j : ℕ) → NamesAreTwo d p i j)
 
 -- two poses, of one machine or of two, that have one name for C are one pose
 abbrev pub PosesAreTwoForC : Type 0

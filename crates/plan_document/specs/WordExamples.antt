@@ -34,6 +34,7 @@ pub record KeysHaveWords : Type 0 where
   pub after_moving : key_word key.AfterMoving ≡ codes "after_moving"
   pub host : key_word key.Host ≡ codes "host"
   pub guest : key_word key.Guest ≡ codes "guest"
+  pub guests : key_word key.Guests ≡ codes "guests"
   pub inward : key_word key.Inward ≡ codes "inward"
   pub outward : key_word key.Outward ≡ codes "outward"
   pub motor : key_word key.Motor ≡ codes "motor"
@@ -47,7 +48,7 @@ pub record KeysHaveWords : Type 0 where
 -- all words of keys, and some that are none
 abbrev pub candidates : List Text
 candidates =
-    [] ∷ codes "after_moving" ∷ codes "empty" ∷ codes "full" ∷ codes "gives" ∷ codes "guest" ∷ codes "hazard"
+    [] ∷ codes "after_moving" ∷ codes "empty" ∷ codes "full" ∷ codes "gives" ∷ codes "guest" ∷ codes "guests" ∷ codes "hazard"
     ∷ codes "holds" ∷ codes "host" ∷ codes "inward" ∷ codes "machine" ∷ codes "machines" ∷ codes "motor"
     ∷ codes "motors" ∷ codes "nam" ∷ codes "name" ∷ codes "Name" ∷ codes "outward" ∷ codes "places" ∷ codes "poses"
     ∷ codes "program" ∷ codes "sensors" ∷ codes "sinks" ∷ codes "sources" ∷ codes "stands"
@@ -64,6 +65,10 @@ pub record RowsHaveKeys : Type 0 where
       ≡ codes "after_moving" ∷ codes "gives" ∷ codes "name" ∷ []
   pub zone : filter (is_word_of (keys_in (row.Zone 3))) candidates
       ≡ codes "guest" ∷ codes "host" ∷ codes "inward" ∷ codes "name" ∷ codes "outward" ∷ []
+  pub space : filter (is_word_of (keys_in (row.Space 3))) candidates
+      ≡ codes "guests" ∷ codes "host" ∷ codes "name" ∷ []
+  pub side : filter (is_word_of (keys_in (row.Side 3 1))) candidates
+      ≡ codes "guest" ∷ codes "inward" ∷ codes "name" ∷ codes "outward" ∷ []
   pub motor : filter (is_word_of (keys_in (row.Motor 3))) candidates
       ≡ codes "empty" ∷ codes "full" ∷ codes "holds" ∷ codes "machine" ∷ codes "name" ∷ codes "stands" ∷ []
   pub hazard : filter (is_word_of (keys_in (row.Hazard 3))) candidates ≡ codes "motors" ∷ codes "name" ∷ []

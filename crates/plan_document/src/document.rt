@@ -1,5 +1,7 @@
 //! A plan's document: its rows, in which machines, zones and places are texts.
 
+use crate::fault::RowOf;
+
 /// The posture that a pose gives a zone.
 #[derive(Drop)]
 pub struct PostureRow {
@@ -48,9 +50,15 @@ pub struct WayRow {
     pub to: String,
 }
 
-/// A zone, `[[zone]]` in the document.
+/// A zone, `[[zone]]` in the document, or a side of one that lists its guests: each of these has a row.
 #[derive(Drop)]
 pub struct ZoneRow {
+    /// Where the row stands.
+    pub at: RowOf,
+    /// The name of the zone that lists its guests, of which this is one.
+    pub space: Option<String>,
+    /// Whether it is a side of the same zone as the row before it.
+    pub joins: bool,
     /// Its name.
     pub name: String,
     /// The machine to which it belongs, by name.

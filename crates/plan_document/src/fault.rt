@@ -22,6 +22,15 @@ pub enum RowOf {
     },
     /// A zone.
     Zone(usize),
+    /// A zone that lists its guests.
+    Space(usize),
+    /// A side of such a zone: one of its guests.
+    Side {
+        /// The zone.
+        zone: usize,
+        /// The side, among those of the zone.
+        side: usize,
+    },
     /// A motor.
     Motor(usize),
     /// A hazard.
@@ -57,6 +66,8 @@ pub enum Key {
     Host,
     /// `guest`
     Guest,
+    /// `guests`
+    Guests,
     /// `inward`
     Inward,
     /// `outward`
@@ -96,6 +107,7 @@ impl Key {
             Key::AfterMoving => "after_moving",
             Key::Host => "host",
             Key::Guest => "guest",
+            Key::Guests => "guests",
             Key::Inward => "inward",
             Key::Outward => "outward",
             Key::Motor => "motor",
@@ -109,7 +121,8 @@ impl Key {
     }
 }
 
-/// The keys of a document's top, of a machine, of a pose, of a zone, of a motor and of a hazard.
+/// The keys of a document's top, of a machine, of a pose, of a zone, of one that lists its guests, of a side, of a motor
+/// and of a hazard.
 const TOP_KEYS: [Key; 4] = [Key::Machine, Key::Zone, Key::Motor, Key::Hazard];
 
 const MACHINE_KEYS: [Key; 7] = [
@@ -125,6 +138,10 @@ const MACHINE_KEYS: [Key; 7] = [
 const POSE_KEYS: [Key; 3] = [Key::Name, Key::Gives, Key::AfterMoving];
 
 const ZONE_KEYS: [Key; 5] = [Key::Name, Key::Host, Key::Guest, Key::Inward, Key::Outward];
+
+const SPACE_KEYS: [Key; 3] = [Key::Name, Key::Host, Key::Guests];
+
+const SIDE_KEYS: [Key; 4] = [Key::Name, Key::Guest, Key::Inward, Key::Outward];
 
 const MOTOR_KEYS: [Key; 6] = [
     Key::Name,
@@ -147,6 +164,8 @@ impl RowOf {
             RowOf::Machine(_) => &MACHINE_KEYS,
             RowOf::Pose { .. } => &POSE_KEYS,
             RowOf::Zone(_) => &ZONE_KEYS,
+            RowOf::Space(_) => &SPACE_KEYS,
+            RowOf::Side { .. } => &SIDE_KEYS,
             RowOf::Motor(_) => &MOTOR_KEYS,
             RowOf::Hazard(_) => &HAZARD_KEYS,
         }
@@ -274,6 +293,8 @@ pub enum WrongText {
     NoParty,
     /// The machine doesn't keep this place.
     NotKept,
+    /// This machine is a guest of the zone already.
+    GuestTwice,
     /// This zone, or this place, stands under another key of the motor, too.
     AlsoIn(Key),
 }
@@ -287,6 +308,8 @@ pub enum WrongPair {
     NoHeldPosture,
     /// The first is the place at this end of a way, and the second the machine that should keep it.
     Astray(WayEnd),
+    /// The pose moves one of these sides of a zone and not the other, or gives only one of them a posture.
+    HalfSpace,
 }
 
 /// What is wrong with the value of a key.
@@ -312,6 +335,8 @@ pub enum Wrong {
     NoWay,
     /// The value is no list of two motors.
     NoMotors,
+    /// The list has no guest.
+    NoGuests,
     /// A text is wrong.
     Text(WrongText, String),
     /// Two texts are wrong together.
@@ -356,14 +381,33 @@ pub struct Location {
 }
 
 impl RowOf {
-    /// The list of the document in which the row is, or the machine that has it, and the number there.
+    /// The list of the document in which the row is, or the machine or the zone that has it, and the number there.
     pub fn number(self) -> Option<(Key, usize)> {
         match self {
             RowOf::Document => None,
             RowOf::Machine(machine) | RowOf::Pose { machine, .. } => Some((Key::Machine, machine)),
-            RowOf::Zone(zone) => Some((Key::Zone, zone)),
+            RowOf::Zone(zone) | RowOf::Space(zone) | RowOf::Side { zone, .. } => {
+                Some((Key::Zone, zone))
+            }
             RowOf::Motor(motor) => Some((Key::Motor, motor)),
             RowOf::Hazard(hazard) => Some((Key::Hazard, hazard)),
+        }
+    }
+
+    /// The list in which the row is, of a machine or of a zone that has it, and the number there.
+    pub fn part(self) -> Option<(Key, usize)> {
+        match self {
+            RowOf::Pose { pose, .. } => Some((Key::Poses, pose)),
+            RowOf::Side { side, .. } => Some((Key::Guests, side)),
+            _ => None,
+        }
+    }
+
+    /// The zone of a side; each other row as it is.
+    pub fn zone(self) -> RowOf {
+        match self {
+            RowOf::Side { zone, .. } => RowOf::Space(zone),
+            other => other,
         }
     }
 
@@ -501,8 +545,8 @@ pub enum PlanTextFault {
 pub struct RowNames {
     /// The name of the machine or of the zone.
     pub row: Option<String>,
-    /// The name of the machine's pose.
-    pub pose: Option<String>,
+    /// The name of the machine's pose, or of the zone's side.
+    pub part: Option<String>,
 }
 
 impl RowNames {
@@ -510,7 +554,7 @@ impl RowNames {
     pub fn none() -> RowNames {
         RowNames {
             row: None,
-            pose: None,
+            part: None,
         }
     }
 }
@@ -524,6 +568,8 @@ pub struct TooWide {
     pub places: usize,
     /// How many bits are missing.
     pub missing: u8,
+    /// Whether one of the zones has several guests.
+    pub is_shared: bool,
 }
 
 impl From<AllocError> for PlanTextFault {

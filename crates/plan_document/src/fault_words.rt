@@ -25,6 +25,9 @@ const NO_HELD_POSTURE: &str =
 const NO_TITLE: &str =
     " isn't a hazard's name: printable ASCII without a colon, at most 60 characters";
 
+/// What is said of two sides of a zone that get unlike postures.
+const HALF_SPACE: &str = ": a pose moves both or neither, and gives both a posture or neither";
+
 /// What is said of a line that isn't a step.
 const NO_STEP: &str =
     " isn't a step: claim, give, yield, take or release with a zone, advance with a place, \
@@ -86,9 +89,13 @@ fn write_rows<W: fmt::Write>(
         RowOf::Machine(machine) => write_row(f, "machine ", machine, &names.row),
         RowOf::Pose { machine, pose } => {
             write_row(f, "machine ", machine, &names.row)?;
-            write_row(f, ": pose ", pose, &names.pose)
+            write_row(f, ": pose ", pose, &names.part)
         }
-        RowOf::Zone(zone) => write_row(f, "zone ", zone, &names.row),
+        RowOf::Zone(zone) | RowOf::Space(zone) => write_row(f, "zone ", zone, &names.row),
+        RowOf::Side { zone, side } => {
+            write_row(f, "zone ", zone, &names.row)?;
+            write_row(f, ": side ", side, &names.part)
+        }
         RowOf::Motor(motor) => write_row(f, "motor ", motor, &names.row),
         RowOf::Hazard(hazard) => write_row(f, "hazard ", hazard, &names.row),
     }
@@ -152,6 +159,13 @@ fn write_astray<W: fmt::Write>(
     write!(f, "{before}{place}{between}{machine}")
 }
 
+/// Writes that a pose gives two sides of a zone unlike postures.
+fn write_half<W: fmt::Write>(f: &mut fmt::Formatter<W>, side: &str, first: &str) -> fmt::Result {
+    let side = Quoted { text: side };
+    let first = Quoted { text: first };
+    write!(f, "{first} and {side} are one space{HALF_SPACE}")
+}
+
 /// Writes that a zone or a place stands under another key of the motor, too.
 fn write_also_in<W: fmt::Write>(f: &mut fmt::Formatter<W>, key: Key, text: &str) -> fmt::Result {
     let quoted = Quoted { text };
@@ -211,6 +225,7 @@ fn after_text(why: WrongText) -> &'static str {
         WrongText::NoRefusal => NO_REFUSAL,
         WrongText::StopsAlways => " stops the machine anyway: waiting never mends it",
         WrongText::NamedTwice => " is named twice",
+        WrongText::GuestTwice => " is a guest of the zone already",
         WrongText::NoRefusals => " names no refusal to stop on",
         WrongText::NoCall => " isn't a call, and only a call stops on refusals",
         WrongText::NoTitle => NO_TITLE,
@@ -230,6 +245,7 @@ fn write_pair<W: fmt::Write>(
         WrongPair::NoPosture => write!(f, "{quoted}{NO_POSTURE}"),
         WrongPair::NoHeldPosture => write!(f, "{quoted}{NO_HELD_POSTURE}"),
         WrongPair::Astray(end) => write_astray(f, first, end, second),
+        WrongPair::HalfSpace => write_half(f, first, second),
     }
 }
 
@@ -244,6 +260,7 @@ fn write_plain<W: fmt::Write>(wrong: &Wrong, f: &mut fmt::Formatter<W>) -> fmt::
         Wrong::NoTruth => "it takes true or false",
         Wrong::NoWay => "it takes two places: from which one, and to which",
         Wrong::NoMotors => "it takes two motors, such as [\"ram\", \"arm_in_press\"]",
+        Wrong::NoGuests => "there is no guest",
         Wrong::NeverPermitted => "no state of the plan permits it",
         Wrong::TooMany(most) => return write!(f, "there are more than {most}"),
         Wrong::TooManyLines(most) => return write!(f, "it has more than {most} lines"),
@@ -296,6 +313,7 @@ impl fmt::Display for TooWide {
             zones,
             places,
             missing,
+            is_shared,
         } = *self;
         let missing = usize::from(missing);
         let needed = missing + 64;
@@ -304,7 +322,16 @@ impl fmt::Display for TooWide {
         write_count(f, places, "place")?;
         write!(f, " need {needed} bits, and 64 fit: leave out ")?;
         write_count(f, missing, "bit")?;
-        f.write_str(" (a place has 1, a zone 2 to 5)")
+        f.write_str(bits_of_kinds(is_shared))
+    }
+}
+
+/// How many bits a place has, and a zone, of which some may have several guests.
+fn bits_of_kinds(is_shared: bool) -> &'static str {
+    if is_shared {
+        " (a place has 1, a zone 2 to 7, and 0 to 3 for each guest after the first)"
+    } else {
+        " (a place has 1, a zone 2 to 5)"
     }
 }
 

@@ -22,10 +22,11 @@ fn first_named(table: &Table, second: Location, name: &str) -> Option<Location> 
             Some(RowOf::Machine(first).key(Key::Name))
         }
         (RowOf::Machine(machine), Some(_)) => first_listed(table, second, machine, name),
-        (RowOf::Zone(zone), _) => {
-            let first = first_row(table, Key::Zone, zone, name)?;
-            Some(RowOf::Zone(first).key(Key::Name))
-        }
+        (RowOf::Zone(zone) | RowOf::Space(zone), _) => first_zone(table, zone, name),
+        (RowOf::Side { zone, side }, _) => match first_zone(table, zone, name) {
+            Some(location) => Some(location),
+            None => zone_named(table, zone, side, name),
+        },
         (RowOf::Motor(motor), _) => {
             let first = first_row(table, Key::Motor, motor, name)?;
             Some(RowOf::Motor(first).key(Key::Name))
@@ -50,6 +51,27 @@ fn first_row(table: &Table, key: Key, end: usize, name: &str) -> Option<usize> {
         }
     }
     None
+}
+
+/// Where the first of the zones before a number stands that has this name, or a side with it.
+fn first_zone(table: &Table, end: usize, name: &str) -> Option<Location> {
+    for zone in 0..end {
+        if let Some(location) = zone_named(table, zone, usize::MAX, name) {
+            return Some(location);
+        }
+    }
+    None
+}
+
+/// Where a name stands in a zone: its own, or that of a side before a number.
+fn zone_named(table: &Table, zone: usize, end: usize, name: &str) -> Option<Location> {
+    let row = row_at(table, Key::Zone, zone)?;
+    if text_in(row) == Some(name) {
+        return Some(RowOf::Zone(zone).key(Key::Name));
+    }
+    let sides = value_at(row, Key::Guests)?.as_array()?.len();
+    let side = first_row(row, Key::Guests, sides.min(end), name)?;
+    Some(RowOf::Side { zone, side }.key(Key::Name))
 }
 
 /// Where the first sensor of a machine with this name stands, or the first place with it.

@@ -18,6 +18,7 @@ mod row_names;
 mod sensors;
 mod tables;
 mod values;
+mod zones;
 
 pub use document::{
     Document, HazardRow, MachineRow, MotorRow, PoseRow, PostureRow, WayRow, ZoneRow,

@@ -195,7 +195,8 @@ fn asks_in(
 
 /// What a line asks, and the words after that for the refusals that stop its machine.
 fn ask_and_words(line: &str) -> Option<(&str, &str)>
-    ensures { IfSome result (λ found. line.now ≡ found.0.now ++ codes " or stop on " ++ found.1.now) }
+    ensures { IfSome result (λ found. line.now
+        ≡ found.0.now ++ codes " or stop on " ++ found.1.now) }
 {
     line.split_once(OR_STOP_ON)
 }

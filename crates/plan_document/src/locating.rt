@@ -91,9 +91,9 @@ fn push_row(steps: &mut Vec<Step<'_>>, row: RowOf) -> Result<(), AllocError> {
     if let Some((key, number)) = row.number() {
         push_item(steps, key, number)?;
     }
-    match row {
-        RowOf::Pose { pose, .. } => push_item(steps, Key::Poses, pose),
-        _ => Ok(()),
+    match row.part() {
+        Some((key, number)) => push_item(steps, key, number),
+        None => Ok(()),
     }
 }
 

@@ -352,7 +352,8 @@ fn are_both(full: [bool; MAX_PLACES], empty: [bool; MAX_PLACES], place: usize) -
 /// What a motor needs of each place, by both keys.
 fn place_needs_by(full: [bool; MAX_PLACES], empty: [bool; MAX_PLACES]) -> [Option<bool>; MAX_PLACES]
     ensures { (place : ℕ) → place < 16 →
-        get_or result place None ≡ spec.full_or_empty (get_or full place false) (get_or empty place false) }
+        get_or result place None ≡ spec.full_or_empty (get_or full place false)
+        (get_or empty place false) }
 {
     let mut needs = [None; MAX_PLACES];
     for place in 0..MAX_PLACES {

@@ -11,9 +11,10 @@ use crate::fault::{DocumentFault, Key, PlanTextFault, RowNames, RowOf, Wrong};
 use crate::first::first_of;
 use crate::locating::{line_at, line_of};
 use crate::resolving::{ProgrammedPlan, programmed_plan_of};
-use crate::row_kinds::{Hazards, Machines, Motors, Zones, rows_at};
+use crate::row_kinds::{Hazards, Machines, Motors, rows_at};
 use crate::row_names::names_of;
 use crate::values::{check_keys, value_at};
+use crate::zones::zones_at;
 use std::alloc::{AllocError, Global};
 use std::io::Read;
 use text_io::{InputFault, read_up_to};
@@ -119,7 +120,7 @@ fn document_in(alloc: Global, table: &Table) -> Result<Document, DocumentFault>
     check_top(alloc, table)?;
     let top = RowOf::Document;
     let machines = rows_at(alloc, table, top, Key::Machine, Machines)?;
-    let zones = rows_at(alloc, table, top, Key::Zone, Zones)?;
+    let zones = zones_at(alloc, table)?;
     let motors = rows_at(alloc, table, top, Key::Motor, Motors)?;
     let hazards = rows_at(alloc, table, top, Key::Hazard, Hazards)?;
     Ok(Document {

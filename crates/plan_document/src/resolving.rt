@@ -111,7 +111,14 @@ fn named_plan_of(alloc: Global, document: &Document) -> Result<NamedPlan, PlanTe
         places: rows.place_rows,
     };
     match Plan::new(tables) {
-        Ok(plan) => Ok(NamedPlan::new(plan, rows.machines, rows.zones, rows.places, rows.poses)),
+        Ok(plan) => Ok(NamedPlan::new(
+            plan,
+            rows.machines,
+            rows.zones,
+            rows.spaces,
+            rows.places,
+            rows.poses,
+        )),
         Err(fault) => Err(table_fault(alloc, document, fault)),
     }
 }
@@ -129,17 +136,31 @@ fn table_fault(alloc: Global, document: &Document, fault: PlanFault) -> PlanText
             Key::Places,
             MAX_PLACES,
         ),
-        PlanFault::NoSuchHost { zone } => RowOf::Zone(zone).key(Key::Host).fault(Wrong::Missing),
-        PlanFault::NoSuchGuest { zone } => RowOf::Zone(zone).key(Key::Guest).fault(Wrong::Missing),
-        PlanFault::HostIsGuest { zone } => RowOf::Zone(zone)
-            .key(Key::Guest)
-            .fault(Wrong::HostIsGuest),
+        // (the sides of a zone have one host, so no document has zones of one space with two)
+        PlanFault::NoSuchHost { zone } | PlanFault::TwoHosts { zone } => {
+            zone_at(document, zone)
+                .zone()
+                .key(Key::Host)
+                .fault(Wrong::Missing)
+        }
+        PlanFault::NoSuchGuest { zone } => {
+            zone_at(document, zone)
+                .key(Key::Guest)
+                .fault(Wrong::Missing)
+        }
+        PlanFault::HostIsGuest { zone } => {
+            zone_at(document, zone)
+                .key(Key::Guest)
+                .fault(Wrong::HostIsGuest)
+        }
         PlanFault::InwardAstray { zone } => inward_astray(alloc, document, zone),
         PlanFault::OutwardAstray { zone } => outward_astray(alloc, document, zone),
         PlanFault::NoSuchMachine { pose } => {
             pose_at(document, pose).whole().fault(Wrong::Missing)
         }
         PlanFault::ForeignZone { pose, zone } => foreign_zone(alloc, document, pose, zone),
+        PlanFault::GuestTwice { zone } => guest_twice(alloc, document, zone),
+        PlanFault::HalfSpace { pose, zone } => half_space(alloc, document, pose, zone),
     };
     fault.into()
 }
@@ -154,18 +175,70 @@ fn too_wide(document: &Document, missing: u8) -> TooWide {
         zones: document.zones.len(),
         places,
         missing,
+        is_shared: document.zones.iter().any(|row| row.joins),
+    }
+}
+
+/// Where the row of a zone stands.
+fn zone_at(document: &Document, zone: usize) -> RowOf {
+    match document.zones.get(zone) {
+        Some(row) => row.at,
+        None => RowOf::Zone(zone),
+    }
+}
+
+/// The name of a zone, or an empty text if there is none.
+fn zone_name(document: &Document, zone: usize) -> &str {
+    match document.zones.get(zone) {
+        Some(row) => row.name.as_str(),
+        None => "",
     }
 }
 
 /// The fault of a pose that gives a zone which its machine doesn't host.
 fn foreign_zone(alloc: Global, document: &Document, pose: usize, zone: usize) -> DocumentFault {
-    let name = match document.zones.get(zone) {
-        Some(row) => row.name.as_str(),
-        None => "",
-    };
+    let name = zone_name(document, zone);
     pose_at(document, pose)
         .key(Key::Gives)
         .text_fault(alloc, WrongText::Foreign, name)
+}
+
+/// The fault of a side whose guest an earlier side of its zone has.
+fn guest_twice(alloc: Global, document: &Document, zone: usize) -> DocumentFault {
+    let guest = match document.zones.get(zone) {
+        Some(row) => row.guest.as_str(),
+        None => "",
+    };
+    zone_at(document, zone)
+        .key(Key::Guest)
+        .text_fault(alloc, WrongText::GuestTwice, guest)
+}
+
+/// The fault of a pose that moves a side of a zone and not its first one, or gives only one of them a posture.
+fn half_space(alloc: Global, document: &Document, pose: usize, zone: usize) -> DocumentFault {
+    let side = zone_name(document, zone);
+    let first = zone_name(document, first_side(document, zone));
+    pose_at(document, pose)
+        .key(Key::Gives)
+        .pair_fault(alloc, WrongPair::HalfSpace, side, first)
+}
+
+/// The first side of the zone of which a row is a side.
+fn first_side(document: &Document, zone: usize) -> usize {
+    let mut first = 0;
+    for row in 0..=zone {
+        if !joins(document, row) {
+            first = row;
+        }
+    }
+    first
+}
+
+fn joins(document: &Document, zone: usize) -> bool {
+    match document.zones.get(zone) {
+        Some(row) => row.joins,
+        None => false,
+    }
 }
 
 /// The fault of a way inward, which has to lead from a place of the guest to one of the host.
@@ -175,14 +248,7 @@ fn inward_astray(alloc: Global, document: &Document, zone: usize) -> DocumentFau
     };
     let (host, guest) = (row.host.as_str(), row.guest.as_str());
     let ends = ((WayEnd::FromGuest, guest), (WayEnd::ToHost, host));
-    way_astray(
-        alloc,
-        document,
-        &row.inward,
-        RowOf::Zone(zone),
-        Key::Inward,
-        ends,
-    )
+    way_astray(alloc, document, &row.inward, row.at, Key::Inward, ends)
 }
 
 /// The fault of a way outward, which has to lead from a place of the host to one of the guest.
@@ -192,14 +258,7 @@ fn outward_astray(alloc: Global, document: &Document, zone: usize) -> DocumentFa
     };
     let (host, guest) = (row.host.as_str(), row.guest.as_str());
     let ends = ((WayEnd::FromHost, host), (WayEnd::ToGuest, guest));
-    way_astray(
-        alloc,
-        document,
-        &row.outward,
-        RowOf::Zone(zone),
-        Key::Outward,
-        ends,
-    )
+    way_astray(alloc, document, &row.outward, row.at, Key::Outward, ends)
 }
 
 /// The fault of a way, by its ends and the machines that have to keep the places there: the first place that isn't

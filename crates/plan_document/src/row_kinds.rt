@@ -3,13 +3,12 @@ ghost use Rattle.std.specs.Prelude.{map, IfOk};
 ghost use Rattle.std.specs.List.{AllZip};
 ghost use Rattle.toml.specs.View.{table_view, view};
 ghost use Rattle.plan_document.specs.Keys.{key_word};
-ghost use Rattle.plan_document.specs.Reading.{HasRows, IsHazardIn, IsMachineIn, IsMotorIn, IsPoseIn, IsZoneIn};
+ghost use Rattle.plan_document.specs.Reading.{HasRows, IsHazardIn, IsMachineIn, IsMotorIn, IsPoseIn};
 
-use crate::document::{HazardRow, MachineRow, MotorRow, PoseRow, ZoneRow};
+use crate::document::{HazardRow, MachineRow, MotorRow, PoseRow};
 use crate::fault::{DocumentFault, Key, RowOf};
 use crate::values::{
     check_keys, gives_at, motors_at, postures_at, table_in, tables_at, text_at, texts_at, truth_at,
-    way_at,
 };
 use std::alloc::Global;
 use toml::{Table, Value};
@@ -124,34 +123,6 @@ impl RowKind for PosesOf {
             name,
             gives,
             after_moving,
-        })
-    }
-}
-
-/// The zones of a document.
-#[derive(Clone, Copy)]
-pub struct Zones;
-
-impl RowKind for Zones {
-    type Row = ZoneRow;
-
-    ghost is_in = { IsZoneIn };
-
-    fn read(self, alloc: Global, value: &Value, number: usize) -> Result<ZoneRow, DocumentFault> {
-        let at = RowOf::Zone(number);
-        let table = table_in(value, RowOf::Document, Key::Zone)?;
-        check_keys(alloc, table, at)?;
-        let name = text_at(alloc, table, at, Key::Name)?;
-        let host = text_at(alloc, table, at, Key::Host)?;
-        let guest = text_at(alloc, table, at, Key::Guest)?;
-        let inward = way_at(alloc, table, at, Key::Inward)?;
-        let outward = way_at(alloc, table, at, Key::Outward)?;
-        Ok(ZoneRow {
-            name,
-            host,
-            guest,
-            inward,
-            outward,
         })
     }
 }

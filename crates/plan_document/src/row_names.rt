@@ -14,16 +14,16 @@ pub fn names_of(alloc: Global, table: &Table, location: Location) -> Result<RowN
         return Ok(RowNames::none());
     };
     let row = row_at(table, key, number);
-    match (location.row, row) {
-        (RowOf::Pose { pose, .. }, Some(machine)) => {
-            let own = row_at(machine, Key::Poses, pose);
-            let pose = name_at(alloc, own, location)?;
+    match (location.row.part(), row) {
+        (Some((key, number)), Some(outer)) => {
+            let own = row_at(outer, key, number);
+            let part = name_at(alloc, own, location)?;
             let row = name_at(alloc, row, location.row.whole())?;
-            Ok(RowNames { row, pose })
+            Ok(RowNames { row, part })
         }
         _ => {
             let row = name_at(alloc, row, location)?;
-            Ok(RowNames { row, pose: None })
+            Ok(RowNames { row, part: None })
         }
     }
 }

@@ -5,15 +5,17 @@ ghost use Rattle.std.specs.List.{AllZip, list_all};
 ghost use Rattle.plan_text.specs.Names as spec;
 ghost use Rattle.plan_text.specs.Names.{number_in};
 ghost use Rattle.plan_text.specs.Answers.{posture_of};
+ghost use Rattle.plan_document.specs.Names as naming;
 ghost use Rattle.plan_document.specs.Names.{AreDistinct, AreNames, all_poses, identifier, identifiers};
 ghost use Rattle.plan_document.specs.Names.{identifiers_in, machine_names, names_in, numbered_poses};
-ghost use Rattle.plan_document.specs.Names.{place_names, places_in, pose_names, zone_names};
+ghost use Rattle.plan_document.specs.Names.{place_names, places_in, pose_names, space_before, taken_names};
+ghost use Rattle.plan_document.specs.Names.{zone_names};
 ghost use Rattle.plan_document.specs.Postures.{AreGiven};
 ghost use Rattle.plan_document.specs.Saying as saying;
 ghost use Rattle.plan_document.specs.declared.document.PoseRow.{PoseRow as Pose};
 
 use crate::document::{Document, MachineRow, PoseRow, PostureRow, WayRow, ZoneRow};
-use crate::fault::{DocumentFault, Key, Location, RowOf, Wrong, WrongPair, WrongText};
+use crate::fault::{DocumentFault, Key, Location, RowOf, Wrong, WrongPair, WrongText, too_many};
 use crate::values::copy;
 use plan_text::names::{is_name, is_reserved};
 use plan_text::words::posture_in;
@@ -30,6 +32,10 @@ pub struct Rows {
     pub places: Names,
     pub place_rows: Vec<PlanPlace>,
     pub zones: Names,
+    /// The name of each zone's space.
+    pub spaces: Names,
+    /// The names of zones, and of those that list their guests.
+    pub taken: Names,
     pub zone_rows: Vec<PlanZone>,
     pub poses: Names,
     pub pose_rows: Vec<PlanPose>,
@@ -46,6 +52,8 @@ pub fn rows_of(alloc: Global, document: &Document) -> Result<Rows, DocumentFault
         places: Names::new(alloc),
         place_rows: Vec::new(alloc),
         zones: Names::new(alloc),
+        spaces: Names::new(alloc),
+        taken: Names::new(alloc),
         zone_rows: Vec::new(alloc),
         poses: Names::new(alloc),
         pose_rows: Vec::new(alloc),
@@ -61,6 +69,8 @@ fn add_rows(alloc: Global, document: &Document, rows: &mut Rows) -> Result<(), D
     requires places { rows.old.places ≡ [] }
     requires place_rows { rows.old.place_rows.items ≡ [] }
     requires zones { rows.old.zones ≡ [] }
+    requires spaces { rows.old.spaces ≡ [] }
+    requires taken { rows.old.taken ≡ [] }
     requires zone_rows { rows.old.zone_rows.items ≡ [] }
     requires poses { rows.old.poses ≡ [] }
     requires pose_rows { rows.old.pose_rows.items ≡ [] }
@@ -75,7 +85,8 @@ fn add_rows(alloc: Global, document: &Document, rows: &mut Rows) -> Result<(), D
         &mut rows.place_rows,
     )?;
     check_ends(alloc, &document.machines)?;
-    add_zone_names(alloc, &document.zones, &mut rows.zones)?;
+    add_zone_names(alloc, &document.zones, &mut rows.zones, &mut rows.taken)?;
+    add_space_names(alloc, &document.zones, &mut rows.spaces)?;
     add_zone_rows(
         alloc,
         &document.zones,
@@ -179,18 +190,68 @@ fn check_free(alloc: Global, name: &str, at: Location) -> Result<(), DocumentFau
     Ok(())
 }
 
-/// Adds the names of all zones.
-fn add_zone_names(alloc: Global, zones: &[ZoneRow], names: &mut Names) -> Result<(), DocumentFault>
-    requires { names.old ≡ [] }
+/// Adds the names of all zones, and among those that are taken also the names of zones that list their guests.
+fn add_zone_names(
+    alloc: Global,
+    zones: &[ZoneRow],
+    names: &mut Names,
+    taken: &mut Names,
+) -> Result<(), DocumentFault>
+    requires names { names.old ≡ [] }
+    requires taken { taken.old ≡ [] }
     ensures names { OnOk result (names.new ≡ zone_names zones.now) }
     ensures spelled { OnOk result (AreNames names.new) }
     ensures distinct { OnOk result (AreDistinct names.new) }
+    ensures taken { OnOk result (taken.new ≡ taken_names zones.now) }
+    ensures taken_spelled { OnOk result (AreNames taken.new) }
+    ensures taken_distinct { OnOk result (AreDistinct taken.new) }
 {
     for i in 0..zones.len() {
-        let name = zones[i].name.as_str();
-        add_name(alloc, names, name, MAX_ZONES, RowOf::Zone(i).key(Key::Name))?;
+        let row = &zones[i];
+        let at = row.at.key(Key::Name);
+        add_space_before(alloc, row, taken)?;
+        add_name(alloc, names, row.name.as_str(), MAX_ZONES, at)?;
+        add_name(alloc, taken, row.name.as_str(), MAX_NAMES, at)?;
     }
     Ok(())
+}
+
+/// Adds the name of the zone that lists its guests, if this is the first of them.
+fn add_space_before(alloc: Global, row: &ZoneRow, taken: &mut Names) -> Result<(), DocumentFault>
+    ensures names { OnOk result (taken.new ≡ taken.old ++ space_before row.now) }
+    ensures spelled { OnOk result (AreNames taken.old → AreNames taken.new) }
+    ensures distinct { OnOk result (AreDistinct taken.old → AreDistinct taken.new) }
+{
+    match &row.space {
+        Some(space) if !row.joins => {
+            let at = row.at.zone().key(Key::Name);
+            add_name(alloc, taken, space.as_str(), MAX_NAMES, at)
+        }
+        _ => Ok(()),
+    }
+}
+
+/// Adds the name of each zone's space: its own, unless a zone lists it among its guests.
+fn add_space_names(alloc: Global, zones: &[ZoneRow], names: &mut Names) -> Result<(), DocumentFault>
+    requires { names.old ≡ [] }
+    ensures { OnOk result (names.new ≡ naming.space_names zones.now) }
+{
+    for i in 0..zones.len() {
+        if names.len() >= MAX_NAMES {
+            return Err(too_many(Key::Zone, MAX_ZONES));
+        }
+        push_name(alloc, names, space_name(&zones[i]))?;
+    }
+    Ok(())
+}
+
+fn space_name(row: &ZoneRow) -> &str
+    ensures { result.now ≡ naming.space_name row.now }
+{
+    match &row.space {
+        Some(space) => space.as_str(),
+        None => row.name.as_str(),
+    }
 }
 
 /// Whether a name is one of these.
@@ -349,7 +410,7 @@ fn add_zone_rows(
         (AllZip (saying.IsZoneOf machines.now places.now) zones.now rows.new.items) }
 {
     for i in 0..zones.len() {
-        let row = zone_of(alloc, &zones[i], RowOf::Zone(i), machines, places)?;
+        let row = zone_of(alloc, &zones[i], machines, places)?;
         rows.push(row)?;
     }
     Ok(())
@@ -359,14 +420,14 @@ fn add_zone_rows(
 fn zone_of(
     alloc: Global,
     row: &ZoneRow,
-    at: RowOf,
     machines: &Names,
     places: &Names,
 ) -> Result<PlanZone, DocumentFault>
     ensures { IfOk result (saying.IsZoneOf machines.now places.now row.now) }
 {
+    let at = row.at;
     let no_machine = WrongText::NoMachine;
-    let host_at = at.key(Key::Host);
+    let host_at = at.zone().key(Key::Host);
     let host = number_named(alloc, machines, row.host.as_str(), no_machine, host_at)?;
     let guest_at = at.key(Key::Guest);
     let guest = number_named(alloc, machines, row.guest.as_str(), no_machine, guest_at)?;
@@ -375,6 +436,7 @@ fn zone_of(
     Ok(PlanZone {
         host,
         guest,
+        joins: row.joins,
         inward,
         outward,
     })

@@ -1,5 +1,5 @@
 -- What a machine knows by its own done calls, and by owning a zone, is so.
-use Rattle.std.proofs.Common.{◌≡◌, ◌≢◌, ℕ, ◌<◌, Bool, true, false, ◌&&◌, ◌||◌, not, nat_eq, if◌then◌else◌, Option, Some, None, is_some, length, get_or, set, refl, sym, ap, ◌∙◌, subst, arith, IsTrue, unwrap_or}
+use Rattle.std.proofs.Common.{◌≡◌, ◌≢◌, ℕ, ◌<◌, Bool, true, false, ◌&&◌, ◌||◌, not, nat_eq, if◌then◌else◌, Option, Some, None, is_some, length, get_or, set, refl, sym, ap, ap₂, ◌∙◌, subst, arith, IsTrue, unwrap_or}
 use Rattle.std.proofs.lemmas.Bool.{eqb-true, eq-eqb, lt-ltb, and_parts}
 use Rattle.std.specs.Option.{option_or}
 use Rattle.std.proofs.lemmas.List.{get_or-replicate}
@@ -12,20 +12,21 @@ use Rattle.plan_types.specs.declared.call.Call.{Call}
 use Rattle.plan_types.specs.declared.call.Call.TheVariants.{Claim, Give, Yield, Take, Release, SetPose, Inquire, Stop, Resume, Advance}
 use Rattle.plan_types.specs.declared.answer.Answer.TheVariants.{Done}
 use Rattle.plan_types.specs.Same.{same_posture}
-use Rattle.plan_types.specs.Table.{guest_of, PlanTable, zone_count, place_count, host_of, keeper_of, zone_row, posture_of, is_hosted, is_place_of, is_moving_pose, transfer_of, transfer_by, is_source, is_sink}
+use Rattle.plan_types.specs.Table.{guest_of, PlanTable, zone_count, place_count, host_of, keeper_of, zone_row, posture_of, is_hosted, is_place_of, is_moving_pose, transfer_of, transfer_by, is_source, is_sink, space_of, same_space}
 use Rattle.plan_types.specs.Plan.{IsPlan}
 use Rattle.plan_rules.specs.declared.state.ZoneState.{ZoneState}
 use Rattle.plan_rules.specs.declared.state.State.{State}
 use Rattle.plan_rules.specs.State.{zone_at, posture_at, is_full, free_zone}
-use Rattle.plan_rules.specs.Sound.{IsSound, is_owned_by, is_open}
+use Rattle.plan_rules.specs.Sound.{IsSound, implies, is_owned_by, is_open}
 use Rattle.plan_rules.specs.Refusals.{owns}
-use Rattle.plan_rules.specs.Reply.{reply, changed, other_party, emptied, filled}
+use Rattle.plan_rules.specs.Reply.{reply, changed, other_party, with_owner, emptied, filled}
 use Rattle.plan_rules.proofs.lemmas.Puts.{put_cases, nat_eq-self, nat_eq-apart}
+use Rattle.plan_rules.proofs.lemmas.Spaces.{by_same, same_inside, shared_owner, handed_here, handed_other, zone_at-handed}
 use Rattle.plan_rules.proofs.lemmas.Zones.{some_is, gives_way, implied}
-use Rattle.plan_rules.proofs.lemmas.DoneCalls.{claim_done, give_done, yield_done, take_done, release_done, pose_done, advance_done}
+use Rattle.plan_rules.proofs.lemmas.DoneCalls.{claim_done, give_done, take_done, pose_done, advance_done}
 use Rattle.plan_rules.proofs.lemmas.Advancing.{comes, goes}
 use Rattle.plan_rules.proofs.lemmas.Ways.{way_leads}
-use Rattle.plan_rules.proofs.lemmas.Soundness.{done_none, never_done, in_ten, in_sixteen, plate_comes, zone_after_pose}
+use Rattle.plan_rules.proofs.lemmas.Soundness.{done_none, never_done, in_ten, in_sixteen, plate_comes, zone_after_pose, changed_keeps}
 use Rattle.plan_motors.specs.declared.motor.ZoneNeed.{ZoneNeed}
 use Rattle.plan_motors.specs.declared.motor.Motor.{Motor}
 use Rattle.plan_motors.specs.Motor.{no_need, need_of, place_need, has_posture, meets, meets_place}
@@ -112,12 +113,16 @@ meets_left : (m : ℕ) (hosted : Bool) (n : ZoneNeed) (v : ZoneState) (o : Optio
 meets_left m true n v o b e = posture_part m n v e
 meets_left m false n v o b e = refl
 
-meets_given : (m : ℕ) (hosted : Bool) (v : ZoneState) (o : Option ℕ) → (hosted ≡ true → v.posture ≡ OpenOut) → meets m (zone_given hosted) (record v { owner = o; flag = true }) ≡ true
-meets_given m true v o is = ap (λ q. same_posture q OpenOut) (is refl)
-meets_given m false v o is = refl
+meets_given : (m : ℕ) (here hosted : Bool) (n : ZoneNeed) (v : ZoneState) (o : Option ℕ) (b : Bool) → (here ≡ true → hosted ≡ true → v.posture ≡ OpenOut) → meets m n v ≡ true
+    → meets m (zone_given here hosted n) (record v { owner = o; flag = b }) ≡ true
+meets_given m true true n v o b is e = ap (λ q. same_posture q OpenOut) (is refl refl)
+meets_given m true false n v o b is e = refl
+meets_given m false hosted n v o b is e = meets_left m hosted n v o b e
 
-meets_taken : (m : ℕ) (q : Posture) (v : ZoneState) → is_owned_by v.owner m ≡ true → v.posture ≡ q → meets m (zone_taken q) (record v { flag = false }) ≡ true
-meets_taken m q v o e = rw (o, e, same_self q) refl
+meets_taken : (m : ℕ) (here : Bool) (q : Posture) (n : ZoneNeed) (v : ZoneState) (b : Bool) → is_owned_by v.owner m ≡ true → (here ≡ true → v.posture ≡ q) → meets m n v ≡ true
+    → meets m (zone_taken here q n) (record v { flag = b }) ≡ true
+meets_taken m true q n v b o is e = rw (o, is refl, same_self q) refl
+meets_taken m false q n v b o is e = rw (o, posture_part m n v e) refl
 
 meets_posed : (m : ℕ) (owned holds : Bool) (given known : Option Posture) (v : ZoneState) → (owned ≡ true → is_owned_by v.owner m ≡ true)
     → meets m (record { holds = holds; posture = known }) v ≡ true
@@ -130,14 +135,21 @@ meets_posed m false true (Some q) known v o e =
 meets_posed m false false (Some q) known v o e = same_self q
 meets_posed m false holds None known v o e = e
 
--- one zone is set, and what is known of it changes
-put_known : (t : PlanTable) (s : State) (f : Motor) (y : ℕ) (v : ZoneState) (n : ℕ → ZoneNeed) → y < length s.zones → IsTrue (meets f.machine (n y) v)
+-- a space is handed over, and what is known of its zones changes
+put_known : (t : PlanTable) (s : State) (f : Motor) (y : ℕ) (o : Option ℕ) (plate : Bool) (n : ℕ → ZoneNeed) → IsPlan t
+    → ((z : ℕ) → z < zone_count t → same_space t y z ≡ true → IsTrue (meets f.machine (n z) (get_or (with_owner t s y o plate) z free_zone)))
     → ((z : ℕ) → z < zone_count t → IsTrue (meets f.machine (need_of f z) (zone_at s z)))
-    → (z : ℕ) → z < zone_count t → IsTrue (meets f.machine (if nat_eq y z then n z else need_of f z) (get_or (set s.zones y v) z free_zone))
-put_known t s f y v n l here others =
-    put_cases (λ z u. z < zone_count t → IsTrue (meets f.machine (if nat_eq y z then n z else need_of f z) u)) s.zones v free_zone y l
-    (λ _. subst (λ b. IsTrue (meets f.machine (if b then n y else need_of f y) v)) (sym (nat_eq-self y)) here)
-    (λ z ne m. subst (λ b. IsTrue (meets f.machine (if b then n z else need_of f z) (zone_at s z))) (sym (nat_eq-apart y z (λ e. ne (sym e)))) (others z m))
+    → (z : ℕ) → z < zone_count t → IsTrue (meets f.machine (if same_space t y z then n z else need_of f z) (get_or (with_owner t s y o plate) z free_zone))
+put_known t s f y o plate n p here others z l = by (same_space t y z) refl
+  where
+    by : (b : Bool) → same_space t y z ≡ b → IsTrue (meets f.machine (if b then n z else need_of f z) (get_or (with_owner t s y o plate) z free_zone))
+    by true e = here z l e
+    by false e = subst (λ v. IsTrue (meets f.machine (need_of f z) v)) (sym (zone_at-handed t s y o plate z (ten t z p l) ∙ handed_other t s y o plate z e)) (others z l)
+
+-- a zone of a space that is handed over
+handed_is : (t : PlanTable) (s : State) (y : ℕ) (o : Option ℕ) (plate : Bool) (z : ℕ) → IsPlan t → z < zone_count t → same_space t y z ≡ true
+    → get_or (with_owner t s y o plate) z free_zone ≡ record (zone_at s z) { owner = o; flag = (plate && nat_eq z y) || (zone_at s z).flag }
+handed_is t s y o plate z p l e = zone_at-handed t s y o plate z (ten t z p l) ∙ handed_here t s y o plate z e
 
 -- a pose that moves is taken by the owner of all zones that it hosts
 owned_by_pose : (a b c d : Bool) → ((a && (b || c)) && not d) ≡ false → a ≡ true → b ≡ true → d ≡ true
@@ -200,37 +212,92 @@ gives_outward t m z OpenIn way two e r h =
     let w = taken_way (guest_of t z) (host_of t z) (zone_row t z).inward way e in
     absurd (two (h ∙ sym r ∙ w.0))
 
+-- a machine that owns a zone owns its space, and knows the posture where it is a guest: of an open zone
+not_shut : (guest opens owned : Bool) → (guest ≡ true → owned ≡ true) → (owned ≡ true → opens ≡ true) → (guest && not opens) ≡ false
+not_shut false opens owned o l = refl
+not_shut true opens owned o l = ap not (l (o refl))
+
+owned_space : (t : PlanTable) (s : State) (m y z : ℕ) → IsSound t s → z < zone_count t → same_space t y z ≡ true → owns s m y ≡ true → owns s m z ≡ true
+owned_space t s m y z k l same mine =
+    let is = by_same t y z same in
+    let inside = same_inside t z y l (sym is) in
+    ap (λ (o : Option ℕ). is_owned_by o m) (sym (shared_owner t s y z k inside l is)) ∙ mine
+
+finds_zone : (t : PlanTable) (s : State) (f : Motor) (y z : ℕ) → IsSound t s → OpensByPoses t s → z < zone_count t → same_space t y z ≡ true → owns s f.machine y ≡ true
+    → IsTrue (meets f.machine (need_of f z) (zone_at s z)) → IsTrue (meets f.machine (zone_owned (posture_owned t f.machine z) (need_of f z)) (zone_at s z))
+finds_zone t s f y z k opens l same mine old =
+    let m = f.machine in
+    let o = owned_space t s m y z k l same mine in
+    let shut = not_shut (nat_eq m (guest_of t z)) (is_open (posture_at s z)) (owns s (guest_of t z) z)
+    (λ g. subst (λ x. owns s x z ≡ true) (eqb-true m (guest_of t z) g) o)
+    (implied (owns s (guest_of t z) z) (is_open (posture_at s z)) (k.zone_is_lawful z l).guest_only_while_open) in
+    meets_owned m (posture_owned t m z) (need_of f z) (zone_at s z) o (posture_part m (need_of f z) (zone_at s z) old) (owner_tells t s m z opens l shut)
+
+-- what was known of a zone is so while the machine itself gets its space
+meets_mine : (m : ℕ) (n : ZoneNeed) (v : ZoneState) (b : Bool) → meets m n v ≡ true → meets m n (record v { owner = Some m; flag = b }) ≡ true
+meets_mine m n v b e = ap₂ (λ x y. implies n.holds x && y) (nat_eq-self m) (posture_part m n v e) ∙ any n.holds
+  where
+    any : (b : Bool) → (implies b true && true) ≡ true
+    any true = refl
+    any false = refl
+
+left_known : (t : PlanTable) (s : State) (f : Motor) (y : ℕ) (o : Option ℕ) → IsPlan t → Knows t s f
+    → (z : ℕ) → z < zone_count t → IsTrue (meets f.machine (if same_space t y z then zone_left (is_hosted t z f.machine) (need_of f z) else need_of f z) (get_or (with_owner t s y o false) z free_zone))
+left_known t s f y o p known =
+    put_known t s f y o false (λ z. zone_left (is_hosted t z f.machine) (need_of f z)) p
+    (λ z l same.
+    subst (λ v. IsTrue (meets f.machine (zone_left (is_hosted t z f.machine) (need_of f z)) v)) (sym (handed_is t s y o false z p l same))
+    (meets_left f.machine (is_hosted t z f.machine) (need_of f z) (zone_at s z) o (zone_at s z).flag (known.zones z l)))
+    known.zones
+
+if_either : (m : ℕ) (a b : ZoneNeed) (v : ZoneState) (test : Bool) → (test ≡ true → meets m a v ≡ true) → meets m b v ≡ true → meets m (if test then a else b) v ≡ true
+if_either m a b v true x y = x refl
+if_either m a b v false x y = y
+
 -- after a done call each zone is as the machine has learned
 zones_learned : (t : PlanTable) (s : State) (f : Motor) (c : Call) → IsPlan t → IsSound t s → OpensByPoses t s → Knows t s f → reply t s f.machine c ≡ Done
     → (z : ℕ) → z < zone_count t → IsTrue (meets f.machine (zone_facts t f c z) (zone_at (changed t s f.machine c) z))
 zones_learned t s f (Claim y) p k opens known e =
-    let d = claim_done t s f.machine y (done_none _ _ e) in
-    let there = d.caller.there in
-    put_known t s f y (record (zone_at s y) { owner = Some f.machine }) (λ z. zone_owned (posture_owned t f.machine z) (need_of f z)) (in_ten t s y p k there)
-    (meets_owned f.machine (posture_owned t f.machine y) (need_of f y) (record (zone_at s y) { owner = Some f.machine }) (nat_eq-self f.machine) (posture_part f.machine (need_of f y) (zone_at s y) (known.zones y there)) (owner_tells t s f.machine y opens there d.opens)) known.zones
+    let m = f.machine in
+    let after = changed t s m (Claim y) in
+    let there = (claim_done t s m y (done_none _ _ e)).caller.there in
+    let still : (z : ℕ) → z < zone_count t → posture_at after z ≡ posture_at s z = λ z l. ap (λ (v : ZoneState). v.posture) (zone_at-handed t s y (Some m) false z (ten t z p l)) in
+    let opens_still : OpensByPoses t after = λ z l. subst (λ q. IsTrue (is_open q) → IsTrue (some_gives t z q)) (sym (still z l)) (opens z l) in
+    let mine : owns after m y ≡ true = ap (λ (v : ZoneState). is_owned_by v.owner m) (handed_is t s y (Some m) false y p there (nat_eq-self (space_of t y))) ∙ nat_eq-self m in
+    put_known t s f y (Some m) false (λ z. zone_owned (posture_owned t m z) (need_of f z)) p
+    (λ z l same.
+    finds_zone t after f y z (changed_keeps t s m (Claim y) p k e) opens_still l same mine
+    (subst (λ v. IsTrue (meets m (need_of f z) v)) (sym (handed_is t s y (Some m) false z p l same)) (meets_mine m (need_of f z) (zone_at s z) (zone_at s z).flag (known.zones z l))))
+    known.zones
 zones_learned t s f (Give y) p k opens known e =
-    let d = give_done t s f.machine y (done_none _ _ e) in
+    let m = f.machine in
+    let d = give_done t s m y (done_none _ _ e) in
     let there = d.holder.caller.there in
-    let g = gives_way t f.machine y (posture_at s y) d.way (p.host_is_not_guest y there) d.is in
-    let outward = gives_outward t f.machine y (posture_at s y) d.way (p.host_is_not_guest y there) g.is g.giver in
-    put_known t s f y (record (zone_at s y) { owner = Some (other_party t f.machine y); flag = true }) (λ z. zone_given (is_hosted t z f.machine)) (in_ten t s y p k there)
-    (meets_given f.machine (is_hosted t y f.machine) (zone_at s y) (Some (other_party t f.machine y)) (λ h. outward (eqb-true _ _ (and_parts _ _ h).1))) known.zones
-zones_learned t s f (Yield y) p k opens known e =
-    let there = (yield_done t s f.machine y (done_none _ _ e)).holder.caller.there in
-    put_known t s f y (record (zone_at s y) { owner = Some (other_party t f.machine y) }) (λ z. zone_left (is_hosted t z f.machine) (need_of f z)) (in_ten t s y p k there)
-    (meets_left f.machine (is_hosted t y f.machine) (need_of f y) (zone_at s y) (Some (other_party t f.machine y)) (zone_at s y).flag (known.zones y there)) known.zones
+    let g = gives_way t m y (posture_at s y) d.way (p.host_is_not_guest y there) d.is in
+    let outward = gives_outward t m y (posture_at s y) d.way (p.host_is_not_guest y there) g.is g.giver in
+    let to = Some (other_party t m y) in
+    put_known t s f y to true (λ z. zone_given (nat_eq y z) (is_hosted t z m) (need_of f z)) p
+    (λ z l same.
+    subst (λ v. IsTrue (meets m (zone_given (nat_eq y z) (is_hosted t z m) (need_of f z)) v)) (sym (handed_is t s y to true z p l same))
+    (meets_given m (nat_eq y z) (is_hosted t z m) (need_of f z) (zone_at s z) to ((true && nat_eq z y) || (zone_at s z).flag)
+    (λ at h. let is = eqb-true y z at in ap (posture_at s) (sym is) ∙ outward (ap (host_of t) is ∙ eqb-true _ _ (and_parts _ _ h).1)) (known.zones z l)))
+    known.zones
+zones_learned t s f (Yield y) p k opens known e = left_known t s f y (Some (other_party t f.machine y)) p known
 zones_learned t s f (Take y) p k opens known e =
-    let d = take_done t s f.machine y (done_none _ _ e) in
+    let m = f.machine in
+    let d = take_done t s m y (done_none _ _ e) in
     let there = d.holder.caller.there in
     let comes = plate_comes t s y k there d.plate in
-    let mine : comes.way.receiver ≡ f.machine = ap (λ o. unwrap_or o f.machine) (sym comes.receiver ∙ d.holder.owner) in
-    let way = takes_way t f.machine y (posture_at s y) comes.way (p.host_is_not_guest y there) comes.is mine in
-    put_known t s f y (record (zone_at s y) { flag = false }) (λ z. zone_taken (posture_taken t f.machine z)) (in_ten t s y p k there)
-    (meets_taken f.machine (posture_taken t f.machine y) (zone_at s y) d.holder.owns way.posture) known.zones
-zones_learned t s f (Release y) p k opens known e =
-    let there = (release_done t s f.machine y (done_none _ _ e)).holder.caller.there in
-    put_known t s f y (record (zone_at s y) { owner = None }) (λ z. zone_left (is_hosted t z f.machine) (need_of f z)) (in_ten t s y p k there)
-    (meets_left f.machine (is_hosted t y f.machine) (need_of f y) (zone_at s y) None (zone_at s y).flag (known.zones y there)) known.zones
+    let receiver : comes.way.receiver ≡ m = ap (λ o. unwrap_or o m) (sym comes.receiver ∙ d.holder.owner) in
+    let way = takes_way t m y (posture_at s y) comes.way (p.host_is_not_guest y there) comes.is receiver in
+    let v : ZoneState = record (zone_at s y) { flag = false } in
+    put_cases (λ z u. z < zone_count t → IsTrue (meets m (zone_facts t f (Take y) z) u)) s.zones v free_zone y (in_ten t s y p k there)
+    (λ _. subst (λ b. IsTrue (meets m (if b then zone_taken (nat_eq y y) (posture_taken t m y) (need_of f y) else need_of f y) v)) (sym (nat_eq-self (space_of t y)))
+    (meets_taken m (nat_eq y y) (posture_taken t m y) (need_of f y) (zone_at s y) false d.holder.owns (λ _. way.posture) (known.zones y there)))
+    (λ z ne l. if_either m (zone_taken (nat_eq y z) (posture_taken t m z) (need_of f z)) (need_of f z) (zone_at s z) (same_space t y z)
+    (λ same. meets_taken m (nat_eq y z) (posture_taken t m z) (need_of f z) (zone_at s z) (zone_at s z).flag (owned_space t s m y z k l same d.holder.owns)
+    (λ at. absurd (ne (sym (eqb-true y z at)))) (known.zones z l)) (known.zones z l))
+zones_learned t s f (Release y) p k opens known e = left_known t s f y None p known
 zones_learned t s f (SetPose q) p k opens known e = λ z l.
     let d = pose_done t s f.machine q (done_none _ _ e) in
     let owned : (is_moving_pose t q && is_hosted t z f.machine) ≡ true → owns s f.machine z ≡ true = λ h.
@@ -311,9 +378,9 @@ kept_left : (t : PlanTable) (m : ℕ) (n : ZoneNeed) (z : ℕ) → (b : Bool) �
 kept_left t m n z true h some = h
 kept_left t m n z false h some = cc
 
-kept_given : (t : PlanTable) (m z : ℕ) → (b : Bool) → is_hosted t z m ≡ b → IsKept t m (zone_given b) z
-kept_given t m z true h some = h
-kept_given t m z false h some = cc
+kept_given : (t : PlanTable) (m : ℕ) (here : Bool) (n : ZoneNeed) (z : ℕ) → (b : Bool) → is_hosted t z m ≡ b → IsKept t m (zone_given here b n) z
+kept_given t m here n z true h some = h
+kept_given t m here n z false h some = cc
 
 kept_if : (t : PlanTable) (m : ℕ) (a b : ZoneNeed) (z : ℕ) (test : Bool) → IsKept t m a z → IsKept t m b z → IsKept t m (if test then a else b) z
 kept_if t m a b z true x y = x
@@ -331,11 +398,11 @@ given_posture None e = cc
 given_posture (Some q) e = (q, refl)
 
 zones_kept : (t : PlanTable) (s : State) (f : Motor) (c : Call) → IsPlan t → Knows t s f → reply t s f.machine c ≡ Done → (z : ℕ) → z < zone_count t → IsKept t f.machine (zone_facts t f c z) z
-zones_kept t s f (Claim y) p known e = λ z l. kept_if t f.machine (zone_owned (posture_owned t f.machine z) (need_of f z)) (need_of f z) z (nat_eq y z) (λ _. refl) (known.kept z l)
-zones_kept t s f (Give y) p known e = λ z l. kept_if t f.machine (zone_given (is_hosted t z f.machine)) (need_of f z) z (nat_eq y z) (kept_given t f.machine z _ refl) (known.kept z l)
-zones_kept t s f (Yield y) p known e = λ z l. kept_if t f.machine (zone_left (is_hosted t z f.machine) (need_of f z)) (need_of f z) z (nat_eq y z) (kept_left t f.machine (need_of f z) z _ refl) (known.kept z l)
-zones_kept t s f (Take y) p known e = λ z l. kept_if t f.machine (zone_taken (posture_taken t f.machine z)) (need_of f z) z (nat_eq y z) (λ _. refl) (known.kept z l)
-zones_kept t s f (Release y) p known e = λ z l. kept_if t f.machine (zone_left (is_hosted t z f.machine) (need_of f z)) (need_of f z) z (nat_eq y z) (kept_left t f.machine (need_of f z) z _ refl) (known.kept z l)
+zones_kept t s f (Claim y) p known e = λ z l. kept_if t f.machine (zone_owned (posture_owned t f.machine z) (need_of f z)) (need_of f z) z (same_space t y z) (λ _. refl) (known.kept z l)
+zones_kept t s f (Give y) p known e = λ z l. kept_if t f.machine (zone_given (nat_eq y z) (is_hosted t z f.machine) (need_of f z)) (need_of f z) z (same_space t y z) (kept_given t f.machine (nat_eq y z) (need_of f z) z _ refl) (known.kept z l)
+zones_kept t s f (Yield y) p known e = λ z l. kept_if t f.machine (zone_left (is_hosted t z f.machine) (need_of f z)) (need_of f z) z (same_space t y z) (kept_left t f.machine (need_of f z) z _ refl) (known.kept z l)
+zones_kept t s f (Take y) p known e = λ z l. kept_if t f.machine (zone_taken (nat_eq y z) (posture_taken t f.machine z) (need_of f z)) (need_of f z) z (same_space t y z) (λ _. refl) (known.kept z l)
+zones_kept t s f (Release y) p known e = λ z l. kept_if t f.machine (zone_left (is_hosted t z f.machine) (need_of f z)) (need_of f z) z (same_space t y z) (kept_left t f.machine (need_of f z) z _ refl) (known.kept z l)
 zones_kept t s f (SetPose q) p known e = λ z l.
     let d = pose_done t s f.machine q (done_none _ _ e) in
     let host : is_some (posture_of t q z) ≡ true → is_hosted t z f.machine ≡ true = λ some.
@@ -409,27 +476,11 @@ learns t s f c p k opens known e =
 
 -- ---- a zone that it owns, as it has found out
 
--- a guest owns only an open zone
-not_shut : (guest opens owned : Bool) → (guest ≡ true → owned ≡ true) → (owned ≡ true → opens ≡ true) → (guest && not opens) ≡ false
-not_shut false opens owned o l = refl
-not_shut true opens owned o l = ap not (l (o refl))
-
 pub finds : (t : PlanTable) (s : State) (f : Motor) (y : ℕ) → IsPlan t → IsSound t s → OpensByPoses t s → Knows t s f → owns s f.machine y ≡ true → Knows t s (facts_after t f (Claim y))
 finds t s f y p k opens known mine =
     let m = f.machine in
-    let shut : (z : ℕ) → z < zone_count t → owns s m z ≡ true → (nat_eq m (guest_of t z) && not (is_open (posture_at s z))) ≡ false = λ z l o.
-    not_shut (nat_eq m (guest_of t z)) (is_open (posture_at s z)) (owns s (guest_of t z) z)
-    (λ g. subst (λ x. owns s x z ≡ true) (eqb-true m (guest_of t z) g) o)
-    (implied (owns s (guest_of t z) z) (is_open (posture_at s z)) (k.zone_is_lawful z l).guest_only_while_open) in
-    let here : (z : ℕ) → z < zone_count t → nat_eq y z ≡ true → meets m (zone_owned (posture_owned t m z) (need_of f z)) (zone_at s z) ≡ true = λ z l e.
-    let o : owns s m z ≡ true = subst (λ x. owns s m x ≡ true) (eqb-true y z e) mine in
-    meets_owned m (posture_owned t m z) (need_of f z) (zone_at s z) o (posture_part m (need_of f z) (zone_at s z) (known.zones z l)) (owner_tells t s m z opens l (shut z l o)) in
     learned t s f (Claim y) p
-    (λ z l. either m (zone_owned (posture_owned t m z) (need_of f z)) (need_of f z) (zone_at s z) (nat_eq y z) (here z l) (known.zones z l))
+    (λ z l. if_either m (zone_owned (posture_owned t m z) (need_of f z)) (need_of f z) (zone_at s z) (same_space t y z) (λ same. finds_zone t s f y z k opens l same mine (known.zones z l)) (known.zones z l))
     known.places
-    (λ z l. kept_if t m (zone_owned (posture_owned t m z) (need_of f z)) (need_of f z) z (nat_eq y z) (λ _. refl) (known.kept z l))
+    (λ z l. kept_if t m (zone_owned (posture_owned t m z) (need_of f z)) (need_of f z) z (same_space t y z) (λ _. refl) (known.kept z l))
     known.own
-  where
-    either : (m : ℕ) (a b : ZoneNeed) (v : ZoneState) (test : Bool) → (test ≡ true → meets m a v ≡ true) → meets m b v ≡ true → meets m (if test then a else b) v ≡ true
-    either m a b v true x y = x refl
-    either m a b v false x y = y

@@ -19,7 +19,7 @@ use Rattle.plan_drives.specs.Examples.{FactsAreRight, ProgramsAreRight, CoursesA
 use Rattle.plan_drives.proofs.Lacking.{driven_by, at_some}
 
 pub facts_are_right : FactsAreRight
-facts_are_right = record { claim = refl; guest_claims = refl; one_way = refl; host_of_one_way = refl; take_by_host = refl; take_by_guest = refl; taken_by_host = refl; taken_by_guest = refl; give_by_host = refl; give_by_guest = refl; given_by_host = refl; given_by_guest = refl; yield_by_host = refl; yield_by_guest = refl; release_by_host = refl; release_by_guest = refl; moves = refl; closes = refl; closes_held = refl; awaited = refl; awaited_back = refl; asks = refl; other_zone = refl; advanced = refl; emptied = refl; both_unknown = refl; both_known = refl; other_place = refl; both_move = refl }
+facts_are_right = record { claim = refl; guest_claims = refl; one_way = refl; host_of_one_way = refl; take_by_host = refl; take_by_guest = refl; taken_by_host = refl; taken_by_guest = refl; give_by_host = refl; give_by_guest = refl; given_by_host = refl; given_by_guest = refl; yield_by_host = refl; yield_by_guest = refl; release_by_host = refl; release_by_guest = refl; moves = refl; closes = refl; closes_held = refl; awaited = refl; awaited_back = refl; asks = refl; other_zone = refl; advanced = refl; emptied = refl; both_unknown = refl; both_known = refl; other_place = refl; both_move = refl; claims_both = refl; robot_claims = refl; takes_one = refl; gives_one = refl; yields_both = refl; releases_both = refl; awaits_both = refl }
 
 pub programs_are_right : ProgramsAreRight
 programs_are_right = record {

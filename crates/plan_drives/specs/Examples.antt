@@ -9,10 +9,12 @@ use Rattle.plan_types.specs.declared.answer.Answer.TheVariants.{Shown}
 use Rattle.plan_types.specs.declared.answer.Event.{Event}
 use Rattle.plan_types.specs.Examples.{way, zone, pose, two_at, press_table, lift_table}
 use Rattle.plan_types.specs.Examples.{open_press_table, through_table}
+use Rattle.plan_types.specs.SpaceExamples.{robots_table}
 use Rattle.plan_types.specs.Table.{PlanTable}
 use Rattle.plan_rules.specs.Examples.{event, did, refused, press_start}
 use Rattle.plan_rules.specs.History.{after}
 use Rattle.plan_motors.specs.declared.motor.Motor.{Motor}
+use Rattle.plan_motors.specs.declared.motor.ZoneNeed.{ZoneNeed}
 use Rattle.plan_motors.specs.Motor.{no_need, need_of, place_need}
 use Rattle.plan_motors.specs.MotorPlan.{MotorTables, motor_plan}
 use Rattle.plan_motors.specs.Examples.{motor, held, hosted, ram, arm, loading_arm, valve, heater, fan}
@@ -31,6 +33,13 @@ use Rattle.plan_drives.specs.Lacking.{IsUndriven}
 -- press's, 1
 abbrev pub knows : ℕ → List Line → Motor
 knows m lines = facts_along press_table (no_facts m) lines
+
+-- what machine m of the press with two robots knows of both zones: 0 is the loader, 1 the press, 2 the unloader
+abbrev pub robots_know : ℕ → List Line → Motor
+robots_know m lines = facts_along robots_table (no_facts m) lines
+
+abbrev pub needs : Motor → List ZoneNeed
+needs known = need_of known 0 ∷ need_of known 1 ∷ []
 
 -- the press opens one way only: inward
 abbrev pub chute : PlanTable
@@ -73,6 +82,18 @@ pub record FactsAreRight : Type 0 where
       (Some true ∷ Some false ∷ []) ≡ Some false ∷ Some true ∷ []
   pub other_place : place_facts lift_table (no_facts 0) (Take 1) 1 ≡ None
   pub both_move : zone_facts lift_table (no_facts 0) (SetPose 0) 1 ≡ held (Some Moving)
+  -- a press with two robots: who comes to hold one zone of its space holds both, and who leaves one has left both
+  pub claims_both : map (zone_facts robots_table (no_facts 1) (Claim 1)) (0 ∷ 1 ∷ [])
+      ≡ held None ∷ held None ∷ []
+  pub robot_claims : map (zone_facts robots_table (no_facts 2) (Claim 1)) (0 ∷ 1 ∷ [])
+      ≡ held None ∷ held (Some OpenOut) ∷ []
+  pub takes_one : needs (robots_know 1 (Do (Take 0) ∷ [])) ≡ held (Some OpenIn) ∷ held None ∷ []
+  pub gives_one : needs (robots_know 1 (Do (SetPose 3) ∷ Do (SetPose 1) ∷ Do (Give 1) ∷ []))
+      ≡ hosted Closed ∷ hosted OpenOut ∷ []
+  pub yields_both : needs (robots_know 2 (Do (Take 1) ∷ Do (Yield 1) ∷ [])) ≡ no_need ∷ no_need ∷ []
+  pub releases_both : needs (robots_know 1 (Do (SetPose 3) ∷ Do (SetPose 2) ∷ Do (Release 0) ∷ []))
+      ≡ hosted Closed ∷ hosted Closed ∷ []
+  pub awaits_both : needs (robots_know 1 (Await 1 ∷ [])) ≡ held None ∷ held None ∷ []
 
 -- the press's motors, by their numbers: 0 the ram, 1 the loader's arm, 2 its arm with a plate, 3 a valve, 4 a heater,
 -- 5 a fan

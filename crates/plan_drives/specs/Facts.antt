@@ -1,6 +1,7 @@
 -- What a machine knows by its own done calls, and by owning what it waited for, whatever the others do. It is written
 -- as a motor: what this motor needs is so.
-use Rattle.std.specs.Prelude.{ℕ, ◌<◌, IsTrue, Bool, true, false, ◌&&◌, ◌||◌, not, nat_eq, map, replicate, List, [], ◌∷◌}
+use Rattle.std.specs.Prelude.{ℕ, ◌<◌, IsTrue, Bool, true, false, ◌&&◌, ◌||◌, not, nat_eq, map, replicate, List, []}
+use Rattle.std.specs.Prelude.{◌∷◌}
 use Rattle.std.specs.Prelude.{take, Option, Some, None, option_map, if◌then◌else◌}
 use Rattle.std.specs.Option.{option_or, option_eq}
 use Rattle.std.specs.List.{range_with_len}
@@ -12,7 +13,7 @@ use Rattle.plan_types.specs.Below.{any_below}
 use Rattle.plan_types.specs.declared.call.Call.{Call}
 use Rattle.plan_types.specs.declared.call.Call.TheVariants.{Claim, Give, Yield, Take, Release, SetPose, Advance}
 use Rattle.plan_types.specs.Table.{PlanTable, zone_count, pose_count, zone_row, host_of, guest_of, posture_of}
-use Rattle.plan_types.specs.Table.{is_hosted, is_moving_pose, is_source, is_sink}
+use Rattle.plan_types.specs.Table.{is_hosted, is_moving_pose, is_source, is_sink, same_space}
 use Rattle.plan_rules.specs.declared.state.State.{State}
 use Rattle.plan_rules.specs.State.{posture_at}
 use Rattle.plan_rules.specs.Sound.{is_open}
@@ -63,24 +64,30 @@ zone_owned told known = record { holds = true; posture = option_or known.posture
 abbrev pub zone_left : Bool → ZoneNeed → ZoneNeed
 zone_left hosted known = record { holds = false; posture = if hosted then known.posture else None }
 
--- a zone that it has left with a plate in it: a host gives only outward
-abbrev pub zone_given : Bool → ZoneNeed
-zone_given hosted = record { holds = false; posture = if hosted then Some OpenOut else None }
+-- a zone that it has left with a plate, here or in another zone of the space: a host gives only outward
+abbrev pub zone_given : Bool → Bool → ZoneNeed → ZoneNeed
+zone_given here hosted known =
+    record { holds = false; posture = if hosted then (if here then Some OpenOut else known.posture) else None }
 
--- a zone from which it has taken a plate
-abbrev pub zone_taken : Posture → ZoneNeed
-zone_taken posture = record { holds = true; posture = Some posture }
+-- a zone from which it has taken a plate, here or in another zone of the space
+abbrev pub zone_taken : Bool → Posture → ZoneNeed → ZoneNeed
+zone_taken here posture known = record { holds = true; posture = if here then Some posture else known.posture }
 
 -- a zone after a pose, which gives it a posture or none: all zones that it hosts are its own if the pose moves
 abbrev pub zone_posed : Bool → Option Posture → ZoneNeed → ZoneNeed
 zone_posed owned given known = record { holds = owned || known.holds; posture = option_or given known.posture }
 
+-- a call about a zone tells of each zone of its space
 abbrev pub zone_facts : PlanTable → Motor → Call → ℕ → ZoneNeed
-zone_facts t f (Claim y) z = if nat_eq y z then zone_owned (posture_owned t f.machine z) (need_of f z) else need_of f z
-zone_facts t f (Give y) z = if nat_eq y z then zone_given (is_hosted t z f.machine) else need_of f z
-zone_facts t f (Yield y) z = if nat_eq y z then zone_left (is_hosted t z f.machine) (need_of f z) else need_of f z
-zone_facts t f (Take y) z = if nat_eq y z then zone_taken (posture_taken t f.machine z) else need_of f z
-zone_facts t f (Release y) z = if nat_eq y z then zone_left (is_hosted t z f.machine) (need_of f z) else need_of f z
+zone_facts t f (Claim y) z =
+    if same_space t y z then zone_owned (posture_owned t f.machine z) (need_of f z) else need_of f z
+zone_facts t f (Give y) z =
+    if same_space t y z then zone_given (nat_eq y z) (is_hosted t z f.machine) (need_of f z) else need_of f z
+zone_facts t f (Yield y) z = if same_space t y z then zone_left (is_hosted t z f.machine) (need_of f z) else need_of f z
+zone_facts t f (Take y) z =
+    if same_space t y z then zone_taken (nat_eq y z) (posture_taken t f.machine z) (need_of f z) else need_of f z
+zone_facts t f (Release y) z =
+    if same_space t y z then zone_left (is_hosted t z f.machine) (need_of f z) else need_of f z
 zone_facts t f (SetPose p) z =
     zone_posed (is_moving_pose t p && is_hosted t z f.machine) (posture_of t p z) (need_of f z)
 zone_facts t f _ z = need_of f z

@@ -121,21 +121,28 @@ fn zone_left(hosted: bool, known: ZoneNeed) -> ZoneNeed
     }
 }
 
-fn zone_given(hosted: bool) -> ZoneNeed
-    ensures { result ≡ facts.zone_given hosted }
+/// A zone of a space that was left with a plate, here or in another zone.
+fn zone_given(here: bool, hosted: bool, known: ZoneNeed) -> ZoneNeed
+    ensures { result ≡ facts.zone_given here hosted known }
 {
+    let outward = if here {
+        Some(Posture::OpenOut)
+    } else {
+        known.posture
+    };
     ZoneNeed {
         holds: false,
-        posture: if hosted { Some(Posture::OpenOut) } else { None },
+        posture: if hosted { outward } else { None },
     }
 }
 
-fn zone_taken(posture: Posture) -> ZoneNeed
-    ensures { result ≡ facts.zone_taken posture }
+/// A zone of a space from which a plate was taken, here or in another zone.
+fn zone_taken(here: bool, posture: Posture, known: ZoneNeed) -> ZoneNeed
+    ensures { result ≡ facts.zone_taken here posture known }
 {
     ZoneNeed {
         holds: true,
-        posture: Some(posture),
+        posture: if here { Some(posture) } else { known.posture },
     }
 }
 
@@ -155,12 +162,16 @@ fn zone_facts(plan: &Plan, known: &Motor, call: Call, zone: u8) -> ZoneNeed
     let before = known.zone_need(zone);
     let hosted = is_hosted(plan, zone, known.machine);
     match call {
-        Call::Claim(of) if of == zone => {
+        Call::Claim(of) if plan.same_space(of, zone) => {
             zone_owned(posture_owned(plan, known.machine, zone), before)
         }
-        Call::Take(of) if of == zone => zone_taken(posture_taken(plan, known.machine, zone)),
-        Call::Give(of) if of == zone => zone_given(hosted),
-        Call::Yield(of) | Call::Release(of) if of == zone => zone_left(hosted, before),
+        Call::Take(of) if plan.same_space(of, zone) => {
+            zone_taken(of == zone, posture_taken(plan, known.machine, zone), before)
+        }
+        Call::Give(of) if plan.same_space(of, zone) => zone_given(of == zone, hosted, before),
+        Call::Yield(of) | Call::Release(of) if plan.same_space(of, zone) => {
+            zone_left(hosted, before)
+        }
         Call::SetPose(pose) => {
             let owned = plan.is_moving_pose(pose) && hosted;
             zone_posed(owned, plan.posture_of(pose, zone), before)

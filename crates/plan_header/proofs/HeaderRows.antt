@@ -42,6 +42,7 @@ reading-lines = record {
   flag_and_one = refl;
   one = refl;
   owner_alone = refl;
+  second_guest = refl;
 }
 
 pub whole-headers : WholeHeaders

@@ -1,16 +1,18 @@
 -- The laws of `headers_tell`.
-use Rattle.std.proofs.Common.{◌≡◌, ◌<◌, ◌+◌, ◌*◌, ◌%◌, ℕ, false, List, [], ◌∷◌, ◌++◌, codes, nat_eq, get_or, refl, ap, ◌∙◌, arith}
+use Rattle.std.proofs.Common.{◌≡◌, ◌<◌, ◌+◌, ◌-◌, ◌*◌, ◌%◌, ℕ, Bool, true, false, List, [], ◌∷◌, ◌++◌, codes, nat_eq, get_or, refl, ap, ◌∙◌, arith}
 use Rattle.std.proofs.Common.{if◌then◌else◌}
 use Rattle.std.proofs.lemmas.Bool.{eqb-true, false_from_ne_true, lt-ltb}
 use Rattle.std.proofs.lemmas.Bool.Decides.{nat_tests}
 use Rattle.std.proofs.lemmas.Nat.{mod-mul-add}
 use Rattle.std.specs.Char.{to_ascii_uppercase}
 use Rattle.std.specs.Fmt.{decimal}
-use Rattle.plan_types.specs.Table.{place_count, zone_count}
+use Rattle.plan_types.specs.Table.{joins, place_count, space_of, zone_count}
 use Rattle.plan_word.specs.Layout.{bits_of, counts_of, zones_end}
 use Rattle.plan_word.specs.declared.layout.Field.TheVariants.{Zone}
+use Rattle.plan_text.specs.Named.{Named}
 use Rattle.plan_text.specs.Names.{Text, name_in}
 use Rattle.plan_header.specs.Headers as header
+use Rattle.plan_header.specs.Readings as reading
 use Rattle.plan_header.specs.HeaderLaws.{BitsAreTold, BytesAreTold, CapitalsAreTold, HeadersTell, MasksAreTold, ModulesAreTold}
 use Rattle.plan_header.specs.HeaderLaws.{ReadingsAreTold}
 use Rattle.plan_header.specs.HeaderLaws.{NumbersAreTold, stands}
@@ -58,17 +60,28 @@ bits-told = record {
   width = λ n. refl;
 }
 
+guest_if : (n : Named) (k : ℕ) (b : Bool) → joins n.plan k ≡ b
+    → reading.guest_part n k
+    ≡ (if b then reading.guest_note (2 + (k - space_of n.plan k)) (reading.first_name n k) (capitals (name_in n.zones k)) else [])
+guest_if n k b e =
+    ap
+    (λ t. if t then reading.guest_note (2 + (k - space_of n.plan k)) (reading.first_name n k) (capitals (name_in n.zones k)) else [])
+    e
+
 readings-told : ReadingsAreTold
 readings-told = record {
-  owner = λ zone. refl;
-  plate = λ zone. refl;
-  no_plate = λ zone. refl;
+  owner = λ most first zone. refl;
+  plate = λ above zone. refl;
+  no_plate = λ above zone. refl;
   shut = λ zone above. refl;
   moving = λ zone above. refl;
   open_in = λ zone above. refl;
   open_out = λ zone above. refl;
   all = λ zone above. refl;
+  owner_of = λ n k. refl;
   zone = λ n k. refl;
+  guest = λ n k joined. guest_if n k true joined;
+  no_guest = λ n k alone. guest_if n k false alone;
   each = λ n. refl;
 }
 

@@ -1,6 +1,7 @@
 -- Lines of headers, whole: of a lift between two floors, of two presses, and of two gates.
 use Rattle.std.specs.Prelude.{◌≡◌, List, false, [], ◌∷◌, ◌++◌, codes, None}
 use Rattle.plan_types.specs.Table.{PlanTable, plan_table}
+use Rattle.plan_types.specs.SpaceExamples.{robots_table}
 use Rattle.plan_types.specs.Examples.{gated_table, lift_table, pose, rack_table, zone}
 use Rattle.plan_rules.specs.Examples.{presses_table}
 use Rattle.plan_motors.specs.Examples.{cabin, fan, lower_gate}
@@ -111,6 +112,11 @@ rack =
 abbrev pub inlet : Named
 inlet = named (gated_table 1 2) (codes "arm" ∷ codes "press" ∷ []) (codes "inlet" ∷ []) [] []
 
+-- a press that a loader and an unloader enter, one at a time
+abbrev pub robots : Named
+robots =
+    named robots_table (codes "loader" ∷ codes "press" ∷ codes "unloader" ∷ []) (codes "in" ∷ codes "out" ∷ []) [] []
+
 pub record ReadingLines : Type 0 where
   pub flag_and_two : reading.zone_reading rack 1
       ≡ codes "#define PLAN_OWNER_OF_LEFT(word) ((word) >> PLAN_BIT_ZONE_LEFT & 3)\n"
@@ -127,6 +133,13 @@ pub record ReadingLines : Type 0 where
       ++ codes "#define PLAN_POSTURE_OF_RACK(word) ((word) >> (PLAN_BIT_ZONE_RACK + 2) & 1 "
       ++ codes "? PLAN_POSTURE_OPENIN : PLAN_POSTURE_CLOSED)\n"
   pub owner_alone : reading.readings_part gates ≡ READINGS.now ++ gates_readings
+  -- the second guest of a press: the first one's zone tells the owner
+  pub second_guest : reading.zone_reading robots 1
+      ≡ codes "/* OUT is of one space with IN, which tells its owner; its guest is: */\n"
+      ++ codes "#define PLAN_OWNER_GUEST_OUT 3\n"
+      ++ codes "#define PLAN_OWNER_OF_OUT(word) ((word) >> PLAN_BIT_ZONE_IN & 3)\n"
+      ++ codes "#define PLAN_PLATE_IN_OUT(word) ((word) >> (PLAN_BIT_ZONE_OUT + 0) & 1)\n"
+      ++ codes "#define PLAN_POSTURE_OF_OUT(word) ((word) >> (PLAN_BIT_ZONE_OUT + 1) & 3)\n"
 
 abbrev pub gates_bytes : Text
 gates_bytes =

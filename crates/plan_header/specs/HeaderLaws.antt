@@ -1,10 +1,11 @@
 -- What each line of a header or a module says, for all names, numbers, motors and bytes: in the plan's own words.
-use Rattle.std.specs.Prelude.{◌≡◌, ◌<◌, ℕ, ◌+◌, ◌*◌, true, false, List, [], ◌∷◌, ◌++◌, codes, flat_map, get_or, length}
+use Rattle.std.specs.Prelude.{◌≡◌, ◌<◌, ℕ, ◌+◌, ◌-◌, ◌*◌, true, false, List, [], ◌∷◌, ◌++◌, codes, flat_map, get_or, length}
 use Rattle.std.specs.Fmt.{decimal}
 use Rattle.std.specs.List.{range_with_len}
 use Rattle.plan_types.specs.declared.posture.Posture.TheVariants.{Moving, OpenIn, OpenOut}
 use Rattle.plan_types.specs.declared.shape.Postures.TheVariants.{Shut, Two, All}
-use Rattle.plan_types.specs.Table.{guest_of, host_of, keeper_of, machine_of, place_count, zone_count, zone_shape}
+use Rattle.plan_types.specs.Table.{guest_of, host_of, joins, keeper_of, machine_of, place_count, space_of, zone_count}
+use Rattle.plan_types.specs.Table.{zone_shape}
 use Rattle.plan_types.specs.Bytes.{bytes_of}
 use Rattle.plan_motors.specs.declared.motor.Motor.{Motor}
 use Rattle.plan_motors.specs.Mask.{mask_of, pattern_of}
@@ -101,18 +102,18 @@ abbrev pub bits_above : Text → ℕ → Text → Text
 bits_above zone above rest =
     codes "((word) >> (PLAN_BIT_ZONE_" ++ (capitals zone ++ (codes " + " ++ (decimal above ++ (codes ") & " ++ rest))))
 
--- how C reads a zone: the two lowest bits tell its owner; the third, if a plate has a way through it, whether one is in
--- it; and those above its posture, as the postures are that poses give it
+-- how C reads a zone: the lowest bits of its space's first zone tell its owner; of its own the next, if a plate has a
+-- way through it, whether one is in it; and those above its posture, as the postures are that poses give it
 pub record ReadingsAreTold : Type 0 where
-  pub owner : (zone : Text)
-      → reading.owner_reading (capitals zone)
-      ≡ reads (codes "owner_of_" ++ zone) (codes "((word) >> PLAN_BIT_ZONE_" ++ (capitals zone ++ codes " & 3)\n"))
-  pub plate : (zone : Text)
-      → reading.plate_reading true (capitals zone)
-      ≡ reads (codes "plate_in_" ++ zone)
-      (codes "((word) >> (PLAN_BIT_ZONE_" ++ (capitals zone ++ codes " + 2) & 1)\n"))
-  pub no_plate : (zone : Text)
-      → reading.plate_reading false (capitals zone) ≡ reads (codes "plate_in_" ++ zone) (codes "0\n")
+  pub owner : (most : ℕ) (first zone : Text)
+      → reading.owner_reading most (capitals first) (capitals zone)
+      ≡ reads (codes "owner_of_" ++ zone)
+      (codes "((word) >> PLAN_BIT_ZONE_" ++ (capitals first ++ (codes " & " ++ (decimal most ++ codes ")\n"))))
+  pub plate : (above : ℕ) (zone : Text)
+      → reading.plate_reading true above (capitals zone)
+      ≡ reads (codes "plate_in_" ++ zone) (bits_above zone above (codes "1)\n"))
+  pub no_plate : (above : ℕ) (zone : Text)
+      → reading.plate_reading false above (capitals zone) ≡ reads (codes "plate_in_" ++ zone) (codes "0\n")
   pub shut : (zone : Text) (above : ℕ)
       → reading.posture_reading Shut above (capitals zone)
       ≡ reads (codes "posture_of_" ++ zone) (codes "PLAN_POSTURE_CLOSED\n")
@@ -131,8 +132,20 @@ pub record ReadingsAreTold : Type 0 where
   pub all : (zone : Text) (above : ℕ)
       → reading.posture_reading All above (capitals zone)
       ≡ reads (codes "posture_of_" ++ zone) (bits_above zone above (codes "3)\n"))
+  -- the owner's bits are two, and a zone's own come above them, where each zone is a space by itself
+  pub owner_of : (n : Named) (k : ℕ)
+      → reading.owner_part n k
+      ≡ reading.owner_reading (reading.most_owner (zone_shape n.plan (space_of n.plan k)))
+      (capitals (name_in n.zones (space_of n.plan k))) (capitals (name_in n.zones k))
   pub zone : (n : Named) (k : ℕ)
-      → reading.zone_reading n k ≡ reading.readings_of (zone_shape n.plan k) (capitals (name_in n.zones k))
+      → reading.zone_reading n k
+      ≡ reading.guest_part n k
+      ++ (reading.owner_part n k ++ reading.own_readings (zone_shape n.plan k) (capitals (name_in n.zones k)))
+  pub guest : (n : Named) (k : ℕ) → joins n.plan k ≡ true
+      → reading.guest_part n k
+      ≡ reading.guest_note (2 + (k - space_of n.plan k)) (capitals (name_in n.zones (space_of n.plan k)))
+      (capitals (name_in n.zones k))
+  pub no_guest : (n : Named) (k : ℕ) → joins n.plan k ≡ false → reading.guest_part n k ≡ []
   pub each : (n : Named)
       → reading.readings_part n ≡ READINGS.now ++ for_each (length n.zones) (reading.zone_reading n)
 

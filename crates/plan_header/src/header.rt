@@ -22,7 +22,8 @@ const BEGIN: &str = "\
 /* A plan's names and the layout of its word, as `plan header` prints them. The word of a state has the fields below,
    from the lowest bit: the zones, the places, the stamp and the stop. A zone's bits are, from the lowest, two for its
    owner, one for its flag (a plate is in it) if a plate has a way through it, and for its posture two; or one, 0 for
-   closed, if poses give it one other posture; or none, if it is always closed. */
+   closed, if poses give it one other posture; or none, if it is always closed. The zones of one space have one owner:
+   its bits, two to four, stand in the first of them, and a comment on each other zone names that one. */
 #ifndef PLAN_H
 #define PLAN_H
 
@@ -115,7 +116,8 @@ pub(crate) fn push_define(
     name: &str,
     number: usize,
 ) -> Result<(), AllocError>
-    ensures { OnOk result (string_bytes text.new ≡ string_bytes text.old ++ spec.define_line name.now number) }
+    ensures { OnOk result (string_bytes text.new
+        ≡ string_bytes text.old ++ spec.define_line name.now number) }
 {
     let capitals = capitals_of(alloc, name)?;
     push_defined(text, capitals.as_str(), number)
@@ -123,7 +125,8 @@ pub(crate) fn push_define(
 
 /// Adds a definition of a name that is in capitals.
 fn push_defined(text: &mut String, capitals: &str, number: usize) -> Result<(), AllocError>
-    ensures { OnOk result (string_bytes text.new ≡ string_bytes text.old ++ spec.defined capitals.now number) }
+    ensures { OnOk result (string_bytes text.new
+        ≡ string_bytes text.old ++ spec.defined capitals.now number) }
 {
     writeln!(text, "#define PLAN_{capitals} {number}")
 }
@@ -132,7 +135,8 @@ fn push_defined(text: &mut String, capitals: &str, number: usize) -> Result<(), 
 
 /// Adds the numbers of machines, zones and places.
 fn push_names_part(alloc: Global, text: &mut String, named: &NamedPlan) -> Result<(), AllocError>
-    ensures { OnOk result (string_bytes text.new ≡ string_bytes text.old ++ spec.names_part named.now) }
+    ensures { OnOk result (string_bytes text.new
+        ≡ string_bytes text.old ++ spec.names_part named.now) }
 {
     push_machines(alloc, text, named)?;
     push_zone_numbers(alloc, text, named)?;
@@ -141,21 +145,24 @@ fn push_names_part(alloc: Global, text: &mut String, named: &NamedPlan) -> Resul
 
 /// Adds how the header begins, and the numbers of machines.
 fn push_machines(alloc: Global, text: &mut String, named: &NamedPlan) -> Result<(), AllocError>
-    ensures { OnOk result (string_bytes text.new ≡ string_bytes text.old ++ spec.machines_part named.now) }
+    ensures { OnOk result (string_bytes text.new
+        ≡ string_bytes text.old ++ spec.machines_part named.now) }
 {
     push_titled(alloc, text, BEGIN, "machine", named.machines())
 }
 
 /// Adds the numbers of zones.
 fn push_zone_numbers(alloc: Global, text: &mut String, named: &NamedPlan) -> Result<(), AllocError>
-    ensures { OnOk result (string_bytes text.new ≡ string_bytes text.old ++ spec.zones_part named.now) }
+    ensures { OnOk result (string_bytes text.new
+        ≡ string_bytes text.old ++ spec.zones_part named.now) }
 {
     push_titled(alloc, text, ZONES, "zone", named.zones())
 }
 
 /// Adds the numbers of places.
 fn push_places(alloc: Global, text: &mut String, named: &NamedPlan) -> Result<(), AllocError>
-    ensures { OnOk result (string_bytes text.new ≡ string_bytes text.old ++ spec.places_part named.now) }
+    ensures { OnOk result (string_bytes text.new
+        ≡ string_bytes text.old ++ spec.places_part named.now) }
 {
     push_titled(alloc, text, PLACES, "place", named.places())
 }
@@ -169,7 +176,8 @@ fn push_titled(
     names: &Names,
 ) -> Result<(), AllocError>
     ensures { OnOk result
-        (string_bytes text.new ≡ string_bytes text.old ++ spec.titled title.now kind.now names.now) }
+        (string_bytes text.new ≡ string_bytes text.old
+        ++ spec.titled title.now kind.now names.now) }
 {
     text.push_str(title)?;
     push_numbers(alloc, text, kind, names)
@@ -210,7 +218,8 @@ fn push_number(
     number: u8,
 ) -> Result<(), AllocError>
     ensures { OnOk result
-        (string_bytes text.new ≡ string_bytes text.old ++ spec.number_line kind.now names.now number) }
+        (string_bytes text.new ≡ string_bytes text.old
+        ++ spec.number_line kind.now names.now number) }
 {
     let name = names.name(number);
     let word = format!(in alloc; "{kind}_{name}")?;
@@ -221,7 +230,8 @@ fn push_number(
 
 /// Adds the numbers of poses, and the parties of zones and places.
 fn push_parties_part(alloc: Global, text: &mut String, named: &NamedPlan) -> Result<(), AllocError>
-    ensures { OnOk result (string_bytes text.new ≡ string_bytes text.old ++ spec.parties_part named.now) }
+    ensures { OnOk result (string_bytes text.new
+        ≡ string_bytes text.old ++ spec.parties_part named.now) }
 {
     text.push_str(POSES)?;
     push_poses(alloc, text, named)?;
@@ -231,7 +241,8 @@ fn push_parties_part(alloc: Global, text: &mut String, named: &NamedPlan) -> Res
 
 /// Adds the number of each pose, and how many there are.
 fn push_poses(alloc: Global, text: &mut String, named: &NamedPlan) -> Result<(), AllocError>
-    ensures { OnOk result (string_bytes text.new ≡ string_bytes text.old ++ spec.pose_lines named.now) }
+    ensures { OnOk result (string_bytes text.new
+        ≡ string_bytes text.old ++ spec.pose_lines named.now) }
 {
     push_each_pose(alloc, text, named)?;
     push_define(alloc, text, "poses", named.poses().len())
@@ -255,7 +266,8 @@ fn push_pose(
     named: &NamedPlan,
     pose: u8,
 ) -> Result<(), AllocError>
-    ensures { OnOk result (string_bytes text.new ≡ string_bytes text.old ++ spec.pose_line named.now pose) }
+    ensures { OnOk result (string_bytes text.new
+        ≡ string_bytes text.old ++ spec.pose_line named.now pose) }
 {
     let machine = named.machines().name(named.plan().pose(pose).machine);
     let name = named.poses().name(pose);
@@ -265,7 +277,8 @@ fn push_pose(
 
 /// Adds who hosts each zone, who is its guest, and who keeps each place.
 fn push_parties(alloc: Global, text: &mut String, named: &NamedPlan) -> Result<(), AllocError>
-    ensures { OnOk result (string_bytes text.new ≡ string_bytes text.old ++ spec.party_lines named.now) }
+    ensures { OnOk result (string_bytes text.new
+        ≡ string_bytes text.old ++ spec.party_lines named.now) }
 {
     push_zones(alloc, text, named)?;
     push_keepers(alloc, text, named)
@@ -289,7 +302,8 @@ fn push_zone(
     named: &NamedPlan,
     zone: u8,
 ) -> Result<(), AllocError>
-    ensures { OnOk result (string_bytes text.new ≡ string_bytes text.old ++ spec.zone_parties named.now zone) }
+    ensures { OnOk result (string_bytes text.new
+        ≡ string_bytes text.old ++ spec.zone_parties named.now zone) }
 {
     let row = named.plan().zone(zone);
     let name = named.zones().name(zone);
@@ -315,7 +329,8 @@ fn push_keeper(
     named: &NamedPlan,
     place: u8,
 ) -> Result<(), AllocError>
-    ensures { OnOk result (string_bytes text.new ≡ string_bytes text.old ++ spec.keeper_line named.now place) }
+    ensures { OnOk result (string_bytes text.new
+        ≡ string_bytes text.old ++ spec.keeper_line named.now place) }
 {
     let keeper = named.plan().keeper(place);
     push_party(
@@ -361,7 +376,8 @@ fn push_role_of(
     machine: &str,
 ) -> Result<(), AllocError>
     ensures { OnOk result
-        (string_bytes text.new ≡ string_bytes text.old ++ spec.role_of role.now (words.capitals machine.now)) }
+        (string_bytes text.new ≡ string_bytes text.old
+        ++ spec.role_of role.now (words.capitals machine.now)) }
 {
     let machine = capitals_of(alloc, machine)?;
     push_role_words(text, role, machine.as_str())
@@ -369,7 +385,8 @@ fn push_role_of(
 
 /// Adds a role and a machine that are in capitals.
 fn push_role_words(text: &mut String, role: &str, machine: &str) -> Result<(), AllocError>
-    ensures { OnOk result (string_bytes text.new ≡ string_bytes text.old ++ spec.role_of role.now machine.now) }
+    ensures { OnOk result (string_bytes text.new
+        ≡ string_bytes text.old ++ spec.role_of role.now machine.now) }
 {
     writeln!(text, "#define PLAN_{role} PLAN_MACHINE_{machine}")
 }
@@ -378,7 +395,8 @@ fn push_role_words(text: &mut String, role: &str, machine: &str) -> Result<(), A
 
 /// Adds the fields of the word.
 fn push_word_part(alloc: Global, text: &mut String, named: &NamedPlan) -> Result<(), AllocError>
-    ensures { OnOk result (string_bytes text.new ≡ string_bytes text.old ++ spec.word_part named.now) }
+    ensures { OnOk result (string_bytes text.new
+        ≡ string_bytes text.old ++ spec.word_part named.now) }
 {
     push_fields_part(alloc, text, named)?;
     push_sizes_part(alloc, text, named)?;
@@ -387,7 +405,8 @@ fn push_word_part(alloc: Global, text: &mut String, named: &NamedPlan) -> Result
 
 /// Adds the lowest bit of each field.
 fn push_fields_part(alloc: Global, text: &mut String, named: &NamedPlan) -> Result<(), AllocError>
-    ensures { OnOk result (string_bytes text.new ≡ string_bytes text.old ++ spec.fields_part named.now) }
+    ensures { OnOk result (string_bytes text.new
+        ≡ string_bytes text.old ++ spec.fields_part named.now) }
 {
     text.push_str(CODES)?;
     push_bits(alloc, text, named)
@@ -395,7 +414,8 @@ fn push_fields_part(alloc: Global, text: &mut String, named: &NamedPlan) -> Resu
 
 /// Adds how many bits fields have.
 fn push_sizes_part(alloc: Global, text: &mut String, named: &NamedPlan) -> Result<(), AllocError>
-    ensures { OnOk result (string_bytes text.new ≡ string_bytes text.old ++ spec.sizes_part named.now) }
+    ensures { OnOk result (string_bytes text.new
+        ≡ string_bytes text.old ++ spec.sizes_part named.now) }
 {
     push_zone_sizes(alloc, text, named)?;
     text.push_str(BITS)?;
@@ -404,7 +424,8 @@ fn push_sizes_part(alloc: Global, text: &mut String, named: &NamedPlan) -> Resul
 
 /// Adds how many bits each zone has.
 fn push_zone_sizes(alloc: Global, text: &mut String, named: &NamedPlan) -> Result<(), AllocError>
-    ensures { OnOk result (string_bytes text.new ≡ string_bytes text.old ++ spec.zone_sizes named.now) }
+    ensures { OnOk result (string_bytes text.new
+        ≡ string_bytes text.old ++ spec.zone_sizes named.now) }
 {
     'zones: for zone in 0..named.zones().len() as u8 {
         push_zone_size(alloc, text, named, zone)?;
@@ -419,7 +440,8 @@ fn push_zone_size(
     named: &NamedPlan,
     zone: u8,
 ) -> Result<(), AllocError>
-    ensures { OnOk result (string_bytes text.new ≡ string_bytes text.old ++ spec.zone_size named.now zone) }
+    ensures { OnOk result (string_bytes text.new
+        ≡ string_bytes text.old ++ spec.zone_size named.now zone) }
 {
     let name = named.zones().name(zone);
     let layout = named.layout();
@@ -436,7 +458,8 @@ fn push_size(
     name: &str,
 ) -> Result<(), AllocError>
     ensures { OnOk result
-        (string_bytes text.new ≡ string_bytes text.old ++ spec.size_line layout field (kind.now ++ name.now)) }
+        (string_bytes text.new ≡ string_bytes text.old
+        ++ spec.size_line layout field (kind.now ++ name.now)) }
 {
     let word = format!(in alloc; "{kind}{name}")?;
     push_define(
@@ -449,14 +472,16 @@ fn push_size(
 
 /// Adds how many bits the word has.
 fn push_width(alloc: Global, text: &mut String, named: &NamedPlan) -> Result<(), AllocError>
-    ensures { OnOk result (string_bytes text.new ≡ string_bytes text.old ++ spec.width_line named.now) }
+    ensures { OnOk result (string_bytes text.new
+        ≡ string_bytes text.old ++ spec.width_line named.now) }
 {
     push_define(alloc, text, "bits", usize::from(named.layout().width()))
 }
 
 /// Adds the lowest bit of each field.
 fn push_bits(alloc: Global, text: &mut String, named: &NamedPlan) -> Result<(), AllocError>
-    ensures { OnOk result (string_bytes text.new ≡ string_bytes text.old ++ spec.bit_lines named.now) }
+    ensures { OnOk result (string_bytes text.new
+        ≡ string_bytes text.old ++ spec.bit_lines named.now) }
 {
     push_zone_bits(alloc, text, named)?;
     push_place_bits(alloc, text, named)?;
@@ -465,7 +490,8 @@ fn push_bits(alloc: Global, text: &mut String, named: &NamedPlan) -> Result<(), 
 
 /// Adds the lowest bit of the stamp, and the stop's.
 fn push_last_bits(alloc: Global, text: &mut String, named: &NamedPlan) -> Result<(), AllocError>
-    ensures { OnOk result (string_bytes text.new ≡ string_bytes text.old ++ spec.last_bits named.now) }
+    ensures { OnOk result (string_bytes text.new
+        ≡ string_bytes text.old ++ spec.last_bits named.now) }
 {
     push_bit(alloc, text, named.layout(), Field::Stamp, "bit_stamp", "")?;
     push_bit(alloc, text, named.layout(), Field::Stop, "bit_stop", "")
@@ -489,7 +515,8 @@ fn push_zone_bit(
     named: &NamedPlan,
     zone: u8,
 ) -> Result<(), AllocError>
-    ensures { OnOk result (string_bytes text.new ≡ string_bytes text.old ++ spec.zone_bit named.now zone) }
+    ensures { OnOk result (string_bytes text.new
+        ≡ string_bytes text.old ++ spec.zone_bit named.now zone) }
 {
     let name = named.zones().name(zone);
     push_bit(
@@ -520,7 +547,8 @@ fn push_place_bit(
     named: &NamedPlan,
     place: u8,
 ) -> Result<(), AllocError>
-    ensures { OnOk result (string_bytes text.new ≡ string_bytes text.old ++ spec.place_bit named.now place) }
+    ensures { OnOk result (string_bytes text.new
+        ≡ string_bytes text.old ++ spec.place_bit named.now place) }
 {
     let name = named.places().name(place);
     push_bit(
@@ -543,7 +571,8 @@ fn push_bit(
     name: &str,
 ) -> Result<(), AllocError>
     ensures { OnOk result
-        (string_bytes text.new ≡ string_bytes text.old ++ spec.bit_line layout field (kind.now ++ name.now)) }
+        (string_bytes text.new ≡ string_bytes text.old
+        ++ spec.bit_line layout field (kind.now ++ name.now)) }
 {
     let word = format!(in alloc; "{kind}{name}")?;
     match layout.start(field) {
@@ -556,7 +585,8 @@ fn push_bit(
 
 /// Adds the plan as bytes, for the functions of `bindings/bagunjoki_plan.h`: eight in a line.
 fn push_bytes_part(alloc: Global, text: &mut String, named: &NamedPlan) -> Result<(), AllocError>
-    ensures { OnOk result (string_bytes text.new ≡ string_bytes text.old ++ spec.bytes_part named.now) }
+    ensures { OnOk result (string_bytes text.new
+        ≡ string_bytes text.old ++ spec.bytes_part named.now) }
 {
     let bytes = bytes_in(alloc, named.plan())?;
     push_table(text, bytes.as_slice())
@@ -571,7 +601,8 @@ pub(crate) fn bytes_in(alloc: Global, plan: &Plan) -> Result<Vec<u8>, AllocError
 
 /// Adds a table of these bytes.
 fn push_table(text: &mut String, bytes: &[u8]) -> Result<(), AllocError>
-    ensures { OnOk result (string_bytes text.new ≡ string_bytes text.old ++ spec.table_text bytes.now) }
+    ensures { OnOk result (string_bytes text.new
+        ≡ string_bytes text.old ++ spec.table_text bytes.now) }
 {
     text.push_str(BYTES)?;
     push_bytes(text, bytes)?;
@@ -580,7 +611,8 @@ fn push_table(text: &mut String, bytes: &[u8]) -> Result<(), AllocError>
 
 /// Adds these bytes.
 pub(crate) fn push_bytes(text: &mut String, bytes: &[u8]) -> Result<(), AllocError>
-    ensures { OnOk result (string_bytes text.new ≡ string_bytes text.old ++ spec.byte_words bytes.now) }
+    ensures { OnOk result (string_bytes text.new
+        ≡ string_bytes text.old ++ spec.byte_words bytes.now) }
 {
     'bytes: for at in 0..bytes.len() {
         push_byte(text, bytes, at)?;
@@ -591,7 +623,8 @@ pub(crate) fn push_bytes(text: &mut String, bytes: &[u8]) -> Result<(), AllocErr
 /// Adds a byte, after a line feed before the first of each eight.
 fn push_byte(text: &mut String, bytes: &[u8], at: usize) -> Result<(), AllocError>
     requires { at < length bytes.now }
-    ensures { OnOk result (string_bytes text.new ≡ string_bytes text.old ++ spec.byte_word bytes.now at) }
+    ensures { OnOk result (string_bytes text.new
+        ≡ string_bytes text.old ++ spec.byte_word bytes.now at) }
 {
     let byte = bytes[at];
     text.push_str(if at % 8 == 0 { "\n    " } else { " " })?;

@@ -36,7 +36,8 @@ fn push_parts(text: &mut String, named: &NamedPlan, motors: &NamedMotors) -> Res
 
 /// Adds the names of machines, zones and places.
 fn push_own(text: &mut String, named: &NamedPlan) -> Result<(), AllocError>
-    ensures { OnOk result (string_bytes text.new ≡ string_bytes text.old ++ spec.own_lists named.now) }
+    ensures { OnOk result (string_bytes text.new
+        ≡ string_bytes text.old ++ spec.own_lists named.now) }
 {
     push_machines(text, named)?;
     push_zones(text, named)?;
@@ -45,28 +46,32 @@ fn push_own(text: &mut String, named: &NamedPlan) -> Result<(), AllocError>
 
 /// Adds the names of machines.
 fn push_machines(text: &mut String, named: &NamedPlan) -> Result<(), AllocError>
-    ensures { OnOk result (string_bytes text.new ≡ string_bytes text.old ++ spec.machine_list named.now) }
+    ensures { OnOk result (string_bytes text.new
+        ≡ string_bytes text.old ++ spec.machine_list named.now) }
 {
     push_list(text, "MACHINES", named.machines())
 }
 
 /// Adds the names of zones.
 fn push_zones(text: &mut String, named: &NamedPlan) -> Result<(), AllocError>
-    ensures { OnOk result (string_bytes text.new ≡ string_bytes text.old ++ spec.zone_list named.now) }
+    ensures { OnOk result (string_bytes text.new
+        ≡ string_bytes text.old ++ spec.zone_list named.now) }
 {
     push_list(text, "ZONES", named.zones())
 }
 
 /// Adds the names of places.
 fn push_places(text: &mut String, named: &NamedPlan) -> Result<(), AllocError>
-    ensures { OnOk result (string_bytes text.new ≡ string_bytes text.old ++ spec.place_list named.now) }
+    ensures { OnOk result (string_bytes text.new
+        ≡ string_bytes text.old ++ spec.place_list named.now) }
 {
     push_list(text, "PLACES", named.places())
 }
 
 /// Adds the names of poses.
 fn push_poses(text: &mut String, named: &NamedPlan) -> Result<(), AllocError>
-    ensures { OnOk result (string_bytes text.new ≡ string_bytes text.old ++ spec.pose_list named.now) }
+    ensures { OnOk result (string_bytes text.new
+        ≡ string_bytes text.old ++ spec.pose_list named.now) }
 {
     push_list(text, "POSES", named.poses())
 }
@@ -83,7 +88,8 @@ fn push_list(text: &mut String, kind: &str, names: &Names) -> Result<(), AllocEr
 
 /// Adds how a list begins.
 fn push_opened(text: &mut String, kind: &str) -> Result<(), AllocError>
-    ensures { OnOk result (string_bytes text.new ≡ string_bytes text.old ++ spec.list_opened kind.now) }
+    ensures { OnOk result (string_bytes text.new
+        ≡ string_bytes text.old ++ spec.list_opened kind.now) }
 {
     writeln!(text, "static const char *const PLAN_NAMES_OF_{kind}[] = {{")
 }
@@ -109,7 +115,8 @@ fn push_name(text: &mut String, names: &Names, number: u8) -> Result<(), AllocEr
 
 /// Adds a name.
 fn push_quoted(text: &mut String, name: &str) -> Result<(), AllocError>
-    ensures { OnOk result (string_bytes text.new ≡ string_bytes text.old ++ spec.quoted_item name.now) }
+    ensures { OnOk result (string_bytes text.new
+        ≡ string_bytes text.old ++ spec.quoted_item name.now) }
 {
     writeln!(text, "    \"{name}\",")
 }

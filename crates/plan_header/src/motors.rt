@@ -44,7 +44,8 @@ pub(crate) fn push_motors_part(
     motors: &NamedMotors,
 ) -> Result<(), AllocError>
     ensures { OnOk result (string_bytes text.new
-        ≡ string_bytes text.old ++ spec.motors_part named.now motors.now.names motors.now.motors.items) }
+        ≡ string_bytes text.old ++ spec.motors_part named.now motors.now.names
+        motors.now.motors.items) }
 {
     if motors.names.len() == 0 {
         Ok(())
@@ -77,7 +78,8 @@ fn push_motors(
     motors: &[Motor],
 ) -> Result<(), AllocError>
     ensures { OnOk result (string_bytes text.new ≡ string_bytes text.old
-        ++ flat_map (spec.mask_lines named.now names.now motors.now) (range_with_len 0 (length names.now))) }
+        ++ flat_map (spec.mask_lines named.now names.now motors.now)
+        (range_with_len 0 (length names.now))) }
 {
     'motors: for motor in 0..names.len() as u8 {
         push_motor(alloc, text, named, names, motors, motor)?;
@@ -128,7 +130,8 @@ fn push_bits(
 
 /// Adds a definition of bits of a word, of a name that is in capitals.
 fn push_bits_of(text: &mut String, capitals: &str, bits: u64) -> Result<(), AllocError>
-    ensures { OnOk result (string_bytes text.new ≡ string_bytes text.old ++ spec.bits_defined capitals.now bits) }
+    ensures { OnOk result (string_bytes text.new
+        ≡ string_bytes text.old ++ spec.bits_defined capitals.now bits) }
 {
     writeln!(text, "#define PLAN_{capitals} UINT64_C({bits})")
 }

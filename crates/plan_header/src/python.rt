@@ -50,7 +50,8 @@ fn push_module(alloc: Global, text: &mut String, plan: &ProgrammedPlan) -> Resul
 
 /// Adds the plan's bytes.
 fn push_bytes_listed(alloc: Global, text: &mut String, named: &NamedPlan) -> Result<(), AllocError>
-    ensures { OnOk result (string_bytes text.new ≡ string_bytes text.old ++ spec.bytes_listed named.now) }
+    ensures { OnOk result (string_bytes text.new
+        ≡ string_bytes text.old ++ spec.bytes_listed named.now) }
 {
     let bytes = bytes_in(alloc, named.plan())?;
     push_bytes_between(text, bytes.as_slice())
@@ -58,7 +59,8 @@ fn push_bytes_listed(alloc: Global, text: &mut String, named: &NamedPlan) -> Res
 
 /// Adds these bytes, between the beginning of the module and the names.
 fn push_bytes_between(text: &mut String, bytes: &[u8]) -> Result<(), AllocError>
-    ensures { OnOk result (string_bytes text.new ≡ string_bytes text.old ++ spec.bytes_between bytes.now) }
+    ensures { OnOk result (string_bytes text.new
+        ≡ string_bytes text.old ++ spec.bytes_between bytes.now) }
 {
     text.push_str(MODULE)?;
     push_bytes(text, bytes)?;
@@ -67,7 +69,8 @@ fn push_bytes_between(text: &mut String, bytes: &[u8]) -> Result<(), AllocError>
 
 /// Adds the names of machines, zones and places.
 fn push_kinds(text: &mut String, named: &NamedPlan) -> Result<(), AllocError>
-    ensures { OnOk result (string_bytes text.new ≡ string_bytes text.old ++ spec.names_of_kinds named.now) }
+    ensures { OnOk result (string_bytes text.new
+        ≡ string_bytes text.old ++ spec.names_of_kinds named.now) }
 {
     push_machines(text, named)?;
     push_zones(text, named)?;
@@ -76,21 +79,24 @@ fn push_kinds(text: &mut String, named: &NamedPlan) -> Result<(), AllocError>
 
 /// Adds the names of machines.
 fn push_machines(text: &mut String, named: &NamedPlan) -> Result<(), AllocError>
-    ensures { OnOk result (string_bytes text.new ≡ string_bytes text.old ++ spec.machines_listed named.now) }
+    ensures { OnOk result (string_bytes text.new
+        ≡ string_bytes text.old ++ spec.machines_listed named.now) }
 {
     push_names(text, "machines", named.machines())
 }
 
 /// Adds the names of zones.
 fn push_zones(text: &mut String, named: &NamedPlan) -> Result<(), AllocError>
-    ensures { OnOk result (string_bytes text.new ≡ string_bytes text.old ++ spec.zones_listed named.now) }
+    ensures { OnOk result (string_bytes text.new
+        ≡ string_bytes text.old ++ spec.zones_listed named.now) }
 {
     push_names(text, "zones", named.zones())
 }
 
 /// Adds the names of places.
 fn push_places(text: &mut String, named: &NamedPlan) -> Result<(), AllocError>
-    ensures { OnOk result (string_bytes text.new ≡ string_bytes text.old ++ spec.places_listed named.now) }
+    ensures { OnOk result (string_bytes text.new
+        ≡ string_bytes text.old ++ spec.places_listed named.now) }
 {
     push_names(text, "places", named.places())
 }
@@ -98,7 +104,8 @@ fn push_places(text: &mut String, named: &NamedPlan) -> Result<(), AllocError>
 /// Adds poses and motors, and how the module ends.
 fn push_parts(text: &mut String, named: &NamedPlan, motors: &NamedMotors) -> Result<(), AllocError>
     ensures { OnOk result (string_bytes text.new
-        ≡ string_bytes text.old ++ spec.names_of_parts named.now motors.now.names motors.now.motors.items) }
+        ≡ string_bytes text.old ++ spec.names_of_parts named.now motors.now.names
+        motors.now.motors.items) }
 {
     push_poses(text, named)?;
     push_motors(text, named, motors)?;
@@ -158,7 +165,8 @@ fn push_name(text: &mut String, name: &str) -> Result<(), AllocError>
 
 /// Adds the poses.
 fn push_poses(text: &mut String, named: &NamedPlan) -> Result<(), AllocError>
-    ensures { OnOk result (string_bytes text.new ≡ string_bytes text.old ++ spec.poses_listed named.now) }
+    ensures { OnOk result (string_bytes text.new
+        ≡ string_bytes text.old ++ spec.poses_listed named.now) }
 {
     push_title(text, "poses")?;
     push_each_pose(text, named)?;
@@ -178,7 +186,8 @@ fn push_each_pose(text: &mut String, named: &NamedPlan) -> Result<(), AllocError
 
 /// Adds a pose.
 fn push_pose(text: &mut String, named: &NamedPlan, pose: u8) -> Result<(), AllocError>
-    ensures { OnOk result (string_bytes text.new ≡ string_bytes text.old ++ spec.pose_item named.now pose) }
+    ensures { OnOk result (string_bytes text.new
+        ≡ string_bytes text.old ++ spec.pose_item named.now pose) }
 {
     let machine = named.machines().name(named.plan().pose(pose).machine);
     let name = named.poses().name(pose);
@@ -188,7 +197,8 @@ fn push_pose(text: &mut String, named: &NamedPlan, pose: u8) -> Result<(), Alloc
 /// Adds the motors.
 fn push_motors(text: &mut String, named: &NamedPlan, motors: &NamedMotors) -> Result<(), AllocError>
     ensures { OnOk result (string_bytes text.new
-        ≡ string_bytes text.old ++ spec.motors_listed named.now motors.now.names motors.now.motors.items) }
+        ≡ string_bytes text.old ++ spec.motors_listed named.now motors.now.names
+        motors.now.motors.items) }
 {
     push_motors_with(text, named, &motors.names, &motors.motors)
 }
@@ -216,7 +226,8 @@ fn push_each_motor(
     motors: &[Motor],
 ) -> Result<(), AllocError>
     ensures { OnOk result (string_bytes text.new ≡ string_bytes text.old
-        ++ flat_map (spec.motor_item named.now names.now motors.now) (range_with_len 0 (length names.now))) }
+        ++ flat_map (spec.motor_item named.now names.now motors.now)
+        (range_with_len 0 (length names.now))) }
 {
     'motors: for motor in 0..names.len() as u8 {
         push_motor(text, named, names, motors, motor)?;

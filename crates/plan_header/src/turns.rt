@@ -70,7 +70,8 @@ fn push_turns(
 
 /// Adds the bits of motors.
 fn push_motors(alloc: Global, text: &mut String, motors: &Names) -> Result<(), AllocError>
-    ensures { OnOk result (string_bytes text.new ≡ string_bytes text.old ++ spec.motor_lines motors.now) }
+    ensures { OnOk result (string_bytes text.new
+        ≡ string_bytes text.old ++ spec.motor_lines motors.now) }
 {
     text.push_str(BITS)?;
     push_numbers(alloc, text, "motor", motors)
@@ -86,7 +87,8 @@ fn push_all_sensors(
     sensors: &[Names],
 ) -> Result<(), AllocError>
     ensures { OnOk result (string_bytes text.new ≡ string_bytes text.old
-        ++ flat_map (spec.sensor_lines named.now sensors.now) (range_with_len 0 (length named.now.machines))) }
+        ++ flat_map (spec.sensor_lines named.now sensors.now)
+        (range_with_len 0 (length named.now.machines))) }
 {
     'machines: for machine in 0..named.machines().len() as u8 {
         push_sensors(alloc, text, named, sensors, machine)?;
@@ -143,7 +145,8 @@ fn push_sensor(
     sensor: u8,
 ) -> Result<(), AllocError>
     ensures { OnOk result
-        (string_bytes text.new ≡ string_bytes text.old ++ spec.sensor_line named.now sensors.now machine sensor) }
+        (string_bytes text.new ≡ string_bytes text.old
+        ++ spec.sensor_line named.now sensors.now machine sensor) }
 {
     let word = sensor_own(alloc, named, sensors, machine, sensor)?;
     push_define(alloc, text, word.as_str(), usize::from(sensor))
@@ -303,7 +306,8 @@ fn program_word(alloc: Global, named: &NamedPlan, machine: u8) -> Result<String,
 
 /// Adds how a program begins, by its name.
 fn push_opened_by(alloc: Global, text: &mut String, name: &str) -> Result<(), AllocError>
-    ensures { OnOk result (string_bytes text.new ≡ string_bytes text.old ++ spec.program_opened_by name.now) }
+    ensures { OnOk result (string_bytes text.new
+        ≡ string_bytes text.old ++ spec.program_opened_by name.now) }
 {
     let capitals = capitals_of(alloc, name)?;
     push_opened_with(text, capitals.as_str())
@@ -329,7 +333,8 @@ fn push_closed(
     count: usize,
 ) -> Result<(), AllocError>
     ensures { OnOk result
-        (string_bytes text.new ≡ string_bytes text.old ++ spec.program_closed named.now machine count) }
+        (string_bytes text.new ≡ string_bytes text.old
+        ++ spec.program_closed named.now machine count) }
 {
     text.push_str("};\n")?;
     push_count(alloc, text, named, machine, count)

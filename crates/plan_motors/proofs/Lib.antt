@@ -6,3 +6,5 @@ mod RunRows
 mod NeedRows
 mod PoseRows
 mod PartRows
+mod SpaceRows
+mod PlainMotors

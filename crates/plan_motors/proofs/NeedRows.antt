@@ -9,7 +9,7 @@ use Rattle.plan_rules.specs.Examples.{press_start, full_press}
 use Rattle.plan_word.specs.Examples.{lifted}
 use Rattle.plan_motors.specs.declared.exclusion.Cause.TheVariants.{Zone}
 use Rattle.plan_motors.specs.Motor.{need_of, place_need, meets, meets_place, Permits}
-use Rattle.plan_motors.specs.Decided.{IsShown}
+use Rattle.plan_motors.specs.Decided.{SharesSpace, KeepsRules, IsShown}
 use Rattle.plan_motors.specs.declared.exclusion.Exclusion.TheVariants.{Excluded}
 use Rattle.plan_motors.specs.Exclusion.{state_for}
 use Rattle.plan_motors.specs.Examples.{owned, ram, arm, loading_arm, valve, upper_gate}
@@ -50,8 +50,18 @@ permits_are_right = record {
 moves_lawfully : IsLawfulZone press_table 0 (owned (Some 1) Moving)
 moves_lawfully = record { owner_is_party = refl; flag_has_transfer = refl; guest_only_while_open = refl; moving_belongs_to_host = refl }
 
+-- the press has one zone
+one_zone : (P : ℕ → Type 0) → P 0 → (z : ℕ) → SharesSpace press_table 0 z → P z
+one_zone P e zero o = e
+one_zone P e (suc z) o = let few : suc z < 1 = o.there in absurd (omega (arith, few))
+
+moves_alone : KeepsRules press_table 0 (λ z. owned (Some 1) Moving)
+moves_alone = record { lawful = one_zone (λ z. IsLawfulZone press_table z (owned (Some 1) Moving)) moves_lawfully; owner = λ y o. refl; motion = λ y o. refl }
+
 no_zone_parts : ¬ IsShown press_table ram valve (Excluded (Zone 0))
-no_zone_parts k = k.1 (owned (Some 1) Moving) moves_lawfully refl refl
+no_zone_parts k =
+    k.1 (λ z. owned (Some 1) Moving) moves_alone (one_zone (λ z. IsTrue (meets 1 (need_of ram z) (owned (Some 1) Moving))) refl)
+    (one_zone (λ z. IsTrue (meets 1 (need_of valve z) (owned (Some 1) Moving))) refl)
 
 ram_runs : Permits press_table (state_after moves) ram
 ram_runs = press_permits (state_after moves) ram refl refl refl

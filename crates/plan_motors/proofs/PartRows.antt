@@ -64,8 +64,8 @@ exclusion_parts = record {
 mask_parts : MaskParts
 mask_parts = record {
   zones = refl;
-  parties = refl;
-  parties_below = refl;
+  owners = refl;
+  owners_below = refl;
   postures = refl;
   patterns = refl;
   place_masks = refl;

@@ -1,6 +1,8 @@
 -- What it means that two motors exclude each other, and what shows that they don't.
-use Rattle.std.specs.Prelude.{ℕ, ◌<◌, Bool, true, false, IsTrue}
-use Rattle.plan_types.specs.Table.{PlanTable, zone_count, place_count}
+use Rattle.std.specs.Prelude.{◌≡◌, ℕ, ◌<◌, Bool, true, false, IsTrue}
+use Rattle.plan_types.specs.declared.posture.Posture.TheVariants.{Moving}
+use Rattle.plan_types.specs.Same.{same_posture}
+use Rattle.plan_types.specs.Table.{PlanTable, zone_count, place_count, space_of}
 use Rattle.plan_rules.specs.declared.state.ZoneState.{ZoneState}
 use Rattle.plan_rules.specs.declared.state.State.{State}
 use Rattle.plan_rules.specs.Sound.{IsSound, IsLawfulZone}
@@ -15,11 +17,25 @@ use Rattle.plan_motors.specs.Motor.{need_of, place_need, meets, meets_place, Per
 abbrev pub NeverBoth : PlanTable → Motor → Motor → Type 0
 NeverBoth t a b = (s : State) → IsSound t s → Permits t s a → ¬ Permits t s b
 
--- a zone that keeps the rules is never as both need it
+-- a zone of the space of another one
+pub record SharesSpace (t : PlanTable) (z y : ℕ) : Type 0 where
+  pub there : y < zone_count t
+  pub same : space_of t y ≡ space_of t z
+
+-- the zones of a space keep the rules: each of them is lawful, they have one owner, and all of them move, or none
+pub record KeepsRules (t : PlanTable) (z : ℕ) (v : ℕ → ZoneState) : Type 0 where
+  pub lawful : (y : ℕ) → SharesSpace t z y → IsLawfulZone t y (v y)
+  pub owner : (y : ℕ) → SharesSpace t z y → (v y).owner ≡ (v z).owner
+  pub motion : (y : ℕ) → SharesSpace t z y → same_posture (v y).posture Moving ≡ same_posture (v z).posture Moving
+
+-- each zone of a space is as a motor needs it
+abbrev pub MeetsSpace : PlanTable → Motor → ℕ → (ℕ → ZoneState) → Type 0
+MeetsSpace t m z v = (y : ℕ) → SharesSpace t z y → IsTrue (meets m.machine (need_of m y) (v y))
+
+-- a zone that keeps the rules is never as both need it, if its space is no other one's; else it and the others of its
+-- space never are
 abbrev pub IsApartByZone : PlanTable → Motor → Motor → ℕ → Type 0
-IsApartByZone t a b z =
-    (v : ZoneState) → IsLawfulZone t z v → IsTrue (meets a.machine (need_of a z) v)
-    → ¬ IsTrue (meets b.machine (need_of b z) v)
+IsApartByZone t a b z = (v : ℕ → ZoneState) → KeepsRules t z v → MeetsSpace t a z v → ¬ MeetsSpace t b z v
 
 -- a place is never as both need it
 abbrev pub IsApartByPlace : Motor → Motor → ℕ → Type 0

@@ -1,5 +1,5 @@
 -- Whether two motors exclude each other, computed zone by zone and place by place.
-use Rattle.std.specs.Prelude.{ℕ, Bool, true, false, ◌&&◌, ◌||◌, not, nat_lt, map, Option, Some, None, is_none}
+use Rattle.std.specs.Prelude.{ℕ, Bool, true, false, ◌&&◌, not, nat_lt, map, Option, Some, None}
 use Rattle.std.specs.Prelude.{unwrap_or, if◌then◌else◌}
 use Rattle.std.specs.Option.{option_or}
 use Rattle.std.specs.Bool.{then_some}
@@ -7,12 +7,12 @@ use Rattle.std.specs.List.{range_with_len}
 use Rattle.plan_types.specs.declared.posture.Posture.{Posture}
 use Rattle.plan_types.specs.declared.posture.Posture.TheVariants.{Closed, Moving, OpenIn}
 use Rattle.plan_types.specs.Same.{same_posture}
-use Rattle.plan_types.specs.Below.{first_below}
-use Rattle.plan_types.specs.Table.{PlanTable, zone_count, place_count, host_of, guest_of, is_moving}
+use Rattle.plan_types.specs.Below.{first_below, any_below}
+use Rattle.plan_types.specs.Table.{PlanTable, zone_count, place_count, host_of, guest_of, is_moving, same_space}
 use Rattle.plan_rules.specs.declared.state.ZoneState.{ZoneState}
 use Rattle.plan_rules.specs.declared.state.State.{State}
 use Rattle.plan_rules.specs.State.{free_zone}
-use Rattle.plan_rules.specs.Sound.{implies, is_open, is_owned_by}
+use Rattle.plan_rules.specs.Sound.{implies, is_open, is_owned_by, is_entrant}
 use Rattle.plan_motors.specs.declared.motor.Motor.{Motor}
 use Rattle.plan_motors.specs.declared.exclusion.Cause.{Cause}
 use Rattle.plan_motors.specs.declared.exclusion.Cause.TheVariants.{Zone, Place}
@@ -26,6 +26,23 @@ owner_needed a b z =
 abbrev pub posture_needed : Motor → Motor → ℕ → Option Posture
 posture_needed a b z = option_or (need_of a z).posture (need_of b z).posture
 
+-- a space has one owner, the one that they need of its first zone of which they need one; and it moves as a whole, if
+-- they need some zone of it to move
+abbrev pub owner_near : PlanTable → Motor → Motor → ℕ → ℕ → Option ℕ
+owner_near t a b z y = if same_space t y z then owner_needed a b y else None
+
+abbrev pub owner_in : PlanTable → Motor → Motor → ℕ → Option ℕ
+owner_in t a b z = first_below (owner_near t a b z) (zone_count t)
+
+abbrev pub moves_near : PlanTable → Motor → Motor → ℕ → ℕ → Bool
+moves_near t a b z y = same_space t y z && is_moving (posture_needed a b y)
+
+abbrev pub moves_in : PlanTable → Motor → Motor → ℕ → Bool
+moves_in t a b z = any_below (moves_near t a b z) (zone_count t)
+
+abbrev pub motion_in : PlanTable → Motor → Motor → ℕ → Option Posture
+motion_in t a b z = then_some (moves_in t a b z) Moving
+
 -- where no owner is needed, a zone that moves is its host's, and any other is free; where no posture is, a zone is open
 -- to its guest, and closed to others
 abbrev pub owner_for : PlanTable → ℕ → Option ℕ → Option Posture → Option ℕ
@@ -34,18 +51,18 @@ owner_for t z owner posture = option_or owner (then_some (is_moving posture) (ho
 abbrev pub posture_for : PlanTable → ℕ → Option ℕ → Option Posture → Posture
 posture_for t z owner posture = unwrap_or posture (if is_owned_by owner (guest_of t z) then OpenIn else Closed)
 
--- what two motors need of a zone, put together
+-- what two motors need of a zone and of its space, put together
 abbrev pub zone_for : PlanTable → Motor → Motor → ℕ → ZoneState
 zone_for t a b z = record {
-  owner = owner_for t z (owner_needed a b z) (posture_needed a b z);
+  owner = owner_for t z (owner_in t a b z) (motion_in t a b z);
   flag = false;
-  posture = posture_for t z (owner_needed a b z) (posture_needed a b z);
+  posture = posture_for t z (owner_in t a b z) (option_or (motion_in t a b z) (posture_needed a b z));
 }
 
 -- the rules of a zone without a plate
 abbrev pub is_lawful : PlanTable → ℕ → ZoneState → Bool
 is_lawful t z v =
-    (is_none v.owner || is_owned_by v.owner (host_of t z) || is_owned_by v.owner (guest_of t z))
+    is_entrant t z v.owner
     && implies (is_owned_by v.owner (guest_of t z)) (is_open v.posture)
     && implies (same_posture v.posture Moving) (is_owned_by v.owner (host_of t z))
 

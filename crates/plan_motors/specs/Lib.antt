@@ -7,9 +7,11 @@ pub mod OfPlan
 pub mod MotorPlan
 pub mod Faults
 pub mod Laws
+pub mod PlainMotors
 pub mod Mask
 pub mod Examples
 pub mod RunExamples
 pub mod NeedExamples
 pub mod PoseExamples
 pub mod PartExamples
+pub mod SpaceExamples

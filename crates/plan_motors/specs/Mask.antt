@@ -1,19 +1,18 @@
 -- The bits of a plan's word that a motor needs, as a mask and a pattern.
-use Rattle.std.specs.Prelude.{◌≡◌, ℕ, ◌+◌, ◌-◌, ◌*◌, ◌^◌, Bool, false, ◌||◌, not, nat_eq, bit_and, List, get_or}
+use Rattle.std.specs.Prelude.{◌≡◌, ℕ, ◌+◌, ◌-◌, ◌*◌, ◌^◌, Bool, false, ◌&&◌, ◌||◌, not, nat_eq, bit_and, List, get_or}
 use Rattle.std.specs.Prelude.{Option, Some, None, is_some}
 use Rattle.std.specs.Prelude.{if◌then◌else◌}
 use Rattle.plan_types.specs.declared.posture.Posture.{Posture}
 use Rattle.plan_types.specs.declared.shape.Postures.{Postures}
 use Rattle.plan_types.specs.declared.shape.ZoneShape.{ZoneShape}
-use Rattle.plan_types.specs.Below.{sum_below}
-use Rattle.plan_types.specs.Table.{PlanTable, zone_count, place_count, host_of, guest_of, flag_bits, posture_bits}
-use Rattle.plan_types.specs.Table.{postures_of, zone_shape}
+use Rattle.plan_types.specs.Below.{any_below, sum_below}
+use Rattle.plan_types.specs.Table.{PlanTable, zone_count, place_count, same_space, enters, owner_bits, flag_bits}
+use Rattle.plan_types.specs.Table.{posture_bits, postures_of, zone_shape}
 use Rattle.plan_rules.specs.State.{one_if}
 use Rattle.plan_word.specs.declared.layout.Field.TheVariants.{Zone, Place}
 use Rattle.plan_word.specs.Layout.{counts_of, start_of}
 use Rattle.plan_word.specs.OfPlan.{can_have}
-use Rattle.plan_word.specs.Packed.{code_of}
-use Rattle.plan_motors.specs.declared.motor.ZoneNeed.{ZoneNeed}
+use Rattle.plan_word.specs.Packed.{owner_part, code_of}
 use Rattle.plan_motors.specs.declared.motor.Motor.{Motor}
 use Rattle.plan_motors.specs.declared.mask.MotorMask.{MotorMask}
 use Rattle.plan_motors.specs.Motor.{need_of, place_need}
@@ -23,38 +22,58 @@ abbrev pub is_never : ZoneShape → Option Posture → Bool
 is_never s None = false
 is_never s (Some q) = not (can_have (postures_of s) q)
 
--- the two lowest bits of a zone tell its owner; its posture's begin above its flag
+-- the lowest bits of a space's first zone tell its owner; a zone's posture begins above its flag
 abbrev pub posture_start : ZoneShape → ℕ
-posture_start s = 2 + flag_bits s.flag
+posture_start s = owner_bits s.guests + flag_bits s.flag
 
-abbrev pub owner_mask : ZoneShape → ZoneNeed → ℕ
-owner_mask s need = if need.holds || is_never s need.posture then 3 else 0
+-- a motor has to hold a zone of a space
+abbrev pub holds_near : PlanTable → Motor → ℕ → ℕ → Bool
+holds_near t m z y = same_space t y z && (need_of m y).holds
+
+abbrev pub holds_in : PlanTable → Motor → ℕ → Bool
+holds_in t m z = any_below (holds_near t m z) (zone_count t)
+
+-- the space is never as it needs it: a zone never has the posture, or its machine would hold what it can't enter
+abbrev pub never_near : PlanTable → Motor → ℕ → ℕ → Bool
+never_near t m z y = same_space t y z && is_never (zone_shape t y) (need_of m y).posture
+
+abbrev pub never_in : PlanTable → Motor → ℕ → Bool
+never_in t m z = any_below (never_near t m z) (zone_count t) || (holds_in t m z && not (enters t m.machine z))
+
+-- the bits that tell the owner, if one is needed. What never is has the spare code 3 of one guest's space; where there
+-- may be no spare code, it has a pattern outside of its mask
+abbrev pub all_owners : ZoneShape → ℕ
+all_owners s = 2 ^ owner_bits s.guests - 1
+
+abbrev pub owner_mask : ZoneShape → Bool → Bool → ℕ
+owner_mask s holds never =
+    if never then (if nat_eq s.guests 1 then all_owners s else 0) else if holds then all_owners s else 0
+
+abbrev pub owner_pattern : ZoneShape → ℕ → Bool → Bool → ℕ
+owner_pattern s owner holds never = if never then all_owners s else if holds then owner else 0
 
 abbrev pub posture_mask : Postures → Option Posture → ℕ
 posture_mask p None = 0
 posture_mask p (Some q) = 2 ^ posture_bits p - 1
 
-abbrev pub zone_mask : ZoneShape → ZoneNeed → ℕ
-zone_mask s need = owner_mask s need + posture_mask (postures_of s) need.posture * 2 ^ posture_start s
-
--- the code by which a zone's bits tell that a machine owns it; 3, which no state has, where it is no party
-abbrev pub party_code : PlanTable → ℕ → ℕ → ℕ
-party_code t z m = if nat_eq m (host_of t z) then 1 else if nat_eq m (guest_of t z) then 2 else 3
-
--- 3 too where the zone never has the posture
-abbrev pub owner_pattern : ZoneShape → ℕ → ZoneNeed → ℕ
-owner_pattern s party need = if is_never s need.posture then 3 else if need.holds then party else 0
-
 abbrev pub posture_pattern : Postures → Option Posture → ℕ
 posture_pattern p None = 0
 posture_pattern p (Some q) = code_of p q
 
-abbrev pub pattern_in : ZoneShape → ℕ → ZoneNeed → ℕ
-pattern_in s party need =
-    owner_pattern s party need + posture_pattern (postures_of s) need.posture * 2 ^ posture_start s
+-- a zone's bits
+abbrev pub bits_with : ZoneShape → ℕ → ℕ → ℕ
+bits_with s owner posture = owner + posture * 2 ^ posture_start s
 
-abbrev pub zone_pattern : PlanTable → ℕ → ℕ → ZoneNeed → ℕ
-zone_pattern t z m need = pattern_in (zone_shape t z) (party_code t z m) need
+abbrev pub zone_mask : PlanTable → Motor → ℕ → ℕ
+zone_mask t m z =
+    bits_with (zone_shape t z) (owner_mask (zone_shape t z) (holds_in t m z) (never_in t m z))
+    (posture_mask (postures_of (zone_shape t z)) (need_of m z).posture)
+
+abbrev pub zone_pattern : PlanTable → Motor → ℕ → ℕ
+zone_pattern t m z =
+    bits_with (zone_shape t z)
+    (owner_pattern (zone_shape t z) (owner_part t z (Some m.machine)) (holds_in t m z) (never_in t m z))
+    (posture_pattern (postures_of (zone_shape t z)) (need_of m z).posture)
 
 abbrev pub place_mask : Option Bool → ℕ
 place_mask need = one_if (is_some need)
@@ -65,12 +84,10 @@ place_pattern (Some full) = one_if full
 
 -- the bits of the zones, and of the places, below a number
 abbrev pub zone_masks : PlanTable → Motor → ℕ → ℕ
-zone_masks t m n =
-    sum_below (λ z. zone_mask (zone_shape t z) (need_of m z) * 2 ^ start_of (counts_of t) (Zone z)) n
+zone_masks t m n = sum_below (λ z. zone_mask t m z * 2 ^ start_of (counts_of t) (Zone z)) n
 
 abbrev pub zone_patterns : PlanTable → Motor → ℕ → ℕ
-zone_patterns t m n =
-    sum_below (λ z. zone_pattern t z m.machine (need_of m z) * 2 ^ start_of (counts_of t) (Zone z)) n
+zone_patterns t m n = sum_below (λ z. zone_pattern t m z * 2 ^ start_of (counts_of t) (Zone z)) n
 
 abbrev pub place_masks : PlanTable → Motor → ℕ → ℕ
 place_masks t m n = sum_below (λ p. place_mask (place_need m p) * 2 ^ start_of (counts_of t) (Place p)) n

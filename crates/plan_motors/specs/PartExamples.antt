@@ -16,7 +16,6 @@ use Rattle.plan_motors.specs.Exclusion as excluding
 use Rattle.plan_motors.specs.Decided.{IsShown, IsApartByPlace}
 use Rattle.plan_motors.specs.Laws.{LosesPermission, KeepsPermission, MayStillRun, MayRun}
 use Rattle.plan_types.specs.declared.shape.Postures.TheVariants.{All}
-use Rattle.plan_word.specs.Layout.{wide_shape}
 use Rattle.plan_motors.specs.Mask as masks
 use Rattle.plan_motors.specs.Poses as poses
 use Rattle.plan_motors.specs.Examples.{owned, held, hosted, motor, at_zone, at_place, hazard, ram, arm, loading_arm}
@@ -85,12 +84,16 @@ pub record ExclusionParts : Type 0 where
       ≡ false ∷ true ∷ false ∷ false ∷ []
 
 pub record MaskParts : Type 0 where
-  pub zones : map (masks.zone_mask wide_shape) needs ≡ 0 ∷ 3 ∷ 24 ∷ 27 ∷ []
-  pub parties : map (masks.party_code lift_table 1) (0 ∷ 1 ∷ 2 ∷ []) ≡ 1 ∷ 3 ∷ 2 ∷ []
-  pub parties_below : map (masks.party_code lift_table 0) (0 ∷ 1 ∷ 2 ∷ []) ≡ 1 ∷ 2 ∷ 3 ∷ []
+  pub zones : map (λ need. masks.zone_mask lift_table (motor 0 need no_need None None) 0) needs ≡ 0 ∷ 3 ∷ 24 ∷ 27 ∷ []
+  -- the host, the guest, and who is neither, hold the upper zone, and the lower one
+  pub owners : map (λ m. masks.zone_pattern lift_table (motor m no_need (held None) None None) 1) (0 ∷ 1 ∷ 2 ∷ [])
+      ≡ 1 ∷ 3 ∷ 2 ∷ []
+  pub owners_below : map (λ m. masks.zone_pattern lift_table (motor m (held None) no_need None None) 0) (0 ∷ 1 ∷ 2 ∷ [])
+      ≡ 1 ∷ 2 ∷ 3 ∷ []
   pub postures : map (masks.posture_pattern All) (None ∷ Some Closed ∷ Some Moving ∷ Some OpenIn ∷ Some OpenOut ∷ [])
       ≡ 0 ∷ 0 ∷ 1 ∷ 2 ∷ 3 ∷ []
-  pub patterns : map (masks.zone_pattern lift_table 1 2) needs ≡ 0 ∷ 2 ∷ 24 ∷ 10 ∷ []
+  pub patterns : map (λ need. masks.zone_pattern lift_table (motor 2 no_need need None None) 1) needs
+      ≡ 0 ∷ 2 ∷ 24 ∷ 10 ∷ []
   pub place_masks : map masks.place_mask (None ∷ Some false ∷ Some true ∷ []) ≡ 0 ∷ 1 ∷ 1 ∷ []
   pub place_patterns : map masks.place_pattern (None ∷ Some false ∷ Some true ∷ []) ≡ 0 ∷ 0 ∷ 1 ∷ []
   -- by how many zones, and places

@@ -5,6 +5,7 @@ ghost use Rattle.plan_motors.specs.Examples.{CausesAreRight, StatesForBoth, Mask
 ghost use Rattle.plan_motors.specs.RunExamples.{RunsAreRight};
 ghost use Rattle.plan_motors.specs.NeedExamples.{NeedsAreRight, PermitsAreRight, BadAnswers, AnswersTell};
 ghost use Rattle.plan_motors.specs.PartExamples.{PartsAreRight};
+ghost use Rattle.plan_motors.specs.SpaceExamples.{SpaceCauses, SpaceMasks, SpacePermits, SpaceFaults};
 ghost use Rattle.plan_motors.specs.PoseExamples.{GatesAreApart, PosesLeadOn, PosesAreTaken, PosturesAreOf};
 
 use crate::motor::{Motor, NO_NEED, ZoneNeed};
@@ -104,3 +105,12 @@ pub fn poses_are_right()
 {
     lawful_histories();
 }
+
+/// Of a press with two robots, whose zones are of one space: what keeps its motors apart, which bits they look at, which
+/// states permit them, and which don't fit.
+pub fn spaces_are_met()
+    ensures causes { SpaceCauses }
+    ensures masks { SpaceMasks }
+    ensures permits { SpacePermits }
+    ensures faults { SpaceFaults }
+{}

@@ -6,6 +6,7 @@ ghost use Rattle.plan_types.specs.Table.{zone_count, place_count};
 ghost use Rattle.plan_motors.specs.Exclusion as excluding;
 ghost use Rattle.plan_motors.specs.Decided.{NeverBoth, IsShown, is_excluded};
 
+use crate::entering::enters;
 use crate::motor::{Motor, meets};
 use plan_rules::{State, ZoneState};
 use plan_types::{MAX_PLACES, MAX_ZONES, Plan, Posture};
@@ -13,7 +14,7 @@ use plan_types::{MAX_PLACES, MAX_ZONES, Plan, Posture};
 /// Why no sound state permits two motors.
 #[derive(Clone, Copy, Debug, PartialEq, Eq)]
 pub enum Cause {
-    /// This zone is never as both need it.
+    /// This zone, with the others of its space, is never as both need it.
     Zone(u8),
     /// This place would have to be full and empty.
     Place(u8),
@@ -55,6 +56,52 @@ fn posture_needed(first: &Motor, second: &Motor, zone: u8) -> Option<Posture>
         .or(second.zone_need(zone).posture)
 }
 
+fn owner_near(plan: &Plan, first: &Motor, second: &Motor, zone: u8, other: u8) -> Option<u8>
+    ensures { result ≡ excluding.owner_near plan.now first.now second.now zone other }
+{
+    if plan.same_space(other, zone) {
+        owner_needed(first, second, other)
+    } else {
+        None
+    }
+}
+
+/// The owner that two motors need of the space of a zone.
+#[tactic(auto, using(plan_types::proofs::lemmas::Below::first_below_more))]
+fn owner_in(plan: &Plan, first: &Motor, second: &Motor, zone: u8) -> Option<u8>
+    ensures { result ≡ excluding.owner_in plan.now first.now second.now zone }
+{
+    let mut owner = None;
+    for other in 0..plan.zone_count() {
+        owner = owner.or(owner_near(plan, first, second, zone, other));
+    }
+    owner
+}
+
+fn moves_near(plan: &Plan, first: &Motor, second: &Motor, zone: u8, other: u8) -> bool
+    ensures { result ≡ excluding.moves_near plan.now first.now second.now zone other }
+{
+    plan.same_space(other, zone) && posture_needed(first, second, other) == Some(Posture::Moving)
+}
+
+#[tactic(auto, using(plan_types::proofs::lemmas::Below::any_below_more))]
+fn moves_in(plan: &Plan, first: &Motor, second: &Motor, zone: u8) -> bool
+    ensures { result ≡ excluding.moves_in plan.now first.now second.now zone }
+{
+    let mut moves = false;
+    for other in 0..plan.zone_count() {
+        moves = moves || moves_near(plan, first, second, zone, other);
+    }
+    moves
+}
+
+/// The posture that a zone has to have since two motors need its space to move.
+fn motion_in(plan: &Plan, first: &Motor, second: &Motor, zone: u8) -> Option<Posture>
+    ensures { result ≡ excluding.motion_in plan.now first.now second.now zone }
+{
+    moves_in(plan, first, second, zone).then_some(Posture::Moving)
+}
+
 pub(crate) fn owner_for(
     plan: &Plan,
     zone: u8,
@@ -78,14 +125,15 @@ fn posture_for(plan: &Plan, zone: u8, owner: Option<u8>, posture: Option<Posture
     })
 }
 
-/// What two motors need of a zone, put together.
+/// What two motors need of a zone and of its space, put together.
 fn zone_for(plan: &Plan, first: &Motor, second: &Motor, zone: u8) -> ZoneState
     ensures { result ≡ excluding.zone_for plan.now first.now second.now zone }
 {
-    let owner = owner_needed(first, second, zone);
-    let posture = posture_needed(first, second, zone);
+    let owner = owner_in(plan, first, second, zone);
+    let motion = motion_in(plan, first, second, zone);
+    let posture = motion.or(posture_needed(first, second, zone));
     ZoneState {
-        owner: owner_for(plan, zone, owner, posture),
+        owner: owner_for(plan, zone, owner, motion),
         flag: false,
         posture: posture_for(plan, zone, owner, posture),
     }
@@ -96,12 +144,14 @@ fn is_lawful(plan: &Plan, zone: u8, at: ZoneState) -> bool
     ensures { result ≡ excluding.is_lawful plan.now zone at }
 {
     let row = plan.zone(zone);
+    let enters = match at.owner {
+        Some(owner) => enters(plan, owner, zone),
+        None => true,
+    };
     let hosts = at.owner == Some(row.host);
     let visits = at.owner == Some(row.guest);
     let open = matches!(at.posture, Posture::OpenIn | Posture::OpenOut);
-    (at.owner.is_none() || hosts || visits)
-        && (!visits || open)
-        && (at.posture != Posture::Moving || hosts)
+    enters && (!visits || open) && (at.posture != Posture::Moving || hosts)
 }
 
 pub(crate) fn is_shared(plan: &Plan, first: &Motor, second: &Motor, zone: u8, at: ZoneState) -> bool

@@ -12,12 +12,13 @@ ghost use Rattle.plan_motors.specs.Mask.{allows, IsMaskOf};
 ghost use Rattle.plan_motors.specs.Decided.{NeverBoth};
 ghost use Rattle.plan_motors.specs.OfPlan.{IsMotorOf};
 ghost use Rattle.plan_motors.specs.Poses.{NeverFrom, HasPosturesOf};
+ghost use Rattle.plan_motors.specs.PlainMotors.{PlainMotorsStay};
 ghost use Rattle.plan_motors.specs.Laws.{LosesPermission, KeepsPermission, MayStillRun, MayRun};
 
 use crate::mask::MotorMask;
 use crate::motor::Motor;
 use plan_rules::State;
-use plan_rules::laws::lawful_histories;
+use plan_rules::laws::{lawful_histories, plain_plans_stay};
 use plan_types::{Call, Event, Plan};
 use plan_word::laws::words_are_laid_out;
 
@@ -180,3 +181,11 @@ pub fn starts_are_alike(plan: &Plan, one: &State, other: &State)
     requires other { IsStart other.now }
     ensures { HasPosturesOf plan.now one.now other.now }
 {}
+
+/// Where no zone joins the one before it, motors need each zone by itself: what keeps two of them apart, and which bits
+/// of a zone one looks at.
+pub fn plain_motors_stay()
+    ensures { PlainMotorsStay }
+{
+    plain_plans_stay();
+}

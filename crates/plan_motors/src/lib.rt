@@ -2,6 +2,7 @@
 #![tactic(auto)]
 
 mod check;
+mod entering;
 pub mod examples;
 pub mod exclusion;
 pub mod fault;

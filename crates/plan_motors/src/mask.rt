@@ -3,17 +3,23 @@ ghost use Rattle.std.specs.Prelude.{◌≡◌, ℕ, ◌+◌, ◌*◌, ◌/◌, �
 ghost use Rattle.plan_rules.specs.State.{one_if};
 ghost use Rattle.plan_types.specs.Table.{PlanTable, zone_count, place_count};
 ghost use Rattle.plan_rules.specs.declared.state.State.{State};
-ghost use Rattle.plan_types.specs.Table.{posture_bits, postures_of, shape_bits, zone_shape};
-ghost use Rattle.plan_word.specs.Layout.{counts_of};
+ghost use Rattle.plan_types.specs.Below.{any_below};
+ghost use Rattle.plan_types.specs.Table.{owner_bits, posture_bits, postures_of};
+ghost use Rattle.plan_types.specs.Table.{shape_bits, zone_shape};
+ghost use Rattle.plan_word.specs.declared.layout.Field.TheVariants.{Zone};
+ghost use Rattle.plan_word.specs.Layout.{bits_of, counts_of};
+ghost use Rattle.plan_word.specs.Packed as packing;
 ghost use Rattle.plan_word.specs.Packed.{packed};
 ghost use Rattle.plan_word.specs.OfPlan.{IsOfPlan};
 ghost use Rattle.plan_motors.specs.Motor.{Permits};
 ghost use Rattle.plan_motors.specs.Mask as masks;
 
-use crate::motor::{Motor, ZoneNeed};
+use crate::entering::enters;
+use crate::motor::Motor;
+use plan_rules::ZoneState;
 use plan_types::{Plan, Posture, Postures, ZoneShape};
 use plan_word::laws::words_are_laid_out;
-use plan_word::{Field, Layout, can_have, code_of};
+use plan_word::{Field, Layout, can_have, code_of, zone_code};
 
 /// Which bits of a plan's word a motor looks at, and what they have to be.
 #[derive(Clone, Copy, Debug, PartialEq, Eq)]
@@ -46,12 +52,79 @@ fn is_never(shape: ZoneShape, posture: Option<Posture>) -> bool
     }
 }
 
-fn owner_mask(shape: ZoneShape, need: ZoneNeed) -> u64
-    ensures mask { result ≡ masks.owner_mask shape need }
-    ensures fits { result < 4 }
+fn holds_near(plan: &Plan, motor: &Motor, zone: u8, other: u8) -> bool
+    ensures { result ≡ masks.holds_near plan.now motor.now zone other }
 {
-    if need.holds || is_never(shape, need.posture) {
-        0b11
+    plan.same_space(other, zone) && motor.zone_need(other).holds
+}
+
+/// Whether a motor has to hold a zone of a space.
+#[tactic(auto, using(plan_types::proofs::lemmas::Below::any_below_more))]
+fn holds_in(plan: &Plan, motor: &Motor, zone: u8) -> bool
+    ensures { result ≡ masks.holds_in plan.now motor.now zone }
+{
+    let mut holds = false;
+    for other in 0..plan.zone_count() {
+        holds = holds || holds_near(plan, motor, zone, other);
+    }
+    holds
+}
+
+fn never_near(plan: &Plan, layout: &Layout, motor: &Motor, zone: u8, other: u8) -> bool
+    requires { layout.now ≡ counts_of plan.now }
+    ensures { result ≡ masks.never_near plan.now motor.now zone other }
+{
+    plan.same_space(other, zone) && is_never(layout.shape(other), motor.zone_need(other).posture)
+}
+
+/// Whether a zone of a space never has the posture that a motor needs.
+#[tactic(auto, using(plan_types::proofs::lemmas::Below::any_below_more))]
+fn lacks_posture(plan: &Plan, layout: &Layout, motor: &Motor, zone: u8) -> bool
+    requires { layout.now ≡ counts_of plan.now }
+    ensures { result
+        ≡ any_below (masks.never_near plan.now motor.now zone) (zone_count plan.now) }
+{
+    let mut never = false;
+    for other in 0..plan.zone_count() {
+        never = never || never_near(plan, layout, motor, zone, other);
+    }
+    never
+}
+
+/// Whether a space is never as a motor needs it.
+fn never_in(plan: &Plan, layout: &Layout, motor: &Motor, zone: u8) -> bool
+    requires { layout.now ≡ counts_of plan.now }
+    ensures { result ≡ masks.never_in plan.now motor.now zone }
+{
+    let entering = enters(plan, motor.machine, zone);
+    lacks_posture(plan, layout, motor, zone) || holds_in(plan, motor, zone) && !entering
+}
+
+/// All bits of a space's owner in a zone's field: none, unless it is the first one of its space.
+fn all_owners(shape: ZoneShape) -> u64
+    ensures all { result ≡ masks.all_owners shape }
+    ensures fits { result < 2 ^ owner_bits shape.guests }
+{
+    match shape.guests {
+        0 => 0,
+        1 | 2 => 0b11,
+        3..=6 => 0b111,
+        _ => 0b1111,
+    }
+}
+
+fn owner_mask(shape: ZoneShape, holds: bool, never: bool) -> u64
+    ensures mask { result ≡ masks.owner_mask shape holds never }
+    ensures fits { result < 2 ^ owner_bits shape.guests }
+{
+    if never {
+        if shape.guests == 1 {
+            all_owners(shape)
+        } else {
+            0
+        }
+    } else if holds {
+        all_owners(shape)
     } else {
         0
     }
@@ -68,48 +141,53 @@ fn posture_mask(postures: Postures, posture: Option<Posture>) -> u64
     }
 }
 
-/// The bits of a zone, from those of its owner and of its posture.
+/// The bits of a zone, from those of its space's owner and of its posture.
 fn zone_bits_of(shape: ZoneShape, owner: u64, posture: u64) -> u64
-    requires owner { owner < 4 }
+    requires owner { owner < 2 ^ owner_bits shape.guests }
     requires posture { posture < 2 ^ posture_bits (postures_of shape) }
-    ensures bits { result ≡ owner + posture * 2 ^ masks.posture_start shape }
+    ensures bits { result ≡ masks.bits_with shape owner posture }
     ensures fits { result < 2 ^ shape_bits shape }
 {
-    let start = 2 + u32::from(shape.flag);
-    with_bits(owner, start, u32::from(shape.postures().bits()), posture)
+    let width = shape.postures().bits();
+    let start = shape.bits() - width;
+    with_bits(owner, u32::from(start), u32::from(width), posture)
 }
 
-fn zone_mask(shape: ZoneShape, need: ZoneNeed) -> u64
-    ensures mask { result ≡ masks.zone_mask shape need }
-    ensures fits { result < 2 ^ shape_bits shape }
+fn zone_mask(plan: &Plan, layout: &Layout, motor: &Motor, zone: u8) -> u64
+    requires { layout.now ≡ counts_of plan.now }
+    ensures mask { result ≡ masks.zone_mask plan.now motor.now zone }
+    ensures fits { result < 2 ^ bits_of layout.now (Zone zone) }
 {
-    let posture = posture_mask(shape.postures(), need.posture);
-    zone_bits_of(shape, owner_mask(shape, need), posture)
+    let shape = layout.shape(zone);
+    let holds = holds_in(plan, motor, zone);
+    let owner = owner_mask(shape, holds, never_in(plan, layout, motor, zone));
+    let posture = posture_mask(shape.postures(), motor.zone_need(zone).posture);
+    zone_bits_of(shape, owner, posture)
 }
 
-fn party_code(plan: &Plan, zone: u8, machine: u8) -> u64
-    ensures code { result ≡ masks.party_code plan.now zone machine }
-    ensures fits { result < 4 }
+/// What a zone's field has of a machine that owns its space.
+fn owner_part(plan: &Plan, layout: &Layout, zone: u8, machine: u8) -> u64
+    requires { layout.now ≡ counts_of plan.now }
+    ensures part { result ≡ packing.owner_part plan.now zone (Some machine) }
+    ensures fits { result < 2 ^ owner_bits (zone_shape plan.now zone).guests }
 {
-    let row = plan.zone(zone);
-    if machine == row.host {
-        1
-    } else if machine == row.guest {
-        2
-    } else {
-        3
-    }
+    let owned = ZoneState {
+        owner: Some(machine),
+        flag: false,
+        posture: Posture::Closed,
+    };
+    zone_code(plan, layout, zone, owned)
 }
 
-fn owner_pattern(shape: ZoneShape, party: u64, need: ZoneNeed) -> u64
-    requires { party < 4 }
-    ensures pattern { result ≡ masks.owner_pattern shape party need }
-    ensures fits { result < 4 }
+fn owner_pattern(shape: ZoneShape, owner: u64, holds: bool, never: bool) -> u64
+    requires { owner < 2 ^ owner_bits shape.guests }
+    ensures pattern { result ≡ masks.owner_pattern shape owner holds never }
+    ensures fits { result < 2 ^ owner_bits shape.guests }
 {
-    if is_never(shape, need.posture) {
-        3
-    } else if need.holds {
-        party
+    if never {
+        all_owners(shape)
+    } else if holds {
+        owner
     } else {
         0
     }
@@ -125,13 +203,16 @@ fn posture_pattern(postures: Postures, posture: Option<Posture>) -> u64
     }
 }
 
-fn zone_pattern(plan: &Plan, shape: ZoneShape, zone: u8, machine: u8, need: ZoneNeed) -> u64
-    requires { shape ≡ zone_shape plan.now zone }
-    ensures pattern { result ≡ masks.zone_pattern plan.now zone machine need }
-    ensures fits { result < 2 ^ shape_bits shape }
+fn zone_pattern(plan: &Plan, layout: &Layout, motor: &Motor, zone: u8) -> u64
+    requires { layout.now ≡ counts_of plan.now }
+    ensures pattern { result ≡ masks.zone_pattern plan.now motor.now zone }
+    ensures fits { result < 2 ^ bits_of layout.now (Zone zone) }
 {
-    let owner = owner_pattern(shape, party_code(plan, zone, machine), need);
-    let posture = posture_pattern(shape.postures(), need.posture);
+    let shape = layout.shape(zone);
+    let part = owner_part(plan, layout, zone, motor.machine);
+    let holds = holds_in(plan, motor, zone);
+    let owner = owner_pattern(shape, part, holds, never_in(plan, layout, motor, zone));
+    let posture = posture_pattern(shape.postures(), motor.zone_need(zone).posture);
     zone_bits_of(shape, owner, posture)
 }
 
@@ -151,7 +232,7 @@ fn mask_of(plan: &Plan, layout: &Layout, motor: &Motor) -> u64
 {
     let mut mask = 0;
     for zone in 0..plan.zone_count() {
-        let bits = zone_mask(layout.shape(zone), motor.zone_need(zone));
+        let bits = zone_mask(plan, layout, motor, zone);
         mask = layout.with(mask, Field::Zone(zone), bits);
     }
     for place in 0..plan.place_count() {
@@ -167,8 +248,7 @@ fn pattern_of(plan: &Plan, layout: &Layout, motor: &Motor) -> u64
 {
     let mut pattern = 0;
     for zone in 0..plan.zone_count() {
-        let shape = layout.shape(zone);
-        let bits = zone_pattern(plan, shape, zone, motor.machine, motor.zone_need(zone));
+        let bits = zone_pattern(plan, layout, motor, zone);
         pattern = layout.with(pattern, Field::Zone(zone), bits);
     }
     for place in 0..plan.place_count() {

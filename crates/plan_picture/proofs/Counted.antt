@@ -1,11 +1,12 @@
 -- The clauses of `all_is_drawn` that count arrows: those of places are the only ones.
-use Rattle.std.proofs.Common.{◌≡◌, ℕ, zero, suc, ◌+◌, Bool, true, false, Option, Some, None, List, [], ◌++◌, codes, flat_map, length}
+use Rattle.std.proofs.Common.{◌≡◌, ℕ, zero, suc, ◌+◌, ◌-◌, Bool, true, false, Option, Some, None, List, [], ◌++◌, codes, flat_map, length}
 use Rattle.std.proofs.Common.{refl, sym, ap, ◌∙◌, arith, if◌then◌else◌, slice_get}
 use Rattle.std.specs.List.{range_with_len}
+use Rattle.std.specs.Str.{bytes_eq}
 use Rattle.std.proofs.lemmas.List.{append_assoc, append-nil}
 use Rattle.plan_types.specs.declared.table.Way.{Way}
 use Rattle.plan_types.specs.Below.{sum_below}
-use Rattle.plan_types.specs.Table.{guest_of, host_of, is_sink, is_source, zone_row}
+use Rattle.plan_types.specs.Table.{guest_of, host_of, is_sink, is_source, joins, zone_row}
 use Rattle.plan_rules.specs.State.{one_if}
 use Rattle.plan_motors.specs.declared.motor.Hazard.{Hazard}
 use Rattle.plan_motors.specs.declared.verdict.Verdict.{Verdict}
@@ -81,18 +82,32 @@ silent-end class s z k =
     (silent-label class (codes "end") (at.zone_column z + 52) (at.row s k + 4) 13 82 (name_in s.named.places k) (λ t. refl))
     (λ t. refl)
 
+silent-space : (class : Text) (s : Scene) (z : ℕ) → IsArrow class → Silent class (picture.space_part s z)
+silent-space class s z arrow =
+    silent-append class (picture.space_title s z) (picture.space_line s z)
+    (silent-if class (bytes_eq (name_in s.named.spaces z) (zone_name s.named z)) []
+    (picture.space_name_part z (name_in s.named.spaces z)) (λ t. refl)
+    (silent-slanted class (codes "space") (at.zone_column z + 34) 220 13 280 (name_in s.named.spaces z) (λ t. refl)))
+    (silent-if class (joins s.named.plan z) _ []
+    (silent-level class (codes "zone") (at.lane s (host_of s.named.plan z) + 18) (at.zone_column z - 123)
+    (at.zone_column z + 3) (λ t. refl) arrow.zone)
+    (λ t. refl))
+
 silent-zone : (class : Text) (s : Scene) (z : ℕ) → IsArrow class → Silent class (picture.zone_part s z)
 silent-zone class s z arrow =
-    silent-append class (picture.zone_title s z ++ picture.parties_part s z) (picture.ways_part s z ++ picture.ends_part s z)
+    silent-append class (picture.zone_title s z ++ picture.parties_part s z)
+    ((picture.ways_part s z ++ picture.ends_part s z) ++ picture.space_part s z)
     (silent-append class (picture.zone_title s z) (picture.parties_part s z)
     (silent-slanted class (codes "zone") (at.zone_column z + 10) 220 15 280 (zone_name s.named z) (λ t. refl))
     (silent-parties class s z (host_of s.named.plan z) (guest_of s.named.plan z) arrow))
+    (silent-append class (picture.ways_part s z ++ picture.ends_part s z) (picture.space_part s z)
     (silent-append class (picture.ways_part s z) (picture.ends_part s z)
     (silent-append class (picture.way_part s (at.zone_column z + 28) (zone_row s.named.plan z).inward)
     (picture.way_part s (at.zone_column z + 42) (zone_row s.named.plan z).outward)
     (silent-way class s (at.zone_column z + 28) (zone_row s.named.plan z).inward arrow)
     (silent-way class s (at.zone_column z + 42) (zone_row s.named.plan z).outward arrow))
     (silent-each class (picture.end_part s z) (range_with_len 0 (length s.named.places)) (silent-end class s z)))
+    (silent-space class s z arrow))
 
 silent-verdict : (class : Text) (s : Scene) (k : ℕ) (shown : Option Verdict) → Silent class (picture.verdict_if s k shown)
 silent-verdict class s k None = λ t. refl

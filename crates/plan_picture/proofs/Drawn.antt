@@ -1,5 +1,5 @@
 -- The law `all_is_drawn`.
-use Rattle.std.proofs.Common.{◌<◌, ℕ, ◌+◌, Bool, List, [], ◌++◌, codes, length, sym, subst}
+use Rattle.std.proofs.Common.{◌≡◌, ◌<◌, ℕ, ◌+◌, Bool, true, false, List, [], ◌++◌, codes, length, refl, sym, subst}
 use Rattle.std.proofs.Common.{Some, slice_get, IsTrue, if◌then◌else◌}
 use Rattle.plan_types.specs.Table.{guest_of, host_of, is_sink, is_source, zone_row}
 use Rattle.plan_motors.specs.declared.verdict.Verdict.{Verdict}
@@ -100,7 +100,7 @@ in-parties : (s : Scene) (vs : List Verdict) (p : List ℕ) (z : ℕ) → z < le
     → Has (picture_text s vs) p
 in-parties s vs p z l h =
     in-zone s vs p z l
-    (in_first (picture.zone_title s z ++ picture.parties_part s z) (picture.ways_part s z ++ picture.ends_part s z) p
+    (in_first (picture.zone_title s z ++ picture.parties_part s z) ((picture.ways_part s z ++ picture.ends_part s z) ++ picture.space_part s z) p
     (in_second (picture.zone_title s z) (picture.parties_part s z) p
     (in_second (picture.zone_line s z (host_of s.named.plan z) (guest_of s.named.plan z)) _ p h)))
 
@@ -108,14 +108,33 @@ in-ways : (s : Scene) (vs : List Verdict) (p : List ℕ) (z : ℕ) → z < lengt
     → Has (picture.ways_part s z) p → Has (picture_text s vs) p
 in-ways s vs p z l h =
     in-zone s vs p z l
-    (in_second (picture.zone_title s z ++ picture.parties_part s z) (picture.ways_part s z ++ picture.ends_part s z) p
-    (in_first (picture.ways_part s z) (picture.ends_part s z) p h))
+    (in_second (picture.zone_title s z ++ picture.parties_part s z) ((picture.ways_part s z ++ picture.ends_part s z) ++ picture.space_part s z) p
+    (in_first (picture.ways_part s z ++ picture.ends_part s z) (picture.space_part s z) p
+    (in_first (picture.ways_part s z) (picture.ends_part s z) p h)))
+
+in-space : (s : Scene) (vs : List Verdict) (p : List ℕ) (z : ℕ) → z < length s.named.zones
+    → Has (picture.space_part s z) p → Has (picture_text s vs) p
+in-space s vs p z l h =
+    in-zone s vs p z l
+    (in_second (picture.zone_title s z ++ picture.parties_part s z) ((picture.ways_part s z ++ picture.ends_part s z) ++ picture.space_part s z) p
+    (in_second (picture.ways_part s z ++ picture.ends_part s z) (picture.space_part s z) p h))
+
+if-false : (b : Bool) (a : List ℕ) → b ≡ false → (if b then [] else a) ≡ a
+if-false false a e = refl
+if-false true a e = absurd (cc)
+
+then-part : (b : Bool) (a : List ℕ) → b ≡ true → (if b then a else []) ≡ a
+then-part true a e = refl
+then-part false a e = absurd (cc)
+
+has-same : (a p : List ℕ) → a ≡ p → Has a p
+has-same a p e = subst (Has a) e (whole a)
 
 zones-drawn : ZonesAreDrawn
 zones-drawn = record {
   name = λ s vs z l.
       in-zone s vs _ z l
-      (in_first (picture.zone_title s z ++ picture.parties_part s z) (picture.ways_part s z ++ picture.ends_part s z) _
+      (in_first (picture.zone_title s z ++ picture.parties_part s z) ((picture.ways_part s z ++ picture.ends_part s z) ++ picture.space_part s z) _
       (in_first (picture.zone_title s z) (picture.parties_part s z) _ (whole (picture.zone_title s z))));
   host = λ s vs z l.
       in-parties s vs _ z l
@@ -139,6 +158,14 @@ zones-drawn = record {
       (picture.way_part s (at.zone_column z + 42) (zone_row s.named.plan z).outward) _
       (subst (λ way. Has (picture.way_part s (at.zone_column z + 42) way) (picture.way_part s (at.zone_column z + 42) (Some w)))
       (sym is) (whole _)));
+  space = λ s vs z l apart.
+      in-space s vs _ z l
+      (in_first (picture.space_title s z) (picture.space_line s z) _
+      (has-same (picture.space_title s z) _ (if-false _ _ apart)));
+  tied = λ s vs z l joined.
+      in-space s vs _ z l
+      (in_second (picture.space_title s z) (picture.space_line s z) _
+      (has-same (picture.space_line s z) _ (then-part _ _ joined)));
 }
 
 -- what stands at the line of a hazard

@@ -3,9 +3,10 @@
 use Rattle.std.specs.Prelude.{◌≡◌, ◌<◌, ◌≤◌, ℕ, suc, ◌+◌, ◌-◌, ◌*◌, Bool, true, false, ◌&&◌, ◌||◌, not, nat_eq, IsTrue}
 use Rattle.std.specs.Prelude.{if◌then◌else◌, List, [], ◌∷◌, ◌++◌, codes, length, Some, slice_get}
 use Rattle.std.specs.List.{list_all}
+use Rattle.std.specs.Str.{bytes_eq}
 use Rattle.plan_types.specs.declared.table.Way.{Way}
 use Rattle.plan_types.specs.Below.{sum_below}
-use Rattle.plan_types.specs.Table.{guest_of, host_of, is_sink, is_source, zone_row}
+use Rattle.plan_types.specs.Table.{guest_of, host_of, is_sink, is_source, joins, zone_row}
 use Rattle.plan_rules.specs.State.{one_if}
 use Rattle.plan_motors.specs.declared.verdict.Verdict.{Verdict}
 use Rattle.plan_motors.specs.OfPlan.{hazard_at}
@@ -70,6 +71,13 @@ pub record ZonesAreDrawn : Type 0 where
   pub outward : (s : Scene) (vs : List Verdict) (z : ℕ) (w : Way) → z < length s.named.zones
       → (zone_row s.named.plan z).outward ≡ Some w
       → Has (picture_text s vs) (upright (codes "way") (at.column z + 42) (at.row s w.from) (at.row s w.to))
+  -- one whose space has another name has this, too; and one that is of a space with the zone before it is tied to that
+  pub space : (s : Scene) (vs : List Verdict) (z : ℕ) → z < length s.named.zones
+      → bytes_eq (name_in s.named.spaces z) (name_in s.named.zones z) ≡ false
+      → Has (picture_text s vs) (slanted (codes "space") (at.column z + 34) 220 13 280 (name_in s.named.spaces z))
+  pub tied : (s : Scene) (vs : List Verdict) (z : ℕ) → z < length s.named.zones → joins s.named.plan z ≡ true
+      → Has (picture_text s vs)
+      (level (codes "zone") (at.lane s (host_of s.named.plan z) + 18) (at.column z - 123) (at.column z + 3))
 
 -- each hazard has its name, what keeps its motors apart, and a line from the one to the other, with their names
 pub record HazardsAreDrawn : Type 0 where

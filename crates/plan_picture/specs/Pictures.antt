@@ -1,10 +1,11 @@
 -- The picture of a plan, as SVG.
-use Rattle.std.specs.Prelude.{◌≡◌, ℕ, ◌+◌, Bool, ◌||◌, nat_eq, List, [], ◌++◌, codes, flat_map, length}
+use Rattle.std.specs.Prelude.{◌≡◌, ℕ, ◌+◌, ◌-◌, Bool, ◌||◌, nat_eq, List, [], ◌++◌, codes, flat_map, length}
 use Rattle.std.specs.Prelude.{Option, Some, None, replicate, false, slice_get, IsTrue, if◌then◌else◌}
 use Rattle.std.specs.Fmt.{decimal}
 use Rattle.std.specs.List.{AllZip, range_with_len}
+use Rattle.std.specs.Str.{bytes_eq}
 use Rattle.plan_types.specs.declared.table.Way.{Way}
-use Rattle.plan_types.specs.Table.{PlanTable, guest_of, host_of, is_sink, is_source, zone_row}
+use Rattle.plan_types.specs.Table.{PlanTable, guest_of, host_of, is_sink, is_source, joins, zone_row}
 use Rattle.plan_rules.specs.declared.state.State.{State}
 use Rattle.plan_rules.specs.State.{start_state}
 use Rattle.plan_motors.specs.declared.exclusion.Cause.TheVariants.{Zone, Place}
@@ -125,8 +126,29 @@ ends_part s zone = flat_map (end_part s zone) (range_with_len 0 (length s.named.
 abbrev pub zone_title : Scene → ℕ → Text
 zone_title s zone = slanted (codes "zone") (at.zone_column zone + 10) 220 15 280 (zone_name s.named zone)
 
+-- the name of the zone's space, if that is another one; and a line to the host's mark from the one at the zone before,
+-- if both are of one space
+abbrev pub space_name_part : ℕ → Text → Text
+space_name_part zone space = slanted (codes "space") (at.zone_column zone + 34) 220 13 280 space
+
+abbrev pub space_title : Scene → ℕ → Text
+space_title s zone =
+    if bytes_eq (name_in s.named.spaces zone) (zone_name s.named zone) then []
+    else space_name_part zone (name_in s.named.spaces zone)
+
+abbrev pub space_line : Scene → ℕ → Text
+space_line s zone =
+    if joins s.named.plan zone
+    then level (codes "zone") (at.lane s (host_of s.named.plan zone) + 18) (at.zone_column zone - 123)
+    (at.zone_column zone + 3)
+    else []
+
+abbrev pub space_part : Scene → ℕ → Text
+space_part s zone = space_title s zone ++ space_line s zone
+
 abbrev pub zone_part : Scene → ℕ → Text
-zone_part s zone = (zone_title s zone ++ parties_part s zone) ++ (ways_part s zone ++ ends_part s zone)
+zone_part s zone =
+    (zone_title s zone ++ parties_part s zone) ++ ((ways_part s zone ++ ends_part s zone) ++ space_part s zone)
 
 -- ---- hazards: two motors, and what keeps them apart
 
@@ -140,7 +162,7 @@ pub record IsVerdictOf (t : PlanTable) (motors : List Motor) (h : Hazard) (v : V
   pub never : IsTrue (is_never v) → NeverFromPostures t opening (motor_at motors h.first) (motor_at motors h.second)
 
 abbrev pub verdict_words : Named → Verdict → Text
-verdict_words n (Excluded (Zone zone)) = codes "kept apart by " ++ zone_name n zone
+verdict_words n (Excluded (Zone zone)) = codes "kept apart by " ++ name_in n.spaces zone
 verdict_words n (Excluded (Place place)) = codes "kept apart by place " ++ name_in n.places place
 verdict_words n (ByPoses machine) = codes "kept apart by the poses of " ++ machine_name n machine
 verdict_words n (Possible s) = codes "NOT kept apart"

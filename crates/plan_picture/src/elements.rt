@@ -29,14 +29,16 @@ fn fitting(most: usize, width: usize, count: usize) -> usize
 
 /// Adds a text as it stands in an element.
 fn push_escaped(text: &mut String, content: &str) -> Result<(), AllocError>
-    ensures { OnOk result (string_bytes text.new ≡ string_bytes text.old ++ spec.escaped content.now) }
+    ensures { OnOk result (string_bytes text.new
+        ≡ string_bytes text.old ++ spec.escaped content.now) }
 {
     push_escaped_bytes(text, content.as_bytes())
 }
 
 /// Adds bytes of a text as they stand in an element.
 fn push_escaped_bytes(text: &mut String, bytes: &[u8]) -> Result<(), AllocError>
-    ensures { OnOk result (string_bytes text.new ≡ string_bytes text.old ++ spec.escaped bytes.now) }
+    ensures { OnOk result (string_bytes text.new
+        ≡ string_bytes text.old ++ spec.escaped bytes.now) }
 {
     'bytes: for at in 0..bytes.len() {
         push_escaped_at(text, bytes, at)?;
@@ -48,14 +50,16 @@ fn push_escaped_bytes(text: &mut String, bytes: &[u8]) -> Result<(), AllocError>
 fn push_escaped_at(text: &mut String, bytes: &[u8], at: usize) -> Result<(), AllocError>
     requires { at < length bytes.now }
     ensures { OnOk result
-        (string_bytes text.new ≡ string_bytes text.old ++ spec.escaped_byte (get_or bytes.now at 0)) }
+        (string_bytes text.new ≡ string_bytes text.old
+        ++ spec.escaped_byte (get_or bytes.now at 0)) }
 {
     push_escaped_byte(text, bytes[at])
 }
 
 /// Adds a byte: what means something in XML as its entity.
 fn push_escaped_byte(text: &mut String, byte: u8) -> Result<(), AllocError>
-    ensures { OnOk result (string_bytes text.new ≡ string_bytes text.old ++ spec.escaped_byte byte) }
+    ensures { OnOk result (string_bytes text.new
+        ≡ string_bytes text.old ++ spec.escaped_byte byte) }
 {
     if byte == b'&' {
         text.push_str("&amp;")
@@ -94,7 +98,8 @@ fn push_or_plain(text: &mut String, byte: u8) -> Result<(), AllocError>
 
 /// Adds how a text ends: what it says, and the end of its element.
 fn push_closing(text: &mut String, content: &str) -> Result<(), AllocError>
-    ensures { OnOk result (string_bytes text.new ≡ string_bytes text.old ++ spec.closing content.now) }
+    ensures { OnOk result (string_bytes text.new
+        ≡ string_bytes text.old ++ spec.closing content.now) }
 {
     push_escaped(text, content)?;
     text.push_str("</text>\n")
@@ -133,7 +138,8 @@ fn push_sized(
     y: usize,
     size: usize,
 ) -> Result<(), AllocError>
-    ensures { OnOk result (string_bytes text.new ≡ string_bytes text.old ++ spec.opening class.now x y size) }
+    ensures { OnOk result (string_bytes text.new
+        ≡ string_bytes text.old ++ spec.opening class.now x y size) }
 {
     write!(
         text,
@@ -174,7 +180,8 @@ fn push_sized_slope(
     y: usize,
     size: usize,
 ) -> Result<(), AllocError>
-    ensures { OnOk result (string_bytes text.new ≡ string_bytes text.old ++ spec.slope class.now x y size) }
+    ensures { OnOk result (string_bytes text.new
+        ≡ string_bytes text.old ++ spec.slope class.now x y size) }
 {
     write!(
         text,
@@ -193,7 +200,8 @@ pub(crate) fn push_box(
     width: usize,
     height: usize,
 ) -> Result<(), AllocError>
-    ensures { OnOk result (string_bytes text.new ≡ string_bytes text.old ++ spec.box class.now x y width height) }
+    ensures { OnOk result (string_bytes text.new
+        ≡ string_bytes text.old ++ spec.box class.now x y width height) }
 {
     write!(
         text,
@@ -209,7 +217,8 @@ pub(crate) fn push_upright(
     from: usize,
     to: usize,
 ) -> Result<(), AllocError>
-    ensures { OnOk result (string_bytes text.new ≡ string_bytes text.old ++ spec.upright class.now x from to) }
+    ensures { OnOk result (string_bytes text.new
+        ≡ string_bytes text.old ++ spec.upright class.now x from to) }
 {
     write!(
         text,
@@ -225,7 +234,8 @@ pub(crate) fn push_level(
     from: usize,
     to: usize,
 ) -> Result<(), AllocError>
-    ensures { OnOk result (string_bytes text.new ≡ string_bytes text.old ++ spec.level class.now y from to) }
+    ensures { OnOk result (string_bytes text.new
+        ≡ string_bytes text.old ++ spec.level class.now y from to) }
 {
     write!(
         text,
@@ -241,7 +251,8 @@ pub(crate) fn push_circle(
     y: usize,
     radius: usize,
 ) -> Result<(), AllocError>
-    ensures { OnOk result (string_bytes text.new ≡ string_bytes text.old ++ spec.circle class.now x y radius) }
+    ensures { OnOk result (string_bytes text.new
+        ≡ string_bytes text.old ++ spec.circle class.now x y radius) }
 {
     write!(
         text,

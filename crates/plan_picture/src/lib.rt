@@ -2,6 +2,7 @@
 #![tactic(auto)]
 
 mod elements;
+mod hazards;
 pub mod laws;
 pub mod picture;
 mod positions;

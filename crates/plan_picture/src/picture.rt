@@ -1,7 +1,6 @@
 //! The picture of a plan, as SVG: machines, their places and motors, the zones between them, and the hazards.
-ghost use Rattle.std.specs.Prelude.{◌≡◌, ◌≤◌, ◌++◌, ◌||◌, IfOk, OnOk, flat_map, length, slice_get, string_bytes};
+ghost use Rattle.std.specs.Prelude.{◌≡◌, ◌≤◌, ◌++◌, ◌||◌, IfOk, OnOk, flat_map, length, string_bytes};
 ghost use Rattle.std.specs.List.{AllZip, range_with_len};
-ghost use Rattle.plan_motors.specs.OfPlan as of_plan;
 ghost use Rattle.plan_picture.specs.Pictures as spec;
 ghost use Rattle.plan_picture.specs.Pictures.{IsPicture};
 ghost use Rattle.plan_picture.specs.Scenes.{scene};
@@ -9,13 +8,14 @@ ghost use Rattle.plan_picture.specs.Scenes.{scene};
 use crate::elements::{
     Spot, push_box, push_circle, push_label, push_level, push_slanted, push_upright,
 };
+use crate::hazards::push_hazards;
 use crate::positions::{
-    hazard_column, height, lane, lane_height, lanes_end, motor_thing, row, sink_line, source_line,
-    width, zone_column,
+    height, lane, lane_height, lanes_end, motor_thing, row, sink_line, source_line, width,
+    zone_column,
 };
-use crate::verdicts::{verdict_class, verdict_words, verdicts_of};
+use crate::verdicts::verdicts_of;
 use plan_document::ProgrammedPlan;
-use plan_motors::{Hazard, Verdict};
+use plan_motors::Verdict;
 use plan_types::{PlanZone, Way};
 use std::alloc::{AllocError, Global};
 
@@ -73,7 +73,8 @@ fn picture_by(
     plan: &ProgrammedPlan,
     verdicts: &[Verdict],
 ) -> Result<String, AllocError>
-    ensures { IfOk result (λ text. string_bytes text ≡ spec.picture_text (scene plan.now) verdicts.now) }
+    ensures { IfOk result (λ text. string_bytes text
+        ≡ spec.picture_text (scene plan.now) verdicts.now) }
 {
     let mut text = String::new(alloc);
     match push_picture(alloc, &mut text, plan, verdicts) {
@@ -100,14 +101,16 @@ fn push_picture(
 
 /// Adds how the picture begins.
 fn push_begin(text: &mut String, plan: &ProgrammedPlan) -> Result<(), AllocError>
-    ensures { OnOk result (string_bytes text.new ≡ string_bytes text.old ++ spec.begin (scene plan.now)) }
+    ensures { OnOk result (string_bytes text.new
+        ≡ string_bytes text.old ++ spec.begin (scene plan.now)) }
 {
     push_begin_by(text, width(plan), height(plan))
 }
 
 /// Adds how a picture of this size begins: how each class looks, and what is below all.
 fn push_begin_by(text: &mut String, width: usize, height: usize) -> Result<(), AllocError>
-    ensures { OnOk result (string_bytes text.new ≡ string_bytes text.old ++ spec.begin_by width height) }
+    ensures { OnOk result (string_bytes text.new
+        ≡ string_bytes text.old ++ spec.begin_by width height) }
 {
     push_head(text, width, height)?;
     push_style(text)?;
@@ -116,7 +119,8 @@ fn push_begin_by(text: &mut String, width: usize, height: usize) -> Result<(), A
 
 /// Adds the size of a picture.
 fn push_head(text: &mut String, width: usize, height: usize) -> Result<(), AllocError>
-    ensures { OnOk result (string_bytes text.new ≡ string_bytes text.old ++ spec.head width height) }
+    ensures { OnOk result (string_bytes text.new
+        ≡ string_bytes text.old ++ spec.head width height) }
 {
     write!(
         text,
@@ -134,7 +138,8 @@ fn push_style(text: &mut String) -> Result<(), AllocError>
 
 /// Adds how the picture ends.
 fn push_finish(text: &mut String, plan: &ProgrammedPlan) -> Result<(), AllocError>
-    ensures { OnOk result (string_bytes text.new ≡ string_bytes text.old ++ spec.finish (scene plan.now)) }
+    ensures { OnOk result (string_bytes text.new
+        ≡ string_bytes text.old ++ spec.finish (scene plan.now)) }
 {
     push_legend(text, plan)?;
     text.push_str("</svg>\n")
@@ -142,7 +147,8 @@ fn push_finish(text: &mut String, plan: &ProgrammedPlan) -> Result<(), AllocErro
 
 /// Adds what the marks mean.
 fn push_legend(text: &mut String, plan: &ProgrammedPlan) -> Result<(), AllocError>
-    ensures { OnOk result (string_bytes text.new ≡ string_bytes text.old ++ spec.legend (scene plan.now)) }
+    ensures { OnOk result (string_bytes text.new
+        ≡ string_bytes text.old ++ spec.legend (scene plan.now)) }
 {
     push_legend_line(text, plan, 14, FIRST)?;
     push_legend_line(text, plan, 30, SECOND)?;
@@ -158,7 +164,8 @@ fn push_legend_line(
 ) -> Result<(), AllocError>
     requires { below ≤ 100 }
     ensures { OnOk result
-        (string_bytes text.new ≡ string_bytes text.old ++ spec.legend_line (scene plan.now) below line.now) }
+        (string_bytes text.new ≡ string_bytes text.old
+        ++ spec.legend_line (scene plan.now) below line.now) }
 {
     let y = lanes_end(plan) + below;
     let spot = Spot {
@@ -174,7 +181,8 @@ fn push_legend_line(
 
 /// Adds the machines, the places and the motors.
 fn push_lanes(text: &mut String, plan: &ProgrammedPlan) -> Result<(), AllocError>
-    ensures { OnOk result (string_bytes text.new ≡ string_bytes text.old ++ spec.lanes_part (scene plan.now)) }
+    ensures { OnOk result (string_bytes text.new
+        ≡ string_bytes text.old ++ spec.lanes_part (scene plan.now)) }
 {
     push_machines(text, plan)?;
     push_places(text, plan)?;
@@ -183,7 +191,8 @@ fn push_lanes(text: &mut String, plan: &ProgrammedPlan) -> Result<(), AllocError
 
 /// Adds each machine.
 fn push_machines(text: &mut String, plan: &ProgrammedPlan) -> Result<(), AllocError>
-    ensures { OnOk result (string_bytes text.new ≡ string_bytes text.old ++ spec.machines_part (scene plan.now)) }
+    ensures { OnOk result (string_bytes text.new
+        ≡ string_bytes text.old ++ spec.machines_part (scene plan.now)) }
 {
     'machines: for machine in 0..plan.named.machines().len() as u8 {
         push_machine(text, plan, machine)?;
@@ -194,7 +203,8 @@ fn push_machines(text: &mut String, plan: &ProgrammedPlan) -> Result<(), AllocEr
 /// Adds a machine's lane, its box and its name.
 fn push_machine(text: &mut String, plan: &ProgrammedPlan, machine: u8) -> Result<(), AllocError>
     ensures { OnOk result
-        (string_bytes text.new ≡ string_bytes text.old ++ spec.machine_part (scene plan.now) machine) }
+        (string_bytes text.new ≡ string_bytes text.old
+        ++ spec.machine_part (scene plan.now) machine) }
 {
     push_lane(text, plan, machine)?;
     push_machine_box(text, plan, machine)?;
@@ -213,7 +223,8 @@ fn push_lane(text: &mut String, plan: &ProgrammedPlan, machine: u8) -> Result<()
 /// Adds a machine's box.
 fn push_machine_box(text: &mut String, plan: &ProgrammedPlan, machine: u8) -> Result<(), AllocError>
     ensures { OnOk result
-        (string_bytes text.new ≡ string_bytes text.old ++ spec.machine_box (scene plan.now) machine) }
+        (string_bytes text.new ≡ string_bytes text.old
+        ++ spec.machine_box (scene plan.now) machine) }
 {
     let y = lane(plan, machine);
     push_box(text, "machine", 20, y, 260, lane_height(plan, machine))
@@ -226,7 +237,8 @@ fn push_machine_title(
     machine: u8,
 ) -> Result<(), AllocError>
     ensures { OnOk result
-        (string_bytes text.new ≡ string_bytes text.old ++ spec.machine_title (scene plan.now) machine) }
+        (string_bytes text.new ≡ string_bytes text.old
+        ++ spec.machine_title (scene plan.now) machine) }
 {
     let spot = Spot {
         x: 30,
@@ -239,7 +251,8 @@ fn push_machine_title(
 
 /// Adds each place.
 fn push_places(text: &mut String, plan: &ProgrammedPlan) -> Result<(), AllocError>
-    ensures { OnOk result (string_bytes text.new ≡ string_bytes text.old ++ spec.places_part (scene plan.now)) }
+    ensures { OnOk result (string_bytes text.new
+        ≡ string_bytes text.old ++ spec.places_part (scene plan.now)) }
 {
     'places: for place in 0..plan.named.places().len() as u8 {
         push_place(text, plan, place)?;
@@ -292,7 +305,8 @@ fn push_sink(text: &mut String, plan: &ProgrammedPlan, place: u8) -> Result<(), 
 
 /// Adds each motor.
 fn push_motors(text: &mut String, plan: &ProgrammedPlan) -> Result<(), AllocError>
-    ensures { OnOk result (string_bytes text.new ≡ string_bytes text.old ++ spec.motors_part (scene plan.now)) }
+    ensures { OnOk result (string_bytes text.new
+        ≡ string_bytes text.old ++ spec.motors_part (scene plan.now)) }
 {
     'motors: for motor in 0..plan.motors.names.len() as u8 {
         push_motor(text, plan, motor)?;
@@ -358,7 +372,8 @@ fn push_columns(
 
 /// Adds each zone.
 fn push_zones(text: &mut String, plan: &ProgrammedPlan) -> Result<(), AllocError>
-    ensures { OnOk result (string_bytes text.new ≡ string_bytes text.old ++ spec.zones_part (scene plan.now)) }
+    ensures { OnOk result (string_bytes text.new
+        ≡ string_bytes text.old ++ spec.zones_part (scene plan.now)) }
 {
     'zones: for zone in 0..plan.named.zones().len() as u8 {
         push_zone(text, plan, zone)?;
@@ -366,7 +381,7 @@ fn push_zones(text: &mut String, plan: &ProgrammedPlan) -> Result<(), AllocError
     Ok(())
 }
 
-/// Adds a zone: its name, its host and its guest, the ways of plates, and the places at their ends.
+/// Adds a zone: its name, its host and its guest, the ways of plates, the places at their ends, and its space.
 fn push_zone(text: &mut String, plan: &ProgrammedPlan, zone: u8) -> Result<(), AllocError>
     ensures { OnOk result
         (string_bytes text.new ≡ string_bytes text.old ++ spec.zone_part (scene plan.now) zone) }
@@ -374,7 +389,8 @@ fn push_zone(text: &mut String, plan: &ProgrammedPlan, zone: u8) -> Result<(), A
     push_zone_title(text, plan, zone)?;
     push_parties(text, plan, zone)?;
     push_ways(text, plan, zone)?;
-    push_ends(text, plan, zone)
+    push_ends(text, plan, zone)?;
+    push_space(text, plan, zone)
 }
 
 /// Adds a zone's name.
@@ -440,7 +456,8 @@ fn push_zone_line(
 /// Adds the mark of a zone's host.
 fn push_host(text: &mut String, plan: &ProgrammedPlan, zone: u8, host: u8) -> Result<(), AllocError>
     ensures { OnOk result
-        (string_bytes text.new ≡ string_bytes text.old ++ spec.host_part (scene plan.now) zone host) }
+        (string_bytes text.new ≡ string_bytes text.old
+        ++ spec.host_part (scene plan.now) zone host) }
 {
     push_box(
         text,
@@ -461,7 +478,8 @@ fn push_guest(
     guest: u8,
 ) -> Result<(), AllocError>
     ensures { OnOk result
-        (string_bytes text.new ≡ string_bytes text.old ++ spec.guest_part (scene plan.now) zone guest) }
+        (string_bytes text.new ≡ string_bytes text.old
+        ++ spec.guest_part (scene plan.now) zone guest) }
 {
     push_circle(
         text,
@@ -481,7 +499,8 @@ fn push_party(
     machine: u8,
 ) -> Result<(), AllocError>
     ensures { OnOk result
-        (string_bytes text.new ≡ string_bytes text.old ++ spec.party_label (scene plan.now) zone machine) }
+        (string_bytes text.new ≡ string_bytes text.old
+        ++ spec.party_label (scene plan.now) zone machine) }
 {
     let spot = Spot {
         x: zone_column(zone) + 52,
@@ -509,7 +528,8 @@ fn push_way(
     x: usize,
     way: Option<Way>,
 ) -> Result<(), AllocError>
-    ensures { OnOk result (string_bytes text.new ≡ string_bytes text.old ++ spec.way_part (scene plan.now) x way) }
+    ensures { OnOk result (string_bytes text.new
+        ≡ string_bytes text.old ++ spec.way_part (scene plan.now) x way) }
 {
     match way {
         None => Ok(()),
@@ -534,7 +554,8 @@ fn push_ends(text: &mut String, plan: &ProgrammedPlan, zone: u8) -> Result<(), A
 /// Adds the name of a place, if a way of the zone begins or ends there.
 fn push_end(text: &mut String, plan: &ProgrammedPlan, zone: u8, place: u8) -> Result<(), AllocError>
     ensures { OnOk result
-        (string_bytes text.new ≡ string_bytes text.old ++ spec.end_part (scene plan.now) zone place) }
+        (string_bytes text.new ≡ string_bytes text.old
+        ++ spec.end_part (scene plan.now) zone place) }
 {
     if is_on_way(plan.named.plan().zone(zone), place) {
         push_end_label(text, plan, zone, place)
@@ -568,7 +589,8 @@ fn push_end_label(
     place: u8,
 ) -> Result<(), AllocError>
     ensures { OnOk result
-        (string_bytes text.new ≡ string_bytes text.old ++ spec.end_label (scene plan.now) zone place) }
+        (string_bytes text.new ≡ string_bytes text.old
+        ++ spec.end_label (scene plan.now) zone place) }
 {
     let spot = Spot {
         x: zone_column(zone) + 52,
@@ -579,164 +601,54 @@ fn push_end_label(
     push_label(text, "end", spot, plan.named.places().name(place))
 }
 
-// ---- hazards
-
-/// Adds each hazard.
-fn push_hazards(
-    alloc: Global,
-    text: &mut String,
-    plan: &ProgrammedPlan,
-    verdicts: &[Verdict],
-) -> Result<(), AllocError>
-    ensures { OnOk result (string_bytes text.new
-        ≡ string_bytes text.old ++ spec.hazards_part (scene plan.now) verdicts.now) }
-{
-    'hazards: for hazard in 0..plan.motors.hazard_names.len() as u8 {
-        push_hazard(alloc, text, plan, verdicts, hazard)?;
-    }
-    Ok(())
-}
-
-/// Adds a hazard: its name, what keeps its motors apart, and a line from the one to the other.
-fn push_hazard(
-    alloc: Global,
-    text: &mut String,
-    plan: &ProgrammedPlan,
-    verdicts: &[Verdict],
-    hazard: u8,
-) -> Result<(), AllocError>
-    ensures { OnOk result (string_bytes text.new
-        ≡ string_bytes text.old ++ spec.hazard_part (scene plan.now) verdicts.now hazard) }
-{
-    push_hazard_title(text, plan, hazard)?;
-    push_verdict_if(alloc, text, plan, verdicts, hazard)?;
-    push_danger(text, plan, hazard)
-}
-
-/// Adds the name of a hazard.
-fn push_hazard_title(text: &mut String, plan: &ProgrammedPlan, hazard: u8) -> Result<(), AllocError>
+/// Adds the space of a zone, if that has another name: the name, and a line from the host's mark at the zone before to
+/// the one here, if both are of one space.
+fn push_space(text: &mut String, plan: &ProgrammedPlan, zone: u8) -> Result<(), AllocError>
     ensures { OnOk result
-        (string_bytes text.new ≡ string_bytes text.old ++ spec.hazard_title (scene plan.now) hazard) }
+        (string_bytes text.new ≡ string_bytes text.old ++ spec.space_part (scene plan.now) zone) }
 {
-    let spot = Spot {
-        x: hazard_column(plan, hazard) + 10,
-        y: 220,
-        most: 15,
-        width: 280,
-    };
-    push_slanted(text, "hazard", spot, plan.motors.hazard_names.name(hazard))
+    push_space_title(text, plan, zone)?;
+    push_space_line(text, plan, zone)
 }
 
-/// Adds what keeps the motors of a hazard apart, if that is shown.
-fn push_verdict_if(
-    alloc: Global,
-    text: &mut String,
-    plan: &ProgrammedPlan,
-    verdicts: &[Verdict],
-    hazard: u8,
-) -> Result<(), AllocError>
-    ensures { OnOk result (string_bytes text.new
-        ≡ string_bytes text.old ++ spec.verdict_if (scene plan.now) hazard (slice_get verdicts.now hazard)) }
+/// Adds the name of a zone's space, if that is another one than the zone's.
+fn push_space_title(text: &mut String, plan: &ProgrammedPlan, zone: u8) -> Result<(), AllocError>
+    ensures { OnOk result
+        (string_bytes text.new ≡ string_bytes text.old ++ spec.space_title (scene plan.now) zone) }
 {
-    match verdicts.get(usize::from(hazard)) {
-        Some(verdict) => push_verdict(alloc, text, plan, hazard, *verdict),
-        None => Ok(()),
+    let space = plan.named.spaces().name(zone);
+    if space == plan.named.zones().name(zone) {
+        Ok(())
+    } else {
+        push_space_name(text, zone, space)
     }
 }
 
-/// Adds what keeps the motors of a hazard apart.
-fn push_verdict(
-    alloc: Global,
-    text: &mut String,
-    plan: &ProgrammedPlan,
-    hazard: u8,
-    verdict: Verdict,
-) -> Result<(), AllocError>
+/// Adds the name of the space of a zone.
+fn push_space_name(text: &mut String, zone: u8, space: &str) -> Result<(), AllocError>
     ensures { OnOk result
-        (string_bytes text.new ≡ string_bytes text.old ++ spec.verdict_part (scene plan.now) hazard verdict) }
+        (string_bytes text.new ≡ string_bytes text.old ++ spec.space_name_part zone space.now) }
 {
-    let words = verdict_words(alloc, &plan.named, verdict)?;
     let spot = Spot {
-        x: hazard_column(plan, hazard) + 34,
+        x: zone_column(zone) + 34,
         y: 220,
         most: 13,
         width: 280,
     };
-    push_slanted(text, verdict_class(verdict), spot, words.as_str())
+    push_slanted(text, "space", spot, space)
 }
 
-/// A hazard by its number; one of the first motor alone if there is no such hazard.
-fn hazard_at(plan: &ProgrammedPlan, hazard: u8) -> Hazard
-    ensures { result ≡ of_plan.hazard_at plan.now.motors.hazards.items hazard }
+/// Adds a line to the host's mark from the one at the zone before, if both zones are of one space.
+fn push_space_line(text: &mut String, plan: &ProgrammedPlan, zone: u8) -> Result<(), AllocError>
+    ensures { OnOk result
+        (string_bytes text.new ≡ string_bytes text.old ++ spec.space_line (scene plan.now) zone) }
 {
-    match plan.motors.hazards.get(usize::from(hazard)) {
-        Some(hazard) => *hazard,
-        None => Hazard {
-            first: 0,
-            second: 0,
-        },
+    let row = plan.named.plan().zone(zone);
+    if row.joins {
+        let column = zone_column(zone);
+        let y = lane(plan, row.host) + 18;
+        push_level(text, "zone", y, column - 123, column + 3)
+    } else {
+        Ok(())
     }
-}
-
-/// Adds a line from the one motor of a hazard to the other, and their names.
-fn push_danger(text: &mut String, plan: &ProgrammedPlan, hazard: u8) -> Result<(), AllocError>
-    ensures { OnOk result
-        (string_bytes text.new ≡ string_bytes text.old ++ spec.danger_part (scene plan.now) hazard) }
-{
-    push_danger_by(text, plan, hazard, hazard_at(plan, hazard))
-}
-
-/// Adds a line from the one of these motors to the other, and their names.
-fn push_danger_by(
-    text: &mut String,
-    plan: &ProgrammedPlan,
-    hazard: u8,
-    motors: Hazard,
-) -> Result<(), AllocError>
-    ensures { OnOk result
-        (string_bytes text.new ≡ string_bytes text.old ++ spec.danger_by (scene plan.now) hazard motors) }
-{
-    push_danger_line(text, plan, hazard, motors)?;
-    push_danger_label(text, plan, hazard, motors.first)?;
-    push_danger_label(text, plan, hazard, motors.second)
-}
-
-/// Adds a line from the one of these motors to the other.
-fn push_danger_line(
-    text: &mut String,
-    plan: &ProgrammedPlan,
-    hazard: u8,
-    motors: Hazard,
-) -> Result<(), AllocError>
-    ensures { OnOk result
-        (string_bytes text.new ≡ string_bytes text.old ++ spec.danger_line (scene plan.now) hazard motors) }
-{
-    let first = row(plan, motor_thing(plan, motors.first));
-    let second = row(plan, motor_thing(plan, motors.second));
-    push_upright(
-        text,
-        "hazard",
-        hazard_column(plan, hazard) + 10,
-        first,
-        second,
-    )
-}
-
-/// Adds the name of a motor by its end of a hazard's line.
-fn push_danger_label(
-    text: &mut String,
-    plan: &ProgrammedPlan,
-    hazard: u8,
-    motor: u8,
-) -> Result<(), AllocError>
-    ensures { OnOk result
-        (string_bytes text.new ≡ string_bytes text.old ++ spec.danger_label (scene plan.now) hazard motor) }
-{
-    let spot = Spot {
-        x: hazard_column(plan, hazard) + 22,
-        y: row(plan, motor_thing(plan, motor)) + 4,
-        most: 13,
-        width: 112,
-    };
-    push_label(text, "danger", spot, plan.motors.names.name(motor))
 }

@@ -14,7 +14,8 @@ use std::alloc::{AllocError, Global};
 
 /// What keeps the motors of each hazard apart.
 pub(crate) fn verdicts_of(alloc: Global, plan: &ProgrammedPlan) -> Result<Vec<Verdict>, AllocError>
-    ensures { IfOk result (λ verdicts. AllZip (spec.IsVerdictOf plan.now.named.plan plan.now.motors.motors.items)
+    ensures { IfOk result (λ verdicts. AllZip
+        (spec.IsVerdictOf plan.now.named.plan plan.now.motors.motors.items)
         plan.now.motors.hazards.items verdicts.items) }
 {
     let mut verdicts = Vec::new(alloc);
@@ -80,7 +81,7 @@ pub fn push_verdict(
 {
     match verdict {
         Verdict::Excluded(Cause::Zone(zone)) => {
-            push_two(text, "kept apart by ", named.zones().name(zone))
+            push_two(text, "kept apart by ", named.spaces().name(zone))
         }
         Verdict::Excluded(Cause::Place(place)) => {
             push_two(text, "kept apart by place ", named.places().name(place))
@@ -95,7 +96,8 @@ pub fn push_verdict(
 }
 
 fn push_two(text: &mut String, first: &str, second: &str) -> Result<(), AllocError>
-    ensures { OnOk result (string_bytes text.new ≡ string_bytes text.old ++ (first.now ++ second.now)) }
+    ensures { OnOk result (string_bytes text.new
+        ≡ string_bytes text.old ++ (first.now ++ second.now)) }
 {
     text.push_str(first)?;
     text.push_str(second)

@@ -8,7 +8,7 @@ use Rattle.plan_types.specs.declared.answer.Refusal.TheVariants.{NotParty, Stopp
 use Rattle.plan_types.specs.declared.answer.Answer.TheVariants.{Refused}
 use Rattle.plan_types.specs.declared.answer.Event.{Event}
 use Rattle.plan_types.specs.Table.{watch}
-use Rattle.plan_types.specs.Examples.{press_table, press_zone, press_poses, through_table}
+use Rattle.plan_types.specs.Examples.{press_table, press_zone, press_poses}
 use Rattle.plan_rules.proofs.Changes.{has_no_ends}
 use Rattle.plan_rules.specs.declared.state.State.{State}
 use Rattle.plan_rules.specs.declared.state.ZoneState.{ZoneState}
@@ -22,7 +22,7 @@ use Rattle.plan_rules.specs.BrokenLaws.{clear, HoldersBroken, CountsBroken, Righ
 
 -- who owns a zone at first holds it
 holds_at_first : (s : State) (m : ℕ) → owns s m 0 ≡ true → Holds press_table s [] m 0
-holds_at_first s m e = inl (e, All-nil (λ x. ¬ IsLoss x m 0))
+holds_at_first s m e = inl (e, All-nil (λ x. ¬ IsLoss press_table x m 0))
 
 pub no_event : (before : List Event) (e : Event) (since : List Event) → [] ≡ before ++ e ∷ since → ⊥
 no_event [] e since is = cc
@@ -35,7 +35,7 @@ only_event x e (y ∷ before) since is = let rest : [] ≡ before ++ e ∷ since
 
 -- who has released a zone doesn't hold it, and the plant goes on once it is resumed: by the events
 pub lost_by_release : Holds press_table moving (done 1 (Release 0) ∷ []) 1 0 → ⊥
-lost_by_release (inl held) = All-head (λ x. ¬ IsLoss x 1 0) (done 1 (Release 0)) [] held.1 refl
+lost_by_release (inl held) = All-head (λ x. ¬ IsLoss press_table x 1 0) (done 1 (Release 0)) [] held.1 refl
 lost_by_release (inr held) =
     let is = only_event (done 1 (Release 0)) held.gain held.before held.since held.split in
     let e : false ≡ true = subst (λ (x : Event). is_gain press_table x 1 0 ≡ true) (sym is) held.gained in
@@ -55,17 +55,17 @@ unheld s m e (inr held) = no_event held.before held.gain held.since held.split
 
 -- who has claimed a zone holds it
 loader_claimed : Holds press_table free (done 0 (Claim 0) ∷ []) 0 0
-loader_claimed = inr (record { before = []; gain = done 0 (Claim 0); since = []; split = refl; gained = refl; kept = All-nil (λ x. ¬ IsLoss x 0 0) })
+loader_claimed = inr (record { before = []; gain = done 0 (Claim 0); since = []; split = refl; gained = refl; kept = All-nil (λ x. ¬ IsLoss press_table x 0 0) })
 
 -- the loader claims the zone, and then the press: by the events both hold it
 abbrev both_claimed : List Event
 both_claimed = done 0 (Claim 0) ∷ done 1 (Claim 0) ∷ []
 
 loader_keeps : Holds press_table free both_claimed 0 0
-loader_keeps = inr (record { before = []; gain = done 0 (Claim 0); since = done 1 (Claim 0) ∷ []; split = refl; gained = refl; kept = All-cons (λ x. ¬ IsLoss x 0 0) (done 1 (Claim 0)) [] (λ e. cc) (All-nil (λ x. ¬ IsLoss x 0 0)) })
+loader_keeps = inr (record { before = []; gain = done 0 (Claim 0); since = done 1 (Claim 0) ∷ []; split = refl; gained = refl; kept = All-cons (λ x. ¬ IsLoss press_table x 0 0) (done 1 (Claim 0)) [] (λ e. cc) (All-nil (λ x. ¬ IsLoss press_table x 0 0)) })
 
 press_claimed : Holds press_table free both_claimed 1 0
-press_claimed = inr (record { before = done 0 (Claim 0) ∷ []; gain = done 1 (Claim 0); since = []; split = refl; gained = refl; kept = All-nil (λ x. ¬ IsLoss x 1 0) })
+press_claimed = inr (record { before = done 0 (Claim 0) ∷ []; gain = done 1 (Claim 0); since = []; split = refl; gained = refl; kept = All-nil (λ x. ¬ IsLoss press_table x 1 0) })
 
 pub holders : HoldersBroken
 holders = record {

@@ -17,14 +17,14 @@ use Rattle.plan_rules.specs.BrokenLift.{halted, inward, LiftBroken}
 use Rattle.plan_rules.proofs.Breaking.{no_event}
 
 owned : (s : State) (m : ℕ) → owns s m 1 ≡ true → Holds lift_table s [] m 1
-owned s m e = inl (e, All-nil (λ x. ¬ IsLoss x m 1))
+owned s m e = inl (e, All-nil (λ x. ¬ IsLoss lift_table x m 1))
 
 unowned : (s : State) (m : ℕ) → owns s m 1 ≡ false → Holds lift_table s [] m 1 → ⊥
 unowned s m e (inl held) = let t : true ≡ false = sym held.0 ∙ e in cc
 unowned s m e (inr held) = no_event held.before held.gain held.since held.split
 
 claimed : (s : State) → Holds lift_table s (done 2 (Claim 1) ∷ []) 2 1
-claimed s = inr (record { before = []; gain = done 2 (Claim 1); since = []; split = refl; gained = refl; kept = All-nil (λ x. ¬ IsLoss x 2 1) })
+claimed s = inr (record { before = []; gain = done 2 (Claim 1); since = []; split = refl; gained = refl; kept = All-nil (λ x. ¬ IsLoss lift_table x 2 1) })
 
 stopped : IsStopped (halted upper true) []
 stopped = inl (refl, All-nil (λ e. ¬ IsTrue (is_resume e)))

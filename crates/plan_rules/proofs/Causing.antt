@@ -17,7 +17,7 @@ use Rattle.plan_types.specs.Same.{same_posture}
 use Rattle.plan_types.specs.Below.{first_below, any_below}
 use Rattle.plan_types.specs.Table.{PlanTable, zone_count, host_of, guest_of, is_party, has_pose, pose_row, posture_of, is_moving_pose, transfer_of, watch, is_source, is_sink, has_end}
 use Rattle.plan_rules.specs.declared.state.State.{State}
-use Rattle.plan_rules.specs.State.{zone_at, owner_of, posture_at, is_full}
+use Rattle.plan_rules.specs.State.{zone_at, owner_of, posture_at, is_full, space_has_plate}
 use Rattle.plan_rules.specs.Refusals as refusals
 use Rattle.plan_rules.specs.Refusals.{owns, given_by, is_taken}
 use Rattle.plan_rules.specs.Causes.{number_of, order_of, is_cause, claim_cause, give_cause, yield_cause, take_cause, release_cause, pose_cause, inquire_cause, stop_cause, resume_cause, advance_cause, on_way, on_zone, is_other, is_at_stake, is_opened, lacks_room}
@@ -183,7 +183,7 @@ give_tells t s m z small =
     line (plain causes NotParty (not (is_party t m z)) refl refl)
     ∷ line (plain causes Stopped s.stopped refl refl)
     ∷ line (names_owner causes (owner_of s z) (not (owns s m z)) (λ o. refl))
-    ∷ line (names_zone causes z (zone_at s z).flag (λ y. refl))
+    ∷ line (names_zone causes z (space_has_plate t s z) (λ y. refl))
     ∷ line (plain causes WrongWay (is_none (given_by m way)) refl (wrong m way))
     ∷ line (to_give causes s m way refl)
     ∷ line (to_fill causes t s m way refl)
@@ -197,7 +197,7 @@ yield_tells t s m z small =
     let lines : List (Line causes) =
     line (plain causes NotParty (not (is_party t m z)) refl refl)
     ∷ line (names_owner causes (owner_of s z) (not (owns s m z)) (λ o. refl))
-    ∷ line (names_zone causes z (zone_at s z).flag (λ y. refl))
+    ∷ line (names_zone causes z (space_has_plate t s z) (λ y. refl))
     ∷ line (names_posture causes (posture_at s z) true (λ p. refl))
     ∷ line (plain causes Worn (not (nat_lt s.stamp 1048575)) refl (worn_at s.stamp small))
     ∷ [] in
@@ -220,7 +220,7 @@ release_tells t s m z small =
     let lines : List (Line causes) =
     line (plain causes NotParty (not (is_party t m z)) refl refl)
     ∷ line (names_owner causes (owner_of s z) (not (owns s m z)) (λ o. refl))
-    ∷ line (names_zone causes z (zone_at s z).flag (λ y. refl))
+    ∷ line (names_zone causes z (space_has_plate t s z) (λ y. refl))
     ∷ line (names_moving causes (same_posture (posture_at s z) Moving) refl (refl, refl, refl))
     ∷ line (plain causes Worn (not (nat_lt s.stamp 1048575)) refl (worn_at s.stamp small))
     ∷ [] in
@@ -231,9 +231,9 @@ pose_tells t s m p small =
     let causes = pose_cause t s m p in
     let n = zone_count t in
     let unowned : ℕ → Bool = λ z. is_at_stake t s m p z && not (owns s m z) in
-    let covered : ℕ → Bool = λ z. is_at_stake t s m p z && (zone_at s z).flag in
+    let covered : ℕ → Bool = λ z. is_at_stake t s m p z && space_has_plate t s z in
     let owners = first_named (λ z. NotOwner (owner_of s z)) (λ z. refusals.is_concerned t s m p z && not (owns s m z)) unowned n (λ z. ap (λ b. b && not (owns s m z)) (stake t s m p z)) in
-    let plates = first_named (λ z. PlateInZone z) (λ z. refusals.is_concerned t s m p z && (zone_at s z).flag) covered n (λ z. ap (λ b. b && (zone_at s z).flag) (stake t s m p z)) in
+    let plates = first_named (λ z. PlateInZone z) (λ z. refusals.is_concerned t s m p z && space_has_plate t s z) covered n (λ z. ap (λ b. b && space_has_plate t s z) (stake t s m p z)) in
     let opens : ℕ → Bool = λ z. same_posture (refusals.posture_with t s p z) OpenIn && not (same_posture (posture_at s z) OpenIn) && refusals.is_onto_taken t s (transfer_of t z OpenIn) in
     let rooms = any_first PlaceFull opens (lacks_room t s p) n (room t s p) in
     let lines : List (Line causes) =

@@ -1,5 +1,5 @@
 -- What one call, and a history, change of the postures, the stamp and the plates.
-use Rattle.std.proofs.Common.{◌≡◌, ℕ, zero, suc, ◌+◌, ◌<◌, Bool, true, false, ◌&&◌, ◌||◌, not, cond, map, List, [], ◌∷◌, length, get_or, set, Some, None, refl, sym, ap, ◌∙◌, subst, arith, if◌then◌else◌}
+use Rattle.std.proofs.Common.{◌≡◌, ℕ, zero, suc, ◌+◌, ◌<◌, Bool, true, false, ◌&&◌, ◌||◌, not, cond, map, List, [], ◌∷◌, length, get_or, set, Option, Some, None, refl, sym, ap, ◌∙◌, subst, arith, if◌then◌else◌}
 use Rattle.std.proofs.lemmas.List.Sums.{sum_by-cons}
 use Rattle.plan_types.specs.declared.table.Transfer.{Transfer}
 use Rattle.plan_types.specs.declared.call.Call.{Call}
@@ -16,13 +16,14 @@ use Rattle.plan_rules.specs.declared.state.ZoneState.{ZoneState}
 use Rattle.plan_rules.specs.declared.state.State.{State}
 use Rattle.plan_rules.specs.State.{zone_at, posture_at, is_full, one_if, is_coming, plates_of, free_zone}
 use Rattle.plan_rules.specs.Sound.{IsSound}
-use Rattle.plan_rules.specs.Reply.{reply, next, next_by, changed, other_party, all_posed, emptied, filled}
+use Rattle.plan_rules.specs.Reply.{reply, next, next_by, changed, other_party, with_owner, all_posed, emptied, filled}
 use Rattle.plan_rules.specs.History.{after, IsLegal, is_done, is_done_answer, fills, empties, come, gone, posture_given, posture_since, posture_by_events}
 use Rattle.plan_rules.specs.Laws.{StampCountsChanges, PlatesAreCounted, HasNoEnds, PlatesAreKept, PostureByEvents}
 use Rattle.plan_rules.proofs.lemmas.Below.{sum_below_same, sum_below_at_least}
 use Rattle.plan_rules.proofs.lemmas.Puts.{put_cases, nat_eq-self}
+use Rattle.plan_rules.proofs.lemmas.Spaces.{clear_zone, zone_at-handed, handed_sum}
 use Rattle.plan_rules.proofs.lemmas.Zones.{gives_way}
-use Rattle.plan_rules.proofs.lemmas.DoneCalls.{claim_done, give_done, yield_done, take_done, release_done, advance_done}
+use Rattle.plan_rules.proofs.lemmas.DoneCalls.{give_done, take_done, advance_done}
 use Rattle.plan_rules.proofs.lemmas.Plates.{zones_put, places_put, comes}
 use Rattle.plan_rules.proofs.lemmas.Ways.{way_leads}
 use Rattle.plan_rules.proofs.lemmas.Soundness.{done_none, never_done, next_keeps, in_ten, in_sixteen, plate_comes, zone_after_pose}
@@ -33,12 +34,15 @@ use Rattle.plan_rules.proofs.lemmas.Soundness.{done_none, never_done, next_keeps
 put_kept : (s : State) (y : ℕ) (v : ZoneState) → y < length s.zones → v.posture ≡ posture_at s y → (z : ℕ) → (get_or (set s.zones y v) z free_zone).posture ≡ posture_at s z
 put_kept s y v l e z = put_cases (λ x u. u.posture ≡ posture_at s x) s.zones v free_zone y l e (λ x ne. refl) z
 
+handed_kept : (t : PlanTable) (s : State) (y : ℕ) (o : Option ℕ) (plate : Bool) (z : ℕ) → IsPlan t → z < zone_count t → (get_or (with_owner t s y o plate) z free_zone).posture ≡ posture_at s z
+handed_kept t s y o plate z p l = let few = p.zones_at_most in ap (λ (v : ZoneState). v.posture) (zone_at-handed t s y o plate z (omega (arith, few, l)))
+
 posture-changed : (t : PlanTable) (s : State) (n : ℕ) (c : Call) (z : ℕ) → IsPlan t → IsSound t s → reply t s n c ≡ Done → z < zone_count t → posture_at (changed t s n c) z ≡ posture_given t c z (posture_at s z)
-posture-changed t s n (Claim y) z p k e m = put_kept s y (record (zone_at s y) { owner = Some n }) (in_ten t s y p k (claim_done t s n y (done_none _ _ e)).caller.there) refl z
-posture-changed t s n (Give y) z p k e m = put_kept s y (record (zone_at s y) { owner = Some (other_party t n y); flag = true }) (in_ten t s y p k (give_done t s n y (done_none _ _ e)).holder.caller.there) refl z
-posture-changed t s n (Yield y) z p k e m = put_kept s y (record (zone_at s y) { owner = Some (other_party t n y) }) (in_ten t s y p k (yield_done t s n y (done_none _ _ e)).holder.caller.there) refl z
+posture-changed t s n (Claim y) z p k e m = handed_kept t s y (Some n) false z p m
+posture-changed t s n (Give y) z p k e m = handed_kept t s y (Some (other_party t n y)) true z p m
+posture-changed t s n (Yield y) z p k e m = handed_kept t s y (Some (other_party t n y)) false z p m
 posture-changed t s n (Take y) z p k e m = put_kept s y (record (zone_at s y) { flag = false }) (in_ten t s y p k (take_done t s n y (done_none _ _ e)).holder.caller.there) refl z
-posture-changed t s n (Release y) z p k e m = put_kept s y (record (zone_at s y) { owner = None }) (in_ten t s y p k (release_done t s n y (done_none _ _ e)).holder.caller.there) refl z
+posture-changed t s n (Release y) z p k e m = handed_kept t s y None false z p m
 posture-changed t s n (SetPose q) z p k e m = ap (λ (v : ZoneState). v.posture) (zone_after_pose t s q z p m)
 posture-changed t s n (Inquire y) z p k e m = refl
 posture-changed t s n Stop z p k e m = refl
@@ -88,12 +92,13 @@ full_put : (t : PlanTable) (s : State) (q : ℕ) (b : Bool) → q < place_count 
     → sum_below (λ z. one_if (get_or (set s.full q b) z false)) (place_count t) + one_if (is_full s q) ≡ sum_below (λ z. one_if (is_full s z)) (place_count t) + one_if b
 full_put t s q b l m = places_put one_if s.full b q (place_count t) l m
 
-same_flags : (t : PlanTable) (s : State) (y : ℕ) (v : ZoneState) → IsPlan t → IsSound t s → y < zone_count t → v.flag ≡ (zone_at s y).flag
-    → sum_below (λ z. one_if (is_full s z)) (place_count t) + sum_below (λ z. one_if (get_or (set s.zones y v) z free_zone).flag) (zone_count t) ≡ plates_of t s
-same_flags t s y v p k l e =
-    let put = flags_put t s y v l (in_ten t s y p k l) in
-    let same = ap one_if e in
-    omega (arith, put, same)
+same_flags : (t : PlanTable) (s : State) (y : ℕ) (o : Option ℕ) → IsPlan t
+    → sum_below (λ z. one_if (is_full s z)) (place_count t) + sum_below (λ z. one_if (get_or (with_owner t s y o false) z free_zone).flag) (zone_count t) ≡ plates_of t s
+same_flags t s y o p =
+    let few = p.zones_at_most in
+    let same = sum_below_same (λ z. one_if (zone_at s z).flag) (λ z. one_if (get_or (with_owner t s y o false) z free_zone).flag) (zone_count t)
+    (λ z l. ap (λ (v : ZoneState). one_if v.flag) (zone_at-handed t s y o false z (omega (arith, few, l)))) in
+    ap (λ m. sum_below (λ z. one_if (is_full s z)) (place_count t) + m) same
 
 empty_place : (b : Bool) → one_if b ≡ 0 → b ≡ false
 empty_place true e = absurd (omega arith)
@@ -112,9 +117,9 @@ neither true e f = cc
 neither false e f = cc
 
 plates-stay : (t : PlanTable) (s : State) (n : ℕ) (c : Call) → IsPlan t → IsSound t s → reply t s n c ≡ Done → fills s c ≡ false → empties s c ≡ false → plates_of t (changed t s n c) ≡ plates_of t s
-plates-stay t s n (Claim y) p k e f g = same_flags t s y (record (zone_at s y) { owner = Some n }) p k (claim_done t s n y (done_none _ _ e)).caller.there refl
-plates-stay t s n (Yield y) p k e f g = same_flags t s y (record (zone_at s y) { owner = Some (other_party t n y) }) p k (yield_done t s n y (done_none _ _ e)).holder.caller.there refl
-plates-stay t s n (Release y) p k e f g = same_flags t s y (record (zone_at s y) { owner = None }) p k (release_done t s n y (done_none _ _ e)).holder.caller.there refl
+plates-stay t s n (Claim y) p k e f g = same_flags t s y (Some n) p
+plates-stay t s n (Yield y) p k e f g = same_flags t s y (Some (other_party t n y)) p
+plates-stay t s n (Release y) p k e f g = same_flags t s y None p
 plates-stay t s n (Give y) p k e f g =
     let d = give_done t s n y (done_none _ _ e) in
     let l = d.holder.caller.there in
@@ -122,8 +127,10 @@ plates-stay t s n (Give y) p k e f g =
     let leads = way_leads t p y (posture_at s y) d.way l g.is in
     let places = ap (λ o. sum_below (λ z. one_if (get_or (emptied s.full o) z false)) (place_count t)) d.is in
     let out = full_put t s d.way.from false leads.from (in_sixteen t s d.way.from p k leads.from) in
-    let in_zone = flags_put t s y (record (zone_at s y) { owner = Some (other_party t n y); flag = true }) l (in_ten t s y p k l) in
-    omega (arith, places, out, in_zone, ap one_if d.plate, ap one_if d.clear)
+    let few = p.zones_at_most in
+    let in_zone : sum_below (λ z. one_if (get_or (with_owner t s y (Some (other_party t n y)) true) z free_zone).flag) (zone_count t) + one_if (zone_at s y).flag ≡ sum_below (λ z. one_if (zone_at s z).flag) (zone_count t) + 1 =
+    handed_sum t s y (Some (other_party t n y)) true (λ z f q. one_if f) (zone_count t) k.has_ten_zones l few in
+    omega (arith, places, out, in_zone, ap one_if d.plate, ap one_if (clear_zone t s y d.clear y l refl))
 plates-stay t s n (Take y) p k e f g =
     let d = take_done t s n y (done_none _ _ e) in
     let l = d.holder.caller.there in

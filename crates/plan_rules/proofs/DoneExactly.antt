@@ -13,12 +13,12 @@ use Rattle.plan_types.specs.Below.{any_below}
 use Rattle.plan_types.specs.Table.{PlanTable, zone_count, pose_count, host_of, guest_of, machine_of, pose_row, posture_of, transfer_of, is_moving_pose, has_pose, watch, place_count, keeper_of, is_place_of, is_source, is_sink, has_end}
 use Rattle.plan_types.proofs.lemmas.Below.{first_below_all}
 use Rattle.plan_rules.specs.declared.state.State.{State}
-use Rattle.plan_rules.specs.State.{zone_at, owner_of, posture_at, is_full, plates_for}
+use Rattle.plan_rules.specs.State.{zone_at, owner_of, posture_at, is_full, plates_for, space_has_plate}
 use Rattle.plan_rules.specs.Sound.{is_open, is_owned_by}
 use Rattle.plan_rules.specs.Refusals as refusals
 use Rattle.plan_rules.specs.Refusals.{◌or◌, owns, is_concerned, posture_with}
 use Rattle.plan_rules.specs.Reply.{answer_by}
-use Rattle.plan_rules.specs.DoneLaws.{IsPartyOf, IsOpen, HasStampsLeft, MayClaim, IsHolder, HasGift, MayGive, MayYield, MayRelease, IsClear, MayPose, MayMark, KeepsEnd, PlateMoves, MayAdvance, CallsAreDoneExactly}
+use Rattle.plan_rules.specs.DoneLaws.{IsPartyOf, IsOpen, HasStampsLeft, MayClaim, IsHolder, MayTake, HasGift, MayGive, MayYield, MayRelease, IsClear, MayPose, MayMark, KeepsEnd, PlateMoves, MayAdvance, CallsAreDoneExactly}
 use Rattle.plan_rules.proofs.lemmas.DoneCalls.{claim_done, give_done, yield_done, take_done, release_done, pose_done, stop_done, resume_done, advance_done, Party, Holder, Advances}
 use Rattle.plan_rules.proofs.lemmas.Advancing.{comes, goes}
 use Rattle.plan_rules.proofs.lemmas.Plates.{no_plates}
@@ -130,8 +130,8 @@ claim_by_words t s m z f =
 
 -- ---- the holder's calls
 
-holder_in_words : (t : PlanTable) (s : State) (m z : ℕ) (plate : Bool) → Holder t s m z → (zone_at s z).flag ≡ plate → IsHolder t s m z plate
-holder_in_words t s m z plate f flag = record { party = party_in_words t m z f.caller; owner = f.owner; plate_is = flag; stamps = f.fresh }
+holder_in_words : (t : PlanTable) (s : State) (m z : ℕ) → Holder t s m z → space_has_plate t s z ≡ false → IsHolder t s m z
+holder_in_words t s m z f clear = record { party = party_in_words t m z f.caller; owner = f.owner; clear = clear; stamps = f.fresh }
 
 pub no_owner_refusal : (s : State) (m z : ℕ) → owner_of s z ≡ Some m → refusals.not_owner s m z ≡ None
 no_owner_refusal s m z e = no_then_not (owns s m z) _ (owner_by s m z e)
@@ -159,7 +159,7 @@ give_in_words : (t : PlanTable) (s : State) (m z : ℕ) → refusals.give_refusa
 give_in_words t s m z e =
     let f = give_done t s m z e in
     record {
-      holder = holder_in_words t s m z false f.holder f.clear;
+      holder = holder_in_words t s m z f.holder f.clear;
       runs = f.goes_on;
       gift = gift_in_words t s m z (transfer_of t z (posture_at s z)) refl f.way f.is f.plate f.room;
     }
@@ -173,14 +173,14 @@ give_by_words t s m z f =
     let r0 = refusals.not_party t m z in
     let r1 = r0 or refusals.while_stopped s in
     let r2 = r1 or refusals.not_owner s m z in
-    let r3 = r2 or refusals.plate_in_zone s z in
+    let r3 = r2 or refusals.plate_in_zone t s z in
     let r4 = r3 or refusals.wrong_way (refusals.transfer_given t s m z) in
     let r5 = r4 or refusals.nothing_to_give s (refusals.transfer_given t s m z) in
     let r6 = r5 or refusals.no_room t s (refusals.transfer_given t s m z) in
     let p0 = is_party_by t m z f.holder.party in
     let p1 : r1 ≡ None = none_of_both r0 (refusals.while_stopped s) p0 (no_then s.stopped _ f.runs) in
     let p2 : r2 ≡ None = none_of_both r1 (refusals.not_owner s m z) p1 (no_owner_refusal s m z f.holder.owner) in
-    let p3 : r3 ≡ None = none_of_both r2 (refusals.plate_in_zone s z) p2 (no_then (zone_at s z).flag _ f.holder.plate_is) in
+    let p3 : r3 ≡ None = none_of_both r2 (refusals.plate_in_zone t s z) p2 (no_then (space_has_plate t s z) _ f.holder.clear) in
     let p4 : r4 ≡ None = none_of_both r3 (refusals.wrong_way (refusals.transfer_given t s m z)) p3 (ap refusals.wrong_way way) in
     let p5 : r5 ≡ None = none_of_both r4 (refusals.nothing_to_give s (refusals.transfer_given t s m z)) p4 (ap (refusals.nothing_to_give s) way ∙ no_then_not (is_full s f.gift.way.from) _ f.gift.plate) in
     let p6 : r6 ≡ None = none_of_both r5 (refusals.no_room t s (refusals.transfer_given t s m z)) p5 (ap (refusals.no_room t s) way ∙ no_then (refusals.is_taken t s f.gift.way.to) _ (ap (nat_lt 0) f.gift.room)) in
@@ -189,31 +189,33 @@ give_by_words t s m z f =
 yield_in_words : (t : PlanTable) (s : State) (m z : ℕ) → refusals.yield_refusal t s m z ≡ None → MayYield t s m z
 yield_in_words t s m z e =
     let f = yield_done t s m z e in
-    record { holder = holder_in_words t s m z false f.holder f.clear; opened = open_in_words (posture_at s z) f.opens }
+    record { holder = holder_in_words t s m z f.holder f.clear; opened = open_in_words (posture_at s z) f.opens }
 
 yield_by_words : (t : PlanTable) (s : State) (m z : ℕ) → MayYield t s m z → refusals.yield_refusal t s m z ≡ None
 yield_by_words t s m z f =
     let r0 = refusals.not_party t m z in
     let r1 = r0 or refusals.not_owner s m z in
-    let r2 = r1 or refusals.plate_in_zone s z in
+    let r2 = r1 or refusals.plate_in_zone t s z in
     let r3 = r2 or refusals.shut s z in
     let p0 = is_party_by t m z f.holder.party in
     let p1 : r1 ≡ None = none_of_both r0 (refusals.not_owner s m z) p0 (no_owner_refusal s m z f.holder.owner) in
-    let p2 : r2 ≡ None = none_of_both r1 (refusals.plate_in_zone s z) p1 (no_then (zone_at s z).flag _ f.holder.plate_is) in
+    let p2 : r2 ≡ None = none_of_both r1 (refusals.plate_in_zone t s z) p1 (no_then (space_has_plate t s z) _ f.holder.clear) in
     let p3 : r3 ≡ None = none_of_both r2 (refusals.shut s z) p2 (no_then_not (is_open (posture_at s z)) _ (is_open_by (posture_at s z) f.opened)) in
     none_of_both r3 (refusals.worn s) p3 (fresh_by s f.holder.stamps)
 
-take_in_words : (t : PlanTable) (s : State) (m z : ℕ) → refusals.take_refusal t s m z ≡ None → IsHolder t s m z true
-take_in_words t s m z e = let f = take_done t s m z e in holder_in_words t s m z true f.holder f.plate
+take_in_words : (t : PlanTable) (s : State) (m z : ℕ) → refusals.take_refusal t s m z ≡ None → MayTake t s m z
+take_in_words t s m z e =
+    let f = take_done t s m z e in
+    record { party = party_in_words t m z f.holder.caller; owner = f.holder.owner; plate = f.plate; stamps = f.holder.fresh }
 
-take_by_words : (t : PlanTable) (s : State) (m z : ℕ) → IsHolder t s m z true → refusals.take_refusal t s m z ≡ None
+take_by_words : (t : PlanTable) (s : State) (m z : ℕ) → MayTake t s m z → refusals.take_refusal t s m z ≡ None
 take_by_words t s m z f =
     let r0 = refusals.not_party t m z in
     let r1 = r0 or refusals.not_owner s m z in
     let r2 = r1 or refusals.no_plate_in_zone s z in
     let p0 = is_party_by t m z f.party in
     let p1 : r1 ≡ None = none_of_both r0 (refusals.not_owner s m z) p0 (no_owner_refusal s m z f.owner) in
-    let p2 : r2 ≡ None = none_of_both r1 (refusals.no_plate_in_zone s z) p1 (no_then_not (zone_at s z).flag _ f.plate_is) in
+    let p2 : r2 ≡ None = none_of_both r1 (refusals.no_plate_in_zone s z) p1 (no_then_not (zone_at s z).flag _ f.plate) in
     none_of_both r2 (refusals.worn s) p2 (fresh_by s f.stamps)
 
 moves_not : (b : Bool) (r : Refusal) → then_some b r ≡ None → b ≡ true → ⊥
@@ -224,7 +226,7 @@ release_in_words : (t : PlanTable) (s : State) (m z : ℕ) → refusals.release_
 release_in_words t s m z e =
     let f = release_done t s m z e in
     record {
-      holder = holder_in_words t s m z false f.holder f.clear;
+      holder = holder_in_words t s m z f.holder f.clear;
       stands = λ moves. moves_not (same_posture (posture_at s z) Moving) (Shut Moving) f.still (ap (λ q. same_posture q Moving) moves);
     }
 
@@ -232,11 +234,11 @@ release_by_words : (t : PlanTable) (s : State) (m z : ℕ) → MayRelease t s m 
 release_by_words t s m z f =
     let r0 = refusals.not_party t m z in
     let r1 = r0 or refusals.not_owner s m z in
-    let r2 = r1 or refusals.plate_in_zone s z in
+    let r2 = r1 or refusals.plate_in_zone t s z in
     let r3 = r2 or refusals.shut_while_moving s z in
     let p0 = is_party_by t m z f.holder.party in
     let p1 : r1 ≡ None = none_of_both r0 (refusals.not_owner s m z) p0 (no_owner_refusal s m z f.holder.owner) in
-    let p2 : r2 ≡ None = none_of_both r1 (refusals.plate_in_zone s z) p1 (no_then (zone_at s z).flag _ f.holder.plate_is) in
+    let p2 : r2 ≡ None = none_of_both r1 (refusals.plate_in_zone t s z) p1 (no_then (space_has_plate t s z) _ f.holder.clear) in
     let p3 : r3 ≡ None = none_of_both r2 (refusals.shut_while_moving s z) p2 (no_then (same_posture (posture_at s z) Moving) _ (is_not_moving (posture_at s z) f.stands)) in
     none_of_both r3 (refusals.worn s) p3 (fresh_by s f.holder.stamps)
 
@@ -261,7 +263,7 @@ pose_in_words t s m p e =
       all_clear = λ y given z l host. (held t s m p y z f given l host, clear t s m p y z f given l host);
       changed_clear = λ z q l host given other.
           let c = concerned_by_change t s m p z q host given other in
-          (owner_is (owner_of s z) m (opened (is_concerned t s m p z) (owns s m z) (f.owned z l) c), unless (is_concerned t s m p z) (zone_at s z).flag (f.clear z l) c);
+          (owner_is (owner_of s z) m (opened (is_concerned t s m p z) (owns s m z) (f.owned z l) c), unless (is_concerned t s m p z) (space_has_plate t s z) (f.clear z l) c);
       no_jump = no_jump t s m p f;
       room = λ z way l. room t s p z way (f.room z l);
       stamps = f.fresh;
@@ -291,7 +293,7 @@ pub differs : (a b : Bool) → a ≡ true → not b ≡ true → a ≡ b → ⊥
 differs a true e f same = cc
 differs a false e f same = cc
 
-concerned_clear : (t : PlanTable) (s : State) (m p : ℕ) → MayPose t s m p → (z : ℕ) → z < zone_count t → is_concerned t s m p z ≡ true → IsClear s m z
+concerned_clear : (t : PlanTable) (s : State) (m p : ℕ) → MayPose t s m p → (z : ℕ) → z < zone_count t → is_concerned t s m p z ≡ true → IsClear t s m z
 concerned_clear t s m p f z l e =
     let now = posture_at s z in
     let changes : Bool = not (same_posture (posture_with t s p z) now) in
@@ -323,7 +325,7 @@ pose_by_words t s m p f =
     let has : has_pose t m p ≡ true = rw (lt-ltb p (pose_count t) f.own.0, is_same (machine_of t p) m f.own.1) refl in
     let runs = unless_asked (is_moving_pose t p) s.stopped (λ moves. let y = moving_given t p moves in f.runs y.0 y.1) in
     let owned = first_below_all (refusals.unowned_by_pose t s m p) zones (λ z l. no_then (is_concerned t s m p z && not (owns s m z)) _ (unless_asked (is_concerned t s m p z) (not (owns s m z)) (λ c. ap not (owner_by s m z (concerned_clear t s m p f z l c).0)))) in
-    let clear = first_below_all (refusals.plate_under_pose t s m p) zones (λ z l. no_then (is_concerned t s m p z && (zone_at s z).flag) _ (unless_asked (is_concerned t s m p z) (zone_at s z).flag (λ c. (concerned_clear t s m p f z l c).1))) in
+    let clear = first_below_all (refusals.plate_under_pose t s m p) zones (λ z l. no_then (is_concerned t s m p z && space_has_plate t s z) _ (unless_asked (is_concerned t s m p z) (space_has_plate t s z) (λ c. (concerned_clear t s m p f z l c).1))) in
     let stands = unless_asked (pose_row t p).after_moving (any_below (refusals.stands_at t s m) zones) (λ after. none_below (refusals.stands_at t s m) zones (λ z l. unless_asked (nat_eq (host_of t z) m) (not (same_posture (posture_at s z) Moving)) (λ h. ap (λ q. not (same_posture q Moving)) (f.no_jump after z l (eqb-true (host_of t z) m h))))) in
     let room = first_below_all (refusals.opens_onto_plate t s p) zones (λ z l. no_then (same_posture (posture_with t s p z) OpenIn && not (same_posture (posture_at s z) OpenIn) && refusals.is_onto_taken t s (transfer_of t z OpenIn)) PlaceFull (unless_both (same_posture (posture_with t s p z) OpenIn) (same_posture (posture_at s z) OpenIn) (refusals.is_onto_taken t s (transfer_of t z OpenIn)) (λ opens shut. opens_into t s m p f z l opens shut (transfer_of t z OpenIn) refl))) in
     let r0 = refusals.lacks_pose t m p in

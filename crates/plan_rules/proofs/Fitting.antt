@@ -12,7 +12,7 @@ use Rattle.plan_types.specs.Below.{any_below}
 use Rattle.plan_types.specs.Table.{PlanTable, zone_count, host_of, transfer_of, posture_of, pose_row, is_moving_pose}
 use Rattle.plan_types.specs.Plan.{IsPlan}
 use Rattle.plan_rules.specs.declared.state.State.{State}
-use Rattle.plan_rules.specs.State.{zone_at, owner_of, posture_at, plates_for}
+use Rattle.plan_rules.specs.State.{owner_of, posture_at, plates_for, space_has_plate}
 use Rattle.plan_rules.specs.Sound.{IsSound}
 use Rattle.plan_rules.specs.Refusals.{owns, posture_with, is_concerned, stands_at, is_onto_taken, opens_onto_plate}
 use Rattle.plan_rules.specs.History.{after, IsLegal}
@@ -20,6 +20,7 @@ use Rattle.plan_rules.specs.Laws.{PosesFit, HandoverByHolder, AdvancesFit, HasZo
 use Rattle.plan_rules.proofs.lemmas.Below.{any_below_none}
 use Rattle.plan_rules.proofs.lemmas.Puts.{nat_eq-self}
 use Rattle.plan_rules.proofs.lemmas.Zones.{owner_is}
+use Rattle.plan_rules.proofs.lemmas.Spaces.{clear_zone}
 use Rattle.plan_rules.proofs.Given.{gives_moving}
 use Rattle.plan_rules.proofs.lemmas.DoneCalls.{none_then, pose_done, give_done, yield_done, take_done, release_done, advance_done, Poses, Holder, Advances}
 use Rattle.plan_rules.proofs.lemmas.Advancing.{comes, goes}
@@ -55,8 +56,8 @@ concerned t s m p y z given host =
 pub held : (t : PlanTable) (s : State) (m p y z : ℕ) → Poses t s m p → posture_of t p y ≡ Some Moving → z < zone_count t → host_of t z ≡ m → owner_of s z ≡ Some m
 held t s m p y z f given l host = owner_is (owner_of s z) m (moves (is_concerned t s m p z) (owns s m z) (f.owned z l) (concerned t s m p y z given host))
 
-pub clear : (t : PlanTable) (s : State) (m p y z : ℕ) → Poses t s m p → posture_of t p y ≡ Some Moving → z < zone_count t → host_of t z ≡ m → (zone_at s z).flag ≡ false
-clear t s m p y z f given l host = unless (is_concerned t s m p z) (zone_at s z).flag (f.clear z l) (concerned t s m p y z given host)
+pub clear : (t : PlanTable) (s : State) (m p y z : ℕ) → Poses t s m p → posture_of t p y ≡ Some Moving → z < zone_count t → host_of t z ≡ m → space_has_plate t s z ≡ false
+clear t s m p y z f given l host = unless (is_concerned t s m p z) (space_has_plate t s z) (f.clear z l) (concerned t s m p y z given host)
 
 third : (a b c : Bool) → (a && not b && c) ≡ false → a ≡ true → b ≡ false → c ≡ false
 third true false c e f g = e
@@ -78,7 +79,7 @@ poses_fit t s h l =
       own = λ before rest m p split. let f = found before rest m p split in (f.there, f.machine);
       no_jump = λ before rest m p split. no_jump t (after t s before) m p (found before rest m p split);
       all_held = λ before rest m p y split given z. held t (after t s before) m p y z (found before rest m p split) given;
-      all_clear = λ before rest m p y split given z. clear t (after t s before) m p y z (found before rest m p split) given;
+      all_clear = λ before rest m p y split given z l host. clear_zone t (after t s before) z (clear t (after t s before) m p y z (found before rest m p split) given l host) z l refl;
       opens_onto_empty = λ before rest m p split z way there. room t (after t s before) p z way ((found before rest m p split).room z there);
     }
 

@@ -1,5 +1,5 @@
 -- Laws of the holders of zones, for one legal history from a sound opening.
-use Rattle.std.proofs.Common.{◌≡◌, ℕ, inl, inr, true, ◌||◌, is_none, List, ◌∷◌, Option, Some, sym, ap, ◌∙◌, ◌↔◌, IsTrue, subst, unwrap_or}
+use Rattle.std.proofs.Common.{◌≡◌, ℕ, inl, inr, true, List, ◌∷◌, Option, Some, sym, ap, ◌∙◌, ◌↔◌, IsTrue, subst, unwrap_or}
 use Rattle.plan_types.specs.declared.posture.Posture.TheVariants.{Moving}
 use Rattle.plan_types.specs.declared.call.Call.TheVariants.{SetPose}
 use Rattle.plan_types.specs.declared.answer.Event.{Event}
@@ -9,12 +9,13 @@ use Rattle.plan_types.specs.Plan.{IsPlan}
 use Rattle.plan_rules.specs.declared.state.ZoneState.{ZoneState}
 use Rattle.plan_rules.specs.declared.state.State.{State}
 use Rattle.plan_rules.specs.State.{owner_of, posture_at}
-use Rattle.plan_rules.specs.Sound.{IsSound, is_owned_by, is_open}
+use Rattle.plan_rules.specs.Sound.{IsSound, is_entrant, is_open}
 use Rattle.plan_rules.specs.Refusals.{owns}
 use Rattle.plan_rules.specs.History.{after, IsLegal, Holds}
-use Rattle.plan_rules.specs.Laws.{OneHolder, MoverIsHost, GuestOnlyWhileOpen, done}
+use Rattle.plan_rules.specs.Laws.{OneHolder, OneAtATime, MoverIsHost, GuestOnlyWhileOpen, done}
 use Rattle.plan_rules.proofs.lemmas.Puts.{nat_eq-self}
 use Rattle.plan_rules.proofs.lemmas.Zones.{implied, owner_is}
+use Rattle.plan_rules.proofs.lemmas.Spaces.{shared_owner}
 use Rattle.plan_rules.proofs.lemmas.DoneCalls.{pose_done}
 use Rattle.plan_rules.proofs.lemmas.Soundness.{done_none, posed_zone}
 use Rattle.plan_rules.proofs.Histories.{sound-after, legal-left, replies_done}
@@ -30,9 +31,15 @@ one_holder t s p k h l =
     let is = λ (m z : ℕ) (held : Holds t s h m z). owner_is (owner_of (after t s h) z) m ((owner m z).0 held) in
     record {
       alone = λ m n z held also. one_owner (owner_of (after t s h) z) m n (is m z held) (is n z also);
-      party = λ m z there held. subst (λ o. (is_none o || is_owned_by o (host_of t z) || is_owned_by o (guest_of t z)) ≡ true) (is m z held) ((sound-after t s h p k).zone_is_lawful z there).owner_is_party;
+      party = λ m z there held. subst (λ o. is_entrant t z o ≡ true) (is m z held) ((sound-after t s h p k).zone_is_lawful z there).owner_is_party;
       owner = owner;
     }
+
+pub one_at_a_time : (t : PlanTable) (s : State) → IsPlan t → IsSound t s → (h : List Event) → IsLegal t s h → OneAtATime t s h
+one_at_a_time t s p k h l m n y z ly lz same held also =
+    let is = owner_is (owner_of (after t s h) y) m ((holds_iff_owns t s h m y p k l).0 held) in
+    let and = owner_is (owner_of (after t s h) z) n ((holds_iff_owns t s h n z p k l).0 also) in
+    one_owner (owner_of (after t s h) y) m n is (shared_owner t (after t s h) y z (sound-after t s h p k) ly lz same ∙ and)
 
 pub mover_is_host : (t : PlanTable) (s : State) → IsPlan t → IsSound t s → (h : List Event) → IsLegal t s h → MoverIsHost t s h
 mover_is_host t s p k h l = record {

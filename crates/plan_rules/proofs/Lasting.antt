@@ -1,5 +1,6 @@
 -- What a machine holds lasts while the machine does nothing.
-use Rattle.std.proofs.Common.{◌≡◌, ℕ, ◌<◌, inl, inr, Bool, true, false, not, cond, nat_eq, Some, None, List, [], ◌∷◌, ◌++◌, length, get_or, set, refl, sym, ap, ◌∙◌, if◌then◌else◌, unwrap_or, arith}
+use Rattle.std.proofs.Common.{◌≡◌, ℕ, ◌<◌, inl, inr, Bool, true, false, not, cond, nat_eq, Option, Some, None, List, [], ◌∷◌, ◌++◌, length, get_or, set, refl, sym, ap, ◌∙◌, if◌then◌else◌, unwrap_or, arith}
+use Rattle.std.proofs.lemmas.Bool.{false_from_ne_true}
 use Rattle.std.proofs.lemmas.List.{get_or-set_other}
 use Rattle.plan_types.specs.declared.posture.Posture.{Posture}
 use Rattle.plan_types.specs.declared.call.Call.{Call}
@@ -7,17 +8,18 @@ use Rattle.plan_types.specs.declared.call.Call.TheVariants.{Claim, Give, Yield, 
 use Rattle.plan_types.specs.declared.answer.Answer.{Answer}
 use Rattle.plan_types.specs.declared.answer.Answer.TheVariants.{Done, Shown, Refused}
 use Rattle.plan_types.specs.declared.answer.Event.{Event}
-use Rattle.plan_types.specs.Table.{PlanTable, zone_count, host_of, keeper_of, posture_of}
+use Rattle.plan_types.specs.Table.{PlanTable, zone_count, host_of, keeper_of, posture_of, same_space}
 use Rattle.plan_types.specs.Plan.{IsPlan}
 use Rattle.plan_rules.specs.declared.state.ZoneState.{ZoneState}
 use Rattle.plan_rules.specs.declared.state.State.{State}
 use Rattle.plan_rules.specs.State.{zone_at, owner_of, posture_at, is_full, free_zone}
 use Rattle.plan_rules.specs.Sound.{IsSound, is_owned_by}
 use Rattle.plan_rules.specs.Refusals.{owns}
-use Rattle.plan_rules.specs.Reply.{reply, next, next_by, changed, other_party, emptied, filled}
+use Rattle.plan_rules.specs.Reply.{reply, next, next_by, changed, other_party, with_owner, emptied, filled}
 use Rattle.plan_rules.specs.History.{after, IsLegal, is_done_answer, is_done, Holds, own_events, posture_given, posture_since, posture_by_events}
 use Rattle.plan_rules.specs.Laws.{RightLasts}
 use Rattle.plan_rules.proofs.lemmas.Puts.{put_cases, apart-nat_eq}
+use Rattle.plan_rules.proofs.lemmas.Spaces.{by_same, shared_owner, zone_at-handed, handed_other}
 use Rattle.plan_rules.proofs.lemmas.Zones.{gives_way}
 use Rattle.plan_rules.proofs.lemmas.DoneCalls.{claim_done, give_done, yield_done, take_done, release_done, pose_done, advance_done, Holder}
 use Rattle.plan_rules.proofs.lemmas.Ways.{way_leads}
@@ -31,25 +33,35 @@ use Rattle.plan_rules.proofs.Holders.{holds_iff_owns, owned_as}
 put_other : (s : State) (m y : ℕ) (v : ZoneState) → y < length s.zones → owns s m y ≡ false → (z : ℕ) → owns s m z ≡ true → get_or (set s.zones y v) z free_zone ≡ zone_at s z
 put_other s m y v l d z = put_cases (λ x u. owns s m x ≡ true → u ≡ zone_at s x) s.zones v free_zone y l (λ o. cc) (λ x ne o. refl) z
 
+-- a zone whose space another machine owned, or nobody, stays
+handed_stays : (t : PlanTable) (s : State) (y : ℕ) (o : Option ℕ) (plate : Bool) (m z : ℕ) → IsPlan t → IsSound t s → y < zone_count t → z < zone_count t → owns s m y ≡ false → owns s m z ≡ true
+    → get_or (with_owner t s y o plate) z free_zone ≡ zone_at s z
+handed_stays t s y o plate m z p k ly lz other own =
+    let few = p.zones_at_most in
+    let apart : same_space t y z ≡ false = false_from_ne_true (same_space t y z) (λ here.
+    let clash : true ≡ false = sym own ∙ ap (λ x. is_owned_by x m) (shared_owner t s z y k lz ly (sym (by_same t y z here))) ∙ other in
+    cc) in
+    zone_at-handed t s y o plate z (omega (arith, few, lz)) ∙ handed_other t s y o plate z apart
+
 another : (t : PlanTable) (s : State) (n m y : ℕ) → Holder t s n y → nat_eq n m ≡ false → owns s m y ≡ false
 another t s n m y h d = owned_as (owner_of s y) n m h.owner ∙ d
 
 zone_at-changed : (t : PlanTable) (s : State) (n : ℕ) (c : Call) (m z : ℕ) → IsPlan t → IsSound t s → z < zone_count t → nat_eq n m ≡ false → owns s m z ≡ true → reply t s n c ≡ Done → zone_at (changed t s n c) z ≡ zone_at s z
 zone_at-changed t s n (Claim y) m z p k l d o e =
     let f = claim_done t s n y (done_none _ _ e) in
-    put_other s m y (record (zone_at s y) { owner = Some n }) (in_ten t s y p k f.caller.there) (ap (λ x. is_owned_by x m) f.free) z o
+    handed_stays t s y (Some n) false m z p k f.caller.there l (ap (λ x. is_owned_by x m) f.free) o
 zone_at-changed t s n (Give y) m z p k l d o e =
     let f = (give_done t s n y (done_none _ _ e)).holder in
-    put_other s m y (record (zone_at s y) { owner = Some (other_party t n y); flag = true }) (in_ten t s y p k f.caller.there) (another t s n m y f d) z o
+    handed_stays t s y (Some (other_party t n y)) true m z p k f.caller.there l (another t s n m y f d) o
 zone_at-changed t s n (Yield y) m z p k l d o e =
     let f = (yield_done t s n y (done_none _ _ e)).holder in
-    put_other s m y (record (zone_at s y) { owner = Some (other_party t n y) }) (in_ten t s y p k f.caller.there) (another t s n m y f d) z o
+    handed_stays t s y (Some (other_party t n y)) false m z p k f.caller.there l (another t s n m y f d) o
 zone_at-changed t s n (Take y) m z p k l d o e =
     let f = (take_done t s n y (done_none _ _ e)).holder in
     put_other s m y (record (zone_at s y) { flag = false }) (in_ten t s y p k f.caller.there) (another t s n m y f d) z o
 zone_at-changed t s n (Release y) m z p k l d o e =
     let f = (release_done t s n y (done_none _ _ e)).holder in
-    put_other s m y (record (zone_at s y) { owner = None }) (in_ten t s y p k f.caller.there) (another t s n m y f d) z o
+    handed_stays t s y None false m z p k f.caller.there l (another t s n m y f d) o
 zone_at-changed t s n (SetPose q) m z p k l d o e =
     let f = pose_done t s n q (done_none _ _ e) in
     zone_after_pose t s q z p l ∙ elim (posed_zone t s n q z p f l) [

@@ -27,3 +27,5 @@ mod Lowest
 mod Orders
 mod CallChanges
 mod AdvanceRows
+mod SpaceRows
+mod Stamps

@@ -11,7 +11,7 @@ use Rattle.plan_types.specs.Below.{first_below}
 use Rattle.plan_types.specs.Table.{PlanTable, zone_count, host_of, posture_of, is_moving_pose}
 use Rattle.plan_types.proofs.lemmas.Below.{first_below_none}
 use Rattle.plan_rules.specs.declared.state.State.{State}
-use Rattle.plan_rules.specs.State.{zone_at, owner_of, posture_at}
+use Rattle.plan_rules.specs.State.{owner_of, posture_at, space_has_plate}
 use Rattle.plan_rules.specs.Refusals as refusals
 use Rattle.plan_rules.specs.Refusals.{◌or◌, owns, is_concerned, posture_with}
 use Rattle.plan_rules.specs.PoseLaws.{Needs, BarsByOwner, BarsByPlate, IsLowest, PosesNameLowestZones}
@@ -83,8 +83,8 @@ module _ (t : PlanTable) (s : State) (m p : ℕ) where
       by true own e = barred.1 (owner_is (owner_of s y) m own)
       by false other e = let h = ap not other in cc
 
-  pub no_plate_bars : (y : ℕ) → (concern y && (zone_at s y).flag) ≡ false → ¬ BarsByPlate t s m p y
-  no_plate_bars y none barred = not_both (concern y && (zone_at s y).flag) (all_true (concern y) (zone_at s y).flag (concern_by y barred.0) barred.1) none
+  pub no_plate_bars : (y : ℕ) → (concern y && space_has_plate t s y) ≡ false → ¬ BarsByPlate t s m p y
+  no_plate_bars y none barred = not_both (concern y && space_has_plate t s y) (all_true (concern y) (space_has_plate t s y) (concern_by y barred.0) barred.1) none
 
   pub unowned : (P : Refusal → Type 0) → ((z : ℕ) → IsLowest (BarsByOwner t s m p) z → P (NotOwner (owner_of s z))) → (r : Refusal) → refusals.first_zone t (refusals.unowned_by_pose t s m p) ≡ Some r → P r
   unowned P says = chosen P (λ z. concern z && not (owns s m z)) (λ z. NotOwner (owner_of s z)) (λ z l yes lower.
@@ -93,8 +93,8 @@ module _ (t : PlanTable) (s : State) (m p : ℕ) where
       says z (bars, λ y k. no_owner_bars y (lower y k)))
 
   pub covered : (P : Refusal → Type 0) → ((z : ℕ) → IsLowest (BarsByPlate t s m p) z → P (PlateInZone z)) → (r : Refusal) → refusals.first_zone t (refusals.plate_under_pose t s m p) ≡ Some r → P r
-  covered P says = chosen P (λ z. concern z && (zone_at s z).flag) (λ z. PlateInZone z) (λ z l yes lower.
-      let both = both_true (concern z) (zone_at s z).flag yes in
+  covered P says = chosen P (λ z. concern z && space_has_plate t s z) (λ z. PlateInZone z) (λ z l yes lower.
+      let both = both_true (concern z) (space_has_plate t s z) yes in
       says z ((needed z l both.0, both.1), λ y k. no_plate_bars y (lower y k)))
 
   lowest : (r : Refusal) → refusals.pose_refusal t s m p ≡ Some r → Lowest r

@@ -1,5 +1,5 @@
 -- The rows of parts.
-use Rattle.std.proofs.Common.{◌≡◌, ℕ, Option, Bool, true, false, ◌||◌, is_none, IsTrue, Some, None, [], ◌∷◌, ◌≤◌, replicate, refl, arith}
+use Rattle.std.proofs.Common.{◌≡◌, ℕ, Option, Bool, true, false, IsTrue, Some, None, [], ◌∷◌, ◌≤◌, replicate, refl, arith}
 use Rattle.plan_types.specs.declared.posture.Posture.TheVariants.{Closed, Moving, OpenIn, OpenOut}
 use Rattle.plan_types.specs.Same.{same_posture}
 use Rattle.plan_types.specs.Table.{transfer_of}
@@ -13,7 +13,7 @@ use Rattle.plan_rules.specs.OrderExamples.{interior}
 use Rattle.plan_rules.proofs.Histories.{sound-after}
 use Rattle.plan_rules.proofs.lemmas.Starts.{start_is_sound}
 use Rattle.plan_types.specs.declared.posture.Posture.{Posture}
-use Rattle.plan_rules.specs.Sound.{implies, is_open, is_owned_by, is_received_by, IsSound}
+use Rattle.plan_rules.specs.Sound.{implies, is_open, is_owned_by, is_received_by, IsSound, is_entrant}
 use Rattle.plan_rules.specs.PartExamples.{Lawful, FarZone, RefusalParts, WayParts, PoseParts, CauseParts, ChangeParts, ZoneRules, PartsAreMet}
 
 refusal_parts : RefusalParts
@@ -151,7 +151,7 @@ change_parts = record {
 
 -- the upper zone's host is 0, its guest 2: the rules are kept if they compute so
 lawful : (o : Option ℕ) (q : Posture) (f : Bool)
-    → IsTrue (is_none o || is_owned_by o 0 || is_owned_by o 2)
+    → IsTrue (is_entrant lift_table 1 o)
     → IsTrue (implies f (is_received_by o (transfer_of lift_table 1 q)))
     → IsTrue (implies (is_owned_by o 2) (is_open q))
     → IsTrue (implies (same_posture q Moving) (is_owned_by o 0))

@@ -9,7 +9,7 @@ use Rattle.plan_types.specs.Below.{any_below}
 use Rattle.plan_types.specs.Table.{PlanTable, zone_count, pose_count, host_of, machine_of, pose_row, is_moving_pose, has_pose}
 use Rattle.plan_types.proofs.lemmas.Below.{first_below_none}
 use Rattle.plan_rules.specs.declared.state.State.{State}
-use Rattle.plan_rules.specs.State.{zone_at, owner_of, posture_at}
+use Rattle.plan_rules.specs.State.{owner_of, posture_at, space_has_plate}
 use Rattle.plan_rules.specs.Refusals as refusals
 use Rattle.plan_rules.specs.Refusals.{◌or◌, owns, is_concerned}
 use Rattle.plan_rules.specs.Reply.{answer_by}
@@ -89,7 +89,7 @@ module _ (t : PlanTable) (s : State) (m p : ℕ) where
   clear : (P : Refusal → Type 0) → ((z : ℕ) → IsLowest (BarsByPlate t s m p) z → P (PlateInZone z)) → Sorts P up ((z : ℕ) → ¬ BarsByPlate t s m p z)
   clear P says = record {
     says = covered t s m p P says;
-    leaves = λ e z bars. no_plate_bars t s m p z (none_then (is_concerned t s m p z && (zone_at s z).flag) (PlateInZone z) (first_below_none (refusals.plate_under_pose t s m p) n e z bars.0.0)) bars;
+    leaves = λ e z bars. no_plate_bars t s m p z (none_then (is_concerned t s m p z && space_has_plate t s z) (PlateInZone z) (first_below_none (refusals.plate_under_pose t s m p) n e z bars.0.0)) bars;
   }
 
   jumps : (P : Refusal → Type 0) → (Jumps t s m (SetPose p) → P Jump) → Sorts P ju (¬ Jumps t s m (SetPose p))

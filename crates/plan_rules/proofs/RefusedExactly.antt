@@ -14,14 +14,14 @@ use Rattle.plan_types.specs.declared.answer.Answer.TheVariants.{Refused}
 use Rattle.plan_types.specs.Same.{same_posture, one_posture}
 use Rattle.plan_types.specs.Table.{PlanTable, zone_count, guest_of, transfer_of, is_party, watch, is_source, is_sink, has_end}
 use Rattle.plan_rules.specs.declared.state.State.{State}
-use Rattle.plan_rules.specs.State.{zone_at, owner_of, posture_at, is_full, plates_for, last_stamp}
+use Rattle.plan_rules.specs.State.{zone_at, owner_of, posture_at, is_full, plates_for, space_has_plate, last_stamp}
 use Rattle.plan_rules.specs.Sound.{is_open, is_owned_by}
 use Rattle.plan_rules.specs.Refusals as refusals
 use Rattle.plan_rules.specs.Refusals.{◌or◌, owns}
 use Rattle.plan_rules.specs.Reply.{reply, refusal, answer_by, accepted}
 use Rattle.plan_rules.specs.DoneLaws.{IsPartyOf, IsOpen, KeepsEnd, PlateMoves}
 use Rattle.plan_rules.specs.SayLaws.{GivesNothing}
-use Rattle.plan_rules.specs.RefusedLaws.{HasNoStampLeft, IsHeard, AsksOwn, IsOwnedElse, BarsClaim, HasPlateToGive, BarsGive, BarsYield, BarsTake, BarsRelease, BarsInquire, BarsStop, BarsResume, IsOwnEnd, BarsAdvance, CallsAreRefusedExactly}
+use Rattle.plan_rules.specs.RefusedLaws.{HasNoStampLeft, IsHeard, AsksOwn, AsksToTake, IsOwnedElse, BarsClaim, HasPlateToGive, BarsGive, BarsYield, BarsTake, BarsRelease, BarsInquire, BarsStop, BarsResume, IsOwnEnd, BarsAdvance, CallsAreRefusedExactly}
 use Rattle.plan_rules.proofs.lemmas.DoneCalls.{none_or, party_of}
 use Rattle.plan_rules.proofs.lemmas.Plates.{no_plates}
 use Rattle.plan_rules.proofs.lemmas.Puts.{nat_eq-apart, same_or_not}
@@ -198,7 +198,7 @@ module _ (t : PlanTable) (s : State) (m z : ℕ) where
   ow = refusals.not_owner s m z
 
   abbrev pl : Option Refusal
-  pl = refusals.plate_in_zone s z
+  pl = refusals.plate_in_zone t s z
 
   abbrev given : Option Transfer
   given = refusals.transfer_given t s m z
@@ -247,7 +247,7 @@ module _ (t : PlanTable) (s : State) (m z : ℕ) where
       let F : Type 0 = Own false × (s.stopped ≡ false) in
       let s1 : Sorts P (n0 or st) (IsHeard t s m z) = heard P (λ f e. (f, e)) (λ f. f) in
       let s2 : Sorts P (n0 or st or ow) (IsHeard t s m z × (owner_of s z ≡ Some m)) = in_turn (n0 or st) ow s1 (λ f. let h = owner P (λ o apart. (f, apart)) in record { says = h.says; leaves = λ e. (f, h.leaves e) }) in
-      let s3 : Sorts P (n0 or st or ow or pl) F = in_turn (n0 or st or ow) pl s2 (λ f. test (zone_at s z).flag (PlateInZone z) (λ yes. (refl, (f.0.0, f.1, yes), f.0.1)) (λ none. ((f.0.0, f.1, none), f.0.1))) in
+      let s3 : Sorts P (n0 or st or ow or pl) F = in_turn (n0 or st or ow) pl s2 (λ f. test (space_has_plate t s z) (PlateInZone z) (λ yes. (refl, (f.0.0, f.1, yes), f.0.1)) (λ none. ((f.0.0, f.1, none), f.0.1))) in
       let s4 : Sorts P (n0 or st or ow or pl or ww) (F × (way : Transfer) × IsGift way) = in_turn (n0 or st or ow or pl) ww s3 (λ f. let h = ways P (λ nothing. (f.0, f.1, nothing)) in record { says = h.says; leaves = λ e. let w = h.leaves e in (f, w.0, w.1) }) in
       let s5 : Sorts P (n0 or st or ow or pl or ww or ng) (F × (way : Transfer) × IsGift way × (is_full s way.from ≡ true)) = in_turn (n0 or st or ow or pl or ww) ng s4 (λ f.
       let way = f.1 in
@@ -260,13 +260,13 @@ module _ (t : PlanTable) (s : State) (m z : ℕ) where
       in_turn (n0 or st or ow or pl or ww or ng or nr) wo s6 (λ f. worn P (λ last. (f.0.0, f.0.1, f.1, last)))
 
   run_by : Own false → s.stopped ≡ false → (n0 or st or ow or pl) ≡ None
-  run_by f runs = none_of_both (n0 or st or ow) pl (none_of_both (n0 or st) ow (heard_by (f.0, runs)) (no_owner_refusal s m z f.1)) (no_then (zone_at s z).flag (PlateInZone z) f.2)
+  run_by f runs = none_of_both (n0 or st or ow) pl (none_of_both (n0 or st) ow (heard_by (f.0, runs)) (no_owner_refusal s m z f.1)) (no_then (space_has_plate t s z) (PlateInZone z) f.2)
 
   not_owner_by : (o : Option ℕ) → IsOwnedElse s m z o → ow ≡ Some (NotOwner o)
   not_owner_by o f = yes_then_not (owns s m z) (NotOwner (owner_of s z)) (unmine_by o f.0 f.1) ∙ ap (λ x. Some (NotOwner x)) f.0
 
-  plate_by : (y : ℕ) → y ≡ z → (zone_at s z).flag ≡ true → pl ≡ Some (PlateInZone y)
-  plate_by y same flag = yes_then (zone_at s z).flag (PlateInZone z) flag ∙ ap (λ x. Some (PlateInZone x)) (sym same)
+  plate_by : (y : ℕ) → y ≡ z → space_has_plate t s z ≡ true → pl ≡ Some (PlateInZone y)
+  plate_by y same flag = yes_then (space_has_plate t s z) (PlateInZone z) flag ∙ ap (λ x. Some (PlateInZone x)) (sym same)
 
   nothing_by : GivesNothing t s m (Give z) → ww ≡ Some WrongWay
   nothing_by f = elim (given_as (transfer_of t z (posture_at s z)) refl) [
@@ -316,13 +316,13 @@ module _ (t : PlanTable) (s : State) (m z : ℕ) where
   owned P none other = in_turn n0 ow (party P none) (λ f. let h = owner P (λ o apart. other o f apart) in record { says = h.says; leaves = λ e. (f, h.leaves e) })
 
   cleared : (P : Refusal → Type 0) → (¬ IsPartyOf t m z → P NotParty) → ((o : Option ℕ) → IsPartyOf t m z → IsOwnedElse s m z o → P (NotOwner o)) → (Own true → P (PlateInZone z)) → Sorts P (n0 or ow or pl) (Own false)
-  cleared P none other full = in_turn (n0 or ow) pl (owned P none other) (λ f. test (zone_at s z).flag (PlateInZone z) (λ yes. full (f.0, f.1, yes)) (λ none. (f.0, f.1, none)))
+  cleared P none other full = in_turn (n0 or ow) pl (owned P none other) (λ f. test (space_has_plate t s z) (PlateInZone z) (λ yes. full (f.0, f.1, yes)) (λ none. (f.0, f.1, none)))
 
   owned_by : IsPartyOf t m z → owner_of s z ≡ Some m → (n0 or ow) ≡ None
   owned_by f own = none_of_both n0 ow (is_party_by t m z f) (no_owner_refusal s m z own)
 
   cleared_by : Own false → (n0 or ow or pl) ≡ None
-  cleared_by f = none_of_both (n0 or ow) pl (owned_by f.0 f.1) (no_then (zone_at s z).flag (PlateInZone z) f.2)
+  cleared_by f = none_of_both (n0 or ow) pl (owned_by f.0 f.1) (no_then (space_has_plate t s z) (PlateInZone z) f.2)
 
   yield : Sorts (BarsYield t s m z) (refusals.yield_refusal t s m z) Unit
   yield =
@@ -347,7 +347,7 @@ module _ (t : PlanTable) (s : State) (m z : ℕ) where
   take =
       let P : Refusal → Type 0 = BarsTake t s m z in
       let s1 : Sorts P (n0 or ow) (IsPartyOf t m z × (owner_of s z ≡ Some m)) = owned P (λ f. f) (λ o f apart. (f, apart)) in
-      let s2 : Sorts P (n0 or ow or np) (Own true) = in_turn (n0 or ow) np s1 (λ f. test (not (zone_at s z).flag) NoPlate (λ yes. (f.0, f.1, is_not (zone_at s z).flag yes)) (λ full. (f.0, f.1, no_not (zone_at s z).flag full))) in
+      let s2 : Sorts P (n0 or ow or np) (AsksToTake t s m z true) = in_turn (n0 or ow) np s1 (λ f. test (not (zone_at s z).flag) NoPlate (λ yes. (f.0, f.1, is_not (zone_at s z).flag yes)) (λ full. (f.0, f.1, no_not (zone_at s z).flag full))) in
       in_turn (n0 or ow or np) wo s2 (λ f. worn P (λ last. (f, last)))
 
   take_by : (r : Refusal) → BarsTake t s m z r → refusals.take_refusal t s m z ≡ Some r

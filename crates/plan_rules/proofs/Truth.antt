@@ -12,9 +12,9 @@ use Rattle.plan_types.specs.declared.answer.Refusal.{Refusal}
 use Rattle.plan_types.specs.declared.answer.Refusal.TheVariants.{NotParty, Held, AlreadyMine, Shut, NotOwner, PlateInZone, NoPlate, PlaceFull, WrongWay, Jump, NoPose, Worn, Stopped, NotStopped}
 use Rattle.plan_types.specs.Same.{same_posture, one_posture}
 use Rattle.plan_types.specs.Below.{first_below, any_below}
-use Rattle.plan_types.specs.Table.{PlanTable, zone_count, pose_count, host_of, guest_of, machine_of, pose_row, posture_of, transfer_of, is_moving_pose, has_pose, is_party, watch, is_source, is_sink, has_end}
+use Rattle.plan_types.specs.Table.{PlanTable, zone_count, pose_count, host_of, guest_of, machine_of, pose_row, posture_of, transfer_of, is_moving_pose, has_pose, is_party, watch, is_source, has_end}
 use Rattle.plan_rules.specs.declared.state.State.{State}
-use Rattle.plan_rules.specs.State.{zone_at, owner_of, posture_at, is_full, plates_for, last_stamp}
+use Rattle.plan_rules.specs.State.{zone_at, owner_of, posture_at, is_full, plates_for, space_has_plate, last_stamp}
 use Rattle.plan_rules.specs.Sound.{is_open}
 use Rattle.plan_rules.specs.Refusals as refusals
 use Rattle.plan_rules.specs.Refusals.{◌or◌, owns, is_concerned, posture_with}
@@ -92,8 +92,8 @@ module _ (t : PlanTable) (s : State) (m : ℕ) (c : Call) where
     owner_says : (r : Refusal) → refusals.not_owner s m z ≡ Some r → P r
     owner_says = one_says P (not (owns s m z)) (NotOwner (owner_of s z)) (λ yes. (z, about, (refl, λ own. not_both (owns s m z) (owner_by s m z own) (is_not (owns s m z) yes))))
 
-    plate_says : (r : Refusal) → refusals.plate_in_zone s z ≡ Some r → P r
-    plate_says = one_says P (zone_at s z).flag (PlateInZone z) (λ yes. (about, yes))
+    plate_says : (r : Refusal) → refusals.plate_in_zone t s z ≡ Some r → P r
+    plate_says = one_says P (space_has_plate t s z) (PlateInZone z) (λ yes. (about, yes))
 
     mine_says : (r : Refusal) → refusals.already_mine s m z ≡ Some r → P r
     mine_says = one_says P (owns s m z) AlreadyMine (λ yes. (z, about, owner_is (owner_of s z) m yes))
@@ -175,8 +175,8 @@ module _ (t : PlanTable) (s : State) (m p : ℕ) where
       (z, (l, host_by z both.0), (refl, λ own. not_both (owns s m z) (owner_by s m z own) (is_not (owns s m z) both.1))))
 
   under_says : (z : ℕ) → z < zone_count t → (r : Refusal) → refusals.plate_under_pose t s m p z ≡ Some r → Q r
-  under_says z l = one_says Q (is_concerned t s m p z && (zone_at s z).flag) (PlateInZone z) (λ yes.
-      let both = both_true (is_concerned t s m p z) (zone_at s z).flag yes in
+  under_says z l = one_says Q (is_concerned t s m p z && space_has_plate t s z) (PlateInZone z) (λ yes.
+      let both = both_true (is_concerned t s m p z) (space_has_plate t s z) yes in
       ((l, host_by z both.0), both.1))
 
   pub jump_in_words : ((pose_row t p).after_moving && any_below (refusals.stands_at t s m) (zone_count t)) ≡ true → Q Jump
@@ -245,7 +245,7 @@ module _ (t : PlanTable) (s : State) (m : ℕ) where
       let r0 = refusals.not_party t m z in
       let r1 = r0 or refusals.while_stopped s in
       let r2 = r1 or refusals.not_owner s m z in
-      let r3 = r2 or refusals.plate_in_zone s z in
+      let r3 = r2 or refusals.plate_in_zone t s z in
       let r4 = r3 or refusals.wrong_way way in
       let r5 = r4 or refusals.nothing_to_give s way in
       let r6 = r5 or refusals.no_room t s way in
@@ -253,7 +253,7 @@ module _ (t : PlanTable) (s : State) (m : ℕ) where
       (both_say P0 r5 (refusals.no_room t s way)
       (both_say P0 r4 (refusals.nothing_to_give s way)
       (both_say P0 r3 (refusals.wrong_way way)
-      (both_say P0 r2 (refusals.plate_in_zone s z)
+      (both_say P0 r2 (refusals.plate_in_zone t s z)
       (both_say P0 r1 (refusals.not_owner s m z)
       (both_say P0 r0 (refusals.while_stopped s) (party_says t s m c z refl (λ no. (z, refl, no))) (stopped_says t s m c))
       (owner_says t s m c z refl))
@@ -269,11 +269,11 @@ module _ (t : PlanTable) (s : State) (m : ℕ) where
       let P0 : Refusal → Type 0 = λ r. Says t s m c r in
       let r0 = refusals.not_party t m z in
       let r1 = r0 or refusals.not_owner s m z in
-      let r2 = r1 or refusals.plate_in_zone s z in
+      let r2 = r1 or refusals.plate_in_zone t s z in
       let r3 = r2 or refusals.shut s z in
       both_say P0 r3 (refusals.worn s)
       (both_say P0 r2 (refusals.shut s z)
-      (both_say P0 r1 (refusals.plate_in_zone s z)
+      (both_say P0 r1 (refusals.plate_in_zone t s z)
       (both_say P0 r0 (refusals.not_owner s m z) (party_says t s m c z refl (λ no. (z, refl, no))) (owner_says t s m c z refl))
       (plate_says t s m c z refl))
       (shut_says t s m c z refl))
@@ -298,11 +298,11 @@ module _ (t : PlanTable) (s : State) (m : ℕ) where
       let P0 : Refusal → Type 0 = λ r. Says t s m c r in
       let r0 = refusals.not_party t m z in
       let r1 = r0 or refusals.not_owner s m z in
-      let r2 = r1 or refusals.plate_in_zone s z in
+      let r2 = r1 or refusals.plate_in_zone t s z in
       let r3 = r2 or refusals.shut_while_moving s z in
       both_say P0 r3 (refusals.worn s)
       (both_say P0 r2 (refusals.shut_while_moving s z)
-      (both_say P0 r1 (refusals.plate_in_zone s z)
+      (both_say P0 r1 (refusals.plate_in_zone t s z)
       (both_say P0 r0 (refusals.not_owner s m z) (party_says t s m c z refl (λ no. (z, refl, no))) (owner_says t s m c z refl))
       (plate_says t s m c z refl))
       (moving_says t s m c z refl))

@@ -1,5 +1,6 @@
 pub mod Below
 pub mod Puts
+pub mod Spaces
 pub mod Zones
 pub mod DoneCalls
 pub mod Plates
@@ -8,3 +9,4 @@ pub mod Ways
 pub mod Soundness
 pub mod Starts
 pub mod Lawful
+pub mod Plain

@@ -1,6 +1,7 @@
 -- What each refusal says of the state and of the call, and the order in which a call looks for its refusals. These
 -- tables are written out on their own: they don't use `reply` or its conditions.
-use Rattle.std.specs.Prelude.{ℕ, Bool, true, false, ◌&&◌, ◌||◌, not, nat_eq, nat_lt, List, [], ◌∷◌, Option, Some, None}
+use Rattle.std.specs.Prelude.{ℕ, Bool, true, false, ◌&&◌, ◌||◌, not, nat_eq, nat_lt, List, [], ◌∷◌, Option, Some}
+use Rattle.std.specs.Prelude.{None}
 use Rattle.std.specs.Option.{option_eq}
 use Rattle.std.specs.Bool.{then_some}
 use Rattle.plan_types.specs.declared.posture.Posture.{Posture}
@@ -17,6 +18,7 @@ use Rattle.plan_types.specs.Same.{same_posture}
 use Rattle.plan_types.specs.Below.{first_below, any_below}
 use Rattle.plan_types.specs.Table.{PlanTable, zone_count, host_of, guest_of, is_party, has_pose, pose_row, posture_of}
 use Rattle.plan_types.specs.Table.{is_moving_pose, transfer_of, watch, place_count, keeper_of, is_source, is_sink}
+use Rattle.plan_types.specs.Table.{space_of}
 use Rattle.plan_rules.specs.declared.state.State.{State}
 use Rattle.plan_rules.specs.State.{zone_at, owner_of, posture_at, is_full, plates_for}
 
@@ -60,6 +62,10 @@ is_owner s z m = is_owned_as s z (Some m)
 abbrev pub has_plate : State → ℕ → Bool
 has_plate s z = (zone_at s z).flag
 
+-- a plate is in the zone, or in another of its space
+abbrev pub is_laden : PlanTable → State → ℕ → Bool
+is_laden t s z = any_below (λ y. nat_eq (space_of t y) (space_of t z) && has_plate s y) (zone_count t)
+
 abbrev pub is_in : State → ℕ → Posture → Bool
 is_in s z q = same_posture (posture_at s z) q
 
@@ -101,7 +107,7 @@ claim_cause t s m z _ = false
 abbrev pub give_cause : PlanTable → State → ℕ → ℕ → Refusal → Bool
 give_cause t s m z NotParty = not (is_party t m z)
 give_cause t s m z (NotOwner o) = is_anothers s m z o
-give_cause t s m z (PlateInZone y) = nat_eq y z && has_plate s z
+give_cause t s m z (PlateInZone y) = nat_eq y z && is_laden t s z
 give_cause t s m z WrongWay = not (on_gift t s m z (λ way. true))
 give_cause t s m z NoPlate = on_gift t s m z (λ way. not (is_full s way.from))
 give_cause t s m z PlaceFull = on_gift t s m z (λ way. is_filled t s way.to)
@@ -112,7 +118,7 @@ give_cause t s m z _ = false
 abbrev pub yield_cause : PlanTable → State → ℕ → ℕ → Refusal → Bool
 yield_cause t s m z NotParty = not (is_party t m z)
 yield_cause t s m z (NotOwner o) = is_anothers s m z o
-yield_cause t s m z (PlateInZone y) = nat_eq y z && has_plate s z
+yield_cause t s m z (PlateInZone y) = nat_eq y z && is_laden t s z
 yield_cause t s m z (Shut q) = is_in s z q && is_shut q
 yield_cause t s m z Worn = is_worn s
 yield_cause t s m z _ = false
@@ -127,7 +133,7 @@ take_cause t s m z _ = false
 abbrev pub release_cause : PlanTable → State → ℕ → ℕ → Refusal → Bool
 release_cause t s m z NotParty = not (is_party t m z)
 release_cause t s m z (NotOwner o) = is_anothers s m z o
-release_cause t s m z (PlateInZone y) = nat_eq y z && has_plate s z
+release_cause t s m z (PlateInZone y) = nat_eq y z && is_laden t s z
 release_cause t s m z (Shut Moving) = is_in s z Moving
 release_cause t s m z Worn = is_worn s
 release_cause t s m z _ = false
@@ -164,7 +170,7 @@ pose_cause t s m p NoPose = not (has_pose t m p)
 pose_cause t s m p (NotOwner o) =
     on_zone (lowest t (λ z. is_at_stake t s m p z && not (is_owner s z m))) (λ z. is_owned_as s z o)
 pose_cause t s m p (PlateInZone y) =
-    on_zone (lowest t (λ z. is_at_stake t s m p z && has_plate s z)) (λ z. nat_eq y z)
+    on_zone (lowest t (λ z. is_at_stake t s m p z && is_laden t s z)) (λ z. nat_eq y z)
 pose_cause t s m p Jump =
     (pose_row t p).after_moving
     && any_below (λ z. nat_eq (host_of t z) m && not (is_in s z Moving)) (zone_count t)

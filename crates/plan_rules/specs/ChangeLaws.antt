@@ -7,7 +7,7 @@ use Rattle.plan_types.specs.declared.call.Call.{Call}
 use Rattle.plan_types.specs.declared.call.Call.TheVariants.{Claim, Give, Yield, Take, Release, SetPose, Stop, Resume}
 use Rattle.plan_types.specs.declared.call.Call.TheVariants.{Advance}
 use Rattle.plan_types.specs.declared.answer.Answer.TheVariants.{Done}
-use Rattle.plan_types.specs.Table.{PlanTable, transfer_of, posture_of}
+use Rattle.plan_types.specs.Table.{PlanTable, transfer_of, posture_of, space_of}
 use Rattle.plan_types.specs.Plan.{IsPlan}
 use Rattle.plan_rules.specs.declared.state.State.{State}
 use Rattle.plan_rules.specs.State.{zone_at, posture_at, is_full}
@@ -15,10 +15,12 @@ use Rattle.plan_rules.specs.Sound.{IsSound}
 use Rattle.plan_rules.specs.Reply.{reply, next}
 use Rattle.plan_rules.specs.DoneLaws.{IsPartyOf}
 
--- one zone gets this owner, and a plate is in it, or none; it keeps its posture, and the other zones stay
-pub record ZoneBecomes (s after : State) (z : ℕ) (owner : Option ℕ) (plate : Bool) : Type 0 where
+-- one zone gets this owner, and a plate is in it, or none; it keeps its posture; the other zones of its space get the
+-- owner, and all others stay
+pub record ZoneBecomes (t : PlanTable) (s after : State) (z : ℕ) (owner : Option ℕ) (plate : Bool) : Type 0 where
   pub here : zone_at after z ≡ record { owner = owner; flag = plate; posture = posture_at s z }
-  pub others : (y : ℕ) → y ≢ z → zone_at after y ≡ zone_at s y
+  pub beside : (y : ℕ) → y ≢ z → space_of t y ≡ space_of t z → zone_at after y ≡ record (zone_at s y) { owner = owner }
+  pub others : (y : ℕ) → space_of t y ≢ space_of t z → zone_at after y ≡ zone_at s y
 
 -- one place gets a plate, or loses it; the others stay
 pub record PlaceBecomes (s after : State) (place : ℕ) (full : Bool) : Type 0 where
@@ -40,8 +42,8 @@ abbrev pub IsOtherParty : PlanTable → ℕ → ℕ → ℕ → Type 0
 IsOtherParty t m z other = IsPartyOf t other z × (other ≢ m)
 
 -- a zone gets another owner, with no plate on its way
-pub record OwnerChanges (s after : State) (z : ℕ) (owner : Option ℕ) : Type 0 where
-  pub zone : ZoneBecomes s after z owner false
+pub record OwnerChanges (t : PlanTable) (s after : State) (z : ℕ) (owner : Option ℕ) : Type 0 where
+  pub zone : ZoneBecomes t s after z owner false
   pub places : PlacesStay s after
   pub counted : IsCounted s after s.stopped
 
@@ -49,7 +51,7 @@ pub record OwnerChanges (s after : State) (z : ℕ) (owner : Option ℕ) : Type 
 pub record PlateLeaves (t : PlanTable) (s after : State) (m z : ℕ) : Type 0 where
   pub to : ℕ
   pub other : IsOtherParty t m z to
-  pub zone : ZoneBecomes s after z (Some to) true
+  pub zone : ZoneBecomes t s after z (Some to) true
   pub way : Transfer
   pub is : transfer_of t z (posture_at s z) ≡ Some way
   pub place : PlaceBecomes s after way.from false
@@ -57,7 +59,7 @@ pub record PlateLeaves (t : PlanTable) (s after : State) (m z : ℕ) : Type 0 wh
 
 -- a plate comes to the place where its way ends, and the zone stays the caller's
 pub record PlateComes (t : PlanTable) (s after : State) (m z : ℕ) : Type 0 where
-  pub zone : ZoneBecomes s after z (Some m) false
+  pub zone : ZoneBecomes t s after z (Some m) false
   pub way : Transfer
   pub is : transfer_of t z (posture_at s z) ≡ Some way
   pub place : PlaceBecomes s after way.to true
@@ -84,12 +86,12 @@ pub record StopChanges (s after : State) (stopped : Bool) : Type 0 where
   pub counted : IsCounted s after stopped
 
 pub record Changes (t : PlanTable) (s : State) (m z p : ℕ) : Type 0 where
-  pub claim : reply t s m (Claim z) ≡ Done → OwnerChanges s (next t s m (Claim z)) z (Some m)
+  pub claim : reply t s m (Claim z) ≡ Done → OwnerChanges t s (next t s m (Claim z)) z (Some m)
   pub give : reply t s m (Give z) ≡ Done → PlateLeaves t s (next t s m (Give z)) m z
   pub yield : reply t s m (Yield z) ≡ Done
-      → (to : ℕ) × IsOtherParty t m z to × OwnerChanges s (next t s m (Yield z)) z (Some to)
+      → (to : ℕ) × IsOtherParty t m z to × OwnerChanges t s (next t s m (Yield z)) z (Some to)
   pub take : reply t s m (Take z) ≡ Done → PlateComes t s (next t s m (Take z)) m z
-  pub release : reply t s m (Release z) ≡ Done → OwnerChanges s (next t s m (Release z)) z None
+  pub release : reply t s m (Release z) ≡ Done → OwnerChanges t s (next t s m (Release z)) z None
   pub pose : reply t s m (SetPose p) ≡ Done → PosturesChange t s (next t s m (SetPose p)) p
   pub stop : reply t s m Stop ≡ Done → StopChanges s (next t s m Stop) true
   pub resume : reply t s m Resume ≡ Done → StopChanges s (next t s m Resume) false

@@ -9,7 +9,7 @@ use Rattle.plan_types.specs.declared.answer.Answer.TheVariants.{Done, Shown}
 use Rattle.plan_types.specs.Table.{PlanTable, zone_count, pose_count, host_of, guest_of, machine_of, pose_row}
 use Rattle.plan_types.specs.Table.{posture_of, transfer_of, place_count, keeper_of, is_source, is_sink}
 use Rattle.plan_rules.specs.declared.state.State.{State}
-use Rattle.plan_rules.specs.State.{zone_at, owner_of, posture_at, is_full, plates_for}
+use Rattle.plan_rules.specs.State.{zone_at, owner_of, posture_at, is_full, plates_for, space_has_plate}
 use Rattle.plan_rules.specs.Reply.{reply}
 
 -- a machine is the host or the guest of a zone of the plan
@@ -30,11 +30,18 @@ pub record MayClaim (t : PlanTable) (s : State) (m z : ℕ) : Type 0 where
   pub open_to_guest : m ≡ guest_of t z → IsOpen s z
   pub stamps : HasStampsLeft s
 
--- a party owns a zone, in which a plate is, or none
-pub record IsHolder (t : PlanTable) (s : State) (m z : ℕ) (plate : Bool) : Type 0 where
+-- a party owns a zone, and no plate is in its space
+pub record IsHolder (t : PlanTable) (s : State) (m z : ℕ) : Type 0 where
   pub party : IsPartyOf t m z
   pub owner : owner_of s z ≡ Some m
-  pub plate_is : (zone_at s z).flag ≡ plate
+  pub clear : space_has_plate t s z ≡ false
+  pub stamps : HasStampsLeft s
+
+-- a party owns a zone with a plate in it
+pub record MayTake (t : PlanTable) (s : State) (m z : ℕ) : Type 0 where
+  pub party : IsPartyOf t m z
+  pub owner : owner_of s z ≡ Some m
+  pub plate : (zone_at s z).flag ≡ true
   pub stamps : HasStampsLeft s
 
 -- the posture gives the machine's plate a way, from a place that has one to a place that has none and none coming
@@ -46,31 +53,31 @@ pub record HasGift (t : PlanTable) (s : State) (m z : ℕ) : Type 0 where
   pub room : plates_for t s way.to ≡ 0
 
 pub record MayGive (t : PlanTable) (s : State) (m z : ℕ) : Type 0 where
-  pub holder : IsHolder t s m z false
+  pub holder : IsHolder t s m z
   pub runs : s.stopped ≡ false
   pub gift : HasGift t s m z
 
 pub record MayYield (t : PlanTable) (s : State) (m z : ℕ) : Type 0 where
-  pub holder : IsHolder t s m z false
+  pub holder : IsHolder t s m z
   pub opened : IsOpen s z
 
 pub record MayRelease (t : PlanTable) (s : State) (m z : ℕ) : Type 0 where
-  pub holder : IsHolder t s m z false
+  pub holder : IsHolder t s m z
   pub stands : posture_at s z ≢ Moving
 
--- a zone of its own, with no plate in it
-abbrev pub IsClear : State → ℕ → ℕ → Type 0
-IsClear s m z = (owner_of s z ≡ Some m) × ((zone_at s z).flag ≡ false)
+-- a zone of its own, with no plate in its space
+abbrev pub IsClear : PlanTable → State → ℕ → ℕ → Type 0
+IsClear t s m z = (owner_of s z ≡ Some m) × (space_has_plate t s z ≡ false)
 
 pub record MayPose (t : PlanTable) (s : State) (m p : ℕ) : Type 0 where
   pub own : (p < pose_count t) × (machine_of t p ≡ m)
   -- a pose that gives any zone Moving is taken while the plant runs, and all zones that the machine hosts are clear
   pub runs : (y : ℕ) → posture_of t p y ≡ Some Moving → s.stopped ≡ false
   pub all_clear : (y : ℕ) → posture_of t p y ≡ Some Moving → (z : ℕ) → z < zone_count t → host_of t z ≡ m
-      → IsClear s m z
+      → IsClear t s m z
   -- a hosted zone that gets another posture is clear
   pub changed_clear : (z : ℕ) (q : Posture) → z < zone_count t → host_of t z ≡ m → posture_of t p z ≡ Some q
-      → posture_at s z ≢ q → IsClear s m z
+      → posture_at s z ≢ q → IsClear t s m z
   -- some poses are taken only while all zones that the machine hosts move
   pub no_jump : (pose_row t p).after_moving ≡ true → (z : ℕ) → z < zone_count t → host_of t z ≡ m
       → posture_at s z ≡ Moving
@@ -105,7 +112,7 @@ pub record DoneExactly (t : PlanTable) (s : State) (m z p : ℕ) : Type 0 where
   pub claim : (reply t s m (Claim z) ≡ Done) ↔ MayClaim t s m z
   pub give : (reply t s m (Give z) ≡ Done) ↔ MayGive t s m z
   pub yield : (reply t s m (Yield z) ≡ Done) ↔ MayYield t s m z
-  pub take : (reply t s m (Take z) ≡ Done) ↔ IsHolder t s m z true
+  pub take : (reply t s m (Take z) ≡ Done) ↔ MayTake t s m z
   pub release : (reply t s m (Release z) ≡ Done) ↔ MayRelease t s m z
   pub pose : (reply t s m (SetPose p) ≡ Done) ↔ MayPose t s m p
   pub stop : (reply t s m Stop ≡ Done) ↔ MayMark s m false

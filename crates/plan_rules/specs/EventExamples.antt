@@ -19,7 +19,7 @@ abbrev pub gainers : ℕ → Call → ℕ → List ℕ
 gainers n c z = filter (λ m. gains lift_table n c m z) (0 ∷ 1 ∷ 2 ∷ [])
 
 abbrev pub losers : ℕ → Call → ℕ → List ℕ
-losers n c z = filter (λ m. loses n c m z) (0 ∷ 1 ∷ 2 ∷ [])
+losers n c z = filter (λ m. loses lift_table n c m z) (0 ∷ 1 ∷ 2 ∷ [])
 
 -- the upper zone, 1, has the parties 0 and 2
 pub record ZonesGained : Type 0 where
@@ -58,8 +58,8 @@ pub record ZonesLost : Type 0 where
 pub record DoneAlone : Type 0 where
   pub claimed : is_gain press_table (did 0 (Claim 0)) 0 0 ≡ true
   pub claim_refused : is_gain press_table (refused 0 (Claim 0) (Shut Closed)) 0 0 ≡ false
-  pub released : is_loss (did 0 (Release 0)) 0 0 ≡ true
-  pub release_refused : is_loss (refused 0 (Release 0) (Shut Moving)) 0 0 ≡ false
+  pub released : is_loss press_table (did 0 (Release 0)) 0 0 ≡ true
+  pub release_refused : is_loss press_table (refused 0 (Release 0) (Shut Moving)) 0 0 ≡ false
   pub stopped : is_stop (did watch Stop) ≡ true
   pub stop_refused : is_stop (refused watch Stop Stopped) ≡ false
   pub resume_is_no_stop : is_stop (did watch Resume) ≡ false

@@ -1,6 +1,7 @@
 -- Histories: lists of events, the oldest first. Each definition over a history takes the plan and the opening, the
 -- state that the history begins with.
-use Rattle.std.specs.Prelude.{◌≡◌, ℕ, ◌+◌, Bool, true, false, ◌&&◌, not, nat_eq, ◌⊎◌, List, [], ◌∷◌, ◌++◌, filter, count_by}
+use Rattle.std.specs.Prelude.{◌≡◌, ℕ, ◌+◌, Bool, true, false, ◌&&◌, not, nat_eq, ◌⊎◌, List, [], ◌∷◌, ◌++◌, filter}
+use Rattle.std.specs.Prelude.{count_by}
 use Rattle.std.specs.Prelude.{All, unwrap_or, if◌then◌else◌, IsTrue, ⊤}
 use Rattle.plan_types.specs.declared.posture.Posture.{Posture}
 use Rattle.plan_types.specs.declared.posture.Posture.TheVariants.{Moving}
@@ -10,7 +11,7 @@ use Rattle.plan_types.specs.declared.call.Call.TheVariants.{Advance}
 use Rattle.plan_types.specs.declared.answer.Answer.{Answer}
 use Rattle.plan_types.specs.declared.answer.Answer.TheVariants.{Done, Shown, Refused}
 use Rattle.plan_types.specs.declared.answer.Event.{Event}
-use Rattle.plan_types.specs.Table.{PlanTable, is_party, posture_of}
+use Rattle.plan_types.specs.Table.{PlanTable, is_party, posture_of, same_space}
 use Rattle.plan_rules.specs.declared.state.State.{State}
 use Rattle.plan_rules.specs.State.{posture_at, is_full, one_if}
 use Rattle.plan_rules.specs.Refusals.{owns}
@@ -63,35 +64,35 @@ gone t s [] = 0
 gone t s (e ∷ history) =
     one_if (is_done e && empties s e.call) + gone t (next t s e.machine e.call) history
 
--- a machine gains a zone by its own claim, or by a handover from the zone's other party
+-- a machine gains a zone by its own claim of a zone of this space, or by a handover from that zone's other party
 abbrev pub gains : PlanTable → ℕ → Call → ℕ → ℕ → Bool
-gains t n (Claim y) m z = nat_eq y z && nat_eq n m
-gains t n (Give y) m z = nat_eq y z && (is_party t n y && nat_eq (other_party t n y) m)
-gains t n (Yield y) m z = nat_eq y z && (is_party t n y && nat_eq (other_party t n y) m)
+gains t n (Claim y) m z = same_space t y z && nat_eq n m
+gains t n (Give y) m z = same_space t y z && (is_party t n y && nat_eq (other_party t n y) m)
+gains t n (Yield y) m z = same_space t y z && (is_party t n y && nat_eq (other_party t n y) m)
 gains t n _ m z = false
 
--- it loses a zone by its own handover or release
-abbrev pub loses : ℕ → Call → ℕ → ℕ → Bool
-loses n (Give y) m z = nat_eq y z && nat_eq n m
-loses n (Yield y) m z = nat_eq y z && nat_eq n m
-loses n (Release y) m z = nat_eq y z && nat_eq n m
-loses n _ m z = false
+-- it loses a zone by its own handover or release of a zone of this space
+abbrev pub loses : PlanTable → ℕ → Call → ℕ → ℕ → Bool
+loses t n (Give y) m z = same_space t y z && nat_eq n m
+loses t n (Yield y) m z = same_space t y z && nat_eq n m
+loses t n (Release y) m z = same_space t y z && nat_eq n m
+loses t n _ m z = false
 
 abbrev pub is_gain : PlanTable → Event → ℕ → ℕ → Bool
 is_gain t e m z = is_done e && gains t e.machine e.call m z
 
-abbrev pub is_loss : Event → ℕ → ℕ → Bool
-is_loss e m z = is_done e && loses e.machine e.call m z
+abbrev pub is_loss : PlanTable → Event → ℕ → ℕ → Bool
+is_loss t e m z = is_done e && loses t e.machine e.call m z
 
 abbrev pub IsGain : PlanTable → Event → ℕ → ℕ → Type 0
 IsGain t e m z = IsTrue (is_gain t e m z)
 
-abbrev pub IsLoss : Event → ℕ → ℕ → Type 0
-IsLoss e m z = IsTrue (is_loss e m z)
+abbrev pub IsLoss : PlanTable → Event → ℕ → ℕ → Type 0
+IsLoss t e m z = IsTrue (is_loss t e m z)
 
 -- no event of a history is a loss
-abbrev pub LosesNothing : List Event → ℕ → ℕ → Type 0
-LosesNothing history m z = All (λ e. ¬ IsLoss e m z) history
+abbrev pub LosesNothing : PlanTable → List Event → ℕ → ℕ → Type 0
+LosesNothing t history m z = All (λ e. ¬ IsLoss t e m z) history
 
 -- a history in which a machine gains a zone, and doesn't lose it after that
 pub record GainsAndKeeps (t : PlanTable) (history : List Event) (m z : ℕ) : Type 0 where
@@ -100,12 +101,12 @@ pub record GainsAndKeeps (t : PlanTable) (history : List Event) (m z : ℕ) : Ty
   pub since : List Event
   pub split : history ≡ before ++ gain ∷ since
   pub gained : IsGain t gain m z
-  pub kept : LosesNothing since m z
+  pub kept : LosesNothing t since m z
 
 -- a machine holds a zone after a history: it owned it in the opening and hasn't lost it, or has gained it and not lost
 -- it since
 abbrev pub Holds : PlanTable → State → List Event → ℕ → ℕ → Type 0
-Holds t s history m z = (IsTrue (owns s m z) × LosesNothing history m z) ⊎ GainsAndKeeps t history m z
+Holds t s history m z = (IsTrue (owns s m z) × LosesNothing t history m z) ⊎ GainsAndKeeps t history m z
 
 -- which calls stop and resume
 abbrev pub stops : Call → Bool

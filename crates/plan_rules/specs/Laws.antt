@@ -1,5 +1,5 @@
 -- Laws of every legal history from a sound opening, for every plan.
-use Rattle.std.specs.Prelude.{◌≡◌, ◌≢◌, ℕ, ◌+◌, ◌<◌, Bool, true, false, ◌||◌, nat_eq, List, [], ◌∷◌, ◌++◌, Some, IsTrue}
+use Rattle.std.specs.Prelude.{◌≡◌, ◌≢◌, ℕ, ◌+◌, ◌<◌, Bool, true, false, List, [], ◌∷◌, ◌++◌, Some, IsTrue}
 use Rattle.std.specs.Prelude.{◌↔◌}
 use Rattle.plan_types.specs.declared.posture.Posture.{Posture}
 use Rattle.plan_types.specs.declared.posture.Posture.TheVariants.{Moving, OpenIn}
@@ -10,6 +10,7 @@ use Rattle.plan_types.specs.declared.table.Transfer.{Transfer}
 use Rattle.plan_types.specs.declared.answer.Answer.TheVariants.{Done}
 use Rattle.plan_types.specs.declared.answer.Event.{Event}
 use Rattle.plan_types.specs.Table.{PlanTable, zone_count, place_count, host_of, guest_of, keeper_of, is_moving_pose}
+use Rattle.plan_types.specs.Table.{enters, space_of}
 use Rattle.plan_types.specs.Table.{posture_of, watch, pose_count, pose_row, machine_of, transfer_of}
 use Rattle.plan_types.specs.Table.{is_source, is_sink}
 use Rattle.plan_types.specs.Plan.{IsPlan}
@@ -18,7 +19,8 @@ use Rattle.plan_rules.specs.State.{zone_at, owner_of, posture_at, is_full, plate
 use Rattle.plan_rules.specs.Sound.{IsSound, is_open}
 use Rattle.plan_rules.specs.Refusals.{owns}
 use Rattle.plan_rules.specs.Reply.{reply}
-use Rattle.plan_rules.specs.History.{after, IsLegal, own_events, done_count, Holds, Moves, posture_by_events, IsStopped}
+use Rattle.plan_rules.specs.History.{after, IsLegal, own_events, done_count, Holds, Moves, posture_by_events}
+use Rattle.plan_rules.specs.History.{IsStopped}
 use Rattle.plan_rules.specs.History.{come, gone}
 
 -- a law holds of each prefix of a history
@@ -35,13 +37,18 @@ ThroughoutIsOfPrefixes =
 abbrev pub done : ℕ → Call → Event
 done m c = record { machine = m; call = c; answer = Done }
 
--- two machines never hold the same zone; only a zone's host or guest can hold it, and exactly the holder owns it in the
+-- two machines never hold the same zone; only who enters its space can hold it, and exactly the holder owns it in the
 -- state after
 pub record OneHolder (t : PlanTable) (s : State) (h : List Event) : Type 0 where
   pub alone : (m n z : ℕ) → Holds t s h m z → Holds t s h n z → m ≡ n
-  pub party : (m z : ℕ) → z < zone_count t → Holds t s h m z
-      → IsTrue (nat_eq m (host_of t z) || nat_eq m (guest_of t z))
+  pub party : (m z : ℕ) → z < zone_count t → Holds t s h m z → IsTrue (enters t m z)
   pub owner : (m z : ℕ) → Holds t s h m z ↔ IsTrue (owns (after t s h) m z)
+
+-- a space has one machine at a time: two machines never hold zones of one space
+abbrev pub OneAtATime : PlanTable → State → List Event → Type 0
+OneAtATime t s h =
+    (m n y z : ℕ) → y < zone_count t → z < zone_count t → space_of t y ≡ space_of t z → Holds t s h m y
+    → Holds t s h n z → m ≡ n
 
 -- a zone that moves is held by its host; only its host changes its posture, while it holds the zone
 pub record MoverIsHost (t : PlanTable) (s : State) (h : List Event) : Type 0 where
@@ -173,6 +180,7 @@ pub record StoppedUntilResumed (t : PlanTable) (s : State) (h : List Event) : Ty
 -- every law of a legal history
 pub record Lawful (t : PlanTable) (s : State) (h : List Event) : Type 0 where
   pub one_holder : OneHolder t s h
+  pub one_at_a_time : OneAtATime t s h
   pub mover_is_host : MoverIsHost t s h
   pub guest_only_while_open : GuestOnlyWhileOpen t s h
   pub plates_are_counted : PlatesAreCounted t s h
@@ -189,6 +197,7 @@ pub record Lawful (t : PlanTable) (s : State) (h : List Event) : Type 0 where
 -- so each law holds of a history of which every law holds
 pub record LawfulSaysEach (t : PlanTable) (s : State) (h : List Event) : Type 0 where
   pub holder : Lawful t s h → OneHolder t s h
+  pub space : Lawful t s h → OneAtATime t s h
   pub mover : Lawful t s h → MoverIsHost t s h
   pub guest : Lawful t s h → GuestOnlyWhileOpen t s h
   pub counted : Lawful t s h → PlatesAreCounted t s h

@@ -23,3 +23,5 @@ pub mod RefusedLaws
 pub mod PoseLaws
 pub mod ChangeLaws
 pub mod AdvanceExamples
+pub mod SpaceExamples
+pub mod PlainLaws

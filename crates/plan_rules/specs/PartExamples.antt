@@ -76,7 +76,7 @@ pub record RefusalParts : Type 0 where
   pub not_owner : refusal.not_owner riding 0 1 ≡ Some (NotOwner (Some 2))
   pub owner : refusal.not_owner riding 2 1 ≡ None
   pub no_owner : refusal.not_owner riding 0 5 ≡ Some (NotOwner None)
-  pub plate : of_both (refusal.plate_in_zone riding) ≡ None ∷ Some (PlateInZone 1) ∷ []
+  pub plate : of_both (refusal.plate_in_zone lift_table riding) ≡ None ∷ Some (PlateInZone 1) ∷ []
   pub no_plate : of_both (refusal.no_plate_in_zone riding) ≡ Some NoPlate ∷ None ∷ []
   pub moving : map (λ q. refusal.shut_while_moving (upper_in q) 1) postures
       ≡ None ∷ Some (Shut Moving) ∷ None ∷ None ∷ []
@@ -185,8 +185,10 @@ pub record ChangeParts : Type 0 where
   pub filled : reply.filled (false ∷ false ∷ false ∷ []) (transfer 3 4 1 2) ≡ false ∷ false ∷ true ∷ []
   pub left : reply.emptied (true ∷ false ∷ []) None ≡ true ∷ false ∷ []
   pub left_too : reply.filled (true ∷ false ∷ []) None ≡ true ∷ false ∷ []
-  pub with_owner : reply.with_owner riding 1 (Some 0) ≡ lower ∷ interior (Some 0) OpenOut true ∷ replicate 8 free_zone
-  pub without_owner : reply.with_owner riding 0 None ≡ interior None OpenOut false ∷ upper ∷ replicate 8 free_zone
+  pub with_owner : reply.with_owner lift_table riding 1 (Some 0) false
+      ≡ lower ∷ interior (Some 0) OpenOut true ∷ replicate 8 free_zone
+  pub without_owner : reply.with_owner lift_table riding 0 None false
+      ≡ interior None OpenOut false ∷ upper ∷ replicate 8 free_zone
   pub posed : of_both (reply.posed lift_table riding 2) ≡ interior (Some 1) Closed false ∷ upper ∷ []
   pub left_alone : reply.posed doors_table riding 0 1 ≡ upper
   pub all_posed : reply.all_posed lift_table riding 2

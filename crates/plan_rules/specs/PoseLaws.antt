@@ -5,12 +5,13 @@ use Rattle.plan_types.specs.declared.posture.Posture.{Posture}
 use Rattle.plan_types.specs.declared.posture.Posture.TheVariants.{Moving}
 use Rattle.plan_types.specs.declared.call.Call.TheVariants.{SetPose}
 use Rattle.plan_types.specs.declared.answer.Refusal.{Refusal}
-use Rattle.plan_types.specs.declared.answer.Refusal.TheVariants.{NoPose, Stopped, NotOwner, PlateInZone, Jump, PlaceFull}
+use Rattle.plan_types.specs.declared.answer.Refusal.TheVariants.{NoPose, Stopped, NotOwner, PlateInZone, Jump}
+use Rattle.plan_types.specs.declared.answer.Refusal.TheVariants.{PlaceFull}
 use Rattle.plan_types.specs.declared.answer.Refusal.TheVariants.{Worn}
 use Rattle.plan_types.specs.declared.answer.Answer.TheVariants.{Refused}
 use Rattle.plan_types.specs.Table.{PlanTable, zone_count, pose_count, host_of, machine_of, posture_of}
 use Rattle.plan_rules.specs.declared.state.State.{State}
-use Rattle.plan_rules.specs.State.{zone_at, owner_of, posture_at}
+use Rattle.plan_rules.specs.State.{owner_of, posture_at, space_has_plate}
 use Rattle.plan_rules.specs.Reply.{reply}
 use Rattle.plan_rules.specs.SayLaws.{LacksRoom, Jumps}
 
@@ -21,12 +22,12 @@ Needs t s m p z =
     × (((y : ℕ) × (posture_of t p y ≡ Some Moving))
     ⊎ ((q : Posture) × (posture_of t p z ≡ Some q) × (posture_at s z ≢ q)))
 
--- a zone that a pose needs bars it: it isn't the machine's, or a plate is in it
+-- a zone that a pose needs bars it: it isn't the machine's, or a plate is in its space
 abbrev pub BarsByOwner : PlanTable → State → ℕ → ℕ → ℕ → Type 0
 BarsByOwner t s m p z = Needs t s m p z × (owner_of s z ≢ Some m)
 
 abbrev pub BarsByPlate : PlanTable → State → ℕ → ℕ → ℕ → Type 0
-BarsByPlate t s m p z = Needs t s m p z × ((zone_at s z).flag ≡ true)
+BarsByPlate t s m p z = Needs t s m p z × (space_has_plate t s z ≡ true)
 
 -- this zone does so, and no lower one
 abbrev pub IsLowest : (ℕ → Type 0) → ℕ → Type 0

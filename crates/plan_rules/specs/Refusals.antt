@@ -15,7 +15,7 @@ use Rattle.plan_types.specs.Below.{first_below, any_below}
 use Rattle.plan_types.specs.Table.{PlanTable, zone_count, host_of, guest_of, is_party, has_pose, pose_row, posture_of}
 use Rattle.plan_types.specs.Table.{is_moving_pose, transfer_of, watch, is_source, is_sink, has_end}
 use Rattle.plan_rules.specs.declared.state.State.{State}
-use Rattle.plan_rules.specs.State.{zone_at, owner_of, posture_at, is_full, plates_for, last_stamp}
+use Rattle.plan_rules.specs.State.{zone_at, owner_of, posture_at, is_full, plates_for, space_has_plate, last_stamp}
 use Rattle.plan_rules.specs.Sound.{is_open, is_owned_by}
 
 -- the first of two refusals
@@ -66,9 +66,9 @@ not_watch m = then_some (not (nat_eq m watch)) NotParty
 abbrev pub not_owner : State → ℕ → ℕ → Option Refusal
 not_owner s m z = then_some (not (owns s m z)) (NotOwner (owner_of s z))
 
--- a plate is in the zone, or none is
-abbrev pub plate_in_zone : State → ℕ → Option Refusal
-plate_in_zone s z = then_some (zone_at s z).flag (PlateInZone z)
+-- a plate is in the zone's space; or none is in the zone
+abbrev pub plate_in_zone : PlanTable → State → ℕ → Option Refusal
+plate_in_zone t s z = then_some (space_has_plate t s z) (PlateInZone z)
 
 abbrev pub no_plate_in_zone : State → ℕ → Option Refusal
 no_plate_in_zone s z = then_some (not (zone_at s z).flag) NoPlate
@@ -134,7 +134,7 @@ abbrev pub unowned_by_pose : PlanTable → State → ℕ → ℕ → ℕ → Opt
 unowned_by_pose t s m p z = then_some (is_concerned t s m p z && not (owns s m z)) (NotOwner (owner_of s z))
 
 abbrev pub plate_under_pose : PlanTable → State → ℕ → ℕ → ℕ → Option Refusal
-plate_under_pose t s m p z = then_some (is_concerned t s m p z && (zone_at s z).flag) (PlateInZone z)
+plate_under_pose t s m p z = then_some (is_concerned t s m p z && space_has_plate t s z) (PlateInZone z)
 
 -- a zone that the machine hosts doesn't move
 abbrev pub stands_at : PlanTable → State → ℕ → ℕ → Bool
@@ -160,7 +160,7 @@ not_own_end t m p = then_some (not (has_end t m p)) NotParty
 abbrev pub can_go : PlanTable → State → ℕ → Bool
 can_go t s p = is_sink t p && is_full s p
 
--- a plate would come to a source that has one, or has one coming; one that is a sink, too, loses its own in place of it
+-- a plate would come to a source that has one, or has one coming; if the place is a sink, too, its own plate goes out for it
 abbrev pub source_taken : PlanTable → State → ℕ → Option Refusal
 source_taken t s p = then_some (is_source t p && (is_taken t s p && not (can_go t s p))) PlaceFull
 
@@ -179,14 +179,14 @@ give_refusal t s m z =
     not_party t m z
     or while_stopped s
     or not_owner s m z
-    or plate_in_zone s z
+    or plate_in_zone t s z
     or wrong_way (transfer_given t s m z)
     or nothing_to_give s (transfer_given t s m z)
     or no_room t s (transfer_given t s m z)
     or worn s
 
 abbrev pub yield_refusal : PlanTable → State → ℕ → ℕ → Option Refusal
-yield_refusal t s m z = not_party t m z or not_owner s m z or plate_in_zone s z or shut s z or worn s
+yield_refusal t s m z = not_party t m z or not_owner s m z or plate_in_zone t s z or shut s z or worn s
 
 -- the receiving place need not be tested: soundness keeps it empty while the zone's flag is set
 abbrev pub take_refusal : PlanTable → State → ℕ → ℕ → Option Refusal
@@ -194,7 +194,7 @@ take_refusal t s m z = not_party t m z or not_owner s m z or no_plate_in_zone s 
 
 abbrev pub release_refusal : PlanTable → State → ℕ → ℕ → Option Refusal
 release_refusal t s m z =
-    not_party t m z or not_owner s m z or plate_in_zone s z or shut_while_moving s z or worn s
+    not_party t m z or not_owner s m z or plate_in_zone t s z or shut_while_moving s z or worn s
 
 abbrev pub pose_refusal : PlanTable → State → ℕ → ℕ → Option Refusal
 pose_refusal t s m p =

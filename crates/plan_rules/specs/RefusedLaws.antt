@@ -12,7 +12,7 @@ use Rattle.plan_types.specs.declared.answer.Refusal.TheVariants.{Worn, Stopped, 
 use Rattle.plan_types.specs.declared.answer.Answer.TheVariants.{Refused}
 use Rattle.plan_types.specs.Table.{PlanTable, zone_count, guest_of, is_source, is_sink}
 use Rattle.plan_rules.specs.declared.state.State.{State}
-use Rattle.plan_rules.specs.State.{zone_at, owner_of, posture_at, is_full, plates_for}
+use Rattle.plan_rules.specs.State.{zone_at, owner_of, posture_at, is_full, plates_for, space_has_plate}
 use Rattle.plan_rules.specs.Reply.{reply}
 use Rattle.plan_rules.specs.DoneLaws.{IsPartyOf, IsOpen, KeepsEnd, PlateMoves}
 use Rattle.plan_rules.specs.SayLaws.{OnGift, GivesNothing}
@@ -24,9 +24,12 @@ HasNoStampLeft s = 1048575 ≤ s.stamp
 abbrev pub IsHeard : PlanTable → State → ℕ → ℕ → Type 0
 IsHeard t s m z = IsPartyOf t m z × (s.stopped ≡ false)
 
--- a party asks about its own zone, in which a plate is, or none
+-- a party asks about its own zone, in whose space a plate is, or none; or in which one is, or none
 abbrev pub AsksOwn : PlanTable → State → ℕ → ℕ → Bool → Type 0
-AsksOwn t s m z plate = IsPartyOf t m z × (owner_of s z ≡ Some m) × ((zone_at s z).flag ≡ plate)
+AsksOwn t s m z plate = IsPartyOf t m z × (owner_of s z ≡ Some m) × (space_has_plate t s z ≡ plate)
+
+abbrev pub AsksToTake : PlanTable → State → ℕ → ℕ → Bool → Type 0
+AsksToTake t s m z plate = IsPartyOf t m z × (owner_of s z ≡ Some m) × ((zone_at s z).flag ≡ plate)
 
 -- the zone has this owner, or none, and the machine isn't it
 abbrev pub IsOwnedElse : State → ℕ → ℕ → Option ℕ → Type 0
@@ -74,8 +77,8 @@ BarsYield t s m z _ = ⊥
 abbrev pub BarsTake : PlanTable → State → ℕ → ℕ → Refusal → Type 0
 BarsTake t s m z NotParty = ¬ IsPartyOf t m z
 BarsTake t s m z (NotOwner o) = IsPartyOf t m z × IsOwnedElse s m z o
-BarsTake t s m z NoPlate = AsksOwn t s m z false
-BarsTake t s m z Worn = AsksOwn t s m z true × HasNoStampLeft s
+BarsTake t s m z NoPlate = AsksToTake t s m z false
+BarsTake t s m z Worn = AsksToTake t s m z true × HasNoStampLeft s
 BarsTake t s m z _ = ⊥
 
 abbrev pub BarsRelease : PlanTable → State → ℕ → ℕ → Refusal → Type 0

@@ -1,5 +1,5 @@
 -- The reply to a call, and the state that it leaves.
-use Rattle.std.specs.Prelude.{ℕ, ◌+◌, Bool, true, false, not, nat_eq, List, map, set, Option, Some, None}
+use Rattle.std.specs.Prelude.{ℕ, ◌+◌, Bool, true, false, ◌&&◌, ◌||◌, not, nat_eq, List, map, set, Option, Some, None}
 use Rattle.std.specs.Prelude.{if◌then◌else◌}
 use Rattle.std.specs.List.{range_with_len}
 use Rattle.plan_types.specs.declared.table.Transfer.{Transfer}
@@ -9,10 +9,10 @@ use Rattle.plan_types.specs.declared.call.Call.TheVariants.{Resume, Advance}
 use Rattle.plan_types.specs.declared.answer.Refusal.{Refusal}
 use Rattle.plan_types.specs.declared.answer.Answer.{Answer}
 use Rattle.plan_types.specs.declared.answer.Answer.TheVariants.{Done, Shown, Refused}
-use Rattle.plan_types.specs.Table.{PlanTable, host_of, guest_of, transfer_of}
+use Rattle.plan_types.specs.Table.{PlanTable, host_of, guest_of, transfer_of, same_space}
 use Rattle.plan_rules.specs.declared.state.ZoneState.{ZoneState}
 use Rattle.plan_rules.specs.declared.state.State.{State}
-use Rattle.plan_rules.specs.State.{zone_at, posture_at, is_full}
+use Rattle.plan_rules.specs.State.{zone_at, owner_of, posture_at, is_full}
 use Rattle.plan_rules.specs.Refusals.{claim_refusal, give_refusal, yield_refusal, take_refusal, release_refusal}
 use Rattle.plan_rules.specs.Refusals.{pose_refusal, stop_refusal, resume_refusal, inquire_refusal, advance_refusal}
 use Rattle.plan_rules.specs.Refusals.{transfer_given, posture_with}
@@ -62,17 +62,24 @@ posed t s p z = record (zone_at s z) { posture = posture_with t s p z }
 abbrev pub all_posed : PlanTable → State → ℕ → List ZoneState
 all_posed t s p = map (posed t s p) (range_with_len 0 10)
 
--- the zones, with another owner of one
-abbrev pub with_owner : State → ℕ → Option ℕ → List ZoneState
-with_owner s z owner = set s.zones z (record (zone_at s z) { owner = owner })
+-- a zone, after the space of a zone has got another owner, and that zone a plate or none
+abbrev pub handed : PlanTable → State → ℕ → Option ℕ → Bool → ℕ → ZoneState
+handed t s z owner plate y = record {
+  owner = if same_space t z y then owner else owner_of s y;
+  flag = (plate && nat_eq y z) || (zone_at s y).flag;
+  posture = posture_at s y;
+}
+
+abbrev pub with_owner : PlanTable → State → ℕ → Option ℕ → Bool → List ZoneState
+with_owner t s z owner plate = map (handed t s z owner plate) (range_with_len 0 10)
 
 -- the zones, and the full places, after a Done call
 abbrev pub zones_after : PlanTable → State → ℕ → Call → List ZoneState
-zones_after t s m (Claim z) = with_owner s z (Some m)
-zones_after t s m (Give z) = set s.zones z (record (zone_at s z) { owner = Some (other_party t m z); flag = true })
-zones_after t s m (Yield z) = with_owner s z (Some (other_party t m z))
+zones_after t s m (Claim z) = with_owner t s z (Some m) false
+zones_after t s m (Give z) = with_owner t s z (Some (other_party t m z)) true
+zones_after t s m (Yield z) = with_owner t s z (Some (other_party t m z)) false
 zones_after t s m (Take z) = set s.zones z (record (zone_at s z) { flag = false })
-zones_after t s m (Release z) = with_owner s z None
+zones_after t s m (Release z) = with_owner t s z None false
 zones_after t s m (SetPose p) = all_posed t s p
 zones_after t s m _ = s.zones
 

@@ -13,7 +13,7 @@ use Rattle.plan_types.specs.declared.answer.Answer.TheVariants.{Refused}
 use Rattle.plan_types.specs.Table.{PlanTable, zone_count, pose_count, host_of, machine_of, pose_row, posture_of}
 use Rattle.plan_types.specs.Table.{transfer_of, is_source, is_sink}
 use Rattle.plan_rules.specs.declared.state.State.{State}
-use Rattle.plan_rules.specs.State.{zone_at, owner_of, posture_at, is_full, plates_for}
+use Rattle.plan_rules.specs.State.{zone_at, owner_of, posture_at, is_full, plates_for, space_has_plate}
 use Rattle.plan_rules.specs.Reply.{reply}
 use Rattle.plan_rules.specs.DoneLaws.{IsPartyOf, KeepsEnd}
 
@@ -83,7 +83,7 @@ Says t s m c (Held o) = OfSome t m c (λ z. (owner_of s z ≡ Some o) × (o ≢ 
 Says t s m c AlreadyMine = OfSome t m c (λ z. owner_of s z ≡ Some m)
 Says t s m c (Shut q) = OfSome t m c (λ z. (posture_at s z ≡ q) × ((q ≡ Closed) ⊎ (q ≡ Moving)))
 Says t s m c (NotOwner o) = OfSome t m c (λ z. (owner_of s z ≡ o) × (o ≢ Some m))
-Says t s m c (PlateInZone z) = IsAbout t m c z × ((zone_at s z).flag ≡ true)
+Says t s m c (PlateInZone z) = IsAbout t m c z × (space_has_plate t s z ≡ true)
 Says t s m c NoPlate = LacksPlate t s m c
 Says t s m c PlaceFull = LacksRoom t s m c
 Says t s m c WrongWay = GivesNothing t s m c

@@ -4,8 +4,8 @@ use mir.Val.{bool_byte}
 use Rattle.plan_types.specs.declared.posture.Posture.{Posture}
 use Rattle.plan_types.specs.declared.posture.Posture.TheVariants.{Closed}
 use Rattle.plan_types.specs.declared.table.Transfer.{Transfer}
-use Rattle.plan_types.specs.Below.{sum_below}
-use Rattle.plan_types.specs.Table.{PlanTable, zone_count, place_count, transfer_of}
+use Rattle.plan_types.specs.Below.{any_below, sum_below}
+use Rattle.plan_types.specs.Table.{PlanTable, zone_count, place_count, transfer_of, same_space}
 use Rattle.plan_rules.specs.declared.state.ZoneState.{ZoneState}
 use Rattle.plan_rules.specs.declared.state.State.{State}
 
@@ -31,6 +31,10 @@ is_full s p = get_or s.full p false
 
 abbrev pub one_if : Bool → ℕ
 one_if b = bool_byte b
+
+-- a plate is in the space of a zone
+abbrev pub space_has_plate : PlanTable → State → ℕ → Bool
+space_has_plate t s z = any_below (λ y. same_space t y z && (zone_at s y).flag) (zone_count t)
 
 -- a plate is on its way through a zone to a place
 abbrev pub leads_to : Option Transfer → ℕ → Bool

@@ -1,5 +1,5 @@
 //! The answer to a call, and the state that it leaves.
-ghost use Rattle.std.specs.Prelude.{◌≡◌, set};
+ghost use Rattle.std.specs.Prelude.{◌≡◌, set, Some, None, false};
 ghost use Rattle.plan_types.specs.declared.answer.Answer.TheVariants.{Done};
 ghost use Rattle.plan_rules.specs.Reply as replies;
 
@@ -16,6 +16,36 @@ fn other_party(plan: &Plan, machine: u8, zone: u8) -> u8
         row.guest
     } else {
         row.host
+    }
+}
+
+/// Who gets the space of a zone, and whether a plate comes into the zone.
+#[derive(Clone, Copy)]
+struct Handover {
+    zone: u8,
+    owner: Option<u8>,
+    plate: bool,
+}
+
+impl Handover {
+    fn to(zone: u8, machine: u8, plate: bool) -> Handover
+        ensures { result ≡ record { zone = zone; owner = Some machine; plate = plate } }
+    {
+        Handover {
+            zone,
+            owner: Some(machine),
+            plate,
+        }
+    }
+
+    fn free(zone: u8) -> Handover
+        ensures { result ≡ record { zone = zone; owner = None; plate = false } }
+    {
+        Handover {
+            zone,
+            owner: None,
+            plate: false,
+        }
     }
 }
 
@@ -57,11 +87,34 @@ impl State {
         places
     }
 
-    fn with_owner(&self, zone: u8, owner: Option<u8>) -> [ZoneState; MAX_ZONES]
-        ensures { result ≡ replies.with_owner self.now zone owner }
+    /// What a zone becomes if the space of a zone gets an owner, and that zone a plate or none more.
+    fn zone_handed(&self, plan: &Plan, to: Handover, zone: u8) -> ZoneState
+        ensures { result ≡ replies.handed plan.now self.now to.zone to.owner to.plate zone }
     {
-        let at = self.zone(zone);
-        self.with_zone(zone, ZoneState { owner, ..at })
+        let before = self.zone(zone);
+        let inside = plan.same_space(to.zone, zone);
+        ZoneState {
+            owner: if inside { to.owner } else { before.owner },
+            flag: (to.plate && zone == to.zone) || before.flag,
+            posture: before.posture,
+        }
+    }
+
+    fn with_owner(&self, plan: &Plan, to: Handover) -> [ZoneState; MAX_ZONES]
+        ensures { result ≡ replies.with_owner plan.now self.now to.zone to.owner to.plate }
+    {
+        [
+            self.zone_handed(plan, to, 0),
+            self.zone_handed(plan, to, 1),
+            self.zone_handed(plan, to, 2),
+            self.zone_handed(plan, to, 3),
+            self.zone_handed(plan, to, 4),
+            self.zone_handed(plan, to, 5),
+            self.zone_handed(plan, to, 6),
+            self.zone_handed(plan, to, 7),
+            self.zone_handed(plan, to, 8),
+            self.zone_handed(plan, to, 9),
+        ]
     }
 
     fn zone_after_pose(&self, plan: &Plan, pose: u8, zone: u8) -> ZoneState
@@ -93,23 +146,20 @@ impl State {
         ensures { result ≡ replies.zones_after plan.now self.now machine call }
     {
         match call {
-            Call::Claim(zone) => self.with_owner(zone, Some(machine)),
+            Call::Claim(zone) => self.with_owner(plan, Handover::to(zone, machine, false)),
             Call::Give(zone) => {
-                let owner = Some(other_party(plan, machine, zone));
-                let posture = self.zone(zone).posture;
-                let given = ZoneState {
-                    owner,
-                    flag: true,
-                    posture,
-                };
-                self.with_zone(zone, given)
+                let other = other_party(plan, machine, zone);
+                self.with_owner(plan, Handover::to(zone, other, true))
             }
-            Call::Yield(zone) => self.with_owner(zone, Some(other_party(plan, machine, zone))),
+            Call::Yield(zone) => {
+                let other = other_party(plan, machine, zone);
+                self.with_owner(plan, Handover::to(zone, other, false))
+            }
             Call::Take(zone) => {
                 let at = self.zone(zone);
                 self.with_zone(zone, ZoneState { flag: false, ..at })
             }
-            Call::Release(zone) => self.with_owner(zone, None),
+            Call::Release(zone) => self.with_owner(plan, Handover::free(zone)),
             Call::SetPose(pose) => self.zones_after_pose(plan, pose),
             Call::Inquire(_) | Call::Stop | Call::Resume | Call::Advance(_) => self.zones,
         }

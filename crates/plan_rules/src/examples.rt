@@ -7,6 +7,7 @@ ghost use Rattle.plan_rules.specs.EventExamples.{EventsAreMet};
 ghost use Rattle.plan_rules.specs.HoldingExamples.{HoldingIsMet};
 ghost use Rattle.plan_rules.specs.PartExamples.{PartsAreMet};
 ghost use Rattle.plan_rules.specs.AdvanceExamples.{AdvancesAreMet};
+ghost use Rattle.plan_rules.specs.SpaceExamples.{RobotsAreMet};
 
 /// Histories of a press, of a lift, of two doors, of two presses and of two gates, written out, are legal: each refusal
 /// stands in one of them, and each call is done in one. The pose that moves one door leaves the other alone, and wants
@@ -48,4 +49,10 @@ pub fn events_are_met()
 /// some that aren't legal break the laws of advances.
 pub fn advances_are_met()
     ensures { AdvancesAreMet }
+{}
+
+/// A press with two robots: claims, handovers to the right robot, and refusals. A zone has the owner of its space, and
+/// a plate bars its whole space. And literal states that break the rules of spaces.
+pub fn robots_are_met()
+    ensures { RobotsAreMet }
 {}

@@ -11,6 +11,7 @@ ghost use Rattle.plan_rules.specs.Laws as law;
 ghost use Rattle.plan_rules.specs.Laws.{Throughout};
 ghost use Rattle.plan_rules.specs.LiftLaws.{LawsOfLift};
 ghost use Rattle.plan_rules.specs.PlaceLaws.{FullPlaces};
+ghost use Rattle.plan_rules.specs.PlainLaws.{PlainPlansStay};
 ghost use Rattle.plan_rules.specs.PoseLaws.{PosesAreRefusedExactly, PosesNameLowestZones};
 ghost use Rattle.plan_rules.specs.RefusalLaws.{OrdersAreKept, RefusalsTell};
 ghost use Rattle.plan_rules.specs.RefusedLaws.{CallsAreRefusedExactly};
@@ -19,12 +20,21 @@ ghost use Rattle.plan_rules.specs.SayLaws.{RefusalsAreTrue};
 use crate::state::State;
 use plan_types::{Event, Plan};
 
-/// Two machines never hold the same zone. Only a zone's host or guest can hold it, and exactly the holder owns it in
-/// the state after the history.
+/// Two machines never hold the same zone. Only who enters its space can hold it, and exactly the holder owns it in the
+/// state after the history.
 pub fn one_holder(plan: &Plan, opening: &State, history: &[Event])
     requires sound { IsSound plan.now opening.now }
     requires legal { IsLegal plan.now opening.now history.now }
     ensures { Throughout (law.OneHolder plan.now opening.now) history.now }
+{
+    let _ = plan.machines();
+}
+
+/// A space has one machine at a time: two machines never hold zones of one space.
+pub fn one_at_a_time(plan: &Plan, opening: &State, history: &[Event])
+    requires sound { IsSound plan.now opening.now }
+    requires legal { IsLegal plan.now opening.now history.now }
+    ensures { Throughout (law.OneAtATime plan.now opening.now) history.now }
 {
     let _ = plan.machines();
 }
@@ -196,6 +206,12 @@ pub fn full_places()
 /// All these laws hold of each prefix of every legal history from any sound opening, for every plan, stored or not.
 pub fn lawful_histories()
     ensures { law.EveryLegalHistoryIsLawful }
+{}
+
+/// Where no zone joins the one before it, each is a space by itself: its host and its guest enter it, a plate in it
+/// bars it, and another owner is set at this zone alone.
+pub fn plain_plans_stay()
+    ensures { PlainPlansStay }
 {}
 
 /// A history of which every law holds keeps each of the laws. And what each law says of a lift, in literal numbers, of

@@ -1,6 +1,6 @@
 //! Why a call is refused: each condition by itself, and for each call the order of its conditions.
-ghost use Rattle.std.specs.Prelude.{◌≡◌};
-ghost use Rattle.plan_types.specs.Table.{zone_count};
+ghost use Rattle.std.specs.Prelude.{◌≡◌, ◌&&◌};
+ghost use Rattle.plan_types.specs.Table.{zone_count, same_space};
 ghost use Rattle.plan_types.specs.Below.{any_below};
 ghost use Rattle.plan_rules.specs.State as states;
 ghost use Rattle.plan_rules.specs.Sound.{is_open as opens_way};
@@ -110,10 +110,30 @@ impl State {
         (owner != Some(machine)).then_some(Refusal::NotOwner(owner))
     }
 
-    fn plate_in_zone(&self, zone: u8) -> Option<Refusal>
-        ensures { result ≡ refusals.plate_in_zone self.now zone }
+    fn has_plate_of(&self, plan: &Plan, zone: u8, other: u8) -> bool
+        ensures { let at = states.zone_at self.now other in
+            result ≡ (same_space plan.now other zone && at.flag) }
     {
-        self.zone(zone).flag.then_some(Refusal::PlateInZone(zone))
+        plan.same_space(other, zone) && self.zone(other).flag
+    }
+
+    /// Whether a plate is in the space of a zone.
+    #[tactic(auto, using(plan_types::proofs::lemmas::Below::any_below_more))]
+    fn space_has_plate(&self, plan: &Plan, zone: u8) -> bool
+        ensures { result ≡ states.space_has_plate plan.now self.now zone }
+    {
+        let mut found = false;
+        for other in 0..plan.zone_count() {
+            found = found || self.has_plate_of(plan, zone, other);
+        }
+        found
+    }
+
+    fn plate_in_zone(&self, plan: &Plan, zone: u8) -> Option<Refusal>
+        ensures { result ≡ refusals.plate_in_zone plan.now self.now zone }
+    {
+        self.space_has_plate(plan, zone)
+            .then_some(Refusal::PlateInZone(zone))
     }
 
     fn no_plate_in_zone(&self, zone: u8) -> Option<Refusal>
@@ -212,7 +232,7 @@ impl State {
         not_party(plan, machine, zone)
             .or(self.while_stopped())
             .or(self.not_owner(machine, zone))
-            .or(self.plate_in_zone(zone))
+            .or(self.plate_in_zone(plan, zone))
             .or(wrong_way(way))
             .or(self.nothing_to_give(way))
             .or(self.no_room(plan, way))
@@ -224,7 +244,7 @@ impl State {
     {
         not_party(plan, machine, zone)
             .or(self.not_owner(machine, zone))
-            .or(self.plate_in_zone(zone))
+            .or(self.plate_in_zone(plan, zone))
             .or(self.shut_refusal(zone))
             .or(self.worn_refusal())
     }
@@ -243,7 +263,7 @@ impl State {
     {
         not_party(plan, machine, zone)
             .or(self.not_owner(machine, zone))
-            .or(self.plate_in_zone(zone))
+            .or(self.plate_in_zone(plan, zone))
             .or(self.shut_while_moving(zone))
             .or(self.worn_refusal())
     }
@@ -344,7 +364,8 @@ impl State {
     fn plate_under_pose(&self, plan: &Plan, machine: u8, pose: u8, zone: u8) -> Option<Refusal>
         ensures { result ≡ refusals.plate_under_pose plan.now self.now machine pose zone }
     {
-        let under = self.is_concerned(plan, machine, pose, zone) && self.zone(zone).flag;
+        let under = self.is_concerned(plan, machine, pose, zone)
+            && self.space_has_plate(plan, zone);
         under.then_some(Refusal::PlateInZone(zone))
     }
 

@@ -42,6 +42,8 @@ mod served;
 #[cfg(test)]
 mod sizes;
 #[cfg(test)]
+mod spaces;
+#[cfg(test)]
 mod two_presses;
 #[cfg(test)]
 mod word_calls;

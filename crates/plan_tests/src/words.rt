@@ -18,6 +18,7 @@ fn tables_of(alloc: Global, size: Size) -> Result<Tables, AllocError> {
     let zone = PlanZone {
         host: 0,
         guest: 1,
+        joins: false,
         inward: if has_way {
             Some(Way { from: 0, to: 1 })
         } else {

@@ -1,7 +1,7 @@
 //! A plan with the names of its machines, zones, places and poses.
 ghost use Rattle.std.specs.Prelude.{◌≡◌};
 ghost use Rattle.plan_word.specs.Layout.{counts_of};
-ghost use Rattle.plan_text.specs.Named.{named};
+ghost use Rattle.plan_text.specs.Named.{named_in};
 
 use crate::names::Names;
 use plan_types::Plan;
@@ -15,6 +15,7 @@ pub struct NamedPlan {
     pub(crate) layout: Layout,
     pub(crate) machines: Names,
     pub(crate) zones: Names,
+    pub(crate) spaces: Names,
     pub(crate) places: Names,
     pub(crate) poses: Names,
 }
@@ -30,6 +31,7 @@ impl Model for NamedPlan {
       plan = a.plan;
       machines = a.machines;
       zones = a.zones;
+      spaces = a.spaces;
       places = a.places;
       poses = a.poses;
     } };
@@ -38,9 +40,17 @@ impl Model for NamedPlan {
 }
 
 impl NamedPlan {
-    /// A plan with the names of its machines, zones, places and poses, each in the order of the numbers.
-    pub fn new(plan: Plan, machines: Names, zones: Names, places: Names, poses: Names) -> NamedPlan
-        ensures { result ≡ named plan machines zones places poses }
+    /// A plan with the names of its machines, zones, places and poses, each in the order of the numbers, and of each
+    /// zone the name of its space.
+    pub fn new(
+        plan: Plan,
+        machines: Names,
+        zones: Names,
+        spaces: Names,
+        places: Names,
+        poses: Names,
+    ) -> NamedPlan
+        ensures { result ≡ named_in plan machines zones spaces places poses }
     {
         let layout = Layout::of(&plan);
         NamedPlan {
@@ -48,6 +58,7 @@ impl NamedPlan {
             layout,
             machines,
             zones,
+            spaces,
             places,
             poses,
         }
@@ -79,6 +90,13 @@ impl NamedPlan {
         ensures { result.now ≡ self.now.zones }
     {
         &self.zones
+    }
+
+    /// The name of each zone's space, by the zone's number: the zone's own, if it is a space by itself.
+    pub fn spaces(&self) -> &Names
+        ensures { result.now ≡ self.now.spaces }
+    {
+        &self.spaces
     }
 
     /// The names of the places.

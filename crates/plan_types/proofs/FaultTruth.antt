@@ -5,15 +5,16 @@ use Rattle.std.proofs.lemmas.Bool.{cases_lt, eqb-true, lt-ltb, le-leb}
 use Rattle.std.specs.Cmp.{first_so, second_so}
 use Rattle.plan_types.specs.declared.posture.Posture.{Posture}
 use Rattle.plan_types.specs.declared.fault.PlanFault.{PlanFault}
-use Rattle.plan_types.specs.declared.fault.PlanFault.TheVariants.{TooManyMachines, TooManyZones, TooManyPoses, TooManyPlaces, TooWide, NoSuchKeeper, NoSuchHost, NoSuchGuest, HostIsGuest, InwardAstray, OutwardAstray, NoSuchMachine, ForeignZone}
+use Rattle.plan_types.specs.declared.fault.PlanFault.TheVariants.{TooManyMachines, TooManyZones, TooManyPoses, TooManyPlaces, TooWide, NoSuchKeeper, NoSuchHost, NoSuchGuest, HostIsGuest, InwardAstray, OutwardAstray, NoSuchMachine, ForeignZone, TwoHosts, GuestTwice, HalfSpace}
 use Rattle.plan_types.specs.declared.table.Way.{Way}
-use Rattle.plan_types.specs.Below.{first_below}
-use Rattle.plan_types.specs.Table.{PlanTable, zone_count, pose_count, place_count, word_width, zone_row, keeper_of, host_of, guest_of, machine_of, posture_of, is_hosted}
-use Rattle.plan_types.specs.Plan.{leads}
+use Rattle.plan_types.specs.Below.{first_below, any_below}
+use Rattle.plan_types.specs.Table.{PlanTable, zone_count, pose_count, place_count, word_width, zone_row, keeper_of, host_of, guest_of, machine_of, posture_of, is_hosted, space_of}
+use Rattle.plan_types.specs.Plan.{leads, is_alike}
 use Rattle.plan_types.specs.TableLaws.{GoesBetween}
-use Rattle.plan_types.specs.Faults.{◌or◌, unless, count_fault, width_fault, keeper_fault, zone_fault, pose_fault, is_foreign, foreign_fault}
+use Rattle.plan_types.specs.Faults.{◌or◌, unless, count_fault, width_fault, keeper_fault, zone_fault, pose_fault, is_foreign, foreign_fault, has_guest_of, space_fault, half_fault, halves_fault}
 use Rattle.plan_types.specs.FaultLaws.{Says, FaultsAreTrue}
 use Rattle.plan_types.proofs.Rules.{leads_on}
+use Rattle.plan_types.proofs.Shapes.{any_found}
 
 -- ---- what holds of the first fault of several
 
@@ -110,6 +111,23 @@ module _ (t : PlanTable) where
       (one_says (Says t) (nat_lt (machine_of t p) t.machines) (NoSuchMachine p) (λ no. (l, not_below (machine_of t p) t.machines no)))
       (all_say (Says t) (foreign_fault t p) 10 (λ z few. foreign p z l few))
 
+  space : (z : ℕ) → z < zone_count t → (f : PlanFault) → space_fault t z ≡ Some f → Says t f
+  space z l =
+      let first = host_of t (space_of t z) in
+      let again = any_below (has_guest_of t z) z in
+      both_say (Says t) (unless (nat_eq first (host_of t z)) (TwoHosts z)) (unless (not again) (GuestTwice z))
+      (one_says (Says t) (nat_eq first (host_of t z)) (TwoHosts z) (λ no. (l, λ same. let yes : nat_eq first (host_of t z) ≡ true = eq-eqb _ _ same in cc)))
+      (one_says (Says t) (not again) (GuestTwice z) (λ no.
+      let found = any_found (has_guest_of t z) z (is_so again no) in
+      let same = nat_eq (space_of t found.0) (space_of t z) in
+      let guest = nat_eq (guest_of t found.0) (guest_of t z) in
+      (l, (found.0, found.1, eqb-true _ _ (first_so same guest found.2), eqb-true _ _ (second_so same guest found.2)))))
+
+  halves : (p : ℕ) → p < pose_count t → (f : PlanFault) → halves_fault t p ≡ Some f → Says t f
+  halves p l =
+      all_say (Says t) (half_fault t p) (zone_count t)
+      (λ z m. one_says (Says t) (is_alike (posture_of t p (space_of t z)) (posture_of t p z)) (HalfSpace p z) (λ no. (l, (m, no))))
+
 pub faults_are_true : FaultsAreTrue
 faults_are_true t =
     let c = count_fault t in
@@ -117,10 +135,16 @@ faults_are_true t =
     let k = first_below (keeper_fault t) (place_count t) in
     let z = first_below (zone_fault t) (zone_count t) in
     let p = first_below (pose_fault t) (pose_count t) in
-    both_say (Says t) (c or w or k or z) p
+    let s = first_below (space_fault t) (zone_count t) in
+    let h = first_below (halves_fault t) (pose_count t) in
+    both_say (Says t) (c or w or k or z or p or s) h
+    (both_say (Says t) (c or w or k or z or p) s
+    (both_say (Says t) (c or w or k or z) p
     (both_say (Says t) (c or w or k) z
     (both_say (Says t) (c or w) k
     (both_say (Says t) c w (counts t) (width t))
     (all_say (Says t) (keeper_fault t) (place_count t) (keeper t)))
     (all_say (Says t) (zone_fault t) (zone_count t) (zone t)))
-    (all_say (Says t) (pose_fault t) (pose_count t) (pose t))
+    (all_say (Says t) (pose_fault t) (pose_count t) (pose t)))
+    (all_say (Says t) (space_fault t) (zone_count t) (space t)))
+    (all_say (Says t) (halves_fault t) (pose_count t) (halves t))

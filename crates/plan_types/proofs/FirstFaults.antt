@@ -1,17 +1,17 @@
 -- The fault that is found in tables is the first: none that comes before it is there.
-use Rattle.std.proofs.Common.{◌≡◌, ◌⊎◌, inl, inr, ℕ, zero, suc, ◌-◌, ◌<◌, not, nat_eq, nat_lt, nat_le, Option, Some, None, refl, sym, subst, arith, ltb-true}
+use Rattle.std.proofs.Common.{◌≡◌, ◌⊎◌, inl, inr, ℕ, zero, suc, ◌-◌, ◌<◌, Bool, true, false, not, nat_eq, nat_lt, nat_le, Option, Some, None, refl, sym, subst, arith, ltb-true}
 use Rattle.std.proofs.lemmas.Bool.{eqb-true, leb-true}
 use Rattle.plan_types.specs.declared.fault.PlanFault.{PlanFault}
-use Rattle.plan_types.specs.declared.fault.PlanFault.TheVariants.{TooManyMachines, TooManyZones, TooManyPoses, TooManyPlaces, TooWide, NoSuchKeeper, NoSuchHost, NoSuchGuest, HostIsGuest, InwardAstray, OutwardAstray, NoSuchMachine, ForeignZone}
-use Rattle.plan_types.specs.Below.{first_below}
-use Rattle.plan_types.specs.Table.{PlanTable, zone_count, pose_count, place_count, word_width, zone_row, keeper_of, host_of, guest_of, machine_of, posture_of, is_hosted}
-use Rattle.plan_types.specs.Plan.{leads}
-use Rattle.plan_types.specs.Faults.{◌or◌, unless, count_fault, width_fault, keeper_fault, zone_fault, pose_fault, is_foreign, foreign_fault, plan_fault}
+use Rattle.plan_types.specs.declared.fault.PlanFault.TheVariants.{TooManyMachines, TooManyZones, TooManyPoses, TooManyPlaces, TooWide, NoSuchKeeper, NoSuchHost, NoSuchGuest, HostIsGuest, InwardAstray, OutwardAstray, NoSuchMachine, ForeignZone, TwoHosts, GuestTwice, HalfSpace}
+use Rattle.plan_types.specs.Below.{first_below, any_below}
+use Rattle.plan_types.specs.Table.{PlanTable, zone_count, pose_count, place_count, word_width, zone_row, keeper_of, host_of, guest_of, machine_of, posture_of, is_hosted, space_of}
+use Rattle.plan_types.specs.Plan.{leads, is_alike}
+use Rattle.plan_types.specs.Faults.{◌or◌, unless, count_fault, width_fault, keeper_fault, zone_fault, pose_fault, is_foreign, foreign_fault, has_guest_of, space_fault, half_fault, halves_fault, plan_fault}
 use Rattle.plan_types.specs.FaultLaws.{Says, part_of, row_of, rank_of}
 use Rattle.plan_types.proofs.FaultTruth.{one_says, some_says}
 use Rattle.plan_types.proofs.Rules.{between}
 use Rattle.plan_types.proofs.lemmas.Below.{below_next, first_below_none}
-use Rattle.plan_types.proofs.lemmas.Checked.{apart, both, both_true, holds, hosted}
+use Rattle.plan_types.proofs.lemmas.Checked.{apart, both, both_true, holds, hosted, shared}
 
 -- ---- what holds of the first fault of several
 
@@ -274,6 +274,64 @@ module _ (t : PlanTable) where
   pose : Clear 7 0 0 → (p : ℕ) → ((k : ℕ) → k < p → pose_fault t k ≡ None) → (f : PlanFault) → pose_fault t p ≡ Some f → Earliest f
   pose clear p earlier = row_of_pose p (at_row 7 p clear (λ other at before. no_pose_fault other at (λ _. earlier (row_of other) before)))
 
+  -- ---- spaces
+
+  abbrev hosts_test : ℕ → Option PlanFault
+  hosts_test z = unless (nat_eq (host_of t (space_of t z)) (host_of t z)) (TwoHosts z)
+
+  abbrev again_test : ℕ → Option PlanFault
+  again_test z = unless (not (any_below (has_guest_of t z) z)) (GuestTwice z)
+
+  no_two_hosts : (z : ℕ) → hosts_test z ≡ None → Absent (TwoHosts z)
+  no_two_hosts z none says = says.1 (eqb-true _ _ (holds _ (TwoHosts z) none))
+
+  no_guest_twice : (z : ℕ) → space_fault t z ≡ None → Absent (GuestTwice z)
+  no_guest_twice z none says = (shared t z none).guests says.1.0 says.1.1 says.1.2 says.1.3
+
+  no_space_fault : (other : PlanFault) → part_of other ≡ 8 → (row_of other < zone_count t → space_fault t (row_of other) ≡ None) → Absent other
+  no_space_fault (TwoHosts z) at none = λ says. no_two_hosts z (both (hosts_test z) (again_test z) (none says.0)).0 says
+  no_space_fault (GuestTwice z) at none = λ says. no_guest_twice z (none says.0) says
+  no_space_fault _ at none = absurd (omega (arith, at))
+
+  at_hosts : (z : ℕ) → Absent (TwoHosts z) → (other : PlanFault) → part_of other ≡ 8 → row_of other ≡ z → rank_of other ≡ 0 → Absent other
+  at_hosts z none (TwoHosts y) p r k = subst (λ x. Absent (TwoHosts x)) (sym r) none
+  at_hosts z none (GuestTwice y) p r k = absurd (omega (arith, k))
+  at_hosts z none _ p r k = absurd (omega (arith, p))
+
+  row_of_space : (z : ℕ) → Clear 8 z 0 → (f : PlanFault) → space_fault t z ≡ Some f → Earliest f
+  row_of_space z clear =
+      both_first Earliest (hosts_test z) (again_test z)
+      (one_says Earliest (nat_eq (host_of t (space_of t z)) (host_of t z)) (TwoHosts z) (λ _. clear))
+      (λ none. one_says Earliest (not (any_below (has_guest_of t z) z)) (GuestTwice z) (λ _. next_rank 8 z 0 clear (at_hosts z (no_two_hosts z none))))
+
+  space : Clear 8 0 0 → (z : ℕ) → ((k : ℕ) → k < z → space_fault t k ≡ None) → (f : PlanFault) → space_fault t z ≡ Some f → Earliest f
+  space clear z earlier = row_of_space z (at_row 8 z clear (λ other at before. no_space_fault other at (λ _. earlier (row_of other) before)))
+
+  abbrev alike_test : ℕ → ℕ → Bool
+  alike_test p z = is_alike (posture_of t p (space_of t z)) (posture_of t p z)
+
+  no_half : (p z : ℕ) → half_fault t p z ≡ None → Absent (HalfSpace p z)
+  no_half p z none says = let alike : alike_test p z ≡ true = holds _ (HalfSpace p z) none in let not : alike_test p z ≡ false = says.1.1 in cc
+
+  no_halves_fault : (other : PlanFault) → part_of other ≡ 9 → (row_of other < pose_count t → halves_fault t (row_of other) ≡ None) → Absent other
+  no_halves_fault (HalfSpace p z) at none = λ says. no_half p z (first_below_none (half_fault t p) (zone_count t) (none says.0) z says.1.0) says
+  no_halves_fault _ at none = absurd (omega (arith, at))
+
+  at_half : (p z : ℕ) → Clear 9 p 0 → ((y : ℕ) → y < z → half_fault t p y ≡ None) → (other : PlanFault) → part_of other ≡ 9 → row_of other ≡ p → rank_of other < z → Absent other
+  at_half p z clear earlier (HalfSpace q y) a r k = subst (λ x. Absent (HalfSpace x y)) (sym r) (no_half p y (earlier y k))
+  at_half p z clear earlier _ a r k = absurd (omega (arith, a))
+
+  past_halves_of : (p z : ℕ) → Clear 9 p 0 → ((y : ℕ) → y < z → half_fault t p y ≡ None) → Clear 9 p z
+  past_halves_of p z clear earlier other (inl h) = clear other (inl h)
+  past_halves_of p z clear earlier other (inr (inl h)) = clear other (inr (inl h))
+  past_halves_of p z clear earlier other (inr (inr h)) = at_half p z clear earlier other h.0 h.1 h.2
+
+  half : Clear 9 0 0 → (p : ℕ) → ((k : ℕ) → k < p → halves_fault t k ≡ None) → (f : PlanFault) → halves_fault t p ≡ Some f → Earliest f
+  half clear p earlier =
+      let here = at_row 9 p clear (λ other at before. no_halves_fault other at (λ _. earlier (row_of other) before)) in
+      all_first Earliest (half_fault t p) (zone_count t) (λ z before.
+      one_says Earliest (alike_test p z) (HalfSpace p z) (λ _. past_halves_of p z here before))
+
   -- ---- one part after another
 
   abbrev keepers : Option PlanFault
@@ -295,12 +353,32 @@ module _ (t : PlanTable) where
       let h = both (count_fault t or width_fault t or keepers) zones none in
       next_part 6 (past_keepers h.0) (λ other at. no_zone_fault other at (first_below_none (zone_fault t) (zone_count t) h.1 (row_of other)))
 
+  abbrev poses : Option PlanFault
+  poses = first_below (pose_fault t) (pose_count t)
+
+  abbrev spaces : Option PlanFault
+  spaces = first_below (space_fault t) (zone_count t)
+
+  past_poses_of_all : (count_fault t or width_fault t or keepers or zones or poses) ≡ None → Clear 8 0 0
+  past_poses_of_all none =
+      let h = both (count_fault t or width_fault t or keepers or zones) poses none in
+      next_part 7 (past_all_zones h.0) (λ other at. no_pose_fault other at (first_below_none (pose_fault t) (pose_count t) h.1 (row_of other)))
+
+  past_spaces : (count_fault t or width_fault t or keepers or zones or poses or spaces) ≡ None → Clear 9 0 0
+  past_spaces none =
+      let h = both (count_fault t or width_fault t or keepers or zones or poses) spaces none in
+      next_part 8 (past_poses_of_all h.0) (λ other at. no_space_fault other at (first_below_none (space_fault t) (zone_count t) h.1 (row_of other)))
+
   pub first_told : (f : PlanFault) → plan_fault t ≡ Some f → Earliest f
   first_told =
-      both_first Earliest (count_fault t or width_fault t or keepers or zones) (first_below (pose_fault t) (pose_count t))
+      both_first Earliest (count_fault t or width_fault t or keepers or zones or poses or spaces) (first_below (halves_fault t) (pose_count t))
+      (both_first Earliest (count_fault t or width_fault t or keepers or zones or poses) spaces
+      (both_first Earliest (count_fault t or width_fault t or keepers or zones) poses
       (both_first Earliest (count_fault t or width_fault t or keepers) zones
       (both_first Earliest (count_fault t or width_fault t) keepers
       (both_first Earliest (count_fault t) (width_fault t) counts width)
       (λ none. all_first Earliest (keeper_fault t) (place_count t) (keeper (past_width none))))
       (λ none. all_first Earliest (zone_fault t) (zone_count t) (zone (past_keepers none))))
-      (λ none. all_first Earliest (pose_fault t) (pose_count t) (pose (past_all_zones none)))
+      (λ none. all_first Earliest (pose_fault t) (pose_count t) (pose (past_all_zones none))))
+      (λ none. all_first Earliest (space_fault t) (zone_count t) (space (past_poses_of_all none))))
+      (λ none. all_first Earliest (halves_fault t) (pose_count t) (half (past_spaces none)))

@@ -1,5 +1,5 @@
 -- What a sheet keeps: tables as bytes, and one row more.
-use Rattle.std.proofs.Common.{◌≡◌, ℕ, ◌+◌, ◌-◌, ◌<◌, ◌≤◌, suc, Bool, true, false, not, nat_eq, List, [], ◌∷◌, ◌++◌}
+use Rattle.std.proofs.Common.{◌≡◌, ℕ, ◌+◌, ◌*◌, ◌-◌, ◌%◌, ◌<◌, ◌≤◌, suc, Bool, true, false, not, nat_eq, nat_le, List, [], ◌∷◌, ◌++◌}
 use Rattle.std.proofs.Common.{length, map, take, set, replicate, Option, Some, None}
 use Rattle.std.proofs.Common.{refl, sym, ap, ap₂, ◌∙◌, subst, arith, length-append}
 use Rattle.std.proofs.lemmas.List.{set_at, take_at, map-append, append_assoc, length-map}
@@ -20,11 +20,30 @@ way_back : (w : Option Way) → way_told (way_byte w) (from_byte w) (to_byte w) 
 way_back None = refl
 way_back (Some w) = refl
 
-abbrev with_ways : PlanZone → Option Way → Option Way → PlanZone
-with_ways z inward outward = record { host = z.host; guest = z.guest; inward = inward; outward = outward }
+abbrev with_ways : PlanZone → Bool → Option Way → Option Way → PlanZone
+with_ways z joins inward outward =
+    record { host = z.host; guest = z.guest; joins = joins; inward = inward; outward = outward }
+
+abbrev entrance : Option Way → Bool → ℕ
+entrance w joins = way_byte w + 2 * bool_byte joins
+
+joins_back : (w : Option Way) (joins : Bool) → nat_le 2 (entrance w joins) ≡ joins
+joins_back None true = refl
+joins_back None false = refl
+joins_back (Some w) true = refl
+joins_back (Some w) false = refl
+
+inward_back : (w : Option Way) (joins : Bool) → way_told (entrance w joins % 2) (from_byte w) (to_byte w) ≡ w
+inward_back None true = refl
+inward_back None false = refl
+inward_back (Some w) true = refl
+inward_back (Some w) false = refl
 
 zone_back : (z : PlanZone) → zone_told (zone_bytes z) ≡ z
-zone_back z = ap₂ (with_ways z) (way_back z.inward) (way_back z.outward)
+zone_back z =
+    ap₂ (λ joins outward. with_ways z joins (way_told (entrance z.inward z.joins % 2) (from_byte z.inward) (to_byte z.inward)) outward)
+    (joins_back z.inward z.joins) (way_back z.outward)
+    ∙ ap (λ inward. with_ways z z.joins inward z.outward) (inward_back z.inward z.joins)
 
 posture_back : (q : Option Posture) → posture_told (posture_byte q) ≡ q
 posture_back None = refl

@@ -1,12 +1,12 @@
 -- The byte of a place, and the places with some bytes.
-use Rattle.std.proofs.Common.{◌≡◌, ℕ, zero, suc, ◌+◌, ◌*◌, ◌%◌, ◌<◌, ◌≤◌, Bool, true, false, nat_le, nat_lt, List, [], ◌∷◌, ◌++◌, length, get_or, map, take, All}
-use Rattle.std.proofs.Common.{refl, sym, ◌∙◌, ap, ap₂, arith, subst, length-append}
+use Rattle.std.proofs.Common.{◌≡◌, ℕ, zero, suc, ◌+◌, ◌*◌, ◌%◌, ◌<◌, Bool, true, false, nat_le, nat_lt, List, [], ◌∷◌, ◌++◌, length, get_or, map, take, All}
+use Rattle.std.proofs.Common.{refl, sym, ◌∙◌, ap₂, arith, subst}
 use Rattle.std.proofs.lemmas.Bool.{leb-true, leb-false, ltb-true, ltb-false}
 use Rattle.std.proofs.lemmas.List.{get_or_default, get_or_past, map-append, take_more}
 use Rattle.std.proofs.lemmas.List.Elements.{All-append}
 use mir.Val.{bool_byte}
 use Rattle.plan_types.specs.declared.table.PlanPlace.{PlanPlace}
-use Rattle.plan_types.specs.Table.{PlanTable, no_place, place_row, keeper_of, place_count}
+use Rattle.plan_types.specs.Table.{PlanTable, no_place, place_row, keeper_of}
 use Rattle.plan_types.specs.Plan.{IsPlan}
 use Rattle.plan_types.specs.Bytes.{place_byte, IsNarrow, HasNarrowPlaces}
 use Rattle.plan_types.proofs.Reading.{all_head, all_tail}

@@ -1,6 +1,6 @@
 -- The rules of a plan, by numbers and on the rows themselves.
 use Rattle.std.proofs.Common.{◌≡◌, ℕ, ◌<◌, true, nat_eq, nat_lt, length, get_or, Option, Some, None, IsTrue}
-use Rattle.std.proofs.Common.{refl, sym, subst, arith, ltb-true, eq-eqb}
+use Rattle.std.proofs.Common.{refl, subst, arith, ltb-true, eq-eqb}
 use Rattle.std.proofs.lemmas.Bool.{eqb-true, lt-ltb}
 use Rattle.std.proofs.lemmas.List.{get_or_default}
 use Rattle.std.specs.Cmp.{first_so, second_so}
@@ -10,7 +10,7 @@ use Rattle.plan_types.specs.declared.table.PlanPose.{PlanPose}
 use Rattle.plan_types.specs.declared.table.PlanPlace.{PlanPlace}
 use Rattle.plan_types.specs.Table.{PlanTable, no_zone, no_pose, no_place, zone_row, pose_row, is_place_of}
 use Rattle.plan_types.specs.Plan.{IsPlan, leads}
-use Rattle.plan_types.specs.TableLaws.{Keeps, GoesBetween, KeepsZoneRules, KeepsPoseRules, KeepsRules}
+use Rattle.plan_types.specs.TableLaws.{Keeps, GoesBetween, KeepsZoneRules, KeepsPoseRules, KeepsSpaceRules, KeepsRules}
 
 pub keeps : (t : PlanTable) (m p : ℕ) → is_place_of t p m ≡ true → Keeps t m p
 keeps t m p e =
@@ -52,6 +52,13 @@ pose_rules t plan p below = record {
   zones = λ z q few given. plan.pose_of_host p z q below few given;
 }
 
+space_rules : (t : PlanTable) → IsPlan t → (z : ℕ) → z < length t.zones → KeepsSpaceRules t z
+space_rules t plan z below = record {
+  host = plan.one_host_a_space z below;
+  guests = λ y earlier same. plan.guests_differ y z earlier below same;
+  poses = λ p few. plan.space_moves_whole p z few below;
+}
+
 pub rules_of_plan : (t : PlanTable) → IsPlan t → KeepsRules t
 rules_of_plan t plan = record {
   machines = omega (arith, plan.machines_at_most);
@@ -68,6 +75,7 @@ rules_of_plan t plan = record {
   pose_rows = λ k d below.
       subst (λ (row : PlanPose). KeepsPoseRules t row) (get_or_default t.poses k no_pose d below)
       (pose_rules t plan k below);
+  spaces = space_rules t plan;
 }
 
 pub plan_by_rules : (t : PlanTable) → KeepsRules t → IsPlan t
@@ -88,4 +96,7 @@ plan_by_rules t rules =
       outward_to_guest = λ z below. leads_on t _ _ _ (zone z below).outward;
       pose_of_machine = λ p below. (pose p below).machine;
       pose_of_host = λ p z q below few given. (pose p below).zones z q few given;
+      one_host_a_space = λ z below. (rules.spaces z below).host;
+      guests_differ = λ y z earlier below same. (rules.spaces z below).guests y earlier same;
+      space_moves_whole = λ p z few below. (rules.spaces z below).poses p few;
     }

@@ -1,5 +1,5 @@
 -- Rows with the same bytes are the same.
-use Rattle.std.proofs.Common.{◌≡◌, ℕ, ◌<◌, List, [], ◌∷◌, length, get_or, map, Bool, true, false}
+use Rattle.std.proofs.Common.{◌≡◌, ℕ, ◌+◌, ◌*◌, ◌<◌, List, [], ◌∷◌, length, get_or, map, Bool, true, false}
 use Rattle.std.proofs.Common.{Option, Some, None, nat_eq, if◌then◌else◌}
 use Rattle.std.proofs.Common.{refl, sym, ◌∙◌, ap, arith}
 use Rattle.std.proofs.lemmas.List.{same_lists, get_or-map, length-map, get_or_default}
@@ -18,11 +18,33 @@ same_way None (Some b) w f t = cc
 same_way (Some a) None w f t = cc
 same_way (Some a) (Some b) w f t = grind arith
 
+same_entrance : (a b : Option Way) (i j : Bool) → way_byte a + 2 * bool_byte i ≡ way_byte b + 2 * bool_byte j
+    → (way_byte a ≡ way_byte b) × (i ≡ j)
+same_entrance None None true true e = (refl, refl)
+same_entrance None None false false e = (refl, refl)
+same_entrance (Some a) (Some b) true true e = (refl, refl)
+same_entrance (Some a) (Some b) false false e = (refl, refl)
+same_entrance None None true false e = absurd (omega (arith, e))
+same_entrance None None false true e = absurd (omega (arith, e))
+same_entrance None (Some b) true true e = absurd (omega (arith, e))
+same_entrance None (Some b) true false e = absurd (omega (arith, e))
+same_entrance None (Some b) false true e = absurd (omega (arith, e))
+same_entrance None (Some b) false false e = absurd (omega (arith, e))
+same_entrance (Some a) None true true e = absurd (omega (arith, e))
+same_entrance (Some a) None true false e = absurd (omega (arith, e))
+same_entrance (Some a) None false true e = absurd (omega (arith, e))
+same_entrance (Some a) None false false e = absurd (omega (arith, e))
+same_entrance (Some a) (Some b) true false e = absurd (omega (arith, e))
+same_entrance (Some a) (Some b) false true e = absurd (omega (arith, e))
+
 pub same_zone : (x y : PlanZone) → zone_bytes x ≡ zone_bytes y → x ≡ y
 same_zone x y e =
     let host : x.host ≡ y.host = cc in
     let guest : x.guest ≡ y.guest = cc in
-    let enters : way_byte x.inward ≡ way_byte y.inward = cc in
+    let entrances : way_byte x.inward + 2 * bool_byte x.joins ≡ way_byte y.inward + 2 * bool_byte y.joins = cc in
+    let marks = same_entrance x.inward y.inward x.joins y.joins entrances in
+    let enters : way_byte x.inward ≡ way_byte y.inward = marks.0 in
+    let joins : x.joins ≡ y.joins = marks.1 in
     let in_from : from_byte x.inward ≡ from_byte y.inward = cc in
     let in_to : to_byte x.inward ≡ to_byte y.inward = cc in
     let leaves : way_byte x.outward ≡ way_byte y.outward = cc in

@@ -1,5 +1,5 @@
 -- What a zone has in the word, by its row and by the poses.
-use Rattle.std.proofs.Common.{◌≡◌, ◌↔◌, ◌⊎◌, inl, inr, ℕ, zero, suc, ◌<◌, Bool, true, false, ◌&&◌, ◌||◌, nat_lt, length, Option, Some, None, is_some, refl, sym, ap, ap₂, ◌∙◌, arith, ltb-true}
+use Rattle.std.proofs.Common.{◌≡◌, ◌⊎◌, inl, inr, ℕ, zero, suc, ◌<◌, Bool, true, false, ◌&&◌, ◌||◌, nat_lt, length, Option, Some, None, is_some, refl, sym, ap, ap₂, ◌∙◌, arith, ltb-true}
 use Rattle.std.specs.Option.{option_eq}
 use Rattle.std.specs.Cmp.{first_so, second_so}
 use Rattle.std.proofs.lemmas.Bool.{lt-ltb}
@@ -21,10 +21,10 @@ or_true : (b : Bool) → (b || true) ≡ true
 or_true true = refl
 or_true false = refl
 
-abbrev Passed : (ℕ → Bool) → ℕ → Type 0
+abbrev pub Passed : (ℕ → Bool) → ℕ → Type 0
 Passed f n = (i : ℕ) × (i < n) × (f i ≡ true)
 
-any_found : (f : ℕ → Bool) (n : ℕ) → any_below f n ≡ true → Passed f n
+pub any_found : (f : ℕ → Bool) (n : ℕ) → any_below f n ≡ true → Passed f n
 any_found f zero e = cc
 any_found f (suc n) e =
     elim (either (any_below f n) (f n) e) [

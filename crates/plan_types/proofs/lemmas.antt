@@ -1,2 +1,3 @@
 pub mod Below
 pub mod Checked
+pub mod Spaces

@@ -3,7 +3,6 @@
 use Rattle.std.specs.Prelude.{◌≡◌, ℕ, true, false, [], ◌∷◌, replicate, Some, None}
 use Rattle.plan_types.specs.declared.posture.Posture.TheVariants.{Closed, Moving, OpenIn, OpenOut}
 use Rattle.plan_types.specs.declared.table.PlanPose.{PlanPose}
-use Rattle.plan_types.specs.declared.table.PlanPlace.{PlanPlace}
 use Rattle.plan_types.specs.Table.{whole_table, plan_table, kept_by}
 use Rattle.plan_types.specs.Examples.{way, zone, pose, two_at, press_table, lift_table, hand}
 use Rattle.plan_types.specs.Readings.{unlike_table}

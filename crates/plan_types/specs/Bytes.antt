@@ -1,6 +1,7 @@
 -- The bytes of a plan's tables: how many machines, zones, poses and places there are, and then a row for each zone,
 -- each pose and each place.
-use Rattle.std.specs.Prelude.{◌≡◌, ℕ, ◌+◌, ◌*◌, ◌<◌, List, [], ◌∷◌, ◌++◌, map, flat_map, All, length, Option, Some, None}
+use Rattle.std.specs.Prelude.{◌≡◌, ℕ, ◌+◌, ◌*◌, ◌<◌, List, [], ◌∷◌, ◌++◌, map, flat_map, All, length, Option, Some}
+use Rattle.std.specs.Prelude.{None}
 use mir.Val.{bool_byte}
 use Rattle.plan_types.specs.declared.posture.Posture.{Posture}
 use Rattle.plan_types.specs.declared.posture.Posture.TheVariants.{Closed, Moving, OpenIn, OpenOut}
@@ -24,11 +25,12 @@ abbrev pub to_byte : Option Way → ℕ
 to_byte None = 0
 to_byte (Some way) = way.to
 
--- a zone: its host, its guest, the way inward, the way outward
+-- a zone: its host, its guest, the way inward, with 2 more at its first byte if the zone joins the one before it, and
+-- the way outward
 abbrev pub zone_bytes : PlanZone → List ℕ
 zone_bytes z =
     z.host ∷ z.guest
-    ∷ way_byte z.inward ∷ from_byte z.inward ∷ to_byte z.inward
+    ∷ (way_byte z.inward + 2 * bool_byte z.joins) ∷ from_byte z.inward ∷ to_byte z.inward
     ∷ way_byte z.outward ∷ from_byte z.outward ∷ to_byte z.outward ∷ []
 
 -- the posture that a pose gives a zone; 0 if it gives none

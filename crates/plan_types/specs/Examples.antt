@@ -19,7 +19,12 @@ abbrev pub way : ℕ → ℕ → Option Way
 way from to = Some (record { from = from; to = to })
 
 abbrev pub zone : ℕ → ℕ → Option Way → Option Way → PlanZone
-zone host guest inward outward = record { host = host; guest = guest; inward = inward; outward = outward }
+zone host guest inward outward =
+    record { host = host; guest = guest; joins = false; inward = inward; outward = outward }
+
+-- the same, of one space with the zone before it
+abbrev pub joined : PlanZone → PlanZone
+joined row = record row { joins = true }
 
 -- a pose that gives a posture to the first zone, and to the second
 abbrev pub pose : ℕ → Bool → Option Posture → Option Posture → PlanPose

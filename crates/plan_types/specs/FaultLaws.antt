@@ -1,15 +1,18 @@
 -- What each fault says, on the rows themselves: a fault that is found in tables is there, and none comes before it.
-use Rattle.std.specs.Prelude.{◌≡◌, ◌⊎◌, ℕ, suc, ◌+◌, ◌<◌, ◌≤◌, length, get_or, Some, None}
+use Rattle.std.specs.Prelude.{◌≡◌, ◌≢◌, ◌⊎◌, ℕ, suc, ◌+◌, ◌<◌, ◌≤◌, false, length, get_or, Some, None}
 use Rattle.plan_types.specs.declared.posture.Posture.{Posture}
 use Rattle.plan_types.specs.declared.fault.PlanFault.{PlanFault}
 use Rattle.plan_types.specs.declared.fault.PlanFault.TheVariants.{TooManyMachines, TooManyZones, TooManyPoses}
 use Rattle.plan_types.specs.declared.fault.PlanFault.TheVariants.{TooManyPlaces, TooWide, NoSuchKeeper, NoSuchHost}
 use Rattle.plan_types.specs.declared.fault.PlanFault.TheVariants.{NoSuchGuest, HostIsGuest, InwardAstray}
-use Rattle.plan_types.specs.declared.fault.PlanFault.TheVariants.{OutwardAstray, NoSuchMachine, ForeignZone}
+use Rattle.plan_types.specs.declared.fault.PlanFault.TheVariants.{OutwardAstray, NoSuchMachine, ForeignZone, TwoHosts}
+use Rattle.plan_types.specs.declared.fault.PlanFault.TheVariants.{GuestTwice, HalfSpace}
 use Rattle.plan_types.specs.declared.table.PlanZone.{PlanZone}
 use Rattle.plan_types.specs.declared.table.PlanPose.{PlanPose}
 use Rattle.plan_types.specs.Below.{sum_below}
-use Rattle.plan_types.specs.Table.{PlanTable, no_zone, no_pose, no_place, zone_bits}
+use Rattle.plan_types.specs.Table.{PlanTable, no_zone, no_pose, no_place, zone_bits, host_of, guest_of, space_of}
+use Rattle.plan_types.specs.Table.{posture_of}
+use Rattle.plan_types.specs.Plan.{is_alike}
 use Rattle.plan_types.specs.TableLaws.{GoesBetween}
 use Rattle.plan_types.specs.Faults.{plan_fault}
 
@@ -42,11 +45,19 @@ Says t (InwardAstray z) = OfZone t z (λ row. ¬ GoesBetween t row.guest row.hos
 Says t (OutwardAstray z) = OfZone t z (λ row. ¬ GoesBetween t row.host row.guest row.outward)
 Says t (NoSuchMachine p) = OfPose t p (λ row. t.machines ≤ row.machine)
 Says t (ForeignZone p z) = OfPose t p (GivesForeign t z)
+-- the first zone of the space has another host; an earlier zone of the space has the guest
+Says t (TwoHosts z) = OfZone t z (λ row. host_of t (space_of t z) ≢ row.host)
+Says t (GuestTwice z) =
+    OfZone t z (λ row. (y : ℕ) × (y < z) × (space_of t y ≡ space_of t z) × (guest_of t y ≡ row.guest))
+-- the pose gives the zone and the first one of its space unlike postures
+Says t (HalfSpace p z) =
+    OfPose t p (λ row. (z < length t.zones) × (is_alike (posture_of t p (space_of t z)) (posture_of t p z) ≡ false))
 
 abbrev pub FaultsAreTrue : Type 0
 FaultsAreTrue = (t : PlanTable) (fault : PlanFault) → plan_fault t ≡ Some fault → Says t fault
 
--- the order of faults: first the counts and the width, then the places, the zones and the poses
+-- the order of faults: first the counts and the width, then the places, the zones and the poses, and then the spaces,
+-- by their zones and by the poses
 abbrev pub part_of : PlanFault → ℕ
 part_of TooManyMachines = 0
 part_of TooManyZones = 1
@@ -61,6 +72,9 @@ part_of (InwardAstray z) = 6
 part_of (OutwardAstray z) = 6
 part_of (NoSuchMachine p) = 7
 part_of (ForeignZone p z) = 7
+part_of (TwoHosts z) = 8
+part_of (GuestTwice z) = 8
+part_of (HalfSpace p z) = 9
 
 -- in a table the first row comes first
 abbrev pub row_of : PlanFault → ℕ
@@ -72,16 +86,21 @@ row_of (InwardAstray z) = z
 row_of (OutwardAstray z) = z
 row_of (NoSuchMachine p) = p
 row_of (ForeignZone p z) = p
+row_of (TwoHosts z) = z
+row_of (GuestTwice z) = z
+row_of (HalfSpace p z) = p
 row_of _ = 0
 
 -- of a zone's row the host, the guest, both, and the ways inward and outward; of a pose's row its machine, and then the
--- zones from the first on
+-- zones from the first on; of a zone's space its host and its guests; of the spaces of a pose the zones
 abbrev pub rank_of : PlanFault → ℕ
 rank_of (NoSuchGuest z) = 1
 rank_of (HostIsGuest z) = 2
 rank_of (InwardAstray z) = 3
 rank_of (OutwardAstray z) = 4
 rank_of (ForeignZone p z) = suc z
+rank_of (GuestTwice z) = 1
+rank_of (HalfSpace p z) = z
 rank_of _ = 0
 
 abbrev pub ComesBefore : PlanFault → PlanFault → Type 0

@@ -6,11 +6,12 @@ use Rattle.plan_types.specs.declared.fault.PlanFault.{PlanFault}
 use Rattle.plan_types.specs.declared.fault.PlanFault.TheVariants.{TooManyMachines, TooManyZones, TooManyPoses}
 use Rattle.plan_types.specs.declared.fault.PlanFault.TheVariants.{TooManyPlaces, TooWide, NoSuchKeeper, NoSuchHost}
 use Rattle.plan_types.specs.declared.fault.PlanFault.TheVariants.{NoSuchGuest, HostIsGuest, InwardAstray}
-use Rattle.plan_types.specs.declared.fault.PlanFault.TheVariants.{OutwardAstray, NoSuchMachine, ForeignZone}
-use Rattle.plan_types.specs.Below.{first_below}
+use Rattle.plan_types.specs.declared.fault.PlanFault.TheVariants.{OutwardAstray, NoSuchMachine, ForeignZone, TwoHosts}
+use Rattle.plan_types.specs.declared.fault.PlanFault.TheVariants.{GuestTwice, HalfSpace}
+use Rattle.plan_types.specs.Below.{first_below, any_below}
 use Rattle.plan_types.specs.Table.{PlanTable, zone_count, pose_count, place_count, word_width, zone_row, keeper_of}
-use Rattle.plan_types.specs.Table.{host_of, guest_of, machine_of, posture_of, is_hosted}
-use Rattle.plan_types.specs.Plan.{leads, IsPlan}
+use Rattle.plan_types.specs.Table.{host_of, guest_of, machine_of, posture_of, is_hosted, space_of, same_space}
+use Rattle.plan_types.specs.Plan.{leads, is_alike, IsPlan}
 
 infixl 5 ◌or◌
 abbrev pub ◌or◌ : Option PlanFault → Option PlanFault → Option PlanFault
@@ -52,6 +53,22 @@ abbrev pub pose_fault : PlanTable → ℕ → Option PlanFault
 pose_fault t p =
     unless (nat_lt (machine_of t p) t.machines) (NoSuchMachine p) or first_below (foreign_fault t p) 10
 
+-- another zone of a zone's space has the same guest
+abbrev pub has_guest_of : PlanTable → ℕ → ℕ → Bool
+has_guest_of t z y = same_space t y z && nat_eq (guest_of t y) (guest_of t z)
+
+abbrev pub space_fault : PlanTable → ℕ → Option PlanFault
+space_fault t z =
+    unless (nat_eq (host_of t (space_of t z)) (host_of t z)) (TwoHosts z)
+    or unless (not (any_below (has_guest_of t z) z)) (GuestTwice z)
+
+-- a pose moves a part of a space, or gives a posture to a part of it
+abbrev pub half_fault : PlanTable → ℕ → ℕ → Option PlanFault
+half_fault t p z = unless (is_alike (posture_of t p (space_of t z)) (posture_of t p z)) (HalfSpace p z)
+
+abbrev pub halves_fault : PlanTable → ℕ → Option PlanFault
+halves_fault t p = first_below (half_fault t p) (zone_count t)
+
 -- the first fault
 abbrev pub plan_fault : PlanTable → Option PlanFault
 plan_fault t =
@@ -60,6 +77,8 @@ plan_fault t =
     or first_below (keeper_fault t) (place_count t)
     or first_below (zone_fault t) (zone_count t)
     or first_below (pose_fault t) (pose_count t)
+    or first_below (space_fault t) (zone_count t)
+    or first_below (halves_fault t) (pose_count t)
 
 -- tables are a plan exactly if they have no fault
 abbrev pub PlansHaveNoFault : Type 0

@@ -1,5 +1,6 @@
 -- How a plan's tables are kept in memory of a fixed size: each row as its bytes, and blank rows after the last.
-use Rattle.std.specs.Prelude.{◌≡◌, ℕ, ◌-◌, ◌≤◌, not, nat_eq, List, ◌++◌, length, map, get_or, take, drop, replicate}
+use Rattle.std.specs.Prelude.{◌≡◌, ℕ, ◌-◌, ◌%◌, ◌≤◌, not, nat_eq, nat_le, List, ◌++◌, length, map, get_or, take, drop}
+use Rattle.std.specs.Prelude.{replicate}
 use Rattle.std.specs.Prelude.{Option, Some, None, if◌then◌else◌}
 use Rattle.plan_types.specs.declared.posture.Posture.{Posture}
 use Rattle.plan_types.specs.declared.posture.Posture.TheVariants.{Closed, Moving, OpenIn, OpenOut}
@@ -23,7 +24,8 @@ abbrev pub zone_told : List ℕ → PlanZone
 zone_told row = record {
   host = get_or row 0 0;
   guest = get_or row 1 0;
-  inward = way_told (get_or row 2 0) (get_or row 3 0) (get_or row 4 0);
+  joins = nat_le 2 (get_or row 2 0);
+  inward = way_told (get_or row 2 0 % 2) (get_or row 3 0) (get_or row 4 0);
   outward = way_told (get_or row 5 0) (get_or row 6 0) (get_or row 7 0);
 }
 

@@ -11,3 +11,4 @@ pub mod Parts
 pub mod ByteExamples
 pub mod TableLaws
 pub mod FaultLaws
+pub mod SpaceExamples

@@ -6,7 +6,6 @@ use Rattle.plan_types.specs.declared.posture.Posture.{Posture}
 use Rattle.plan_types.specs.declared.posture.Posture.TheVariants.{Closed, Moving, OpenIn, OpenOut}
 use Rattle.plan_types.specs.declared.table.Transfer.{Transfer}
 use Rattle.plan_types.specs.declared.table.PlanPose.{PlanPose}
-use Rattle.plan_types.specs.declared.shape.Postures.{Postures}
 use Rattle.plan_types.specs.declared.shape.Postures.TheVariants.{Shut, Two, All}
 use Rattle.plan_types.specs.declared.shape.ZoneShape.{ZoneShape}
 use Rattle.plan_types.specs.Same.{same_posture}
@@ -141,7 +140,7 @@ pub record RowsTell : Type 0 where
 
 abbrev pub shape : Bool → Bool → Bool → Bool → ZoneShape
 shape flag moves opens_in opens_out =
-    record { flag = flag; moves = moves; opens_in = opens_in; opens_out = opens_out }
+    record { guests = 1; flag = flag; moves = moves; opens_in = opens_in; opens_out = opens_out }
 
 -- tables whose zone has one way, and to which poses give these postures
 abbrev pub given : List Posture → PlanTable

@@ -1,6 +1,7 @@
 -- The tables of a plan, and what they say of a zone, a pose or a place by its number.
-use Rattle.std.specs.Prelude.{ℕ, ◌+◌, Bool, true, false, ◌&&◌, ◌||◌, nat_eq, nat_lt, List, length, get_or, map, replicate}
-use Rattle.std.specs.Prelude.{Option, Some, None, option_map, is_some}
+use Rattle.std.specs.Prelude.{ℕ, zero, suc, ◌+◌, Bool, true, false, ◌&&◌, ◌||◌, nat_eq, nat_lt, List, length, get_or}
+use Rattle.std.specs.Prelude.{map, replicate}
+use Rattle.std.specs.Prelude.{Option, Some, None, option_map, is_some, if◌then◌else◌}
 use Rattle.std.specs.Option.{option_eq}
 use Rattle.std.specs.List.{list_any}
 use mir.Val.{bool_byte}
@@ -55,7 +56,7 @@ place_count t = length t.places
 
 -- the rows; past the end of a table stands a row that says nothing
 abbrev pub no_zone : PlanZone
-no_zone = record { host = 0; guest = 0; inward = None; outward = None }
+no_zone = record { host = 0; guest = 0; joins = false; inward = None; outward = None }
 
 abbrev pub no_pose : PlanPose
 no_pose = record { machine = 0; after_moving = false; gives = replicate 10 None }
@@ -95,6 +96,18 @@ machine_of t p = (pose_row t p).machine
 abbrev pub posture_of : PlanTable → ℕ → ℕ → Option Posture
 posture_of t p z = get_or (pose_row t p).gives z None
 
+-- a zone is of one space with the zone before it
+abbrev pub joins : PlanTable → ℕ → Bool
+joins t z = (zone_row t z).joins
+
+-- the space of a zone, by the number of its first zone
+abbrev pub space_of : PlanTable → ℕ → ℕ
+space_of t zero = 0
+space_of t (suc z) = if joins t (suc z) then space_of t z else suc z
+
+abbrev pub same_space : PlanTable → ℕ → ℕ → Bool
+same_space t y z = nat_eq (space_of t y) (space_of t z)
+
 -- a machine hosts a zone of the plan
 abbrev pub is_hosted : PlanTable → ℕ → ℕ → Bool
 is_hosted t z m = nat_lt z (zone_count t) && nat_eq (host_of t z) m
@@ -102,6 +115,10 @@ is_hosted t z m = nat_lt z (zone_count t) && nat_eq (host_of t z) m
 -- a machine is a zone's host or guest
 abbrev pub is_party : PlanTable → ℕ → ℕ → Bool
 is_party t m z = nat_lt z (zone_count t) && (nat_eq m (host_of t z) || nat_eq m (guest_of t z))
+
+-- a machine enters the space of a zone: it is a party of a zone of this space
+abbrev pub enters : PlanTable → ℕ → ℕ → Bool
+enters t m z = any_below (λ y. same_space t y z && (nat_eq m (host_of t y) || nat_eq m (guest_of t y))) (zone_count t)
 
 -- a machine keeps a place of the plan
 abbrev pub is_place_of : PlanTable → ℕ → ℕ → Bool
@@ -141,9 +158,18 @@ gives t z q p = option_eq same_posture (posture_of t p z) (Some q)
 abbrev pub is_given : PlanTable → ℕ → Posture → Bool
 is_given t z q = nat_lt z (zone_count t) && any_below (gives t z q) (pose_count t)
 
--- what a zone has in the word: a flag if a plate has a way through it, and the postures that poses give it
+-- how many guests a space has, by its first zone: one, and one more for each zone that joins it
+abbrev pub joined_to : PlanTable → ℕ → ℕ → Bool
+joined_to t z y = nat_lt z y && nat_eq (space_of t y) z
+
+abbrev pub guests_in : PlanTable → ℕ → ℕ
+guests_in t z = 1 + sum_below (λ y. bool_byte (joined_to t z y)) (zone_count t)
+
+-- what a zone has in the word: the owner of its space if it is the first zone there, a flag if a plate has a way
+-- through it, and the postures that poses give it
 abbrev pub zone_shape : PlanTable → ℕ → ZoneShape
 zone_shape t z = record {
+  guests = if nat_eq (space_of t z) z then guests_in t z else 0;
   flag = is_some (zone_row t z).inward || is_some (zone_row t z).outward;
   moves = is_given t z Moving;
   opens_in = is_given t z OpenIn;
@@ -152,7 +178,7 @@ zone_shape t z = record {
 
 -- where there is no zone
 abbrev pub no_shape : ZoneShape
-no_shape = record { flag = false; moves = false; opens_in = false; opens_out = false }
+no_shape = record { guests = 1; flag = false; moves = false; opens_in = false; opens_out = false }
 
 -- the postures that it can have: Closed, as it starts, and those that poses give it, of Moving, OpenIn and OpenOut
 abbrev pub postures_by : Bool → Bool → Bool → Postures
@@ -165,7 +191,12 @@ postures_by _ _ _ = All
 abbrev pub postures_of : ZoneShape → Postures
 postures_of s = postures_by s.moves s.opens_in s.opens_out
 
--- its bits: two for its owner, one for its flag if it has one, and none, one or two for its posture
+-- its bits: those that tell nobody, the host and each guest; one for its flag if it has one; and none, one or two for
+-- its posture
+abbrev pub owner_bits : ℕ → ℕ
+owner_bits zero = 0
+owner_bits (suc more) = if nat_lt more 2 then 2 else if nat_lt more 6 then 3 else 4
+
 abbrev pub flag_bits : Bool → ℕ
 flag_bits flag = bool_byte flag
 
@@ -175,7 +206,7 @@ posture_bits (Two q) = 1
 posture_bits All = 2
 
 abbrev pub shape_bits : ZoneShape → ℕ
-shape_bits s = 2 + flag_bits s.flag + posture_bits (postures_of s)
+shape_bits s = owner_bits s.guests + flag_bits s.flag + posture_bits (postures_of s)
 
 abbrev pub zone_bits : PlanTable → ℕ → ℕ
 zone_bits t z = shape_bits (zone_shape t z)

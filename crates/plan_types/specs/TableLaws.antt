@@ -1,6 +1,7 @@
 -- Laws of all tables: what is read of a row, which way a plate goes, which poses move, and the rules of a plan again,
 -- on the rows themselves.
-use Rattle.std.specs.Prelude.{◌≡◌, ◌↔◌, ◌⊎◌, ℕ, ◌+◌, ◌<◌, ◌≤◌, true, false, List, ◌∷◌, ◌++◌, length, get_or, All}
+use Rattle.std.specs.Prelude.{◌≡◌, ◌↔◌, ◌⊎◌, ℕ, suc, ◌+◌, ◌<◌, ◌≤◌, true, false, List, ◌∷◌, ◌++◌, length, get_or, All}
+use Rattle.std.specs.Prelude.{IsTrue}
 use Rattle.std.specs.Prelude.{Option, Some, None}
 use Rattle.plan_types.specs.Below.{sum_below}
 use Rattle.plan_types.specs.declared.posture.Posture.{Posture}
@@ -10,10 +11,12 @@ use Rattle.plan_types.specs.declared.table.PlanZone.{PlanZone}
 use Rattle.plan_types.specs.declared.table.PlanPose.{PlanPose}
 use Rattle.plan_types.specs.declared.table.PlanPlace.{PlanPlace}
 use Rattle.plan_types.specs.Table.{PlanTable, whole_table, zone_row, pose_row, place_row, posture_of, is_moving_pose}
-use Rattle.plan_types.specs.Table.{no_place, keeper_of, is_source, is_sink, has_end}
+use Rattle.plan_types.specs.Table.{no_place, has_end}
 use Rattle.plan_types.specs.Table.{transfer_of, no_zone, no_pose, has_pose, is_hosted, is_party, is_place_of}
-use Rattle.plan_types.specs.Table.{is_given, zone_shape, zone_bits, word_width}
-use Rattle.plan_types.specs.Plan.{IsPlan}
+use Rattle.plan_types.specs.Table.{is_given, zone_shape, zone_bits, word_width, joins, space_of, flag_bits}
+use Rattle.plan_types.specs.Table.{posture_bits}
+use Rattle.plan_types.specs.Table.{postures_of, host_of, guest_of}
+use Rattle.plan_types.specs.Plan.{IsPlan, is_alike}
 use Rattle.plan_types.specs.Examples.{way, zone}
 use Rattle.plan_types.specs.Readings.{transfer}
 
@@ -90,6 +93,16 @@ pub record ShapesByRow (t : PlanTable) (z : ℕ) : Type 0 where
   pub given : (q : Posture) → (is_given t z q ≡ true)
       ↔ ((z < length t.zones) × ((p : ℕ) × (p < length t.poses) × (posture_of t p z ≡ Some q)))
 
+-- the spaces by their rows: a zone that doesn't join is the first of its space, and one that does is of the space
+-- before it; a space is named by its first zone; and where no zone joins, each has two bits for its owner
+pub record SpacesByRow (t : PlanTable) (z : ℕ) : Type 0 where
+  pub first : joins t z ≡ false → space_of t z ≡ z
+  pub next : joins t (suc z) ≡ true → space_of t (suc z) ≡ space_of t z
+  pub no_later : space_of t z ≤ z
+  pub named : space_of t (space_of t z) ≡ space_of t z
+  pub alone : ((y : ℕ) → joins t y ≡ false)
+      → zone_bits t z ≡ 2 + flag_bits (zone_shape t z).flag + posture_bits (postures_of (zone_shape t z))
+
 -- a way, if there is one, starts at a place that one machine keeps, and ends at one that the other keeps
 abbrev pub GoesBetween : PlanTable → ℕ → ℕ → Option Way → Type 0
 GoesBetween t giver receiver given = (w : Way) → given ≡ Some w → Keeps t giver w.from × Keeps t receiver w.to
@@ -107,6 +120,12 @@ pub record KeepsPoseRules (t : PlanTable) (row : PlanPose) : Type 0 where
   pub zones : (z : ℕ) (q : Posture) → z < 10 → get_or row.gives z None ≡ Some q
       → (z < length t.zones) × ((get_or t.zones z no_zone).host ≡ row.machine)
 
+-- a space has one host, and no guest twice; and a pose gives like postures to its zones
+pub record KeepsSpaceRules (t : PlanTable) (z : ℕ) : Type 0 where
+  pub host : host_of t (space_of t z) ≡ host_of t z
+  pub guests : (y : ℕ) → y < z → space_of t y ≡ space_of t z → ¬ (guest_of t y ≡ guest_of t z)
+  pub poses : (p : ℕ) → p < length t.poses → IsTrue (is_alike (posture_of t p (space_of t z)) (posture_of t p z))
+
 pub record KeepsRules (t : PlanTable) : Type 0 where
   pub machines : t.machines < 16
   pub zones : length t.zones < 11
@@ -117,6 +136,7 @@ pub record KeepsRules (t : PlanTable) : Type 0 where
   pub keepers : All (λ row. row.keeper < t.machines) t.places
   pub zone_rows : All (KeepsZoneRules t) t.zones
   pub pose_rows : All (KeepsPoseRules t) t.poses
+  pub spaces : (z : ℕ) → z < length t.zones → KeepsSpaceRules t z
 
 -- plans are the tables that keep these rules, and no others
 abbrev pub PlansKeepRules : Type 0

@@ -1,6 +1,6 @@
 //! The faults of a plan's tables.
 ghost use Rattle.std.specs.Prelude.{◌≡◌, ◌<◌, ◌↔◌, Some, IfErr, IfOk, IsErr, IsNone};
-ghost use Rattle.plan_types.specs.Below.{first_below};
+ghost use Rattle.plan_types.specs.Below.{first_below, any_below};
 ghost use Rattle.plan_types.specs.Table as table;
 ghost use Rattle.plan_types.specs.Plan as plan;
 ghost use Rattle.plan_types.specs.Plan.{IsPlan};
@@ -8,6 +8,7 @@ ghost use Rattle.plan_types.specs.Faults as faults;
 ghost use Rattle.plan_types.specs.Kept.{FitsSheet};
 
 use crate::fault::PlanFault;
+use crate::posture::Posture;
 use crate::sheet::{Sheet, sheet_of};
 use crate::table::{MAX_MACHINES, MAX_PLACES, MAX_POSES, MAX_ZONES, Tables, Way};
 
@@ -15,6 +16,18 @@ fn unless(holds: bool, fault: PlanFault) -> Option<PlanFault>
     ensures { result ≡ faults.unless holds fault }
 {
     (!holds).then_some(fault)
+}
+
+/// Whether a pose may give two zones of one space these postures: neither, or both are Moving, or neither is.
+fn is_alike(first: Option<Posture>, other: Option<Posture>) -> bool
+    ensures { result ≡ plan.is_alike first other }
+{
+    match (first, other) {
+        (None, None) => true,
+        (Some(Posture::Moving), Some(other)) => other == Posture::Moving,
+        (Some(_), Some(other)) => other != Posture::Moving,
+        _ => false,
+    }
 }
 
 impl Tables {
@@ -109,6 +122,38 @@ impl Sheet {
         first
     }
 
+    fn has_guest_of(&self, zone: u8, other: u8) -> bool
+        ensures { result ≡ faults.has_guest_of self.now zone other }
+    {
+        self.space(other) == self.space(zone)
+            && self.guest(usize::from(other)) == self.guest(usize::from(zone))
+    }
+
+    /// Whether an earlier zone of a zone's space has the same guest.
+    #[tactic(auto, using(crate::proofs::lemmas::Below::any_below_more))]
+    fn is_guest_again(&self, zone: u8) -> bool
+        ensures { result ≡ any_below (faults.has_guest_of self.now zone) zone }
+    {
+        let mut again = false;
+        for other in 0..zone {
+            again = again || self.has_guest_of(zone, other);
+        }
+        again
+    }
+
+    /// What is wrong with the space of a zone.
+    fn space_fault(&self, zone: u8) -> Option<PlanFault>
+        ensures { result ≡ faults.space_fault self.now zone }
+    {
+        let number = usize::from(zone);
+        let first = usize::from(self.space(zone));
+        let one_host = self.host(first) == self.host(number);
+        unless(one_host, PlanFault::TwoHosts { zone: number }).or(unless(
+            !self.is_guest_again(zone),
+            PlanFault::GuestTwice { zone: number },
+        ))
+    }
+
     fn zone_fault(&self, zone: usize) -> Option<PlanFault>
         ensures { result ≡ faults.zone_fault self.now zone }
     {
@@ -133,6 +178,17 @@ impl Sheet {
         first
     }
 
+    #[tactic(auto, using(crate::proofs::lemmas::Below::first_below_more))]
+    fn spaces_fault(&self) -> Option<PlanFault>
+        ensures { result ≡ first_below (faults.space_fault self.now) (table.zone_count self.now) }
+    {
+        let mut first = None;
+        for zone in 0..self.zone_count() {
+            first = first.or(self.space_fault(zone));
+        }
+        first
+    }
+
     fn foreign_fault(&self, pose: usize, zone: usize) -> Option<PlanFault>
         requires { zone < 10 }
         ensures { result ≡ faults.foreign_fault self.now pose zone }
@@ -149,6 +205,26 @@ impl Sheet {
         let mut first = None;
         for zone in 0..MAX_ZONES {
             first = first.or(self.foreign_fault(pose, zone));
+        }
+        first
+    }
+
+    fn half_fault(&self, pose: usize, zone: u8) -> Option<PlanFault>
+        ensures { result ≡ faults.half_fault self.now pose zone }
+    {
+        let first = usize::from(self.space(zone));
+        let number = usize::from(zone);
+        let alike = is_alike(self.posture(pose, first), self.posture(pose, number));
+        unless(alike, PlanFault::HalfSpace { pose, zone: number })
+    }
+
+    #[tactic(auto, using(crate::proofs::lemmas::Below::first_below_more))]
+    fn halves_fault(&self, pose: usize) -> Option<PlanFault>
+        ensures { result ≡ faults.halves_fault self.now pose }
+    {
+        let mut first = None;
+        for zone in 0..self.zone_count() {
+            first = first.or(self.half_fault(pose, zone));
         }
         first
     }
@@ -171,6 +247,17 @@ impl Sheet {
         first
     }
 
+    #[tactic(auto, using(crate::proofs::lemmas::Below::first_below_more))]
+    fn half_spaces_fault(&self) -> Option<PlanFault>
+        ensures { result ≡ first_below (faults.halves_fault self.now) (table.pose_count self.now) }
+    {
+        let mut first = None;
+        for pose in 0..usize::from(self.pose_count()) {
+            first = first.or(self.halves_fault(pose));
+        }
+        first
+    }
+
     /// The first fault of the tables, or `None` if they are a plan.
     pub(crate) fn fault(&self) -> Option<PlanFault>
         ensures first { result ≡ faults.plan_fault self.now }
@@ -181,5 +268,7 @@ impl Sheet {
             .or(self.keepers_fault())
             .or(self.zones_fault())
             .or(self.poses_fault())
+            .or(self.spaces_fault())
+            .or(self.half_spaces_fault())
     }
 }

@@ -4,6 +4,7 @@ ghost use Rattle.plan_types.specs.Examples.{ExamplesArePlans, FaultsInOrder, Fau
 ghost use Rattle.plan_types.specs.Examples.{FirstFaults, LargestPlans, NoPlans};
 ghost use Rattle.plan_types.specs.Faults.{PlansHaveNoFault};
 ghost use Rattle.plan_types.specs.Readings.{TablesTell};
+ghost use Rattle.plan_types.specs.SpaceExamples.{SpacesAreMet};
 ghost use Rattle.plan_types.specs.Examples as examples;
 
 use crate::posture::Posture;
@@ -41,6 +42,7 @@ pub fn press(alloc: Global) -> Result<Tables, AllocError>
     let interior = PlanZone {
         host: 1,
         guest: 0,
+        joins: false,
         inward: way(0, 1),
         outward: way(1, 0),
     };
@@ -65,12 +67,14 @@ pub fn lift(alloc: Global) -> Result<Tables, AllocError>
     let below = PlanZone {
         host: 0,
         guest: 1,
+        joins: false,
         inward: way(1, 0),
         outward: way(0, 1),
     };
     let above = PlanZone {
         host: 0,
         guest: 2,
+        joins: false,
         inward: way(2, 0),
         outward: way(0, 2),
     };
@@ -128,4 +132,10 @@ pub fn largest_plans()
 /// zone's parties; a machine's poses; and each number of tables in which all numbers are different.
 pub fn tables_tell()
     ensures { TablesTell }
+{}
+
+/// Spaces with several guests, written out: a press with two robots, an aisle that three shuttles cross, or five, and a
+/// tool changer with two robots. Their bits and bytes, who enters them, and the faults of others.
+pub fn spaces_are_met()
+    ensures { SpacesAreMet }
 {}

@@ -1,7 +1,7 @@
 //! What is wrong with a plan.
 
-/// The first fault of a plan, in this order: too many rows, a word that is too wide, the places, the zones, the poses.
-/// Each table is read from its first row to its last.
+/// The first fault of a plan, in this order: too many rows, a word that is too wide, the places, the zones, the poses,
+/// the spaces. Each table is read from its first row to its last.
 #[derive(Clone, Copy, Debug, PartialEq, Eq)]
 pub enum PlanFault {
     /// There are more than 15 machines.
@@ -12,7 +12,7 @@ pub enum PlanFault {
     TooManyPoses,
     /// There are more than 16 places.
     TooManyPlaces,
-    /// The plan's word has `missing` bits more than 64. It has two to five for each zone, one for each place, and 21.
+    /// The plan's word has `missing` bits more than 64. It has none to seven for each zone, one for each place, and 21.
     TooWide { missing: u8 },
     /// A place is kept by a machine that isn't in the plan.
     NoSuchKeeper { place: usize },
@@ -30,4 +30,10 @@ pub enum PlanFault {
     NoSuchMachine { pose: usize },
     /// A pose gives a posture to a zone that its machine doesn't host, or that isn't in the plan.
     ForeignZone { pose: usize, zone: usize },
+    /// A zone joins one with another host.
+    TwoHosts { zone: usize },
+    /// A zone joins a space that has its guest already.
+    GuestTwice { zone: usize },
+    /// A pose moves a zone and not the first one of its space, or gives only one of them a posture.
+    HalfSpace { pose: usize, zone: usize },
 }

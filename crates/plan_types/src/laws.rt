@@ -3,7 +3,7 @@ ghost use Rattle.std.specs.Prelude.{ℕ};
 ghost use Rattle.plan_types.specs.FaultLaws.{FaultsAreTrue, FirstFaultsAreTold};
 ghost use Rattle.plan_types.specs.Table.{PlanTable};
 ghost use Rattle.plan_types.specs.TableLaws.{RowsByNumber, TransfersByRow, PosesByZone, PlansKeepRules, RightsByRow};
-ghost use Rattle.plan_types.specs.TableLaws.{ShapesByRow};
+ghost use Rattle.plan_types.specs.TableLaws.{ShapesByRow, SpacesByRow};
 
 /// In all tables a row's number is how many rows come before it; past the end stands a row that says nothing.
 pub fn rows_by_number()
@@ -32,13 +32,20 @@ pub fn shapes_by_row()
     ensures { (t : PlanTable) (z : ℕ) → ShapesByRow t z }
 {}
 
+/// In all tables a zone that doesn't join is the first of its space, and one that does is of the space before it. Where
+/// no zone joins, each has two bits for its owner.
+pub fn spaces_by_row()
+    ensures { (t : PlanTable) (z : ℕ) → SpacesByRow t z }
+{}
+
 /// A fault that is found in tables is there, at the place, zone or pose that it names.
 pub fn faults_are_true()
     ensures { FaultsAreTrue }
 {}
 
 /// No fault that comes before the one that is found is in the tables. First come the counts and the width, then the
-/// places, the zones and the poses by their numbers; of a pose first its machine, then the zones by their numbers.
+/// places, the zones and the poses by their numbers; of a pose first its machine, then the zones by their numbers; and
+/// last the spaces.
 pub fn first_faults_are_told()
     ensures { FirstFaultsAreTold }
 {}

@@ -131,6 +131,20 @@ impl Plan {
         self.sheet.guest(usize::from(zone))
     }
 
+    /// The first zone of a zone's space: the zone itself, unless it joins the one before it.
+    pub fn space(&self, zone: u8) -> u8
+        ensures { result ≡ table.space_of self.now zone }
+    {
+        self.sheet.space(zone)
+    }
+
+    /// Whether two zones are of one space.
+    pub fn same_space(&self, zone: u8, other: u8) -> bool
+        ensures { result ≡ table.same_space self.now zone other }
+    {
+        self.space(zone) == self.space(other)
+    }
+
     /// The machine that keeps a place; the first where there is no such place.
     pub fn keeper(&self, place: u8) -> u8
         ensures { result ≡ table.keeper_of self.now place }
@@ -181,7 +195,7 @@ impl Plan {
     pub fn zone_shape(&self, zone: u8) -> ZoneShape
         ensures { result ≡ table.zone_shape self.now zone }
     {
-        self.sheet.zone_shape(usize::from(zone))
+        self.sheet.zone_shape(zone)
     }
 
     /// Whether a pose can be taken only after moving; no if there is no such pose.

@@ -1,5 +1,5 @@
 //! The bytes of one row, and the row that has them.
-ghost use Rattle.std.specs.Prelude.{◌≡◌, ◌↔◌, ◌<◌, ◌∷◌, [], Bool, List, None, Option, get_or, map, nat_eq, IfSome};
+ghost use Rattle.std.specs.Prelude.{◌≡◌, ◌↔◌, ◌+◌, ◌*◌, ◌<◌, ◌∷◌, [], Bool, List, None, Option, get_or, map, nat_eq, IfSome};
 ghost use Rattle.std.specs.List.{list_any};
 ghost use mir.Val.{bool_byte};
 ghost use Rattle.plan_types.specs.declared.posture.Posture.{Posture};
@@ -18,12 +18,38 @@ pub(crate) const ZONE_BYTES: usize = 8;
 /// The bytes of a pose.
 pub(crate) const POSE_BYTES: usize = 12;
 
+/// The first way of a row, and whether the zone joins.
+fn entrance_row(joins: bool, way: Option<Way>) -> [u8; 3]
+    ensures { result
+        ≡ (bytes.way_byte way + 2 * bool_byte joins) ∷ bytes.from_byte way ∷ bytes.to_byte way ∷ [] }
+{
+    match (joins, way) {
+        (false, None) => [0, 0, 0],
+        (false, Some(Way { from, to })) => [1, from, to],
+        (true, None) => [2, 0, 0],
+        (true, Some(Way { from, to })) => [3, from, to],
+    }
+}
+
 fn way_row(way: Option<Way>) -> [u8; 3]
     ensures { result ≡ bytes.way_byte way ∷ bytes.from_byte way ∷ bytes.to_byte way ∷ [] }
 {
     match way {
         None => [0, 0, 0],
         Some(Way { from, to }) => [1, from, to],
+    }
+}
+
+fn entrance_with(row: [u8; 3]) -> Option<(bool, Option<Way>)>
+    ensures { (joins : Bool) (way : Option Way) → (result ≡ Some (joins, way))
+        ↔ ((bytes.way_byte way + 2 * bool_byte joins) ∷ bytes.from_byte way ∷ bytes.to_byte way ∷ [] ≡ row) }
+{
+    match row {
+        [0, 0, 0] => Some((false, None)),
+        [1, from, to] => Some((false, Some(Way { from, to }))),
+        [2, 0, 0] => Some((true, None)),
+        [3, from, to] => Some((true, Some(Way { from, to }))),
+        _ => None,
     }
 }
 
@@ -55,7 +81,8 @@ pub(crate) fn zone_told(row: [u8; ZONE_BYTES]) -> PlanZone
     PlanZone {
         host: row[0],
         guest: row[1],
-        inward: way_told(row[2], row[3], row[4]),
+        joins: row[2] >= 2,
+        inward: way_told(row[2] % 2, row[3], row[4]),
         outward: way_told(row[5], row[6], row[7]),
     }
 }
@@ -64,7 +91,7 @@ pub(crate) fn zone_told(row: [u8; ZONE_BYTES]) -> PlanZone
 pub(crate) fn zone_row(zone: PlanZone) -> [u8; ZONE_BYTES]
     ensures { result ≡ bytes.zone_bytes zone }
 {
-    let [enters, in_from, in_to] = way_row(zone.inward);
+    let [enters, in_from, in_to] = entrance_row(zone.joins, zone.inward);
     let [leaves, out_from, out_to] = way_row(zone.outward);
     [
         zone.host, zone.guest, enters, in_from, in_to, leaves, out_from, out_to,
@@ -85,11 +112,12 @@ pub(crate) fn zone_with(row: &[u8; ZONE_BYTES]) -> Option<PlanZone>
         out_from,
         out_to,
     ] = *row;
-    let inward = way_with([enters, in_from, in_to])?;
+    let (joins, inward) = entrance_with([enters, in_from, in_to])?;
     let outward = way_with([leaves, out_from, out_to])?;
     Some(PlanZone {
         host,
         guest,
+        joins,
         inward,
         outward,
     })

@@ -15,10 +15,12 @@ pub enum Postures {
     All,
 }
 
-/// What a zone has in the plan's word, besides its owner: by its ways and by the postures that poses give it.
+/// What a zone has in the plan's word: by its space, its ways and by the postures that poses give it.
 #[repr(C)]
 #[derive(Clone, Copy, Debug, PartialEq, Eq)]
 pub struct ZoneShape {
+    /// How many guests its space has; 0 if an earlier zone tells the owner.
+    pub guests: u8,
     /// Whether it has a flag, as a plate has a way through it.
     pub flag: bool,
     /// Whether some pose gives it `Moving`.
@@ -43,6 +45,18 @@ impl Postures {
     }
 }
 
+fn owner_bits(guests: u8) -> u8
+    ensures bits { result ≡ table.owner_bits guests }
+    ensures few { result ≤ 4 }
+{
+    match guests {
+        0 => 0,
+        1 | 2 => 2,
+        3..=6 => 3,
+        _ => 4,
+    }
+}
+
 impl ZoneShape {
     /// The postures that the zone can have.
     pub fn postures(&self) -> Postures
@@ -57,12 +71,12 @@ impl ZoneShape {
         }
     }
 
-    /// How many bits the zone takes: two for its owner, one for its flag if it has one, and none, one or two for its
-    /// posture.
+    /// How many bits the zone takes: two to four for the owner of its space, or none if an earlier zone has them, one
+    /// for its flag if it has one, and none, one or two for its posture.
     pub fn bits(&self) -> u8
         ensures bits { result ≡ table.shape_bits self.now }
-        ensures few { result ≤ 5 }
+        ensures few { result ≤ 7 }
     {
-        2 + u8::from(self.flag) + self.postures().bits()
+        owner_bits(self.guests) + u8::from(self.flag) + self.postures().bits()
     }
 }

@@ -1,5 +1,6 @@
 //! The tables of a plan in memory of a fixed size: each row as its bytes, and blank rows after the last.
-ghost use Rattle.std.specs.Prelude.{◌≡◌, ◌≤◌, ◌<◌, ◌∷◌, ◌++◌, [], length};
+ghost use Rattle.std.specs.Prelude.{◌≡◌, ◌+◌, ◌≤◌, ◌<◌, ◌∷◌, ◌++◌, [], length};
+ghost use mir.Val.{bool_byte};
 ghost use Rattle.plan_types.specs.Below.{any_below, sum_below};
 ghost use Rattle.plan_types.specs.Table as table;
 ghost use Rattle.plan_types.specs.Table.{whole_table};
@@ -16,6 +17,7 @@ use std::marker::Model;
 const NO_ZONE: PlanZone = PlanZone {
     host: 0,
     guest: 0,
+    joins: false,
     inward: None,
     outward: None,
 };
@@ -243,26 +245,91 @@ impl Sheet {
         zone < usize::from(self.zone_count()) && self.any_gives(zone, posture)
     }
 
+    /// Whether a zone is of one space with the zone before it.
+    fn joins(&self, zone: usize) -> bool
+        ensures { result ≡ table.joins self.now zone }
+    {
+        self.zone(zone).joins
+    }
+
+    #[tactic(auto, using(crate::proofs::lemmas::Spaces::space_more))]
+    /// The first zone of the space of the zone after this one, by the first zone of this one's space.
+    fn next_space(&self, zone: u8, space: u8) -> u8
+        requires zone { zone < 255 }
+        requires space { space ≡ table.space_of self.now zone }
+        ensures { result ≡ table.space_of self.now (zone + 1) }
+    {
+        if self.joins(usize::from(zone + 1)) {
+            space
+        } else {
+            zone + 1
+        }
+    }
+
+    /// The first zone of a zone's space.
+    pub(crate) fn space(&self, zone: u8) -> u8
+        ensures { result ≡ table.space_of self.now zone }
+    {
+        let mut space = 0;
+        for before in 0..zone {
+            space = self.next_space(before, space);
+        }
+        space
+    }
+
+    fn is_joined_to(&self, first: u8, zone: u8) -> bool
+        ensures { result ≡ table.joined_to self.now first zone }
+    {
+        first < zone && self.space(zone) == first
+    }
+
+    /// How many zones join a space after its first zone.
+    #[tactic(auto, using(crate::proofs::lemmas::Below::sum_below_more))]
+    fn joined(&self, first: u8) -> u8
+        ensures count { let all = table.zone_count self.now in
+            result ≡ sum_below (λ y. bool_byte (table.joined_to self.now first y)) all }
+        ensures few { result ≤ 10 }
+    {
+        let mut count = 0;
+        for zone in 0..self.zone_count() {
+            count += u8::from(self.is_joined_to(first, zone));
+        }
+        count
+    }
+
+    /// How many guests a space has, by its first zone; 0 for a zone that joins it.
+    fn guests(&self, zone: u8) -> u8
+        ensures { result ≡ (table.zone_shape self.now zone).guests }
+    {
+        if self.space(zone) == zone {
+            1 + self.joined(zone)
+        } else {
+            0
+        }
+    }
+
     /// What a zone takes in the plan's word.
-    pub(crate) fn zone_shape(&self, zone: usize) -> ZoneShape
+    pub(crate) fn zone_shape(&self, zone: u8) -> ZoneShape
         ensures { result ≡ table.zone_shape self.now zone }
     {
-        let row = self.zone(zone);
+        let number = usize::from(zone);
+        let row = self.zone(number);
         ZoneShape {
+            guests: self.guests(zone),
             flag: row.inward.is_some() || row.outward.is_some(),
-            moves: self.is_given(zone, Posture::Moving),
-            opens_in: self.is_given(zone, Posture::OpenIn),
-            opens_out: self.is_given(zone, Posture::OpenOut),
+            moves: self.is_given(number, Posture::Moving),
+            opens_in: self.is_given(number, Posture::OpenIn),
+            opens_out: self.is_given(number, Posture::OpenOut),
         }
     }
 
     /// How many bits the zones take.
     fn zones_width(&self) -> u8
         ensures width { result ≡ sum_below (table.zone_bits self.now) (table.zone_count self.now) }
-        ensures few { result ≤ 50 }
+        ensures few { result ≤ 70 }
     {
         let mut width = 0;
-        for zone in 0..usize::from(self.zone_count()) {
+        for zone in 0..self.zone_count() {
             width += self.zone_shape(zone).bits();
         }
         width

@@ -30,13 +30,15 @@ pub struct Way {
     pub to: u8,
 }
 
-/// A zone: a space that two machines share.
+/// A zone: a space that two machines share. More zones of one host are one space with several guests, one at a time.
 #[derive(Clone, Copy, Debug, PartialEq, Eq)]
 pub struct PlanZone {
     /// The machine to which it belongs, and which sets its posture.
     pub host: u8,
     /// The other machine.
     pub guest: u8,
+    /// Whether it is of one space with the zone before it: the same host, and one owner.
+    pub joins: bool,
     /// The way of a plate that the guest gives the host while the zone is `OpenIn`, if there is one.
     pub inward: Option<Way>,
     /// The way of a plate that the host gives the guest while the zone is `OpenOut`, if there is one.

@@ -1,14 +1,26 @@
 -- What a loop over the zones of a word has found: the first refusal, a zone that stands, a plate on its way.
-use Rattle.std.proofs.Common.{◌≡◌, ℕ, zero, suc, ◌+◌, ◌<◌, inl, inr, Bool, true, false, ◌||◌, nat_lt, Option, Some, None, refl, sym, ap, ap₂, ◌∙◌, arith}
+use Rattle.std.proofs.Common.{◌≡◌, ℕ, zero, suc, ◌+◌, ◌<◌, inl, inr, Bool, true, false, ◌||◌, ◌&&◌, not, nat_eq, nat_lt, Option, Some, None, refl, sym, ap, ap₂, ◌∙◌, arith}
+use Rattle.std.specs.Bool.{then_some}
 use Rattle.std.specs.Option.{option_or}
 use Rattle.std.proofs.lemmas.Bool.{lt-ltb}
 use Rattle.plan_types.specs.Below.{first_below, any_below, sum_below}
-use Rattle.plan_types.specs.Table.{PlanTable, zone_count}
+use Rattle.plan_types.specs.declared.answer.Refusal.TheVariants.{NotParty, AlreadyMine, Shut, Stopped}
+use Rattle.plan_types.specs.Table.{PlanTable, zone_count, guest_of, is_party}
 use Rattle.plan_types.proofs.lemmas.Below.{below_next, first_below_more}
+use Rattle.plan_rules.specs.declared.state.ZoneState.{ZoneState}
 use Rattle.plan_rules.specs.declared.state.State.{State}
-use Rattle.plan_rules.specs.State.{zone_at, is_full, one_if, is_coming}
-use Rattle.plan_rules.specs.Refusals.{is_taken}
+use Rattle.plan_rules.specs.State.{zone_at, owner_of, posture_at, is_full, one_if, is_coming}
+use Rattle.plan_rules.specs.Sound.{is_open, is_owned_by}
+use Rattle.plan_rules.specs.Refusals.{◌or◌, held_by, worn, claim_refusal, is_taken}
 use Rattle.plan_rules.proofs.lemmas.Below.{any_below_more, sum_below_more, sum_below_at_least}
+
+-- a claim that no guard bars before the last one
+pub claim_left : (t : PlanTable) (s : State) (m z : ℕ) (v : ZoneState) → v ≡ zone_at s z → is_party t m z ≡ true → s.stopped ≡ false → v.owner ≡ None → (nat_eq m (guest_of t z) && not (is_open v.posture)) ≡ false
+    → worn s ≡ claim_refusal t s m z
+claim_left t s m z v here party runs free closed =
+    let owner : owner_of s z ≡ None = ap (λ (u : ZoneState). u.owner) (sym here) ∙ free in
+    let shut : (nat_eq m (guest_of t z) && not (is_open (posture_at s z))) ≡ false = ap (λ (u : ZoneState). nat_eq m (guest_of t z) && not (is_open u.posture)) (sym here) ∙ closed in
+    sym (λ i. then_some (not (party i)) NotParty or then_some (runs i) Stopped or then_some (is_owned_by (owner i) m) AlreadyMine or held_by (owner i) m or then_some (shut i) (Shut (posture_at s z)) or worn s)
 
 pub first_at : {A : Type 0} (f : ℕ → Option A) (i n : ℕ) (x : A) → i < n → first_below f i ≡ None → f i ≡ Some x → first_below f n ≡ Some x
 first_at f i zero x l none e = absurd (omega arith)

@@ -1,11 +1,10 @@
 -- What a layout keeps of its plan's zones.
-use Rattle.std.proofs.Common.{◌≡◌, ℕ, ◌+◌, ◌<◌, ◌≤◌, inl, inr, List, length, get_or, map, sym, ap, ◌∙◌, subst, arith}
+use Rattle.std.proofs.Common.{◌≡◌, ℕ, ◌+◌, ◌<◌, ◌≤◌, inl, inr, zero, suc, refl, List, [], ◌∷◌, length, get_or, map, sym, ap, ◌∙◌, subst, arith}
 use Rattle.std.specs.List.{range_with_len}
 use Rattle.std.proofs.lemmas.Bool.{cases_lt}
 use Rattle.std.proofs.lemmas.List.{get_or_past}
 use Rattle.std.proofs.lemmas.List.FromFn.{fill_by_all, get_or-map-range_with_len, length-map-range_with_len}
 use Rattle.plan_types.specs.declared.shape.ZoneShape.{ZoneShape}
-use Rattle.plan_types.specs.Below.{sum_below}
 use Rattle.plan_types.specs.Table.{PlanTable, zone_count, place_count, zone_shape, no_shape, shape_bits, word_width}
 use Rattle.plan_rules.proofs.lemmas.Below.{sum_below_same}
 use Rattle.plan_word.specs.declared.layout.Layout.TheInside.{Inside}
@@ -15,6 +14,12 @@ use Rattle.plan_word.proofs.lemmas.Fields.{ends_before}
 use Rattle.plan_word.proofs.lemmas.Shapes.{past_shape, ends_are}
 
 -- ---- what a layout tells
+-- a row that is there tells the same, whatever stands past the end
+pub row_there : (xs : List ZoneShape) (i : ℕ) (d e : ZoneShape) → i < length xs → get_or xs i d ≡ get_or xs i e
+row_there [] i d e l = absurd (omega (arith, l))
+row_there (x ∷ xs) zero d e l = refl
+row_there (x ∷ xs) (suc i) d e l = row_there xs i d e (omega (arith, l))
+
 pub end_kept : (a : Inside) (c : Counts) (n : ℕ) → IsKept a → layout_in a ≡ c → n < 11 → get_or a.ends n 0 ≡ zones_end c n
 end_kept a c n is view l =
     ap (λ (xs : List ℕ). get_or xs n 0) is.ends_are
@@ -27,6 +32,11 @@ shape_kept a c z is view = kept_shape a is z ∙ ap (λ (k : Counts). shape_at k
 
 pub zone_within : (c : Counts) (z : ℕ) → width_of c ≤ 64 → z < c.zones → zones_end c z + shape_bits (shape_at c z) ≤ 64
 zone_within c z fits l =
+    let before = ends_before (λ x. shape_bits (shape_at c x)) z c.zones l in
+    omega (arith, fits, before)
+
+pub zone_low : (c : Counts) (z : ℕ) → width_of c ≤ 64 → z < c.zones → zones_end c z < 64
+zone_low c z fits l =
     let before = ends_before (λ x. shape_bits (shape_at c x)) z c.zones l in
     omega (arith, fits, before)
 

@@ -5,3 +5,4 @@ mod Seen
 mod Guarding
 mod Packing
 mod StateRows
+mod Plain

@@ -3,7 +3,7 @@ use Rattle.std.proofs.Common.{◌≡◌, ℕ, ◌≤◌, inl, inr, false, ◌&&�
 use Rattle.std.proofs.lemmas.Bool.{cases_lt, false_from_ne_true}
 use Rattle.std.proofs.lemmas.List.{get_or_past}
 use Rattle.std.proofs.lemmas.List.FromFn.{get_or-map-range_with_len}
-use Rattle.plan_types.specs.Table.{PlanTable, zone_count, place_count}
+use Rattle.plan_types.specs.Table.{PlanTable, zone_count, place_count, space_of}
 use Rattle.plan_rules.specs.State.{zone_at, is_full, free_zone}
 use Rattle.plan_word.specs.declared.layout.Field.TheVariants.{Zone, Place}
 use Rattle.plan_word.specs.Layout.{counts_of}
@@ -17,7 +17,7 @@ unfolding state_told
 zone_in t w z few =
     elim (cases_lt z 10) [
       | inl l ↦ sym (get_or-map-range_with_len (zone_in_word t w) 0 10 z z free_zone l (omega arith))
-      | inr past ↦ ap (λ b. if b then zone_of_code t z (told (counts_of t) w (Zone z)) else free_zone) (not_there z (zone_count t) (omega arith))
+      | inr past ↦ ap (λ b. if b then zone_of_code t z (told (counts_of t) w (Zone (space_of t z))) (told (counts_of t) w (Zone z)) else free_zone) (not_there z (zone_count t) (omega arith))
           ∙ sym (get_or_past (state_told t w).zones z free_zone past)
     ]
 

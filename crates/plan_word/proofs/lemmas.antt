@@ -1,5 +1,6 @@
 pub mod Staying
 pub mod Fields
+pub mod Guests
 pub mod Shapes
 pub mod LaidOut
 pub mod RoundTrip

@@ -152,17 +152,17 @@ pub record WordsTell : Type 0 where
   pub most_zones_told : state_told (wide_table 8 3) 0xFFFFFC4800004800 ≡ far_zones
   pub rack_told : state_told rack_table 0xA404E ≡ at_rack
   pub gates_told : state_told (gated_table 10 3) 0x80001CD000000000 ≡ at_last_gate
-  pub rack_codes : map (zone_of_code rack_table 0) (0 ∷ 1 ∷ 4 ∷ 5 ∷ 6 ∷ [])
+  pub rack_codes : map (λ n. zone_of_code rack_table 0 n n) (0 ∷ 1 ∷ 4 ∷ 5 ∷ 6 ∷ [])
       ≡ free_zone ∷ zone (Some 0) false Closed ∷ zone None false OpenIn ∷ zone (Some 0) false OpenIn
       ∷ zone (Some 1) false OpenIn ∷ []
-  pub road_codes : map (zone_of_code roads_table 0) (5 ∷ 10 ∷ 12 ∷ [])
+  pub road_codes : map (λ n. zone_of_code roads_table 0 n n) (5 ∷ 10 ∷ 12 ∷ [])
       ≡ zone (Some 0) false Moving ∷ zone (Some 1) false OpenIn ∷ zone None false OpenOut ∷ []
-  pub gate_codes : map (zone_of_code (gated_table 10 3) 3) (10 ∷ 13 ∷ [])
+  pub gate_codes : map (λ n. zone_of_code (gated_table 10 3) 3 n n) (10 ∷ 13 ∷ [])
       ≡ zone (Some 0) false OpenIn ∷ zone (Some 1) true OpenIn ∷ []
   pub nothing : state_told (wide_table 8 3) 0 ≡ start_state (replicate 16 false) 0
   pub owners : map (owner_of_code lift_table 1) (0 ∷ 1 ∷ 2 ∷ 3 ∷ []) ≡ None ∷ Some 0 ∷ Some 2 ∷ Some 2 ∷ []
   pub postures : map posture_of_code (0 ∷ 1 ∷ 2 ∷ 3 ∷ []) ≡ Closed ∷ Moving ∷ OpenIn ∷ OpenOut ∷ []
-  pub zones : map (zone_of_code lift_table 0) (0 ∷ 9 ∷ 14 ∷ 21 ∷ 24 ∷ [])
+  pub zones : map (λ n. zone_of_code lift_table 0 n n) (0 ∷ 9 ∷ 14 ∷ 21 ∷ 24 ∷ [])
       ≡ free_zone ∷ zone (Some 0) false Moving ∷ zone (Some 1) true Moving ∷ zone (Some 0) true OpenIn
       ∷ zone None false OpenOut ∷ []
   pub no_more_zones : map (zone_in_word press_table 0xFFFFFFF) (0 ∷ 1 ∷ 9 ∷ [])

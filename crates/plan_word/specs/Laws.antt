@@ -1,5 +1,5 @@
 -- Laws of the word of every state of a plan.
-use Rattle.std.specs.Prelude.{◌≡◌, ℕ, ◌+◌, ◌*◌, ◌/◌, ◌%◌, ◌<◌, ◌^◌, IsTrue}
+use Rattle.std.specs.Prelude.{◌≡◌, ℕ, ◌+◌, ◌/◌, ◌%◌, ◌<◌, ◌^◌, IsTrue}
 use Rattle.plan_types.specs.Below.{sum_below}
 use Rattle.plan_types.specs.Table.{PlanTable, zone_count, place_count, zone_bits, word_width}
 use Rattle.plan_types.specs.Examples.{lift_table}

@@ -64,10 +64,10 @@ pub record FieldsAreApart : Type 0 where
 
 -- zones of five bits, and of four
 abbrev pub wide_shape : ZoneShape
-wide_shape = record { flag = true; moves = true; opens_in = true; opens_out = true }
+wide_shape = record { guests = 1; flag = true; moves = true; opens_in = true; opens_out = true }
 
 abbrev pub gate_shape : ZoneShape
-gate_shape = record { flag = true; moves = false; opens_in = true; opens_out = false }
+gate_shape = record { guests = 1; flag = true; moves = false; opens_in = true; opens_out = false }
 
 -- a number of zones of five bits, and of places
 abbrev pub wide_counts : ℕ → ℕ → Counts

@@ -5,3 +5,6 @@ pub mod Packed
 pub mod Reading
 pub mod Laws
 pub mod Examples
+pub mod Spaces
+pub mod SpaceExamples
+pub mod PlainLaws

@@ -6,6 +6,7 @@ use Rattle.plan_types.specs.declared.shape.Postures.{Postures}
 use Rattle.plan_types.specs.declared.shape.Postures.TheVariants.{Shut, Two, All}
 use Rattle.plan_types.specs.Same.{same_posture}
 use Rattle.plan_types.specs.Table.{postures_of, PlanTable, zone_count, place_count, zone_shape}
+use Rattle.plan_types.specs.Plan.{IsPlan}
 use Rattle.plan_rules.specs.declared.state.State.{State}
 use Rattle.plan_rules.specs.State.{zone_at, posture_at, is_full, free_zone}
 use Rattle.plan_rules.specs.Sound.{IsSound}
@@ -24,6 +25,7 @@ pub record IsWithin (t : PlanTable) (s : State) : Type 0 where
 
 -- such a state, in which each zone has a posture that its field tells
 pub record IsOfPlan (t : PlanTable) (s : State) : Type 0 where
+  pub plan : IsPlan t
   pub sound : IsSound t s
   pub postures_told : (z : ℕ) → z < zone_count t → IsTrue (can_have (postures_of (zone_shape t z)) (posture_at s z))
   pub no_more_zones : (z : ℕ) → zone_count t ≤ z → zone_at s z ≡ free_zone

@@ -1,7 +1,8 @@
 //! Why a call about a zone, a stop or a resume is refused, read off the fields of a word that the call looks at. Each
 //! function looks in the order of `plan_rules`, and at nothing after the first cause.
-ghost use Rattle.std.specs.Prelude.{◌≡◌};
-ghost use Rattle.plan_types.specs.Table.{transfer_of};
+ghost use Rattle.std.specs.Prelude.{◌≡◌, ◌&&◌};
+ghost use Rattle.plan_types.specs.Table.{transfer_of, same_space};
+ghost use Rattle.plan_rules.specs.State as states;
 ghost use Rattle.plan_rules.specs.Sound.{is_open as opens_way};
 ghost use Rattle.plan_rules.specs.Refusals as refusals;
 ghost use Rattle.plan_rules.specs.Refusals.{◌or◌};
@@ -74,6 +75,27 @@ pub(crate) fn is_taken(plan: &Plan, layout: &Layout, word: u64, place: u8) -> bo
     false
 }
 
+fn has_plate_of(plan: &Plan, layout: &Layout, word: u64, zone: u8, other: u8) -> bool
+    requires { layout.now ≡ counts_of plan.now }
+    ensures { let at = states.zone_at (state_told plan.now word) other in result
+        ≡ (same_space plan.now other zone && at.flag) }
+{
+    plan.same_space(other, zone) && zone_in_word(plan, layout, word, other).flag
+}
+
+/// Whether a plate is in the space of a zone.
+#[tactic(auto, using(plan_types::proofs::lemmas::Below::any_below_more))]
+pub(crate) fn space_has_plate(plan: &Plan, layout: &Layout, word: u64, zone: u8) -> bool
+    requires { layout.now ≡ counts_of plan.now }
+    ensures { result ≡ states.space_has_plate plan.now (state_told plan.now word) zone }
+{
+    let mut found = false;
+    for other in 0..plan.zone_count() {
+        found = found || has_plate_of(plan, layout, word, zone, other);
+    }
+    found
+}
+
 /// Why a plate can't go its way: its place is empty, or the place that it would come to is taken.
 fn way_refusal(plan: &Plan, layout: &Layout, word: u64, way: Option<Transfer>) -> Option<Refusal>
     requires { layout.now ≡ counts_of plan.now }
@@ -120,7 +142,7 @@ pub(crate) fn give_refusal(
     if at.owner != Some(machine) {
         return Some(Refusal::NotOwner(at.owner));
     }
-    if at.flag {
+    if space_has_plate(plan, layout, word, zone) {
         return Some(Refusal::PlateInZone(zone));
     }
     let way = way_given(plan, machine, zone, at.posture);
@@ -144,7 +166,7 @@ pub(crate) fn yield_refusal(
     if at.owner != Some(machine) {
         return Some(Refusal::NotOwner(at.owner));
     }
-    if at.flag {
+    if space_has_plate(plan, layout, word, zone) {
         return Some(Refusal::PlateInZone(zone));
     }
     if !is_open(at.posture) {
@@ -193,7 +215,7 @@ pub(crate) fn release_refusal(
     if at.owner != Some(machine) {
         return Some(Refusal::NotOwner(at.owner));
     }
-    if at.flag {
+    if space_has_plate(plan, layout, word, zone) {
         return Some(Refusal::PlateInZone(zone));
     }
     if at.posture == Posture::Moving {

@@ -7,6 +7,8 @@ ghost use Rattle.plan_rules.specs.declared.state.State.{State as PlanState};
 ghost use Rattle.plan_rules.specs.Sound.{IsStart};
 ghost use Rattle.plan_rules.specs.Reply.{next};
 ghost use Rattle.plan_word.specs.Layout.{Counts, FieldsAreApart, FieldsFit, ExamplesFit};
+ghost use Rattle.plan_word.specs.PlainLaws.{PlainWordsStay};
+ghost use Rattle.plan_word.specs.SpaceExamples.{SpaceWords, SpacesTold};
 ghost use Rattle.plan_word.specs.OfPlan.{IsOfPlan};
 ghost use Rattle.plan_word.specs.Laws.{EveryWordIsLaidOut, LayoutsTell, WordsAreDistinct, LiftWords};
 ghost use Rattle.plan_word.specs.Examples.{WordsAreRight, WordsTell, NotOfPress, StatesOfPlans};
@@ -67,3 +69,16 @@ pub fn stays_of_plan(plan: &Plan, state: &State, machine: u8, call: Call)
 {
     let _ = plan.machines();
 }
+
+/// Where no zone joins the one before it, each has two bits for its owner, and then its flag's and its posture's, as if
+/// there were no spaces.
+pub fn plain_words_stay()
+    ensures { PlainWordsStay }
+{}
+
+/// States of a press with two robots have these literal words, which tell them: the first zone of their space has its
+/// owner, and each its flag and posture.
+pub fn words_tell_spaces()
+    ensures words { SpaceWords }
+    ensures states { SpacesTold }
+{}

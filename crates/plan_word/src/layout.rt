@@ -52,6 +52,7 @@ impl Model for Layout {
 }
 
 const NO_SHAPE: ZoneShape = ZoneShape {
+    guests: 1,
     flag: false,
     moves: false,
     opens_in: false,
@@ -148,6 +149,7 @@ impl Layout {
         requires { zone < self.now.zones }
         ensures start { result ≡ layouts.zones_end self.now zone }
         ensures within { result + shape_bits (layouts.shape_at self.now zone) ≤ 64 }
+        ensures in_word { result < 64 }
     {
         self.ends[usize::from(zone)]
     }
@@ -156,6 +158,7 @@ impl Layout {
         requires { layouts.has self.now field ≡ true }
         ensures lowest { result ≡ layouts.start_of self.now field }
         ensures within { result + layouts.bits_of self.now field ≤ 64 }
+        ensures in_word { result < 64 }
     {
         match field {
             Field::Zone(zone) => self.zone_start(zone),
@@ -191,7 +194,6 @@ impl Layout {
     pub fn bits_of(&self, field: Field) -> u8
         ensures bits { result ≡ layouts.bits_of self.now field }
         ensures few { result ≤ 20 }
-        ensures some { 0 < result }
     {
         match field {
             Field::Zone(zone) => self.shape(zone).bits(),

@@ -7,7 +7,7 @@ ghost use Rattle.plan_rules.specs.Refusals as refusals;
 ghost use Rattle.plan_word.specs.Layout.{counts_of};
 ghost use Rattle.plan_word.specs.Reading.{state_told};
 
-use crate::guards::{is_taken, worn};
+use crate::guards::{is_taken, space_has_plate, worn};
 use crate::layout::Layout;
 use crate::word::{is_stopped_in, zone_in_word};
 use plan_types::{Plan, Posture, Refusal};
@@ -82,10 +82,10 @@ fn plate_at(
     if plan.host(zone) != machine {
         return None;
     }
-    let at = zone_in_word(plan, layout, word, zone);
-    if !at.flag {
+    if !space_has_plate(plan, layout, word, zone) {
         return None;
     }
+    let at = zone_in_word(plan, layout, word, zone);
     let concerned = is_concerned(plan, machine, pose, zone, at.posture);
     concerned.then_some(Refusal::PlateInZone(zone))
 }

@@ -51,8 +51,9 @@ pub(crate) fn zone_in_word(plan: &Plan, layout: &Layout, word: u64, zone: u8) ->
     ensures state { result ≡ states.zone_at (reading.state_told plan.now word) zone }
 {
     if zone < plan.zone_count() {
+        let first_code = layout.value_in(word, Field::Zone(plan.space(zone)));
         let code = layout.value_in(word, Field::Zone(zone));
-        zone_of_code(plan, layout, zone, code)
+        zone_of_code(plan, layout, zone, first_code, code)
     } else {
         FREE_ZONE
     }
@@ -126,7 +127,7 @@ fn state_in(plan: &Plan, layout: &Layout, word: u64) -> State
 }
 
 /// The state of the plan that packs to a word, or `None` if there is none: a bit above the layout's width is set, an
-/// owner has the spare code 3, or the state that the fields tell isn't sound. Fields tell no other posture than those
+/// owner has a spare code, or the state that the fields tell isn't sound. Fields tell no other posture than those
 /// that the zone can have.
 pub fn unpack(plan: &Plan, layout: &Layout, word: u64) -> Option<State>
     requires layout { layout.now ≡ counts_of plan.now }
@@ -135,6 +136,7 @@ pub fn unpack(plan: &Plan, layout: &Layout, word: u64) -> Option<State>
     ensures none { IsNone result
         ↔ ((state : PlanState) → IsOfPlan plan.now state → packed plan.now state ≢ word) }
 {
+    let _ = plan.machines();
     let state = state_in(plan, layout, word);
     if is_sound(plan, state) && pack(plan, layout, &state) == word {
         Some(state)

@@ -45,8 +45,11 @@ restamped_sound t s k = (
       has_ten_zones = k.1.sound.has_ten_zones;
       has_sixteen_places = k.1.sound.has_sixteen_places;
       zone_is_lawful = k.1.sound.zone_is_lawful;
+      zone_is_of_space = λ z l. record { owner = (k.1.sound.zone_is_of_space z l).owner; motion = (k.1.sound.zone_is_of_space z l).motion };
+      one_plate_a_space = k.1.sound.one_plate_a_space;
       one_plate_a_place = k.1.sound.one_plate_a_place;
     };
+    plan = k.1.plan;
     postures_told = k.1.postures_told;
     no_more_zones = k.1.no_more_zones;
     no_more_plates = k.1.no_more_plates;

@@ -37,6 +37,7 @@ fn tables(alloc: Global, presses: u8) -> Result<Tables, Fail>
         zones.push(PlanZone {
             host: loader + 1,
             guest: loader,
+            joins: false,
             inward: Some(Way {
                 from: loader,
                 to: loader + 1,

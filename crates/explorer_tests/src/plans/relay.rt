@@ -40,6 +40,7 @@ fn push_tables(
         zones.push(PlanZone {
             host: link,
             guest: link + 1,
+            joins: false,
             inward: None,
             outward: Some(Way {
                 from: link,

@@ -1,28 +1,34 @@
 -- Two motors exclude each other exactly if a zone, or a place, keeps them apart.
-use Rattle.std.proofs.Common.{◌≡◌, ℕ, zero, suc, ◌<◌, ◌≤◌, inl, inr, ◌⊎◌, Bool, true, false, ◌&&◌, not, nat_lt, if◌then◌else◌, Option, Some, None, refl, sym, ap, ◌∙◌, subst, arith, IsTrue, unwrap_or}
+use Rattle.std.proofs.Common.{◌≡◌, ℕ, zero, suc, ◌<◌, ◌≤◌, inl, inr, ◌⊎◌, Bool, true, false, ◌&&◌, not, nat_eq, nat_lt, if◌then◌else◌, Option, Some, None, refl, sym, ap, ap₂, ◌∙◌, subst, arith, IsTrue, unwrap_or}
 use Rattle.std.specs.Option.{option_or}
 use Rattle.std.specs.Bool.{then_some}
 use Rattle.std.proofs.lemmas.Bool.{and_parts, cases_lt, lt-ltb, false_from_ne_true}
 use Rattle.std.proofs.Common.{ltb-true}
 use Rattle.std.proofs.lemmas.List.{get_or_past}
 use Rattle.std.proofs.lemmas.List.FromFn.{get_or-map-range_with_len}
-use Rattle.plan_types.specs.Below.{first_below, sum_below}
-use Rattle.plan_types.specs.Table.{PlanTable, zone_count, place_count}
+use Rattle.plan_types.specs.declared.posture.Posture.{Posture}
+use Rattle.plan_types.specs.declared.posture.Posture.TheVariants.{Closed, Moving, OpenIn}
+use Rattle.plan_types.specs.Same.{same_posture}
+use Rattle.plan_types.specs.Below.{first_below, any_below, sum_below}
+use Rattle.plan_types.specs.Table.{PlanTable, zone_count, place_count, space_of, is_moving}
 use Rattle.plan_types.specs.Plan.{IsPlan}
 use Rattle.plan_types.proofs.lemmas.Below.{first_below_none}
+use Rattle.plan_types.proofs.lemmas.Spaces.{named}
 use Rattle.plan_rules.specs.declared.state.ZoneState.{ZoneState}
+use Rattle.plan_rules.specs.declared.state.State.{State}
 use Rattle.plan_rules.specs.State.{zone_at, is_full, free_zone, one_if, is_coming, coming, plates_for}
-use Rattle.plan_rules.specs.Sound.{IsSound, IsLawfulZone}
+use Rattle.plan_rules.specs.Sound.{IsSound, IsLawfulZone, IsOfSpace}
 use Rattle.plan_rules.proofs.lemmas.Below.{sum_below_same}
+use Rattle.plan_rules.proofs.lemmas.Spaces.{first_inside, shared_owner, shared_motion}
 use Rattle.plan_word.specs.OfPlan.{IsWithin}
 use Rattle.plan_motors.specs.declared.motor.Motor.{Motor}
 use Rattle.plan_motors.specs.declared.exclusion.Cause.{Cause}
 use Rattle.plan_motors.specs.declared.exclusion.Cause.TheVariants.{Zone, Place}
 use Rattle.plan_motors.specs.declared.exclusion.Exclusion.TheVariants.{Excluded, Possible}
 use Rattle.plan_motors.specs.Motor.{need_of, place_need, meets, meets_place, Permits}
-use Rattle.plan_motors.specs.Exclusion.{zone_for, is_lawful, is_shared, zone_cause, are_opposite, place_cause, cause, zone_in, place_in, state_for}
-use Rattle.plan_motors.specs.Decided.{NeverBoth, IsApartByZone, IsShown}
-use Rattle.plan_motors.proofs.Wanted.{shared_if}
+use Rattle.plan_motors.specs.Exclusion.{owner_needed, posture_needed, moves_in, zone_for, is_lawful, is_shared, zone_cause, are_opposite, place_cause, cause, zone_in, place_in, state_for}
+use Rattle.plan_motors.specs.Decided.{NeverBoth, KeepsRules, IsApartByZone, IsShown}
+use Rattle.plan_motors.proofs.Wanted.{shared_if, stays_still}
 
 -- ---- what is found
 found_one : (a b : Option Cause) (c : Cause) → option_or a b ≡ Some c → (a ≡ Some c) ⊎ ((a ≡ None) × (b ≡ Some c))
@@ -54,8 +60,8 @@ shared true e = refl
 shared false e = cc
 
 -- ---- a cause keeps two motors apart
-apart_by_zone : (t : PlanTable) (a b : Motor) (z : ℕ) → not (is_shared t a b z (zone_for t a b z)) ≡ true → IsApartByZone t a b z
-apart_by_zone t a b z e = λ v k x y. not_shared (is_shared t a b z (zone_for t a b z)) e (shared_if t a b z v k x y)
+apart_by_zone : (t : PlanTable) (a b : Motor) (z : ℕ) → z < zone_count t → not (is_shared t a b z (zone_for t a b z)) ≡ true → IsApartByZone t a b z
+apart_by_zone t a b z l e = λ v k x y. not_shared (is_shared t a b z (zone_for t a b z)) e (shared_if t a b z v l k x y)
 
 apart_by_need : (x y : Option Bool) → are_opposite x y ≡ true → (full : Bool) → IsTrue (meets_place x full) → IsTrue (meets_place y full) → ⊥
 apart_by_need (Some true) (Some false) e true h k = cc
@@ -74,15 +80,22 @@ cause_shown t a b c e =
       | inl h ↦
           let k = first_found (zone_cause t a b) (zone_count t) c h in
           let is = then_is (not (is_shared t a b k.0 (zone_for t a b k.0))) (Zone k.0) c k.2 in
-          subst (λ x. IsShown t a b (Excluded x)) is.1 (k.1, apart_by_zone t a b k.0 is.0)
+          subst (λ x. IsShown t a b (Excluded x)) is.1 (k.1, apart_by_zone t a b k.0 k.1 is.0)
       | inr h ↦
           let k = first_found (place_cause a b) (place_count t) c h.1 in
           let is = then_is (are_opposite (place_need a k.0) (place_need b k.0)) (Place k.0) c k.2 in
           subst (λ x. IsShown t a b (Excluded x)) is.1 (k.1, apart_by_need (place_need a k.0) (place_need b k.0) is.0)
     ]
 
+keeps_rules : (t : PlanTable) (s : State) (z : ℕ) → IsSound t s → z < zone_count t → KeepsRules t z (zone_at s)
+keeps_rules t s z k l = record {
+  lawful = λ y o. k.zone_is_lawful y o.there;
+  owner = λ y o. shared_owner t s y z k o.there l o.same;
+  motion = λ y o. shared_motion t s y z k o.there l o.same;
+}
+
 pub never_both : (t : PlanTable) (a b : Motor) (c : Cause) → IsShown t a b (Excluded c) → NeverBoth t a b
-never_both t a b (Zone z) k s sound x y = k.1 (zone_at s z) (sound.zone_is_lawful z k.0) (x.zones z k.0) (y.zones z k.0)
+never_both t a b (Zone z) k s sound x y = k.1 (zone_at s) (keeps_rules t s z sound k.0) (λ i o. x.zones i o.there) (λ i o. y.zones i o.there)
 never_both t a b (Place p) k s sound x y = k.1 (is_full s p) (x.places p k.0) (y.places p k.0)
 
 -- ---- the state that two motors need
@@ -123,6 +136,43 @@ place_past t a b p past =
           ∙ ap (λ n. n && unwrap_or (option_or (place_need a p) (place_need b p)) false) (not_there p (place_count t) past)
       | inr more ↦ get_or_past (state_for t a b).full p false more
     ]
+
+-- its zones have the owner of their space, and move if it does
+abbrev owner_by : PlanTable → Motor → Motor → ℕ → ℕ → Option ℕ
+owner_by t a b host space =
+    option_or (first_below (λ y. if nat_eq (space_of t y) space then owner_needed a b y else None) (zone_count t))
+    (then_some (is_moving (then_some (any_below (λ y. nat_eq (space_of t y) space && is_moving (posture_needed a b y)) (zone_count t)) Moving)) host)
+
+one_owner : (t : PlanTable) (a b : Motor) (z : ℕ) → IsPlan t → z < zone_count t → (zone_for t a b z).owner ≡ (zone_for t a b (space_of t z)).owner
+one_owner t a b z p l = ap₂ (owner_by t a b) (sym (p.one_host_a_space z l)) (sym (named t z))
+
+moves_by : (moves guest : Bool) (needed : Option Posture) → (moves ≡ false → is_moving needed ≡ false)
+    → same_posture (unwrap_or (option_or (then_some moves Moving) needed) (if guest then OpenIn else Closed)) Moving ≡ moves
+moves_by true guest needed still = refl
+moves_by false guest (Some q) still = still refl
+moves_by false true None still = refl
+moves_by false false None still = refl
+
+motion : (t : PlanTable) (a b : Motor) (z : ℕ) → z < zone_count t → same_posture (zone_for t a b z).posture Moving ≡ moves_in t a b z
+motion t a b z l = moves_by (moves_in t a b z) _ (posture_needed a b z) (stays_still t a b z l)
+
+one_motion : (t : PlanTable) (a b : Motor) (z : ℕ) → z < zone_count t → same_posture (zone_for t a b z).posture Moving ≡ same_posture (zone_for t a b (space_of t z)).posture Moving
+one_motion t a b z l =
+    motion t a b z l
+    ∙ ap (λ space. any_below (λ y. nat_eq (space_of t y) space && is_moving (posture_needed a b y)) (zone_count t)) (sym (named t z))
+    ∙ sym (motion t a b (space_of t z) (first_inside t z l))
+
+has_space : (t : PlanTable) (a b : Motor) (z : ℕ) → IsPlan t → z < zone_count t → IsOfSpace t (state_for t a b) z
+has_space t a b z p l =
+    let here = zone_there t a b z p l in
+    let first = zone_there t a b (space_of t z) p (first_inside t z l) in
+    record {
+      owner = ap (λ (v : ZoneState). v.owner) here ∙ one_owner t a b z p l ∙ sym (ap (λ (v : ZoneState). v.owner) first);
+      motion = ap (λ (v : ZoneState). same_posture v.posture Moving) here ∙ one_motion t a b z l ∙ sym (ap (λ (v : ZoneState). same_posture v.posture Moving) first);
+    }
+
+no_plate : (t : PlanTable) (a b : Motor) (z : ℕ) → IsPlan t → z < zone_count t → (zone_at (state_for t a b) z).flag ≡ true → ⊥
+no_plate t a b z p l e = let none : false ≡ true = sym (ap (λ (v : ZoneState). v.flag) (zone_there t a b z p l)) ∙ e in cc
 
 -- no zone of it has a plate
 none_at_all : (n : ℕ) → sum_below (λ _. 0) n ≡ 0
@@ -193,6 +243,8 @@ state_shown t a b k e =
       has_ten_zones = refl;
       has_sixteen_places = refl;
       zone_is_lawful = λ z l. subst (IsLawfulZone t z) (sym (zone_there t a b z k l)) (lawful t z (zone_for t a b z) refl (zone z l).lawful);
+      zone_is_of_space = λ z l. has_space t a b z k l;
+      one_plate_a_space = λ y z ly lz same plate _. absurd (no_plate t a b y k ly plate);
       one_plate_a_place = λ p. one_plate t a b p k;
     } in
     let of_plan : IsWithin t s = record { sound = sound; no_more_zones = zone_past t a b; no_more_plates = place_past t a b } in

@@ -1,11 +1,11 @@
 -- What a Done advance says of its place.
-use Rattle.std.proofs.Common.{◌≡◌, ℕ, ◌+◌, ◌<◌, ◌≤◌, Bool, true, false, ◌&&◌, ◌||◌, not, nat_lt, refl, ap, arith}
+use Rattle.std.proofs.Common.{◌≡◌, ℕ, ◌+◌, ◌≤◌, Bool, true, false, ◌&&◌, ◌||◌, not, refl, ap, arith}
 use Rattle.std.proofs.lemmas.Bool.{lt-ltb}
 use Rattle.plan_types.specs.Table.{PlanTable, is_source, is_sink}
 use Rattle.plan_rules.specs.declared.state.State.{State}
 use Rattle.plan_rules.specs.State.{is_full, one_if, coming, plates_for}
 use Rattle.plan_rules.specs.Sound.{IsSound}
-use Rattle.plan_rules.specs.Refusals.{is_taken, can_go}
+use Rattle.plan_rules.specs.Refusals.{is_taken}
 use Rattle.plan_rules.proofs.lemmas.DoneCalls.{Advances}
 use Rattle.plan_rules.proofs.lemmas.Plates.{no_plates}
 

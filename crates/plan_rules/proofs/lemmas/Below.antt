@@ -1,5 +1,5 @@
 -- Tests and sums of the numbers below a number.
-use Rattle.std.proofs.Common.{◌≡◌, ◌≢◌, ℕ, zero, suc, ◌+◌, ◌<◌, ◌≤◌, inl, inr, Bool, true, false, ◌||◌, refl, ap, ◌∙◌, add-one, arith}
+use Rattle.std.proofs.Common.{◌≡◌, ◌≢◌, ℕ, zero, suc, ◌+◌, ◌<◌, ◌≤◌, inl, inr, Bool, true, false, ◌||◌, refl, sym, ap, ◌∙◌, add-one, arith}
 use Rattle.plan_types.specs.Below.{any_below, sum_below}
 use Rattle.plan_types.proofs.lemmas.Below.{below_next}
 
@@ -31,6 +31,18 @@ sum_below_at_least f i (suc n) l =
     elim (below_next i n l) [
       | inl k ↦ let rest = sum_below_at_least f i n k in omega (arith, rest)
       | inr k ↦ let at_f = ap f k in omega (arith, at_f)
+    ]
+
+or_true : (b : Bool) → (b || true) ≡ true
+or_true true = refl
+or_true false = refl
+
+pub any_below_at : (f : ℕ → Bool) (i n : ℕ) → i < n → f i ≡ true → any_below f n ≡ true
+any_below_at f i zero l e = absurd (omega arith)
+any_below_at f i (suc n) l e =
+    elim (below_next i n l) [
+      | inl k ↦ ap (λ b. b || f n) (any_below_at f i n k e)
+      | inr k ↦ ap (λ b. any_below f n || b) (sym (ap f k) ∙ e) ∙ or_true (any_below f n)
     ]
 
 neither : (a b : Bool) → (a || b) ≡ false → (a ≡ false) × (b ≡ false)

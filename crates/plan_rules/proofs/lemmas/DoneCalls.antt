@@ -8,7 +8,7 @@ use Rattle.plan_types.specs.declared.answer.Refusal.TheVariants.{NotParty, Held,
 use Rattle.plan_types.specs.Table.{PlanTable, zone_count, host_of, guest_of, is_party, has_pose, pose_count, machine_of, is_moving_pose, pose_row, watch, place_count, keeper_of, is_place_of, is_source, is_sink, has_end}
 use Rattle.plan_types.specs.Below.{any_below}
 use Rattle.plan_rules.specs.declared.state.State.{State}
-use Rattle.plan_rules.specs.State.{zone_at, owner_of, posture_at, is_full}
+use Rattle.plan_rules.specs.State.{zone_at, owner_of, posture_at, is_full, space_has_plate}
 use Rattle.plan_rules.specs.Sound.{is_open, is_owned_by}
 use Rattle.plan_rules.specs.Refusals as refusals
 use Rattle.plan_rules.specs.Refusals.{◌or◌, owns}
@@ -87,35 +87,35 @@ holder t s m z a b c =
 
 pub record Yields (t : PlanTable) (s : State) (m z : ℕ) : Type 0 where
   pub holder : Holder t s m z
-  pub clear : (zone_at s z).flag ≡ false
+  pub clear : space_has_plate t s z ≡ false
   pub opens : is_open (posture_at s z) ≡ true
 
 pub yield_done : (t : PlanTable) (s : State) (m z : ℕ) → refusals.yield_refusal t s m z ≡ None → Yields t s m z
 yield_done t s m z e =
     let r0 = refusals.not_party t m z in
     let r1 = r0 or refusals.not_owner s m z in
-    let r2 = r1 or refusals.plate_in_zone s z in
+    let r2 = r1 or refusals.plate_in_zone t s z in
     let r3 = r2 or refusals.shut s z in
     let h3 = none_or r3 (refusals.worn s) e in
     let h2 = none_or r2 (refusals.shut s z) h3.0 in
-    let h1 = none_or r1 (refusals.plate_in_zone s z) h2.0 in
+    let h1 = none_or r1 (refusals.plate_in_zone t s z) h2.0 in
     let h0 = none_or r0 (refusals.not_owner s m z) h1.0 in
     record { holder = holder t s m z h0.0 h0.1 h3.1; clear = none_then _ _ h1.1; opens = none_then_not _ _ h2.1 }
 
 pub record Releases (t : PlanTable) (s : State) (m z : ℕ) : Type 0 where
   pub holder : Holder t s m z
-  pub clear : (zone_at s z).flag ≡ false
+  pub clear : space_has_plate t s z ≡ false
   pub still : refusals.shut_while_moving s z ≡ None
 
 pub release_done : (t : PlanTable) (s : State) (m z : ℕ) → refusals.release_refusal t s m z ≡ None → Releases t s m z
 release_done t s m z e =
     let r0 = refusals.not_party t m z in
     let r1 = r0 or refusals.not_owner s m z in
-    let r2 = r1 or refusals.plate_in_zone s z in
+    let r2 = r1 or refusals.plate_in_zone t s z in
     let r3 = r2 or refusals.shut_while_moving s z in
     let h3 = none_or r3 (refusals.worn s) e in
     let h2 = none_or r2 (refusals.shut_while_moving s z) h3.0 in
-    let h1 = none_or r1 (refusals.plate_in_zone s z) h2.0 in
+    let h1 = none_or r1 (refusals.plate_in_zone t s z) h2.0 in
     let h0 = none_or r0 (refusals.not_owner s m z) h1.0 in
     record { holder = holder t s m z h0.0 h0.1 h3.1; clear = none_then _ _ h1.1; still = h2.1 }
 
@@ -136,7 +136,7 @@ take_done t s m z e =
 pub record Given (t : PlanTable) (s : State) (m z : ℕ) : Type 0 where
   pub holder : Holder t s m z
   pub goes_on : s.stopped ≡ false
-  pub clear : (zone_at s z).flag ≡ false
+  pub clear : space_has_plate t s z ≡ false
   pub way : Transfer
   pub is : refusals.transfer_given t s m z ≡ Some way
   pub plate : is_full s way.from ≡ true
@@ -153,7 +153,7 @@ give_done t s m z e =
     let r0 = refusals.not_party t m z in
     let r1 = r0 or refusals.while_stopped s in
     let r2 = r1 or refusals.not_owner s m z in
-    let r3 = r2 or refusals.plate_in_zone s z in
+    let r3 = r2 or refusals.plate_in_zone t s z in
     let r4 = r3 or refusals.wrong_way way in
     let r5 = r4 or refusals.nothing_to_give s way in
     let r6 = r5 or refusals.no_room t s way in
@@ -161,7 +161,7 @@ give_done t s m z e =
     let h5 = none_or r5 (refusals.no_room t s way) h6.0 in
     let h4 = none_or r4 (refusals.nothing_to_give s way) h5.0 in
     let h3 = none_or r3 (refusals.wrong_way way) h4.0 in
-    let h2 = none_or r2 (refusals.plate_in_zone s z) h3.0 in
+    let h2 = none_or r2 (refusals.plate_in_zone t s z) h3.0 in
     let h1 = none_or r1 (refusals.not_owner s m z) h2.0 in
     let h0 = none_or r0 (refusals.while_stopped s) h1.0 in
     let found = some_way t s way h3.1 h4.1 h5.1 in
@@ -180,7 +180,7 @@ pub record Poses (t : PlanTable) (s : State) (m p : ℕ) : Type 0 where
   pub machine : machine_of t p ≡ m
   pub goes_on : (is_moving_pose t p && s.stopped) ≡ false
   pub owned : (z : ℕ) → z < zone_count t → (refusals.is_concerned t s m p z && not (owns s m z)) ≡ false
-  pub clear : (z : ℕ) → z < zone_count t → (refusals.is_concerned t s m p z && (zone_at s z).flag) ≡ false
+  pub clear : (z : ℕ) → z < zone_count t → (refusals.is_concerned t s m p z && space_has_plate t s z) ≡ false
   pub no_jump : ((pose_row t p).after_moving && any_below (refusals.stands_at t s m) (zone_count t)) ≡ false
   pub room : (z : ℕ) → z < zone_count t → refusals.opens_onto_plate t s p z ≡ None
   pub fresh : s.stamp < 1048575

@@ -8,7 +8,7 @@ use Rattle.plan_rules.specs.Sound.{IsSound}
 use Rattle.plan_rules.specs.History.{IsLegal}
 use Rattle.plan_rules.specs.Laws.{Lawful, EveryLegalHistoryIsLawful}
 use Rattle.plan_rules.proofs.Histories.{throughout, sound-after}
-use Rattle.plan_rules.proofs.HolderLaws.{one_holder, mover_is_host, guest_only_while_open}
+use Rattle.plan_rules.proofs.HolderLaws.{one_holder, one_at_a_time, mover_is_host, guest_only_while_open}
 use Rattle.plan_rules.proofs.Changes.{plates-counted, plates-kept, stamp-counted, posture_by_events_is}
 use Rattle.plan_rules.proofs.Lasting.{right_lasts}
 use Rattle.plan_rules.proofs.Fitting.{poses_fit, handover_by_holder, advances_fit}
@@ -17,6 +17,7 @@ use Rattle.plan_rules.proofs.Stopping.{stopped_along}
 lawful : (t : PlanTable) (s : State) → IsPlan t → IsSound t s → (h : List Event) → IsLegal t s h → Lawful t s h
 lawful t s p k h l = record {
   one_holder = one_holder t s p k h l;
+  one_at_a_time = one_at_a_time t s p k h l;
   mover_is_host = mover_is_host t s p k h l;
   guest_only_while_open = guest_only_while_open t s p k h l;
   plates_are_counted = plates-counted t s p k h l;

@@ -1,5 +1,5 @@
 -- Plates: those of a place and those on their way to it, and all of a state, after a change.
-use Rattle.std.proofs.Common.{◌≡◌, ℕ, ◌+◌, ◌<◌, ◌≤◌, inl, inr, Bool, true, false, ◌&&◌, nat_eq, nat_lt, List, length, get_or, set, Some, sym, ap, ◌∙◌, arith}
+use Rattle.std.proofs.Common.{◌≡◌, ℕ, ◌+◌, ◌<◌, ◌≤◌, inl, inr, Bool, true, false, ◌&&◌, ◌||◌, nat_eq, nat_lt, List, length, get_or, set, Some, sym, ap, ◌∙◌, arith}
 use Rattle.std.proofs.lemmas.Bool.{lt-ltb}
 use Rattle.std.proofs.lemmas.List.{get_or-set_same, get_or-set_other}
 use Rattle.plan_types.specs.declared.table.Transfer.{Transfer}
@@ -59,22 +59,15 @@ comes t v z p way flag is = ap (λ b. one_if (b && leads_to (transfer_of t z v.p
 comes_not : (t : PlanTable) (v : ZoneState) (z p : ℕ) → v.flag ≡ false → one_if (is_coming t v p z) ≡ 0
 comes_not t v z p clear = ap (λ b. one_if (b && leads_to (transfer_of t z v.posture) p)) clear
 
--- nothing changes for a place where no plate comes or goes
-pub plates_same : (t : PlanTable) (s : State) (y p : ℕ) (v : ZoneState) → y < zone_count t → y < length s.zones → is_coming t v p y ≡ is_coming t (zone_at s y) p y
-    → coming_in t (set s.zones y v) p ≡ coming t s p
-plates_same t s y p v l m same =
-    let put = zones_put (λ x u. one_if (is_coming t u p x)) s.zones v y (zone_count t) l m in
-    let e = ap one_if same in
-    omega (arith, put, e)
-
--- a plate leaves a place, for one that has none and none coming
-pub plates_given : (t : PlanTable) (s : State) (y p : ℕ) (v : ZoneState) (way : Transfer) → y < zone_count t → y < length s.zones → way.from < length s.full
-    → (zone_at s y).flag ≡ false → v.flag ≡ true → transfer_of t y v.posture ≡ Some way → plates_for t s way.to ≡ 0 → plates_for t s p ≤ 1
-    → one_if (get_or (set s.full way.from false) p false) + coming_in t (set s.zones y v) p ≤ 1
-plates_given t s y p v way l m n clear flag is room most =
-    let put = zones_put (λ x u. one_if (is_coming t u p x)) s.zones v y (zone_count t) l m in
-    let old = comes_not t (zone_at s y) y p clear in
-    let new = comes t v y p way flag is in
+-- a plate leaves a place, for one that has none and none coming: the sum of what comes changes by the one zone's plate
+pub plates_given : (t : PlanTable) (s : State) (y p : ℕ) (zones : List ZoneState) (way : Transfer) → way.from < length s.full
+    → coming_in t zones p + one_if ((zone_at s y).flag && leads_to (transfer_of t y (zone_at s y).posture) p)
+    ≡ coming t s p + one_if ((true || (zone_at s y).flag) && leads_to (transfer_of t y (zone_at s y).posture) p)
+    → (zone_at s y).flag ≡ false → transfer_of t y (zone_at s y).posture ≡ Some way → plates_for t s way.to ≡ 0 → plates_for t s p ≤ 1
+    → one_if (get_or (set s.full way.from false) p false) + coming_in t zones p ≤ 1
+plates_given t s y p zones way n put clear is room most =
+    let old : one_if ((zone_at s y).flag && leads_to (transfer_of t y (zone_at s y).posture) p) ≡ 0 = comes_not t (zone_at s y) y p clear in
+    let new : one_if ((true || (zone_at s y).flag) && leads_to (transfer_of t y (zone_at s y).posture) p) ≡ one_if (nat_eq way.to p) = ap (λ o. one_if (leads_to o p)) is in
     let least = emptied_at_most s.full way.from p n in
     elim (same_or_not p way.to) [
       | inl e ↦ let none : plates_for t s p ≡ 0 = ap (plates_for t s) e ∙ room in let one = one_if_at_most (nat_eq way.to p) in omega (arith, put, old, new, least, none, one)

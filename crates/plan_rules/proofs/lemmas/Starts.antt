@@ -1,6 +1,9 @@
 -- Starts are sound.
 use Rattle.std.proofs.Common.{◌≡◌, ℕ, zero, suc, ◌≤◌, Bool, true, false, get_or, replicate, refl, sym, ap, ◌∙◌, subst, length, arith}
-use Rattle.plan_types.specs.Table.{PlanTable, zone_count}
+use Rattle.plan_types.specs.Table.{PlanTable, zone_count, space_of}
+use Rattle.plan_types.specs.declared.posture.Posture.TheVariants.{Moving}
+use Rattle.plan_types.specs.Same.{same_posture}
+use Rattle.plan_rules.specs.declared.state.ZoneState.{ZoneState}
 use Rattle.plan_types.specs.Below.{sum_below}
 use Rattle.plan_types.specs.Plan.{IsPlan}
 use Rattle.plan_rules.specs.declared.state.State.{State}
@@ -34,6 +37,11 @@ start_is_sound t s p k =
       has_ten_zones = ap (λ (x : State). length x.zones) k.same;
       has_sixteen_places = k.has_sixteen_places;
       zone_is_lawful = λ z l. subst (IsLawfulZone t z) (sym (at z)) (lawful_free t z);
+      zone_is_of_space = λ z l. record {
+        owner = ap (λ (v : ZoneState). v.owner) (at z) ∙ sym (ap (λ (v : ZoneState). v.owner) (at (space_of t z)));
+        motion = ap (λ (v : ZoneState). same_posture v.posture Moving) (at z) ∙ sym (ap (λ (v : ZoneState). same_posture v.posture Moving) (at (space_of t z)));
+      };
+      one_plate_a_space = λ y z ly lz same flag also. let none : false ≡ true = sym (ap (λ (v : ZoneState). v.flag) (at y)) ∙ flag in cc;
       one_plate_a_place = λ q.
           let none = sum_below_same (λ _. 0) (λ z. one_if (is_coming t (zone_at s z) q z)) (zone_count t) (λ z l. ap (λ v. one_if (is_coming t v q z)) (at z)) in
           let nothing = none_at_all (zone_count t) in

@@ -1,17 +1,18 @@
 -- A zone stays lawful with each change that a call may make.
-use Rattle.std.proofs.Common.{◌≡◌, ◌≢◌, ℕ, Bool, true, false, ◌&&◌, ◌||◌, not, nat_eq, Option, Some, None, refl, sym, ap, ◌∙◌, if◌then◌else◌}
+use Rattle.std.proofs.Common.{◌≡◌, ◌≢◌, ℕ, ◌<◌, Bool, true, false, ◌&&◌, ◌||◌, not, nat_eq, Option, Some, None, refl, sym, ap, ◌∙◌, if◌then◌else◌}
 use Rattle.std.proofs.lemmas.Bool.{eqb-true}
 use Rattle.plan_types.specs.declared.posture.Posture.{Posture}
 use Rattle.plan_types.specs.declared.posture.Posture.TheVariants.{Closed, Moving, OpenIn, OpenOut}
 use Rattle.plan_types.specs.declared.table.Way.{Way}
 use Rattle.plan_types.specs.declared.table.Transfer.{Transfer}
 use Rattle.plan_types.specs.Same.{same_posture}
-use Rattle.plan_types.specs.Table.{PlanTable, host_of, guest_of, transfer_of, transfer_by, zone_row}
+use Rattle.plan_types.specs.Table.{PlanTable, zone_count, host_of, guest_of, transfer_of, transfer_by, zone_row, enters}
 use Rattle.plan_rules.specs.declared.state.ZoneState.{ZoneState}
-use Rattle.plan_rules.specs.Sound.{IsLawfulZone, implies, is_open, is_owned_by, is_received_by}
+use Rattle.plan_rules.specs.Sound.{IsLawfulZone, is_entrant, implies, is_open, is_owned_by, is_received_by}
 use Rattle.plan_rules.specs.Refusals.{given_by}
 use Rattle.plan_rules.specs.Reply.{other_party}
 use Rattle.plan_rules.proofs.lemmas.Puts.{nat_eq-self, nat_eq-apart}
+use Rattle.plan_rules.proofs.lemmas.Spaces.{party_enters}
 
 -- ---- truth values
 
@@ -59,37 +60,28 @@ open_not_moving OpenOut e = refl
 pub free_is_clear : (t : PlanTable) (z : ℕ) (v : ZoneState) → IsLawfulZone t z v → v.owner ≡ None → v.flag ≡ false
 free_is_clear t z v k e = not_implied v.flag (is_received_by v.owner (transfer_of t z v.posture)) k.flag_has_transfer (unowned_receiver v.owner (transfer_of t z v.posture) e)
 
-free_is_still : (t : PlanTable) (z : ℕ) (v : ZoneState) → IsLawfulZone t z v → v.owner ≡ None → same_posture v.posture Moving ≡ false
+pub free_is_still : (t : PlanTable) (z : ℕ) (v : ZoneState) → IsLawfulZone t z v → v.owner ≡ None → same_posture v.posture Moving ≡ false
 free_is_still t z v k e = not_implied (same_posture v.posture Moving) (is_owned_by v.owner (host_of t z)) k.moving_belongs_to_host (rw e refl)
 
 -- ---- each change
 
-pub lawful_claimed : (t : PlanTable) (z m : ℕ) (v : ZoneState) → IsLawfulZone t z v → v.owner ≡ None
-    → (nat_eq m (host_of t z) || nat_eq m (guest_of t z)) ≡ true → (nat_eq m (guest_of t z) && not (is_open v.posture)) ≡ false
-    → IsLawfulZone t z (record v { owner = Some m })
-lawful_claimed t z m v k free party opens = record {
+-- who enters a zone's space owns it; it doesn't move, is open if the owner is its guest, and a plate in it comes to the
+-- owner
+pub lawful_owned : (t : PlanTable) (z o : ℕ) (f : Bool) (q : Posture) → enters t o z ≡ true → implies f (is_received_by (Some o) (transfer_of t z q)) ≡ true
+    → implies (nat_eq o (guest_of t z)) (is_open q) ≡ true → same_posture q Moving ≡ false → IsLawfulZone t z (record { owner = Some o; flag = f; posture = q })
+lawful_owned t z o f q party plate opens still = record {
   owner_is_party = party;
-  flag_has_transfer = implies_none v.flag _ (free_is_clear t z v k free);
-  guest_only_while_open = implies_from (nat_eq m (guest_of t z)) (is_open v.posture) opens;
-  moving_belongs_to_host = implies_none (same_posture v.posture Moving) _ (free_is_still t z v k free);
-}
-
--- a party owns an open zone, and a plate in it, if there is one, comes to this party
-pub lawful_open : (t : PlanTable) (z o : ℕ) (v : ZoneState) → v.owner ≡ Some o → (nat_eq o (host_of t z) || nat_eq o (guest_of t z)) ≡ true
-    → implies v.flag (is_received_by v.owner (transfer_of t z v.posture)) ≡ true → is_open v.posture ≡ true → IsLawfulZone t z v
-lawful_open t z o v is party plate opens = record {
-  owner_is_party = rw is party;
   flag_has_transfer = plate;
-  guest_only_while_open = implies_any _ (is_open v.posture) opens;
-  moving_belongs_to_host = implies_none (same_posture v.posture Moving) _ (open_not_moving v.posture opens);
+  guest_only_while_open = opens;
+  moving_belongs_to_host = implies_none (same_posture q Moving) _ still;
 }
 
-pub lawful_released : (t : PlanTable) (z : ℕ) (v : ZoneState) → v.flag ≡ false → same_posture v.posture Moving ≡ false → IsLawfulZone t z (record v { owner = None })
-lawful_released t z v clear still = record {
+pub lawful_free : (t : PlanTable) (z : ℕ) (f : Bool) (q : Posture) → f ≡ false → same_posture q Moving ≡ false → IsLawfulZone t z (record { owner = None; flag = f; posture = q })
+lawful_free t z f q clear still = record {
   owner_is_party = refl;
-  flag_has_transfer = implies_none v.flag _ clear;
+  flag_has_transfer = implies_none f _ clear;
   guest_only_while_open = refl;
-  moving_belongs_to_host = implies_none (same_posture v.posture Moving) _ still;
+  moving_belongs_to_host = implies_none (same_posture q Moving) _ still;
 }
 
 pub lawful_taken : (t : PlanTable) (z : ℕ) (v : ZoneState) → IsLawfulZone t z v → IsLawfulZone t z (record v { flag = false })
@@ -101,10 +93,10 @@ lawful_taken t z v k = record {
 }
 
 -- the host, which owns the zone, gives it a posture
-pub lawful_posed : (t : PlanTable) (z : ℕ) (v : ZoneState) (q : Posture) → host_of t z ≢ guest_of t z → v.owner ≡ Some (host_of t z) → v.flag ≡ false
+pub lawful_posed : (t : PlanTable) (z : ℕ) (v : ZoneState) (q : Posture) → z < zone_count t → host_of t z ≢ guest_of t z → v.owner ≡ Some (host_of t z) → v.flag ≡ false
     → IsLawfulZone t z (record v { posture = q })
-lawful_posed t z v q two is clear = record {
-  owner_is_party = rw (is, nat_eq-self (host_of t z)) refl;
+lawful_posed t z v q l two is clear = record {
+  owner_is_party = ap (is_entrant t z) is ∙ party_enters t (host_of t z) z z l refl (rw (nat_eq-self (host_of t z)) refl);
   flag_has_transfer = implies_none v.flag _ clear;
   guest_only_while_open = implies_none _ _ (ap (λ o. is_owned_by o (guest_of t z)) is ∙ nat_eq-apart (host_of t z) (guest_of t z) two);
   moving_belongs_to_host = implies_any _ _ (ap (λ o. is_owned_by o (host_of t z)) is ∙ nat_eq-self (host_of t z));

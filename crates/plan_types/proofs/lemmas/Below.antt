@@ -1,5 +1,5 @@
 -- What is computed of the numbers below a number.
-use Rattle.std.proofs.Common.{◌≡◌, ℕ, zero, suc, ◌+◌, ◌<◌, ◌⊎◌, inl, inr, Bool, ◌||◌, Option, Some, None, refl, ap, ◌∙◌, add-one, arith}
+use Rattle.std.proofs.Common.{◌≡◌, ℕ, zero, suc, ◌+◌, ◌<◌, ◌⊎◌, inl, inr, Bool, true, false, ◌||◌, Option, Some, None, refl, ap, ◌∙◌, add-one, arith}
 use Rattle.std.specs.Option.{option_or}
 use Rattle.std.proofs.lemmas.Bool.{cases_lt}
 use Rattle.plan_types.specs.Below.{first_below, any_below, sum_below}
@@ -30,6 +30,20 @@ first_below_none f (suc n) e i l =
 pub first_below_all : {A : Type 0} (f : ℕ → Option A) (n : ℕ) → ((i : ℕ) → i < n → f i ≡ None) → first_below f n ≡ None
 first_below_all f zero all = refl
 first_below_all f (suc n) all = rw (first_below_all f n (λ i l. all i (omega arith)), all n (omega arith)) refl
+
+none_of_two : (a b : Bool) → (a || b) ≡ false → (a ≡ false) × (b ≡ false)
+none_of_two true b e = cc
+none_of_two false b e = (refl, e)
+
+pub any_below_none : (f : ℕ → Bool) (n : ℕ) → any_below f n ≡ false → (i : ℕ) → i < n → f i ≡ false
+any_below_none f zero e i l = absurd (omega arith)
+any_below_none f (suc n) e i l =
+    let h = none_of_two (any_below f n) (f n) e in
+    elim (below_next i n l) [ inl k ↦ any_below_none f n h.0 i k | inr k ↦ ap f k ∙ h.1 ]
+
+pub any_below_all : (f : ℕ → Bool) (n : ℕ) → ((i : ℕ) → i < n → f i ≡ false) → any_below f n ≡ false
+any_below_all f zero all = refl
+any_below_all f (suc n) all = rw (any_below_all f n (λ i l. all i (omega arith)), all n (omega arith)) refl
 
 -- the first value is that of the first number that has one
 pub record IsFirst {A : Type 0} (f : ℕ → Option A) (n : ℕ) (x : A) : Type 0 where

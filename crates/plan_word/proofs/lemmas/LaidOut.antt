@@ -1,5 +1,5 @@
 -- Each number of a state reads back from its field.
-use Rattle.std.proofs.Common.{◌≡◌, ℕ, ◌+◌, ◌*◌, ◌/◌, ◌%◌, ◌<◌, ◌≤◌, ◌^◌, Bool, true, false, ◌&&◌, Option, Some, None, nat_eq, if◌then◌else◌, refl, sym, ap, ◌∙◌, subst, arith, ltb-true, IsTrue}
+use Rattle.std.proofs.Common.{◌≡◌, ℕ, ◌+◌, ◌*◌, ◌/◌, ◌%◌, ◌<◌, ◌≤◌, ◌^◌, Bool, true, false, ◌&&◌, if◌then◌else◌, refl, sym, ap, ◌∙◌, subst, arith, ltb-true, IsTrue}
 use Rattle.std.proofs.lemmas.Nat.{pow-add}
 use Rattle.plan_types.specs.declared.posture.Posture.{Posture}
 use Rattle.plan_types.specs.declared.posture.Posture.TheVariants.{Closed, Moving, OpenIn, OpenOut}
@@ -7,7 +7,7 @@ use Rattle.plan_types.specs.declared.shape.Postures.{Postures}
 use Rattle.plan_types.specs.declared.shape.Postures.TheVariants.{Shut, Two, All}
 use Rattle.plan_types.specs.declared.shape.ZoneShape.{ZoneShape}
 use Rattle.plan_types.specs.Same.{same_posture}
-use Rattle.plan_types.specs.Table.{postures_of, PlanTable, zone_count, place_count, host_of, flag_bits, posture_bits, shape_bits, zone_shape}
+use Rattle.plan_types.specs.Table.{postures_of, PlanTable, zone_count, place_count, owner_bits, flag_bits, posture_bits, shape_bits, zone_shape}
 use Rattle.plan_rules.specs.declared.state.ZoneState.{ZoneState}
 use Rattle.plan_rules.specs.declared.state.State.{State}
 use Rattle.plan_rules.specs.State.{zone_at, is_full, one_if}
@@ -15,17 +15,14 @@ use Rattle.plan_word.specs.declared.layout.Field.{Field}
 use Rattle.plan_word.specs.declared.layout.Field.TheVariants.{Zone, Place, Stamp, Stop}
 use Rattle.plan_word.specs.Layout.{counts_of, has, bits_of, width_of}
 use Rattle.plan_word.specs.OfPlan.{IsOfPlan}
-use Rattle.plan_word.specs.Packed.{owner_code, posture_code, code_of, flag_values, code_in, zone_code, held, zone_parts, place_parts, packed}
+use Rattle.plan_word.specs.Packed.{owner_part, owner_values, posture_code, code_of, flag_values, rest_in, code_in, zone_code, held, zone_parts, place_parts, packed}
 use Rattle.plan_word.specs.Reading.{told}
 use Rattle.plan_word.specs.Laws.{IsLaidOut}
+use Rattle.plan_word.proofs.lemmas.Guests.{owner_part_fits}
 use Rattle.plan_word.proofs.lemmas.Shapes.{bits_at, ends, places_bit, bits_are}
 use Rattle.plan_word.proofs.lemmas.Fields.{row, row_below, row_back, row_above, next_bound, back}
 
 -- ---- each number fits
-pub owner_fits : (t : PlanTable) (z : ℕ) (o : Option ℕ) → owner_code t z o < 4
-owner_fits t z None = omega arith
-owner_fits t z (Some m) = elim (nat_eq m (host_of t z)) as (λ b. (if b then 1 else 2) < 4) [ true ↦ omega arith | false ↦ omega arith ]
-
 pub flag_fits : (b : Bool) → one_if b < 2
 flag_fits true = omega arith
 flag_fits false = omega arith
@@ -51,36 +48,29 @@ posture_in_field Shut q = omega arith
 posture_in_field (Two other) q = two_codes q
 posture_in_field All q = posture_fits q
 
--- three numbers in the bits of a zone
-pub in_shape : (flag : Bool) (p : Postures) (o f q : ℕ) → o < 4 → f < flag_values flag → q < 2 ^ posture_bits p
-    → o + 4 * (f + flag_values flag * q) < 2 ^ (2 + flag_bits flag + posture_bits p)
-in_shape true Shut o f q a b c = omega (arith, a, b, c)
-in_shape true (Two other) o f q a b c = omega (arith, a, b, c)
-in_shape true All o f q a b c = omega (arith, a, b, c)
-in_shape false Shut o f q a b c = omega (arith, a, b, c)
-in_shape false (Two other) o f q a b c = omega (arith, a, b, c)
-in_shape false All o f q a b c = omega (arith, a, b, c)
+-- the flag and the posture above the owner
+rest_by : (flag : Bool) (p : Postures) (f q : ℕ) → f < flag_values flag → q < 2 ^ posture_bits p → f + flag_values flag * q < 2 ^ (flag_bits flag + posture_bits p)
+rest_by true Shut f q a b = omega (arith, a, b)
+rest_by true (Two other) f q a b = omega (arith, a, b)
+rest_by true All f q a b = omega (arith, a, b)
+rest_by false Shut f q a b = omega (arith, a, b)
+rest_by false (Two other) f q a b = omega (arith, a, b)
+rest_by false All f q a b = omega (arith, a, b)
 
-most_bits : (flag : Bool) (p : Postures) → 2 ^ (2 + flag_bits flag + posture_bits p) ≤ 32
-most_bits true Shut = omega arith
-most_bits true (Two other) = omega arith
-most_bits true All = omega arith
-most_bits false Shut = omega arith
-most_bits false (Two other) = omega arith
-most_bits false All = omega arith
+pub rest_fits : (s : ZoneShape) (v : ZoneState) → rest_in s v < 2 ^ (flag_bits s.flag + posture_bits (postures_of s))
+rest_fits s v =
+    rest_by s.flag (postures_of s) (one_if (s.flag && v.flag)) (code_of (postures_of s) v.posture) (flag_in_field s.flag v.flag) (posture_in_field (postures_of s) v.posture)
 
-pub code_fits : (s : ZoneShape) (o : ℕ) (v : ZoneState) → o < 4 → code_in s o v < 2 ^ shape_bits s
-code_fits s o v a = in_shape s.flag (postures_of s) o (one_if (s.flag && v.flag)) (code_of (postures_of s) v.posture) a (flag_in_field s.flag v.flag) (posture_in_field (postures_of s) v.posture)
+pub code_fits : (s : ZoneShape) (o : ℕ) (v : ZoneState) → o < owner_values s → code_in s o v < 2 ^ shape_bits s
+code_fits s o v a =
+    let above = flag_bits s.flag + posture_bits (postures_of s) in
+    let fits : o + rest_in s v * owner_values s < 2 ^ (owner_bits s.guests + above) = next_bound o (rest_in s v) (owner_bits s.guests) above a (rest_fits s v) in
+    let bits : owner_bits s.guests + above ≡ shape_bits s = omega arith in
+    subst (λ n. code_in s o v < 2 ^ n) bits (omega (arith, fits))
 
 pub zone_in_field : (t : PlanTable) (z : ℕ) (v : ZoneState) → zone_code t z v < 2 ^ bits_at t z
 zone_in_field t z v =
-    subst (λ k. zone_code t z v < 2 ^ k) (sym (bits_are t z)) (code_fits (zone_shape t z) (owner_code t z v.owner) v (owner_fits t z v.owner))
-
-pub zone_fits : (t : PlanTable) (z : ℕ) (v : ZoneState) → zone_code t z v < 32
-zone_fits t z v =
-    let fits = code_fits (zone_shape t z) (owner_code t z v.owner) v (owner_fits t z v.owner) in
-    let most = most_bits (zone_shape t z).flag (postures_of (zone_shape t z)) in
-    omega (arith, fits, most)
+    subst (λ k. zone_code t z v < 2 ^ k) (sym (bits_are t z)) (code_fits (zone_shape t z) (owner_part t z v.owner) v (owner_part_fits t z v.owner))
 
 pub held_fits : (t : PlanTable) (s : State) → s.stamp ≤ 1048575 → (f : Field) → held t s f < 2 ^ bits_of (counts_of t) f
 held_fits t s small (Zone z) = zone_in_field t z (zone_at s z)

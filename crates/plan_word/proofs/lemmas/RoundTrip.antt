@@ -1,6 +1,6 @@
 -- The word of a state of a plan tells that state.
-use Rattle.std.proofs.Common.{◌≡◌, ℕ, ◌+◌, ◌*◌, ◌/◌, ◌%◌, ◌<◌, ◌≤◌, Bool, true, false, ◌||◌, ◌&&◌, if◌then◌else◌, nat_eq, nat_lt, Option, Some, None, is_none, is_some, IsTrue, refl, sym, ap, ◌∙◌, subst, arith, ◌↔◌, ltb-true, inl, inr}
-use Rattle.std.proofs.lemmas.Bool.{eqb-true, cases_lt, lt-ltb, false_from_ne_true}
+use Rattle.std.proofs.Common.{◌≡◌, ℕ, ◌+◌, ◌*◌, ◌/◌, ◌%◌, ◌<◌, ◌≤◌, Bool, true, false, ◌||◌, ◌&&◌, if◌then◌else◌, nat_eq, nat_lt, Option, Some, None, is_some, IsTrue, refl, sym, ap, ◌∙◌, subst, arith, ◌↔◌, ltb-true, eq-eqb, inl, inr}
+use Rattle.std.proofs.lemmas.Bool.{cases_lt, lt-ltb, false_from_ne_true}
 use Rattle.std.proofs.lemmas.List.{get_or_past}
 use Rattle.std.proofs.lemmas.List.FromFn.{fill_by_all, get_or-map-range_with_len}
 use Rattle.plan_types.specs.declared.posture.Posture.{Posture}
@@ -10,29 +10,24 @@ use Rattle.plan_types.specs.declared.shape.Postures.TheVariants.{Shut, Two, All}
 use Rattle.plan_types.specs.declared.table.Way.{Way}
 use Rattle.plan_types.specs.declared.table.Transfer.{Transfer}
 use Rattle.plan_types.specs.Same.{same_posture, one_posture}
-use Rattle.plan_types.specs.Table.{postures_of, PlanTable, zone_count, place_count, host_of, guest_of, zone_row, transfer_by, transfer_of, zone_shape}
+use Rattle.plan_types.specs.Table.{postures_of, PlanTable, zone_count, place_count, host_of, guest_of, zone_row, space_of, transfer_by, transfer_of, zone_shape}
+use Rattle.plan_types.specs.Plan.{IsPlan}
+use Rattle.plan_types.proofs.lemmas.Spaces.{named}
+use Rattle.plan_rules.proofs.lemmas.Spaces.{first_inside}
+use Rattle.std.proofs.lemmas.Nat.{div-mul-add, mod-mul-add}
 use Rattle.plan_rules.specs.declared.state.ZoneState.{ZoneState}
 use Rattle.plan_rules.specs.declared.state.State.{State}
 use Rattle.plan_rules.specs.State.{zone_at, posture_at, is_full, one_if, free_zone}
-use Rattle.plan_rules.specs.Sound.{IsSound, IsLawfulZone, is_owned_by, implies, is_received_by}
+use Rattle.plan_rules.specs.Sound.{IsSound, IsLawfulZone, implies, is_received_by}
 use Rattle.plan_word.specs.declared.layout.Field.TheVariants.{Zone, Place, Stamp, Stop}
 use Rattle.plan_word.specs.Layout.{counts_of}
 use Rattle.plan_word.specs.OfPlan.{IsOfPlan, can_have}
-use Rattle.plan_word.specs.Packed.{owner_code, posture_code, code_of, flag_values, zone_code, packed}
-use Rattle.plan_word.specs.Reading.{told, owner_of_code, posture_of_code, posture_told, zone_of_code, zone_in_word, place_told, state_told}
-use Rattle.plan_word.proofs.lemmas.LaidOut.{owner_fits, flag_in_field, held_back}
+use Rattle.plan_word.specs.Packed.{owner_code, owner_part, owner_values, posture_code, code_of, flag_values, rest_in, zone_code, packed}
+use Rattle.plan_word.specs.Reading.{told, owner_of_code, owner_in, posture_of_code, posture_told, zone_of_code, zone_in_word, place_told, state_told}
+use Rattle.plan_word.proofs.lemmas.Guests.{owner_part_fits, owner_back}
+use Rattle.plan_word.proofs.lemmas.LaidOut.{flag_in_field, held_back}
 
 -- ---- the codes
-some_owner : (t : PlanTable) (z m : ℕ) (b c : Bool) → nat_eq m (host_of t z) ≡ b → nat_eq m (guest_of t z) ≡ c → (b || c) ≡ true
-    → owner_of_code t z (if b then 1 else 2) ≡ Some m
-some_owner t z m true c e f h = ap (λ (x : ℕ). Some x) (sym (eqb-true m (host_of t z) e))
-some_owner t z m false true e f h = ap (λ (x : ℕ). Some x) (sym (eqb-true m (guest_of t z) f))
-some_owner t z m false false e f h = cc
-
-owner_back : (t : PlanTable) (z : ℕ) (o : Option ℕ) → (is_none o || is_owned_by o (host_of t z) || is_owned_by o (guest_of t z)) ≡ true → owner_of_code t z (owner_code t z o) ≡ o
-owner_back t z None h = refl
-owner_back t z (Some m) h = some_owner t z m (nat_eq m (host_of t z)) (nat_eq m (guest_of t z)) refl refl h
-
 pub flag_back : (b : Bool) → nat_eq (one_if b) 1 ≡ b
 flag_back true = refl
 flag_back false = refl
@@ -81,13 +76,7 @@ goes t z OpenOut way e =
     ap (λ b. is_some (zone_row t z).inward || b) (goes_by (host_of t z) (guest_of t z) (zone_row t z).outward way e)
     ∙ second (is_some (zone_row t z).inward)
 
--- three numbers in the bits of a zone
-lower : (o m : ℕ) → o < 4 → (o + 4 * m) % 4 ≡ o
-lower o m a = omega arith
-
-upper : (o m : ℕ) → o < 4 → (o + 4 * m) / 4 ≡ m
-upper o m a = omega arith
-
+-- the flag and the posture above the owner
 middle : (flag : Bool) (f p : ℕ) → f < flag_values flag → (f + flag_values flag * p) % flag_values flag ≡ f
 middle true f p b = omega arith
 middle false f p b = omega arith
@@ -96,34 +85,55 @@ higher : (flag : Bool) (f p : ℕ) → f < flag_values flag → (f + flag_values
 higher true f p b = omega arith
 higher false f p b = omega arith
 
-pub zone_code_back : (t : PlanTable) (z : ℕ) (v : ZoneState) → IsLawfulZone t z v → IsTrue (can_have (postures_of (zone_shape t z)) v.posture) → zone_of_code t z (zone_code t z v) ≡ v
-zone_code_back t z v h told_so =
+-- the first zone of a space tells the owner, each zone its flag and its posture
+owner_told : (t : PlanTable) (f : ℕ) (v : ZoneState) → IsPlan t → f < zone_count t → space_of t f ≡ f → IsLawfulZone t f v → owner_in t f (zone_code t f v) ≡ v.owner
+owner_told t f v p l first h =
+    let s = zone_shape t f in
+    ap (owner_of_code t f) (mod-mul-add (rest_in s v) (owner_values s) (owner_part t f v.owner) (owner_part_fits t f v.owner))
+    ∙ ap (λ b. owner_of_code t f (if b then owner_code t f v.owner else 0)) (eq-eqb (space_of t f) f first)
+    ∙ owner_back t f v.owner p l first h.owner_is_party
+
+pub zone_code_back : (t : PlanTable) (z : ℕ) (v : ZoneState) (first : ℕ) → IsLawfulZone t z v → IsTrue (can_have (postures_of (zone_shape t z)) v.posture) → owner_in t (space_of t z) first ≡ v.owner
+    → zone_of_code t z first (zone_code t z v) ≡ v
+zone_code_back t z v first h told_so owner_is =
     let s = zone_shape t z in
     let r = flag_values s.flag in
-    let o = owner_code t z v.owner in
     let f = one_if (s.flag && v.flag) in
     let p = code_of (postures_of s) v.posture in
-    let a = owner_fits t z v.owner in
     let b = flag_in_field s.flag v.flag in
     let kept : (s.flag && v.flag) ≡ v.flag = flag_kept s.flag v.flag v.owner (transfer_of t z v.posture) h.flag_has_transfer (goes t z v.posture) in
-    let rest : (o + 4 * (f + r * p)) / 4 ≡ f + r * p = upper o (f + r * p) a in
-    let owner : owner_of_code t z ((o + 4 * (f + r * p)) % 4) ≡ v.owner = ap (owner_of_code t z) (lower o (f + r * p) a) ∙ owner_back t z v.owner h.owner_is_party in
-    let flag : nat_eq ((o + 4 * (f + r * p)) / 4 % r) 1 ≡ v.flag =
+    let rest : zone_code t z v / owner_values s ≡ f + r * p = div-mul-add (f + r * p) (owner_values s) (owner_part t z v.owner) (owner_part_fits t z v.owner) in
+    let flag : nat_eq (zone_code t z v / owner_values s % r) 1 ≡ v.flag =
     ap (λ n. nat_eq (n % r) 1) rest ∙ ap (λ n. nat_eq n 1) (middle s.flag f p b) ∙ ap (λ x. nat_eq (one_if x) 1) kept ∙ flag_back v.flag in
-    let posture : posture_told (postures_of s) ((o + 4 * (f + r * p)) / 4 / r) ≡ v.posture =
+    let posture : posture_told (postures_of s) (zone_code t z v / owner_values s / r) ≡ v.posture =
     ap (λ n. posture_told (postures_of s) (n / r)) rest ∙ ap (posture_told (postures_of s)) (higher s.flag f p b) ∙ told_posture (postures_of s) v.posture told_so in
-    λ i. record { owner = owner i; flag = flag i; posture = posture i }
+    λ i. record { owner = owner_is i; flag = flag i; posture = posture i }
 
 -- ---- zones and places
 not_below : (a b : ℕ) → nat_lt a b ≡ false → b ≤ a
 not_below a b e = elim (cases_lt a b) [ inl l ↦ absurd (let h = lt-ltb a b l in cc) | inr l ↦ l ]
 
+-- the field of a zone of the plan tells its number
+field_back : (t : PlanTable) (s : State) → IsOfPlan t s → (z : ℕ) → z < zone_count t → told (counts_of t) (packed t s) (Zone z) ≡ zone_code t z (zone_at s z)
+field_back t s k z l = held_back t s k.sound.stamp_in_range (Zone z) (lt-ltb z (zone_count t) l)
+
+zone_back : (t : PlanTable) (s : State) → IsOfPlan t s → (z : ℕ) → z < zone_count t
+    → zone_of_code t z (told (counts_of t) (packed t s) (Zone (space_of t z))) (told (counts_of t) (packed t s) (Zone z)) ≡ zone_at s z
+zone_back t s k z l =
+    let f = space_of t z in
+    let inside = first_inside t z l in
+    let first = named t z in
+    let owner = ap (owner_in t f) (field_back t s k f inside) ∙ owner_told t f (zone_at s f) k.plan inside first (k.sound.zone_is_lawful f inside) ∙ sym (k.sound.zone_is_of_space z l).owner in
+    ap (zone_of_code t z (told (counts_of t) (packed t s) (Zone f))) (field_back t s k z l)
+    ∙ zone_code_back t z (zone_at s z) (told (counts_of t) (packed t s) (Zone f)) (k.sound.zone_is_lawful z l) (k.postures_told z l) owner
+
 zone_seen : (t : PlanTable) (s : State) → IsOfPlan t s → (z : ℕ) → zone_in_word t (packed t s) z ≡ zone_at s z
 zone_seen t s k z =
     let w = packed t s in
-    let At : Bool → Type 0 = λ b. nat_lt z (zone_count t) ≡ b → (if b then zone_of_code t z (told (counts_of t) w (Zone z)) else free_zone) ≡ zone_at s z in
+    let At : Bool → Type 0 = λ b. nat_lt z (zone_count t) ≡ b
+    → (if b then zone_of_code t z (told (counts_of t) w (Zone (space_of t z))) (told (counts_of t) w (Zone z)) else free_zone) ≡ zone_at s z in
     let by : (b : Bool) → At b = λ b. elim b as At [
-      | true ↦ λ e. ap (zone_of_code t z) (held_back t s k.sound.stamp_in_range (Zone z) e) ∙ (let l = ltb-true z (zone_count t) e in zone_code_back t z (zone_at s z) (k.sound.zone_is_lawful z l) (k.postures_told z l))
+      | true ↦ λ e. zone_back t s k z (ltb-true z (zone_count t) e)
       | false ↦ λ e. sym (k.no_more_zones z (not_below z (zone_count t) e))
     ] in
     by (nat_lt z (zone_count t)) refl
@@ -177,7 +187,7 @@ unfolding state_told
 no_more_told t w z past =
     elim (cases_lt z 10) [
       | inl ten ↦ get_or-map-range_with_len (zone_in_word t w) 0 10 z z free_zone ten (omega arith)
-          ∙ ap (λ b. if b then zone_of_code t z (told (counts_of t) w (Zone z)) else free_zone) (not_there z (zone_count t) past)
+          ∙ ap (λ b. if b then zone_of_code t z (told (counts_of t) w (Zone (space_of t z))) (told (counts_of t) w (Zone z)) else free_zone) (not_there z (zone_count t) past)
       | inr more ↦ get_or_past (state_told t w).zones z free_zone more
     ]
 
@@ -211,14 +221,14 @@ some_told Shut n = refl
 some_told (Two other) n = one_of_two other (nat_eq n 0)
 some_told All n = refl
 
-pub code_told : (t : PlanTable) (z n : ℕ) → can_have (postures_of (zone_shape t z)) (zone_of_code t z n).posture ≡ true
-code_told t z n = some_told (postures_of (zone_shape t z)) (n / 4 / flag_values (zone_shape t z).flag)
+pub code_told : (t : PlanTable) (z first n : ℕ) → can_have (postures_of (zone_shape t z)) (zone_of_code t z first n).posture ≡ true
+code_told t z first n = some_told (postures_of (zone_shape t z)) (n / owner_values (zone_shape t z) / flag_values (zone_shape t z).flag)
 
 zone_told : (t : PlanTable) (w z : ℕ) → can_have (postures_of (zone_shape t z)) (zone_in_word t w z).posture ≡ true
 zone_told t w z = by (nat_lt z (zone_count t))
   where
-    by : (b : Bool) → can_have (postures_of (zone_shape t z)) (if b then zone_of_code t z (told (counts_of t) w (Zone z)) else free_zone).posture ≡ true
-    by true = code_told t z (told (counts_of t) w (Zone z))
+    by : (b : Bool) → can_have (postures_of (zone_shape t z)) (if b then zone_of_code t z (told (counts_of t) w (Zone (space_of t z))) (told (counts_of t) w (Zone z)) else free_zone).posture ≡ true
+    by true = code_told t z (told (counts_of t) w (Zone (space_of t z))) (told (counts_of t) w (Zone z))
     by false = closed_told (postures_of (zone_shape t z))
 
 postures_told : (t : PlanTable) (w z : ℕ) → can_have (postures_of (zone_shape t z)) (posture_at (state_told t w) z) ≡ true
@@ -229,5 +239,5 @@ postures_told t w z =
       | inr more ↦ subst (λ (v : ZoneState). can_have (postures_of (zone_shape t z)) v.posture ≡ true) (sym (get_or_past (state_told t w).zones z free_zone more)) (closed_told (postures_of (zone_shape t z)))
     ]
 
-pub told_is_of_plan : (t : PlanTable) (w : ℕ) → IsSound t (state_told t w) → IsOfPlan t (state_told t w)
-told_is_of_plan t w h = record { sound = h; postures_told = λ z l. postures_told t w z; no_more_zones = no_more_told t w; no_more_plates = no_more_full t w }
+pub told_is_of_plan : (t : PlanTable) (w : ℕ) → IsPlan t → IsSound t (state_told t w) → IsOfPlan t (state_told t w)
+told_is_of_plan t w p h = record { plan = p; sound = h; postures_told = λ z l. postures_told t w z; no_more_zones = no_more_told t w; no_more_plates = no_more_full t w }

@@ -1,6 +1,6 @@
 -- A call on a state of a plan leaves a state of the plan.
 use Rattle.std.proofs.Common.{◌≡◌, ◌≢◌, ℕ, zero, suc, ◌<◌, ◌≤◌, inl, inr, Bool, true, false, not, ◌&&◌, get_or, set, replicate, Option, Some, None, refl, ap, ap₂, ◌∙◌, arith, unwrap_or}
-use Rattle.std.proofs.lemmas.Bool.{cases_lt, lt-ltb}
+use Rattle.std.proofs.lemmas.Bool.{cases_lt, lt-ltb, false_from_ne_true}
 use Rattle.std.proofs.lemmas.List.{get_or-set_other, get_or_past}
 use Rattle.std.specs.Option.{option_eq}
 use Rattle.plan_types.specs.declared.posture.Posture.{Posture}
@@ -10,14 +10,15 @@ use Rattle.plan_types.specs.declared.call.Call.{Call}
 use Rattle.plan_types.specs.declared.call.Call.TheVariants.{Claim, Give, Yield, Take, Release, SetPose, Inquire, Stop, Resume, Advance}
 use Rattle.plan_types.specs.declared.answer.Answer.{Answer}
 use Rattle.plan_types.specs.declared.answer.Answer.TheVariants.{Done, Shown, Refused}
-use Rattle.plan_types.specs.Table.{postures_of, PlanTable, zone_count, pose_count, place_count, posture_of, gives, is_given, postures_by, zone_shape}
+use Rattle.plan_types.specs.Table.{postures_of, PlanTable, zone_count, pose_count, place_count, posture_of, gives, is_given, postures_by, zone_shape, same_space}
 use Rattle.plan_types.specs.Plan.{IsPlan}
 use Rattle.plan_rules.specs.declared.state.ZoneState.{ZoneState}
 use Rattle.plan_rules.specs.declared.state.State.{State}
 use Rattle.plan_rules.specs.State.{zone_at, is_full, posture_at, free_zone}
 use Rattle.plan_rules.specs.Sound.{IsStart}
-use Rattle.plan_rules.specs.Reply.{reply, next, next_by, changed, other_party, posed, all_posed, emptied, filled}
+use Rattle.plan_rules.specs.Reply.{reply, next, next_by, changed, other_party, with_owner, posed, all_posed, emptied, filled}
 use Rattle.plan_rules.proofs.lemmas.Puts.{put_cases, zone_at-posed}
+use Rattle.plan_rules.proofs.lemmas.Spaces.{by_same, same_inside, handed_other, zone_at-handed, past-handed}
 use Rattle.plan_rules.proofs.lemmas.Zones.{gives_way}
 use Rattle.plan_rules.proofs.lemmas.DoneCalls.{claim_done, give_done, yield_done, take_done, release_done, pose_done, advance_done}
 use Rattle.plan_rules.proofs.lemmas.Ways.{way_leads}
@@ -36,6 +37,16 @@ NoMorePlates t s = (p : ℕ) → place_count t ≤ p → is_full s p ≡ false
 -- only a zone, or a place, of the plan is set
 zone_put : (t : PlanTable) (s : State) (y : ℕ) (v : ZoneState) → y < zone_count t → NoMoreZones t s → (z : ℕ) → zone_count t ≤ z → get_or (set s.zones y v) z free_zone ≡ free_zone
 zone_put t s y v l k z m = let ne : z ≢ y = omega arith in get_or-set_other s.zones y z v free_zone ne ∙ k z m
+
+handed_put : (t : PlanTable) (s : State) (y : ℕ) (o : Option ℕ) (plate : Bool) → IsPlan t → y < zone_count t → NoMoreZones t s → (z : ℕ) → zone_count t ≤ z → get_or (with_owner t s y o plate) z free_zone ≡ free_zone
+handed_put t s y o plate p l k z past =
+    elim (cases_lt z 10) [
+      | inl ten ↦
+          let apart : same_space t y z ≡ false = false_from_ne_true (same_space t y z) (λ here.
+          let inside = same_inside t y z l (by_same t y z here) in absurd (omega (arith, inside, past))) in
+          zone_at-handed t s y o plate z ten ∙ handed_other t s y o plate z apart ∙ k z past
+      | inr more ↦ past-handed t s y o plate z more
+    ]
 
 place_put : (t : PlanTable) (s : State) (q : ℕ) (b : Bool) → q < place_count t → NoMorePlates t s → (p : ℕ) → place_count t ≤ p → get_or (set s.full q b) p false ≡ false
 place_put t s q b l k p m = let ne : p ≢ q = omega arith in get_or-set_other s.full q p b false ne ∙ k p m
@@ -57,11 +68,11 @@ pose_put t s m p k e none z past =
     ]
 
 zones_changed : (t : PlanTable) (s : State) (m : ℕ) (c : Call) → IsPlan t → IsOfPlan t s → reply t s m c ≡ Done → NoMoreZones t (changed t s m c)
-zones_changed t s m (Claim y) p k e = zone_put t s y (record (zone_at s y) { owner = Some m }) (claim_done t s m y (done_none _ _ e)).caller.there k.no_more_zones
-zones_changed t s m (Give y) p k e = zone_put t s y (record (zone_at s y) { owner = Some (other_party t m y); flag = true }) (give_done t s m y (done_none _ _ e)).holder.caller.there k.no_more_zones
-zones_changed t s m (Yield y) p k e = zone_put t s y (record (zone_at s y) { owner = Some (other_party t m y) }) (yield_done t s m y (done_none _ _ e)).holder.caller.there k.no_more_zones
+zones_changed t s m (Claim y) p k e = handed_put t s y (Some m) false p (claim_done t s m y (done_none _ _ e)).caller.there k.no_more_zones
+zones_changed t s m (Give y) p k e = handed_put t s y (Some (other_party t m y)) true p (give_done t s m y (done_none _ _ e)).holder.caller.there k.no_more_zones
+zones_changed t s m (Yield y) p k e = handed_put t s y (Some (other_party t m y)) false p (yield_done t s m y (done_none _ _ e)).holder.caller.there k.no_more_zones
 zones_changed t s m (Take y) p k e = zone_put t s y (record (zone_at s y) { flag = false }) (take_done t s m y (done_none _ _ e)).holder.caller.there k.no_more_zones
-zones_changed t s m (Release y) p k e = zone_put t s y (record (zone_at s y) { owner = None }) (release_done t s m y (done_none _ _ e)).holder.caller.there k.no_more_zones
+zones_changed t s m (Release y) p k e = handed_put t s y (None) false p (release_done t s m y (done_none _ _ e)).holder.caller.there k.no_more_zones
 zones_changed t s m (SetPose q) p k e = pose_put t s m q p e k.no_more_zones
 zones_changed t s m (Inquire y) p k e = k.no_more_zones
 zones_changed t s m Stop p k e = k.no_more_zones
@@ -79,6 +90,12 @@ posture_put t s y v p k l e =
     let ten = k.sound.has_ten_zones in
     put_cases (λ z x. z < zone_count t → can_have (postures_of (zone_shape t z)) x.posture ≡ true) s.zones v free_zone y (omega (arith, few, ten, l))
     (λ m. ap (can_have (postures_of (zone_shape t y))) e ∙ k.postures_told y l) (λ z ne m. k.postures_told z m)
+
+handed_told : (t : PlanTable) (s : State) (y : ℕ) (o : Option ℕ) (plate : Bool) → IsPlan t → IsOfPlan t s
+    → (z : ℕ) → z < zone_count t → can_have (postures_of (zone_shape t z)) (get_or (with_owner t s y o plate) z free_zone).posture ≡ true
+handed_told t s y o plate p k z l =
+    let few = p.zones_at_most in
+    ap (λ (v : ZoneState). can_have (postures_of (zone_shape t z)) v.posture) (zone_at-handed t s y o plate z (omega (arith, few, l))) ∙ k.postures_told z l
 
 moving_told : (i o : Bool) → can_have (postures_by true i o) Moving ≡ true
 moving_told true true = refl
@@ -123,11 +140,11 @@ pose_told t s m p plan k e z l =
     ]
 
 postures_changed : (t : PlanTable) (s : State) (m : ℕ) (c : Call) → IsPlan t → IsOfPlan t s → reply t s m c ≡ Done → PosturesTold t (changed t s m c)
-postures_changed t s m (Claim y) p k e = posture_put t s y (record (zone_at s y) { owner = Some m }) p k (claim_done t s m y (done_none _ _ e)).caller.there refl
-postures_changed t s m (Give y) p k e = posture_put t s y (record (zone_at s y) { owner = Some (other_party t m y); flag = true }) p k (give_done t s m y (done_none _ _ e)).holder.caller.there refl
-postures_changed t s m (Yield y) p k e = posture_put t s y (record (zone_at s y) { owner = Some (other_party t m y) }) p k (yield_done t s m y (done_none _ _ e)).holder.caller.there refl
+postures_changed t s m (Claim y) p k e = handed_told t s y (Some m) false p k
+postures_changed t s m (Give y) p k e = handed_told t s y (Some (other_party t m y)) true p k
+postures_changed t s m (Yield y) p k e = handed_told t s y (Some (other_party t m y)) false p k
 postures_changed t s m (Take y) p k e = posture_put t s y (record (zone_at s y) { flag = false }) p k (take_done t s m y (done_none _ _ e)).holder.caller.there refl
-postures_changed t s m (Release y) p k e = posture_put t s y (record (zone_at s y) { owner = None }) p k (release_done t s m y (done_none _ _ e)).holder.caller.there refl
+postures_changed t s m (Release y) p k e = handed_told t s y (None) false p k
 postures_changed t s m (SetPose q) p k e = pose_told t s m q p k e
 postures_changed t s m (Inquire y) p k e = k.postures_told
 postures_changed t s m Stop p k e = k.postures_told
@@ -158,6 +175,7 @@ places_changed t s m (Take y) p k e =
 
 changed_stays : (t : PlanTable) (s : State) (m : ℕ) (c : Call) → IsPlan t → IsOfPlan t s → reply t s m c ≡ Done → IsOfPlan t (changed t s m c)
 changed_stays t s m c p k e = record {
+  plan = p;
   sound = changed_keeps t s m c p k.sound e;
   postures_told = postures_changed t s m c p k e;
   no_more_zones = zones_changed t s m c p k e;
@@ -179,6 +197,7 @@ all_free (suc n) (suc z) = all_free n z
 
 pub start_stays : (t : PlanTable) (s : State) → IsPlan t → IsStart s → NoMorePlates t s → IsOfPlan t s
 start_stays t s p k few = record {
+  plan = p;
   sound = start_is_sound t s p k;
   postures_told = λ z l. ap (λ (x : State). can_have (postures_of (zone_shape t z)) (posture_at x z)) k.same ∙ ap (λ (v : ZoneState). can_have (postures_of (zone_shape t z)) v.posture) (all_free 10 z) ∙ closed_told (postures_of (zone_shape t z));
   no_more_zones = λ z past. ap (λ (x : State). zone_at x z) k.same ∙ all_free 10 z;

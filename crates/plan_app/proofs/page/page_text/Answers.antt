@@ -6,4 +6,4 @@ pub returns : goal.returns
 unfolding page_text
 returns c =
     page_made _ _ _ _ _ _ _ _ _ _ c.in_ok-page.ensures.ok c.in_ok-push_data.ensures c.in_ok-push_str.ensures.bytes c.in_ok-push_film.ensures
-    c.in_ok-push_str-2.ensures.bytes
+    (rw c.plan.ensures at (rw c.tail_of.ensures at c.in_ok-push_str-2.ensures.bytes))

@@ -5,4 +5,4 @@ use Rattle.plan_app.proofs.report.push_zones.Given as goal
 
 abbrev pub invariant-zones : goal.invariant-zones
 invariant-zones l =
-    string_bytes l.text ≡ string_bytes l.initial.text ++ flat_map (spec.zone_line l.named) (range_with_len 0 l.zone)
+    string_bytes l.text ≡ string_bytes l.initial.text ++ flat_map (spec.zone_lines l.named) (range_with_len 0 l.zone)

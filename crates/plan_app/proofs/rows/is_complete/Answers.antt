@@ -10,5 +10,5 @@ returns c = λ is. (
   c.args.compiled.now.rows,
   c.args.compiled.now.starts,
   subst (λ rows. All (IsRight c.args.compiled.now.table) rows) c.rows.ensures.rows c.rows.ensures.right,
-  c.is_complete.ensures is,
+  c.is_complete.ensures.rows is,
 )

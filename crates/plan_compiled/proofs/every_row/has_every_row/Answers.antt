@@ -7,7 +7,7 @@ pub loop-machine-preserved : goal.loop-machine-preserved
 loop-machine-preserved c =
     below_more (HasMachineRows c.args.plan.now c.args.rows.now c.args.starts.now) c.loop-machine.machine c.loop-machine.invariant (c.if-not-has_machine_rows.ensures refl)
 
-pub returns : goal.returns
-returns c = λ e.
+pub returns-clause-rows : goal.returns-clause-rows
+returns-clause-rows c = λ e.
     let end : c.loop-machine.machine ≡ 16 = omega arith in
     complete_by c.args.plan.now c.args.rows.now c.args.starts.now c.machines.ensures.plan (λ m l. c.loop-machine.invariant m (omega (arith, end, l)))

@@ -8,3 +8,8 @@ pub loop-machine-init : goal.loop-machine-init
 loop-machine-init c =
     let t = c.args.plan.now in
     All-replicate (IsRight t) 512 c.none.result (subst (IsRight t) (sym c.none.ensures) (no_row_right t))
+
+pub returns-then-not-is_plain : goal.returns-then-not-is_plain
+returns-then-not-is_plain c =
+    let t = c.args.plan.now in
+    All-replicate (IsRight t) 512 c.none.result (subst (IsRight t) (sym c.none.ensures) (no_row_right t))

@@ -11,9 +11,9 @@ pub returns-in-Some : goal.returns-in-Some
 returns-in-Some c =
     let t = c.args.plan.now in
     let z = c.args.zone in
-    let is = c.zone_of_code-at.ensures in
+    let is = c.zone_alone-at.ensures in
     let way = c.in-Some.way in
     let lawful = subst (IsLawfulZone t z) is (c.is_lawful_zone.ensures.0 c.if-not-is_lawful_zone.false) in
     let back = ap (zone_code t z) (sym is) ∙ sym c.zone_code.ensures.code ∙ c.if-zone_code-code.false in
     let leads = ap (λ (v : ZoneState). transfer_of t z v.posture) (sym is) ∙ sym c.transfer.ensures ∙ c.in-Some.is in
-    end_at t z c.args.code way.to _ way lawful back (ap (λ (v : ZoneState). v.flag) (sym is) ∙ c.if-at.true) leads refl (one_shl way.to 32 (omega arith))
+    end_at t z c.args.code way.to _ way c.requires.plain lawful back (ap (λ (v : ZoneState). v.flag) (sym is) ∙ c.if-at.true) leads refl (one_shl way.to 32 (omega arith))

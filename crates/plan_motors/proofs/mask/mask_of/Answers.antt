@@ -1,12 +1,9 @@
-use Rattle.std.proofs.Common.{◌≡◌, ℕ, ◌+◌, ◌*◌, ◌<◌, ◌^◌, sym, ap, ap₂, ◌∙◌, subst, arith}
-use Rattle.plan_types.specs.declared.shape.ZoneShape.{ZoneShape}
-use Rattle.plan_types.specs.Table.{zone_count, place_count, zone_shape}
+use Rattle.std.proofs.Common.{◌≡◌, ℕ, ◌+◌, ◌*◌, ◌<◌, ◌^◌, sym, ap₂, ◌∙◌, subst, arith}
+use Rattle.plan_types.specs.Table.{zone_count, place_count}
 use Rattle.plan_rules.proofs.lemmas.Below.{sum_below_more}
 use Rattle.plan_word.specs.declared.layout.Field.TheVariants.{Zone}
-use Rattle.plan_word.specs.Layout.{Counts, counts_of, shape_at, start_of, end_of}
-use Rattle.plan_word.proofs.lemmas.Shapes.{bits_at, shape_is}
-use Rattle.plan_motors.specs.declared.motor.ZoneNeed.{ZoneNeed}
-use Rattle.plan_motors.specs.Motor.{need_of}
+use Rattle.plan_word.specs.Layout.{Counts, counts_of, start_of, end_of}
+use Rattle.plan_word.proofs.lemmas.Shapes.{bits_at}
 use Rattle.plan_motors.specs.Mask.{zone_mask, zone_masks, place_masks, mask_of}
 use Rattle.plan_motors.proofs.mask.mask_of.Goals as goal
 
@@ -23,9 +20,8 @@ loop-zone-preserved c =
     let t = c.args.plan.now in
     let m = c.args.motor.now in
     let z = c.loop-zone.zone in
-    let shape = c.shape.ensures ∙ ap (λ (k : Counts). shape_at k z) c.requires.layout ∙ shape_is t z in
-    let bits = c.zone_mask-bits.ensures.mask ∙ ap₂ (λ (s : ZoneShape) (n : ZoneNeed). zone_mask s n) shape c.zone_need.ensures in
-    let part : ℕ → ℕ = λ y. zone_mask (zone_shape t y) (need_of m y) * 2 ^ start_of (counts_of t) (Zone y) in
+    let bits = c.zone_mask-bits.ensures.mask in
+    let part : ℕ → ℕ = λ y. zone_mask t m y * 2 ^ start_of (counts_of t) (Zone y) in
     record {
       mask =
           c.with-mask.ensures.word

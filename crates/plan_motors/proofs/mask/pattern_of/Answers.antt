@@ -1,12 +1,9 @@
-use Rattle.std.proofs.Common.{◌≡◌, ℕ, ◌+◌, ◌*◌, ◌<◌, ◌^◌, sym, ap, ap₂, ◌∙◌, subst, arith}
-use Rattle.plan_types.specs.declared.shape.ZoneShape.{ZoneShape}
-use Rattle.plan_types.specs.Table.{zone_count, place_count, zone_shape}
+use Rattle.std.proofs.Common.{◌≡◌, ℕ, ◌+◌, ◌*◌, ◌<◌, ◌^◌, sym, ap₂, ◌∙◌, subst, arith}
+use Rattle.plan_types.specs.Table.{zone_count, place_count}
 use Rattle.plan_rules.proofs.lemmas.Below.{sum_below_more}
 use Rattle.plan_word.specs.declared.layout.Field.TheVariants.{Zone}
-use Rattle.plan_word.specs.Layout.{Counts, counts_of, shape_at, start_of, end_of}
-use Rattle.plan_word.proofs.lemmas.Shapes.{bits_at, shape_is}
-use Rattle.plan_motors.specs.declared.motor.ZoneNeed.{ZoneNeed}
-use Rattle.plan_motors.specs.Motor.{need_of}
+use Rattle.plan_word.specs.Layout.{Counts, counts_of, start_of, end_of}
+use Rattle.plan_word.proofs.lemmas.Shapes.{bits_at}
 use Rattle.plan_motors.specs.Mask.{zone_pattern, zone_patterns, place_patterns, pattern_of}
 use Rattle.plan_motors.proofs.mask.pattern_of.Goals as goal
 
@@ -18,18 +15,13 @@ returns c =
     let all : c.loop-place.place ≡ place_count t = omega (arith, c.place_count-place-end.ensures.count) in
     subst (λ n. c.loop-place.pattern ≡ zone_patterns t m (zone_count t) + place_patterns t m n) all c.loop-place.invariant.pattern
 
-pub zone_pattern-bits-requires : goal.zone_pattern-bits-requires
-zone_pattern-bits-requires c =
-    let z = c.loop-zone.zone in
-    c.shape-shape.ensures ∙ ap (λ (k : Counts). shape_at k z) c.requires.layout ∙ shape_is c.args.plan.now z
-
 pub loop-zone-preserved : goal.loop-zone-preserved
 loop-zone-preserved c =
     let t = c.args.plan.now in
     let m = c.args.motor.now in
     let z = c.loop-zone.zone in
-    let bits = c.zone_pattern-bits.ensures.pattern ∙ ap (λ (n : ZoneNeed). zone_pattern t z m.machine n) c.zone_need.ensures in
-    let part : ℕ → ℕ = λ y. zone_pattern t y m.machine (need_of m y) * 2 ^ start_of (counts_of t) (Zone y) in
+    let bits = c.zone_pattern-bits.ensures.pattern in
+    let part : ℕ → ℕ = λ y. zone_pattern t m y * 2 ^ start_of (counts_of t) (Zone y) in
     record {
       pattern =
           c.with-pattern.ensures.word

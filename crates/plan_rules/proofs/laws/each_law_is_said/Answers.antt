@@ -7,6 +7,7 @@ returns-clause-lift c = laws_of_lift
 pub returns-clause-each : goal.returns-clause-each
 returns-clause-each c = λ t s h. record {
   holder = λ law. law.one_holder;
+  space = λ law. law.one_at_a_time;
   mover = λ law. law.mover_is_host;
   guest = λ law. law.guest_only_while_open;
   counted = λ law. law.plates_are_counted;

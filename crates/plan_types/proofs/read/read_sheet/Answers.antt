@@ -1,4 +1,4 @@
-use Rattle.std.proofs.Common.{◌≡◌, Some, All, sym, ap, subst, arith}
+use Rattle.std.proofs.Common.{Some, All, sym, ap, subst, arith}
 use Rattle.plan_types.specs.Table.{PlanTable}
 use Rattle.plan_types.specs.Bytes.{HasWholeRows, IsForTenZones}
 use Rattle.plan_types.specs.Parts.{IsPartsOf}

@@ -2,8 +2,18 @@ use Rattle.std.proofs.Common.{◌≡◌, ◌+◌, subst, arith}
 use Rattle.plan_types.specs.Table.{zone_count, place_count}
 use Rattle.plan_word.specs.Packed.{zone_parts, place_parts}
 use Rattle.plan_word.proofs.lemmas.LaidOut.{low_parts}
-use Rattle.plan_word.proofs.Packing.{packed_by}
+use Rattle.plan_word.proofs.Packing.{zone_more, zone_end, packed_by}
 use Rattle.plan_word.proofs.word.pack.Goals as goal
+
+pub loop-zone-preserved : goal.loop-zone-preserved
+loop-zone-preserved c =
+    let t = c.args.plan.now in
+    let l = c.args.layout.now in
+    let z = c.loop-zone.zone in
+    record {
+      word = zone_more t c.args.state.now l z c.loop-zone.word c.zone_code-code.result c.with-word.result c.zone.result c.requires.layout c.loop-zone.invariant.word c.zone.ensures c.zone_code-code.ensures.code c.with-word.ensures.word;
+      below = zone_end t l z c.with-word.result c.requires.layout c.with-word.ensures.below;
+    }
 
 pub returns : goal.returns
 returns c =

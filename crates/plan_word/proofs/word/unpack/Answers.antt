@@ -13,7 +13,7 @@ returns-then-pack-word-clause-some c =
     let is = c.state_in-state.ensures in
     let sound = subst (IsSound t) is (c.if-is_sound.ensures.0 refl) in
     let same : packed t (state_told t w) ≡ w = ap (packed t) (sym is) ∙ sym c.pack.ensures ∙ c.if-pack-word.true in
-    rw is (told_some t w (told_is_of_plan t w sound) same)
+    rw is (told_some t w (told_is_of_plan t w c.machines.ensures.plan sound) same)
 
 pub returns-then-pack-word-clause-none : goal.returns-then-pack-word-clause-none
 returns-then-pack-word-clause-none c =

@@ -1,4 +1,3 @@
-use Rattle.std.proofs.Common.{◌∙◌, ap}
 use Rattle.plan_types.proofs.lemmas.Checked.{count_fault_of_sheet}
 use Rattle.plan_types.proofs.sheet.Sheet.count_fault.Goals as goal
 

@@ -1,4 +1,4 @@
-use Rattle.std.proofs.Common.{◌≡◌, ℕ, ◌<◌, ◌≤◌, get_or, ap, ◌∙◌, subst, arith}
+use Rattle.std.proofs.Common.{◌≡◌, ◌<◌, ◌≤◌, get_or, ap, ◌∙◌, subst, arith}
 use Rattle.plan_word.specs.Layout.{Counts, zones_end, width_of}
 use Rattle.plan_word.proofs.Laying.{end_kept}
 use Rattle.plan_word.proofs.layout.Layout.zones_end.Goals as goal

@@ -1,4 +1,0 @@
-use Rattle.plan_picture.proofs.picture.push_danger.Goals as goal
-
-pub returns : goal.returns
-returns c = rw c.hazard_at.ensures at c.push_danger_by.ensures
