@@ -135,7 +135,7 @@ pub record ReadingLines : Type 0 where
   pub owner_alone : reading.readings_part gates ≡ READINGS.now ++ gates_readings
   -- the second guest of a press: the first one's zone tells the owner
   pub second_guest : reading.zone_reading robots 1
-      ≡ codes "/* OUT is of one space with IN, which tells its owner; its guest is: */\n"
+      ≡ codes "/* OUT is of one space with IN, whose bits tell the owner. There this zone's guest is: */\n"
       ++ codes "#define PLAN_OWNER_GUEST_OUT 3\n"
       ++ codes "#define PLAN_OWNER_OF_OUT(word) ((word) >> PLAN_BIT_ZONE_IN & 3)\n"
       ++ codes "#define PLAN_PLATE_IN_OUT(word) ((word) >> (PLAN_BIT_ZONE_OUT + 0) & 1)\n"

@@ -64,7 +64,7 @@ own_readings s zone = plate_reading s.flag (owner_bits s.guests) zone ++ posture
 -- the number that tells a guest of a space after the first one
 abbrev pub guest_note : ℕ → Text → Text → Text
 guest_note number first zone =
-    codes "/* " ++ (zone ++ (codes " is of one space with " ++ (first ++ (codes ", which tells its owner; its guest is: */\n"
+    codes "/* " ++ (zone ++ (codes " is of one space with " ++ (first ++ (codes ", whose bits tell the owner. There this zone's guest is: */\n"
     ++ (codes "#define PLAN_OWNER_GUEST_" ++ (zone ++ (codes " " ++ (decimal number ++ codes "\n"))))))))
 
 -- the first zone of a zone's space, in capitals

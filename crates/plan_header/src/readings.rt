@@ -117,7 +117,7 @@ fn push_note(text: &mut String, number: usize, first: &str, zone: &str) -> Resul
 {
     write!(
         text,
-        "/* {zone} is of one space with {first}, which tells its owner; its guest is: */\n\
+        "/* {zone} is of one space with {first}, whose bits tell the owner. There this zone's guest is: */\n\
          #define PLAN_OWNER_GUEST_{zone} {number}\n"
     )
 }

@@ -89,7 +89,7 @@ silent-space class s z arrow =
     (picture.space_name_part z (name_in s.named.spaces z)) (λ t. refl)
     (silent-slanted class (codes "space") (at.zone_column z + 34) 220 13 280 (name_in s.named.spaces z) (λ t. refl)))
     (silent-if class (joins s.named.plan z) _ []
-    (silent-level class (codes "zone") (at.lane s (host_of s.named.plan z) + 18) (at.zone_column z - 123)
+    (silent-level class (codes "zone") (at.lane s (host_of s.named.plan z) + 11) (at.zone_column z - 123)
     (at.zone_column z + 3) (λ t. refl) arrow.zone)
     (λ t. refl))
 

@@ -77,7 +77,7 @@ pub record ZonesAreDrawn : Type 0 where
       → Has (picture_text s vs) (slanted (codes "space") (at.column z + 34) 220 13 280 (name_in s.named.spaces z))
   pub tied : (s : Scene) (vs : List Verdict) (z : ℕ) → z < length s.named.zones → joins s.named.plan z ≡ true
       → Has (picture_text s vs)
-      (level (codes "zone") (at.lane s (host_of s.named.plan z) + 18) (at.column z - 123) (at.column z + 3))
+      (level (codes "zone") (at.lane s (host_of s.named.plan z) + 11) (at.column z - 123) (at.column z + 3))
 
 -- each hazard has its name, what keeps its motors apart, and a line from the one to the other, with their names
 pub record HazardsAreDrawn : Type 0 where

@@ -139,7 +139,7 @@ space_title s zone =
 abbrev pub space_line : Scene → ℕ → Text
 space_line s zone =
     if joins s.named.plan zone
-    then level (codes "zone") (at.lane s (host_of s.named.plan zone) + 18) (at.zone_column zone - 123)
+    then level (codes "zone") (at.lane s (host_of s.named.plan zone) + 11) (at.zone_column zone - 123)
     (at.zone_column zone + 3)
     else []
 

@@ -646,7 +646,7 @@ fn push_space_line(text: &mut String, plan: &ProgrammedPlan, zone: u8) -> Result
     let row = plan.named.plan().zone(zone);
     if row.joins {
         let column = zone_column(zone);
-        let y = lane(plan, row.host) + 18;
+        let y = lane(plan, row.host) + 11;
         push_level(text, "zone", y, column - 123, column + 3)
     } else {
         Ok(())

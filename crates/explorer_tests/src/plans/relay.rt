@@ -137,6 +137,14 @@ fn opening() -> State {
     State::start(places, 0)
 }
 
+/// The same with a plate past the plan's places, of which no word of the plan can tell.
+fn opening_past_the_plan() -> State {
+    let mut places = [false; 16];
+    places[0] = true;
+    places[15] = true;
+    State::start(places, 0)
+}
+
 /// Adds the turns that lead to the end: all steps of a link, then those of the next, and one of the machine after the
 /// last.
 fn push_way(turns: &mut Vec<u8>, steps: usize) -> Result<(), AllocError> {
@@ -205,6 +213,19 @@ fn goes_on_alone(alloc: Global, plan: &Plan, programs: &Programs) -> bool {
     }
 }
 
+/// How many situations there are, if none of them is a standstill.
+fn situations_from(
+    alloc: Global,
+    plan: &Plan,
+    opening: &State,
+    programs: &Programs,
+) -> Option<usize> {
+    match explore(alloc, plan, opening, programs, usize::MAX) {
+        Ok(Explored::Free(situations)) => Some(situations),
+        _ => None,
+    }
+}
+
 // The last machine goes on for ever, at each moment and at the end. No other machine does, and the plate rests there.
 #[test]
 fn one_of_fifteen_machines_goes_on(rt: HostRuntime) {
@@ -213,9 +234,17 @@ fn one_of_fifteen_machines_goes_on(rt: HostRuntime) {
     let programs = programs(rt.alloc(), 9, &last).expect(&rt, "programs");
     // before the turns of each step and at the end, with the last machine at either of its steps
     let wanted = 2 * (7 * 9 + 2);
-    let is_found = match explore(rt.alloc(), &plan, &opening(), &programs, usize::MAX) {
-        Ok(Explored::Free(situations)) => situations == wanted,
-        _ => false,
-    };
-    assert!(rt; is_found && goes_on_alone(rt.alloc(), &plan, &programs));
+    assert!(rt; situations_from(rt.alloc(), &plan, &opening(), &programs) == Some(wanted));
+    assert!(rt; goes_on_alone(rt.alloc(), &plan, &programs));
+}
+
+// An opening that no word tells is explored alike.
+#[test]
+fn a_plate_past_the_plan_changes_nothing(rt: HostRuntime) {
+    let plan = plan(rt.alloc()).expect(&rt, "a plan");
+    let last = [Call::SetPose(LINKS), Call::SetPose(LINKS)];
+    let programs = programs(rt.alloc(), 9, &last).expect(&rt, "programs");
+    let told = situations_from(rt.alloc(), &plan, &opening(), &programs);
+    let untold = situations_from(rt.alloc(), &plan, &opening_past_the_plan(), &programs);
+    assert!(rt; told.is_some() && told == untold);
 }
