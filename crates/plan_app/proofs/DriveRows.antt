@@ -52,7 +52,7 @@ driven_at t k (s ∷ steps) (None ∷ found) all none (suc i) program there =
     (driven_at t (k + 1) steps found all.1 none i program there)
 
 pub right-permitted : RightDrivesArePermitted
-right-permitted plan start text is fit few m program there =
+right-permitted most plan start text is fit few m program there =
     let t = motor_plan plan.named.plan plan.motors.motors.items plan.motors.hazards.items in
     let at : 0 + m ≡ m = omega arith in
     subst (λ n. IsDriven t n (map line_of program.items)) at

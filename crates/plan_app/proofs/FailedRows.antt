@@ -45,18 +45,18 @@ asked request bytes new none (inr (inl (inr wrote))) = absurd (begins (codes "me
 asked request bytes new none (inr (inr (inl (words, of, wrote)))) = absurd (begins words new none wrote)
 asked request bytes new none (inr (inr (inr fails))) = fails
 
-explored : (plan : ProgrammedPlan) (script new : Text) → AreNoFault new → WroteEnd plan script (Some []) (Some new)
+explored : (most : ℕ) (plan : ProgrammedPlan) (script new : Text) → AreNoFault new → WroteEnd most plan script (Some []) (Some new)
     → (opening : State) × (script_start plan.named script ≡ Ok opening) × WroteExploration plan opening (Some []) (Some new)
-explored plan script new none (inl (fault, is, wrote)) = absurd (begins (fault_text fault) new none wrote)
-explored plan script new none (inr (opening, is, inl (words, tells, wrote))) = absurd (begins words new none wrote)
-explored plan script new none (inr (opening, is, inr wrote)) = (opening, is, wrote)
+explored most plan script new none (inl (fault, is, wrote)) = absurd (begins (fault_text fault) new none wrote)
+explored most plan script new none (inr (opening, is, inl (words, tells, wrote))) = absurd (begins words new none wrote)
+explored most plan script new none (inr (opening, is, inr wrote)) = (opening, is, wrote)
 
-paged : (plan : ProgrammedPlan) (script new : Text) → AreNoFault new → WrotePage plan script (Some []) (Some new)
+paged : (most : ℕ) (plan : ProgrammedPlan) (script new : Text) → AreNoFault new → WrotePage most plan script (Some []) (Some new)
     → (opening : State) × (script_start plan.named script ≡ Ok opening) × WrotePageText plan opening (Some []) (Some new)
-paged plan script new none (inl (fault, is, wrote)) = absurd (begins (fault_text fault) new none wrote)
-paged plan script new none (inr (opening, is, inl (words, tells, wrote))) = absurd (begins words new none wrote)
-paged plan script new none (inr (opening, is, inr (inl wrote))) = absurd (begins (codes "long") new none wrote.1)
-paged plan script new none (inr (opening, is, inr (inr wrote))) = (opening, is, wrote)
+paged most plan script new none (inl (fault, is, wrote)) = absurd (begins (fault_text fault) new none wrote)
+paged most plan script new none (inr (opening, is, inl (words, tells, wrote))) = absurd (begins words new none wrote)
+paged most plan script new none (inr (opening, is, inr (inl wrote))) = absurd (begins (codes "long") new none wrote.1)
+paged most plan script new none (inr (opening, is, inr (inr wrote))) = (opening, is, wrote)
 
 -- ---- `fault large: `
 
@@ -129,29 +129,29 @@ of_found true n ps s groups well text tells first = of_parts n ps s groups (leng
 of_found false n ps s groups well text tells first =
     of_screen n ps s (any_starves n) (going_text n ps s) well text tells first
 
-abbrev IsTold : ProgrammedPlan → Text → Text → Type 0
-IsTold plan script rest =
+abbrev IsTold : ℕ → ProgrammedPlan → Text → Text → Type 0
+IsTold most plan script rest =
     (opening : State) × (script_start plan.named script ≡ Ok opening)
-    × (words : Text) × TellsLarge plan.named plan.programs opening words × WroteFault words (Some []) (Some (large rest))
+    × (words : Text) × TellsLarge most plan.named plan.programs opening words × WroteFault words (Some []) (Some (large rest))
 
-large_by : (plan : ProgrammedPlan) (script rest : Text) → WroteEnd plan script (Some []) (Some (large rest)) → IsTold plan script rest
-large_by plan script rest (inl (fault, is, wrote)) = absurd (of_start rest fault wrote)
-large_by plan script rest (inr (opening, is, inl (words, tells, wrote))) = (opening, is, words, tells, wrote)
-large_by plan script rest (inr (opening, is, inr (well, text, tells, wrote))) =
+large_by : (most : ℕ) (plan : ProgrammedPlan) (script rest : Text) → WroteEnd most plan script (Some []) (Some (large rest)) → IsTold most plan script rest
+large_by most plan script rest (inl (fault, is, wrote)) = absurd (of_start rest fault wrote)
+large_by most plan script rest (inr (opening, is, inl (words, tells, wrote))) = (opening, is, words, tells, wrote)
+large_by most plan script rest (inr (opening, is, inr (well, text, tells, wrote))) =
     absurd
     (of_found (some_are_apart tells.groups plan.programs) plan.named plan.programs opening tells.groups well text tells.told
     (zeroth rest text wrote))
 
-is_large : (bytes rest : Text) → Fails Explore (Some bytes) (Some []) (Some (large rest))
+is_large : (most : ℕ) (bytes rest : Text) → Fails (Explore most) (Some bytes) (Some []) (Some (large rest))
     → (plan : ProgrammedPlan) × IsPlanIn (document_in bytes) plan × (opening : State)
     × (script_start plan.named (script_in bytes) ≡ Ok opening) × (words : Text)
-    × TellsLarge plan.named plan.programs opening words × WroteFault words (Some []) (Some (large rest))
-is_large bytes rest (inl wrote) = let e : 97 ≡ 111 = seventh rest (fault_line (codes "long")) wrote.1 in absurd (omega (arith, e))
-is_large bytes rest (inr (inl (inl wrote))) = let e : 108 ≡ 114 = sixth rest (fault_line (codes "read")) wrote in absurd (omega (arith, e))
-is_large bytes rest (inr (inl (inr wrote))) = let e : 108 ≡ 109 = sixth rest (fault_line (codes "memory")) wrote in absurd (omega (arith, e))
-is_large bytes rest (inr (inr (inl (words, of, wrote)))) = absurd (of_document rest words of wrote)
-is_large bytes rest (inr (inr (inr (plan, is, fails)))) =
-    let (opening, begun, words, tells, wrote) = large_by plan (script_in bytes) rest fails in
+    × TellsLarge most plan.named plan.programs opening words × WroteFault words (Some []) (Some (large rest))
+is_large most bytes rest (inl wrote) = let e : 97 ≡ 111 = seventh rest (fault_line (codes "long")) wrote.1 in absurd (omega (arith, e))
+is_large most bytes rest (inr (inl (inl wrote))) = let e : 108 ≡ 114 = sixth rest (fault_line (codes "read")) wrote in absurd (omega (arith, e))
+is_large most bytes rest (inr (inl (inr wrote))) = let e : 108 ≡ 109 = sixth rest (fault_line (codes "memory")) wrote in absurd (omega (arith, e))
+is_large most bytes rest (inr (inr (inl (words, of, wrote)))) = absurd (of_document rest words of wrote)
+is_large most bytes rest (inr (inr (inr (plan, is, fails)))) =
+    let (opening, begun, words, tells, wrote) = large_by most plan (script_in bytes) rest fails in
     (plan, is, opening, begun, words, tells, wrote)
 
 pub failed-meant : FailedIsMeant

@@ -15,6 +15,7 @@ use Rattle.plan_document.specs.declared.resolving.ProgrammedPlan.{ProgrammedPlan
 use Rattle.plan_app.specs.Apart.{TellsExploration}
 use Rattle.plan_app.specs.Failed.{Fails, FailsBy, FailsIn, WroteExploration, WroteFault, WroteReport, WroteUnread}
 use Rattle.plan_app.specs.Input.{byte_limit, document_in, script_in}
+use Rattle.plan_app.specs.Requests.{usual_most}
 use Rattle.plan_app.specs.declared.request.Request.{Request}
 use Rattle.plan_app.specs.declared.request.Request.TheVariants.{Check, Replay, Explore, Page, Header, Module, Draw, Help, Run, RunPage, Version}
 
@@ -53,20 +54,21 @@ unread_fails request input old new unread = if_known (λ bytes. FailsIn request 
 
 -- what isn't asked otherwise is a report
 pub report_fails : (request : Request) (plan : ProgrammedPlan) (script : List ℕ) (old new : Option (List ℕ))
-    → request ≢ Replay → request ≢ Explore → request ≢ Page → request ≢ Header → request ≢ Module → request ≢ Draw
-    → ((turns : ℕ) → request ≢ Run turns) → ((turns : ℕ) → request ≢ RunPage turns) → WroteReport plan script old new
+    → ((most : ℕ) → request ≢ Check most) → request ≢ Replay → ((most : ℕ) → request ≢ Explore most) → ((most : ℕ) → request ≢ Page most)
+    → request ≢ Header → request ≢ Module → request ≢ Draw
+    → ((turns : ℕ) → request ≢ Run turns) → ((turns : ℕ) → request ≢ RunPage turns) → WroteReport usual_most plan script old new
     → FailsBy request plan script old new
-report_fails Check plan script old new replay explore page header python draw run shown wrote = wrote
-report_fails Replay plan script old new replay explore page header python draw run shown wrote = absurd (replay refl)
-report_fails Explore plan script old new replay explore page header python draw run shown wrote = absurd (explore refl)
-report_fails Page plan script old new replay explore page header python draw run shown wrote = absurd (page refl)
-report_fails Header plan script old new replay explore page header python draw run shown wrote = absurd (header refl)
-report_fails Module plan script old new replay explore page header python draw run shown wrote = absurd (python refl)
-report_fails Draw plan script old new replay explore page header python draw run shown wrote = absurd (draw refl)
-report_fails (Run turns) plan script old new replay explore page header python draw run shown wrote = absurd (run turns refl)
-report_fails (RunPage turns) plan script old new replay explore page header python draw run shown wrote = absurd (shown turns refl)
-report_fails Help plan script old new replay explore page header python draw run shown wrote = wrote
-report_fails Version plan script old new replay explore page header python draw run shown wrote = wrote
+report_fails (Check most) plan script old new check replay explore page header python draw run shown wrote = absurd (check most refl)
+report_fails Replay plan script old new check replay explore page header python draw run shown wrote = absurd (replay refl)
+report_fails (Explore most) plan script old new check replay explore page header python draw run shown wrote = absurd (explore most refl)
+report_fails (Page most) plan script old new check replay explore page header python draw run shown wrote = absurd (page most refl)
+report_fails Header plan script old new check replay explore page header python draw run shown wrote = absurd (header refl)
+report_fails Module plan script old new check replay explore page header python draw run shown wrote = absurd (python refl)
+report_fails Draw plan script old new check replay explore page header python draw run shown wrote = absurd (draw refl)
+report_fails (Run turns) plan script old new check replay explore page header python draw run shown wrote = absurd (run turns refl)
+report_fails (RunPage turns) plan script old new check replay explore page header python draw run shown wrote = absurd (shown turns refl)
+report_fails Help plan script old new check replay explore page header python draw run shown wrote = wrote
+report_fails Version plan script old new check replay explore page header python draw run shown wrote = wrote
 
 -- a document has a plan
 pub by_plan : (request : Request) (bytes : List ℕ) (plan : ProgrammedPlan) (old new : Option (List ℕ)) → IsPlanIn (document_in bytes) plan

@@ -14,58 +14,58 @@ use Rattle.plan_app.specs.declared.apart.Exploration.TheVariants.{Well, Unwell, 
 use Rattle.plan_app.specs.declared.explore.Screen.{Screen}
 use Rattle.plan_app.specs.declared.explore.Screen.TheVariants.{Free, Starving, Standstill, Unfinished}
 
-is_exploration : (apart : Bool) (n : Named) (ps : PlanPrograms) (opening : State) (groups : List ℕ) (found : Exploration)
+is_exploration : (most : ℕ) (apart : Bool) (n : Named) (ps : PlanPrograms) (opening : State) (groups : List ℕ) (found : Exploration)
     → AreGroups n.plan (group_in groups) → AreSmallest n.plan (group_in groups) → some_are_apart groups ps ≡ apart
-    → IsExplorationBy apart n ps opening groups found → IsExploration n ps opening found
-is_exploration apart n ps opening groups (Well text) are smallest by found = record {
+    → IsExplorationBy most apart n ps opening groups found → IsExploration most n ps opening found
+is_exploration most apart n ps opening groups (Well text) are smallest by found = record {
   groups = groups;
   apart = are;
   smallest = smallest;
   told = subst (λ b. TellsBy b n ps opening groups true (string_bytes text)) (sym by) found;
 }
-is_exploration apart n ps opening groups (Unwell text) are smallest by found = record {
+is_exploration most apart n ps opening groups (Unwell text) are smallest by found = record {
   groups = groups;
   apart = are;
   smallest = smallest;
   told = subst (λ b. TellsBy b n ps opening groups false (string_bytes text)) (sym by) found;
 }
-is_exploration apart n ps opening groups (Large words) are smallest by found = record {
+is_exploration most apart n ps opening groups (Large words) are smallest by found = record {
   groups = groups;
   apart = are;
   smallest = smallest;
-  told = subst (λ b. TellsLargeBy b n ps opening groups (string_bytes words)) (sym by) found;
+  told = subst (λ b. TellsLargeBy most b n ps opening groups (string_bytes words)) (sym by) found;
 }
 
-pub exploration_is : {E : Type 0} (apart : Bool) (n : Named) (ps : PlanPrograms) (opening : State) (groups : List ℕ)
+pub exploration_is : {E : Type 0} (most : ℕ) (apart : Bool) (n : Named) (ps : PlanPrograms) (opening : State) (groups : List ℕ)
     (r : Result Exploration E) → AreGroups n.plan (group_in groups) → AreSmallest n.plan (group_in groups)
-    → some_are_apart groups ps ≡ apart → IfOk r (λ found. IsExplorationBy apart n ps opening groups found)
-    → IfOk r (λ found. IsExploration n ps opening found)
-exploration_is apart n ps opening groups (Ok found) are smallest by is =
-    is_exploration apart n ps opening groups found are smallest by is
-exploration_is apart n ps opening groups (Err e) are smallest by is = tt
+    → some_are_apart groups ps ≡ apart → IfOk r (λ found. IsExplorationBy most apart n ps opening groups found)
+    → IfOk r (λ found. IsExploration most n ps opening found)
+exploration_is most apart n ps opening groups (Ok found) are smallest by is =
+    is_exploration most apart n ps opening groups found are smallest by is
+exploration_is most apart n ps opening groups (Err e) are smallest by is = tt
 
 -- the screen of a group has the facts of what it tells
-pub part_told : (n : Named) (ps : PlanPrograms) (opening : State) (ours : ℕ → Bool) (screen : Screen)
-    → IsPartScreen n ps opening ours screen → IsPart n ps opening ours (told_by screen)
-part_told n ps opening ours (Free text) is = is
-part_told n ps opening ours (Starving text) is = inr is
-part_told n ps opening ours (Standstill text) is = inl is
-part_told n ps opening ours (Unfinished turns) is = is
+pub part_told : (most : ℕ) (n : Named) (ps : PlanPrograms) (opening : State) (ours : ℕ → Bool) (screen : Screen)
+    → IsPartScreen most n ps opening ours screen → IsPart most n ps opening ours (told_by screen)
+part_told most n ps opening ours (Free text) is = is
+part_told most n ps opening ours (Starving text) is = inr is
+part_told most n ps opening ours (Standstill text) is = inl is
+part_told most n ps opening ours (Unfinished turns) is = is
 
 -- the words of a group that comes to more situations than are explored
-large_told : (n : Named) (ps : PlanPrograms) (opening : State) (groups : List ℕ) (first turns : ℕ) (found : Exploration)
-    → first < length ps → IsUnfinished n (alone (group_of groups first) ps) opening turns
-    → IsLargePart n groups first (length ps) turns found → IsExplorationBy true n ps opening groups found
-large_told n ps opening groups first turns (Well text) few is said = absurd said
-large_told n ps opening groups first turns (Unwell text) few is said = absurd said
-large_told n ps opening groups first turns (Large words) few is said = (first, few, (turns, is, said))
+large_told : (most : ℕ) (n : Named) (ps : PlanPrograms) (opening : State) (groups : List ℕ) (first turns : ℕ) (found : Exploration)
+    → first < length ps → IsUnfinished most n (alone (group_of groups first) ps) opening turns
+    → IsLargePart most n groups first (length ps) turns found → IsExplorationBy most true n ps opening groups found
+large_told most n ps opening groups first turns (Well text) few is said = absurd said
+large_told most n ps opening groups first turns (Unwell text) few is said = absurd said
+large_told most n ps opening groups first turns (Large words) few is said = (first, few, (turns, is, said))
 
-pub large_is_told : {E : Type 0} (n : Named) (ps : PlanPrograms) (opening : State) (groups : List ℕ) (first turns : ℕ)
-    (r : Result Exploration E) → first < length ps → IsUnfinished n (alone (group_of groups first) ps) opening turns
-    → IfOk r (λ found. IsLargePart n groups first (length ps) turns found)
-    → IfOk r (λ found. IsExplorationBy true n ps opening groups found)
-large_is_told n ps opening groups first turns (Ok found) few is said = large_told n ps opening groups first turns found few is said
-large_is_told n ps opening groups first turns (Err e) few is said = tt
+pub large_is_told : {E : Type 0} (most : ℕ) (n : Named) (ps : PlanPrograms) (opening : State) (groups : List ℕ) (first turns : ℕ)
+    (r : Result Exploration E) → first < length ps → IsUnfinished most n (alone (group_of groups first) ps) opening turns
+    → IfOk r (λ found. IsLargePart most n groups first (length ps) turns found)
+    → IfOk r (λ found. IsExplorationBy most true n ps opening groups found)
+large_is_told most n ps opening groups first turns (Ok found) few is said = large_told most n ps opening groups first turns found few is said
+large_is_told most n ps opening groups first turns (Err e) few is said = tt
 
 -- one part more
 pub next_part : (n : Named) (ps : PlanPrograms) (opening : State) (groups : List ℕ) (m : ℕ) (well part : Bool)

@@ -38,7 +38,7 @@ turns_told : (lead : Lead) → AreTurns lead (0 ∷ 1 ∷ 1 ∷ []) → lead_tex
 turns_told Unsought is = absurd is
 turns_told Never is = absurd is
 turns_told (Turns turns) is = rw is refl
-turns_told (Unfinished fewer) is = absurd is
+turns_told (Unfinished limit fewer) is = absurd is
 
 pub lead-lines : LeadLines
 unfolding digits
@@ -65,13 +65,13 @@ NeverBoth plan h =
     NeverFromPostures plan.named.plan opening (motor_at plan.motors.motors.items h.first)
     (motor_at plan.motors.motors.items h.second)
 
-never_both : (plan : ProgrammedPlan) (start : Option State) (hazards : List Hazard) (findings : List Finding) → AllZip (IsFindingOf plan start) hazards findings → list_all is_kept findings ≡ true
+never_both : (most : ℕ) (plan : ProgrammedPlan) (start : Option State) (hazards : List Hazard) (findings : List Finding) → AllZip (IsFindingOf most plan start) hazards findings → list_all is_kept findings ≡ true
     → (k : ℕ) → k < length hazards → NeverBoth plan (hazard_at hazards k)
-never_both plan start [] findings are kept k l = absurd (omega (arith, l))
-never_both plan start (h ∷ hazards) [] are kept k l = absurd are
-never_both plan start (h ∷ hazards) (f ∷ findings) are kept zero l = are.0.verdict.never (both (is_kept f) (list_all is_kept findings) kept).0
-never_both plan start (h ∷ hazards) (f ∷ findings) are kept (suc k) l =
-    never_both plan start hazards findings are.1 (both (is_kept f) (list_all is_kept findings) kept).1 k (omega (arith, l))
+never_both most plan start [] findings are kept k l = absurd (omega (arith, l))
+never_both most plan start (h ∷ hazards) [] are kept k l = absurd are
+never_both most plan start (h ∷ hazards) (f ∷ findings) are kept zero l = are.0.verdict.never (both (is_kept f) (list_all is_kept findings) kept).0
+never_both most plan start (h ∷ hazards) (f ∷ findings) are kept (suc k) l =
+    never_both most plan start hazards findings are.1 (both (is_kept f) (list_all is_kept findings) kept).1 k (omega (arith, l))
 
 pub kept-never-both : KeptMotorsAreNeverBoth
-kept-never-both plan start text is k l = never_both plan start plan.motors.hazards.items is.findings is.are (both (are_kept is.findings) (list_all is_none is.drives) is.right).0 k l
+kept-never-both most plan start text is k l = never_both most plan start plan.motors.hazards.items is.findings is.are (both (are_kept is.findings) (list_all is_none is.drives) is.right).0 k l

@@ -41,7 +41,7 @@ leads-tell : LeadsTell
 leads-tell = record {
   unsought = λ n ps begun v. refl;
   never = λ n ps begun v. refl;
-  large = λ n ps begun v turns. refl;
+  large = λ n ps begun v limit turns. refl;
   turns = λ n ps begun v turns. refl;
   at_once = λ n ps begun. refl;
   calls = λ n ps begun first more.

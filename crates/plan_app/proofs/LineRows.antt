@@ -36,5 +36,5 @@ pub rows-told : RowsAreTold
 rows-told = record {
   complete = refl;
   unknown = refl;
-  meant = λ plan start kept text tells. (tells.every, tells.rows, tells.drives, tells.findings, tells.told);
+  meant = λ most plan start kept text tells. (tells.every, tells.rows, tells.drives, tells.findings, tells.told);
 }

@@ -101,14 +101,14 @@ none_found n ps answers plates many none =
 
 -- ---- what is printed then
 
-pub free_is_page : {E : Type 0} (plan : ProgrammedPlan) (opening : State) (situations : ℕ) (answers : List Liveness) (plates : Progress) (r : Result Page E)
+pub free_is_page : {E : Type 0} (most : ℕ) (plan : ProgrammedPlan) (opening : State) (situations : ℕ) (answers : List Liveness) (plates : Progress) (r : Result Page E)
     → NoneStandsStill plan.named.plan plan.programs opening → NoRunStandsStill plan.named.plan plan.programs opening
     → ComeTo plan.named.plan plan.programs opening situations → AreAnswers plan.named plan.programs opening answers plates
     → any_starves plan.named answers plates ≡ false
     → IfOk r (λ page. IsFreeText (free_line situations ++ going_text plan.named plan.programs opening answers plates) page)
-    → IfOk r (λ page. IsPage plan opening page)
-free_is_page plan opening situations answers plates (Err e) free runs come are none shown = tt
-free_is_page plan opening situations answers plates (Ok (Free text)) free runs come are none shown = record {
+    → IfOk r (λ page. IsPage most plan opening page)
+free_is_page most plan opening situations answers plates (Err e) free runs come are none shown = tt
+free_is_page most plan opening situations answers plates (Ok (Free text)) free runs come are none shown = record {
   free = free;
   runs = runs;
   situations = situations;
@@ -119,9 +119,9 @@ free_is_page plan opening situations answers plates (Ok (Free text)) free runs c
   starving = none;
   told = shown;
 }
-free_is_page plan opening situations answers plates (Ok (Found text)) free runs come are none shown = absurd shown
-free_is_page plan opening situations answers plates (Ok Long) free runs come are none shown = absurd shown
-free_is_page plan opening situations answers plates (Ok (Large words)) free runs come are none shown = absurd shown
+free_is_page most plan opening situations answers plates (Ok (Found text)) free runs come are none shown = absurd shown
+free_is_page most plan opening situations answers plates (Ok Long) free runs come are none shown = absurd shown
+free_is_page most plan opening situations answers plates (Ok (Large words)) free runs come are none shown = absurd shown
 
 -- ---- an order is found
 

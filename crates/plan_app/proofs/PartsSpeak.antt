@@ -102,8 +102,8 @@ module _ (n : Named) (ps : PlanPrograms) (s : State) (ours : ℕ → Bool) (a : 
         };
       }
 
-  unfinished : (turns : ℕ) → IsUnfinished n (alone ours ps) s turns → IsUnfinishedAmongAll n.plan ps s ours turns
-  unfinished turns is = record { more = a.more 1000000 is.more; before = a.standstills.before turns is.before }
+  unfinished : (most turns : ℕ) → IsUnfinished most n (alone ours ps) s turns → IsUnfinishedAmongAll most n.plan ps s ours turns
+  unfinished most turns is = record { more = a.more most is.more; before = a.standstills.before turns is.before }
 
 -- a group has its part
 abbrev Told : Named → PlanPrograms → State → List ℕ → ℕ → Bool → Type 0
@@ -147,9 +147,9 @@ parts_speak n ps s apart goes starve sound = record {
       let ours = group_of groups first in
       let nothing = share n groups first are in
       stands n ps s ours (apart ours nothing sound) (goes ours nothing sound) (starve ours nothing sound) text tells;
-  unfinished = λ groups are first turns is.
+  unfinished = λ most groups are first turns is.
       let ours = group_of groups first in
       let nothing = share n groups first are in
-      unfinished n ps s ours (apart ours nothing sound) (goes ours nothing sound) (starve ours nothing sound) turns is;
+      unfinished n ps s ours (apart ours nothing sound) (goes ours nothing sound) (starve ours nothing sound) most turns is;
   parts = λ groups count well text told first few is. parts n ps s groups count well text told first few is;
 }

@@ -19,15 +19,15 @@ standstill-lines = record {
 
 pub screens-meant : ScreensAreMeant
 screens-meant = record {
-  none = λ n ps s text is turns. is.free turns;
-  runs = λ n ps s text is. is.runs;
-  told = λ n ps s text is. (is.situations, is.answers, is.plates, is.come, is.are, is.told);
-  none_starves = λ n ps s text is. (is.answers, is.plates, is.are, is.starving);
-  some_starves = λ n ps s text is. (is.situations, is.answers, is.plates, is.come, is.are, is.starving, is.told);
-  starving_runs = λ n ps s text is. is.runs;
-  starving_none = λ n ps s text is turns. is.free turns;
-  stands = λ n ps s text is. (is.turns, is.lead, is.shortest, is.told);
-  unfinished = λ n ps s turns is. (is.more, is.before);
+  none = λ most n ps s text is turns. is.free turns;
+  runs = λ most n ps s text is. is.runs;
+  told = λ most n ps s text is. (is.situations, is.answers, is.plates, is.come, is.are, is.told);
+  none_starves = λ most n ps s text is. (is.answers, is.plates, is.are, is.starving);
+  some_starves = λ most n ps s text is. (is.situations, is.answers, is.plates, is.come, is.are, is.starving, is.told);
+  starving_runs = λ most n ps s text is. is.runs;
+  starving_none = λ most n ps s text is turns. is.free turns;
+  stands = λ most n ps s text is. (is.turns, is.lead, is.shortest, is.told);
+  unfinished = λ most n ps s turns is. (is.more, is.before);
 }
 
 pub kinds-of-screens : KindsOfScreens
@@ -60,7 +60,7 @@ answers-meant = record {
 
 pub served-meant : ServedIsMeant
 served-meant = record {
-  report = λ bytes old new (plan, is, (text, tells, wrote)). (plan, is, text, tells, wrote);
+  report = λ most bytes old new (plan, is, (text, tells, wrote)). (plan, is, text, tells, wrote);
   header = λ bytes old new said. said;
   python = λ bytes old new said. said;
   picture = λ bytes old new said. said;

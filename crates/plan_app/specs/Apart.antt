@@ -115,9 +115,9 @@ part_starves ours n ps answers plates =
     any_below (own_starves ours answers) (length ps) || (some_move_plates ps && plates_may_rest n plates)
 
 -- what is found of it
-abbrev pub IsPartScreen : Named → PlanPrograms → State → (ℕ → Bool) → Screen → Type 0
-IsPartScreen n ps opening ours screen =
-    IsScreenBy n ps opening (part_starves ours n ps) (part_text ours n ps opening) screen
+abbrev pub IsPartScreen : ℕ → Named → PlanPrograms → State → (ℕ → Bool) → Screen → Type 0
+IsPartScreen most n ps opening ours screen =
+    IsScreenBy most n ps opening (part_starves ours n ps) (part_text ours n ps opening) screen
 
 -- whether all is well by a screen, and its text; or how far the exploration came
 abbrev pub told_by : Screen → Result (Bool × String Global) ℕ
@@ -132,9 +132,9 @@ TellsAlone n ps opening ours well text =
     TellsScreenBy n ps opening (part_starves ours n ps) (part_text ours n ps opening) well text
 
 -- this is told of it; or how far the exploration came, where turns lead to more situations than are explored
-abbrev pub IsPart : Named → PlanPrograms → State → (ℕ → Bool) → Result (Bool × String Global) ℕ → Type 0
-IsPart n ps opening ours (Ok told) = TellsAlone n ps opening ours told.0 (string_bytes told.1)
-IsPart n ps opening ours (Err turns) = IsUnfinished n ps opening turns
+abbrev pub IsPart : ℕ → Named → PlanPrograms → State → (ℕ → Bool) → Result (Bool × String Global) ℕ → Type 0
+IsPart most n ps opening ours (Ok told) = TellsAlone n ps opening ours told.0 (string_bytes told.1)
+IsPart most n ps opening ours (Err turns) = IsUnfinished most n ps opening turns
 
 -- its head, and then what is said of its machines alone
 abbrev pub TellsPart : Named → PlanPrograms → State → List ℕ → ℕ → Bool → Text → Type 0
@@ -179,41 +179,41 @@ pub record TellsExploration (n : Named) (ps : PlanPrograms) (opening : State) (w
     pub told : TellsBy (some_are_apart groups ps) n ps opening groups well text
 
 -- where turns of a group alone lead to more situations than are explored, its machines are named
-abbrev pub large_part : Named → List ℕ → ℕ → ℕ → ℕ → Text
-large_part n groups first count turns =
-    codes "large: " ++ (names_text n groups first count ++ (codes ": " ++ unfinished_words turns))
+abbrev pub large_part : ℕ → Named → List ℕ → ℕ → ℕ → ℕ → Text
+large_part most n groups first count turns =
+    codes "large: " ++ (names_text n groups first count ++ (codes ": " ++ unfinished_words most turns))
 
-abbrev pub TellsLargePart : Named → PlanPrograms → State → List ℕ → ℕ → Text → Type 0
-TellsLargePart n ps opening groups first words =
-    (turns : ℕ) × IsUnfinished n (alone (group_of groups first) ps) opening turns
-    × (words ≡ large_part n groups first (length ps) turns)
+abbrev pub TellsLargePart : ℕ → Named → PlanPrograms → State → List ℕ → ℕ → Text → Type 0
+TellsLargePart most n ps opening groups first words =
+    (turns : ℕ) × IsUnfinished most n (alone (group_of groups first) ps) opening turns
+    × (words ≡ large_part most n groups first (length ps) turns)
 
 -- or turns of all machines together do
-abbrev pub TellsLargeBy : Bool → Named → PlanPrograms → State → List ℕ → Text → Type 0
-TellsLargeBy true n ps opening groups words =
-    (first : ℕ) × (first < length ps) × TellsLargePart n ps opening groups first words
-TellsLargeBy false n ps opening groups words = TellsUnfinished n ps opening words
+abbrev pub TellsLargeBy : ℕ → Bool → Named → PlanPrograms → State → List ℕ → Text → Type 0
+TellsLargeBy most true n ps opening groups words =
+    (first : ℕ) × (first < length ps) × TellsLargePart most n ps opening groups first words
+TellsLargeBy most false n ps opening groups words = TellsUnfinished most n ps opening words
 
-pub record TellsLarge (n : Named) (ps : PlanPrograms) (opening : State) (words : Text) : Type 0 where
+pub record TellsLarge (most : ℕ) (n : Named) (ps : PlanPrograms) (opening : State) (words : Text) : Type 0 where
   pub groups : List ℕ
   pub apart : AreGroups n.plan (group_in groups)
   pub smallest : AreSmallest n.plan (group_in groups)
-  pub told : TellsLargeBy (some_are_apart groups ps) n ps opening groups words
+  pub told : TellsLargeBy most (some_are_apart groups ps) n ps opening groups words
 
 -- by the groups
-abbrev pub IsExplorationBy : Bool → Named → PlanPrograms → State → List ℕ → Exploration → Type 0
-IsExplorationBy apart n ps opening groups (Well text) = TellsBy apart n ps opening groups true (string_bytes text)
-IsExplorationBy apart n ps opening groups (Unwell text) = TellsBy apart n ps opening groups false (string_bytes text)
-IsExplorationBy apart n ps opening groups (Large words) = TellsLargeBy apart n ps opening groups (string_bytes words)
+abbrev pub IsExplorationBy : ℕ → Bool → Named → PlanPrograms → State → List ℕ → Exploration → Type 0
+IsExplorationBy most apart n ps opening groups (Well text) = TellsBy apart n ps opening groups true (string_bytes text)
+IsExplorationBy most apart n ps opening groups (Unwell text) = TellsBy apart n ps opening groups false (string_bytes text)
+IsExplorationBy most apart n ps opening groups (Large words) = TellsLargeBy most apart n ps opening groups (string_bytes words)
 
 -- it is these words
-abbrev pub IsLargePart : Named → List ℕ → ℕ → ℕ → ℕ → Exploration → Type 0
-IsLargePart n groups first count turns (Well text) = ⊥
-IsLargePart n groups first count turns (Unwell text) = ⊥
-IsLargePart n groups first count turns (Large words) =
-    string_bytes words ≡ large_part n groups first count turns
+abbrev pub IsLargePart : ℕ → Named → List ℕ → ℕ → ℕ → ℕ → Exploration → Type 0
+IsLargePart most n groups first count turns (Well text) = ⊥
+IsLargePart most n groups first count turns (Unwell text) = ⊥
+IsLargePart most n groups first count turns (Large words) =
+    string_bytes words ≡ large_part most n groups first count turns
 
-abbrev pub IsExploration : Named → PlanPrograms → State → Exploration → Type 0
-IsExploration n ps opening (Well text) = TellsExploration n ps opening true (string_bytes text)
-IsExploration n ps opening (Unwell text) = TellsExploration n ps opening false (string_bytes text)
-IsExploration n ps opening (Large words) = TellsLarge n ps opening (string_bytes words)
+abbrev pub IsExploration : ℕ → Named → PlanPrograms → State → Exploration → Type 0
+IsExploration most n ps opening (Well text) = TellsExploration n ps opening true (string_bytes text)
+IsExploration most n ps opening (Unwell text) = TellsExploration n ps opening false (string_bytes text)
+IsExploration most n ps opening (Large words) = TellsLarge most n ps opening (string_bytes words)

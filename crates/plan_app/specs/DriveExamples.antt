@@ -62,7 +62,7 @@ pub record RunsAreTold : Type 0 where
 -- if a report says that nothing is wrong, each machine's program runs only what is permitted
 abbrev pub RightDrivesArePermitted : Type 0
 RightDrivesArePermitted =
-    (plan : ProgrammedPlan) (start : Option State) (text : Text) → TellsReport plan start true text
+    (most : ℕ) (plan : ProgrammedPlan) (start : Option State) (text : Text) → TellsReport most plan start true text
     → AreMotorsOf plan.named.plan plan.motors.motors.items plan.motors.hazards.items → length plan.steps.items ≤ 15
     → (m : ℕ) (program : Vec Step) → slice_get plan.steps.items m ≡ Some program
     → IsDriven (motor_plan plan.named.plan plan.motors.motors.items plan.motors.hazards.items) m

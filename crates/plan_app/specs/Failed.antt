@@ -19,12 +19,13 @@ use Rattle.plan_app.specs.Apart.{TellsExploration, TellsLarge}
 use Rattle.plan_app.specs.Hazards.{TellsReport, start_if}
 use Rattle.plan_app.specs.Input.{byte_limit, document_in, script_in}
 use Rattle.plan_app.specs.Pages.{IsLongPage, TellsPage}
+use Rattle.plan_app.specs.Requests.{usual_most}
 use Rattle.plan_app.specs.RunPages.{ShowsRun}
 use Rattle.plan_app.specs.Runs.{HasForeignCall, IsTooLong, IsUnexplained, TellsRun}
 use Rattle.plan_app.specs.Screens.{TellsFree, TellsUnfinished}
 use Rattle.plan_app.specs.declared.request.Request.{Request}
-use Rattle.plan_app.specs.declared.request.Request.TheVariants.{Draw, Explore, Header, Module, Page, Replay}
-use Rattle.plan_app.specs.declared.request.Request.TheVariants.{Run, RunPage}
+use Rattle.plan_app.specs.declared.request.Request.TheVariants.{Check, Draw, Explore, Header, Help, Module, Page}
+use Rattle.plan_app.specs.declared.request.Request.TheVariants.{Replay, Run, RunPage, Version}
 
 -- ---- lines of faults
 
@@ -53,9 +54,9 @@ WroteStartFault n script old new =
     (fault : ScriptFault) × (script_start n script ≡ Err fault) × WroteFault (fault_text fault) old new
 
 -- turns lead to more situations than are explored, and how far the exploration came
-abbrev pub WroteLarge : ProgrammedPlan → State → Option Text → Option Text → Type 0
-WroteLarge plan opening old new =
-    (words : Text) × TellsUnfinished plan.named plan.programs opening words × WroteFault words old new
+abbrev pub WroteLarge : ℕ → ProgrammedPlan → State → Option Text → Option Text → Type 0
+WroteLarge most plan opening old new =
+    (words : Text) × TellsUnfinished most plan.named plan.programs opening words × WroteFault words old new
 
 -- ---- by a plan
 
@@ -64,13 +65,13 @@ abbrev pub WroteAnswers : Named → Text → Option Text → Option Text → Typ
 WroteAnswers n script old new = WrotePrefix old new (script_answers n script).text
 
 -- a report, with turns from a start if there is one, and whether the motors of each hazard are kept apart
-abbrev pub WroteReportFrom : ProgrammedPlan → Option State → Option Text → Option Text → Type 0
-WroteReportFrom plan start old new =
-    (kept : Bool) × (text : Text) × TellsReport plan start kept text × WrotePrefix old new text
+abbrev pub WroteReportFrom : ℕ → ProgrammedPlan → Option State → Option Text → Option Text → Type 0
+WroteReportFrom most plan start old new =
+    (kept : Bool) × (text : Text) × TellsReport most plan start kept text × WrotePrefix old new text
 
 -- the start is the script's
-abbrev pub WroteReport : ProgrammedPlan → Text → Option Text → Option Text → Type 0
-WroteReport plan script old new = WroteReportFrom plan (start_if (script_start plan.named script)) old new
+abbrev pub WroteReport : ℕ → ProgrammedPlan → Text → Option Text → Option Text → Type 0
+WroteReport most plan script old new = WroteReportFrom most plan (start_if (script_start plan.named script)) old new
 
 -- of each group, or of all machines together, a text shows a standstill, or says that there is none, and whether some
 -- machine starves or plates rest
@@ -80,18 +81,18 @@ WroteExploration plan opening old new =
     × WrotePrefix old new text
 
 -- the same of a group, or of all machines together
-abbrev pub WroteTooMany : ProgrammedPlan → State → Option Text → Option Text → Type 0
-WroteTooMany plan opening old new =
-    (words : Text) × TellsLarge plan.named plan.programs opening words × WroteFault words old new
+abbrev pub WroteTooMany : ℕ → ProgrammedPlan → State → Option Text → Option Text → Type 0
+WroteTooMany most plan opening old new =
+    (words : Text) × TellsLarge most plan.named plan.programs opening words × WroteFault words old new
 
-abbrev pub WroteEndFrom : ProgrammedPlan → State → Option Text → Option Text → Type 0
-WroteEndFrom plan opening old new = WroteTooMany plan opening old new ⊎ WroteExploration plan opening old new
+abbrev pub WroteEndFrom : ℕ → ProgrammedPlan → State → Option Text → Option Text → Type 0
+WroteEndFrom most plan opening old new = WroteTooMany most plan opening old new ⊎ WroteExploration plan opening old new
 
 -- the start is the script's, if it has one
-abbrev pub WroteEnd : ProgrammedPlan → Text → Option Text → Option Text → Type 0
-WroteEnd plan script old new =
+abbrev pub WroteEnd : ℕ → ProgrammedPlan → Text → Option Text → Option Text → Type 0
+WroteEnd most plan script old new =
     WroteStartFault plan.named script old new
-    ⊎ ((opening : State) × (script_start plan.named script ≡ Ok opening) × WroteEndFrom plan opening old new)
+    ⊎ ((opening : State) × (script_start plan.named script ≡ Ok opening) × WroteEndFrom most plan opening old new)
 
 -- a text is the page of a standstill, or of an order in which a machine starves or plates rest; or it says that there
 -- is no such order
@@ -108,14 +109,14 @@ WrotePageText plan opening old new = (text : Text) × TellsPageEnd plan opening 
 abbrev pub WroteFound : ProgrammedPlan → State → Option Text → Option Text → Type 0
 WroteFound plan opening old new = WroteLongPage plan opening old new ⊎ WrotePageText plan opening old new
 
-abbrev pub WrotePageFrom : ProgrammedPlan → State → Option Text → Option Text → Type 0
-WrotePageFrom plan opening old new = WroteLarge plan opening old new ⊎ WroteFound plan opening old new
+abbrev pub WrotePageFrom : ℕ → ProgrammedPlan → State → Option Text → Option Text → Type 0
+WrotePageFrom most plan opening old new = WroteLarge most plan opening old new ⊎ WroteFound plan opening old new
 
 -- the start is the script's, if it has one
-abbrev pub WrotePage : ProgrammedPlan → Text → Option Text → Option Text → Type 0
-WrotePage plan script old new =
+abbrev pub WrotePage : ℕ → ProgrammedPlan → Text → Option Text → Option Text → Type 0
+WrotePage most plan script old new =
     WroteStartFault plan.named script old new
-    ⊎ ((opening : State) × (script_start plan.named script ≡ Ok opening) × WrotePageFrom plan opening old new)
+    ⊎ ((opening : State) × (script_start plan.named script ≡ Ok opening) × WrotePageFrom most plan opening old new)
 
 abbrev pub WroteHeader : ProgrammedPlan → Option Text → Option Text → Type 0
 WroteHeader plan old new = WrotePrefix old new (header_of plan)
@@ -164,14 +165,16 @@ WroteRunPage plan turns script old new =
 -- what was asked
 abbrev pub FailsBy : Request → ProgrammedPlan → Text → Option Text → Option Text → Type 0
 FailsBy Replay plan script old new = WroteAnswers plan.named script old new
-FailsBy Explore plan script old new = WroteEnd plan script old new
-FailsBy Page plan script old new = WrotePage plan script old new
+FailsBy (Explore most) plan script old new = WroteEnd most plan script old new
+FailsBy (Page most) plan script old new = WrotePage most plan script old new
 FailsBy Header plan script old new = WroteHeader plan old new
 FailsBy Module plan script old new = WroteModule plan old new
 FailsBy Draw plan script old new = WrotePicture plan old new
 FailsBy (Run turns) plan script old new = WroteRun plan turns script old new
 FailsBy (RunPage turns) plan script old new = WroteRunPage plan turns script old new
-FailsBy _ plan script old new = WroteReport plan script old new
+FailsBy (Check most) plan script old new = WroteReport most plan script old new
+FailsBy Help plan script old new = WroteReport usual_most plan script old new
+FailsBy Version plan script old new = WroteReport usual_most plan script old new
 
 -- ---- by the plan of the document in these bytes
 

@@ -44,19 +44,19 @@ pub record FailedIsMeant : Type 0 where
       → (plan : ProgrammedPlan) × IsPlanIn (document_in bytes) plan
       × FailsBy request plan (script_in bytes) (Some []) (Some new)
   -- of an exploration it is what was found, from the start of the script
-  pub explored : (plan : ProgrammedPlan) (script new : Text) → AreNoFault new
-      → WroteEnd plan script (Some []) (Some new)
+  pub explored : (most : ℕ) (plan : ProgrammedPlan) (script new : Text) → AreNoFault new
+      → WroteEnd most plan script (Some []) (Some new)
       → (opening : State) × (script_start plan.named script ≡ Ok opening)
       × WroteExploration plan opening (Some []) (Some new)
   -- of its page it is the page, or what is printed without one
-  pub paged : (plan : ProgrammedPlan) (script new : Text) → AreNoFault new
-      → WrotePage plan script (Some []) (Some new)
+  pub paged : (most : ℕ) (plan : ProgrammedPlan) (script new : Text) → AreNoFault new
+      → WrotePage most plan script (Some []) (Some new)
       → (opening : State) × (script_start plan.named script ≡ Ok opening)
       × WrotePageText plan opening (Some []) (Some new)
-  -- where `fault large: ` was written, turns lead to more than 1,000,000 situations, of a group or of all machines, and
-  -- the words say which, and how far the exploration came
-  pub large : (bytes rest : Text) → Fails Explore (Some bytes) (Some []) (Some (codes "fault large: " ++ rest))
+  -- where `fault large: ` was written, turns lead to more situations than were to be explored, of a group or of all
+  -- machines, and the words say which, and how far the exploration came
+  pub large : (most : ℕ) (bytes rest : Text) → Fails (Explore most) (Some bytes) (Some []) (Some (codes "fault large: " ++ rest))
       → (plan : ProgrammedPlan) × IsPlanIn (document_in bytes) plan
       × (opening : State) × (script_start plan.named (script_in bytes) ≡ Ok opening)
-      × (words : Text) × TellsLarge plan.named plan.programs opening words
+      × (words : Text) × TellsLarge most plan.named plan.programs opening words
       × WroteOf words (codes "fault large: " ++ rest)

@@ -81,7 +81,7 @@ abbrev pub AreTurns : Lead → List ℕ → Type 0
 AreTurns Unsought again = ⊥
 AreTurns Never again = ⊥
 AreTurns (Turns turns) again = turns.items ≡ again
-AreTurns (Unfinished fewer) again = ⊥
+AreTurns (Unfinished limit fewer) again = ⊥
 
 abbrev pub press_calls : Text
 press_calls =
@@ -99,10 +99,10 @@ pub record LeadLines : Type 0 where
       → lead_text (three t) [] (start_state full_cabin 0) (Possible (lifted free_zone free_zone true false)) Never
       ≡ codes "NOT kept apart: a state permits both; none of the programs leads there from the start\n"
   pub large : lead_text lift [] (start_state full_cabin 0) (Possible (lifted free_zone free_zone false true))
-      (Unfinished 12)
+      (Unfinished 1000000 12)
       ≡ codes "NOT kept apart: a state permits both; loft full; "
       ++ codes "none of the programs leads there from start 100 in fewer than 12 turns: "
-      ++ codes "more than 1,000,000 situations\n"
+      ++ codes "more than 1000000 situations\n"
   pub at_once : led_text press patient loaded [] ≡ codes "NOT kept apart: start 10 permits both\n"
   pub calls : led_text press patient loaded (0 ∷ 1 ∷ 1 ∷ []) ≡ press_calls
   pub turns : (lead : Lead) → AreTurns lead (0 ∷ 1 ∷ 1 ∷ [])
@@ -121,7 +121,7 @@ pub record AreKept : Type 0 where
 -- if a report says that all are kept apart, the motors of each hazard are never permitted both, from a start on
 abbrev pub KeptMotorsAreNeverBoth : Type 0
 KeptMotorsAreNeverBoth =
-    (plan : ProgrammedPlan) (start : Option State) (text : Text) → TellsReport plan start true text
+    (most : ℕ) (plan : ProgrammedPlan) (start : Option State) (text : Text) → TellsReport most plan start true text
     → (k : ℕ) → k < length plan.motors.hazards.items
     → NeverFromPostures plan.named.plan opening
     (motor_at plan.motors.motors.items (hazard_at plan.motors.hazards.items k).first)

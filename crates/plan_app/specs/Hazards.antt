@@ -38,18 +38,18 @@ use Rattle.plan_app.specs.declared.leads.Lead.TheVariants.{Unsought, Never, Turn
 
 -- ---- verdicts
 
-abbrev pub IsHazardLead : ProgrammedPlan → Option State → Hazard → Verdict → Lead → Type 0
-IsHazardLead plan start h v lead =
-    IsLeadOf plan.named.plan plan.programs (opening_by start v) v (motor_at plan.motors.motors.items h.first)
+abbrev pub IsHazardLead : ℕ → ProgrammedPlan → Option State → Hazard → Verdict → Lead → Type 0
+IsHazardLead most plan start h v lead =
+    IsLeadOf most plan.named.plan plan.programs (opening_by start v) v (motor_at plan.motors.motors.items h.first)
     (motor_at plan.motors.motors.items h.second) lead
 
 -- what is shown of a hazard: a verdict, and what a search for turns that lead to a state which permits both has found
-pub record IsFindingOf (plan : ProgrammedPlan) (start : Option State) (h : Hazard) (f : Finding) : Type 0 where
+pub record IsFindingOf (most : ℕ) (plan : ProgrammedPlan) (start : Option State) (h : Hazard) (f : Finding) : Type 0 where
   pub verdict : IsVerdictOf plan.named.plan plan.motors.motors.items h f.verdict
-  pub lead : IsHazardLead plan start h f.verdict f.lead
+  pub lead : IsHazardLead most plan start h f.verdict f.lead
 
-abbrev pub AreFindings : ProgrammedPlan → Option State → List Finding → Type 0
-AreFindings plan start findings = AllZip (IsFindingOf plan start) plan.motors.hazards.items findings
+abbrev pub AreFindings : ℕ → ProgrammedPlan → Option State → List Finding → Type 0
+AreFindings most plan start findings = AllZip (IsFindingOf most plan start) plan.motors.hazards.items findings
 
 abbrev pub is_kept : Finding → Bool
 is_kept f = is_never f.verdict
@@ -109,10 +109,13 @@ unled_line n begun v =
     verdict_words n v ++ (UNLED.now ++ (start_words n begun ++ codes "\n"))
 
 -- there are more situations than are explored
-abbrev pub large_line : Named → State → Verdict → ℕ → Text
-large_line n begun v turns =
+abbrev pub limit_words : ℕ → Text
+limit_words limit = LARGE.now ++ (counted limit (codes "situation") ++ codes "\n")
+
+abbrev pub large_line : Named → State → Verdict → ℕ → ℕ → Text
+large_line n begun v limit turns =
     verdict_words n v ++ (UNLED.now ++ (start_words n begun ++ (codes " in fewer than "
-    ++ (counted turns (codes "turn") ++ LARGE.now))))
+    ++ (counted turns (codes "turn") ++ limit_words limit))))
 
 abbrev pub at_once_line : Named → State → Text
 at_once_line n begun = LED.now ++ (start_words n begun ++ codes " permits both\n")
@@ -132,7 +135,7 @@ abbrev pub lead_text : Named → PlanPrograms → State → Verdict → Lead →
 lead_text n ps begun v Unsought = unsought_line n v
 lead_text n ps begun v Never = unled_line n begun v
 lead_text n ps begun v (Turns turns) = led_text n ps begun turns.items
-lead_text n ps begun v (Unfinished turns) = large_line n begun v turns
+lead_text n ps begun v (Unfinished limit turns) = large_line n begun v limit turns
 
 -- ---- lines
 
@@ -170,9 +173,9 @@ whole_report plan start every drives findings =
 -- whether each call that is done has its row, as far as that is known; what programs run that isn't permitted; what is
 -- shown of each hazard, with turns from the start if there is one; and whether nothing is wrong: all motors are kept
 -- apart that have to be, and each is permitted where its program runs it
-pub record TellsReport (plan : ProgrammedPlan) (start : Option State) (kept : Bool) (text : Text) : Type 0 where
+pub record TellsReport (most : ℕ) (plan : ProgrammedPlan) (start : Option State) (kept : Bool) (text : Text) : Type 0 where
   pub findings : List Finding
-  pub are : AreFindings plan start findings
+  pub are : AreFindings most plan start findings
   pub drives : List (Option Undriven)
   pub are_drives : AreDrives plan drives
   pub right : (are_kept findings && list_all is_none drives) ≡ kept
@@ -180,9 +183,9 @@ pub record TellsReport (plan : ProgrammedPlan) (start : Option State) (kept : Bo
   pub rows : IsTrue every → HasEveryRow plan.named.plan
   pub told : text ≡ whole_report plan start every drives findings
 
-abbrev pub IsReport : ProgrammedPlan → Option State → Report → Type 0
-IsReport plan start (Kept text) = TellsReport plan start true (string_bytes text)
-IsReport plan start (Unkept text) = TellsReport plan start false (string_bytes text)
+abbrev pub IsReport : ℕ → ProgrammedPlan → Option State → Report → Type 0
+IsReport most plan start (Kept text) = TellsReport most plan start true (string_bytes text)
+IsReport most plan start (Unkept text) = TellsReport most plan start false (string_bytes text)
 
 -- the start of a script, if it has one
 abbrev pub start_if : Result State ScriptFault → Option State

@@ -42,14 +42,17 @@ asked_with word next = request_of (codes "plan" ∷ word ∷ next ∷ [])
 abbrev pub run_with : Text → Option Request
 run_with number = request_of (codes "plan" ∷ codes "run" ∷ codes "--turns" ∷ number ∷ [])
 
+abbrev pub memory_for : Text → Text → Option Request
+memory_for word number = request_of (codes "plan" ∷ word ∷ codes "--memory" ∷ number ∷ [])
+
 pub record RequestsAreRead : Type 0 where
-  pub check : asked (codes "check") ≡ Some Check
+  pub check : asked (codes "check") ≡ Some (Check 1000000)
   pub replay : asked (codes "replay") ≡ Some Replay
-  pub explore : asked (codes "explore") ≡ Some Explore
+  pub explore : asked (codes "explore") ≡ Some (Explore 1000000)
   pub header : asked (codes "header") ≡ Some Header
   pub draw : asked (codes "draw") ≡ Some Draw
   pub python : asked_with (codes "header") (codes "--python") ≡ Some Module
-  pub page : asked_with (codes "explore") (codes "--page") ≡ Some Page
+  pub page : asked_with (codes "explore") (codes "--page") ≡ Some (Page 1000000)
   pub help : asked (codes "--help") ≡ Some Help
   pub help_short : asked (codes "-h") ≡ Some Help
   pub version : asked (codes "--version") ≡ Some Version
@@ -87,6 +90,22 @@ pub record RequestsAreRead : Type 0 where
   pub page_alone : asked (codes "--page") ≡ None
   pub page_first : asked_with (codes "--page") (codes "explore") ≡ None
   pub page_twice : request_of (codes "plan" ∷ codes "explore" ∷ codes "--page" ∷ codes "--page" ∷ []) ≡ None
+  -- of memory there are 1 to 1,000,000 megabytes, with room for 2,000 situations each
+  pub memory_of_explore : memory_for (codes "explore") (codes "64") ≡ Some (Explore 128000)
+  pub memory_of_check : memory_for (codes "check") (codes "1") ≡ Some (Check 2000)
+  pub memory_of_page
+      : request_of (codes "plan" ∷ codes "explore" ∷ codes "--memory" ∷ codes "500" ∷ codes "--page" ∷ [])
+      ≡ Some (Page 1000000)
+  pub most_memory : memory_for (codes "explore") (codes "1000000") ≡ Some (Explore 2000000000)
+  pub more_memory : memory_for (codes "explore") (codes "1000001") ≡ None
+  pub no_memory : memory_for (codes "check") (codes "0") ≡ None
+  pub memory_of_run : memory_for (codes "run") (codes "64") ≡ None
+  pub memory_of_replay : memory_for (codes "replay") (codes "64") ≡ None
+  pub memory_alone : asked_with (codes "explore") (codes "--memory") ≡ None
+  pub turns_of_explore
+      : request_of (codes "plan" ∷ codes "explore" ∷ codes "--turns" ∷ codes "5" ∷ []) ≡ None
+  pub page_of_check_with_memory
+      : request_of (codes "plan" ∷ codes "check" ∷ codes "--memory" ∷ codes "5" ∷ codes "--page" ∷ []) ≡ None
   -- a run has its number of turns, from 1 to 1,000,000
   pub run_once : run_with (codes "1") ≡ Some (Run 1)
   pub run_most : run_with (codes "1000000") ≡ Some (Run 1000000)

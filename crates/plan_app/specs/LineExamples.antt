@@ -1,5 +1,5 @@
 -- Lines of reports, whole: of a lift between two floors, and of two gates.
-use Rattle.std.specs.Prelude.{◌≡◌, Bool, true, false, List, [], ◌∷◌, ◌++◌, codes, Option, IsTrue}
+use Rattle.std.specs.Prelude.{◌≡◌, ℕ, Bool, true, false, List, [], ◌∷◌, ◌++◌, codes, Option, IsTrue}
 use Rattle.plan_types.specs.Examples.{lift_table}
 use Rattle.plan_word.specs.Layout.{counts_of}
 use Rattle.plan_word.specs.declared.layout.Field.TheVariants.{Stamp, Stop}
@@ -57,7 +57,7 @@ pub record RowsAreTold : Type 0 where
   pub complete : rows_line true ≡ codes "rows: each call that is done has its row\n"
   pub unknown : rows_line false
       ≡ codes "rows: some calls that are done may have none, and are answered more slowly\n"
-  pub meant : (plan : ProgrammedPlan) (start : Option State) (kept : Bool) (text : Text)
-      → TellsReport plan start kept text → (every : Bool) × (IsTrue every → HasEveryRow plan.named.plan)
+  pub meant : (most : ℕ) (plan : ProgrammedPlan) (start : Option State) (kept : Bool) (text : Text)
+      → TellsReport most plan start kept text → (every : Bool) × (IsTrue every → HasEveryRow plan.named.plan)
       × (drives : List (Option Undriven)) × (findings : List Finding)
       × (text ≡ whole_report plan start every drives findings)

@@ -177,11 +177,11 @@ pub record IsLongPage (plan : ProgrammedPlan) (opening : State) : Type 0 where
 
 -- what is printed: the page; or that nothing stands still and no machine starves, or that there are more situations than
 -- are explored, as without a page; or nothing
-abbrev pub IsPage : ProgrammedPlan → State → Page → Type 0
-IsPage plan opening (Free text) = TellsFree plan.named plan.programs opening (string_bytes text)
-IsPage plan opening (Found text) = TellsPage plan opening (string_bytes text)
-IsPage plan opening Long = IsLongPage plan opening
-IsPage plan opening (Large words) = TellsUnfinished plan.named plan.programs opening (string_bytes words)
+abbrev pub IsPage : ℕ → ProgrammedPlan → State → Page → Type 0
+IsPage most plan opening (Free text) = TellsFree plan.named plan.programs opening (string_bytes text)
+IsPage most plan opening (Found text) = TellsPage plan opening (string_bytes text)
+IsPage most plan opening Long = IsLongPage plan opening
+IsPage most plan opening (Large words) = TellsUnfinished most plan.named plan.programs opening (string_bytes words)
 
 -- it is this text, without a page
 abbrev pub IsFreeText : Text → Page → Type 0

@@ -37,8 +37,8 @@ pub record PartsAreTold : Type 0 where
   pub head : part_head four pairs 0 4 ≡ codes "apart from all others: a, c\n"
   pub other : part_head four pairs 1 4 ≡ codes "apart from all others: b, d\n"
   pub alone : part_head four (0 ∷ 1 ∷ 2 ∷ 3 ∷ []) 2 4 ≡ codes "apart from all others: c\n"
-  pub large : large_part four pairs 1 4 12
-      ≡ codes "large: b, d: more than 1,000,000 situations; " ++ codes "nothing stands still in fewer than 12 turns"
+  pub large : large_part 1000000 four pairs 1 4 12
+      ≡ codes "large: b, d: more than 1000000 situations; " ++ codes "nothing stands still in fewer than 12 turns"
   -- they are told apart if two groups ask something
   pub two : some_are_apart pairs three_ask ≡ true
   pub one : some_are_apart pairs ((Give 0 ∷ []) ∷ [] ∷ (Take 0 ∷ []) ∷ [] ∷ []) ≡ false

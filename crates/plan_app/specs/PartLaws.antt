@@ -66,9 +66,9 @@ pub record StandAmongAll (t : PlanTable) (ps : PlanPrograms) (s : State) (ours :
 -- ---- more situations than are explored
 
 -- all come to more, too; and no turns of all that are fewer than these lead them to a standstill
-pub record IsUnfinishedAmongAll (t : PlanTable) (ps : PlanPrograms) (s : State) (ours : ℕ → Bool) (turns : ℕ)
+pub record IsUnfinishedAmongAll (most : ℕ) (t : PlanTable) (ps : PlanPrograms) (s : State) (ours : ℕ → Bool) (turns : ℕ)
     : Type 0 where
-  pub more : ComeToMore t ps s 1000000
+  pub more : ComeToMore t ps s most
   pub before : NeverStandStillBefore t ps s ours turns
 
 -- ---- what a part tells
@@ -95,9 +95,9 @@ pub record PartsSpeakOfAll (n : Named) (ps : PlanPrograms) (s : State) : Type 0 
   pub standstill : (groups : List ℕ) → AreGroups n.plan (group_in groups) → (first : ℕ) (text : Text)
       → TellsStandstill n (alone (group_of groups first) ps) s text
       → StandstillIsOfAll n ps s (group_of groups first) text
-  pub unfinished : (groups : List ℕ) → AreGroups n.plan (group_in groups) → (first turns : ℕ)
-      → IsUnfinished n (alone (group_of groups first) ps) s turns
-      → IsUnfinishedAmongAll n.plan ps s (group_of groups first) turns
+  pub unfinished : (most : ℕ) (groups : List ℕ) → AreGroups n.plan (group_in groups) → (first turns : ℕ)
+      → IsUnfinished most n (alone (group_of groups first) ps) s turns
+      → IsUnfinishedAmongAll most n.plan ps s (group_of groups first) turns
   -- each group has its part, and all is well only if it is in each
   pub parts : (groups : List ℕ) (count : ℕ) (well : Bool) (text : Text) → TellsParts n ps s groups count well text
       → (first : ℕ) → first < count → is_first groups first ≡ true

@@ -18,7 +18,7 @@ use Rattle.plan_text.specs.Named.{Named}
 use Rattle.plan_app.specs.Going.{going_text, line_of, way_text}
 use Rattle.plan_app.specs.Starving.{any_starves}
 use Rattle.plan_app.specs.Words.{counted}
-use Rattle.plan_app.specs.declared.explore.TheConstants.{FREE, SHORTEST, STANDSTILL, UNFINISHED}
+use Rattle.plan_app.specs.declared.explore.TheConstants.{FREE, MORE, SHORTEST, STANDSTILL, UNFINISHED}
 use Rattle.plan_app.specs.declared.explore.Screen.{Screen}
 use Rattle.plan_app.specs.declared.explore.Screen.TheVariants.{Free, Starving, Standstill, Unfinished}
 
@@ -104,31 +104,33 @@ TellsStarving n ps opening text = TellsGoing n ps opening true text
 
 -- ---- more situations than are explored
 
--- turns lead to more situations, and no turns that are fewer than these to a standstill
-pub record IsUnfinished (n : Named) (ps : PlanPrograms) (opening : State) (turns : ℕ) : Type 0 where
-  pub more : ComeToMore n.plan ps opening 1000000
+-- turns lead to more situations than `most`, and no turns that are fewer than these to a standstill
+pub record IsUnfinished (most : ℕ) (n : Named) (ps : PlanPrograms) (opening : State) (turns : ℕ) : Type 0 where
+  pub more : ComeToMore n.plan ps opening most
   pub before : NoneStandsStillBefore n.plan ps opening turns
 
-abbrev pub unfinished_words : ℕ → Text
-unfinished_words turns = UNFINISHED.now ++ counted turns (codes "turn")
+abbrev pub unfinished_words : ℕ → ℕ → Text
+unfinished_words most turns =
+    MORE.now ++ (counted most (codes "situation") ++ (UNFINISHED.now ++ counted turns (codes "turn")))
 
 -- what is said of all machines together
-abbrev pub large_words : ℕ → Text
-large_words turns = codes "large: " ++ unfinished_words turns
+abbrev pub large_words : ℕ → ℕ → Text
+large_words most turns = codes "large: " ++ unfinished_words most turns
 
-abbrev pub TellsUnfinished : Named → PlanPrograms → State → Text → Type 0
-TellsUnfinished n ps opening words = (turns : ℕ) × IsUnfinished n ps opening turns × (words ≡ large_words turns)
+abbrev pub TellsUnfinished : ℕ → Named → PlanPrograms → State → Text → Type 0
+TellsUnfinished most n ps opening words =
+    (turns : ℕ) × IsUnfinished most n ps opening turns × (words ≡ large_words most turns)
 
 -- ---- what is printed is what was found
 
-abbrev pub IsScreenBy : Named → PlanPrograms → State → ByAnswers Bool → ByAnswers Text → Screen → Type 0
-IsScreenBy n ps opening starves going (Free text) = TellsGoingBy n ps opening starves going false (string_bytes text)
-IsScreenBy n ps opening starves going (Starving text) = TellsGoingBy n ps opening starves going true (string_bytes text)
-IsScreenBy n ps opening starves going (Standstill text) = TellsStandstill n ps opening (string_bytes text)
-IsScreenBy n ps opening starves going (Unfinished turns) = IsUnfinished n ps opening turns
+abbrev pub IsScreenBy : ℕ → Named → PlanPrograms → State → ByAnswers Bool → ByAnswers Text → Screen → Type 0
+IsScreenBy most n ps opening starves going (Free text) = TellsGoingBy n ps opening starves going false (string_bytes text)
+IsScreenBy most n ps opening starves going (Starving text) = TellsGoingBy n ps opening starves going true (string_bytes text)
+IsScreenBy most n ps opening starves going (Standstill text) = TellsStandstill n ps opening (string_bytes text)
+IsScreenBy most n ps opening starves going (Unfinished turns) = IsUnfinished most n ps opening turns
 
-abbrev pub IsScreen : Named → PlanPrograms → State → Screen → Type 0
-IsScreen n ps opening screen = IsScreenBy n ps opening (any_starves n) (going_text n ps opening) screen
+abbrev pub IsScreen : ℕ → Named → PlanPrograms → State → Screen → Type 0
+IsScreen most n ps opening screen = IsScreenBy most n ps opening (any_starves n) (going_text n ps opening) screen
 
 -- whether all is well by a text: nothing stands still, and none starves
 abbrev pub TellsScreenBy : Named → PlanPrograms → State → ByAnswers Bool → ByAnswers Text → Bool → Text → Type 0

@@ -48,9 +48,9 @@ FindsFree plan script old new =
 
 -- a report, with turns from the script's start if it has one, by which the motors of each hazard are kept apart, was
 -- written, and nothing else
-abbrev pub WritesReport : ProgrammedPlan → List ℕ → Option (List ℕ) → Option (List ℕ) → Type 0
-WritesReport plan script old new =
-    (text : List ℕ) × TellsReport plan (start_if (script_start plan.named script)) true text × Appends old new text
+abbrev pub WritesReport : ℕ → ProgrammedPlan → List ℕ → Option (List ℕ) → Option (List ℕ) → Type 0
+WritesReport most plan script old new =
+    (text : List ℕ) × TellsReport most plan (start_if (script_start plan.named script)) true text × Appends old new text
 
 -- a picture of the plan was written, and nothing else
 abbrev pub WritesPicture : ProgrammedPlan → Option (List ℕ) → Option (List ℕ) → Type 0
@@ -93,9 +93,9 @@ ExploresIn bytes old new =
     (plan : ProgrammedPlan) × IsPlanIn (document_in bytes) plan × Explores plan (script_in bytes) old new
 
 -- its report was written, by which the motors of each hazard are kept apart, and nothing else
-abbrev pub ReportsIn : List ℕ → Option (List ℕ) → Option (List ℕ) → Type 0
-ReportsIn bytes old new =
-    (plan : ProgrammedPlan) × IsPlanIn (document_in bytes) plan × WritesReport plan (script_in bytes) old new
+abbrev pub ReportsIn : ℕ → List ℕ → Option (List ℕ) → Option (List ℕ) → Type 0
+ReportsIn most bytes old new =
+    (plan : ProgrammedPlan) × IsPlanIn (document_in bytes) plan × WritesReport most plan (script_in bytes) old new
 
 -- or its header
 abbrev pub WritesHeaderIn : List ℕ → Option (List ℕ) → Option (List ℕ) → Type 0
@@ -135,8 +135,8 @@ FindsInputFree input old new = IfSome input (λ bytes. FindsFreeIn bytes old new
 abbrev pub ExploresInput : Option (List ℕ) → Option (List ℕ) → Option (List ℕ) → Type 0
 ExploresInput input old new = IfSome input (λ bytes. ExploresIn bytes old new)
 
-abbrev pub Reports : Option (List ℕ) → Option (List ℕ) → Option (List ℕ) → Type 0
-Reports input old new = IfSome input (λ bytes. ReportsIn bytes old new)
+abbrev pub Reports : ℕ → Option (List ℕ) → Option (List ℕ) → Option (List ℕ) → Type 0
+Reports most input old new = IfSome input (λ bytes. ReportsIn most bytes old new)
 
 abbrev pub WritesHeader : Option (List ℕ) → Option (List ℕ) → Option (List ℕ) → Type 0
 WritesHeader input old new = IfSome input (λ bytes. WritesHeaderIn bytes old new)

@@ -11,8 +11,8 @@ ghost use Rattle.plan_app.specs.Screens as screens;
 
 use crate::acting::Acting;
 use crate::explore::{
-    MAX_SITUATIONS, Screen, large_words, machines_of, plates_of, push_situations, push_unfinished,
-    screen_of, standstill_screen,
+    Screen, large_words, machines_of, plates_of, push_situations, push_unfinished, screen_of,
+    standstill_screen,
 };
 use crate::going::{FAIRNESS, push_machine, push_plates};
 use crate::starving::{may_starve, plates_may_rest};
@@ -37,13 +37,15 @@ pub enum Exploration {
 }
 
 /// What `plan explore` prints of a plan and its programs, which begin at an opening: of each group apart, if at least
-/// two of them have programs, else of all machines together. An error says that memory ran out.
+/// two of them have programs, else of all machines together; where at most so many situations are explored. An error
+/// says that memory ran out.
 pub fn exploration_of(
     alloc: Global,
     plan: &ProgrammedPlan,
     opening: &State,
+    most: usize,
 ) -> Result<Exploration, AllocError>
-    ensures { IfOk result (spec.IsExploration plan.now.named plan.now.programs opening.now) }
+    ensures { IfOk result (spec.IsExploration most plan.now.named plan.now.programs opening.now) }
 {
     let acting = Acting {
         named: &plan.named,
@@ -51,9 +53,9 @@ pub fn exploration_of(
     };
     let groups = groups_of(plan.named.plan());
     if some_are_apart(&groups, &plan.programs) {
-        parts_of(alloc, &acting, opening, &groups)
+        parts_of(alloc, &acting, opening, &groups, most)
     } else {
-        all_of(alloc, &acting, opening)
+        all_of(alloc, &acting, opening, most)
     }
 }
 
@@ -141,15 +143,20 @@ fn some_are_apart(groups: &Groups, programs: &Programs) -> bool
 // ---- all machines together
 
 /// What is printed of all machines together.
-fn all_of(alloc: Global, plan: &Acting, opening: &State) -> Result<Exploration, AllocError>
-    ensures { IfOk result (λ found. (groups : List ℕ) → spec.IsExplorationBy false
+fn all_of(
+    alloc: Global,
+    plan: &Acting,
+    opening: &State,
+    most: usize,
+) -> Result<Exploration, AllocError>
+    ensures { IfOk result (λ found. (groups : List ℕ) → spec.IsExplorationBy most false
         plan.now.named.now plan.now.programs.now opening.now groups found) }
 {
-    match screen_of(alloc, plan, opening)? {
+    match screen_of(alloc, plan, opening, most)? {
         Screen::Free(text) => Ok(Exploration::Well(text)),
         Screen::Starving(text) => Ok(Exploration::Unwell(text)),
         Screen::Standstill(text) => Ok(Exploration::Unwell(text)),
-        Screen::Unfinished(turns) => Ok(Exploration::Large(large_words(alloc, turns)?)),
+        Screen::Unfinished(turns) => Ok(Exploration::Large(large_words(alloc, most, turns)?)),
     }
 }
 
@@ -161,20 +168,21 @@ fn parts_of(
     plan: &Acting,
     opening: &State,
     groups: &Groups,
+    most: usize,
 ) -> Result<Exploration, AllocError>
     ensures { IfOk result
-        (spec.IsExplorationBy true plan.now.named.now plan.now.programs.now opening.now
+        (spec.IsExplorationBy most true plan.now.named.now plan.now.programs.now opening.now
         groups.now) }
 {
     let mut text = String::new(alloc);
     let mut well = true;
     'machines: for machine in 0..plan.programs.count() {
         if is_first(groups, machine) {
-            match push_part(&mut text, alloc, plan, opening, groups, machine)? {
+            match push_part(&mut text, alloc, plan, opening, groups, machine, most)? {
                 Ok(part) => {
                     well = both(well, part);
                 }
-                Err(turns) => return large_part(alloc, plan, groups, machine, turns),
+                Err(turns) => return large_part(alloc, plan, groups, machine, most, turns),
             }
         }
     }
@@ -198,16 +206,17 @@ fn large_part(
     plan: &Acting,
     groups: &Groups,
     first: u8,
+    most: usize,
     turns: usize,
 ) -> Result<Exploration, AllocError>
     requires { first < 15 }
-    ensures { IfOk result (spec.IsLargePart plan.now.named.now groups.now first
+    ensures { IfOk result (spec.IsLargePart most plan.now.named.now groups.now first
         (length plan.now.programs.now) turns) }
 {
     let mut words = String::from_str(alloc, "large: ")?;
     push_names(&mut words, plan, groups, first)?;
     words.push_str(": ")?;
-    push_unfinished(&mut words, turns)?;
+    push_unfinished(&mut words, most, turns)?;
     Ok(Exploration::Large(words))
 }
 
@@ -220,15 +229,17 @@ fn push_part(
     opening: &State,
     groups: &Groups,
     first: u8,
+    most: usize,
 ) -> Result<Result<bool, usize>, AllocError>
     requires { first < 15 }
     ensures told { IfOk result (λ found. IfOk found (λ well. spec.AddsPart plan.now.named.now
         plan.now.programs.now opening.now groups.now first well
         (string_bytes text.old) (string_bytes text.new))) }
-    ensures large { IfOk result (λ found. IfErr found (screens.IsUnfinished plan.now.named.now
+    ensures large { IfOk result (λ found. IfErr found (screens.IsUnfinished most
+        plan.now.named.now
         (alone (spec.group_of groups.now first) plan.now.programs.now) opening.now)) }
 {
-    match part_of(alloc, plan, opening, groups, first)? {
+    match part_of(alloc, plan, opening, groups, first, most)? {
         Ok((well, found)) => {
             push_head(text, plan, groups, first)?;
             text.push_str(found.as_str())?;
@@ -246,9 +257,10 @@ fn part_of(
     opening: &State,
     groups: &Groups,
     first: u8,
+    most: usize,
 ) -> Result<Result<(bool, String), usize>, AllocError>
     requires { first < 15 }
-    ensures { IfOk result (spec.IsPart plan.now.named.now
+    ensures { IfOk result (spec.IsPart most plan.now.named.now
         (alone (spec.group_of groups.now first) plan.now.programs.now) opening.now
         (spec.group_of groups.now first)) }
 {
@@ -258,7 +270,7 @@ fn part_of(
         named: plan.named,
         programs: &programs,
     };
-    told_alone(alloc, &part, opening, groups, first)
+    told_alone(alloc, &part, opening, groups, first, most)
 }
 
 /// The same by the programs of the group alone.
@@ -268,12 +280,13 @@ fn told_alone(
     opening: &State,
     groups: &Groups,
     first: u8,
+    most: usize,
 ) -> Result<Result<(bool, String), usize>, AllocError>
     requires { first < 15 }
-    ensures { IfOk result (spec.IsPart plan.now.named.now plan.now.programs.now opening.now
+    ensures { IfOk result (spec.IsPart most plan.now.named.now plan.now.programs.now opening.now
         (spec.group_of groups.now first)) }
 {
-    let screen = part_screen(alloc, plan, opening, groups, first)?;
+    let screen = part_screen(alloc, plan, opening, groups, first, most)?;
     Ok(told_by(screen))
 }
 
@@ -363,13 +376,14 @@ fn part_screen(
     opening: &State,
     groups: &Groups,
     first: u8,
+    most: usize,
 ) -> Result<Screen, AllocError>
     requires { first < 15 }
-    ensures { IfOk result (spec.IsPartScreen plan.now.named.now plan.now.programs.now opening.now
+    ensures { IfOk result (spec.IsPartScreen most plan.now.named.now plan.now.programs.now opening.now
         (spec.group_of groups.now first)) }
 {
     let named = plan.named.plan();
-    match explore(alloc, named, opening, plan.programs, MAX_SITUATIONS)? {
+    match explore(alloc, named, opening, plan.programs, most)? {
         Explored::Free(situations) => part_free(alloc, plan, opening, groups, first, situations),
         Explored::Standstill(turns) => standstill_screen(alloc, plan, opening, turns.as_slice()),
         Explored::Unfinished(turns) => Ok(Screen::Unfinished(turns)),

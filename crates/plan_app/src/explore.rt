@@ -23,17 +23,17 @@ use std::alloc::{AllocError, Global};
 /// What is said where nothing stands still.
 const FREE: &str = "no standstill in any order of turns before the last stamp: ";
 
-/// The most situations that are explored.
-pub(crate) const MAX_SITUATIONS: usize = 1_000_000;
-
 /// What is said of a standstill, before the number of turns that lead to it.
 const STANDSTILL: &str = "a standstill after ";
 
 /// What is said after it.
 const SHORTEST: &str = ", and no fewer\n";
 
-/// What is said past the limit, before the number of turns.
-const UNFINISHED: &str = "more than 1,000,000 situations; nothing stands still in fewer than ";
+/// What is said past the limit, before the number of situations.
+const MORE: &str = "more than ";
+
+/// What is said after it, before the number of turns.
+const UNFINISHED: &str = "; nothing stands still in fewer than ";
 
 /// What `plan explore` prints.
 #[derive(Drop)]
@@ -48,13 +48,19 @@ pub enum Screen {
     Unfinished(usize),
 }
 
-/// What `plan explore` prints of a plan and its programs, which begin at an opening. An error says that memory ran out.
-pub fn screen_of(alloc: Global, plan: &Acting, opening: &State) -> Result<Screen, AllocError>
+/// What `plan explore` prints of a plan and its programs, which begin at an opening, where at most so many situations
+/// are explored. An error says that memory ran out.
+pub fn screen_of(
+    alloc: Global,
+    plan: &Acting,
+    opening: &State,
+    most: usize,
+) -> Result<Screen, AllocError>
     ensures { IfOk result
-        (λ screen. spec.IsScreen plan.now.named.now plan.now.programs.now opening.now screen) }
+        (λ screen. spec.IsScreen most plan.now.named.now plan.now.programs.now opening.now screen) }
 {
     let named = plan.named.plan();
-    match explore(alloc, named, opening, plan.programs, MAX_SITUATIONS)? {
+    match explore(alloc, named, opening, plan.programs, most)? {
         Explored::Free(situations) => free_screen(alloc, plan, opening, situations),
         Explored::Standstill(turns) => standstill_screen(alloc, plan, opening, turns.as_slice()),
         Explored::Unfinished(turns) => Ok(Screen::Unfinished(turns)),
@@ -272,19 +278,25 @@ fn push_turns(
 }
 
 /// The words of the fault of more situations than are explored.
-pub(crate) fn large_words(alloc: Global, turns: usize) -> Result<String, AllocError>
-    ensures { IfOk result (λ words. string_bytes words ≡ spec.large_words turns) }
+pub(crate) fn large_words(alloc: Global, most: usize, turns: usize) -> Result<String, AllocError>
+    ensures { IfOk result (λ words. string_bytes words ≡ spec.large_words most turns) }
 {
     let mut words = String::from_str(alloc, "large: ")?;
-    push_unfinished(&mut words, turns)?;
+    push_unfinished(&mut words, most, turns)?;
     Ok(words)
 }
 
 /// Adds that there are more situations than are explored, and how far the exploration came.
-pub(crate) fn push_unfinished(text: &mut String, turns: usize) -> Result<(), AllocError>
+pub(crate) fn push_unfinished(
+    text: &mut String,
+    most: usize,
+    turns: usize,
+) -> Result<(), AllocError>
     ensures { OnOk result (string_bytes text.new
-        ≡ string_bytes text.old ++ spec.unfinished_words turns) }
+        ≡ string_bytes text.old ++ spec.unfinished_words most turns) }
 {
+    text.push_str(MORE)?;
+    push_counted(text, most, "situation")?;
     text.push_str(UNFINISHED)?;
     push_counted(text, turns, "turn")
 }

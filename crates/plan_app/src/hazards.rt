@@ -35,7 +35,7 @@ const LED: &str = "NOT kept apart: ";
 const UNLED: &str = "; none of the programs leads there from ";
 
 /// What stands after the number of turns: why no more were sought.
-const LARGE: &str = ": more than 1,000,000 situations\n";
+const LARGE: &str = ": more than ";
 
 /// What is shown of a hazard.
 #[derive(Drop)]
@@ -62,12 +62,13 @@ pub fn report_of(
     alloc: Global,
     plan: &ProgrammedPlan,
     start: Option<State>,
+    most: usize,
 ) -> Result<Report, AllocError>
-    ensures { IfOk result (spec.IsReport plan.now start) }
+    ensures { IfOk result (spec.IsReport most plan.now start) }
 {
     let every = has_every_row(plan.named.plan())?;
     let drives = drives_of(alloc, plan)?;
-    let findings = findings_of(alloc, plan, start)?;
+    let findings = findings_of(alloc, plan, start, most)?;
     report_by(
         alloc,
         plan,
@@ -75,6 +76,7 @@ pub fn report_of(
         every,
         drives.as_slice(),
         findings.as_slice(),
+        most,
     )
 }
 
@@ -86,11 +88,12 @@ fn report_by(
     every: bool,
     drives: &[Option<Undriven>],
     findings: &[Finding],
+    _most: usize,
 ) -> Result<Report, AllocError>
     requires rows { IsTrue every → HasEveryRow plan.now.named.plan }
     requires drives { AreDrives plan.now drives.now }
-    requires findings { spec.AreFindings plan.now start findings.now }
-    ensures { IfOk result (spec.IsReport plan.now start) }
+    requires findings { spec.AreFindings _most plan.now start findings.now }
+    ensures { IfOk result (spec.IsReport _most plan.now start) }
 {
     let text = report_with(alloc, plan, start, every, drives, findings)?;
     if are_kept(findings) && are_driven(drives) {
@@ -107,13 +110,14 @@ fn findings_of(
     alloc: Global,
     plan: &ProgrammedPlan,
     start: Option<State>,
+    most: usize,
 ) -> Result<Vec<Finding>, AllocError>
-    ensures { IfOk result (λ findings. spec.AreFindings plan.now start findings.items) }
+    ensures { IfOk result (λ findings. spec.AreFindings most plan.now start findings.items) }
 {
     let mut findings = Vec::new(alloc);
     for i in 0..plan.motors.hazards.len() {
         let hazard = hazard_at(&plan.motors.hazards, i);
-        let finding = finding_of(alloc, plan, start, hazard)?;
+        let finding = finding_of(alloc, plan, start, hazard, most)?;
         findings.push(finding)?;
     }
     Ok(findings)
@@ -125,11 +129,12 @@ fn finding_of(
     plan: &ProgrammedPlan,
     start: Option<State>,
     hazard: Hazard,
+    most: usize,
 ) -> Result<Finding, AllocError>
-    ensures { IfOk result (spec.IsFindingOf plan.now start hazard) }
+    ensures { IfOk result (spec.IsFindingOf most plan.now start hazard) }
 {
     let verdict = verdict_of(plan, hazard);
-    let lead = hazard_lead(alloc, plan, start, verdict, hazard)?;
+    let lead = hazard_lead(alloc, plan, start, verdict, hazard, most)?;
     Ok(Finding { verdict, lead })
 }
 
@@ -140,8 +145,9 @@ fn hazard_lead(
     start: Option<State>,
     verdict: Verdict,
     hazard: Hazard,
+    most: usize,
 ) -> Result<Lead, AllocError>
-    ensures { IfOk result (spec.IsHazardLead plan.now start hazard verdict) }
+    ensures { IfOk result (spec.IsHazardLead most plan.now start hazard verdict) }
 {
     let opening = opening_by(start, &verdict);
     let first = motor_at(&plan.motors.motors, hazard.first);
@@ -154,6 +160,7 @@ fn hazard_lead(
         &verdict,
         &first,
         &second,
+        most,
     )
 }
 
@@ -308,7 +315,9 @@ fn push_lead(
         Lead::Unsought => push_unsought(text, &plan.named, verdict),
         Lead::Never => push_unled(text, &plan.named, opening, verdict),
         Lead::Turns(turns) => push_led(text, plan, opening, turns.as_slice()),
-        Lead::Unfinished(turns) => push_large(text, &plan.named, opening, verdict, *turns),
+        Lead::Unfinished { limit, turns } => {
+            push_large(text, &plan.named, opening, verdict, *limit, *turns)
+        }
     }
 }
 
@@ -344,17 +353,27 @@ fn push_large(
     named: &NamedPlan,
     opening: &State,
     verdict: Verdict,
+    limit: usize,
     turns: usize,
 ) -> Result<(), AllocError>
     ensures { OnOk result (string_bytes text.new ≡ string_bytes text.old
-        ++ spec.large_line named.now opening.now verdict turns) }
+        ++ spec.large_line named.now opening.now verdict limit turns) }
 {
     push_shown(text, named, verdict)?;
     text.push_str(UNLED)?;
     push_start(text, named, opening)?;
     text.push_str(" in fewer than ")?;
     push_counted(text, turns, "turn")?;
-    text.push_str(LARGE)
+    push_limit(text, limit)
+}
+
+/// Adds that there are more situations than are explored.
+fn push_limit(text: &mut String, limit: usize) -> Result<(), AllocError>
+    ensures { OnOk result (string_bytes text.new ≡ string_bytes text.old ++ spec.limit_words limit) }
+{
+    text.push_str(LARGE)?;
+    push_counted(text, limit, "situation")?;
+    text.push_str("\n")
 }
 
 /// Adds the turns that lead from an opening to a state that permits both; or that the opening does, if there are none.

@@ -13,7 +13,7 @@ ghost use Rattle.plan_app.specs.Pages as spec;
 ghost use Rattle.plan_app.specs.Screens as screens;
 
 use crate::acting::Acting;
-use crate::explore::{MAX_SITUATIONS, large_words, machines_of, plates_of, push_free};
+use crate::explore::{large_words, machines_of, plates_of, push_free};
 use crate::film::push_film;
 use crate::going::{event_of, outlook_of};
 use crate::page_data::push_data;
@@ -104,17 +104,22 @@ fn any_joins(plan: &Plan) -> bool
     any
 }
 
-/// What `plan explore --page` prints of a plan and its programs, which begin at an opening. An error says that memory
-/// ran out.
-pub fn page_of(alloc: Global, plan: &ProgrammedPlan, opening: &State) -> Result<Page, AllocError>
+/// What `plan explore --page` prints of a plan and its programs, which begin at an opening, where at most so many
+/// situations are explored. An error says that memory ran out.
+pub fn page_of(
+    alloc: Global,
+    plan: &ProgrammedPlan,
+    opening: &State,
+    most: usize,
+) -> Result<Page, AllocError>
     requires { IsStartOf plan.now.named opening.now }
-    ensures { IfOk result (λ page. spec.IsPage plan.now opening.now page) }
+    ensures { IfOk result (λ page. spec.IsPage most plan.now opening.now page) }
 {
     let named = plan.named.plan();
-    match explore(alloc, named, opening, &plan.programs, MAX_SITUATIONS)? {
+    match explore(alloc, named, opening, &plan.programs, most)? {
         Explored::Free(situations) => going_page(alloc, plan, opening, situations),
         Explored::Standstill(turns) => still_page(alloc, plan, opening, turns.as_slice()),
-        Explored::Unfinished(turns) => Ok(Page::Large(large_words(alloc, turns)?)),
+        Explored::Unfinished(turns) => Ok(Page::Large(large_words(alloc, most, turns)?)),
     }
 }
 
@@ -129,7 +134,7 @@ fn film_page(
     requires start { IsStartOf plan.now.named opening.now }
     requires shows { spec.Shows plan.now.named plan.now.programs opening.now
         (string_bytes film.now.note) film.now.events.items }
-    ensures { IfOk result (λ page. spec.IsPage plan.now opening.now page) }
+    ensures { (most : ℕ) → IfOk result (λ page. spec.IsPage most plan.now opening.now page) }
 {
     if film.events.len() > MAX_TURNS {
         return Ok(Page::Long);
@@ -162,7 +167,7 @@ fn still_page(
         turns.now }
     requires shortest { explored.AreShortest plan.now.named.plan plan.now.programs opening.now
         turns.now }
-    ensures { IfOk result (λ page. spec.IsPage plan.now opening.now page) }
+    ensures { (most : ℕ) → IfOk result (λ page. spec.IsPage most plan.now opening.now page) }
 {
     let film = Film {
         note: still_note(alloc, turns.len())?,
@@ -212,7 +217,7 @@ fn going_page(
     requires free { explored.NoneStandsStill plan.now.named.plan plan.now.programs opening.now }
     requires runs { NoRunStandsStill plan.now.named.plan plan.now.programs opening.now }
     requires come { explored.ComeTo plan.now.named.plan plan.now.programs opening.now situations }
-    ensures { IfOk result (λ page. spec.IsPage plan.now opening.now page) }
+    ensures { (most : ℕ) → IfOk result (λ page. spec.IsPage most plan.now opening.now page) }
 {
     let acting = Acting {
         named: &plan.named,

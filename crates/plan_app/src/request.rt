@@ -6,20 +6,31 @@ ghost use Rattle.plan_app.specs.Requests as requests;
 use csv_rows::read_number;
 use program_shell::{Asked, asked_of};
 
+/// How many situations are explored at most, unless it is said: what 500 megabytes hold.
+pub const USUAL_MOST: usize = 1_000_000;
+
+/// The most megabytes of an exploration.
+const MAX_MEGABYTES: u32 = 1_000_000;
+
+/// How many situations are explored for each megabyte. In 500 bytes there is room for one, by its charts of who goes on
+/// too; `plan check` and a search for standstills take a fifth of that.
+const FOR_MEGABYTE: usize = 2_000;
+
 /// The most turns of a run.
 pub const MAX_TURNS: u32 = 1_000_000;
 
 /// What the program does.
 #[derive(Clone, Copy, PartialEq, Eq, Debug)]
 pub enum Request {
-    /// Says what a plan is, and the layout of its word.
-    Check,
+    /// Says what a plan is, and the layout of its word; and of hazards what it finds among at most so many situations.
+    Check(usize),
     /// Answers a script by a plan.
     Replay,
-    /// Explores the machines' programs: for standstills, and whether each machine goes on for ever.
-    Explore,
-    /// Prints the page of what it explored: a standstill, or an order in which a machine starves.
-    Page,
+    /// Explores the machines' programs: for standstills, and whether each machine goes on for ever. At most so many
+    /// situations are explored.
+    Explore(usize),
+    /// Prints the page of what it explored so: a standstill, or an order in which a machine starves.
+    Page(usize),
     /// Prints a header for C.
     Header,
     /// Prints a module for Python.
@@ -58,17 +69,53 @@ fn request_with(words: &[&str]) -> Option<Request>
 {
     match words {
         [_, word, flag] => request_for(word, flag),
-        [_, word, flag, number] => request_of_turns(word, flag, number),
+        [_, word, flag, number] => request_of_number(word, flag, number),
         [_, word, flag, number, last] => request_of_page(word, flag, number, last),
         _ => None,
     }
 }
 
 /// What a word of this program alone asks for with a number after a flag.
-fn request_of_turns(word: &str, flag: &str, number: &str) -> Option<Request>
-    ensures { result ≡ requests.request_of_turns word.now flag.now number.now }
+fn request_of_number(word: &str, flag: &str, number: &str) -> Option<Request>
+    ensures { result ≡ requests.request_of_number word.now flag.now number.now }
 {
-    Some(Request::Run(turns_of_run(word, flag, number)?))
+    match word {
+        "check" => Some(Request::Check(most_after(flag, number)?)),
+        "explore" => Some(Request::Explore(most_after(flag, number)?)),
+        _ => Some(Request::Run(turns_of_run(word, flag, number)?)),
+    }
+}
+
+/// The same with `--page` after that.
+fn page_of_number(word: &str, flag: &str, number: &str) -> Option<Request>
+    ensures { result ≡ requests.page_of_number word.now flag.now number.now }
+{
+    match word {
+        "explore" => Some(Request::Page(most_after(flag, number)?)),
+        _ => Some(Request::RunPage(turns_of_run(word, flag, number)?)),
+    }
+}
+
+/// How many situations are explored at most, after its flag.
+fn most_after(flag: &str, number: &str) -> Option<usize>
+    ensures { result ≡ requests.most_after flag.now number.now }
+{
+    match flag {
+        "--memory" => situations_in(number),
+        _ => None,
+    }
+}
+
+/// How many situations the megabytes in a word hold.
+fn situations_in(number: &str) -> Option<usize>
+    ensures { result ≡ requests.situations_in number.now }
+{
+    let megabytes = read_number(number.as_bytes())?;
+    if 1 <= megabytes && megabytes <= MAX_MEGABYTES {
+        Some(megabytes as usize * FOR_MEGABYTE)
+    } else {
+        None
+    }
 }
 
 /// The same with another flag after that.
@@ -76,7 +123,7 @@ fn request_of_page(word: &str, flag: &str, number: &str, last: &str) -> Option<R
     ensures { result ≡ requests.request_of_page word.now flag.now number.now last.now }
 {
     match last {
-        "--page" => Some(Request::RunPage(turns_of_run(word, flag, number)?)),
+        "--page" => page_of_number(word, flag, number),
         _ => None,
     }
 }
@@ -105,7 +152,7 @@ fn request_for(word: &str, flag: &str) -> Option<Request>
 {
     match (word, flag) {
         ("header", "--python") => Some(Request::Module),
-        ("explore", "--page") => Some(Request::Page),
+        ("explore", "--page") => Some(Request::Page(USUAL_MOST)),
         _ => None,
     }
 }
@@ -115,9 +162,9 @@ fn request_by(word: &str) -> Option<Request>
     ensures { result ≡ requests.request_by word.now }
 {
     match word {
-        "check" => Some(Request::Check),
+        "check" => Some(Request::Check(USUAL_MOST)),
         "replay" => Some(Request::Replay),
-        "explore" => Some(Request::Explore),
+        "explore" => Some(Request::Explore(USUAL_MOST)),
         "header" => Some(Request::Header),
         "draw" => Some(Request::Draw),
         _ => None,

@@ -28,11 +28,10 @@ ghost use Rattle.plan_app.specs.Served.{WritesRunIn, WritesRunPage, WritesRunPag
 ghost use Rattle.plan_app.specs.Requests.{request_of};
 
 use crate::apart::{Exploration, exploration_of};
-use crate::explore::MAX_SITUATIONS;
 use crate::hazards::{Report, report_of};
 use crate::input::{MAX_BYTES, plan_length};
 use crate::request;
-use crate::request::{MAX_TURNS, Request};
+use crate::request::{MAX_TURNS, Request, USUAL_MOST};
 use crate::run::{RunFault, Told, run_and_tell};
 use crate::serve_page::{page_script, run_page_script};
 use plan_document::{PlanTextFault, ProgrammedPlan, plan_of};
@@ -70,8 +69,9 @@ Reads a plan of a plant, in TOML, from standard input.
                   history as a script, which plan replay answers as they were answered; with
                   --page after N a page on which that history is played
   plan --version  prints the version
-A script may follow the plan in each case. At most 1,000,000 situations are explored; more
-are fault large. Exit status: 0 on success, and for help; 2 for bad arguments; otherwise
+With --memory N after check or explore, and before --page, 2,000 situations are explored for each
+of N megabytes, 1 to 1000000; else 1,000,000. More are fault large. A script may follow the plan
+in each case. Exit status: 0 on success, and for help; 2 for bad arguments; otherwise
 1: a fault, motors that aren't kept apart, a standstill, an order in which a machine starves
 or plates rest, a machine stopped in a run, or a failed write.
 
@@ -80,7 +80,7 @@ Example:
 ";
 
 // The help names these numbers.
-const _: () = prove!(MAX_SITUATIONS == 1_000_000);
+const _: () = prove!(USUAL_MOST == 1_000_000);
 
 const _: () = prove!(MAX_TURNS == 1_000_000);
 
@@ -149,13 +149,13 @@ fn serve_input<T, R: Read, W: Write>(
 where
     T: Threads + Wait + Clock + Sync,
     ensures status { result ≢ Exit.Refused }
-    ensures reported { request ≡ Request.Check → result ≡ Exit.Well →
-        Reports (R.remaining reader.old) (W.contents writer.old) (W.contents writer.new) }
+    ensures reported { (most : ℕ) → request ≡ Request.Check most → result ≡ Exit.Well →
+        Reports most (R.remaining reader.old) (W.contents writer.old) (W.contents writer.new) }
     ensures answered { request ≡ Request.Replay → result ≡ Exit.Well →
         AnswersInput (R.remaining reader.old) (W.contents writer.old) (W.contents writer.new) }
-    ensures free { request ≡ Request.Explore → result ≡ Exit.Well →
+    ensures free { (most : ℕ) → request ≡ Request.Explore most → result ≡ Exit.Well →
         ExploresInput (R.remaining reader.old) (W.contents writer.old) (W.contents writer.new) }
-    ensures paged { request ≡ Request.Page → result ≡ Exit.Well →
+    ensures paged { (most : ℕ) → request ≡ Request.Page most → result ≡ Exit.Well →
         FindsInputFree (R.remaining reader.old) (W.contents writer.old) (W.contents writer.new) }
     ensures header { request ≡ Request.Header → result ≡ Exit.Well →
         WritesHeader (R.remaining reader.old) (W.contents writer.old) (W.contents writer.new) }
@@ -192,13 +192,13 @@ where
     ensures short { result ≡ Exit.Well → length bytes.now ≤ byte_limit }
     ensures long { byte_limit < length bytes.now →
         WroteFault (codes "long") (W.contents writer.old) (W.contents writer.new) }
-    ensures reported { request ≡ Request.Check → result ≡ Exit.Well →
-        ReportsIn bytes.now (W.contents writer.old) (W.contents writer.new) }
+    ensures reported { (most : ℕ) → request ≡ Request.Check most → result ≡ Exit.Well →
+        ReportsIn most bytes.now (W.contents writer.old) (W.contents writer.new) }
     ensures answered { request ≡ Request.Replay → result ≡ Exit.Well →
         AnswersIn bytes.now (W.contents writer.old) (W.contents writer.new) }
-    ensures free { request ≡ Request.Explore → result ≡ Exit.Well →
+    ensures free { (most : ℕ) → request ≡ Request.Explore most → result ≡ Exit.Well →
         ExploresIn bytes.now (W.contents writer.old) (W.contents writer.new) }
-    ensures paged { request ≡ Request.Page → result ≡ Exit.Well →
+    ensures paged { (most : ℕ) → request ≡ Request.Page most → result ≡ Exit.Well →
         FindsFreeIn bytes.now (W.contents writer.old) (W.contents writer.new) }
     ensures header { request ≡ Request.Header → result ≡ Exit.Well →
         WritesHeaderIn bytes.now (W.contents writer.old) (W.contents writer.new) }
@@ -235,13 +235,13 @@ fn serve_plan<T, W: Write>(
 where
     T: Threads + Wait + Clock + Sync,
     ensures status { result ≢ Exit.Refused }
-    ensures reported { request ≡ Request.Check → result ≡ Exit.Well →
-        WritesReport plan.now script.now (W.contents writer.old) (W.contents writer.new) }
+    ensures reported { (most : ℕ) → request ≡ Request.Check most → result ≡ Exit.Well →
+        WritesReport most plan.now script.now (W.contents writer.old) (W.contents writer.new) }
     ensures answered { request ≡ Request.Replay → result ≡ Exit.Well →
         AnswersScript plan.now.named script.now (W.contents writer.old) (W.contents writer.new) }
-    ensures free { request ≡ Request.Explore → result ≡ Exit.Well →
+    ensures free { (most : ℕ) → request ≡ Request.Explore most → result ≡ Exit.Well →
         Explores plan.now script.now (W.contents writer.old) (W.contents writer.new) }
-    ensures paged { request ≡ Request.Page → result ≡ Exit.Well →
+    ensures paged { (most : ℕ) → request ≡ Request.Page most → result ≡ Exit.Well →
         FindsFree plan.now script.now (W.contents writer.old) (W.contents writer.new) }
     ensures header { request ≡ Request.Header → result ≡ Exit.Well →
         Appends (W.contents writer.old) (W.contents writer.new) (header_text plan.now) }
@@ -263,11 +263,12 @@ where
         Request::Module => print_module(alloc, plan, writer),
         Request::Draw => print_picture(alloc, plan, writer),
         Request::Replay => replay_script(alloc, &plan.named, script, writer),
-        Request::Explore => explore_script(alloc, plan, script, writer),
-        Request::Page => page_script(alloc, plan, script, writer),
+        Request::Explore(most) => explore_script(alloc, plan, most, script, writer),
+        Request::Page(most) => page_script(alloc, plan, most, script, writer),
         Request::Run(turns) => run_script(rt, alloc, plan, turns, script, writer),
         Request::RunPage(turns) => run_page_script(rt, alloc, plan, turns, script, writer),
-        _ => report_script(alloc, plan, script, writer),
+        Request::Check(most) => report_script(alloc, plan, most, script, writer),
+        _ => report_script(alloc, plan, USUAL_MOST, script, writer),
     }
 }
 
@@ -275,18 +276,19 @@ where
 fn report_script<W: Write>(
     alloc: Global,
     plan: &ProgrammedPlan,
+    most: usize,
     script: &[u8],
     writer: &mut W,
 ) -> Exit
     ensures status { result ≢ Exit.Refused }
     ensures reported { result ≡ Exit.Well →
-        WritesReport plan.now script.now (W.contents writer.old) (W.contents writer.new) }
+        WritesReport most plan.now script.now (W.contents writer.old) (W.contents writer.new) }
     ensures failed { result ≡ Exit.Failed →
         WroteUnread (W.contents writer.old) (W.contents writer.new)
-        ⊎ WroteReport plan.now script.now (W.contents writer.old) (W.contents writer.new) }
+        ⊎ WroteReport most plan.now script.now (W.contents writer.old) (W.contents writer.new) }
 {
     match start_of_script(alloc, &plan.named, script) {
-        Ok(start) => print_report(alloc, plan, start_if(&start), writer),
+        Ok(start) => print_report(alloc, plan, most, start_if(&start), writer),
         Err(fault) => fail_to_read(writer, fault),
     }
 }
@@ -305,18 +307,19 @@ fn start_if(start: &Result<State, ScriptFault>) -> Option<State>
 fn print_report<W: Write>(
     alloc: Global,
     plan: &ProgrammedPlan,
+    most: usize,
     start: Option<State>,
     writer: &mut W,
 ) -> Exit
     ensures status { result ≢ Exit.Refused }
     ensures reported { result ≡ Exit.Well → (text : List ℕ)
-        × hazards.TellsReport plan.now start true text
+        × hazards.TellsReport most plan.now start true text
         × Appends (W.contents writer.old) (W.contents writer.new) text }
     ensures failed { result ≡ Exit.Failed →
         WroteUnread (W.contents writer.old) (W.contents writer.new)
-        ⊎ WroteReportFrom plan.now start (W.contents writer.old) (W.contents writer.new) }
+        ⊎ WroteReportFrom most plan.now start (W.contents writer.old) (W.contents writer.new) }
 {
-    match report_of(alloc, plan, start) {
+    match report_of(alloc, plan, start, most) {
         Ok(Report::Kept(text)) => print(writer, text.as_bytes()),
         Ok(Report::Unkept(text)) => print_warning(writer, text.as_str()),
         Err(AllocError) => fail(writer, "memory"),
@@ -383,6 +386,7 @@ fn replay_script<W: Write>(alloc: Global, named: &NamedPlan, script: &[u8], writ
 fn explore_script<W: Write>(
     alloc: Global,
     plan: &ProgrammedPlan,
+    most: usize,
     script: &[u8],
     writer: &mut W,
 ) -> Exit
@@ -391,10 +395,10 @@ fn explore_script<W: Write>(
         Explores plan.now script.now (W.contents writer.old) (W.contents writer.new) }
     ensures failed { result ≡ Exit.Failed →
         WroteUnread (W.contents writer.old) (W.contents writer.new)
-        ⊎ WroteEnd plan.now script.now (W.contents writer.old) (W.contents writer.new) }
+        ⊎ WroteEnd most plan.now script.now (W.contents writer.old) (W.contents writer.new) }
 {
     match start_of_script(alloc, &plan.named, script) {
-        Ok(Ok(opening)) => explore_from(alloc, plan, &opening, writer),
+        Ok(Ok(opening)) => explore_from(alloc, plan, most, &opening, writer),
         Ok(Err(fault)) => refuse_start(alloc, writer, fault),
         Err(fault) => fail_to_read(writer, fault),
     }
@@ -403,6 +407,7 @@ fn explore_script<W: Write>(
 fn explore_from<W: Write>(
     alloc: Global,
     plan: &ProgrammedPlan,
+    most: usize,
     opening: &State,
     writer: &mut W,
 ) -> Exit
@@ -412,9 +417,9 @@ fn explore_from<W: Write>(
         (W.contents writer.old) (W.contents writer.new) }
     ensures failed { result ≡ Exit.Failed →
         WroteUnread (W.contents writer.old) (W.contents writer.new)
-        ⊎ WroteEndFrom plan.now opening.now (W.contents writer.old) (W.contents writer.new) }
+        ⊎ WroteEndFrom most plan.now opening.now (W.contents writer.old) (W.contents writer.new) }
 {
-    match exploration_of(alloc, plan, opening) {
+    match exploration_of(alloc, plan, opening, most) {
         Ok(Exploration::Well(text)) => print(writer, text.as_bytes()),
         Ok(Exploration::Unwell(text)) => print_warning(writer, text.as_str()),
         Ok(Exploration::Large(words)) => fail(writer, words.as_str()),
@@ -532,18 +537,21 @@ where
     // With `explore`: status 0 says that no order of turns of this plan's programs leads from the script's start to a
     // standstill, that no machine starves and no plates rest by what explorations answer, and that this was written. If
     // at least two groups of machines that share nothing have programs, it says so of each group.
-    ensures explore { request_of (texts_of words.now) ≡ Some Request.Explore → result ≡ 0 →
+    ensures explore { (most : ℕ) → request_of (texts_of words.now) ≡ Some (Request.Explore most) →
+        result ≡ 0 →
         ExploresInput (R.remaining reader.old) (W.contents writer.old) (W.contents writer.new) }
 
     // With `explore --page`: status 0 says and writes the same of all machines together; there is no page then.
-    ensures page { request_of (texts_of words.now) ≡ Some Request.Page → result ≡ 0 →
+    ensures page { (most : ℕ) → request_of (texts_of words.now) ≡ Some (Request.Page most) →
+        result ≡ 0 →
         FindsInputFree (R.remaining reader.old) (W.contents writer.old) (W.contents writer.new) }
 
     // With `check`: status 0 says that this plan's report was written, and that the motors of each hazard are kept
     // apart. With `header`: that its header was written, or with `header --python` its module. With `draw`: its
     // picture.
-    ensures check { request_of (texts_of words.now) ≡ Some Request.Check → result ≡ 0 →
-        Reports (R.remaining reader.old) (W.contents writer.old) (W.contents writer.new) }
+    ensures check { (most : ℕ) → request_of (texts_of words.now) ≡ Some (Request.Check most) →
+        result ≡ 0 →
+        Reports most (R.remaining reader.old) (W.contents writer.old) (W.contents writer.new) }
     ensures header { request_of (texts_of words.now) ≡ Some Request.Header → result ≡ 0 →
         WritesHeader (R.remaining reader.old) (W.contents writer.old) (W.contents writer.new) }
     ensures python { request_of (texts_of words.now) ≡ Some Request.Module → result ≡ 0 →
@@ -573,20 +581,23 @@ where
 
     // With `explore`: a standstill, which turns from the script's start lead to, or that there is none, and what
     // explorations answer of machines and plates; of each group apart, if at least two have programs.
-    ensures explore_fails { request_of (texts_of words.now) ≡ Some Request.Explore → result ≡ 1 →
-        Fails Request.Explore (R.remaining reader.old)
+    ensures explore_fails { (most : ℕ) → request_of (texts_of words.now) ≡ Some (Request.Explore most) →
+        result ≡ 1 →
+        Fails (Request.Explore most) (R.remaining reader.old)
         (W.contents writer.old) (W.contents writer.new) }
 
     // With `explore --page`: the page of such a standstill, or of a fair order in which a machine starves or plates
     // rest; or that there is none; or that it has more turns than a page shows.
-    ensures page_fails { request_of (texts_of words.now) ≡ Some Request.Page → result ≡ 1 →
-        Fails Request.Page (R.remaining reader.old)
+    ensures page_fails { (most : ℕ) → request_of (texts_of words.now) ≡ Some (Request.Page most) →
+        result ≡ 1 →
+        Fails (Request.Page most) (R.remaining reader.old)
         (W.contents writer.old) (W.contents writer.new) }
 
     // With `check`: its report. With `header`: its header, or with `header --python` its module. With `draw`: its
     // picture.
-    ensures check_fails { request_of (texts_of words.now) ≡ Some Request.Check → result ≡ 1 →
-        Fails Request.Check (R.remaining reader.old)
+    ensures check_fails { (most : ℕ) → request_of (texts_of words.now) ≡ Some (Request.Check most) →
+        result ≡ 1 →
+        Fails (Request.Check most) (R.remaining reader.old)
         (W.contents writer.old) (W.contents writer.new) }
     ensures header_fails { request_of (texts_of words.now) ≡ Some Request.Header → result ≡ 1 →
         Fails Request.Header (R.remaining reader.old)

@@ -24,6 +24,7 @@ use std::time::Clock;
 pub(crate) fn page_script<W: Write>(
     alloc: Global,
     plan: &ProgrammedPlan,
+    most: usize,
     script: &[u8],
     writer: &mut W,
 ) -> Exit
@@ -32,11 +33,11 @@ pub(crate) fn page_script<W: Write>(
         FindsFree plan.now script.now (W.contents writer.old) (W.contents writer.new) }
     ensures failed { result ≡ Exit.Failed →
         WroteUnread (W.contents writer.old) (W.contents writer.new)
-        ⊎ WrotePage plan.now script.now (W.contents writer.old) (W.contents writer.new) }
+        ⊎ WrotePage most plan.now script.now (W.contents writer.old) (W.contents writer.new) }
 {
     histories_are_answered();
     match start_of_script(alloc, &plan.named, script) {
-        Ok(Ok(opening)) => page_from(alloc, plan, &opening, writer),
+        Ok(Ok(opening)) => page_from(alloc, plan, most, &opening, writer),
         Ok(Err(fault)) => refuse_start(alloc, writer, fault),
         Err(fault) => fail_to_read(writer, fault),
     }
@@ -45,6 +46,7 @@ pub(crate) fn page_script<W: Write>(
 fn page_from<W: Write>(
     alloc: Global,
     plan: &ProgrammedPlan,
+    most: usize,
     opening: &State,
     writer: &mut W,
 ) -> Exit
@@ -54,9 +56,9 @@ fn page_from<W: Write>(
         (W.contents writer.old) (W.contents writer.new) }
     ensures failed { result ≡ Exit.Failed →
         WroteUnread (W.contents writer.old) (W.contents writer.new)
-        ⊎ WrotePageFrom plan.now opening.now (W.contents writer.old) (W.contents writer.new) }
+        ⊎ WrotePageFrom most plan.now opening.now (W.contents writer.old) (W.contents writer.new) }
 {
-    match page_of(alloc, plan, opening) {
+    match page_of(alloc, plan, opening, most) {
         Ok(Page::Free(text)) => print(writer, text.as_bytes()),
         Ok(Page::Found(text)) => print_warning(writer, text.as_str()),
         Ok(Page::Long) => fail(writer, "long"),

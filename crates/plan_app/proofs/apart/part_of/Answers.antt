@@ -9,5 +9,5 @@ returns c =
     let ours = group_of groups c.args.first in
     let is = c.in_ok-programs.ensures
     ∙ ap (λ g. alone (in_group (group_in groups) g) c.args.plan.now.programs.now) c.group_number-group.ensures in
-    subst (λ qs. IfOk c.told_alone.result (λ told. IsPart c.args.plan.now.named.now qs c.args.opening.now ours told)) is
+    subst (λ qs. IfOk c.told_alone.result (λ told. IsPart c.args.most c.args.plan.now.named.now qs c.args.opening.now ours told)) is
     c.told_alone.ensures

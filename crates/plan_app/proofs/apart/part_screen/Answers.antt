@@ -11,7 +11,7 @@ returns-in-Free c =
     let ps = c.args.plan.now.programs.now in
     let opening = c.args.opening.now in
     let ours = group_of c.args.groups.now c.args.first in
-    free_is_found n ps opening (part_starves ours n ps) (part_text ours n ps opening) c.plan-named.result.now _
+    free_is_found c.args.most n ps opening (part_starves ours n ps) (part_text ours n ps opening) c.plan-named.result.now _
     c.in-Free.situations c.part_free.result c.plan-named.ensures c.in-Free.is e.free e.runs e.situations c.part_free.ensures
 
 pub returns-in-Standstill : goal.returns-in-Standstill
@@ -24,12 +24,12 @@ returns-in-Standstill c =
     let ours = group_of c.args.groups.now c.args.first in
     let lead = subst (λ f. IfStandstill f (LeadToStandstill t ps opening)) c.in-Standstill.is e.standstill in
     let shortest = subst (λ f. IfStandstill f (AreShortest t ps opening)) c.in-Standstill.is e.shortest in
-    standstill_is_found n ps opening (part_starves ours n ps) (part_text ours n ps opening) t c.in-Standstill.turns.items
+    standstill_is_found c.args.most n ps opening (part_starves ours n ps) (part_text ours n ps opening) t c.in-Standstill.turns.items
     c.as_slice.result.now c.standstill_screen.result c.plan-named.ensures c.as_slice.ensures.value lead shortest
     c.standstill_screen.ensures
 
 pub returns-in-Unfinished : goal.returns-in-Unfinished
 returns-in-Unfinished c =
     let e = c.in_ok-situations.ensures in
-    unfinished_is_found c.args.plan.now.named.now c.args.plan.now.programs.now c.args.opening.now c.plan-named.result.now _
+    unfinished_is_found c.args.most c.args.plan.now.named.now c.args.plan.now.programs.now c.args.opening.now c.plan-named.result.now _
     c.in-Unfinished.turns c.plan-named.ensures c.in-Unfinished.is e.more e.unfinished

@@ -36,7 +36,7 @@ returns-in-Err c =
     let s = c.args.opening.now in
     let groups = c.args.groups.now in
     let m = c.machines.machine in
-    let is : IsUnfinished n (alone (group_of groups m) ps) s c.in-Err.turns =
-    subst (λ found. IfErr found (IsUnfinished n (alone (group_of groups m) ps) s)) c.in-Err.is c.in_ok-part.ensures.large in
+    let is : IsUnfinished c.args.most n (alone (group_of groups m) ps) s c.in-Err.turns =
+    subst (λ found. IfErr found (IsUnfinished c.args.most n (alone (group_of groups m) ps) s)) c.in-Err.is c.in_ok-part.ensures.large in
     let few : m < length ps = let h = c.machines-test.true in let e = c.count-machine-end.ensures.count in omega arith in
-    large_is_told n ps s groups m c.in-Err.turns c.large_part.result few is c.large_part.ensures
+    large_is_told c.args.most n ps s groups m c.in-Err.turns c.large_part.result few is c.large_part.ensures

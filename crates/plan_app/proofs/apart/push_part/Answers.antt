@@ -12,7 +12,7 @@ returns-in_ok-push_str-in-Ok-clause-told c =
     let found = string_bytes c.in-Ok.found in
     let head = part_head n c.args.groups.now c.args.first (length c.args.plan.now.programs.now) in
     let said : TellsAlone n qs c.args.opening.now ours c.in-Ok.well found =
-    subst (IsPart n qs c.args.opening.now ours) c.in-Ok.is c.in_ok-well.ensures in (
+    subst (IsPart c.args.most n qs c.args.opening.now ours) c.in-Ok.is c.in_ok-well.ensures in (
       head ++ found,
       (found, said, refl),
       c.in_ok-push_str-in-Ok.ensures.bytes

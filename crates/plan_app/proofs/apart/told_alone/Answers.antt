@@ -9,5 +9,5 @@ returns c =
     let ps = c.args.plan.now.programs.now in
     let opening = c.args.opening.now in
     let ours = group_of c.args.groups.now c.args.first in
-    subst (IsPart n ps opening ours) (sym c.told_by.ensures)
-    (part_told n ps opening ours c.in_ok-screen.screen c.in_ok-screen.ensures)
+    subst (IsPart c.args.most n ps opening ours) (sym c.told_by.ensures)
+    (part_told c.args.most n ps opening ours c.in_ok-screen.screen c.in_ok-screen.ensures)

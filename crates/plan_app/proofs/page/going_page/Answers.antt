@@ -29,7 +29,7 @@ film_page-requires-clause-shows c =
     c.in_ok-film-in-Some.ensures.note c.in_ok-film-in-Some.ensures.events
 
 pub returns : goal.returns
-returns c =
+returns c = λ most.
     let n = c.args.plan.now.named in
     let ps = c.args.plan.now.programs in
     let opening = c.args.opening.now in
@@ -48,7 +48,7 @@ returns c =
     let none : order_by n answers plates (first_starving ps answers) ≡ None =
     subst (λ w. order_by n answers plates w ≡ None) first
     (subst (λ xs. order_by n xs plates who ≡ None) c.deref-2.ensures.value (sym c.order_by.ensures ∙ ap option_copied c.in-None.is)) in
-    free_is_page c.args.plan.now opening c.args.situations answers plates c.free_page.result c.requires.free c.requires.runs c.requires.come are
+    free_is_page most c.args.plan.now opening c.args.situations answers plates c.free_page.result c.requires.free c.requires.runs c.requires.come are
     (none_found n ps answers plates c.in_ok-answers.ensures.count none)
     (subst (λ xs. IfOk c.free_page.result (λ page. IsFreeText (free_line c.args.situations ++ going_text n ps opening xs plates) page))
     c.deref-in-None.ensures.value c.free_page.ensures)

@@ -6,7 +6,7 @@ use Rattle.plan_app.proofs.serve.serve_bytes.Goals as goal
 pub returns-in-Ok-clause-reported : goal.returns-in-Ok-clause-reported
 returns-in-Ok-clause-reported g c =
     let is : IsPlanIn (document_in c.args.bytes.now) c.in-Ok.plan = rw (c.split_at.ensures.front, c.plan_length.ensures.length) at c.in-Ok.ensures.plan in
-    λ request well. (c.in-Ok.plan, is, rw (c.split_at.ensures.back, c.plan_length.ensures.length) at (c.serve_plan.ensures.reported request well))
+    λ most request well. (c.in-Ok.plan, is, rw (c.split_at.ensures.back, c.plan_length.ensures.length) at (c.serve_plan.ensures.reported most request well))
 
 pub returns-in-Ok-clause-answered : goal.returns-in-Ok-clause-answered
 returns-in-Ok-clause-answered g c =
@@ -16,12 +16,12 @@ returns-in-Ok-clause-answered g c =
 pub returns-in-Ok-clause-free : goal.returns-in-Ok-clause-free
 returns-in-Ok-clause-free g c =
     let is : IsPlanIn (document_in c.args.bytes.now) c.in-Ok.plan = rw (c.split_at.ensures.front, c.plan_length.ensures.length) at c.in-Ok.ensures.plan in
-    λ request well. (c.in-Ok.plan, is, rw (c.split_at.ensures.back, c.plan_length.ensures.length) at (c.serve_plan.ensures.free request well))
+    λ most request well. (c.in-Ok.plan, is, rw (c.split_at.ensures.back, c.plan_length.ensures.length) at (c.serve_plan.ensures.free most request well))
 
 pub returns-in-Ok-clause-paged : goal.returns-in-Ok-clause-paged
 returns-in-Ok-clause-paged g c =
     let is : IsPlanIn (document_in c.args.bytes.now) c.in-Ok.plan = rw (c.split_at.ensures.front, c.plan_length.ensures.length) at c.in-Ok.ensures.plan in
-    λ request well. (c.in-Ok.plan, is, rw (c.split_at.ensures.back, c.plan_length.ensures.length) at (c.serve_plan.ensures.paged request well))
+    λ most request well. (c.in-Ok.plan, is, rw (c.split_at.ensures.back, c.plan_length.ensures.length) at (c.serve_plan.ensures.paged most request well))
 
 pub returns-in-Ok-clause-header : goal.returns-in-Ok-clause-header
 returns-in-Ok-clause-header g c =

@@ -7,11 +7,11 @@ use Rattle.plan_app.proofs.Failures.{fails_whole, unread_fails}
 use Rattle.plan_app.proofs.serve.serve_input.Goals as goal
 
 pub returns-in-Ok-clause-reported : goal.returns-in-Ok-clause-reported
-returns-in-Ok-clause-reported g c = λ request well.
+returns-in-Ok-clause-reported g c = λ most request well.
     let short : length c.in-Ok.bytes.items ≤ byte_limit = subst (λ bytes. length bytes ≤ byte_limit) c.as_slice.ensures.value (c.serve_bytes.ensures.short well) in
     IfSome_then (g.R.Read.remaining c.args.reader.now) (c.in-Ok.ensures.whole short)
-    (λ read is. subst (λ bytes. ReportsIn bytes (g.W.Write.contents c.args.writer.now) (g.W.Write.contents c.serve_bytes.new.writer)) is
-    (subst (λ bytes. ReportsIn bytes (g.W.Write.contents c.args.writer.now) (g.W.Write.contents c.serve_bytes.new.writer)) c.as_slice.ensures.value (c.serve_bytes.ensures.reported request well)))
+    (λ read is. subst (λ bytes. ReportsIn most bytes (g.W.Write.contents c.args.writer.now) (g.W.Write.contents c.serve_bytes.new.writer)) is
+    (subst (λ bytes. ReportsIn most bytes (g.W.Write.contents c.args.writer.now) (g.W.Write.contents c.serve_bytes.new.writer)) c.as_slice.ensures.value (c.serve_bytes.ensures.reported most request well)))
 
 pub returns-in-Ok-clause-answered : goal.returns-in-Ok-clause-answered
 returns-in-Ok-clause-answered g c = λ request well.
@@ -21,18 +21,18 @@ returns-in-Ok-clause-answered g c = λ request well.
     (subst (λ bytes. AnswersIn bytes (g.W.Write.contents c.args.writer.now) (g.W.Write.contents c.serve_bytes.new.writer)) c.as_slice.ensures.value (c.serve_bytes.ensures.answered request well)))
 
 pub returns-in-Ok-clause-free : goal.returns-in-Ok-clause-free
-returns-in-Ok-clause-free g c = λ request well.
+returns-in-Ok-clause-free g c = λ most request well.
     let short : length c.in-Ok.bytes.items ≤ byte_limit = subst (λ bytes. length bytes ≤ byte_limit) c.as_slice.ensures.value (c.serve_bytes.ensures.short well) in
     IfSome_then (g.R.Read.remaining c.args.reader.now) (c.in-Ok.ensures.whole short)
     (λ read is. subst (λ bytes. ExploresIn bytes (g.W.Write.contents c.args.writer.now) (g.W.Write.contents c.serve_bytes.new.writer)) is
-    (subst (λ bytes. ExploresIn bytes (g.W.Write.contents c.args.writer.now) (g.W.Write.contents c.serve_bytes.new.writer)) c.as_slice.ensures.value (c.serve_bytes.ensures.free request well)))
+    (subst (λ bytes. ExploresIn bytes (g.W.Write.contents c.args.writer.now) (g.W.Write.contents c.serve_bytes.new.writer)) c.as_slice.ensures.value (c.serve_bytes.ensures.free most request well)))
 
 pub returns-in-Ok-clause-paged : goal.returns-in-Ok-clause-paged
-returns-in-Ok-clause-paged g c = λ request well.
+returns-in-Ok-clause-paged g c = λ most request well.
     let short : length c.in-Ok.bytes.items ≤ byte_limit = subst (λ bytes. length bytes ≤ byte_limit) c.as_slice.ensures.value (c.serve_bytes.ensures.short well) in
     IfSome_then (g.R.Read.remaining c.args.reader.now) (c.in-Ok.ensures.whole short)
     (λ read is. subst (λ bytes. FindsFreeIn bytes (g.W.Write.contents c.args.writer.now) (g.W.Write.contents c.serve_bytes.new.writer)) is
-    (subst (λ bytes. FindsFreeIn bytes (g.W.Write.contents c.args.writer.now) (g.W.Write.contents c.serve_bytes.new.writer)) c.as_slice.ensures.value (c.serve_bytes.ensures.paged request well)))
+    (subst (λ bytes. FindsFreeIn bytes (g.W.Write.contents c.args.writer.now) (g.W.Write.contents c.serve_bytes.new.writer)) c.as_slice.ensures.value (c.serve_bytes.ensures.paged most request well)))
 
 pub returns-in-Ok-clause-header : goal.returns-in-Ok-clause-header
 returns-in-Ok-clause-header g c = λ request well.

@@ -11,6 +11,6 @@ returns-in-Ok-Large-clause-failed g c = λ failed.
     let old = g.W.Write.contents c.args.writer.now in
     let new = g.W.Write.contents c.fail-in-Ok-Large.new.writer in
     let words = string_bytes c.in-Ok-Large.words in
-    let tells : TellsUnfinished plan.named plan.programs opening words =
-    subst (IsPage plan opening) c.in-Ok-Large.field-0-is c.in-Ok-Large.ensures in
+    let tells : TellsUnfinished c.args.most plan.named plan.programs opening words =
+    subst (IsPage c.args.most plan opening) c.in-Ok-Large.field-0-is c.in-Ok-Large.ensures in
     inr (inl (words, tells, subst (λ w. WroteFault w old new) c.as_str-in-Ok-Large.ensures.value c.fail-in-Ok-Large.ensures.line))
