@@ -1,0 +1,7 @@
+use Rattle.std.proofs.Common.{◌≡◌}
+use Rattle.plan_types.specs.Below.{first_below}
+use Rattle.plan_types.specs.Faults as faults
+use Rattle.plan_words.proofs.plant.PlantTables.foreign_zone_fault.Given as goal
+
+abbrev pub invariant-loop-zone : goal.invariant-loop-zone
+invariant-loop-zone l = l.first ≡ first_below (faults.foreign_fault l.self l.pose) l.zone

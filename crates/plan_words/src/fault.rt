@@ -1,0 +1,54 @@
+//! What is wrong with a plant's rows, and which word is no plan.
+ghost use Rattle.std.specs.Prelude.{◌≡◌};
+ghost use Rattle.plan_words.specs.declared.fault.PlantFault.TheVariants.{OutOfMemory};
+
+use plan_types::PlanFault;
+use std::alloc::{AllocError, AllocFailed};
+
+/// Of what a plant has more than it may have.
+#[derive(Clone, Copy, Debug, PartialEq, Eq)]
+pub enum Limit {
+    /// More than 15 machines.
+    Machines,
+    /// More than 40 zones.
+    Zones,
+    /// More than 255 poses.
+    Poses,
+    /// More than 255 places.
+    Places,
+    /// More than 16 words.
+    Words,
+}
+
+/// The first fault of a plant, in this order: its limits, the rows by the rules of plans, the words in their order.
+#[derive(Clone, Copy, Debug, PartialEq, Eq)]
+pub enum PlantFault {
+    /// The plant has more than it may have.
+    TooMany(Limit),
+    /// A row breaks a rule of plans. The fault has the plant's numbers.
+    OfRow(PlanFault),
+    /// A word is no plan: it has too many rows, or is too wide. `zone` is its first zone; a word of poses and places
+    /// that need no zone has none.
+    OfWord {
+        zone: Option<usize>,
+        fault: PlanFault,
+    },
+    /// Memory ran out.
+    OutOfMemory,
+}
+
+impl From<AllocError> for PlantFault {
+    ghost from_gives = { λ _ fault. fault ≡ OutOfMemory };
+
+    fn from(_error: AllocError) -> PlantFault {
+        PlantFault::OutOfMemory
+    }
+}
+
+impl<T: Drop> From<AllocFailed<T>> for PlantFault {
+    ghost from_gives = { λ _ fault. fault ≡ OutOfMemory };
+
+    fn from(_error: AllocFailed<T>) -> PlantFault {
+        PlantFault::OutOfMemory
+    }
+}
