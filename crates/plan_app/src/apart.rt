@@ -379,8 +379,8 @@ fn part_screen(
     most: usize,
 ) -> Result<Screen, AllocError>
     requires { first < 15 }
-    ensures { IfOk result (spec.IsPartScreen most plan.now.named.now plan.now.programs.now opening.now
-        (spec.group_of groups.now first)) }
+    ensures { IfOk result (spec.IsPartScreen most plan.now.named.now plan.now.programs.now
+        opening.now (spec.group_of groups.now first)) }
 {
     let named = plan.named.plan();
     match explore(alloc, named, opening, plan.programs, most)? {
