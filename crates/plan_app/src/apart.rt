@@ -37,7 +37,7 @@ pub enum Exploration {
 }
 
 /// What `plan explore` prints of a plan and its programs, which begin at an opening: of each group apart, if at least
-/// two of them have programs, else of all machines together; where at most so many situations are explored. An error
+/// two of them have programs, else of all machines together; where at most `most` situations are explored. An error
 /// says that memory ran out.
 pub fn exploration_of(
     alloc: Global,
@@ -379,8 +379,8 @@ fn part_screen(
     most: usize,
 ) -> Result<Screen, AllocError>
     requires { first < 15 }
-    ensures { IfOk result (spec.IsPartScreen most plan.now.named.now plan.now.programs.now opening.now
-        (spec.group_of groups.now first)) }
+    ensures { IfOk result (spec.IsPartScreen most plan.now.named.now plan.now.programs.now
+        opening.now (spec.group_of groups.now first)) }
 {
     let named = plan.named.plan();
     match explore(alloc, named, opening, plan.programs, most)? {

@@ -48,7 +48,7 @@ pub enum Screen {
     Unfinished(usize),
 }
 
-/// What `plan explore` prints of a plan and its programs, which begin at an opening, where at most so many situations
+/// What `plan explore` prints of a plan and its programs, which begin at an opening, where at most `most` situations
 /// are explored. An error says that memory ran out.
 pub fn screen_of(
     alloc: Global,

@@ -369,7 +369,8 @@ fn push_large(
 
 /// Adds that there are more situations than are explored.
 fn push_limit(text: &mut String, limit: usize) -> Result<(), AllocError>
-    ensures { OnOk result (string_bytes text.new ≡ string_bytes text.old ++ spec.limit_words limit) }
+    ensures { OnOk result (string_bytes text.new
+        ≡ string_bytes text.old ++ spec.limit_words limit) }
 {
     text.push_str(LARGE)?;
     push_counted(text, limit, "situation")?;

@@ -104,7 +104,7 @@ fn any_joins(plan: &Plan) -> bool
     any
 }
 
-/// What `plan explore --page` prints of a plan and its programs, which begin at an opening, where at most so many
+/// What `plan explore --page` prints of a plan and its programs, which begin at an opening, where at most `most`
 /// situations are explored. An error says that memory ran out.
 pub fn page_of(
     alloc: Global,

@@ -22,12 +22,13 @@ pub const MAX_TURNS: u32 = 1_000_000;
 /// What the program does.
 #[derive(Clone, Copy, PartialEq, Eq, Debug)]
 pub enum Request {
-    /// Says what a plan is, and the layout of its word; and of hazards what it finds among at most so many situations.
+    /// Says what a plan is, and the layout of its word; and of hazards what it finds among at most this many
+    /// situations.
     Check(usize),
     /// Answers a script by a plan.
     Replay,
-    /// Explores the machines' programs: for standstills, and whether each machine goes on for ever. At most so many
-    /// situations are explored.
+    /// Explores the machines' programs: for standstills, and whether each machine goes on for ever. At most this
+    /// many situations are explored.
     Explore(usize),
     /// Prints the page of what it explored so: a standstill, or an order in which a machine starves.
     Page(usize),

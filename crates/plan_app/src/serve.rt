@@ -537,19 +537,22 @@ where
     // With `explore`: status 0 says that no order of turns of this plan's programs leads from the script's start to a
     // standstill, that no machine starves and no plates rest by what explorations answer, and that this was written. If
     // at least two groups of machines that share nothing have programs, it says so of each group.
-    ensures explore { (most : ℕ) → request_of (texts_of words.now) ≡ Some (Request.Explore most) →
+    ensures explore { (most : ℕ) → request_of (texts_of words.now)
+        ≡ Some (Request.Explore most) →
         result ≡ 0 →
         ExploresInput (R.remaining reader.old) (W.contents writer.old) (W.contents writer.new) }
 
     // With `explore --page`: status 0 says and writes the same of all machines together; there is no page then.
-    ensures page { (most : ℕ) → request_of (texts_of words.now) ≡ Some (Request.Page most) →
+    ensures page { (most : ℕ) → request_of (texts_of words.now)
+        ≡ Some (Request.Page most) →
         result ≡ 0 →
         FindsInputFree (R.remaining reader.old) (W.contents writer.old) (W.contents writer.new) }
 
     // With `check`: status 0 says that this plan's report was written, and that the motors of each hazard are kept
     // apart. With `header`: that its header was written, or with `header --python` its module. With `draw`: its
     // picture.
-    ensures check { (most : ℕ) → request_of (texts_of words.now) ≡ Some (Request.Check most) →
+    ensures check { (most : ℕ) → request_of (texts_of words.now)
+        ≡ Some (Request.Check most) →
         result ≡ 0 →
         Reports most (R.remaining reader.old) (W.contents writer.old) (W.contents writer.new) }
     ensures header { request_of (texts_of words.now) ≡ Some Request.Header → result ≡ 0 →
@@ -581,21 +584,24 @@ where
 
     // With `explore`: a standstill, which turns from the script's start lead to, or that there is none, and what
     // explorations answer of machines and plates; of each group apart, if at least two have programs.
-    ensures explore_fails { (most : ℕ) → request_of (texts_of words.now) ≡ Some (Request.Explore most) →
+    ensures explore_fails { (most : ℕ) → request_of (texts_of words.now)
+        ≡ Some (Request.Explore most) →
         result ≡ 1 →
         Fails (Request.Explore most) (R.remaining reader.old)
         (W.contents writer.old) (W.contents writer.new) }
 
     // With `explore --page`: the page of such a standstill, or of a fair order in which a machine starves or plates
     // rest; or that there is none; or that it has more turns than a page shows.
-    ensures page_fails { (most : ℕ) → request_of (texts_of words.now) ≡ Some (Request.Page most) →
+    ensures page_fails { (most : ℕ) → request_of (texts_of words.now)
+        ≡ Some (Request.Page most) →
         result ≡ 1 →
         Fails (Request.Page most) (R.remaining reader.old)
         (W.contents writer.old) (W.contents writer.new) }
 
     // With `check`: its report. With `header`: its header, or with `header --python` its module. With `draw`: its
     // picture.
-    ensures check_fails { (most : ℕ) → request_of (texts_of words.now) ≡ Some (Request.Check most) →
+    ensures check_fails { (most : ℕ) → request_of (texts_of words.now)
+        ≡ Some (Request.Check most) →
         result ≡ 1 →
         Fails (Request.Check most) (R.remaining reader.old)
         (W.contents writer.old) (W.contents writer.new) }

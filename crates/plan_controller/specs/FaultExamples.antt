@@ -20,8 +20,8 @@ is_stay (Stops r) = false
 
 abbrev pub all_refusals : List Refusal
 all_refusals =
-    NotParty ∷ Held 1 ∷ AlreadyMine ∷ Shut Moving ∷ NotOwner None ∷ PlateInZone 0 ∷ NoPlate ∷ PlaceFull ∷ WrongWay ∷ Jump
-    ∷ NoPose ∷ Worn ∷ Stopped ∷ NotStopped ∷ []
+    NotParty ∷ Held 1 ∷ AlreadyMine ∷ Shut Moving ∷ NotOwner None ∷ PlateInZone 0 ∷ NoPlate ∷ PlaceFull ∷ WrongWay
+    ∷ Jump ∷ NoPose ∷ Worn ∷ Stopped ∷ NotStopped ∷ []
 
 -- those that leave a machine at its line, where these are faults
 abbrev pub waited_out : Faults → List Refusal

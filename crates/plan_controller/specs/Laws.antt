@@ -48,8 +48,8 @@ pub record NamesAreWaitedFor : Type 0 where
   pub by_owner : (owner : Option ℕ) → mendable (refusal.NotOwner owner) ≡ Some NotOwner
   pub by_zone : (z : ℕ) → mendable (refusal.PlateInZone z) ≡ Some PlateInZone
 
--- of the refusals that others' calls may mend, those stop a machine at a line that are faults there, whatever they name;
--- and the others always
+-- of the refusals that others' calls may mend, those stop a machine at a line that are faults there, whatever they
+-- name; and the others always
 pub record FaultsStop (r : Refusal) (faults : Faults) : Type 0 where
   pub fault : (kind : Mendable) → mendable r ≡ Some kind → has faults kind ≡ true
       → after_call (Some (Refused r)) faults ≡ Stops r

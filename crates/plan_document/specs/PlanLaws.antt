@@ -38,7 +38,8 @@ abbrev pub PlacesAreKept : Type 0
 PlacesAreKept =
     (d : Document) (n : Named) → IsNamedPlanOf d n → (machine : ℕ) (row : MachineRow)
     → StandsAt d.machines.items machine row → (nth : ℕ) (name : String Global) → StandsAt row.places.items nth name
-    → (place : ℕ) → number_in n.places (string_bytes name) ≡ Some place → place_row n.plan place ≡ place_of machine row (string_bytes name)
+    → (place : ℕ) → number_in n.places (string_bytes name) ≡ Some place
+    → place_row n.plan place ≡ place_of machine row (string_bytes name)
 
 -- ---- zones
 

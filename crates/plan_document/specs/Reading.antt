@@ -136,8 +136,8 @@ abbrev pub HasSpace : Members → Option (String Global) → Type 0
 HasSpace zone None = ⊥
 HasSpace zone (Some name) = HasText (codes "name") zone name
 
--- a guest in the list, by its number there: it has a name, a guest and ways of its own, and the zone's host; each but the
--- first is of one space with the one before it
+-- a guest in the list, by its number there: it has a name, a guest and ways of its own, and the zone's host; each but
+-- the first is of one space with the one before it
 pub record IsSide (zone : Members) (side : ℕ × Data) (row : ZoneRow) : Type 0 where
   pub members : Members
   pub is_table : side.1 ≡ table members

@@ -48,8 +48,8 @@ pub record KeysHaveWords : Type 0 where
 -- all words of keys, and some that are none
 abbrev pub candidates : List Text
 candidates =
-    [] ∷ codes "after_moving" ∷ codes "empty" ∷ codes "full" ∷ codes "gives" ∷ codes "guest" ∷ codes "guests" ∷ codes "hazard"
-    ∷ codes "holds" ∷ codes "host" ∷ codes "inward" ∷ codes "machine" ∷ codes "machines" ∷ codes "motor"
+    [] ∷ codes "after_moving" ∷ codes "empty" ∷ codes "full" ∷ codes "gives" ∷ codes "guest" ∷ codes "guests"
+    ∷ codes "hazard" ∷ codes "holds" ∷ codes "host" ∷ codes "inward" ∷ codes "machine" ∷ codes "machines" ∷ codes "motor"
     ∷ codes "motors" ∷ codes "nam" ∷ codes "name" ∷ codes "Name" ∷ codes "outward" ∷ codes "places" ∷ codes "poses"
     ∷ codes "program" ∷ codes "sensors" ∷ codes "sinks" ∷ codes "sources" ∷ codes "stands"
     ∷ codes "zone" ∷ []
@@ -170,7 +170,8 @@ pub record LiftLines : Type 0 where
   pub no_pose : may_be_done lift_table 0 (SetPose 5) ≡ false
   pub floors_pose : may_be_done lift_table 2 (SetPose 4) ≡ false
   -- the loader's hand is a source, its tray a sink, and the press's place neither
-  pub advances : map (λ p. may_be_done through_table 0 (Advance p)) (0 ∷ 1 ∷ 2 ∷ 3 ∷ []) ≡ true ∷ true ∷ false ∷ false ∷ []
+  pub advances : map (λ p. may_be_done through_table 0 (Advance p)) (0 ∷ 1 ∷ 2 ∷ 3 ∷ [])
+      ≡ true ∷ true ∷ false ∷ false ∷ []
   pub press_advances : map (λ p. may_be_done through_table 1 (Advance p)) (0 ∷ 1 ∷ 2 ∷ []) ≡ false ∷ false ∷ false ∷ []
   -- anyone may look, and none of these is refused for whose it is
   pub inquires : may_be_done lift_table 2 (Inquire 0) ≡ true

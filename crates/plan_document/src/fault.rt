@@ -121,8 +121,8 @@ impl Key {
     }
 }
 
-/// The keys of a document's top, of a machine, of a pose, of a zone, of one that lists its guests, of a side, of a motor
-/// and of a hazard.
+/// The keys of a document's top, of a machine, of a pose, of a zone, of one that lists its guests, of a side, of a
+/// motor and of a hazard.
 const TOP_KEYS: [Key; 4] = [Key::Machine, Key::Zone, Key::Motor, Key::Hazard];
 
 const MACHINE_KEYS: [Key; 7] = [

@@ -75,10 +75,13 @@ pub record FactsAreRight : Type 0 where
   -- a call about one zone, or one place, tells nothing of another one
   pub other_zone : zone_facts lift_table (no_facts 0) (Claim 1) 0 ≡ no_need
   -- what the loader knows of its hand, a source, of its tray, a sink, and of a place that is both
-  pub advanced : map (place_facts through_table (no_facts 0) (Advance 0)) (0 ∷ 1 ∷ 2 ∷ []) ≡ Some true ∷ None ∷ None ∷ []
-  pub emptied : map (place_facts through_table (no_facts 0) (Advance 1)) (0 ∷ 1 ∷ 2 ∷ []) ≡ None ∷ Some false ∷ None ∷ []
+  pub advanced : map (place_facts through_table (no_facts 0) (Advance 0)) (0 ∷ 1 ∷ 2 ∷ [])
+      ≡ Some true ∷ None ∷ None ∷ []
+  pub emptied : map (place_facts through_table (no_facts 0) (Advance 1)) (0 ∷ 1 ∷ 2 ∷ [])
+      ≡ None ∷ Some false ∷ None ∷ []
   pub both_unknown : place_facts open_press_table (no_facts 0) (Advance 0) 0 ≡ None
-  pub both_known : map (λ known. place_facts open_press_table (record (no_facts 0) { places = known ∷ [] }) (Advance 0) 0)
+  pub both_known : map
+      (λ known. place_facts open_press_table (record (no_facts 0) { places = known ∷ [] }) (Advance 0) 0)
       (Some true ∷ Some false ∷ []) ≡ Some false ∷ Some true ∷ []
   pub other_place : place_facts lift_table (no_facts 0) (Take 1) 1 ≡ None
   pub both_move : zone_facts lift_table (no_facts 0) (SetPose 0) 1 ≡ held (Some Moving)

@@ -29,7 +29,8 @@ most_owner s = 2 ^ owner_bits s.guests - 1
 abbrev pub plate_reading : Bool → ℕ → Text → Text
 plate_reading true above zone =
     codes "#define PLAN_PLATE_IN_"
-    ++ (zone ++ (codes "(word) ((word) >> (PLAN_BIT_ZONE_" ++ (zone ++ (codes " + " ++ (decimal above ++ codes ") & 1)\n")))))
+    ++ (zone ++ (codes "(word) ((word) >> (PLAN_BIT_ZONE_"
+    ++ (zone ++ (codes " + " ++ (decimal above ++ codes ") & 1)\n")))))
 plate_reading false above zone = codes "#define PLAN_PLATE_IN_" ++ (zone ++ codes "(word) 0\n")
 
 abbrev pub posture_name : Posture → Text
@@ -64,7 +65,8 @@ own_readings s zone = plate_reading s.flag (owner_bits s.guests) zone ++ posture
 -- the number that tells a guest of a space after the first one
 abbrev pub guest_note : ℕ → Text → Text → Text
 guest_note number first zone =
-    codes "/* " ++ (zone ++ (codes " is of one space with " ++ (first ++ (codes ", whose bits tell the owner. There this zone's guest is: */\n"
+    codes "/* " ++ (zone ++ (codes " is of one space with "
+    ++ (first ++ (codes ", whose bits tell the owner. There this zone's guest is: */\n"
     ++ (codes "#define PLAN_OWNER_GUEST_" ++ (zone ++ (codes " " ++ (decimal number ++ codes "\n"))))))))
 
 -- the first zone of a zone's space, in capitals
@@ -79,7 +81,8 @@ guest_part n zone =
 
 abbrev pub owner_part : Named → ℕ → Text
 owner_part n zone =
-    owner_reading (most_owner (zone_shape n.plan (space_of n.plan zone))) (first_name n zone) (capitals (zone_name n zone))
+    owner_reading (most_owner (zone_shape n.plan (space_of n.plan zone))) (first_name n zone)
+    (capitals (zone_name n zone))
 
 abbrev pub own_part : Named → ℕ → Text
 own_part n zone = own_readings (zone_shape n.plan zone) (capitals (zone_name n zone))

@@ -30,4 +30,5 @@ SurveysPermitTheSame t =
 abbrev pub PermissionsLast : PlanTable → Type 0
 PermissionsLast t =
     (opening : State) (m : Motor) (seen point : List Event) → IsMotorOf t m → IsLawful (plan_book t) opening point
-    → Waits (plan_book t) m.machine seen point → Permits t (after t opening seen) m → Permits t (after t opening point) m
+    → Waits (plan_book t) m.machine seen point → Permits t (after t opening seen) m
+    → Permits t (after t opening point) m

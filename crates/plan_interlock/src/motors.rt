@@ -21,8 +21,8 @@ use plan_word::laws::words_are_laid_out;
 /// the word, and one comparison for each motor. No call is made, and no memory is allocated.
 ///
 /// The pass was made with this interlock. Whatever other threads do with the other passes:
-/// - at the moment of the load the history is what the pass has now seen: it begins with all that the pass had seen, and
-///   has no new event of its own machine (`more`);
+/// - at the moment of the load the history is what the pass has now seen: it begins with all that the pass had seen,
+///   and has no new event of its own machine (`more`);
 /// - a motor's bit is set exactly if the state after that history permits the motor (`permitted`);
 /// - the motor then stays permitted, whatever events follow, until a call of its own machine loses the permission
 ///   (`lasts`).

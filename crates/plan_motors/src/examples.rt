@@ -106,8 +106,8 @@ pub fn poses_are_right()
     lawful_histories();
 }
 
-/// Of a press with two robots, whose zones are of one space: what keeps its motors apart, which bits they look at, which
-/// states permit them, and which don't fit.
+/// Of a press with two robots, whose zones are of one space: what keeps its motors apart, which bits they look at,
+/// which states permit them, and which don't fit.
 pub fn spaces_are_met()
     ensures causes { SpaceCauses }
     ensures masks { SpaceMasks }

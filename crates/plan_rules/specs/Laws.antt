@@ -62,8 +62,8 @@ abbrev pub GuestOnlyWhileOpen : PlanTable → State → List Event → Type 0
 GuestOnlyWhileOpen t s h =
     (z : ℕ) → z < zone_count t → Holds t s h (guest_of t z) z → IsTrue (is_open (posture_by_events t s h z))
 
--- the plates of the state after are those of the opening, and those that have come from outside, without those that have
--- gone there
+-- the plates of the state after are those of the opening, and those that have come from outside, without those that
+-- have gone there
 abbrev pub PlatesAreCounted : PlanTable → State → List Event → Type 0
 PlatesAreCounted t s h = plates_of t (after t s h) + gone t s h ≡ plates_of t s + come t s h
 

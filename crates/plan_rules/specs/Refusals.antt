@@ -160,7 +160,8 @@ not_own_end t m p = then_some (not (has_end t m p)) NotParty
 abbrev pub can_go : PlanTable → State → ℕ → Bool
 can_go t s p = is_sink t p && is_full s p
 
--- a plate would come to a source that has one, or has one coming; if the place is a sink, too, its own plate goes out for it
+-- a plate would come to a source that has one, or has one coming; if the place is a sink, too, its own plate goes out
+-- for it
 abbrev pub source_taken : PlanTable → State → ℕ → Option Refusal
 source_taken t s p = then_some (is_source t p && (is_taken t s p && not (can_go t s p))) PlaceFull
 

@@ -19,8 +19,8 @@ use Rattle.plan_text.specs.Names.{is_name, name_in, number_in}
 use Rattle.plan_text.specs.Requests.{request_of}
 use Rattle.plan_text.specs.Script.{script_answers, script_start, start_line}
 
--- each machine, zone, pose and place has a name, and none has that of another: of poses none of the same machine, and no
--- machine has that of the watch
+-- each machine, zone, pose and place has a name, and none has that of another: of poses none of the same machine, and
+-- no machine has that of the watch
 pub record AreToldApart (n : Named) : Type 0 where
   pub spelled_machines : IsTrue (list_all is_name n.machines)
   pub spelled_zones : IsTrue (list_all is_name n.zones)

@@ -117,7 +117,8 @@ impl NamedPlan {
         self.own_pose(machine, name).or(self.poses.number_of(name))
     }
 
-    /// What a machine asks with this verb about the zone, the pose or the place that has this name. `None` if none has it.
+    /// What a machine asks with this verb about the zone, the pose or the place that has this name. `None` if none has
+    /// it.
     pub fn call(&self, machine: u8, verb: Verb, name: &[u8]) -> Option<Call>
         ensures { result ≡ spec.call_of self.now machine verb name.now }
     {

@@ -171,8 +171,8 @@ pub record ShapesTell : Type 0 where
   pub no_way : zone_shape (two_at (zone 1 0 None None) []) 0 ≡ shape false false false false
   -- all that poses may give
   pub postures : map postures_of (shape true false false false ∷ shape true true false false
-      ∷ shape true false true false ∷ shape true false false true ∷ shape true true true false ∷ shape true true false true
-      ∷ shape true false true true ∷ shape true true true true ∷ [])
+      ∷ shape true false true false ∷ shape true false false true ∷ shape true true true false
+      ∷ shape true true false true ∷ shape true false true true ∷ shape true true true true ∷ [])
       ≡ Shut ∷ Two Moving ∷ Two OpenIn ∷ Two OpenOut ∷ All ∷ All ∷ All ∷ All ∷ []
   pub posture_fields : map posture_bits (Shut ∷ Two OpenIn ∷ All ∷ []) ≡ 0 ∷ 1 ∷ 2 ∷ []
   pub each_bits : map shape_bits (shape false false false false ∷ shape false false true false

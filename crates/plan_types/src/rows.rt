@@ -1,5 +1,6 @@
 //! The bytes of one row, and the row that has them.
-ghost use Rattle.std.specs.Prelude.{◌≡◌, ◌↔◌, ◌+◌, ◌*◌, ◌<◌, ◌∷◌, [], Bool, List, None, Option, get_or, map, nat_eq, IfSome};
+ghost use Rattle.std.specs.Prelude.{◌≡◌, ◌↔◌, ◌+◌, ◌*◌, ◌<◌, ◌∷◌, [], Bool, List, None, Option, get_or, map};
+ghost use Rattle.std.specs.Prelude.{nat_eq, IfSome};
 ghost use Rattle.std.specs.List.{list_any};
 ghost use mir.Val.{bool_byte};
 ghost use Rattle.plan_types.specs.declared.posture.Posture.{Posture};

@@ -30,7 +30,7 @@ pub struct Way {
     pub to: u8,
 }
 
-/// A zone: a space that two machines share. More zones of one host are one space with several guests, one at a time.
+/// A zone: a space that two machines share. Zones that join are one space, with several guests, one at a time.
 #[derive(Clone, Copy, Debug, PartialEq, Eq)]
 pub struct PlanZone {
     /// The machine to which it belongs, and which sets its posture.

@@ -29,8 +29,8 @@ fn enters(plan: &Plan, machine: u8, zone: u8) -> bool
     found
 }
 
-/// Whether a zone keeps the rules: its owner enters its space; a plate in it is on its way to the owner; its guest owns it
-/// only while it is open; and while it moves, its host does.
+/// Whether a zone keeps the rules: its owner enters its space; a plate in it is on its way to the owner; its guest owns
+/// it only while it is open; and while it moves, its host does.
 pub fn is_lawful_zone(plan: &Plan, zone: u8, at: ZoneState) -> bool
     ensures { IsTrue result ↔ IsLawfulZone plan.now zone at }
 {

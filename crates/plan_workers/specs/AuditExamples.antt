@@ -98,7 +98,8 @@ abbrev pub claimed_state : State
 claimed_state = next press_table press_start 1 (Claim 0)
 
 pub record AuditExamples : Type 0 where
-  pub right : IsAccepted (both (claimed_at 1 ∷ again_at 1 ∷ travels_at 2 ∷ [])) None (shut ∷ claimed ∷ again ∷ travels ∷ [])
+  pub right : IsAccepted (both (claimed_at 1 ∷ again_at 1 ∷ travels_at 2 ∷ [])) None
+      (shut ∷ claimed ∷ again ∷ travels ∷ [])
   pub right_end : IsAccepted (own (claimed_at 1 ∷ [])) (Some claimed_state) (claimed ∷ [])
   pub nothing : IsAccepted [] (Some press_start) []
   pub two_done : IsRefused (own (claimed_at 1 ∷ travels_at 1 ∷ [])) None
