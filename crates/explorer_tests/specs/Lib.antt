@@ -1,3 +1,4 @@
 pub mod Climb
+pub mod Crossing
 pub mod Nest
 pub mod Ring
