@@ -15,6 +15,7 @@ use Rattle.plan_words.specs.CutLeast.{all_cut, forty_zones, FortyZones}
 use Rattle.plan_words.specs.CutTable.{cut_at, all_places}
 use Rattle.plan_words.proofs.Pairs.{each, alike_self}
 use Rattle.plan_words.proofs.Grouping.{is_laid_out}
+use Rattle.plan_words.proofs.Known.{label_in, grouped, group_is}
 use Rattle.plan_words.proofs.CutRows.{one_zone, not_true}
 use Rattle.plan_words.proofs.CutTables.{is_cut_at, cut_is_large}
 
@@ -51,40 +52,11 @@ forty_large = record {
 
 -- ---- its groups, by labels that are known
 
-label_in : PlanTable → List ℕ → List ℕ → ℕ
-label_in t labels [] = zone_count t
-label_in t labels (z ∷ zones) = label_of labels z
-
-grouped : PlanTable → List ℕ → ℕ → Group
-grouped t labels n = record {
-  zones = zones_of t (λ z. nat_eq (label_of labels z) n);
-  poses = filter (λ p. nat_eq (label_in t labels (zones_of t (looks_at t p))) n) (range_with_len 0 (pose_count t));
-  places = filter (λ p. nat_eq (label_in t labels (zones_of t (touches t p))) n) (range_with_len 0 (place_count t));
-}
-
-filter_same : (f g : ℕ → Bool) → ((x : ℕ) → f x ≡ g x) → (xs : List ℕ) → filter f xs ≡ filter g xs
-filter_same f g same [] = refl
-filter_same f g same (x ∷ xs) = ap (λ b. if b then x ∷ filter f xs else filter f xs) (same x) ∙ ap (λ ys. if g x then x ∷ ys else ys) (filter_same f g same xs)
-
-label_is : (t : PlanTable) (zones : List ℕ) → label_for t zones ≡ label_in t (labels_of t) zones
-unfolding label_in
-label_is t [] = refl
-label_is t (z ∷ zones) = refl
-
-group_is : (t : PlanTable) (labels : List ℕ) (n : ℕ) → labels_of t ≡ labels → group_of t n ≡ grouped t labels n
-unfolding grouped
-group_is t labels n e =
-    ap (λ poses. let g : Group = record { zones = (group_of t n).zones; poses = poses; places = (group_of t n).places } in g)
-    (filter_same (λ p. nat_eq (label_for t (zones_of t (looks_at t p))) n) (λ p. nat_eq (label_in t (labels_of t) (zones_of t (looks_at t p))) n) (λ p. ap (λ l. nat_eq l n) (label_is t (zones_of t (looks_at t p)))) (range_with_len 0 (pose_count t)))
-    ∙ (ap (λ places. let g : Group = record { zones = (group_of t n).zones; poses = (grouped t (labels_of t) n).poses; places = places } in g)
-    (filter_same (λ p. nat_eq (label_for t (zones_of t (touches t p))) n) (λ p. nat_eq (label_in t (labels_of t) (zones_of t (touches t p))) n) (λ p. ap (λ l. nat_eq l n) (label_is t (zones_of t (touches t p)))) (range_with_len 0 (place_count t)))
-    ∙ ap (λ l. grouped t l n) e)
-
 labels : labels_of (all_cut forty_zones) ≡ range_with_len 0 40
 labels = refl
 
 one_each : ℕ → Group
-one_each n = grouped (all_cut forty_zones) (range_with_len 0 40) n
+one_each n = grouped (all_cut forty_zones) (range_with_len 0 40) (λ l. nat_eq l n)
 
 fits_test : ℕ → Bool
 fits_test n = nat_le (length (one_each n).zones) 10 && (nat_le (length (one_each n).poses) 64 && (nat_le (length (one_each n).places) 16 && nat_le (word_width (table_of (all_cut forty_zones) (one_each n))) 64))
@@ -101,7 +73,7 @@ fits n l =
     let b = and_parts (nat_le (length (one_each n).poses) 64) (nat_le (length (one_each n).places) 16 && nat_le (word_width (table_of (all_cut forty_zones) (one_each n))) 64) a.1 in
     let c = and_parts (nat_le (length (one_each n).places) 16) (nat_le (word_width (table_of (all_cut forty_zones) (one_each n))) 64) b.1 in
     let found : Fits (all_cut forty_zones) (one_each n) = record { machines = omega arith; zones = leb-true _ _ a.0; poses = leb-true _ _ b.0; places = leb-true _ _ c.0; width = leb-true _ _ c.1 } in
-    subst (Fits (all_cut forty_zones)) (sym (group_is (all_cut forty_zones) (range_with_len 0 40) n labels)) found
+    subst (Fits (all_cut forty_zones)) (sym (group_is (all_cut forty_zones) (range_with_len 0 40) (λ l. nat_eq l n) labels)) found
 
 large : IsLargePlan (all_cut forty_zones)
 large = cut_is_large (cut_at forty_zones all_places) (is_cut_at forty_zones all_places forty_large) forty_large
@@ -115,7 +87,7 @@ all_wide n l = each width_test 40 refl n l
 
 width : (n : ℕ) → n < 40 → word_width (table_of (all_cut forty_zones) (group_of (all_cut forty_zones) n)) ≡ 27
 unfolding width_test one_each
-width n l = ap (λ g. word_width (table_of (all_cut forty_zones) g)) (group_is (all_cut forty_zones) (range_with_len 0 40) n labels) ∙ eqb-true _ _ (all_wide n l)
+width n l = ap (λ g. word_width (table_of (all_cut forty_zones) g)) (group_is (all_cut forty_zones) (range_with_len 0 40) (λ l. nat_eq l n) labels) ∙ eqb-true _ _ (all_wide n l)
 
 pub forty : FortyZones
 forty = record {

@@ -13,7 +13,7 @@ use Rattle.plan_types.specs.Table.{PlanTable, zone_count, pose_count, place_coun
 use Rattle.plan_types.specs.Plan.{leads}
 use Rattle.plan_rules.proofs.lemmas.Puts.{nat_eq-self}
 use Rattle.plan_words.specs.Group.{past, HasZone, HasPose, HasPlace, LooksAt, Touches, IsGroup}
-use Rattle.plan_words.specs.Groups.{IsLargePlan, looks_at, is_end, touches, zones_of, with_space, by_poses, by_places, by_spaces, joined, label_of, labels_of, label_for, group_of, word_of, Fits}
+use Rattle.plan_words.specs.Groups.{IsLargePlan, looks_at, is_end, touches, zones_of, with_space, by_poses, by_places, by_spaces, joined, label_of, labels_of, label_for, labelled, group_of, word_of, Fits}
 use Rattle.plan_words.specs.Run.{IsLaidOut}
 use Rattle.plan_words.proofs.Tables.{Found, is_table, is_plan}
 use Rattle.plan_words.proofs.Picked.{picked, picked_rises, found_in}
@@ -203,72 +203,85 @@ first_label t (suc z) l = by_join t z l (first_label t z (omega (arith, l))) (jo
 space_label : (t : PlanTable) (y z : ℕ) → y < zone_count t → z < zone_count t → space_of t y ≡ space_of t z → label_of (labels_of t) y ≡ label_of (labels_of t) z
 space_label t y z l m e = first_label t y l ∙ (ap (label_of (labels_of t)) e ∙ sym (first_label t z m))
 
--- ---- the group of a label
+-- ---- what has labels that pass a test
 
-pub has_zone : (t : PlanTable) (n z : ℕ) → z < zone_count t → label_of (labels_of t) z ≡ n → HasZone (group_of t n) z
-has_zone t n z l e =
-    let f = found_in (λ x. nat_eq (label_of (labels_of t) x) n) (zone_count t) z l (ap (λ x. nat_eq x n) e ∙ nat_eq-self n) in
-    (f.0, f.1.0, f.1.1)
+pub zone_has : (t : PlanTable) (own : ℕ → Bool) (z : ℕ) → z < zone_count t → own (label_of (labels_of t) z) ≡ true → HasZone (labelled t own) z
+zone_has t own z l e = let f = found_in (λ x. own (label_of (labels_of t) x)) (zone_count t) z l e in (f.0, f.1.0, f.1.1)
 
-pub zone_label : (t : PlanTable) (n z : ℕ) → HasZone (group_of t n) z → (z < zone_count t) × (label_of (labels_of t) z ≡ n)
-zone_label t n z has =
-    let test : ℕ → Bool = λ x. nat_eq (label_of (labels_of t) x) n in
+pub pose_has : (t : PlanTable) (own : ℕ → Bool) (p : ℕ) → p < pose_count t → own (label_for t (zones_of t (looks_at t p))) ≡ true → HasPose (labelled t own) p
+pose_has t own p l e = let f = found_in (λ x. own (label_for t (zones_of t (looks_at t x)))) (pose_count t) p l e in (f.0, f.1.0, f.1.1)
+
+pub place_has : (t : PlanTable) (own : ℕ → Bool) (p : ℕ) → p < place_count t → own (label_for t (zones_of t (touches t p))) ≡ true → HasPlace (labelled t own) p
+place_has t own p l e = let f = found_in (λ x. own (label_for t (zones_of t (touches t x)))) (place_count t) p l e in (f.0, f.1.0, f.1.1)
+
+pub zone_own : (t : PlanTable) (own : ℕ → Bool) (z : ℕ) → HasZone (labelled t own) z → (z < zone_count t) × (own (label_of (labels_of t) z) ≡ true)
+zone_own t own z has =
+    let test : ℕ → Bool = λ x. own (label_of (labels_of t) x) in
     let k = picked test 0 (zone_count t) in
     let below = k.below has.0 has.1 in
-    (subst (λ x. x < zone_count t) has.2 (omega (arith, below)), subst (λ x. label_of (labels_of t) x ≡ n) has.2 (eqb-true _ _ (k.passes has.0 has.1)))
+    (subst (λ x. x < zone_count t) has.2 (omega (arith, below)), subst (λ x. own (label_of (labels_of t) x) ≡ true) has.2 (k.passes has.0 has.1))
 
-pose_label : (t : PlanTable) (n p : ℕ) → HasPose (group_of t n) p → (p < pose_count t) × (label_for t (zones_of t (looks_at t p)) ≡ n)
-pose_label t n p has =
-    let test : ℕ → Bool = λ x. nat_eq (label_for t (zones_of t (looks_at t x))) n in
+pub pose_own : (t : PlanTable) (own : ℕ → Bool) (p : ℕ) → HasPose (labelled t own) p → (p < pose_count t) × (own (label_for t (zones_of t (looks_at t p))) ≡ true)
+pose_own t own p has =
+    let test : ℕ → Bool = λ x. own (label_for t (zones_of t (looks_at t x))) in
     let k = picked test 0 (pose_count t) in
     let below = k.below has.0 has.1 in
-    (subst (λ x. x < pose_count t) has.2 (omega (arith, below)), subst (λ x. label_for t (zones_of t (looks_at t x)) ≡ n) has.2 (eqb-true _ _ (k.passes has.0 has.1)))
+    (subst (λ x. x < pose_count t) has.2 (omega (arith, below)), subst (λ x. own (label_for t (zones_of t (looks_at t x))) ≡ true) has.2 (k.passes has.0 has.1))
 
-pub place_label : (t : PlanTable) (n p : ℕ) → HasPlace (group_of t n) p → (p < place_count t) × (label_for t (zones_of t (touches t p)) ≡ n)
-place_label t n p has =
-    let test : ℕ → Bool = λ x. nat_eq (label_for t (zones_of t (touches t x))) n in
+pub place_own : (t : PlanTable) (own : ℕ → Bool) (p : ℕ) → HasPlace (labelled t own) p → (p < place_count t) × (own (label_for t (zones_of t (touches t p))) ≡ true)
+place_own t own p has =
+    let test : ℕ → Bool = λ x. own (label_for t (zones_of t (touches t x))) in
     let k = picked test 0 (place_count t) in
     let below = k.below has.0 has.1 in
-    (subst (λ x. x < place_count t) has.2 (omega (arith, below)), subst (λ x. label_for t (zones_of t (touches t x)) ≡ n) has.2 (eqb-true _ _ (k.passes has.0 has.1)))
+    (subst (λ x. x < place_count t) has.2 (omega (arith, below)), subst (λ x. own (label_for t (zones_of t (touches t x))) ≡ true) has.2 (k.passes has.0 has.1))
+
+-- the group of a label
+pub has_zone : (t : PlanTable) (n z : ℕ) → z < zone_count t → label_of (labels_of t) z ≡ n → HasZone (group_of t n) z
+has_zone t n z l e = zone_has t (λ x. nat_eq x n) z l (ap (λ x. nat_eq x n) e ∙ nat_eq-self n)
 
 pub has_pose : (t : PlanTable) (n p : ℕ) → p < pose_count t → label_for t (zones_of t (looks_at t p)) ≡ n → HasPose (group_of t n) p
-has_pose t n p l e =
-    let f = found_in (λ x. nat_eq (label_for t (zones_of t (looks_at t x))) n) (pose_count t) p l (ap (λ x. nat_eq x n) e ∙ nat_eq-self n) in
-    (f.0, f.1.0, f.1.1)
+has_pose t n p l e = pose_has t (λ x. nat_eq x n) p l (ap (λ x. nat_eq x n) e ∙ nat_eq-self n)
 
 pub has_place : (t : PlanTable) (n p : ℕ) → p < place_count t → label_for t (zones_of t (touches t p)) ≡ n → HasPlace (group_of t n) p
-has_place t n p l e =
-    let f = found_in (λ x. nat_eq (label_for t (zones_of t (touches t x))) n) (place_count t) p l (ap (λ x. nat_eq x n) e ∙ nat_eq-self n) in
-    (f.0, f.1.0, f.1.1)
+has_place t n p l e = place_has t (λ x. nat_eq x n) p l (ap (λ x. nat_eq x n) e ∙ nat_eq-self n)
+
+pub zone_label : (t : PlanTable) (n z : ℕ) → HasZone (group_of t n) z → (z < zone_count t) × (label_of (labels_of t) z ≡ n)
+zone_label t n z has = let h = zone_own t (λ x. nat_eq x n) z has in (h.0, eqb-true _ _ h.1)
+
+place_label : (t : PlanTable) (n p : ℕ) → HasPlace (group_of t n) p → (p < place_count t) × (label_for t (zones_of t (touches t p)) ≡ n)
+place_label t n p has = let h = place_own t (λ x. nat_eq x n) p has in (h.0, eqb-true _ _ h.1)
 
 touched_in : (t : PlanTable) → IsLargePlan t → (z p : ℕ) → z < zone_count t → Touches t z p → p < place_count t
 touched_in t k z p l x = touched_in_by t k z p l x.0 x.1 x.2 x.3
 
-pose_zone_label : (t : PlanTable) (p z : ℕ) → p < pose_count t → z < zone_count t → LooksAt t p z → label_for t (zones_of t (looks_at t p)) ≡ label_of (labels_of t) z
+pub pose_zone_label : (t : PlanTable) (p z : ℕ) → p < pose_count t → z < zone_count t → LooksAt t p z → label_for t (zones_of t (looks_at t p)) ≡ label_of (labels_of t) z
 pose_zone_label t p z l m x = let set = pose_set t p l in set_label t p (looks_at t p) z set.0 set.1 m (looks t p z x)
 
 place_zone_label : (t : PlanTable) (p z : ℕ) → p < place_count t → z < zone_count t → Touches t z p → label_for t (zones_of t (touches t p)) ≡ label_of (labels_of t) z
 place_zone_label t p z l m x = let set = place_set t p l in set_label t (pose_count t + p) (touches t p) z set.0 set.1 m (touching t z p x)
 
-pub is_group : (t : PlanTable) (n : ℕ) → IsLargePlan t → IsGroup t (group_of t n)
-is_group t n k = record {
-  zones = picked_rises (λ x. nat_eq (label_of (labels_of t) x) n) (zone_count t);
-  poses = picked_rises (λ x. nat_eq (label_for t (zones_of t (looks_at t x))) n) (pose_count t);
-  places = picked_rises (λ x. nat_eq (label_for t (zones_of t (touches t x))) n) (place_count t);
+pub labelled_group : (t : PlanTable) (own : ℕ → Bool) → IsLargePlan t → IsGroup t (labelled t own)
+labelled_group t own k = record {
+  zones = picked_rises (λ x. own (label_of (labels_of t) x)) (zone_count t);
+  poses = picked_rises (λ x. own (label_for t (zones_of t (looks_at t x)))) (pose_count t);
+  places = picked_rises (λ x. own (label_for t (zones_of t (touches t x)))) (place_count t);
   by_pose = λ p z has l x.
-      let h = pose_label t n p has in
-      has_zone t n z l (sym (pose_zone_label t p z h.0 l x) ∙ h.1);
+      let h = pose_own t own p has in
+      zone_has t own z l (ap own (sym (pose_zone_label t p z h.0 l x)) ∙ h.1);
   by_place = λ p z has l x.
-      let h = place_label t n p has in
-      has_zone t n z l (sym (place_zone_label t p z h.0 l x) ∙ h.1);
+      let h = place_own t own p has in
+      zone_has t own z l (ap own (sym (place_zone_label t p z h.0 l x)) ∙ h.1);
   by_way = λ z p has x.
-      let h = zone_label t n z has in
+      let h = zone_own t own z has in
       let in_plan = touched_in t k z p h.0 x in
-      has_place t n p in_plan (place_zone_label t p z in_plan h.0 x ∙ h.1);
+      place_has t own p in_plan (ap own (place_zone_label t p z in_plan h.0 x) ∙ h.1);
   by_space = λ y z has l e.
-      let h = zone_label t n z has in
-      has_zone t n y l (space_label t y z l h.0 e ∙ h.1);
+      let h = zone_own t own z has in
+      zone_has t own y l (ap own (space_label t y z l h.0 e) ∙ h.1);
 }
+
+pub is_group : (t : PlanTable) (n : ℕ) → IsLargePlan t → IsGroup t (group_of t n)
+is_group t n k = labelled_group t (λ x. nat_eq x n) k
 
 -- ---- each has a label of a zone, or the last one
 

@@ -31,10 +31,15 @@ mod CutTables
 mod CutLeast
 mod CutRows
 mod CutForty
+mod Known
+mod WordRows
 mod CutMotors
 mod Loops
 mod RowRules
+mod SharedWords
 mod WordOrder
+mod Widths
+mod FirstFit
 mod WordFaults
 mod WordNumbers
 mod CutLoops

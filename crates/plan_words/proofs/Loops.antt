@@ -82,14 +82,14 @@ filled_more xs d v n l =
 number_here : (xs : List ℕ) (n x : ℕ) (b : Bool) → nat_eq x n ≡ b → number_in (x ∷ xs) n ≡ (if b then 0 else 1 + number_in xs n)
 number_here xs n x b e = ap (λ c. if c then 0 else 1 + number_in xs n) e
 
-pub number_found_at : (xs : List ℕ) (n i d : ℕ) → i < length xs → get_or xs i d ≡ n → number_in (drop i xs) n ≡ 0
-number_found_at xs n i d l e = at_drop_more (λ ys. number_in ys n) xs i d l ∙ number_here (drop (i + 1) xs) n (get_or xs i d) true (eq-eqb _ _ e)
+pub found_at : (xs : List ℕ) (n i d : ℕ) → i < length xs → get_or xs i d ≡ n → number_in (drop i xs) n ≡ 0
+found_at xs n i d l e = at_drop_more (λ ys. number_in ys n) xs i d l ∙ number_here (drop (i + 1) xs) n (get_or xs i d) true (eq-eqb _ _ e)
 
-pub number_not_at : (xs : List ℕ) (n i d : ℕ) → i < length xs → get_or xs i d ≢ n → number_in (drop i xs) n ≡ 1 + number_in (drop (i + 1) xs) n
-number_not_at xs n i d l ne = at_drop_more (λ ys. number_in ys n) xs i d l ∙ number_here (drop (i + 1) xs) n (get_or xs i d) false (false_from_ne_true _ (λ t. ne (eqb-true _ _ t)))
+pub not_at : (xs : List ℕ) (n i d : ℕ) → i < length xs → get_or xs i d ≢ n → number_in (drop i xs) n ≡ 1 + number_in (drop (i + 1) xs) n
+not_at xs n i d l ne = at_drop_more (λ ys. number_in ys n) xs i d l ∙ number_here (drop (i + 1) xs) n (get_or xs i d) false (false_from_ne_true _ (λ t. ne (eqb-true _ _ t)))
 
-pub number_past : (xs : List ℕ) (n i : ℕ) → length xs ≤ i → number_in (drop i xs) n ≡ 0
-number_past xs n i l = at_drop_all (λ ys. number_in ys n) xs i l
+pub none_at : (xs : List ℕ) (n i : ℕ) → length xs ≤ i → number_in (drop i xs) n ≡ 0
+none_at xs n i l = at_drop_all (λ ys. number_in ys n) xs i l
 
 pub number_at_most : (xs : List ℕ) (n : ℕ) → number_in xs n ≤ length xs
 number_at_most [] n = omega arith

@@ -70,14 +70,14 @@ space_out t g u is k zero l = first_out t g is l (zone_out g 0) refl
 space_out t g u is k (suc i) l = next_out t g u is k i l (space_out t g u is k i (omega (arith, l))) (zone_out g (suc i)) refl (joins u (suc i)) refl
 
 -- numbers of the group are told apart by those of the plan
-apart_numbers : (t : PlanTable) (g : Group) → IsGroup t g → (i j : ℕ) → i < length g.zones → j < length g.zones → zone_out g i ≡ zone_out g j → i ≡ j
+pub apart_numbers : (t : PlanTable) (g : Group) → IsGroup t g → (i j : ℕ) → i < length g.zones → j < length g.zones → zone_out g i ≡ zone_out g j → i ≡ j
 apart_numbers t g is i j l m e = elim (cases_order i j) [
   | inl s ↦ s
   | inr (inl h) ↦ let x = is.zones.rises i j h m in absurd (omega (arith, x, e))
   | inr (inr h) ↦ let x = is.zones.rises j i h l in absurd (omega (arith, x, e))
 ]
 
-same_test : (a b c d : ℕ) → (a ≡ b → c ≡ d) → (c ≡ d → a ≡ b) → nat_eq a b ≡ nat_eq c d
+pub same_test : (a b c d : ℕ) → (a ≡ b → c ≡ d) → (c ≡ d → a ≡ b) → nat_eq a b ≡ nat_eq c d
 same_test a b c d f g = by (nat_eq c d) refl
   where
     by : (x : Bool) → nat_eq c d ≡ x → nat_eq a b ≡ nat_eq c d

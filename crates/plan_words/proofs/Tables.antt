@@ -148,7 +148,7 @@ moves_by_zone (Some OpenIn ∷ gives) (suc z) e = moves_by_zone gives z e
 moves_by_zone (Some OpenOut ∷ gives) (suc z) e = moves_by_zone gives z e
 moves_by_zone (None ∷ gives) (suc z) e = moves_by_zone gives z e
 
-same_bool : (a b : Bool) → (a ≡ true → b ≡ true) → (b ≡ true → a ≡ true) → a ≡ b
+pub same_bool : (a b : Bool) → (a ≡ true → b ≡ true) → (b ≡ true → a ≡ true) → a ≡ b
 same_bool true b f g = sym (f refl)
 same_bool false true f g = g refl
 same_bool false false f g = refl

@@ -1,11 +1,14 @@
 -- Where a number is found among those of a word.
-use Rattle.std.proofs.Common.{◌≡◌, ◌≢◌, ℕ, suc, ◌+◌, ◌<◌, ◌≤◌, inl, inr, List, [], ◌∷◌, length, get_or, refl, sym, subst, ap, ◌∙◌, arith, if◌then◌else◌, Bool, true, false, nat_eq}
+use Rattle.std.proofs.Common.{◌≡◌, ◌≢◌, ℕ, suc, ◌+◌, ◌<◌, ◌≤◌, ◌⊎◌, inl, inr, List, [], ◌∷◌, length, get_or, refl, sym, subst, ap, ◌∙◌, arith, if◌then◌else◌, Bool, true, false, nat_eq}
 use Rattle.std.proofs.lemmas.Bool.{eqb-true}
 use Rattle.plan_types.proofs.lemmas.Below.{below_next}
 use Rattle.plan_words.specs.Group.{past, HasZone, HasPose, HasPlace}
 use Rattle.plan_words.specs.Groups.{number_in}
 use Rattle.plan_words.specs.Plant.{PlantWords, word_at}
-use Rattle.plan_words.specs.PlantRoutes.{IsZone, IsPose, IsPlace}
+use Rattle.plan_types.specs.declared.call.Call.{Call}
+use Rattle.plan_types.specs.declared.call.Call.TheVariants.{Claim, Give, Yield, Take, Release, SetPose, Inquire, Stop, Resume, Advance}
+use Rattle.plan_words.specs.declared.routing.OnWord.{OnWord}
+use Rattle.plan_words.specs.PlantRoutes.{IsZone, IsPose, IsPlace, HasNoZone, HasNoPose, HasNoPlace, IsOfNoWord, IsRow, renumbered, IsRoute}
 use Rattle.plan_words.proofs.Tables.{number_found}
 
 found_by : (x : ℕ) (xs : List ℕ) (n : ℕ) → (number_in xs n < length xs → get_or xs (number_in xs n) past ≡ n) → (b : Bool) → nat_eq x n ≡ b
@@ -69,3 +72,37 @@ pub no_place : (v : PlantWords) (place word number : ℕ) (places : List ℕ) �
 no_place v place word number places same is m before =
     missed (λ n. HasPlace (word_at v n).group place) word before
     (λ has. isnt_there places place has.0 (subst (λ k. length places ≤ k) is m) (subst (λ xs. has.0 < length xs) (sym same) has.1) (ap (λ xs. get_or xs has.0 past) same ∙ has.2))
+
+-- ---- calls
+
+pub row_routes : (v : PlantWords) (call : Call) (on : OnWord) → IsRow v call on → IsRoute v call (record { word = on.word; call = renumbered call on.number })
+row_routes v (Claim z) on r = record { word = r.word; own = r.number; is = ap (λ n. let c : Call = Claim n in c) r.is }
+row_routes v (Give z) on r = record { word = r.word; own = r.number; is = ap (λ n. let c : Call = Give n in c) r.is }
+row_routes v (Yield z) on r = record { word = r.word; own = r.number; is = ap (λ n. let c : Call = Yield n in c) r.is }
+row_routes v (Take z) on r = record { word = r.word; own = r.number; is = ap (λ n. let c : Call = Take n in c) r.is }
+row_routes v (Release z) on r = record { word = r.word; own = r.number; is = ap (λ n. let c : Call = Release n in c) r.is }
+row_routes v (SetPose p) on r = record { word = r.word; own = r.number; is = ap (λ n. let c : Call = SetPose n in c) r.is }
+row_routes v (Inquire z) on r = record { word = r.word; own = r.number; is = ap (λ n. let c : Call = Inquire n in c) r.is }
+row_routes v Stop on r = absurd r
+row_routes v Resume on r = absurd r
+row_routes v (Advance p) on r = record { word = r.word; own = r.number; is = ap (λ n. let c : Call = Advance n in c) r.is }
+
+-- no word has the row of a call
+pub no_zone_row : (v : PlantWords) (call : Call) (n z : ℕ) → n ≡ z → HasNoZone v n
+    → (call ≡ Claim z) ⊎ ((call ≡ Give z) ⊎ ((call ≡ Yield z) ⊎ ((call ≡ Take z) ⊎ ((call ≡ Release z) ⊎ (call ≡ Inquire z))))) → IsOfNoWord v call
+no_zone_row v call n z same none is =
+    let here : HasNoZone v z = subst (HasNoZone v) same none in
+    elim is [
+      | inl e ↦ subst (IsOfNoWord v) (sym e) here
+      | inr (inl e) ↦ subst (IsOfNoWord v) (sym e) here
+      | inr (inr (inl e)) ↦ subst (IsOfNoWord v) (sym e) here
+      | inr (inr (inr (inl e))) ↦ subst (IsOfNoWord v) (sym e) here
+      | inr (inr (inr (inr (inl e)))) ↦ subst (IsOfNoWord v) (sym e) here
+      | inr (inr (inr (inr (inr e)))) ↦ subst (IsOfNoWord v) (sym e) here
+    ]
+
+pub no_pose_row : (v : PlantWords) (call : Call) (n p : ℕ) → n ≡ p → HasNoPose v n → call ≡ SetPose p → IsOfNoWord v call
+no_pose_row v call n p same none e = subst (IsOfNoWord v) (sym e) (subst (HasNoPose v) same none)
+
+pub no_place_row : (v : PlantWords) (call : Call) (n p : ℕ) → n ≡ p → HasNoPlace v n → call ≡ Advance p → IsOfNoWord v call
+no_place_row v call n p same none e = subst (IsOfNoWord v) (sym e) (subst (HasNoPlace v) same none)

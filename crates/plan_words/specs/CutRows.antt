@@ -108,7 +108,7 @@ pub record OutOfTurn : Type 0 where
   pub given_onto_plan : reply through (plant (true ∷ true ∷ false ∷ [])) 0 (Give 0) ≡ Refused PlaceFull
   pub opens_too_early : ¬ IsInTurn hand_cut (plant (true ∷ true ∷ false ∷ false ∷ []))
       (plant (true ∷ true ∷ false ∷ [])) (Advance 1)
-  -- a plate that has left is lent once more, and given once more
+  -- a plate that has left is lent again, and given again
   pub lends_again : reply hand_cut.cut (plant (true ∷ true ∷ false ∷ false ∷ [])) 1 (Advance 3) ≡ Done
   pub given_again : reply hand_cut.cut (plant (true ∷ true ∷ false ∷ true ∷ [])) 1 (Give 1) ≡ Done
   pub given_again_plan : reply through (plant (true ∷ false ∷ false ∷ [])) 1 (Give 1) ≡ Refused NoPlate

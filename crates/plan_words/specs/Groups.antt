@@ -1,5 +1,5 @@
 -- The groups of a plan, computed: each pose, and each place, joins the zones that it needs on one word; and so does a
--- space.
+-- space. Groups may share a word.
 use Rattle.std.specs.Prelude.{◌≡◌, ◌≢◌, ℕ, suc, ◌+◌, ◌-◌, ◌<◌, ◌≤◌, Bool, false, ◌&&◌, ◌||◌, nat_eq, List, [], ◌∷◌}
 use Rattle.std.specs.Prelude.{◌++◌, length, map, filter}
 use Rattle.std.specs.Prelude.{get_or, Option, Some, None, option_map, is_some, IsTrue, if◌then◌else◌}
@@ -68,7 +68,7 @@ by_spaces t = map (with_space t) (range_with_len 0 (zone_count t - 1))
 abbrev pub joined : PlanTable → List (List ℕ)
 joined t = by_poses t ++ by_places t ++ by_spaces t
 
--- Each zone has a label; zones of one label share a word. Where zones are joined, all labels among them become that of
+-- Each zone has a label; zones of one label are one group. Where zones are joined, all labels among them become that of
 -- the first one
 abbrev pub label_of : List ℕ → ℕ → ℕ
 label_of labels z = get_or labels z past
@@ -90,13 +90,17 @@ abbrev pub label_for : PlanTable → List ℕ → ℕ
 label_for t [] = zone_count t
 label_for t (z ∷ zones) = label_of (labels_of t) z
 
+-- the zones, poses and places whose label passes a test
+abbrev pub labelled : PlanTable → (ℕ → Bool) → Group
+labelled t own = record {
+  zones = zones_of t (λ z. own (label_of (labels_of t) z));
+  poses = filter (λ p. own (label_for t (zones_of t (looks_at t p)))) (range_with_len 0 (pose_count t));
+  places = filter (λ p. own (label_for t (zones_of t (touches t p)))) (range_with_len 0 (place_count t));
+}
+
 -- the group of a label, maybe an empty one
 abbrev pub group_of : PlanTable → ℕ → Group
-group_of t n = record {
-  zones = zones_of t (λ z. nat_eq (label_of (labels_of t) z) n);
-  poses = filter (λ p. nat_eq (label_for t (zones_of t (looks_at t p))) n) (range_with_len 0 (pose_count t));
-  places = filter (λ p. nat_eq (label_for t (zones_of t (touches t p))) n) (range_with_len 0 (place_count t));
-}
+group_of t n = labelled t (λ l. nat_eq l n)
 
 -- the number in the group of a place of the plan: how many come before it
 abbrev pub number_in : List ℕ → ℕ → ℕ

@@ -18,6 +18,7 @@ pub mod CutRows
 pub mod CutLeast
 pub mod CutMotors
 pub mod Plant
+pub mod FirstFit
 pub mod PlantFaults
 pub mod PlantRoutes
 pub mod PlantCut

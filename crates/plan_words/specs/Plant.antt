@@ -1,15 +1,16 @@
--- A plant on several words: its limits, the rules of its rows, and its words in the order of their first zones.
-use Rattle.std.specs.Prelude.{ℕ, ◌<◌, ◌≤◌, Bool, ◌||◌, not, nat_eq, nat_lt, List, [], ◌∷◌, ◌++◌, length, map}
-use Rattle.std.specs.Prelude.{get_or}
-use Rattle.std.specs.Prelude.{Option, if◌then◌else◌}
+-- A plant on several words: its limits, the rules of its rows, and which groups share a word.
+use Rattle.std.specs.Prelude.{ℕ, ◌+◌, ◌<◌, ◌≤◌, Bool, ◌&&◌, not, nat_eq, nat_lt, nat_le, List, [], ◌∷◌, ◌++◌, length}
+use Rattle.std.specs.Prelude.{map, get_or, set, Option, if◌then◌else◌}
+use Rattle.std.specs.List.{list_any}
 use Rattle.plan_types.specs.declared.fault.PlanFault.{PlanFault}
 use Rattle.plan_types.specs.declared.fault.PlanFault.TheVariants.{NoSuchMachine}
 use Rattle.plan_types.specs.Below.{first_below, any_below}
 use Rattle.plan_types.specs.Table.{PlanTable, plan_table, zone_count, pose_count, place_count, pose_row, machine_of}
+use Rattle.plan_types.specs.Table.{word_width}
 use Rattle.plan_types.specs.Plan.{IsPlan}
 use Rattle.plan_types.specs.Faults.{◌or◌, unless, keeper_fault, zone_fault, foreign_fault, space_fault, halves_fault}
-use Rattle.plan_words.specs.Groups.{IsLargePlan, zones_of, label_of, labels_of, word_of}
-use Rattle.plan_words.specs.Route.{word_of_pose, word_of_place}
+use Rattle.plan_words.specs.Group.{Group, past}
+use Rattle.plan_words.specs.Groups.{IsLargePlan, zones_of, label_of, labels_of, labelled, table_of}
 use Rattle.plan_words.specs.Run.{Word, IsLaidOut}
 
 -- ---- what a plant may have
@@ -38,29 +39,50 @@ row_fault t =
 
 -- ---- the words
 
--- a zone is the first one of its word: no zone before it has its label
+-- a zone is the first one of its group: no zone before it has its label
 abbrev pub is_first : List ℕ → ℕ → Bool
 is_first labels z = not (any_below (λ y. nat_eq (label_of labels y) (label_of labels z)) z)
 
 abbrev pub first_zones : PlanTable → List ℕ
 first_zones t = zones_of t (is_first (labels_of t))
 
--- a pose that looks at no zone, and a place that no way touches
-abbrev pub is_loose_pose : PlanTable → ℕ → Bool
-is_loose_pose t p = nat_eq (word_of_pose t p) (zone_count t)
+-- the labels of the groups, in the order of their first zones; then that of the poses and places that need no zone
+abbrev pub group_labels : PlanTable → List ℕ
+group_labels t = map (label_of (labels_of t)) (first_zones t) ++ zone_count t ∷ []
 
-abbrev pub is_loose_place : PlanTable → ℕ → Bool
-is_loose_place t p = nat_eq (word_of_place t p) (zone_count t)
+-- groups that share a word, by their labels: what they have together, by the plant's numbers, which rise
+abbrev pub together : PlanTable → List ℕ → Group
+together t labels = labelled t (λ l. list_any (nat_eq l) labels)
 
-abbrev pub has_loose : PlanTable → Bool
-has_loose t = any_below (is_loose_pose t) (pose_count t) || any_below (is_loose_place t) (place_count t)
+-- it fits a word, computed
+abbrev pub fits : PlanTable → Group → Bool
+fits t g =
+    nat_le t.machines 15 && nat_le (length g.zones) 10 && nat_le (length g.poses) 64 && nat_le (length g.places) 16
+    && nat_le (word_width (table_of t g)) 64
 
--- the labels of the words: those of their first zones, in order; and the last one, if anything is loose
-abbrev pub word_labels : PlanTable → List ℕ
-word_labels t = map (label_of (labels_of t)) (first_zones t) ++ (if has_loose t then zone_count t ∷ [] else [])
+-- the first word that has room for one group more; if none has, the word after all
+abbrev pub first_room : PlanTable → ℕ → List (List ℕ) → ℕ
+first_room t n [] = 0
+first_room t n (word ∷ words) = if fits t (together t (word ++ n ∷ [])) then 0 else 1 + first_room t n words
+
+-- words with one group more on this word, or on a new one
+abbrev pub put_on : ℕ → ℕ → List (List ℕ) → List (List ℕ)
+put_on n k words = if nat_lt k (length words) then set words k (get_or words k [] ++ n ∷ []) else words ++ (n ∷ []) ∷ []
+
+-- each group goes to the first word that has room for it
+abbrev pub all_put_on : PlanTable → List ℕ → List (List ℕ) → List (List ℕ)
+all_put_on t [] words = words
+all_put_on t (n ∷ labels) words = all_put_on t labels (put_on n (first_room t n words) words)
+
+-- the groups of each word
+abbrev pub sharers : PlanTable → List (List ℕ)
+sharers t = all_put_on t (group_labels t) []
+
+abbrev pub shared_word : PlanTable → List ℕ → Word
+shared_word t labels = record { group = together t labels; table = table_of t (together t labels) }
 
 abbrev pub words_of : PlanTable → List Word
-words_of t = map (word_of t) (word_labels t)
+words_of t = map (shared_word t) (sharers t)
 
 -- a plant, and its words: each by its number
 pub record PlantWords : Type 0 where
@@ -76,6 +98,11 @@ word_at v n = get_or v.words n no_word
 -- each word's tables are a plan
 abbrev pub ArePlans : List Word → Type 0
 ArePlans words = (n : ℕ) → n < length words → IsPlan (get_or words n no_word).table
+
+-- each of these groups is a plan on a word of its own
+abbrev pub AreAlonePlans : PlanTable → List ℕ → Type 0
+AreAlonePlans t labels =
+    (n : ℕ) → n < length labels → IsPlan (shared_word t (get_or labels n past ∷ [])).table
 
 -- the plant is laid out on its words, of which there are sixteen at most
 pub record IsOnWords (v : PlantWords) : Type 0 where

@@ -1,4 +1,4 @@
--- Where a call goes: to the word of its zone, pose or place, by the number there. Stop and Resume go to each word in
+-- Where a call goes: to the group of its zone, pose or place, by the number there. Stop and Resume go to each word in
 -- turn.
 use Rattle.std.specs.Prelude.{◌≡◌, ℕ, ◌+◌, ◌<◌}
 use Rattle.plan_types.specs.declared.call.Call.{Call}
@@ -9,27 +9,27 @@ use Rattle.plan_words.specs.Group.{Group}
 use Rattle.plan_words.specs.Words.{call_out, IsCallOf}
 use Rattle.plan_words.specs.Groups.{label_of, labels_of, label_for, zones_of, looks_at, touches, group_of, number_in}
 
--- the word of a zone, of a pose, and of a place
-abbrev pub word_of_zone : PlanTable → ℕ → ℕ
-word_of_zone t z = label_of (labels_of t) z
+-- the group of a zone, of a pose, and of a place: its label
+abbrev pub group_of_zone : PlanTable → ℕ → ℕ
+group_of_zone t z = label_of (labels_of t) z
 
-abbrev pub word_of_pose : PlanTable → ℕ → ℕ
-word_of_pose t p = label_for t (zones_of t (looks_at t p))
+abbrev pub group_of_pose : PlanTable → ℕ → ℕ
+group_of_pose t p = label_for t (zones_of t (looks_at t p))
 
-abbrev pub word_of_place : PlanTable → ℕ → ℕ
-word_of_place t p = label_for t (zones_of t (touches t p))
+abbrev pub group_of_place : PlanTable → ℕ → ℕ
+group_of_place t p = label_for t (zones_of t (touches t p))
 
-abbrev pub word_for : PlanTable → Call → ℕ
-word_for t (Claim z) = word_of_zone t z
-word_for t (Give z) = word_of_zone t z
-word_for t (Yield z) = word_of_zone t z
-word_for t (Take z) = word_of_zone t z
-word_for t (Release z) = word_of_zone t z
-word_for t (SetPose p) = word_of_pose t p
-word_for t (Inquire z) = word_of_zone t z
-word_for t Stop = 0
-word_for t Resume = 0
-word_for t (Advance p) = word_of_place t p
+abbrev pub group_for : PlanTable → Call → ℕ
+group_for t (Claim z) = group_of_zone t z
+group_for t (Give z) = group_of_zone t z
+group_for t (Yield z) = group_of_zone t z
+group_for t (Take z) = group_of_zone t z
+group_for t (Release z) = group_of_zone t z
+group_for t (SetPose p) = group_of_pose t p
+group_for t (Inquire z) = group_of_zone t z
+group_for t Stop = 0
+group_for t Resume = 0
+group_for t (Advance p) = group_of_place t p
 
 -- a call by the numbers of a group
 abbrev pub call_in : Group → Call → Call
@@ -56,11 +56,11 @@ IsCallOfPlan t Stop = Unit {0}
 IsCallOfPlan t Resume = Unit {0}
 IsCallOfPlan t (Advance p) = p < place_count t
 
--- on its word it is a call of the group, which is this call by the plan's numbers
+-- it is a call of the group, which is this call by the plan's numbers
 pub record IsRouted (t : PlanTable) (c : Call) : Type 0 where
-  pub word : word_for t c < zone_count t + 1
-  pub in_group : IsCallOf (group_of t (word_for t c)) (call_in (group_of t (word_for t c)) c)
-  pub back : call_out (group_of t (word_for t c)) (call_in (group_of t (word_for t c)) c) ≡ c
+  pub group : group_for t c < zone_count t + 1
+  pub in_group : IsCallOf (group_of t (group_for t c)) (call_in (group_of t (group_for t c)) c)
+  pub back : call_out (group_of t (group_for t c)) (call_in (group_of t (group_for t c)) c) ≡ c
 
 abbrev pub CallsAreRouted : Type 0
 CallsAreRouted = (t : PlanTable) (c : Call) → IsCallOfPlan t c → IsRouted t c

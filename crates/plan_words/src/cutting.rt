@@ -1,6 +1,6 @@
 //! Places that are cut: each way from such a place starts at an exit of its own, and each way to it but the last one
 //! ends at an entry of its own.
-ghost use Rattle.std.specs.Prelude.{◌≡◌, ◌+◌, ◌++◌, ◌≤◌, ◌<◌, IfOk, OnOk, drop, length, map, if◌then◌else◌};
+ghost use Rattle.std.specs.Prelude.{◌≡◌, ◌+◌, ◌++◌, ◌≤◌, ◌<◌, IfOk, IfErr, OnOk, drop, length, map, if◌then◌else◌};
 ghost use Rattle.std.specs.List.{range_with_len};
 ghost use mir.Val.{bool_byte};
 ghost use Rattle.plan_types.specs.Table as table;
@@ -9,7 +9,7 @@ ghost use Rattle.plan_words.specs.PlantCut as own;
 ghost use Rattle.plan_words.specs.PlantCut.{cuts_at, cut_of};
 
 use crate::fault::{Limit, PlantFault};
-use crate::joining::push_if;
+use crate::joining::{contains, push_if};
 use crate::plant::{MAX_PLANT_ZONES, PlantTables};
 use plan_types::{PlanPlace, PlanZone, Way};
 use std::alloc::{AllocError, Global};
@@ -25,6 +25,15 @@ pub struct CutPlant {
     pub entries: Vec<usize>,
 }
 
+/// The rows that a cut changes, and the place of each exit and of each entry.
+#[derive(Drop)]
+struct CutRows {
+    zones: Vec<PlanZone>,
+    places: Vec<PlanPlace>,
+    exits: Vec<usize>,
+    entries: Vec<usize>,
+}
+
 /// What is next: the numbers of an exit and of an entry.
 #[derive(Clone, Copy)]
 struct Next {
@@ -38,13 +47,6 @@ fn either(first: bool, number: usize, other: u8) -> u8
     ensures { result ≡ (if first then number else other) }
 {
     if first { number as u8 } else { other }
-}
-
-/// Whether a place is one of these.
-fn has_place(places: &[usize], place: usize) -> bool
-    ensures { result ≡ own.is_chosen places.now place }
-{
-    places.iter().any(|other| place == *other)
 }
 
 fn ends_at(place: usize, way: Option<Way>) -> bool
@@ -69,7 +71,7 @@ impl PlantTables {
         ensures { result ≡ cuts_at self.now places.now place }
     {
         let row = self.place(place);
-        has_place(places, place) && !(row.source || row.sink)
+        contains(places, place) && !(row.source || row.sink)
     }
 
     /// The zones after a zone.
@@ -188,6 +190,7 @@ impl PlantTables {
         }
     }
 
+    #[tactic(auto, using(crate::proofs::CutLoops::exits_step, crate::proofs::CutLoops::exits_end))]
     /// The place of each exit.
     fn exits(&self, places: &[usize], alloc: Global) -> Result<Vec<usize>, AllocError>
         ensures { IfOk result (λ exits. exits.items
@@ -202,6 +205,7 @@ impl PlantTables {
         Ok(exits)
     }
 
+    #[tactic(auto, using(crate::proofs::CutLoops::entries_step, crate::proofs::CutLoops::entries_end))]
     /// The place of each entry.
     fn entries(&self, places: &[usize], alloc: Global) -> Result<Vec<usize>, AllocError>
         ensures { IfOk result (λ entries. entries.items
@@ -282,8 +286,8 @@ impl PlantTables {
         ensures { result ≡ cut.place_cut self.now exits.now entries.now place }
     {
         let row = self.place(place);
-        let refilled = has_place(entries, place);
-        let cut = has_place(exits, place) || refilled;
+        let refilled = contains(entries, place);
+        let cut = contains(exits, place) || refilled;
         if cut {
             PlanPlace {
                 keeper: row.keeper,
@@ -373,6 +377,43 @@ impl PlantTables {
         Ok(rows)
     }
 
+    /// The rows with some places cut.
+    fn cut_rows(&self, places: &[usize], alloc: Global) -> Result<CutRows, PlantFault>
+        ensures zones { let cuts = cut_of self.now places.now in
+            IfOk result (λ made. made.zones.items ≡ cuts.cut.zones) }
+        ensures places { let cuts = cut_of self.now places.now in
+            IfOk result (λ made. made.places.items ≡ cuts.cut.places) }
+        ensures exits { let cuts = cut_of self.now places.now in
+            IfOk result (λ made. made.exits.items ≡ cuts.exits) }
+        ensures entries { let cuts = cut_of self.now places.now in
+            IfOk result (λ made. made.entries.items ≡ cuts.entries) }
+        ensures fault { IfErr result (own.SaysOfCut self.now places.now) }
+    {
+        if self.zone_count() > MAX_PLANT_ZONES {
+            return Err(PlantFault::TooMany(Limit::Zones));
+        }
+        if self.place_count() > 64 {
+            return Err(PlantFault::TooMany(Limit::Places));
+        }
+        let exits = self.exits(places, alloc)?;
+        let first = Next {
+            exit: self.place_count(),
+            entry: self.place_count() + exits.len(),
+        };
+        if first.entry > 144 {
+            return Err(PlantFault::TooMany(Limit::Places));
+        }
+        let entries = self.entries(places, alloc)?;
+        let zones = self.zones_cut(places, first, alloc)?;
+        let rows = self.places_cut(&exits, &entries, alloc)?;
+        Ok(CutRows {
+            zones,
+            places: rows,
+            exits,
+            entries,
+        })
+    }
+
     /// This plant with some of its places cut; sources and sinks stay whole. It may have up to 64 places, up to 144
     /// with the exits, and up to 40 zones.
     pub fn cut_at(self, places: &[usize], alloc: Global) -> Result<CutPlant, PlantFault>
@@ -380,30 +421,20 @@ impl PlantTables {
         ensures exits { IfOk result (λ made. made.exits.items ≡ (cut_of self places.now).exits) }
         ensures entries { IfOk result
             (λ made. made.entries.items ≡ (cut_of self places.now).entries) }
+        ensures fault { IfErr result (own.SaysOfCut self places.now) }
     {
-        if self.zone_count() > MAX_PLANT_ZONES {
-            return Err(PlantFault::TooMany(Limit::Zones));
+        match self.cut_rows(places, alloc) {
+            Ok(rows) => Ok(CutPlant {
+                tables: PlantTables {
+                    machines: self.machines,
+                    zones: rows.zones,
+                    poses: self.poses,
+                    places: rows.places,
+                },
+                exits: rows.exits,
+                entries: rows.entries,
+            }),
+            Err(fault) => Err(fault),
         }
-        let exits = self.exits(places, alloc)?;
-        let entries = self.entries(places, alloc)?;
-        let first = Next {
-            exit: self.place_count(),
-            entry: self.place_count() + exits.len(),
-        };
-        if first.exit > 64 || first.entry > 144 {
-            return Err(PlantFault::TooMany(Limit::Places));
-        }
-        let zones = self.zones_cut(places, first, alloc)?;
-        let rows = self.places_cut(&exits, &entries, alloc)?;
-        Ok(CutPlant {
-            tables: PlantTables {
-                machines: self.machines,
-                zones,
-                poses: self.poses,
-                places: rows,
-            },
-            exits,
-            entries,
-        })
     }
 }

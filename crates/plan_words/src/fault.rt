@@ -20,15 +20,16 @@ pub enum Limit {
     Words,
 }
 
-/// The first fault of a plant, in this order: its limits, the rows by the rules of plans, the words in their order.
+/// The first fault of a plant, in this order: its limits, the rows by the rules of plans, the groups in their order,
+/// and how many words there are.
 #[derive(Clone, Copy, Debug, PartialEq, Eq)]
 pub enum PlantFault {
     /// The plant has more than it may have.
     TooMany(Limit),
     /// A row breaks a rule of plans. The fault has the plant's numbers.
     OfRow(PlanFault),
-    /// A word is no plan: it has too many rows, or is too wide. `zone` is its first zone; a word of poses and places
-    /// that need no zone has none.
+    /// A group doesn't fit a word of its own: it has too many rows, or is too wide. `zone` is its first zone; the poses
+    /// and places that need no zone have none.
     OfWord {
         zone: Option<usize>,
         fault: PlanFault,

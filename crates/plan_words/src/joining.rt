@@ -1,5 +1,6 @@
 //! What joins zones: a pose joins those that it looks at, a place those whose ways touch it.
-ghost use Rattle.std.specs.Prelude.{◌≡◌, ◌∷◌, ◌++◌, ◌<◌, ◌^◌, [], IfOk, OnOk, if◌then◌else◌};
+ghost use Rattle.std.specs.Prelude.{◌≡◌, ◌∷◌, ◌++◌, ◌<◌, ◌^◌, [], IfOk, OnOk, nat_eq, if◌then◌else◌};
+ghost use Rattle.std.specs.List.{list_any};
 ghost use Rattle.plan_words.specs.Groups as groups;
 ghost use Rattle.plan_words.specs.Groups.{zones_of};
 
@@ -15,6 +16,13 @@ fn is_end(way: Option<Way>, place: usize) -> bool
         Some(way) => usize::from(way.from) == place || usize::from(way.to) == place,
         None => false,
     }
+}
+
+/// Whether a number is one of these.
+pub(crate) fn contains(numbers: &[usize], number: usize) -> bool
+    ensures { result ≡ list_any (nat_eq number) numbers.now }
+{
+    numbers.iter().any(|other| number == *other)
 }
 
 /// Appends a number, if it is to be there.

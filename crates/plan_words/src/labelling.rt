@@ -1,11 +1,11 @@
-//! The label of each zone: zones of one label share a word.
+//! The label of each zone: zones of one label are one group.
 ghost use Rattle.std.specs.Prelude.{◌≡◌, ◌-◌, ◌≤◌, IfOk, map, nat_eq, if◌then◌else◌};
 ghost use Rattle.std.specs.List.{list_any, range_with_len};
 ghost use Rattle.plan_types.specs.Table as table;
 ghost use Rattle.plan_words.specs.Groups as groups;
 ghost use Rattle.plan_words.specs.Groups.{all_merged, by_places, by_poses, by_spaces};
 ghost use Rattle.plan_words.specs.Groups.{label_of, labels_of, label_for};
-ghost use Rattle.plan_words.specs.Route.{word_of_place, word_of_pose};
+ghost use Rattle.plan_words.specs.Route.{group_of_place, group_of_pose};
 
 use crate::plant::PlantTables;
 use std::alloc::{AllocError, Global};
@@ -155,7 +155,7 @@ impl PlantTables {
         alloc: Global,
     ) -> Result<usize, AllocError>
         requires { labels.now ≡ labels_of self.now }
-        ensures { IfOk result (λ label. label ≡ word_of_pose self.now pose) }
+        ensures { IfOk result (λ label. label ≡ group_of_pose self.now pose) }
     {
         let zones = self.zones_by_pose(pose, alloc)?;
         Ok(self.label_for(labels, &zones))
@@ -169,7 +169,7 @@ impl PlantTables {
         alloc: Global,
     ) -> Result<usize, AllocError>
         requires { labels.now ≡ labels_of self.now }
-        ensures { IfOk result (λ label. label ≡ word_of_place self.now place) }
+        ensures { IfOk result (λ label. label ≡ group_of_place self.now place) }
     {
         let zones = self.zones_by_place(place, alloc)?;
         Ok(self.label_for(labels, &zones))

@@ -10,6 +10,7 @@ ghost use Rattle.plan_words.specs.Motors.{HazardsNeverRunByWords, OneWordKeepsAp
 ghost use Rattle.plan_words.specs.Groups.{IsLargePlan, group_of, word_of, Fits};
 ghost use Rattle.plan_words.specs.Table.{StepsTellOneHistory};
 ghost use Rattle.plan_words.specs.Least.{GroupsAreLeast, GroupsAreRight, TwelvePairs};
+ghost use Rattle.plan_words.specs.FirstFit.{GroupsGoFirst, NoTwoFit, PlansStay, WordsAreRight};
 ghost use Rattle.plan_words.specs.Stops.{StoppedWordsBar};
 ghost use Rattle.plan_words.specs.Route.{CallsAreRouted};
 ghost use Rattle.plan_words.specs.Engine.{CallsAreAllowed};
@@ -82,6 +83,18 @@ pub fn groups_are_words()
         → IsLaidOut t (zone_count t + 1) (word_of t) }
 {}
 
+/// A group is on the first word that has room for it, and so no two words of a plant would fit one.
+pub fn groups_share_words()
+    ensures first { GroupsGoFirst }
+    ensures apart { NoTwoFit }
+    ensures literal { WordsAreRight }
+{}
+
+/// A plant that is a plan is on one word, whose tables are the plan's own, by the plan's numbers.
+pub fn plans_are_on_one_word()
+    ensures { PlansStay }
+{}
+
 /// Where all words are in one table, each step on one word adds its event to one history of all words, whatever the
 /// other words are: then all calls have one order.
 pub fn steps_tell_one_history()
@@ -118,7 +131,7 @@ pub fn one_word_keeps_motors_apart()
         → OneWordKeepsApart t count words }
 {}
 
-/// Each call of the plan goes to one word, the one of its zone or pose, and is this call there, by the group's numbers.
+/// Each call of the plan goes to one group, that of its zone or pose, and is this call there, by the group's numbers.
 pub fn calls_are_routed()
     ensures { CallsAreRouted }
 {}

@@ -10,6 +10,7 @@ pub mod members;
 pub mod plant;
 pub mod routing;
 mod rules;
+mod sharing;
 #[cfg(test)]
 mod tests;
 mod word_tables;

@@ -1,8 +1,9 @@
 //! The zones, poses and places of one word, by their numbers in the plant.
 ghost use Rattle.std.specs.Prelude.{◌≡◌, IfOk, slice_get};
-ghost use Rattle.plan_words.specs.Groups.{group_of, labels_of, number_in};
+ghost use Rattle.plan_words.specs.Groups.{labels_of, number_in};
+ghost use Rattle.plan_words.specs.Plant.{together};
 
-use crate::joining::push_if;
+use crate::joining::{contains, push_if};
 use crate::labelling::label_of;
 use crate::plant::PlantTables;
 use std::alloc::{AllocError, Global};
@@ -56,7 +57,7 @@ impl Members {
 }
 
 /// The number in some numbers of one of them: how many come before it; how many there are, if it is none of them.
-#[tactic(auto, using(crate::proofs::Loops::number_found_at, crate::proofs::Loops::number_not_at, crate::proofs::Loops::number_past))]
+#[tactic(auto, using(crate::proofs::Loops::found_at, crate::proofs::Loops::not_at, crate::proofs::Loops::none_at))]
 pub(crate) fn number_in(numbers: &[usize], number: usize) -> usize
     ensures { result ≡ number_in numbers.now number }
 {
@@ -75,15 +76,15 @@ impl PlantTables {
     fn zones_labelled(
         &self,
         labels: &[usize],
-        label: usize,
+        groups: &[usize],
         alloc: Global,
     ) -> Result<Vec<usize>, AllocError>
         requires { labels.now ≡ labels_of self.now }
-        ensures { IfOk result (λ zones. zones.items ≡ (group_of self.now label).zones) }
+        ensures { IfOk result (λ zones. zones.items ≡ (together self.now groups.now).zones) }
     {
         let mut zones = Vec::new(alloc);
         for zone in 0..self.zone_count() {
-            push_if(&mut zones, zone, label_of(labels, zone) == label)?;
+            push_if(&mut zones, zone, contains(groups, label_of(labels, zone)))?;
         }
         Ok(zones)
     }
@@ -92,16 +93,16 @@ impl PlantTables {
     fn poses_labelled(
         &self,
         labels: &[usize],
-        label: usize,
+        groups: &[usize],
         alloc: Global,
     ) -> Result<Vec<usize>, AllocError>
         requires { labels.now ≡ labels_of self.now }
-        ensures { IfOk result (λ poses. poses.items ≡ (group_of self.now label).poses) }
+        ensures { IfOk result (λ poses. poses.items ≡ (together self.now groups.now).poses) }
     {
         let mut poses = Vec::new(alloc);
         for pose in 0..self.pose_count() {
-            let own = self.pose_label(labels, pose, alloc)? == label;
-            push_if(&mut poses, pose, own)?;
+            let label = self.pose_label(labels, pose, alloc)?;
+            push_if(&mut poses, pose, contains(groups, label))?;
         }
         Ok(poses)
     }
@@ -110,33 +111,33 @@ impl PlantTables {
     fn places_labelled(
         &self,
         labels: &[usize],
-        label: usize,
+        groups: &[usize],
         alloc: Global,
     ) -> Result<Vec<usize>, AllocError>
         requires { labels.now ≡ labels_of self.now }
-        ensures { IfOk result (λ places. places.items ≡ (group_of self.now label).places) }
+        ensures { IfOk result (λ places. places.items ≡ (together self.now groups.now).places) }
     {
         let mut places = Vec::new(alloc);
         for place in 0..self.place_count() {
-            let own = self.place_label(labels, place, alloc)? == label;
-            push_if(&mut places, place, own)?;
+            let label = self.place_label(labels, place, alloc)?;
+            push_if(&mut places, place, contains(groups, label))?;
         }
         Ok(places)
     }
 
-    /// What shares a word by a label.
+    /// What groups that share a word have together, by their labels.
     pub(crate) fn members(
         &self,
         labels: &[usize],
-        label: usize,
+        groups: &[usize],
         alloc: Global,
     ) -> Result<Members, AllocError>
         requires { labels.now ≡ labels_of self.now }
-        ensures { IfOk result (λ members. members ≡ group_of self.now label) }
+        ensures { IfOk result (λ members. members ≡ together self.now groups.now) }
     {
-        let zones = self.zones_labelled(labels, label, alloc)?;
-        let poses = self.poses_labelled(labels, label, alloc)?;
-        let places = self.places_labelled(labels, label, alloc)?;
+        let zones = self.zones_labelled(labels, groups, alloc)?;
+        let poses = self.poses_labelled(labels, groups, alloc)?;
+        let places = self.places_labelled(labels, groups, alloc)?;
         Ok(Members {
             zones,
             poses,

@@ -2,11 +2,10 @@
 ghost use Rattle.std.specs.Prelude.{◌≡◌, ◌<◌, IfSome, IsNone, length};
 ghost use Rattle.plan_words.specs.Plant.{word_at};
 ghost use Rattle.plan_words.specs.PlantRoutes as routes;
-ghost use Rattle.plan_words.specs.Words.{answer_out};
 
 use crate::members::number_in;
 use crate::words::Words;
-use plan_types::{Answer, Call, Refusal};
+use plan_types::Call;
 
 /// Where a zone, a pose or a place is.
 #[derive(Clone, Copy, Debug, PartialEq, Eq)]
@@ -24,6 +23,24 @@ pub struct Routed {
     pub word: usize,
     /// The call there.
     pub call: Call,
+}
+
+/// A call, with this number in place of its own.
+fn renumbered(call: Call, number: u8) -> Call
+    ensures { result ≡ routes.renumbered call number }
+{
+    match call {
+        Call::Claim(_) => Call::Claim(number),
+        Call::Give(_) => Call::Give(number),
+        Call::Yield(_) => Call::Yield(number),
+        Call::Take(_) => Call::Take(number),
+        Call::Release(_) => Call::Release(number),
+        Call::SetPose(_) => Call::SetPose(number),
+        Call::Inquire(_) => Call::Inquire(number),
+        Call::Advance(_) => Call::Advance(number),
+        Call::Stop => Call::Stop,
+        Call::Resume => Call::Resume,
+    }
 }
 
 impl Words {
@@ -84,69 +101,35 @@ impl Words {
         None
     }
 
-    /// Where a call goes, and what it is there. `None` for a stop and for a resumption, which each word has of its own,
-    /// and for a call about a row that the plant hasn't.
-    pub fn route(&self, call: Call) -> Option<Routed>
-        ensures { IfSome result (routes.IsRoute self.now call) }
+    /// Where the row that a call is about is; `None` for a stop and for a resumption.
+    fn row(&self, call: Call) -> Option<OnWord>
+        ensures there { IfSome result (routes.IsRow self.now call) }
+        ensures none { IsNone result → routes.IsOfNoWord self.now call }
     {
         match call {
-            Call::Claim(zone) => {
-                let on = self.zone(usize::from(zone))?;
-                Some(Routed {
-                    word: on.word,
-                    call: Call::Claim(on.number),
-                })
-            }
-            Call::Give(zone) => {
-                let on = self.zone(usize::from(zone))?;
-                Some(Routed {
-                    word: on.word,
-                    call: Call::Give(on.number),
-                })
-            }
-            Call::Yield(zone) => {
-                let on = self.zone(usize::from(zone))?;
-                Some(Routed {
-                    word: on.word,
-                    call: Call::Yield(on.number),
-                })
-            }
-            Call::Take(zone) => {
-                let on = self.zone(usize::from(zone))?;
-                Some(Routed {
-                    word: on.word,
-                    call: Call::Take(on.number),
-                })
-            }
-            Call::Release(zone) => {
-                let on = self.zone(usize::from(zone))?;
-                Some(Routed {
-                    word: on.word,
-                    call: Call::Release(on.number),
-                })
-            }
-            Call::SetPose(pose) => {
-                let on = self.pose(usize::from(pose))?;
-                Some(Routed {
-                    word: on.word,
-                    call: Call::SetPose(on.number),
-                })
-            }
-            Call::Inquire(zone) => {
-                let on = self.zone(usize::from(zone))?;
-                Some(Routed {
-                    word: on.word,
-                    call: Call::Inquire(on.number),
-                })
-            }
-            Call::Advance(place) => {
-                let on = self.place(usize::from(place))?;
-                Some(Routed {
-                    word: on.word,
-                    call: Call::Advance(on.number),
-                })
-            }
+            Call::Claim(zone)
+            | Call::Give(zone)
+            | Call::Yield(zone)
+            | Call::Take(zone)
+            | Call::Release(zone)
+            | Call::Inquire(zone) => self.zone(usize::from(zone)),
+            Call::SetPose(pose) => self.pose(usize::from(pose)),
+            Call::Advance(place) => self.place(usize::from(place)),
             Call::Stop | Call::Resume => None,
         }
+    }
+
+    /// Where a call goes, and what it is there. `None` for a stop and for a resumption, which each word has of its own,
+    /// and for a call about a row that the plant hasn't.
+    #[tactic(auto, using(crate::proofs::WordNumbers::row_routes))]
+    pub fn route(&self, call: Call) -> Option<Routed>
+        ensures there { IfSome result (routes.IsRoute self.now call) }
+        ensures none { IsNone result → routes.IsOfNoWord self.now call }
+    {
+        let on = self.row(call)?;
+        Some(Routed {
+            word: on.word,
+            call: renumbered(call, on.number),
+        })
     }
 }

@@ -1,11 +1,11 @@
 //! A plant on several words: each word has a plan of its own.
-ghost use Rattle.std.specs.Prelude.{◌≡◌, ◌≤◌, ◌<◌, IfOk, IfErr, IfSome, IsNone, length, map};
-ghost use Rattle.plan_types.specs.Below.{any_below};
-ghost use Rattle.plan_types.specs.Table as table;
+ghost use Rattle.std.specs.Prelude.{◌≡◌, ◌≤◌, ◌<◌, IfOk, IfErr, IfSome, IsNone, IsOk, length, map};
 ghost use Rattle.plan_types.specs.Plan.{IsPlan};
-ghost use Rattle.plan_words.specs.Groups.{IsLargePlan, label_of, labels_of, word_of, zones_of};
+ghost use Rattle.plan_words.specs.declared.fault.PlantFault.TheVariants.{OutOfMemory};
+ghost use Rattle.plan_words.specs.Groups.{IsLargePlan, label_of, labels_of, zones_of};
 ghost use Rattle.plan_words.specs.Plant as plant;
-ghost use Rattle.plan_words.specs.Plant.{ArePlans, FitsPlant, IsOnWords, word_at, word_labels, words_of};
+ghost use Rattle.plan_words.specs.Plant.{AreAlonePlans, ArePlans, FitsPlant, IsOnWords};
+ghost use Rattle.plan_words.specs.Plant.{group_labels, shared_word, word_at, words_of};
 ghost use Rattle.plan_words.specs.PlantFaults as faults;
 ghost use Rattle.plan_words.specs.PlantFaults.{FitsWord, IsFaultOfSome, IsWordFault, Says};
 
@@ -16,6 +16,7 @@ use crate::members::Members;
 use crate::plant::{
     MAX_PLANT_MACHINES, MAX_PLANT_PLACES, MAX_PLANT_POSES, MAX_PLANT_ZONES, MAX_WORDS, PlantTables,
 };
+use crate::sharing::Sharers;
 use plan_types::{MAX_PLACES, MAX_POSES, MAX_ZONES, Plan, PlanFault};
 use std::alloc::{AllocError, Global};
 use std::marker::Model;
@@ -39,8 +40,8 @@ impl Model for PlantWord {
     ghost invariant = { λ a. FitsWord a.members };
 }
 
-/// A plant on several words, as [`Words::new`] lays it out. No pose, no place and no space has zones on two words. A
-/// word's number is its place in the order of the words' first zones.
+/// A plant on several words, as [`Words::new`] lays it out. No pose, no place and no space has zones on two words.
+/// Groups share a word where they fit it: each is on the first word that had room for it.
 #[derive(Debug, Drop)]
 pub struct Words {
     plant: PlantTables,
@@ -144,15 +145,20 @@ impl PlantTables {
     }
 
     #[tactic(auto, using(crate::proofs::WordFaults::count_first))]
-    /// The word of a label.
-    fn word(&self, labels: &[usize], label: usize, alloc: Global) -> Result<PlantWord, PlantFault>
+    /// The word of these groups.
+    pub(crate) fn word(
+        &self,
+        labels: &[usize],
+        groups: &[usize],
+        alloc: Global,
+    ) -> Result<PlantWord, PlantFault>
         requires labels { labels.now ≡ labels_of self.now }
         requires machines { self.now.machines ≤ 15 }
-        ensures word { IfOk result (λ word. word ≡ word_of self.now label) }
+        ensures word { IfOk result (λ word. word ≡ shared_word self.now groups.now) }
         ensures plan { IfOk result (λ word. IsPlan word.table) }
-        ensures fault { IfErr result (IsWordFault self.now label) }
+        ensures fault { IfErr result (IsWordFault self.now groups.now) }
     {
-        let members = self.members(labels, label, alloc)?;
+        let members = self.members(labels, groups, alloc)?;
         let zone = members.first_zone();
         if let Some(fault) = members.count_fault() {
             return Err(PlantFault::OfWord { zone, fault });
@@ -167,7 +173,7 @@ impl PlantTables {
 
 impl PlantTables {
     #[tactic(auto, using(plan_types::proofs::lemmas::Below::any_below_more))]
-    /// Whether a zone is the first one of its word.
+    /// Whether a zone is the first one of its group.
     fn is_first(&self, labels: &[usize], zone: usize) -> bool
         ensures { result ≡ plant.is_first labels.now zone }
     {
@@ -179,7 +185,7 @@ impl PlantTables {
     }
 
     #[tactic(auto, using(crate::proofs::Loops::map_filter_more))]
-    /// The labels of the words' first zones, in their order.
+    /// The labels of the groups' first zones, in their order.
     fn first_labels(&self, labels: &[usize], alloc: Global) -> Result<Vec<usize>, AllocError>
         ensures { IfOk result (λ firsts. firsts.items
             ≡ map (label_of labels.now) (zones_of self.now (plant.is_first labels.now))) }
@@ -195,69 +201,111 @@ impl PlantTables {
         Ok(firsts)
     }
 
-    #[tactic(auto, using(plan_types::proofs::lemmas::Below::any_below_more))]
-    /// Whether some pose looks at no zone.
-    fn has_loose_pose(&self, labels: &[usize], alloc: Global) -> Result<bool, AllocError>
+    /// The labels of the groups, in their order.
+    fn group_labels(&self, labels: &[usize], alloc: Global) -> Result<Vec<usize>, AllocError>
         requires { labels.now ≡ labels_of self.now }
-        ensures { let any = any_below (plant.is_loose_pose self.now) (table.pose_count self.now) in
-            IfOk result (λ loose. loose ≡ any) }
+        ensures { IfOk result (λ groups. groups.items ≡ group_labels self.now) }
     {
-        let mut loose = false;
-        for pose in 0..self.pose_count() {
-            let label = self.pose_label(labels, pose, alloc)?;
-            loose = loose || label == self.zone_count();
+        let mut groups = self.first_labels(labels, alloc)?;
+        groups.push(self.zone_count())?;
+        Ok(groups)
+    }
+
+    /// Finds a group that doesn't fit a word of its own.
+    fn check_groups(
+        &self,
+        labels: &[usize],
+        groups: &[usize],
+        alloc: Global,
+    ) -> Result<(), PlantFault>
+        requires labels { labels.now ≡ labels_of self.now }
+        requires machines { self.now.machines ≤ 15 }
+        ensures plans { IsOk result → AreAlonePlans self.now groups.now }
+        ensures fault { IfErr result (IsFaultOfSome self.now groups.now) }
+    {
+        for label in groups {
+            self.word(labels, &[*label], alloc)?;
         }
-        Ok(loose)
+        Ok(())
     }
 
-    #[tactic(auto, using(plan_types::proofs::lemmas::Below::any_below_more))]
-    /// Whether no way touches some place.
-    fn has_loose_place(&self, labels: &[usize], alloc: Global) -> Result<bool, AllocError>
-        requires { labels.now ≡ labels_of self.now }
-        ensures { let any = any_below (plant.is_loose_place self.now) (table.place_count self.now) in
-            IfOk result (λ loose. loose ≡ any) }
+    /// The word of these groups, which fit it.
+    #[tactic(auto, using(crate::proofs::WordFaults::only_memory))]
+    fn word_of_plan(
+        &self,
+        labels: &[usize],
+        groups: &[usize],
+        alloc: Global,
+    ) -> Result<PlantWord, PlantFault>
+        requires labels { labels.now ≡ labels_of self.now }
+        requires machines { self.now.machines ≤ 15 }
+        requires plan { IsPlan (shared_word self.now groups.now).table }
+        ensures word { IfOk result (λ word. word ≡ shared_word self.now groups.now) }
+        ensures fault { IfErr result (λ fault. fault ≡ OutOfMemory) }
     {
-        let mut loose = false;
-        for place in 0..self.place_count() {
-            let label = self.place_label(labels, place, alloc)?;
-            loose = loose || label == self.zone_count();
-        }
-        Ok(loose)
+        self.word(labels, groups, alloc)
     }
 
-    /// The labels of the words, in their order.
-    fn word_labels(&self, labels: &[usize], alloc: Global) -> Result<Vec<usize>, AllocError>
-        requires { labels.now ≡ labels_of self.now }
-        ensures { IfOk result (λ words. words.items ≡ word_labels self.now) }
-    {
-        let mut words = self.first_labels(labels, alloc)?;
-        let loose_pose = self.has_loose_pose(labels, alloc)?;
-        let loose_place = self.has_loose_place(labels, alloc)?;
-        push_if(&mut words, self.zone_count(), loose_pose || loose_place)?;
-        Ok(words)
-    }
-}
-
-impl PlantTables {
-    #[tactic(auto, using(crate::proofs::WordFaults::plans_more))]
-    /// The words of these labels, or the first one's fault that is no plan.
+    #[tactic(auto, using(crate::proofs::WordFaults::plan_at))]
+    /// The words of these groups.
     fn words(
         &self,
         labels: &[usize],
-        words: &[usize],
+        sharers: &[Sharers],
         alloc: Global,
     ) -> Result<Vec<PlantWord>, PlantFault>
         requires labels { labels.now ≡ labels_of self.now }
         requires machines { self.now.machines ≤ 15 }
-        ensures words { IfOk result (λ made. made.items ≡ map (word_of self.now) words.now) }
-        ensures plans { IfOk result (λ made. ArePlans made.items) }
-        ensures fault { IfErr result (IsFaultOfSome self.now words.now) }
+        requires plans { ArePlans (map (shared_word self.now) sharers.now) }
+        ensures words { IfOk result (λ made. made.items ≡ map (shared_word self.now) sharers.now) }
+        ensures fault { IfErr result (λ fault. fault ≡ OutOfMemory) }
     {
         let mut made = Vec::new(alloc);
-        for label in words {
-            made.push(self.word(labels, *label, alloc)?)?;
+        for groups in sharers {
+            made.push(self.word_of_plan(labels, groups.labels(), alloc)?)?;
         }
         Ok(made)
+    }
+}
+
+impl PlantTables {
+    /// The words of these groups, or the first group that doesn't fit one.
+    #[tactic(auto, using(crate::proofs::WordFaults::says_some))]
+    fn shared(
+        &self,
+        labels: &[usize],
+        groups: &[usize],
+        alloc: Global,
+    ) -> Result<Vec<PlantWord>, PlantFault>
+        requires labels { labels.now ≡ labels_of self.now }
+        requires groups { groups.now ≡ group_labels self.now }
+        requires fits { FitsPlant self.now }
+        requires large { IsLargePlan self.now }
+        ensures words { IfOk result (λ words. words.items ≡ words_of self.now) }
+        ensures plans { IfOk result (λ words. ArePlans words.items) }
+        ensures few { IfOk result (λ words. length words.items ≤ 16) }
+        ensures fault { IfErr result (Says self.now) }
+    {
+        self.check_groups(labels, groups, alloc)?;
+        let sharers = self.sharers(labels, groups, alloc)?;
+        if sharers.len() > MAX_WORDS {
+            return Err(PlantFault::TooMany(Limit::Words));
+        }
+        self.words(labels, &sharers, alloc)
+    }
+
+    /// The words of the plant, or the fault of its groups or words.
+    fn laid_out(&self, alloc: Global) -> Result<Vec<PlantWord>, PlantFault>
+        requires fits { FitsPlant self.now }
+        requires large { IsLargePlan self.now }
+        ensures words { IfOk result (λ words. words.items ≡ words_of self.now) }
+        ensures plans { IfOk result (λ words. ArePlans words.items) }
+        ensures few { IfOk result (λ words. length words.items ≤ 16) }
+        ensures fault { IfErr result (Says self.now) }
+    {
+        let labels = self.labels(alloc)?;
+        let groups = self.group_labels(&labels, alloc)?;
+        self.shared(&labels, &groups, alloc)
     }
 }
 
@@ -275,8 +323,8 @@ impl Words {
         }
     }
 
-    /// The plant on its words, or the fault of its words.
-    #[tactic(auto, using(crate::proofs::WordFaults::says_some))]
+    /// The plant on its words, or the fault of its groups or words.
+    #[tactic(auto, using(crate::proofs::WordOrder::on_words))]
     fn of(plant: PlantTables, alloc: Global) -> Result<Words, PlantFault>
         requires fits { FitsPlant plant }
         requires large { IsLargePlan plant }
@@ -285,13 +333,10 @@ impl Words {
         ensures laid_out { IfOk result IsOnWords }
         ensures fault { IfErr result (Says plant) }
     {
-        let labels = plant.labels(alloc)?;
-        let numbers = plant.word_labels(&labels, alloc)?;
-        if numbers.len() > MAX_WORDS {
-            return Err(PlantFault::TooMany(Limit::Words));
+        match plant.laid_out(alloc) {
+            Ok(words) => Ok(Words { plant, words }),
+            Err(fault) => Err(fault),
         }
-        let words = plant.words(&labels, &numbers, alloc)?;
-        Ok(Words { plant, words })
     }
 
     /// How many words there are.
