@@ -1,4 +1,6 @@
 mod Growing
+mod Parted
+mod LineWords
 mod Zoned
 mod Running
 mod Stepping

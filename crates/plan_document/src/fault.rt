@@ -578,6 +578,12 @@ impl From<AllocError> for PlanTextFault {
     }
 }
 
+impl<T: Drop> From<AllocFailed<T>> for PlanTextFault {
+    fn from(_error: AllocFailed<T>) -> PlanTextFault {
+        PlanTextFault::Memory
+    }
+}
+
 impl From<DocumentFault> for PlanTextFault {
     fn from(fault: DocumentFault) -> PlanTextFault {
         match fault.wrong {

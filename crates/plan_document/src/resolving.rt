@@ -124,7 +124,7 @@ fn named_plan_of(alloc: Global, document: &Document) -> Result<NamedPlan, PlanTe
 }
 
 /// The fault of tables in words of the document.
-fn table_fault(alloc: Global, document: &Document, fault: PlanFault) -> PlanTextFault {
+pub(crate) fn table_fault(alloc: Global, document: &Document, fault: PlanFault) -> PlanTextFault {
     let fault = match fault {
         PlanFault::TooWide { missing } => return PlanTextFault::TooWide(too_wide(
             document, missing,
