@@ -8,3 +8,5 @@ pub mod graphs;
 mod liveness;
 #[cfg(test)]
 mod plans;
+#[cfg(test)]
+mod plants;

@@ -1,6 +1,7 @@
 -- The examples of `fault_lines_are_met`, and the law `failed_is_meant`.
-use Rattle.std.proofs.Common.{◌≡◌, ◌∙◌, ◌<◌, ◌++◌, ◌+◌, ℕ, zero, suc, Bool, true, false, ◌&&◌, nat_eq, List, [], ◌∷◌, get_or, take, length, length-append, codes, Some, Ok, IsTrue, inl, inr, refl, sym, ap, subst, arith}
+use Rattle.std.proofs.Common.{◌≡◌, ◌∙◌, ◌<◌, ◌++◌, ◌+◌, ℕ, zero, suc, Bool, true, false, ◌&&◌, nat_eq, List, [], ◌∷◌, get_or, take, length, length-append, codes, Option, Some, None, Ok, IsTrue, inl, inr, refl, sym, ap, subst, arith}
 use Rattle.std.proofs.lemmas.List.{get_or-take, length-take}
+use Rattle.std.specs.Fmt.{digits}
 use Rattle.std.specs.List.{starts_with}
 use Rattle.csv_rows.specs.ScriptEnd.{fault_text}
 use Rattle.csv_rows.specs.declared.script_end.ScriptFault.{ScriptFault}
@@ -12,12 +13,12 @@ use Rattle.plan_explorer.specs.Programs.{PlanPrograms}
 use Rattle.plan_text.specs.Named.{Named}
 use Rattle.plan_text.specs.Names.{Text}
 use Rattle.plan_text.specs.Script.{script_start}
-use Rattle.plan_document.specs.Reading.{IsPlanIn}
 use Rattle.plan_document.specs.declared.resolving.ProgrammedPlan.{ProgrammedPlan}
+use Rattle.plan_app.specs.Asked.{IsAsked, no_word_text}
 use Rattle.plan_app.specs.Apart.{TellsBy, TellsLarge, TellsNext, TellsPart, TellsParts, is_first, some_are_apart}
-use Rattle.plan_app.specs.Failed.{Fails, FailsBy, IsOfDocument, WroteEnd, WroteExploration, WroteFault, WrotePage, WrotePageText}
+use Rattle.plan_app.specs.Failed.{Fails, FailsBy, FailsWords, IsOfDocument, WroteEnd, WroteExploration, WroteFault, WroteNoWord, WrotePage, WrotePageText, WroteWords}
 use Rattle.plan_app.specs.Going.{going_text}
-use Rattle.plan_app.specs.FailedExamples.{AreNoFault, FailedIsMeant, FaultLines}
+use Rattle.plan_app.specs.FailedExamples.{AreNoFault, FailedIsMeant, FaultLines, NumbersAreRefused}
 use Rattle.plan_app.specs.Input.{document_in, script_in}
 use Rattle.plan_app.specs.Screens.{ByAnswers, TellsScreenBy}
 use Rattle.plan_app.specs.Starving.{any_starves}
@@ -37,13 +38,24 @@ begins words new none wrote =
     let first : get_or new 0 0 ≡ none.first = ap (λ l. get_or l 0 0) none.are in
     none.other (sym first ∙ byte_at new (fault_line words) 0 wrote (omega (arith, count)))
 
-asked : (request : Request) (bytes new : Text) → AreNoFault new → Fails request (Some bytes) (Some []) (Some new)
-    → (plan : ProgrammedPlan) × IsPlanIn (document_in bytes) plan × FailsBy request plan (script_in bytes) (Some []) (Some new)
-asked request bytes new none (inl wrote) = absurd (begins (codes "long") new none wrote.1)
-asked request bytes new none (inr (inl (inl wrote))) = absurd (begins (codes "read") new none wrote)
-asked request bytes new none (inr (inl (inr wrote))) = absurd (begins (codes "memory") new none wrote)
-asked request bytes new none (inr (inr (inl (words, of, wrote)))) = absurd (begins words new none wrote)
-asked request bytes new none (inr (inr (inr fails))) = fails
+asked : (word : Option ℕ) (request : Request) (bytes new : Text) → AreNoFault new → Fails word request (Some bytes) (Some []) (Some new)
+    → (plan : ProgrammedPlan) × IsAsked word (document_in bytes) plan × FailsBy request plan (script_in bytes) (Some []) (Some new)
+asked word request bytes new none (inl wrote) = absurd (begins (codes "long") new none wrote.1)
+asked word request bytes new none (inr (inl (inl wrote))) = absurd (begins (codes "read") new none wrote)
+asked word request bytes new none (inr (inl (inr wrote))) = absurd (begins (codes "memory") new none wrote)
+asked word request bytes new none (inr (inr (inl (words, of, wrote)))) = absurd (begins words new none wrote)
+asked word request bytes new none (inr (inr (inr (inl (number, count, is, has, wrote))))) = absurd (begins (no_word_text number count) new none wrote)
+asked word request bytes new none (inr (inr (inr (inr fails)))) = fails
+
+of_words : (bytes new : Text) → AreNoFault new → FailsWords (Some bytes) (Some []) (Some new) → WroteWords (document_in bytes) (Some []) (Some new)
+of_words bytes new none (inl wrote) = absurd (begins (codes "long") new none wrote.1)
+of_words bytes new none (inr (inl (inl wrote))) = absurd (begins (codes "read") new none wrote)
+of_words bytes new none (inr (inl (inr wrote))) = absurd (begins (codes "memory") new none wrote)
+of_words bytes new none (inr (inr (inl (words, of, wrote)))) = absurd (begins words new none wrote)
+of_words bytes new none (inr (inr (inr wrote))) = wrote
+
+no_number : (document old new : Text) → ¬ WroteNoWord None document (Some old) (Some new)
+no_number document old new (number, count, is, has, wrote) = cc
 
 explored : (most : ℕ) (plan : ProgrammedPlan) (script new : Text) → AreNoFault new → WroteEnd most plan script (Some []) (Some new)
     → (opening : State) × (script_start plan.named script ≡ Ok opening) × WroteExploration plan opening (Some []) (Some new)
@@ -142,20 +154,33 @@ large_by most plan script rest (inr (opening, is, inr (well, text, tells, wrote)
     (of_found (some_are_apart tells.groups plan.programs) plan.named plan.programs opening tells.groups well text tells.told
     (zeroth rest text wrote))
 
-is_large : (most : ℕ) (bytes rest : Text) → Fails (Explore most) (Some bytes) (Some []) (Some (large rest))
-    → (plan : ProgrammedPlan) × IsPlanIn (document_in bytes) plan × (opening : State)
+is_large : (word : Option ℕ) (most : ℕ) (bytes rest : Text) → Fails word (Explore most) (Some bytes) (Some []) (Some (large rest))
+    → (plan : ProgrammedPlan) × IsAsked word (document_in bytes) plan × (opening : State)
     × (script_start plan.named (script_in bytes) ≡ Ok opening) × (words : Text)
     × TellsLarge most plan.named plan.programs opening words × WroteFault words (Some []) (Some (large rest))
-is_large most bytes rest (inl wrote) = let e : 97 ≡ 111 = seventh rest (fault_line (codes "long")) wrote.1 in absurd (omega (arith, e))
-is_large most bytes rest (inr (inl (inl wrote))) = let e : 108 ≡ 114 = sixth rest (fault_line (codes "read")) wrote in absurd (omega (arith, e))
-is_large most bytes rest (inr (inl (inr wrote))) = let e : 108 ≡ 109 = sixth rest (fault_line (codes "memory")) wrote in absurd (omega (arith, e))
-is_large most bytes rest (inr (inr (inl (words, of, wrote)))) = absurd (of_document rest words of wrote)
-is_large most bytes rest (inr (inr (inr (plan, is, fails)))) =
+is_large word most bytes rest (inl wrote) = let e : 97 ≡ 111 = seventh rest (fault_line (codes "long")) wrote.1 in absurd (omega (arith, e))
+is_large word most bytes rest (inr (inl (inl wrote))) = let e : 108 ≡ 114 = sixth rest (fault_line (codes "read")) wrote in absurd (omega (arith, e))
+is_large word most bytes rest (inr (inl (inr wrote))) = let e : 108 ≡ 109 = sixth rest (fault_line (codes "memory")) wrote in absurd (omega (arith, e))
+is_large word most bytes rest (inr (inr (inl (words, of, wrote)))) = absurd (of_document rest words of wrote)
+is_large word most bytes rest (inr (inr (inr (inl (number, count, is, has, wrote))))) =
+    let e : 108 ≡ 112 = sixth rest (fault_line (no_word_text number count)) wrote in absurd (omega (arith, e))
+is_large word most bytes rest (inr (inr (inr (inr (plan, is, fails))))) =
     let (opening, begun, words, tells, wrote) = large_by most plan (script_in bytes) rest fails in
     (plan, is, opening, begun, words, tells, wrote)
 
 pub failed-meant : FailedIsMeant
-failed-meant = record { asked = asked; explored = explored; paged = paged; large = is_large }
+failed-meant = record {
+  asked = asked;
+  explored = explored;
+  paged = paged;
+  large = is_large;
+  words = of_words;
+  no_number = no_number;
+}
+
+pub numbers-refused : NumbersAreRefused
+unfolding digits
+numbers-refused = record { four = refl; two = refl; one = refl; of_document = refl }
 
 pub fault-lines : FaultLines
 fault-lines = record {

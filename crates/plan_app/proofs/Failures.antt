@@ -10,14 +10,14 @@ use Rattle.program_shell.specs.declared.exit.Exit.TheVariants.{Well, Failed, Ref
 use Rattle.program_shell.proofs.lemmas.Prefixes.{whole_prefix}
 use Rattle.program_shell.proofs.lemmas.Serving.{if_known}
 use Rattle.plan_rules.specs.declared.state.State.{State}
-use Rattle.plan_document.specs.Reading.{IsPlanIn}
 use Rattle.plan_document.specs.declared.resolving.ProgrammedPlan.{ProgrammedPlan}
 use Rattle.plan_app.specs.Apart.{TellsExploration}
-use Rattle.plan_app.specs.Failed.{Fails, FailsBy, FailsIn, WroteExploration, WroteFault, WroteReport, WroteUnread}
+use Rattle.plan_app.specs.Asked.{IsAsked, IsNoPlan}
+use Rattle.plan_app.specs.declared.asking.NoPlan.{NoPlan}
+use Rattle.plan_app.specs.declared.asking.NoPlan.TheVariants.{OfDocument, OfWord}
+use Rattle.plan_app.specs.Failed.{Fails, FailsBy, FailsIn, FailsWords, FailsWordsIn, WroteExploration, WroteFault, WroteNoPlan, WroteUnread}
 use Rattle.plan_app.specs.Input.{byte_limit, document_in, script_in}
-use Rattle.plan_app.specs.Requests.{usual_most}
 use Rattle.plan_app.specs.declared.request.Request.{Request}
-use Rattle.plan_app.specs.declared.request.Request.TheVariants.{Check, Replay, Explore, Page, Header, Module, Draw, Help, Run, RunPage, Version}
 
 -- however a print ended, a prefix was written
 pub printed_prefix : (e : Exit) (old new : Option (List ℕ)) (text : List ℕ) → e ≢ Refused → Prints (exit_status e) old new text → WrotePrefix old new text
@@ -37,44 +37,50 @@ long_if most read None is many = is
 long_if most read (Some bytes) is many = long most read bytes is many
 
 -- what was read is the input, or there is more of it
-pub fails_whole : (request : Request) (read : List ℕ) (input old new : Option (List ℕ))
+pub fails_whole : (word : Option ℕ) (request : Request) (read : List ℕ) (input old new : Option (List ℕ))
     → (length read ≤ byte_limit → IfSome input (λ bytes. read ≡ bytes))
     → (byte_limit < length read → IfSome input (λ bytes. byte_limit < length bytes))
     → (byte_limit < length read → WroteFault (codes "long") old new)
-    → FailsIn request read old new → Fails request input old new
-fails_whole request read None old new same more long fails = tt
-fails_whole request read (Some bytes) old new same more long fails =
+    → FailsIn word request read old new → Fails word request input old new
+fails_whole word request read None old new same more long fails = tt
+fails_whole word request read (Some bytes) old new same more long fails =
     elim (cases_lt byte_limit (length read)) [
       | inl many ↦ inl (more many, long many)
-      | inr few ↦ subst (λ b. FailsIn request b old new) (same few) fails
+      | inr few ↦ subst (λ b. FailsIn word request b old new) (same few) fails
     ]
 
-pub unread_fails : (request : Request) (input old new : Option (List ℕ)) → WroteUnread old new → Fails request input old new
-unread_fails request input old new unread = if_known (λ bytes. FailsIn request bytes old new) input (λ bytes. inr (inl unread))
+pub unread_fails : (word : Option ℕ) (request : Request) (input old new : Option (List ℕ)) → WroteUnread old new → Fails word request input old new
+unread_fails word request input old new unread = if_known (λ bytes. FailsIn word request bytes old new) input (λ bytes. inr (inl unread))
 
--- what isn't asked otherwise is a report
-pub report_fails : (request : Request) (plan : ProgrammedPlan) (script : List ℕ) (old new : Option (List ℕ))
-    → ((most : ℕ) → request ≢ Check most) → request ≢ Replay → ((most : ℕ) → request ≢ Explore most) → ((most : ℕ) → request ≢ Page most)
-    → request ≢ Header → request ≢ Module → request ≢ Draw
-    → ((turns : ℕ) → request ≢ Run turns) → ((turns : ℕ) → request ≢ RunPage turns) → WroteReport usual_most plan script old new
-    → FailsBy request plan script old new
-report_fails (Check most) plan script old new check replay explore page header python draw run shown wrote = absurd (check most refl)
-report_fails Replay plan script old new check replay explore page header python draw run shown wrote = absurd (replay refl)
-report_fails (Explore most) plan script old new check replay explore page header python draw run shown wrote = absurd (explore most refl)
-report_fails (Page most) plan script old new check replay explore page header python draw run shown wrote = absurd (page most refl)
-report_fails Header plan script old new check replay explore page header python draw run shown wrote = absurd (header refl)
-report_fails Module plan script old new check replay explore page header python draw run shown wrote = absurd (python refl)
-report_fails Draw plan script old new check replay explore page header python draw run shown wrote = absurd (draw refl)
-report_fails (Run turns) plan script old new check replay explore page header python draw run shown wrote = absurd (run turns refl)
-report_fails (RunPage turns) plan script old new check replay explore page header python draw run shown wrote = absurd (shown turns refl)
-report_fails Help plan script old new check replay explore page header python draw run shown wrote = wrote
-report_fails Version plan script old new check replay explore page header python draw run shown wrote = wrote
+-- the same of the words of a plant
+pub words_whole : (read : List ℕ) (input old new : Option (List ℕ))
+    → (length read ≤ byte_limit → IfSome input (λ bytes. read ≡ bytes))
+    → (byte_limit < length read → IfSome input (λ bytes. byte_limit < length bytes))
+    → (byte_limit < length read → WroteFault (codes "long") old new)
+    → FailsWordsIn read old new → FailsWords input old new
+words_whole read None old new same more long fails = tt
+words_whole read (Some bytes) old new same more long fails =
+    elim (cases_lt byte_limit (length read)) [
+      | inl many ↦ inl (more many, long many)
+      | inr few ↦ subst (λ b. FailsWordsIn b old new) (same few) fails
+    ]
 
--- a document has a plan
-pub by_plan : (request : Request) (bytes : List ℕ) (plan : ProgrammedPlan) (old new : Option (List ℕ)) → IsPlanIn (document_in bytes) plan
-    → WroteUnread old new ⊎ FailsBy request plan (script_in bytes) old new → FailsIn request bytes old new
-by_plan request bytes plan old new is (inl unread) = inr (inl unread)
-by_plan request bytes plan old new is (inr fails) = inr (inr (inr (plan, is, fails)))
+pub unread_words : (input old new : Option (List ℕ)) → WroteUnread old new → FailsWords input old new
+unread_words input old new unread = if_known (λ bytes. FailsWordsIn bytes old new) input (λ bytes. inr (inl unread))
+
+-- there is the plan that is asked for
+pub by_plan : (word : Option ℕ) (request : Request) (bytes : List ℕ) (plan : ProgrammedPlan) (old new : Option (List ℕ)) → IsAsked word (document_in bytes) plan
+    → WroteUnread old new ⊎ FailsBy request plan (script_in bytes) old new → FailsIn word request bytes old new
+by_plan word request bytes plan old new is (inl unread) = inr (inl unread)
+by_plan word request bytes plan old new is (inr fails) = inr (inr (inr (inr (plan, is, fails))))
+
+-- or there is none
+pub by_fault : (word : Option ℕ) (request : Request) (bytes : List ℕ) (fault : NoPlan) (old new : Option (List ℕ))
+    → IsNoPlan word (document_in bytes) fault → WroteUnread old new ⊎ WroteNoPlan fault old new → FailsIn word request bytes old new
+by_fault word request bytes fault old new none (inl unread) = inr (inl unread)
+by_fault word request bytes (OfDocument of) old new none (inr wrote) = inr (inr (inl wrote))
+by_fault word request bytes (OfWord number count) old new none (inr wrote) =
+    inr (inr (inr (inl (number, count, none.0, none.1, wrote))))
 
 -- what was found was written, whether all is well or not
 pub exploration_written : (plan : ProgrammedPlan) (opening : State) (well : Bool) (text : List ℕ) (old new : Option (List ℕ))

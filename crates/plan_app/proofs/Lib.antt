@@ -34,3 +34,5 @@ mod RunLawProofs
 mod RunRows
 mod PageRows
 mod PageLegal
+mod Keeping
+mod OnWordRows

@@ -60,13 +60,16 @@ answers-meant = record {
 
 pub served-meant : ServedIsMeant
 served-meant = record {
-  report = λ most bytes old new (plan, is, (text, tells, wrote)). (plan, is, text, tells, wrote);
-  header = λ bytes old new said. said;
-  python = λ bytes old new said. said;
-  picture = λ bytes old new said. said;
-  answers = λ bytes old new (plan, is, (clean, wrote)). (plan, is, clean, wrote);
-  free = λ bytes old new (plan, is, (opening, at, (text, tells, wrote))). (plan, is, opening, at, text, tells, wrote);
-  explored = λ bytes old new (plan, is, (opening, at, (text, tells, wrote))). (plan, is, opening, at, text, tells, wrote);
+  report = λ word most bytes old new (plan, is, (text, tells, wrote)). (plan, is, text, tells, wrote);
+  header = λ word bytes old new said. said;
+  python = λ word bytes old new said. said;
+  picture = λ word bytes old new said. said;
+  answers = λ word bytes old new (plan, is, (clean, wrote)). (plan, is, clean, wrote);
+  free = λ word bytes old new (plan, is, (opening, at, (text, tells, wrote))). (plan, is, opening, at, text, tells, wrote);
+  explored = λ word bytes old new (plan, is, (opening, at, (text, tells, wrote))). (plan, is, opening, at, text, tells, wrote);
+  words = λ bytes old new (plant, is, (text, tells, wrote)). (plant, is, text, tells, wrote);
+  of_document = λ document plan is. is;
+  of_word = λ number document plan is. (is.plant, is.says, is.there);
   silent = λ n ps s (text, tells, all). let e = tells.told in absurd (cc);
   other = λ n ps s (text, tells, all). let e = tells.told in absurd (cc);
   unknown = λ n ps s (text, tells, all). absurd all;

@@ -1,6 +1,7 @@
 -- What the program has written where it ended with status 1, by the plan of the document in its input. Of each text a
 -- prefix was written: as much as the writer took.
-use Rattle.std.specs.Prelude.{◌≡◌, ◌⊎◌, ◌<◌, ℕ, nat_eq, Bool, codes, length, IsTrue, Option, Ok, Err, IfSome}
+use Rattle.std.specs.Prelude.{◌≡◌, ◌⊎◌, ◌<◌, ℕ, List, nat_eq, Bool, codes, length, IsTrue}
+use Rattle.std.specs.Prelude.{Option, Some, Ok, Err, IfSome}
 use Rattle.std.specs.List.{starts_with}
 use Rattle.text_io.specs.Output.{WrotePrefix}
 use Rattle.program_shell.specs.Faults.{fault_line}
@@ -10,22 +11,26 @@ use Rattle.plan_rules.specs.declared.state.State.{State}
 use Rattle.plan_text.specs.Names.{Text}
 use Rattle.plan_text.specs.Named.{Named}
 use Rattle.plan_text.specs.Script.{script_answers, script_start}
-use Rattle.plan_document.specs.Reading.{IsPlanIn}
+use Rattle.plan_document.specs.Plants.{IsPlantIn}
+use Rattle.plan_document.specs.declared.plants.ProgrammedPlant.{ProgrammedPlant}
 use Rattle.plan_document.specs.declared.resolving.ProgrammedPlan.{ProgrammedPlan}
 use Rattle.plan_header.specs.Printed.{header_of}
 use Rattle.plan_header.specs.Modules.{module_text}
 use Rattle.plan_picture.specs.Pictures.{IsPicture}
 use Rattle.plan_app.specs.Apart.{TellsExploration, TellsLarge}
+use Rattle.plan_app.specs.Asked.{HasNoWord, IsAsked, no_word_text}
 use Rattle.plan_app.specs.Hazards.{TellsReport, start_if}
 use Rattle.plan_app.specs.Input.{byte_limit, document_in, script_in}
+use Rattle.plan_app.specs.OnWords.{TellsWords}
 use Rattle.plan_app.specs.Pages.{IsLongPage, TellsPage}
-use Rattle.plan_app.specs.Requests.{usual_most}
 use Rattle.plan_app.specs.RunPages.{ShowsRun}
 use Rattle.plan_app.specs.Runs.{HasForeignCall, IsTooLong, IsUnexplained, TellsRun}
 use Rattle.plan_app.specs.Screens.{TellsFree, TellsUnfinished}
+use Rattle.plan_app.specs.declared.asking.NoPlan.{NoPlan}
+use Rattle.plan_app.specs.declared.asking.NoPlan.TheVariants.{OfDocument, OfWord}
 use Rattle.plan_app.specs.declared.request.Request.{Request}
-use Rattle.plan_app.specs.declared.request.Request.TheVariants.{Check, Draw, Explore, Header, Help, Module, Page}
-use Rattle.plan_app.specs.declared.request.Request.TheVariants.{Replay, Run, RunPage, Version}
+use Rattle.plan_app.specs.declared.request.Request.TheVariants.{Check, Draw, Explore, Header, Module, Page}
+use Rattle.plan_app.specs.declared.request.Request.TheVariants.{Replay, Run, RunPage}
 
 -- ---- lines of faults
 
@@ -43,6 +48,17 @@ IsOfDocument words = IsTrue (starts_with nat_eq words (codes "plan "))
 -- the document has a fault
 abbrev pub WroteDocumentFault : Option Text → Option Text → Type 0
 WroteDocumentFault old new = (words : Text) × IsOfDocument words × WroteFault words old new
+
+-- the plant in the document has no word with the number that is asked for, and which words it has
+abbrev pub WroteNoWord : Option ℕ → Text → Option Text → Option Text → Type 0
+WroteNoWord word document old new =
+    (number : ℕ) × (count : ℕ) × (word ≡ Some number) × HasNoWord number count document
+    × WroteFault (no_word_text number count) old new
+
+-- the line of either
+abbrev pub WroteNoPlan : NoPlan → Option Text → Option Text → Type 0
+WroteNoPlan (OfDocument fault) old new = WroteDocumentFault old new
+WroteNoPlan (OfWord number count) old new = WroteFault (no_word_text number count) old new
 
 -- there are more bytes than a plan and a script may have
 abbrev pub WroteLong : Text → Option Text → Option Text → Type 0
@@ -173,17 +189,39 @@ FailsBy Draw plan script old new = WrotePicture plan old new
 FailsBy (Run turns) plan script old new = WroteRun plan turns script old new
 FailsBy (RunPage turns) plan script old new = WroteRunPage plan turns script old new
 FailsBy (Check most) plan script old new = WroteReport most plan script old new
-FailsBy Help plan script old new = WroteReport usual_most plan script old new
-FailsBy Version plan script old new = WroteReport usual_most plan script old new
 
--- ---- by the plan of the document in these bytes
+-- ---- by the plan that is asked for of the document in these bytes: its own, or that of one word of its plant
 
--- there are too many bytes, or reading failed or memory ran out, or the document has a fault; or it has a plan
-abbrev pub FailsIn : Request → Text → Option Text → Option Text → Type 0
-FailsIn request bytes old new =
+-- there are too many bytes, or reading failed or memory ran out, or the document has a fault, or its plant has no such
+-- word; or there is the plan
+abbrev pub FailsIn : Option ℕ → Request → Text → Option Text → Option Text → Type 0
+FailsIn word request bytes old new =
     WroteLong bytes old new ⊎ (WroteUnread old new ⊎ (WroteDocumentFault old new
-    ⊎ ((plan : ProgrammedPlan) × IsPlanIn (document_in bytes) plan × FailsBy request plan (script_in bytes) old new)))
+    ⊎ (WroteNoWord word (document_in bytes) old new
+    ⊎ ((plan : ProgrammedPlan) × IsAsked word (document_in bytes) plan
+    × FailsBy request plan (script_in bytes) old new))))
 
 -- in the input
-abbrev pub Fails : Request → Option Text → Option Text → Option Text → Type 0
-Fails request input old new = IfSome input (λ bytes. FailsIn request bytes old new)
+abbrev pub Fails : Option ℕ → Request → Option Text → Option Text → Option Text → Type 0
+Fails word request input old new = IfSome input (λ bytes. FailsIn word request bytes old new)
+
+-- ---- by the plant of the document in these bytes
+
+-- what its words have, and which of them keeps the motors of each hazard apart, or that none does
+abbrev pub WroteListing : List ProgrammedPlan → Option Text → Option Text → Type 0
+WroteListing plans old new =
+    (kept : Bool) × (text : Text) × TellsWords plans kept text × WrotePrefix old new text
+
+abbrev pub WroteWords : Text → Option Text → Option Text → Type 0
+WroteWords document old new =
+    (plant : ProgrammedPlant) × IsPlantIn document plant × WroteListing plant.plans.items old new
+
+-- there are too many bytes, or reading failed or memory ran out, or the document has a fault; or there is the plant
+abbrev pub FailsWordsIn : Text → Option Text → Option Text → Type 0
+FailsWordsIn bytes old new =
+    WroteLong bytes old new ⊎ (WroteUnread old new ⊎ (WroteDocumentFault old new
+    ⊎ WroteWords (document_in bytes) old new))
+
+-- in the input
+abbrev pub FailsWords : Option Text → Option Text → Option Text → Type 0
+FailsWords input old new = IfSome input (λ bytes. FailsWordsIn bytes old new)

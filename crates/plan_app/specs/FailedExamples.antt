@@ -1,13 +1,13 @@
 -- What was written where the program failed: the lines of faults, and what a run says of the plan in its input.
-use Rattle.std.specs.Prelude.{◌≡◌, ◌≢◌, ℕ, [], ◌∷◌, ◌++◌, codes, Some, Ok}
+use Rattle.std.specs.Prelude.{◌≡◌, ◌≢◌, ℕ, [], ◌∷◌, ◌++◌, codes, Option, Some, None, Ok}
 use Rattle.plan_rules.specs.declared.state.State.{State}
 use Rattle.plan_text.specs.Names.{Text}
 use Rattle.plan_text.specs.Script.{script_start}
-use Rattle.plan_document.specs.Reading.{IsPlanIn}
 use Rattle.plan_document.specs.declared.resolving.ProgrammedPlan.{ProgrammedPlan}
 use Rattle.plan_app.specs.Apart.{TellsLarge}
+use Rattle.plan_app.specs.Asked.{IsAsked, no_word_text}
 use Rattle.plan_app.specs.Failed.{Fails, FailsBy, IsOfDocument, WroteEnd, WroteExploration, WroteFault}
-use Rattle.plan_app.specs.Failed.{WrotePage, WrotePageText}
+use Rattle.plan_app.specs.Failed.{FailsWords, WroteNoWord, WrotePage, WrotePageText, WroteWords}
 use Rattle.plan_app.specs.Input.{document_in, script_in}
 use Rattle.plan_app.specs.declared.request.Request.{Request}
 use Rattle.plan_app.specs.declared.request.Request.TheVariants.{Explore}
@@ -40,8 +40,9 @@ pub record AreNoFault (new : Text) : Type 0 where
 
 pub record FailedIsMeant : Type 0 where
   -- what is no fault is what was asked for, by the plan of the document in the input
-  pub asked : (request : Request) (bytes new : Text) → AreNoFault new → Fails request (Some bytes) (Some []) (Some new)
-      → (plan : ProgrammedPlan) × IsPlanIn (document_in bytes) plan
+  pub asked : (word : Option ℕ) (request : Request) (bytes new : Text) → AreNoFault new
+      → Fails word request (Some bytes) (Some []) (Some new)
+      → (plan : ProgrammedPlan) × IsAsked word (document_in bytes) plan
       × FailsBy request plan (script_in bytes) (Some []) (Some new)
   -- of an exploration it is what was found, from the start of the script
   pub explored : (most : ℕ) (plan : ProgrammedPlan) (script new : Text) → AreNoFault new
@@ -55,8 +56,21 @@ pub record FailedIsMeant : Type 0 where
       × WrotePageText plan opening (Some []) (Some new)
   -- where `fault large: ` was written, turns lead to more situations than were to be explored, of a group or of all
   -- machines, and the words say which, and how far the exploration came
-  pub large : (most : ℕ) (bytes rest : Text) → Fails (Explore most) (Some bytes) (Some []) (Some (codes "fault large: " ++ rest))
-      → (plan : ProgrammedPlan) × IsPlanIn (document_in bytes) plan
+  pub large : (word : Option ℕ) (most : ℕ) (bytes rest : Text)
+      → Fails word (Explore most) (Some bytes) (Some []) (Some (codes "fault large: " ++ rest))
+      → (plan : ProgrammedPlan) × IsAsked word (document_in bytes) plan
       × (opening : State) × (script_start plan.named (script_in bytes) ≡ Ok opening)
       × (words : Text) × TellsLarge most plan.named plan.programs opening words
       × WroteOf words (codes "fault large: " ++ rest)
+  -- of the words of a plant it is what is said of them
+  pub words : (bytes new : Text) → AreNoFault new → FailsWords (Some bytes) (Some []) (Some new)
+      → WroteWords (document_in bytes) (Some []) (Some new)
+  -- a plan that is asked for of no word is never refused for its number
+  pub no_number : (document old new : Text) → ¬ WroteNoWord None document (Some old) (Some new)
+
+-- that a plant has no word with a number
+pub record NumbersAreRefused : Type 0 where
+  pub four : no_word_text 7 4 ≡ codes "plan has no word 7: it has words 0 to 3"
+  pub two : no_word_text 2 2 ≡ codes "plan has no word 2: it has words 0 to 1"
+  pub one : no_word_text 12 1 ≡ codes "plan has no word 12: it has word 0 alone"
+  pub of_document : IsOfDocument (no_word_text 9999999 16)

@@ -2,11 +2,13 @@
 use Rattle.std.specs.Prelude.{◌≡◌, ℕ, List, [], ◌∷◌, codes, Option, Some, None}
 use Rattle.plan_text.specs.Names.{Text}
 use Rattle.plan_app.specs.Input.{byte_limit, document_in, max_bytes_read, plan_length, script_in}
-use Rattle.plan_app.specs.Requests.{request_of}
+use Rattle.plan_app.specs.Requests.{wanted_of}
 use Rattle.plan_app.specs.Words.{counted}
 use Rattle.plan_app.specs.declared.request.Request.{Request}
 use Rattle.plan_app.specs.declared.request.Request.TheVariants.{Check, Replay, Explore, Page, Header, Module, Draw}
-use Rattle.plan_app.specs.declared.request.Request.TheVariants.{Run, RunPage, Help, Version}
+use Rattle.plan_app.specs.declared.request.Request.TheVariants.{Run, RunPage}
+use Rattle.plan_app.specs.declared.request.Wanted.{Wanted}
+use Rattle.plan_app.specs.declared.request.Wanted.TheVariants.{Help, Version, Words, Plan}
 
 -- a document of one line, and a script of one
 abbrev pub both : List ℕ
@@ -33,31 +35,41 @@ pub record InputsAreSplit : Type 0 where
   pub limit : byte_limit ≡ 4259840
   pub read : max_bytes_read ≡ 4259841
 
-abbrev pub asked : Text → Option Request
-asked word = request_of (codes "plan" ∷ word ∷ [])
+-- of the plan of the whole document, or of a word
+abbrev pub whole : Request → Option Wanted
+whole request = Some (Plan None request)
 
-abbrev pub asked_with : Text → Text → Option Request
-asked_with word next = request_of (codes "plan" ∷ word ∷ next ∷ [])
+abbrev pub on : ℕ → Request → Option Wanted
+on word request = Some (Plan (Some word) request)
 
-abbrev pub run_with : Text → Option Request
-run_with number = request_of (codes "plan" ∷ codes "run" ∷ codes "--turns" ∷ number ∷ [])
+abbrev pub asked : Text → Option Wanted
+asked word = wanted_of (codes "plan" ∷ word ∷ [])
 
-abbrev pub memory_for : Text → Text → Option Request
-memory_for word number = request_of (codes "plan" ∷ word ∷ codes "--memory" ∷ number ∷ [])
+abbrev pub asked_with : Text → Text → Option Wanted
+asked_with word next = wanted_of (codes "plan" ∷ word ∷ next ∷ [])
+
+abbrev pub run_with : Text → Option Wanted
+run_with number = wanted_of (codes "plan" ∷ codes "run" ∷ codes "--turns" ∷ number ∷ [])
+
+abbrev pub memory_for : Text → Text → Option Wanted
+memory_for word number = wanted_of (codes "plan" ∷ word ∷ codes "--memory" ∷ number ∷ [])
+
+abbrev pub on_word : Text → Text → List Text → Option Wanted
+on_word word number more = wanted_of (codes "plan" ∷ word ∷ codes "--word" ∷ number ∷ more)
 
 pub record RequestsAreRead : Type 0 where
-  pub check : asked (codes "check") ≡ Some (Check 1000000)
-  pub replay : asked (codes "replay") ≡ Some Replay
-  pub explore : asked (codes "explore") ≡ Some (Explore 1000000)
-  pub header : asked (codes "header") ≡ Some Header
-  pub draw : asked (codes "draw") ≡ Some Draw
-  pub python : asked_with (codes "header") (codes "--python") ≡ Some Module
-  pub page : asked_with (codes "explore") (codes "--page") ≡ Some (Page 1000000)
+  pub check : asked (codes "check") ≡ whole (Check 1000000)
+  pub replay : asked (codes "replay") ≡ whole Replay
+  pub explore : asked (codes "explore") ≡ whole (Explore 1000000)
+  pub header : asked (codes "header") ≡ whole Header
+  pub draw : asked (codes "draw") ≡ whole Draw
+  pub python : asked_with (codes "header") (codes "--python") ≡ whole Module
+  pub page : asked_with (codes "explore") (codes "--page") ≡ whole (Page 1000000)
   pub help : asked (codes "--help") ≡ Some Help
   pub help_short : asked (codes "-h") ≡ Some Help
   pub version : asked (codes "--version") ≡ Some Version
   -- whatever the program's name is
-  pub named : request_of (codes "check" ∷ codes "replay" ∷ []) ≡ Some Replay
+  pub named : wanted_of (codes "check" ∷ codes "replay" ∷ []) ≡ whole Replay
   -- help comes after each of its own words, and only after these
   pub help_of_check : asked_with (codes "check") (codes "--help") ≡ Some Help
   pub help_of_replay : asked_with (codes "replay") (codes "-h") ≡ Some Help
@@ -68,8 +80,8 @@ pub record RequestsAreRead : Type 0 where
   pub help_of_other : asked_with (codes "explain") (codes "--help") ≡ None
   pub version_of_check : asked_with (codes "check") (codes "--version") ≡ None
   -- no word, or other ones
-  pub no_name : request_of [] ≡ None
-  pub no_word : request_of (codes "plan" ∷ []) ≡ None
+  pub no_name : wanted_of [] ≡ None
+  pub no_word : wanted_of (codes "plan" ∷ []) ≡ None
   pub empty : asked [] ≡ None
   pub shorter : asked (codes "chec") ≡ None
   pub longer : asked (codes "checks") ≡ None
@@ -89,34 +101,34 @@ pub record RequestsAreRead : Type 0 where
   pub longer_page : asked_with (codes "explore") (codes "--pages") ≡ None
   pub page_alone : asked (codes "--page") ≡ None
   pub page_first : asked_with (codes "--page") (codes "explore") ≡ None
-  pub page_twice : request_of (codes "plan" ∷ codes "explore" ∷ codes "--page" ∷ codes "--page" ∷ []) ≡ None
+  pub page_twice : wanted_of (codes "plan" ∷ codes "explore" ∷ codes "--page" ∷ codes "--page" ∷ []) ≡ None
   -- of memory there are 1 to 1,000,000 megabytes, with room for 2,000 situations each
-  pub memory_of_explore : memory_for (codes "explore") (codes "64") ≡ Some (Explore 128000)
-  pub memory_of_check : memory_for (codes "check") (codes "1") ≡ Some (Check 2000)
+  pub memory_of_explore : memory_for (codes "explore") (codes "64") ≡ whole (Explore 128000)
+  pub memory_of_check : memory_for (codes "check") (codes "1") ≡ whole (Check 2000)
   pub memory_of_page
-      : request_of (codes "plan" ∷ codes "explore" ∷ codes "--memory" ∷ codes "500" ∷ codes "--page" ∷ [])
-      ≡ Some (Page 1000000)
-  pub most_memory : memory_for (codes "explore") (codes "1000000") ≡ Some (Explore 2000000000)
+      : wanted_of (codes "plan" ∷ codes "explore" ∷ codes "--memory" ∷ codes "500" ∷ codes "--page" ∷ [])
+      ≡ whole (Page 1000000)
+  pub most_memory : memory_for (codes "explore") (codes "1000000") ≡ whole (Explore 2000000000)
   pub more_memory : memory_for (codes "explore") (codes "1000001") ≡ None
   pub no_memory : memory_for (codes "check") (codes "0") ≡ None
   pub memory_of_run : memory_for (codes "run") (codes "64") ≡ None
   pub memory_of_replay : memory_for (codes "replay") (codes "64") ≡ None
   pub memory_alone : asked_with (codes "explore") (codes "--memory") ≡ None
   pub turns_of_explore
-      : request_of (codes "plan" ∷ codes "explore" ∷ codes "--turns" ∷ codes "5" ∷ []) ≡ None
+      : wanted_of (codes "plan" ∷ codes "explore" ∷ codes "--turns" ∷ codes "5" ∷ []) ≡ None
   pub page_of_check_with_memory
-      : request_of (codes "plan" ∷ codes "check" ∷ codes "--memory" ∷ codes "5" ∷ codes "--page" ∷ []) ≡ None
+      : wanted_of (codes "plan" ∷ codes "check" ∷ codes "--memory" ∷ codes "5" ∷ codes "--page" ∷ []) ≡ None
   -- a run has its number of turns, from 1 to 1,000,000
-  pub run_once : run_with (codes "1") ≡ Some (Run 1)
-  pub run_most : run_with (codes "1000000") ≡ Some (Run 1000000)
-  pub run_zeros : run_with (codes "0012") ≡ Some (Run 12)
-  pub run_page : request_of (codes "plan" ∷ codes "run" ∷ codes "--turns" ∷ codes "12" ∷ codes "--page" ∷ [])
-      ≡ Some (RunPage 12)
-  pub page_before : request_of (codes "plan" ∷ codes "run" ∷ codes "--page" ∷ codes "--turns" ∷ codes "12" ∷ [])
+  pub run_once : run_with (codes "1") ≡ whole (Run 1)
+  pub run_most : run_with (codes "1000000") ≡ whole (Run 1000000)
+  pub run_zeros : run_with (codes "0012") ≡ whole (Run 12)
+  pub run_page : wanted_of (codes "plan" ∷ codes "run" ∷ codes "--turns" ∷ codes "12" ∷ codes "--page" ∷ [])
+      ≡ whole (RunPage 12)
+  pub page_before : wanted_of (codes "plan" ∷ codes "run" ∷ codes "--page" ∷ codes "--turns" ∷ codes "12" ∷ [])
       ≡ None
-  pub page_of_none : request_of (codes "plan" ∷ codes "run" ∷ codes "--turns" ∷ codes "0" ∷ codes "--page" ∷ [])
+  pub page_of_none : wanted_of (codes "plan" ∷ codes "run" ∷ codes "--turns" ∷ codes "0" ∷ codes "--page" ∷ [])
       ≡ None
-  pub page_of_turns : request_of (codes "plan" ∷ codes "explore" ∷ codes "--turns" ∷ codes "5" ∷ codes "--page" ∷ [])
+  pub page_of_turns : wanted_of (codes "plan" ∷ codes "explore" ∷ codes "--turns" ∷ codes "5" ∷ codes "--page" ∷ [])
       ≡ None
   pub run_page_alone : asked_with (codes "run") (codes "--page") ≡ None
   pub run_none : run_with (codes "0") ≡ None
@@ -129,11 +141,51 @@ pub record RequestsAreRead : Type 0 where
   pub run_flag : asked_with (codes "run") (codes "--turns") ≡ None
   pub run_joined : asked_with (codes "run") (codes "--turns=5") ≡ None
   pub run_for_python : asked_with (codes "run") (codes "--python") ≡ None
-  pub run_tries : request_of (codes "plan" ∷ codes "run" ∷ codes "--tries" ∷ codes "5" ∷ []) ≡ None
+  pub run_tries : wanted_of (codes "plan" ∷ codes "run" ∷ codes "--tries" ∷ codes "5" ∷ []) ≡ None
   pub run_more_words
-      : request_of (codes "plan" ∷ codes "run" ∷ codes "--turns" ∷ codes "5" ∷ codes "5" ∷ []) ≡ None
-  pub check_turns : request_of (codes "plan" ∷ codes "check" ∷ codes "--turns" ∷ codes "5" ∷ []) ≡ None
-  pub python_twice : request_of (codes "plan" ∷ codes "header" ∷ codes "--python" ∷ codes "--python" ∷ []) ≡ None
+      : wanted_of (codes "plan" ∷ codes "run" ∷ codes "--turns" ∷ codes "5" ∷ codes "5" ∷ []) ≡ None
+  pub check_turns : wanted_of (codes "plan" ∷ codes "check" ∷ codes "--turns" ∷ codes "5" ∷ []) ≡ None
+  pub python_twice : wanted_of (codes "plan" ∷ codes "header" ∷ codes "--python" ∷ codes "--python" ∷ []) ≡ None
+  -- of all words of a plant, or of the plan of one, whose number comes directly after the word
+  pub words : asked (codes "words") ≡ Some Words
+  pub help_of_words : asked_with (codes "words") (codes "--help") ≡ Some Help
+  pub words_on_word : on_word (codes "words") (codes "0") [] ≡ None
+  pub words_with_page : asked_with (codes "words") (codes "--page") ≡ None
+  pub words_twice : asked_with (codes "words") (codes "words") ≡ None
+  pub word_alone : asked (codes "word") ≡ None
+  pub check_on_word : on_word (codes "check") (codes "2") [] ≡ on 2 (Check 1000000)
+  pub check_on_first_word : on_word (codes "check") (codes "0") [] ≡ on 0 (Check 1000000)
+  pub check_with_memory
+      : on_word (codes "check") (codes "2") (codes "--memory" ∷ codes "100" ∷ []) ≡ on 2 (Check 200000)
+  pub replay_on_word : on_word (codes "replay") (codes "1") [] ≡ on 1 Replay
+  pub explore_on_word : on_word (codes "explore") (codes "1") [] ≡ on 1 (Explore 1000000)
+  pub explore_page_on_word : on_word (codes "explore") (codes "0") (codes "--page" ∷ []) ≡ on 0 (Page 1000000)
+  pub explore_page_with_memory
+      : on_word (codes "explore") (codes "0") (codes "--memory" ∷ codes "1" ∷ codes "--page" ∷ []) ≡ on 0 (Page 2000)
+  pub header_on_word : on_word (codes "header") (codes "3") [] ≡ on 3 Header
+  pub python_on_word : on_word (codes "header") (codes "3") (codes "--python" ∷ []) ≡ on 3 Module
+  pub draw_on_word : on_word (codes "draw") (codes "0015") [] ≡ on 15 Draw
+  pub run_on_word : on_word (codes "run") (codes "1") (codes "--turns" ∷ codes "5" ∷ []) ≡ on 1 (Run 5)
+  pub run_page_on_word
+      : on_word (codes "run") (codes "1") (codes "--turns" ∷ codes "5" ∷ codes "--page" ∷ []) ≡ on 1 (RunPage 5)
+  pub run_on_word_alone : on_word (codes "run") (codes "1") [] ≡ None
+  -- a number of one to seven digits, once, and before all other flags
+  pub large_word : on_word (codes "check") (codes "9999999") [] ≡ on 9999999 (Check 1000000)
+  pub long_word : on_word (codes "check") (codes "00000001") [] ≡ None
+  pub no_number : asked_with (codes "check") (codes "--word") ≡ None
+  pub empty_number : on_word (codes "check") [] [] ≡ None
+  pub signed_number : on_word (codes "check") (codes "-1") [] ≡ None
+  pub named_word : on_word (codes "check") (codes "two") [] ≡ None
+  pub joined_number : asked_with (codes "check") (codes "--word=2") ≡ None
+  pub word_twice : on_word (codes "check") (codes "1") (codes "--word" ∷ codes "1" ∷ []) ≡ None
+  pub word_last
+      : wanted_of (codes "plan" ∷ codes "check" ∷ codes "--memory" ∷ codes "5" ∷ codes "--word" ∷ codes "1" ∷ [])
+      ≡ None
+  pub word_after_page
+      : wanted_of (codes "plan" ∷ codes "explore" ∷ codes "--page" ∷ codes "--word" ∷ codes "1" ∷ []) ≡ None
+  pub word_first : wanted_of (codes "plan" ∷ codes "--word" ∷ codes "1" ∷ codes "check" ∷ []) ≡ None
+  pub help_on_word : on_word (codes "check") (codes "1") (codes "--help" ∷ []) ≡ None
+  pub other_on_word : on_word (codes "explain") (codes "1") [] ≡ None
 
 -- words that several texts have
 pub record WordsAreMade : Type 0 where

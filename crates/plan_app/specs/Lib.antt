@@ -15,6 +15,8 @@ pub mod PartLaws
 pub mod PageData
 pub mod Films
 pub mod Pages
+pub mod Asked
+pub mod OnWords
 pub mod Served
 pub mod Failed
 pub mod WordExamples
@@ -32,6 +34,7 @@ pub mod InputLaws
 pub mod ScreenExamples
 pub mod PartExamples
 pub mod FailedExamples
+pub mod OnWordExamples
 pub mod Simulated
 pub mod SimulatedExamples
 pub mod RunTexts

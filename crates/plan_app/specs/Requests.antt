@@ -1,5 +1,5 @@
 -- What the words of the program ask for.
-use Rattle.std.specs.Prelude.{ℕ, ◌*◌, List, [], ◌∷◌, ◌&&◌, codes, nat_le, Option, Some, None, option_map}
+use Rattle.std.specs.Prelude.{◌≡◌, ℕ, ◌*◌, List, [], ◌∷◌, ◌&&◌, codes, nat_le, Option, Some, None, option_map}
 use Rattle.std.specs.Prelude.{if◌then◌else◌}
 use Rattle.std.specs.Bool.{then_some}
 use Rattle.std.specs.Option.{option_and_then}
@@ -10,12 +10,15 @@ use Rattle.program_shell.specs.declared.asked.Asked.{Asked}
 use Rattle.program_shell.specs.declared.asked.Asked.TheVariants as asked
 use Rattle.plan_app.specs.declared.request.Request.{Request}
 use Rattle.plan_app.specs.declared.request.Request.TheVariants.{Check, Replay, Explore, Page, Header, Module, Draw}
-use Rattle.plan_app.specs.declared.request.Request.TheVariants.{Run, RunPage, Help, Version}
+use Rattle.plan_app.specs.declared.request.Request.TheVariants.{Run, RunPage}
+use Rattle.plan_app.specs.declared.request.Wanted.{Wanted}
+use Rattle.plan_app.specs.declared.request.Wanted.TheVariants.{Help, Version, Words, Plan}
 
 -- the words of this program alone
 abbrev pub own_words : List (List ℕ)
 own_words =
-    codes "check" ∷ codes "replay" ∷ codes "explore" ∷ codes "header" ∷ codes "draw" ∷ codes "run" ∷ []
+    codes "check" ∷ codes "replay" ∷ codes "explore" ∷ codes "header" ∷ codes "draw" ∷ codes "run"
+    ∷ codes "words" ∷ []
 
 -- how many situations are explored at most, unless it is said: what 500 megabytes hold
 abbrev pub usual_most : ℕ
@@ -70,20 +73,55 @@ abbrev pub request_of_page : List ℕ → List ℕ → List ℕ → List ℕ →
 request_of_page word flag number last =
     if bytes_eq last (codes "--page") then page_of_number word flag number else None
 
--- what words ask for that aren't two
-abbrev pub request_with : List (List ℕ) → Option Request
-request_with (name ∷ word ∷ flag ∷ []) = request_for word flag
-request_with (name ∷ word ∷ flag ∷ number ∷ []) = request_of_number word flag number
-request_with (name ∷ word ∷ flag ∷ number ∷ last ∷ []) = request_of_page word flag number last
-request_with _ = None
+-- what a word asks of a plan, with at least two words after it, or with any
+abbrev pub request_with : List ℕ → List ℕ → List ℕ → List (List ℕ) → Option Request
+request_with word flag number [] = request_of_number word flag number
+request_with word flag number (last ∷ []) = request_of_page word flag number last
+request_with word flag number _ = None
+
+abbrev pub request_after : List ℕ → List (List ℕ) → Option Request
+request_after word [] = request_by word
+request_after word (flag ∷ []) = request_for word flag
+request_after word (flag ∷ number ∷ []) = request_of_number word flag number
+request_after word (flag ∷ number ∷ last ∷ []) = request_of_page word flag number last
+request_after word _ = None
+
+-- ---- and of which plan: of the whole document, or of the word with a number
+
+abbrev pub of_document : Option Request → Option Wanted
+of_document request = option_map (Plan None) request
+
+abbrev pub wanted_on : List ℕ → Option Request → Option Wanted
+wanted_on number request = option_and_then (λ n. option_map (Plan (Some n)) request) (number_in number)
+
+-- `--word K` comes directly after the word
+abbrev pub wanted_with : List ℕ → List ℕ → List ℕ → List (List ℕ) → Option Wanted
+wanted_with word flag number more =
+    if bytes_eq flag (codes "--word") then wanted_on number (request_after word more)
+    else of_document (request_with word flag number more)
+
+abbrev pub wanted_alone : List ℕ → Option Wanted
+wanted_alone word = if bytes_eq word (codes "words") then Some Words else of_document (request_by word)
+
+abbrev pub wanted_after : List ℕ → List (List ℕ) → Option Wanted
+wanted_after word [] = wanted_alone word
+wanted_after word (flag ∷ []) = of_document (request_for word flag)
+wanted_after word (flag ∷ number ∷ more) = wanted_with word flag number more
+
+-- the first is the program's name
+abbrev pub wanted_by : List (List ℕ) → Option Wanted
+wanted_by (name ∷ word ∷ rest) = wanted_after word rest
+wanted_by _ = None
 
 -- what words ask for, by what they ask for of every program
-abbrev pub request_asked : Asked → List (List ℕ) → Option Request
-request_asked asked.Help words = Some Help
-request_asked asked.Version words = Some Version
-request_asked asked.Other (name ∷ word ∷ []) = request_by word
-request_asked asked.Other words = request_with words
+abbrev pub wanted_asked : Asked → List (List ℕ) → Option Wanted
+wanted_asked asked.Help words = Some Help
+wanted_asked asked.Version words = Some Version
+wanted_asked asked.Other words = wanted_by words
 
--- what words ask for; the first is the program's name
-abbrev pub request_of : List (List ℕ) → Option Request
-request_of words = request_asked (asked_of own_words words) words
+abbrev pub wanted_of : List (List ℕ) → Option Wanted
+wanted_of words = wanted_asked (asked_of own_words words) words
+
+-- words ask this of the plan of the document, or of that of one word
+abbrev pub Ask : List (List ℕ) → Option ℕ → Request → Type 0
+Ask words word request = wanted_of words ≡ Some (Plan word request)

@@ -4,7 +4,8 @@ use Rattle.std.specs.Io.KnownBytes.{Appends}
 use Rattle.plan_rules.specs.declared.state.State.{State}
 use Rattle.plan_explorer.specs.Programs.{PlanPrograms}
 use Rattle.plan_text.specs.Named.{Named}
-use Rattle.plan_document.specs.Reading.{IsPlanIn}
+use Rattle.plan_document.specs.Plants.{IsPlantIn}
+use Rattle.plan_document.specs.declared.plants.ProgrammedPlant.{ProgrammedPlant}
 use Rattle.plan_document.specs.declared.resolving.ProgrammedPlan.{ProgrammedPlan}
 use Rattle.csv_rows.specs.declared.script_end.Outcome.TheVariants.{Clean}
 use Rattle.plan_text.specs.Script.{script_answers, script_start}
@@ -12,8 +13,10 @@ use Rattle.plan_header.specs.Printed.{header_of}
 use Rattle.plan_header.specs.Modules.{module_text}
 use Rattle.plan_picture.specs.Pictures.{IsPicture}
 use Rattle.plan_app.specs.Apart.{TellsExploration}
+use Rattle.plan_app.specs.Asked.{IsAsked}
 use Rattle.plan_app.specs.Input.{document_in, script_in}
 use Rattle.plan_app.specs.Hazards.{TellsReport, start_if}
+use Rattle.plan_app.specs.OnWords.{TellsWords}
 use Rattle.plan_app.specs.RunPages.{ShowsRun}
 use Rattle.plan_app.specs.Runs.{TellsRun}
 use Rattle.plan_app.specs.Screens.{TellsFree}
@@ -75,80 +78,96 @@ abbrev pub WritesRunPage : ProgrammedPlan → ℕ → List ℕ → Option (List 
 WritesRunPage plan turns script old new =
     (start : State) × (script_start plan.named script ≡ Ok start) × WritesRunPageFrom plan turns start old new
 
--- ---- by the plan of the document in these bytes
+-- ---- by the plan that is asked for of the document in these bytes: its own, or that of one word of its plant
 
 -- the script after it was answered
-abbrev pub AnswersIn : List ℕ → Option (List ℕ) → Option (List ℕ) → Type 0
-AnswersIn bytes old new =
-    (plan : ProgrammedPlan) × IsPlanIn (document_in bytes) plan × AnswersScript plan.named (script_in bytes) old new
+abbrev pub AnswersIn : Option ℕ → List ℕ → Option (List ℕ) → Option (List ℕ) → Type 0
+AnswersIn word bytes old new =
+    (plan : ProgrammedPlan) × IsAsked word (document_in bytes) plan × AnswersScript plan.named (script_in bytes) old new
 
 -- its programs were found free, of standstills and of machines that starve, from the start of the script after it
-abbrev pub FindsFreeIn : List ℕ → Option (List ℕ) → Option (List ℕ) → Type 0
-FindsFreeIn bytes old new =
-    (plan : ProgrammedPlan) × IsPlanIn (document_in bytes) plan × FindsFree plan (script_in bytes) old new
+abbrev pub FindsFreeIn : Option ℕ → List ℕ → Option (List ℕ) → Option (List ℕ) → Type 0
+FindsFreeIn word bytes old new =
+    (plan : ProgrammedPlan) × IsAsked word (document_in bytes) plan × FindsFree plan (script_in bytes) old new
 
 -- or those of each group
-abbrev pub ExploresIn : List ℕ → Option (List ℕ) → Option (List ℕ) → Type 0
-ExploresIn bytes old new =
-    (plan : ProgrammedPlan) × IsPlanIn (document_in bytes) plan × Explores plan (script_in bytes) old new
+abbrev pub ExploresIn : Option ℕ → List ℕ → Option (List ℕ) → Option (List ℕ) → Type 0
+ExploresIn word bytes old new =
+    (plan : ProgrammedPlan) × IsAsked word (document_in bytes) plan × Explores plan (script_in bytes) old new
 
 -- its report was written, by which the motors of each hazard are kept apart, and nothing else
-abbrev pub ReportsIn : ℕ → List ℕ → Option (List ℕ) → Option (List ℕ) → Type 0
-ReportsIn most bytes old new =
-    (plan : ProgrammedPlan) × IsPlanIn (document_in bytes) plan × WritesReport most plan (script_in bytes) old new
+abbrev pub ReportsIn : Option ℕ → ℕ → List ℕ → Option (List ℕ) → Option (List ℕ) → Type 0
+ReportsIn word most bytes old new =
+    (plan : ProgrammedPlan) × IsAsked word (document_in bytes) plan × WritesReport most plan (script_in bytes) old new
 
 -- or its header
-abbrev pub WritesHeaderIn : List ℕ → Option (List ℕ) → Option (List ℕ) → Type 0
-WritesHeaderIn bytes old new =
-    (plan : ProgrammedPlan) × IsPlanIn (document_in bytes) plan
+abbrev pub WritesHeaderIn : Option ℕ → List ℕ → Option (List ℕ) → Option (List ℕ) → Type 0
+WritesHeaderIn word bytes old new =
+    (plan : ProgrammedPlan) × IsAsked word (document_in bytes) plan
     × Appends old new (header_of plan)
 
 -- or its module
-abbrev pub WritesModuleIn : List ℕ → Option (List ℕ) → Option (List ℕ) → Type 0
-WritesModuleIn bytes old new =
-    (plan : ProgrammedPlan) × IsPlanIn (document_in bytes) plan
+abbrev pub WritesModuleIn : Option ℕ → List ℕ → Option (List ℕ) → Option (List ℕ) → Type 0
+WritesModuleIn word bytes old new =
+    (plan : ProgrammedPlan) × IsAsked word (document_in bytes) plan
     × Appends old new (module_text plan.named plan.motors.names plan.motors.motors.items)
 
 -- or its picture
-abbrev pub WritesPictureIn : List ℕ → Option (List ℕ) → Option (List ℕ) → Type 0
-WritesPictureIn bytes old new =
-    (plan : ProgrammedPlan) × IsPlanIn (document_in bytes) plan × WritesPicture plan old new
+abbrev pub WritesPictureIn : Option ℕ → List ℕ → Option (List ℕ) → Option (List ℕ) → Type 0
+WritesPictureIn word bytes old new =
+    (plan : ProgrammedPlan) × IsAsked word (document_in bytes) plan × WritesPicture plan old new
 
 -- or a run of its machines
-abbrev pub WritesRunIn : ℕ → List ℕ → Option (List ℕ) → Option (List ℕ) → Type 0
-WritesRunIn turns bytes old new =
-    (plan : ProgrammedPlan) × IsPlanIn (document_in bytes) plan × WritesRun plan turns (script_in bytes) old new
+abbrev pub WritesRunIn : Option ℕ → ℕ → List ℕ → Option (List ℕ) → Option (List ℕ) → Type 0
+WritesRunIn word turns bytes old new =
+    (plan : ProgrammedPlan) × IsAsked word (document_in bytes) plan × WritesRun plan turns (script_in bytes) old new
 
 -- or the page of one
-abbrev pub WritesRunPageIn : ℕ → List ℕ → Option (List ℕ) → Option (List ℕ) → Type 0
-WritesRunPageIn turns bytes old new =
-    (plan : ProgrammedPlan) × IsPlanIn (document_in bytes) plan × WritesRunPage plan turns (script_in bytes) old new
+abbrev pub WritesRunPageIn : Option ℕ → ℕ → List ℕ → Option (List ℕ) → Option (List ℕ) → Type 0
+WritesRunPageIn word turns bytes old new =
+    (plan : ProgrammedPlan) × IsAsked word (document_in bytes) plan × WritesRunPage plan turns (script_in bytes) old new
 
--- ---- by the plan of the document in the input
+-- ---- by the plant of the document in these bytes
 
-abbrev pub AnswersInput : Option (List ℕ) → Option (List ℕ) → Option (List ℕ) → Type 0
-AnswersInput input old new = IfSome input (λ bytes. AnswersIn bytes old new)
+-- what its words have was written, and that some word keeps the motors of each hazard apart, and nothing else
+abbrev pub WritesListing : List ProgrammedPlan → Option (List ℕ) → Option (List ℕ) → Type 0
+WritesListing plans old new = (text : List ℕ) × TellsWords plans true text × Appends old new text
 
-abbrev pub FindsInputFree : Option (List ℕ) → Option (List ℕ) → Option (List ℕ) → Type 0
-FindsInputFree input old new = IfSome input (λ bytes. FindsFreeIn bytes old new)
+abbrev pub WritesPlant : List ℕ → Option (List ℕ) → Option (List ℕ) → Type 0
+WritesPlant document old new =
+    (plant : ProgrammedPlant) × IsPlantIn document plant × WritesListing plant.plans.items old new
 
-abbrev pub ExploresInput : Option (List ℕ) → Option (List ℕ) → Option (List ℕ) → Type 0
-ExploresInput input old new = IfSome input (λ bytes. ExploresIn bytes old new)
+abbrev pub WritesWordsIn : List ℕ → Option (List ℕ) → Option (List ℕ) → Type 0
+WritesWordsIn bytes old new = WritesPlant (document_in bytes) old new
 
-abbrev pub Reports : ℕ → Option (List ℕ) → Option (List ℕ) → Option (List ℕ) → Type 0
-Reports most input old new = IfSome input (λ bytes. ReportsIn most bytes old new)
+-- ---- of the document in the input
 
-abbrev pub WritesHeader : Option (List ℕ) → Option (List ℕ) → Option (List ℕ) → Type 0
-WritesHeader input old new = IfSome input (λ bytes. WritesHeaderIn bytes old new)
+abbrev pub AnswersInput : Option ℕ → Option (List ℕ) → Option (List ℕ) → Option (List ℕ) → Type 0
+AnswersInput word input old new = IfSome input (λ bytes. AnswersIn word bytes old new)
 
-abbrev pub WritesModule : Option (List ℕ) → Option (List ℕ) → Option (List ℕ) → Type 0
-WritesModule input old new = IfSome input (λ bytes. WritesModuleIn bytes old new)
+abbrev pub FindsInputFree : Option ℕ → Option (List ℕ) → Option (List ℕ) → Option (List ℕ) → Type 0
+FindsInputFree word input old new = IfSome input (λ bytes. FindsFreeIn word bytes old new)
 
-abbrev pub Draws : Option (List ℕ) → Option (List ℕ) → Option (List ℕ) → Type 0
-Draws input old new = IfSome input (λ bytes. WritesPictureIn bytes old new)
+abbrev pub ExploresInput : Option ℕ → Option (List ℕ) → Option (List ℕ) → Option (List ℕ) → Type 0
+ExploresInput word input old new = IfSome input (λ bytes. ExploresIn word bytes old new)
 
-abbrev pub TellsInputRun : ℕ → Option (List ℕ) → Option (List ℕ) → Option (List ℕ) → Type 0
-TellsInputRun turns input old new = IfSome input (λ bytes. WritesRunIn turns bytes old new)
+abbrev pub Reports : Option ℕ → ℕ → Option (List ℕ) → Option (List ℕ) → Option (List ℕ) → Type 0
+Reports word most input old new = IfSome input (λ bytes. ReportsIn word most bytes old new)
 
-abbrev pub ShowsInputRun : ℕ → Option (List ℕ) → Option (List ℕ) → Option (List ℕ) → Type 0
-ShowsInputRun turns input old new = IfSome input (λ bytes. WritesRunPageIn turns bytes old new)
+abbrev pub WritesHeader : Option ℕ → Option (List ℕ) → Option (List ℕ) → Option (List ℕ) → Type 0
+WritesHeader word input old new = IfSome input (λ bytes. WritesHeaderIn word bytes old new)
+
+abbrev pub WritesModule : Option ℕ → Option (List ℕ) → Option (List ℕ) → Option (List ℕ) → Type 0
+WritesModule word input old new = IfSome input (λ bytes. WritesModuleIn word bytes old new)
+
+abbrev pub Draws : Option ℕ → Option (List ℕ) → Option (List ℕ) → Option (List ℕ) → Type 0
+Draws word input old new = IfSome input (λ bytes. WritesPictureIn word bytes old new)
+
+abbrev pub TellsInputRun : Option ℕ → ℕ → Option (List ℕ) → Option (List ℕ) → Option (List ℕ) → Type 0
+TellsInputRun word turns input old new = IfSome input (λ bytes. WritesRunIn word turns bytes old new)
+
+abbrev pub ShowsInputRun : Option ℕ → ℕ → Option (List ℕ) → Option (List ℕ) → Option (List ℕ) → Type 0
+ShowsInputRun word turns input old new = IfSome input (λ bytes. WritesRunPageIn word turns bytes old new)
+
+abbrev pub WritesWords : Option (List ℕ) → Option (List ℕ) → Option (List ℕ) → Type 0
+WritesWords input old new = IfSome input (λ bytes. WritesWordsIn bytes old new)

@@ -249,8 +249,8 @@ fn push_part(
     }
 }
 
-/// Whether all is well in the group of a machine alone, and what is told of it; or how far the exploration came, if turns
-/// lead to more situations than are explored.
+/// Whether all is well in the group of a machine alone, and what is told of it; or how far the exploration came,
+/// if turns lead to more situations than are explored.
 fn part_of(
     alloc: Global,
     plan: &Acting,

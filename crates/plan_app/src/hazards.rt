@@ -165,7 +165,7 @@ fn hazard_lead(
 }
 
 /// A hazard by its number; one of the first motor alone if there is no such hazard.
-fn hazard_at(hazards: &[Hazard], hazard: usize) -> Hazard
+pub(crate) fn hazard_at(hazards: &[Hazard], hazard: usize) -> Hazard
     ensures { result ≡ of_plan.hazard_at hazards.now hazard }
 {
     match hazards.get(hazard) {
@@ -477,7 +477,8 @@ fn push_shown(text: &mut String, named: &NamedPlan, verdict: Verdict) -> Result<
     }
 }
 
-fn push_two(text: &mut String, first: &str, second: &str) -> Result<(), AllocError>
+/// Adds two texts.
+pub(crate) fn push_two(text: &mut String, first: &str, second: &str) -> Result<(), AllocError>
     ensures { OnOk result (string_bytes text.new
         ≡ string_bytes text.old ++ (first.now ++ second.now)) }
 {

@@ -1,12 +1,12 @@
 //! Laws of what is printed, each the contract of a function that does nothing.
-ghost use Rattle.std.specs.Prelude.{ℕ, Bool, List};
+ghost use Rattle.std.specs.Prelude.{ℕ, Bool, List, Option};
 ghost use Rattle.plan_rules.specs.declared.state.State.{State};
 ghost use Rattle.plan_text.specs.HistoryLaws.{IsStartOf};
 ghost use Rattle.plan_document.specs.declared.resolving.ProgrammedPlan.{ProgrammedPlan};
 ghost use Rattle.plan_app.specs.CountLaws.{CountsTell};
 ghost use Rattle.plan_app.specs.DriveExamples.{DriveLines, RightDrivesArePermitted, RunsAreTold};
 ghost use Rattle.plan_app.specs.DriveLaws.{DrivesTell};
-ghost use Rattle.plan_app.specs.FailedExamples.{FailedIsMeant, FaultLines};
+ghost use Rattle.plan_app.specs.FailedExamples.{FailedIsMeant, FaultLines, NumbersAreRefused};
 ghost use Rattle.plan_app.specs.GoingExamples.{EventLines, MachinesAreTold, WalksAreTold};
 ghost use Rattle.plan_app.specs.GoingLaws.{EventsTell, GoingTells};
 ghost use Rattle.plan_app.specs.HazardExamples.{AreKept, HazardLines, KeptMotorsAreNeverBoth, LeadLines};
@@ -14,6 +14,7 @@ ghost use Rattle.plan_app.specs.HazardLaws.{HazardsTell};
 ghost use Rattle.plan_app.specs.InputExamples.{InputsAreSplit, RequestsAreRead, WordsAreMade};
 ghost use Rattle.plan_app.specs.InputLaws.{ScriptsAreFound};
 ghost use Rattle.plan_app.specs.LineExamples.{ReportLines, RowsAreTold, WholeReports};
+ghost use Rattle.plan_app.specs.OnWordExamples.{WordLines, WordsTell};
 ghost use Rattle.plan_app.specs.PageExamples.{DataIsTold, LinesAreShown, OrdersAreChosen, OrdersAreShown};
 ghost use Rattle.plan_app.specs.PageLaws.{PagesTell};
 ghost use Rattle.plan_app.specs.PartExamples.{PartsAreTold};
@@ -197,14 +198,27 @@ pub fn served_is_meant()
     ensures { ServedIsMeant }
 {}
 
-/// Examples: what was written of the line of a fault, and which words are of a document's fault.
+/// Examples: what was written of the line of a fault, and which words are of a document's fault; and that a plant has
+/// no word with a number.
 pub fn fault_lines_are_met()
-    ensures { FaultLines }
+    ensures lines { FaultLines }
+    ensures numbers { NumbersAreRefused }
 {}
 
 /// Of a run that failed: what was written is a fault's line, or what was asked for, by the plan of the input.
 pub fn failed_is_meant()
     ensures { FailedIsMeant }
+{}
+
+/// Examples: what is said of the words of a plant, line by line and whole.
+pub fn word_lines_are_met()
+    ensures { WordLines }
+{}
+
+/// If the status of `words` says that all is well, a word keeps the motors of each hazard apart; and else those of some
+/// hazard are permitted both on each word.
+pub fn words_tell()
+    ensures { WordsTell }
 {}
 
 /// Examples: what simulated sensors show, turn by turn.
@@ -214,8 +228,9 @@ pub fn simulations_are_met()
 
 /// A replay answers the script that a run has printed as the machines were answered.
 pub fn runs_are_replayed()
-    ensures runs { (document : List ℕ) (plan : ProgrammedPlan) (turns : ℕ) (start : State)
-        (fine : Bool) (text : List ℕ) → RunsAreReplayed document plan turns start fine text }
+    ensures runs { (word : Option ℕ) (document : List ℕ) (plan : ProgrammedPlan) (turns : ℕ)
+        (start : State) (fine : Bool) (text : List ℕ) →
+        RunsAreReplayed word document plan turns start fine text }
     ensures writings { WritingsAreReplayed }
 {
     histories_are_answered();

@@ -3,6 +3,7 @@
 
 pub mod acting;
 pub mod apart;
+pub mod asking;
 mod drives;
 pub mod explore;
 mod film;
@@ -11,6 +12,7 @@ pub mod hazards;
 pub mod input;
 pub mod laws;
 pub mod leads;
+pub mod on_words;
 pub mod page;
 mod page_data;
 mod page_head;
@@ -25,6 +27,7 @@ pub mod run_page;
 pub mod run_text;
 pub mod serve;
 mod serve_page;
+mod serve_words;
 pub mod simulated;
 mod starving;
 mod words;

@@ -67,7 +67,7 @@ fn push_listed(text: &mut String, names: &Names, number: u8) -> Result<(), Alloc
 }
 
 /// Adds the width of the word.
-fn push_width(text: &mut String, layout: Layout) -> Result<(), AllocError>
+pub(crate) fn push_width(text: &mut String, layout: Layout) -> Result<(), AllocError>
     ensures { OnOk result (string_bytes text.new
         ≡ string_bytes text.old ++ spec.width_line layout) }
 {

@@ -19,7 +19,7 @@ const FOR_MEGABYTE: usize = 2_000;
 /// The most turns of a run.
 pub const MAX_TURNS: u32 = 1_000_000;
 
-/// What the program does.
+/// What the program does with a plan.
 #[derive(Clone, Copy, PartialEq, Eq, Debug)]
 pub enum Request {
     /// Says what a plan is, and the layout of its word; and of hazards what it finds among at most this many
@@ -42,36 +42,125 @@ pub enum Request {
     Run(u32),
     /// The same, and prints the page of what they did.
     RunPage(u32),
+}
+
+/// What the program does.
+#[derive(Clone, Copy, PartialEq, Eq, Debug)]
+pub enum Wanted {
     /// Prints help.
     Help,
     /// Prints the version.
     Version,
+    /// Says what the words of a plant have, and which of them keeps the motors of each hazard apart.
+    Words,
+    /// Takes a plan.
+    Plan {
+        /// The word of the plant whose plan it is; `None` for the plan of the whole document.
+        word: Option<u32>,
+        /// What is done with it.
+        request: Request,
+    },
 }
 
 /// The words of this program alone that may follow its name.
-const OWN: &[&str] = &["check", "replay", "explore", "header", "draw", "run"];
+const OWN: &[&str] = &[
+    "check", "replay", "explore", "header", "draw", "run", "words",
+];
 
 /// What the words ask for. The first is the program's name, and one of its own words follows; which words ask for help
 /// and for the version is that of every program (`asked_of`). `None` for other words.
-pub fn request_of(words: &[&str]) -> Option<Request>
-    ensures { result ≡ requests.request_of (texts_of words.now) }
+pub fn wanted_of(words: &[&str]) -> Option<Wanted>
+    ensures { result ≡ requests.wanted_of (texts_of words.now) }
 {
-    match (asked_of(words, OWN), words) {
-        (Asked::Help, _) => Some(Request::Help),
-        (Asked::Version, _) => Some(Request::Version),
-        (Asked::Other, [_, word]) => request_by(word),
-        (Asked::Other, _) => request_with(words),
+    match asked_of(words, OWN) {
+        Asked::Help => Some(Wanted::Help),
+        Asked::Version => Some(Wanted::Version),
+        Asked::Other => wanted_by(words),
     }
 }
 
-/// What words ask for that aren't two.
-fn request_with(words: &[&str]) -> Option<Request>
-    ensures { result ≡ requests.request_with (texts_of words.now) }
+/// What the program's name, one of its own words and those after it ask for.
+fn wanted_by(words: &[&str]) -> Option<Wanted>
+    ensures { result ≡ requests.wanted_by (texts_of words.now) }
 {
     match words {
-        [_, word, flag] => request_for(word, flag),
-        [_, word, flag, number] => request_of_number(word, flag, number),
-        [_, word, flag, number, last] => request_of_page(word, flag, number, last),
+        [_, word, rest @ ..] => wanted_after(word, rest),
+        _ => None,
+    }
+}
+
+/// What a word of this program alone asks for with these words after it.
+fn wanted_after(word: &str, rest: &[&str]) -> Option<Wanted>
+    ensures { result ≡ requests.wanted_after word.now (texts_of rest.now) }
+{
+    match rest {
+        [] => wanted_alone(word),
+        [flag] => of_document(request_for(word, flag)),
+        [flag, number, more @ ..] => wanted_with(word, flag, number, more),
+    }
+}
+
+/// What it asks for alone.
+fn wanted_alone(word: &str) -> Option<Wanted>
+    ensures { result ≡ requests.wanted_alone word.now }
+{
+    match word {
+        "words" => Some(Wanted::Words),
+        _ => of_document(request_by(word)),
+    }
+}
+
+/// What it asks for with at least two words after it, of which the first may say that it is of one word of a plant.
+fn wanted_with(word: &str, flag: &str, number: &str, more: &[&str]) -> Option<Wanted>
+    ensures { result ≡ requests.wanted_with word.now flag.now number.now (texts_of more.now) }
+{
+    match flag {
+        "--word" => wanted_on(number, request_after(word, more)),
+        _ => of_document(request_with(word, flag, number, more)),
+    }
+}
+
+/// What is asked of the plan of the word with this number.
+fn wanted_on(number: &str, request: Option<Request>) -> Option<Wanted>
+    ensures { result ≡ requests.wanted_on number.now request }
+{
+    let word = read_number(number.as_bytes())?;
+    Some(Wanted::Plan {
+        word: Some(word),
+        request: request?,
+    })
+}
+
+/// What is asked of the plan of the whole document.
+fn of_document(request: Option<Request>) -> Option<Wanted>
+    ensures { result ≡ requests.of_document request }
+{
+    Some(Wanted::Plan {
+        word: None,
+        request: request?,
+    })
+}
+
+/// What a word of this program alone asks of a plan, with these words after it.
+fn request_after(word: &str, rest: &[&str]) -> Option<Request>
+    ensures { result ≡ requests.request_after word.now (texts_of rest.now) }
+{
+    match rest {
+        [] => request_by(word),
+        [flag] => request_for(word, flag),
+        [flag, number] => request_of_number(word, flag, number),
+        [flag, number, last] => request_of_page(word, flag, number, last),
+        _ => None,
+    }
+}
+
+/// The same with at least two words after it.
+fn request_with(word: &str, flag: &str, number: &str, more: &[&str]) -> Option<Request>
+    ensures { result ≡ requests.request_with word.now flag.now number.now (texts_of more.now) }
+{
+    match more {
+        [] => request_of_number(word, flag, number),
+        [last] => request_of_page(word, flag, number, last),
         _ => None,
     }
 }

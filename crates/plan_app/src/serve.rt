@@ -1,5 +1,5 @@
 //! What the program `plan` does.
-ghost use Rattle.std.specs.Prelude.{◌≡◌, ◌≢◌, ◌<◌, ◌≤◌, ◌⊎◌, ℕ, List, true, Some, None, IfOk};
+ghost use Rattle.std.specs.Prelude.{◌≡◌, ◌≢◌, ◌<◌, ◌≤◌, ◌⊎◌, ℕ, List, true, Some, None, IfOk, Option};
 ghost use Rattle.std.specs.Prelude.{IfSome, codes, length};
 ghost use Rattle.std.specs.Io.KnownBytes.{Appends};
 ghost use Rattle.text_io.specs.Input.{TakesAtMost};
@@ -12,7 +12,9 @@ ghost use Rattle.plan_app.specs.Hazards as hazards;
 ghost use Rattle.plan_text.specs.HistoryLaws.{IsStartOf};
 ghost use Rattle.plan_header.specs.Printed.{header_of as header_text};
 ghost use Rattle.plan_header.specs.Modules.{module_text};
-ghost use Rattle.plan_app.specs.Failed.{Fails, FailsBy, FailsIn, WroteAnswers, WroteDocumentFault};
+ghost use Rattle.plan_app.specs.Asked.{no_word_text as no_word_words};
+ghost use Rattle.plan_app.specs.Failed.{Fails, FailsBy, FailsIn, FailsWords, WroteAnswers};
+ghost use Rattle.plan_app.specs.Failed.{WroteDocumentFault, WroteNoPlan};
 ghost use Rattle.plan_app.specs.Failed.{WroteEnd, WroteEndFrom, WroteFault, WroteHeader};
 ghost use Rattle.plan_app.specs.Failed.{WroteRun, WroteRunFrom};
 ghost use Rattle.plan_app.specs.Failed.{WroteModule, WrotePicture, WroteReport, WroteReportFrom};
@@ -24,17 +26,19 @@ ghost use Rattle.plan_app.specs.Served.{FindsInputFree, Reports, ReportsIn, Writ
 ghost use Rattle.plan_app.specs.Served.{WritesHeader, WritesHeaderIn, WritesModule};
 ghost use Rattle.plan_app.specs.Served.{WritesModuleIn, WritesPicture, WritesPictureIn};
 ghost use Rattle.plan_app.specs.Served.{ShowsInputRun, TellsInputRun, WritesReport, WritesRun, WritesRunFrom};
-ghost use Rattle.plan_app.specs.Served.{WritesRunIn, WritesRunPage, WritesRunPageIn};
-ghost use Rattle.plan_app.specs.Requests.{request_of};
+ghost use Rattle.plan_app.specs.Served.{WritesRunIn, WritesRunPage, WritesRunPageIn, WritesWords};
+ghost use Rattle.plan_app.specs.Requests.{Ask, wanted_of};
 
 use crate::apart::{Exploration, exploration_of};
+use crate::asking::{NoPlan, asked_plan, no_word_text};
 use crate::hazards::{Report, report_of};
 use crate::input::{MAX_BYTES, plan_length};
 use crate::request;
-use crate::request::{MAX_TURNS, Request, USUAL_MOST};
+use crate::request::{MAX_TURNS, Request, USUAL_MOST, Wanted};
 use crate::run::{RunFault, Told, run_and_tell};
 use crate::serve_page::{page_script, run_page_script};
-use plan_document::{PlanTextFault, ProgrammedPlan, plan_of};
+use crate::serve_words::words_input;
+use plan_document::{PlanTextFault, ProgrammedPlan};
 use plan_header::{header_of, module_of};
 use plan_picture::picture_of;
 use plan_rules::State;
@@ -68,12 +72,15 @@ Reads a plan of a plant, in TOML, from standard input.
                   start after it, with simulated sensors; says what they did, and prints their
                   history as a script, which plan replay answers as they were answered; with
                   --page after N a page on which that history is played
+  plan words      reads it as a plant on several words: says what each word has, and which
+                  word keeps the motors of each hazard apart, or that none does
   plan --version  prints the version
-With --memory N after check or explore, and before --page, 2,000 situations are explored for each
-of N megabytes, 1 to 1000000; else 1,000,000. More are fault large. A script may follow the plan
-in each case. Exit status: 0 on success, and for help; 2 for bad arguments; otherwise
-1: a fault, motors that aren't kept apart, a standstill, an order in which a machine starves
-or plates rest, a machine stopped in a run, or a failed write.
+With --word K directly after another word than words, the plan is that of word K, from 0. With
+--memory N after check or explore, and before --page, 2,000 situations are explored for each of
+N megabytes, 1 to 1000000; else 1,000,000. More are fault large. A script may follow the plan in
+each case. Exit status: 0 on success, and for help; 2 for bad arguments; otherwise 1: a fault,
+motors that aren't kept apart, a standstill, an order in which a machine starves or plates rest,
+a machine stopped in a run, or a failed write.
 
 Example:
   cat examples/plans/press.toml examples/plans/press.csv | plan replay
@@ -86,10 +93,10 @@ const _: () = prove!(MAX_TURNS == 1_000_000);
 
 /// What is printed for other words.
 const OTHER_WORDS: &str =
-    "error: the only argument is check, replay, explore, header, draw, run, --help or --version\n";
+    "error: the only argument is check, replay, explore, header, draw, run, words, --help or --version\n";
 
 /// Reads a plan and a script after it: all bytes, unless there are too many.
-fn read_input<R: Read>(alloc: Global, reader: &mut R) -> Result<Vec<u8>, InputFault>
+pub(crate) fn read_input<R: Read>(alloc: Global, reader: &mut R) -> Result<Vec<u8>, InputFault>
     ensures whole { IfOk result (λ input. length input.items ≤ byte_limit →
         IfSome (R.remaining reader.old) (λ bytes. input.items ≡ bytes)) }
     ensures long { IfOk result (λ input. byte_limit < length input.items →
@@ -126,7 +133,7 @@ pub(crate) fn refuse_start<W: Write>(alloc: Global, writer: &mut W, fault: Scrip
 const OF_DOCUMENT: &[u8] = b"plan ";
 
 /// Prints the line of a document's fault, which says where it is. What isn't of the document is that memory ran out.
-fn refuse_document<W: Write>(alloc: Global, writer: &mut W, fault: PlanTextFault) -> Exit
+pub(crate) fn refuse_document<W: Write>(alloc: Global, writer: &mut W, fault: PlanTextFault) -> Exit
     ensures status { result ≡ Exit.Failed }
     ensures line { WroteUnread (W.contents writer.old) (W.contents writer.new)
         ⊎ WroteDocumentFault (W.contents writer.old) (W.contents writer.new) }
@@ -137,11 +144,37 @@ fn refuse_document<W: Write>(alloc: Global, writer: &mut W, fault: PlanTextFault
     }
 }
 
+/// Prints the line that says why there is no plan that was asked for.
+fn refuse_asked<W: Write>(alloc: Global, writer: &mut W, fault: NoPlan) -> Exit
+    ensures status { result ≡ Exit.Failed }
+    ensures line { WroteUnread (W.contents writer.old) (W.contents writer.new)
+        ⊎ WroteNoPlan fault (W.contents writer.old) (W.contents writer.new) }
+{
+    match fault {
+        NoPlan::OfDocument(fault) => refuse_document(alloc, writer, fault),
+        NoPlan::OfWord { number, count } => refuse_number(alloc, writer, number, count),
+    }
+}
+
+/// Prints the line that says that the plant in a document has no word with a number, and which words it has.
+fn refuse_number<W: Write>(alloc: Global, writer: &mut W, number: u32, count: usize) -> Exit
+    ensures status { result ≡ Exit.Failed }
+    ensures line { WroteUnread (W.contents writer.old) (W.contents writer.new)
+        ⊎ WroteFault (no_word_words number count) (W.contents writer.old) (W.contents writer.new) }
+{
+    match no_word_text(alloc, number, count) {
+        Ok(words) => fail(writer, words.as_str()),
+        Err(AllocError) => fail(writer, "memory"),
+    }
+}
+
 /// Reads a plan and a script after it, and prints what the request asks of them: what the plan is, its header, the
-/// answers to the script, or what the machines' programs come to from the start.
+/// answers to the script, or what the machines' programs come to from the start. The plan is that of one word, if one
+/// is given.
 fn serve_input<T, R: Read, W: Write>(
     rt: &T,
     alloc: Global,
+    word: Option<u32>,
     request: Request,
     reader: &mut R,
     writer: &mut W,
@@ -150,31 +183,33 @@ where
     T: Threads + Wait + Clock + Sync,
     ensures status { result ≢ Exit.Refused }
     ensures reported { (most : ℕ) → request ≡ Request.Check most → result ≡ Exit.Well →
-        Reports most (R.remaining reader.old) (W.contents writer.old) (W.contents writer.new) }
+        Reports word most (R.remaining reader.old) (W.contents writer.old) (W.contents writer.new) }
     ensures answered { request ≡ Request.Replay → result ≡ Exit.Well →
-        AnswersInput (R.remaining reader.old) (W.contents writer.old) (W.contents writer.new) }
+        AnswersInput word (R.remaining reader.old) (W.contents writer.old) (W.contents writer.new) }
     ensures free { (most : ℕ) → request ≡ Request.Explore most → result ≡ Exit.Well →
-        ExploresInput (R.remaining reader.old) (W.contents writer.old) (W.contents writer.new) }
+        ExploresInput word (R.remaining reader.old)
+        (W.contents writer.old) (W.contents writer.new) }
     ensures paged { (most : ℕ) → request ≡ Request.Page most → result ≡ Exit.Well →
-        FindsInputFree (R.remaining reader.old) (W.contents writer.old) (W.contents writer.new) }
+        FindsInputFree word (R.remaining reader.old)
+        (W.contents writer.old) (W.contents writer.new) }
     ensures header { request ≡ Request.Header → result ≡ Exit.Well →
-        WritesHeader (R.remaining reader.old) (W.contents writer.old) (W.contents writer.new) }
+        WritesHeader word (R.remaining reader.old) (W.contents writer.old) (W.contents writer.new) }
     ensures python { request ≡ Request.Module → result ≡ Exit.Well →
-        WritesModule (R.remaining reader.old) (W.contents writer.old) (W.contents writer.new) }
+        WritesModule word (R.remaining reader.old) (W.contents writer.old) (W.contents writer.new) }
     ensures picture { request ≡ Request.Draw → result ≡ Exit.Well →
-        Draws (R.remaining reader.old) (W.contents writer.old) (W.contents writer.new) }
+        Draws word (R.remaining reader.old) (W.contents writer.old) (W.contents writer.new) }
     ensures ran { (turns : ℕ) → request ≡ Request.Run turns → result ≡ Exit.Well →
-        TellsInputRun turns (R.remaining reader.old)
+        TellsInputRun word turns (R.remaining reader.old)
         (W.contents writer.old) (W.contents writer.new) }
     ensures shown { (turns : ℕ) → request ≡ Request.RunPage turns → result ≡ Exit.Well →
-        ShowsInputRun turns (R.remaining reader.old)
+        ShowsInputRun word turns (R.remaining reader.old)
         (W.contents writer.old) (W.contents writer.new) }
-    ensures failed { result ≡ Exit.Failed → Fails request
+    ensures failed { result ≡ Exit.Failed → Fails word request
         (R.remaining reader.old) (W.contents writer.old) (W.contents writer.new) }
     ensures read { TakesAtMost (R.remaining reader.old) (R.remaining reader.new) max_bytes_read }
 {
     match read_input(alloc, reader) {
-        Ok(bytes) => serve_bytes(rt, alloc, request, bytes.as_slice(), writer),
+        Ok(bytes) => serve_bytes(rt, alloc, word, request, bytes.as_slice(), writer),
         Err(fault) => fail_to_read(writer, fault),
     }
 }
@@ -182,6 +217,7 @@ where
 fn serve_bytes<T, W: Write>(
     rt: &T,
     alloc: Global,
+    word: Option<u32>,
     request: Request,
     bytes: &[u8],
     writer: &mut W,
@@ -193,37 +229,37 @@ where
     ensures long { byte_limit < length bytes.now →
         WroteFault (codes "long") (W.contents writer.old) (W.contents writer.new) }
     ensures reported { (most : ℕ) → request ≡ Request.Check most → result ≡ Exit.Well →
-        ReportsIn most bytes.now (W.contents writer.old) (W.contents writer.new) }
+        ReportsIn word most bytes.now (W.contents writer.old) (W.contents writer.new) }
     ensures answered { request ≡ Request.Replay → result ≡ Exit.Well →
-        AnswersIn bytes.now (W.contents writer.old) (W.contents writer.new) }
+        AnswersIn word bytes.now (W.contents writer.old) (W.contents writer.new) }
     ensures free { (most : ℕ) → request ≡ Request.Explore most → result ≡ Exit.Well →
-        ExploresIn bytes.now (W.contents writer.old) (W.contents writer.new) }
+        ExploresIn word bytes.now (W.contents writer.old) (W.contents writer.new) }
     ensures paged { (most : ℕ) → request ≡ Request.Page most → result ≡ Exit.Well →
-        FindsFreeIn bytes.now (W.contents writer.old) (W.contents writer.new) }
+        FindsFreeIn word bytes.now (W.contents writer.old) (W.contents writer.new) }
     ensures header { request ≡ Request.Header → result ≡ Exit.Well →
-        WritesHeaderIn bytes.now (W.contents writer.old) (W.contents writer.new) }
+        WritesHeaderIn word bytes.now (W.contents writer.old) (W.contents writer.new) }
     ensures python { request ≡ Request.Module → result ≡ Exit.Well →
-        WritesModuleIn bytes.now (W.contents writer.old) (W.contents writer.new) }
+        WritesModuleIn word bytes.now (W.contents writer.old) (W.contents writer.new) }
     ensures picture { request ≡ Request.Draw → result ≡ Exit.Well →
-        WritesPictureIn bytes.now (W.contents writer.old) (W.contents writer.new) }
+        WritesPictureIn word bytes.now (W.contents writer.old) (W.contents writer.new) }
     ensures ran { (turns : ℕ) → request ≡ Request.Run turns → result ≡ Exit.Well →
-        WritesRunIn turns bytes.now (W.contents writer.old) (W.contents writer.new) }
+        WritesRunIn word turns bytes.now (W.contents writer.old) (W.contents writer.new) }
     ensures shown { (turns : ℕ) → request ≡ Request.RunPage turns → result ≡ Exit.Well →
-        WritesRunPageIn turns bytes.now (W.contents writer.old) (W.contents writer.new) }
+        WritesRunPageIn word turns bytes.now (W.contents writer.old) (W.contents writer.new) }
     ensures failed { result ≡ Exit.Failed →
-        FailsIn request bytes.now (W.contents writer.old) (W.contents writer.new) }
+        FailsIn word request bytes.now (W.contents writer.old) (W.contents writer.new) }
 {
     if bytes.len() > MAX_BYTES {
         return fail(writer, "long");
     }
     let (document, script) = bytes.split_at(plan_length(bytes));
-    match plan_of(alloc, document) {
+    match asked_plan(alloc, word, document) {
         Ok(plan) => serve_plan(rt, alloc, request, &plan, script, writer),
-        Err(fault) => refuse_document(alloc, writer, fault),
+        Err(fault) => refuse_asked(alloc, writer, fault),
     }
 }
 
-/// Prints what the request asks of a plan, and of the script after it, but for its header, its module and its picture.
+/// Prints what the request asks of a plan, and of the script after it.
 fn serve_plan<T, W: Write>(
     rt: &T,
     alloc: Global,
@@ -268,7 +304,6 @@ where
         Request::Run(turns) => run_script(rt, alloc, plan, turns, script, writer),
         Request::RunPage(turns) => run_page_script(rt, alloc, plan, turns, script, writer),
         Request::Check(most) => report_script(alloc, plan, most, script, writer),
-        _ => report_script(alloc, plan, USUAL_MOST, script, writer),
     }
 }
 
@@ -523,123 +558,141 @@ where
 
     // If they ask for help, status 0 says that help was printed, status 1 that a prefix was. For the version it says
     // the same.
-    ensures help { request_of (texts_of words.now) ≡ Some Request.Help →
+    ensures help { wanted_of (texts_of words.now) ≡ Some Wanted.Help →
         Prints result (W.contents writer.old) (W.contents writer.new) HELP.now }
-    ensures version { request_of (texts_of words.now) ≡ Some Request.Version →
+    ensures version { wanted_of (texts_of words.now) ≡ Some Wanted.Version →
         Prints result (W.contents writer.old) (W.contents writer.new)
         (version_line (codes "plan")) }
 
-    // With `replay`: status 0 says that each record of the script was answered by the plan of the document in the
-    // input, and that the answers were written.
-    ensures replay { request_of (texts_of words.now) ≡ Some Request.Replay → result ≡ 0 →
-        AnswersInput (R.remaining reader.old) (W.contents writer.old) (W.contents writer.new) }
+    // The plan is that of the document in the input; or with `--word` that of one word of the plant in it.
+    // With `replay`: status 0 says that each record of the script was answered by the plan, and that the answers were
+    // written.
+    ensures replay { (word : Option ℕ) →
+        Ask (texts_of words.now) word Request.Replay → result ≡ 0 →
+        AnswersInput word (R.remaining reader.old) (W.contents writer.old) (W.contents writer.new) }
 
     // With `explore`: status 0 says that no order of turns of this plan's programs leads from the script's start to a
     // standstill, that no machine starves and no plates rest by what explorations answer, and that this was written. If
     // at least two groups of machines that share nothing have programs, it says so of each group.
-    ensures explore { (most : ℕ) → request_of (texts_of words.now)
-        ≡ Some (Request.Explore most) →
-        result ≡ 0 →
-        ExploresInput (R.remaining reader.old) (W.contents writer.old) (W.contents writer.new) }
+    ensures explore { (word : Option ℕ) (most : ℕ) →
+        Ask (texts_of words.now) word (Request.Explore most) → result ≡ 0 →
+        ExploresInput word (R.remaining reader.old)
+        (W.contents writer.old) (W.contents writer.new) }
 
     // With `explore --page`: status 0 says and writes the same of all machines together; there is no page then.
-    ensures page { (most : ℕ) → request_of (texts_of words.now)
-        ≡ Some (Request.Page most) →
-        result ≡ 0 →
-        FindsInputFree (R.remaining reader.old) (W.contents writer.old) (W.contents writer.new) }
+    ensures page { (word : Option ℕ) (most : ℕ) →
+        Ask (texts_of words.now) word (Request.Page most) → result ≡ 0 →
+        FindsInputFree word (R.remaining reader.old)
+        (W.contents writer.old) (W.contents writer.new) }
 
     // With `check`: status 0 says that this plan's report was written, and that the motors of each hazard are kept
     // apart. With `header`: that its header was written, or with `header --python` its module. With `draw`: its
     // picture.
-    ensures check { (most : ℕ) → request_of (texts_of words.now)
-        ≡ Some (Request.Check most) →
-        result ≡ 0 →
-        Reports most (R.remaining reader.old) (W.contents writer.old) (W.contents writer.new) }
-    ensures header { request_of (texts_of words.now) ≡ Some Request.Header → result ≡ 0 →
-        WritesHeader (R.remaining reader.old) (W.contents writer.old) (W.contents writer.new) }
-    ensures python { request_of (texts_of words.now) ≡ Some Request.Module → result ≡ 0 →
-        WritesModule (R.remaining reader.old) (W.contents writer.old) (W.contents writer.new) }
-    ensures draw { request_of (texts_of words.now) ≡ Some Request.Draw → result ≡ 0 →
-        Draws (R.remaining reader.old) (W.contents writer.old) (W.contents writer.new) }
+    ensures check { (word : Option ℕ) (most : ℕ) →
+        Ask (texts_of words.now) word (Request.Check most) → result ≡ 0 →
+        Reports word most (R.remaining reader.old) (W.contents writer.old) (W.contents writer.new) }
+    ensures header { (word : Option ℕ) →
+        Ask (texts_of words.now) word Request.Header → result ≡ 0 →
+        WritesHeader word (R.remaining reader.old) (W.contents writer.old) (W.contents writer.new) }
+    ensures python { (word : Option ℕ) →
+        Ask (texts_of words.now) word Request.Module → result ≡ 0 →
+        WritesModule word (R.remaining reader.old) (W.contents writer.old) (W.contents writer.new) }
+    ensures draw { (word : Option ℕ) →
+        Ask (texts_of words.now) word Request.Draw → result ≡ 0 →
+        Draws word (R.remaining reader.old) (W.contents writer.old) (W.contents writer.new) }
 
     // With `run --turns N`: that each machine took these turns, over one interlock from the script's start, none was
     // stopped, and one legal history explains what each has noted; and that how many calls of each were done and
     // refused, and the script of that history, were written.
-    ensures run { (turns : ℕ) → request_of (texts_of words.now) ≡ Some (Request.Run turns) →
-        result ≡ 0 → TellsInputRun turns (R.remaining reader.old)
+    ensures run { (word : Option ℕ) (turns : ℕ) →
+        Ask (texts_of words.now) word (Request.Run turns) → result ≡ 0 →
+        TellsInputRun word turns (R.remaining reader.old)
         (W.contents writer.old) (W.contents writer.new) }
 
     // With `run --turns N --page`: the same, and that the page of that history was written.
-    ensures run_page { (turns : ℕ) → request_of (texts_of words.now)
-        ≡ Some (Request.RunPage turns) →
-        result ≡ 0 → ShowsInputRun turns (R.remaining reader.old)
+    ensures run_page { (word : Option ℕ) (turns : ℕ) →
+        Ask (texts_of words.now) word (Request.RunPage turns) → result ≡ 0 →
+        ShowsInputRun word turns (R.remaining reader.old)
         (W.contents writer.old) (W.contents writer.new) }
 
     // Status 1 says for each of these what was written, of which the writer may have taken but a prefix: the line of a
-    // fault; or, by the plan of the document in the input, what follows.
+    // fault, as that there is no such word; or, by the plan that is asked for of the document in the input, what
+    // follows.
     // With `replay`: the answers to the script.
-    ensures replay_fails { request_of (texts_of words.now) ≡ Some Request.Replay → result ≡ 1 →
-        Fails Request.Replay (R.remaining reader.old)
+    ensures replay_fails { (word : Option ℕ) →
+        Ask (texts_of words.now) word Request.Replay → result ≡ 1 →
+        Fails word Request.Replay (R.remaining reader.old)
         (W.contents writer.old) (W.contents writer.new) }
 
     // With `explore`: a standstill, which turns from the script's start lead to, or that there is none, and what
     // explorations answer of machines and plates; of each group apart, if at least two have programs.
-    ensures explore_fails { (most : ℕ) → request_of (texts_of words.now)
-        ≡ Some (Request.Explore most) →
-        result ≡ 1 →
-        Fails (Request.Explore most) (R.remaining reader.old)
+    ensures explore_fails { (word : Option ℕ) (most : ℕ) →
+        Ask (texts_of words.now) word (Request.Explore most) → result ≡ 1 →
+        Fails word (Request.Explore most) (R.remaining reader.old)
         (W.contents writer.old) (W.contents writer.new) }
 
     // With `explore --page`: the page of such a standstill, or of a fair order in which a machine starves or plates
     // rest; or that there is none; or that it has more turns than a page shows.
-    ensures page_fails { (most : ℕ) → request_of (texts_of words.now)
-        ≡ Some (Request.Page most) →
-        result ≡ 1 →
-        Fails (Request.Page most) (R.remaining reader.old)
+    ensures page_fails { (word : Option ℕ) (most : ℕ) →
+        Ask (texts_of words.now) word (Request.Page most) → result ≡ 1 →
+        Fails word (Request.Page most) (R.remaining reader.old)
         (W.contents writer.old) (W.contents writer.new) }
 
     // With `check`: its report. With `header`: its header, or with `header --python` its module. With `draw`: its
     // picture.
-    ensures check_fails { (most : ℕ) → request_of (texts_of words.now)
-        ≡ Some (Request.Check most) →
-        result ≡ 1 →
-        Fails (Request.Check most) (R.remaining reader.old)
+    ensures check_fails { (word : Option ℕ) (most : ℕ) →
+        Ask (texts_of words.now) word (Request.Check most) → result ≡ 1 →
+        Fails word (Request.Check most) (R.remaining reader.old)
         (W.contents writer.old) (W.contents writer.new) }
-    ensures header_fails { request_of (texts_of words.now) ≡ Some Request.Header → result ≡ 1 →
-        Fails Request.Header (R.remaining reader.old)
+    ensures header_fails { (word : Option ℕ) →
+        Ask (texts_of words.now) word Request.Header → result ≡ 1 →
+        Fails word Request.Header (R.remaining reader.old)
         (W.contents writer.old) (W.contents writer.new) }
-    ensures python_fails { request_of (texts_of words.now) ≡ Some Request.Module → result ≡ 1 →
-        Fails Request.Module (R.remaining reader.old)
+    ensures python_fails { (word : Option ℕ) →
+        Ask (texts_of words.now) word Request.Module → result ≡ 1 →
+        Fails word Request.Module (R.remaining reader.old)
         (W.contents writer.old) (W.contents writer.new) }
-    ensures draw_fails { request_of (texts_of words.now) ≡ Some Request.Draw → result ≡ 1 →
-        Fails Request.Draw (R.remaining reader.old)
+    ensures draw_fails { (word : Option ℕ) →
+        Ask (texts_of words.now) word Request.Draw → result ≡ 1 →
+        Fails word Request.Draw (R.remaining reader.old)
         (W.contents writer.old) (W.contents writer.new) }
 
     // With `run`: what the machines did, also where one was stopped; or that there are more calls than a script may
     // have records.
-    ensures run_fails { (turns : ℕ) → request_of (texts_of words.now) ≡ Some (Request.Run turns) →
-        result ≡ 1 → Fails (Request.Run turns) (R.remaining reader.old)
+    ensures run_fails { (word : Option ℕ) (turns : ℕ) →
+        Ask (texts_of words.now) word (Request.Run turns) → result ≡ 1 →
+        Fails word (Request.Run turns) (R.remaining reader.old)
         (W.contents writer.old) (W.contents writer.new) }
 
     // With `run --turns N --page`: the page of what they did, also where one was stopped; or the same.
-    ensures run_page_fails { (turns : ℕ) → request_of (texts_of words.now)
-        ≡ Some (Request.RunPage turns) →
-        result ≡ 1 → Fails (Request.RunPage turns) (R.remaining reader.old)
+    ensures run_page_fails { (word : Option ℕ) (turns : ℕ) →
+        Ask (texts_of words.now) word (Request.RunPage turns) → result ≡ 1 →
+        Fails word (Request.RunPage turns) (R.remaining reader.old)
         (W.contents writer.old) (W.contents writer.new) }
 
+    // With `words`: status 0 says that what the words of the plant in the document have was written, and of each hazard
+    // the first word that keeps its motors apart; status 1 says that, or that no word does; or the line of a fault.
+    ensures words { wanted_of (texts_of words.now) ≡ Some Wanted.Words → result ≡ 0 →
+        WritesWords (R.remaining reader.old) (W.contents writer.old) (W.contents writer.new) }
+    ensures words_fails { wanted_of (texts_of words.now) ≡ Some Wanted.Words → result ≡ 1 →
+        FailsWords (R.remaining reader.old) (W.contents writer.old) (W.contents writer.new) }
+
     // Status 2 comes exactly for other words, of which a line was printed, or a prefix of it.
-    ensures refused { result ≡ 2 → request_of (texts_of words.now) ≡ None }
-    ensures other { request_of (texts_of words.now) ≡ None → result ≡ 2 }
-    ensures line { request_of (texts_of words.now) ≡ None →
+    ensures refused { result ≡ 2 → wanted_of (texts_of words.now) ≡ None }
+    ensures other { wanted_of (texts_of words.now) ≡ None → result ≡ 2 }
+    ensures line { wanted_of (texts_of words.now) ≡ None →
         WrotePrefix (W.contents writer.old) (W.contents writer.new) OTHER_WORDS.now }
 
     // At most one byte more is read than a plan and a script may have.
     ensures read { TakesAtMost (R.remaining reader.old) (R.remaining reader.new) max_bytes_read }
 {
-    match request::request_of(words) {
-        Some(Request::Help) => print(writer, HELP.as_bytes()).status(),
-        Some(Request::Version) => print_version(writer, "plan").status(),
-        Some(request) => serve_input(rt, alloc, request, reader, writer).status(),
+    match request::wanted_of(words) {
+        Some(Wanted::Help) => print(writer, HELP.as_bytes()).status(),
+        Some(Wanted::Version) => print_version(writer, "plan").status(),
+        Some(Wanted::Words) => words_input(alloc, reader, writer).status(),
+        Some(Wanted::Plan { word, request }) => {
+            serve_input(rt, alloc, word, request, reader, writer).status()
+        }
         None => refuse_words(writer, OTHER_WORDS).status(),
     }
 }

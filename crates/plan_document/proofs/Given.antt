@@ -35,11 +35,11 @@ by_other : {X : Type 0} (meaning : Text → Option X) (zones : List Text) (row :
 by_other meaning zones row zone named is apart = rw (is, ne_eqb named zone apart) refl
 
 -- one more row sets the posture of its zone
-pub given_more : {X : Type 0} (meaning : Text → Option X) (zones : List Text) (rows : List PostureRow) (i : ℕ) (row : PostureRow) (named : ℕ) (posture : X) (gives : List (Option X)) → i < length rows → row ≡ get_or rows i row
+pub given_more : {X : Type 0} (bound : ℕ) (meaning : Text → Option X) (zones : List Text) (rows : List PostureRow) (i : ℕ) (row : PostureRow) (named : ℕ) (posture : X) (gives : List (Option X)) → i < length rows → row ≡ get_or rows i row
     → number_in zones (string_bytes row.zone) ≡ Some named → meaning (string_bytes row.posture) ≡ Some posture → named < length gives
-    → ((zone : ℕ) → zone < 10 → get_or gives zone None ≡ given meaning zones (take i rows) zone)
-    → (zone : ℕ) → zone < 10 → get_or (set gives named (Some posture)) zone None ≡ given meaning zones (take (i + 1) rows) zone
-given_more meaning zones rows i row named posture gives within is about word room before zone small =
+    → ((zone : ℕ) → zone < bound → get_or gives zone None ≡ given meaning zones (take i rows) zone)
+    → (zone : ℕ) → zone < bound → get_or (set gives named (Some posture)) zone None ≡ given meaning zones (take (i + 1) rows) zone
+given_more bound meaning zones rows i row named posture gives within is about word room before zone small =
     elim (cases_eq zone named) [
       | inl same ↦ here same
       | inr apart ↦ elsewhere apart

@@ -1,4 +1,9 @@
 mod Growing
+mod Parted
+mod OnWordRows
+mod OnWordLaws
+mod PlantLines
+mod LineWords
 mod Zoned
 mod Running
 mod Stepping

@@ -11,6 +11,12 @@ pub mod NameLaws
 pub mod PlanLaws
 pub mod TableLaws
 pub mod ReadingLaws
+pub mod Texts
+pub mod OnWord
+pub mod OnWordLaws
+pub mod OnWordExamples
+pub mod PlantPrograms
+pub mod Plants
 pub mod WordExamples
 pub mod PlanExamples
 pub mod StepExamples

@@ -22,7 +22,12 @@ given_by meaning zones zone row = if is_about zones zone row then meaning (strin
 abbrev pub given : {X : Type 0} → (Text → Option X) → List Text → List PostureRow → ℕ → Option X
 given meaning zones rows zone = last_or None (filter_map (given_by meaning zones zone) rows)
 
-pub record AreGiven {X : Type 0} (meaning : Text → Option X) (zones : List Text) (rows : List PostureRow)
-    (gives : List (Option X)) : Type 0 where
+-- of each zone below a bound the last row about it is what rows give it
+pub record AreGivenBelow {X : Type 0} (bound : ℕ) (meaning : Text → Option X) (zones : List Text)
+    (rows : List PostureRow) (gives : List (Option X)) : Type 0 where
   pub known : IsTrue (list_all (gives_zone meaning zones) rows)
-  pub last_given : (zone : ℕ) → zone < 10 → get_or gives zone None ≡ given meaning zones rows zone
+  pub last_given : (zone : ℕ) → zone < bound → get_or gives zone None ≡ given meaning zones rows zone
+
+-- of the zones of a plan
+abbrev pub AreGiven : {X : Type 0} → (Text → Option X) → List Text → List PostureRow → List (Option X) → Type 0
+AreGiven meaning zones rows gives = AreGivenBelow 10 meaning zones rows gives

@@ -4,6 +4,7 @@ ghost use Rattle.plan_document.specs.Keys as keys;
 ghost use Rattle.plan_document.specs.Keys.{key_word};
 ghost use Rattle.plan_document.specs.declared.fault.Wrong.TheVariants.{Memory as NoMemory};
 
+use plan_types::PlanFault;
 use std::alloc::{AllocError, AllocFailed, Global};
 
 /// What a fault is about: the document, or a row of it. Rows are counted from 0.
@@ -537,6 +538,10 @@ pub enum PlanTextFault {
     },
     /// The word has more than 64 bits.
     TooWide(TooWide),
+    /// Of a plant: zones that have to share a word don't fit one.
+    GroupTooWide(GroupTooWide),
+    /// Of a plant: its zones don't fit 16 words.
+    TooManyWords,
 }
 
 /// The names of the row that a fault is about, and of the one in which that is. `None` where a row has no name, and
@@ -559,6 +564,15 @@ impl RowNames {
     }
 }
 
+/// Zones of a plant that have to share a word, and don't fit one.
+#[derive(Drop)]
+pub struct GroupTooWide {
+    /// The name of the first of these zones; empty if what doesn't fit needs no zone.
+    pub zone: String,
+    /// Why they don't fit.
+    pub fault: PlanFault,
+}
+
 /// A plan whose word has more than 64 bits.
 #[derive(Clone, Copy)]
 pub struct TooWide {
@@ -574,6 +588,12 @@ pub struct TooWide {
 
 impl From<AllocError> for PlanTextFault {
     fn from(_error: AllocError) -> PlanTextFault {
+        PlanTextFault::Memory
+    }
+}
+
+impl<T: Drop> From<AllocFailed<T>> for PlanTextFault {
+    fn from(_error: AllocFailed<T>) -> PlanTextFault {
         PlanTextFault::Memory
     }
 }

@@ -1,10 +1,12 @@
 //! The words of faults.
 
 use crate::fault::{
-    DocumentFault, Key, Location, PlanTextFault, RowNames, RowOf, TooWide, WayEnd, Wrong,
-    WrongPair, WrongText,
+    DocumentFault, GroupTooWide, Key, Location, PlanTextFault, RowNames, RowOf, TooWide, WayEnd,
+    Wrong, WrongPair, WrongText,
 };
 use crate::reading::MAX_BYTES;
+use plan_types::{MAX_PLACES, MAX_POSES, MAX_ZONES, PlanFault};
+use plan_words::MAX_WORDS;
 use std::fmt;
 
 /// The most characters of a text that are shown.
@@ -24,6 +26,9 @@ const NO_HELD_POSTURE: &str =
 /// What is said of a text that isn't a hazard's name.
 const NO_TITLE: &str =
     " isn't a hazard's name: printable ASCII without a colon, at most 60 characters";
+
+/// What is said after the first of the zones that have to share a word.
+const JOINED: &str = " and the zones that poses, places and spaces join to it: ";
 
 /// What is said of two sides of a zone that get unlike postures.
 const HALF_SPACE: &str = ": a pose moves both or neither, and gives both a posture or neither";
@@ -294,6 +299,10 @@ impl fmt::Display for PlanTextFault {
                 write_first(f, *first)
             }
             PlanTextFault::TooWide(plan) => write!(f, "plan wide: {plan}"),
+            PlanTextFault::GroupTooWide(group) => write!(f, "plan wide: no word holds {group}"),
+            PlanTextFault::TooManyWords => {
+                write!(f, "plan wide: its zones don't fit {MAX_WORDS} words")
+            }
         }
     }
 }
@@ -323,6 +332,29 @@ impl fmt::Display for TooWide {
         write!(f, " need {needed} bits, and 64 fit: leave out ")?;
         write_count(f, missing, "bit")?;
         f.write_str(bits_of_kinds(is_shared))
+    }
+}
+
+impl fmt::Display for GroupTooWide {
+    /// Says which zones these are, and why they don't fit.
+    fn fmt<W: fmt::Write>(&self, f: &mut fmt::Formatter<W>) -> fmt::Result {
+        let zone = self.zone.as_str();
+        if zone.is_empty() {
+            f.write_str("the poses and places that need no zone: ")?;
+        } else {
+            let quoted = Quoted { text: zone };
+            write!(f, "{quoted}{JOINED}")?;
+        }
+        match self.fault {
+            PlanFault::TooManyZones => write!(f, "there are more than {MAX_ZONES} zones"),
+            PlanFault::TooManyPoses => write!(f, "there are more than {MAX_POSES} poses"),
+            PlanFault::TooManyPlaces => write!(f, "there are more than {MAX_PLACES} places"),
+            PlanFault::TooWide { missing } => {
+                let needed = usize::from(missing) + 64;
+                write!(f, "they need {needed} bits, and 64 fit")
+            }
+            _ => f.write_str("they break a rule of plans"),
+        }
     }
 }
 

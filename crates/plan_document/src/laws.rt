@@ -3,6 +3,8 @@ ghost use Rattle.plan_document.specs.FaultExamples.{FaultsAreMet};
 ghost use Rattle.plan_document.specs.Laws as laws;
 ghost use Rattle.plan_document.specs.MotorExamples.{MotorsAreMet};
 ghost use Rattle.plan_document.specs.NameLaws.{NamedPlansHaveWords};
+ghost use Rattle.plan_document.specs.OnWordExamples.{WordsHaveTheirRows};
+ghost use Rattle.plan_document.specs.OnWordLaws as on_word;
 ghost use Rattle.plan_document.specs.PlanExamples as plans;
 ghost use Rattle.plan_document.specs.PlanLaws as plan_laws;
 ghost use Rattle.plan_document.specs.Reading as reading;
@@ -154,4 +156,18 @@ pub fn laws_of_lifts_are_met()
 #[tactic(auto, using(crate::proofs::ReadingRows::reading_rows))]
 pub fn rows_are_read()
     ensures { RowsAreRead }
+{}
+
+/// A name of a plant stands in the document of a word exactly if it has a number of the word, and a name that the plant
+/// doesn't have in each. The document of a word that has all zones, poses and places is the plant's.
+#[tactic(auto, using(crate::proofs::OnWordLaws::names_on_words, crate::proofs::OnWordLaws::whole_words_keep_all))]
+pub fn words_have_their_names()
+    ensures names { on_word.NamesAreOnWords }
+    ensures whole { on_word.WholeWordsKeepAll }
+{}
+
+/// The documents of two literal words.
+#[tactic(auto, using(crate::proofs::OnWordRows::word_rows))]
+pub fn words_of_plants_are_met()
+    ensures { WordsHaveTheirRows }
 {}

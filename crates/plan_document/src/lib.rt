@@ -1,6 +1,7 @@
 //! Plans in TOML documents: from a document to a plan with names and programs, or to the first fault with its line.
 #![tactic(auto)]
 
+mod copying;
 pub mod document;
 pub mod fault;
 mod fault_words;
@@ -9,6 +10,12 @@ pub mod laws;
 mod lines;
 mod locating;
 mod motors;
+mod naming;
+mod parts;
+mod plant_faults;
+mod plant_programs;
+mod plant_tables;
+pub mod plants;
 mod programs;
 mod reading;
 mod refusals;
@@ -28,5 +35,6 @@ pub use fault::{
     WrongPair, WrongText,
 };
 pub use motors::NamedMotors;
-pub use reading::{MAX_BYTES, plan_of, read_plan};
+pub use plants::ProgrammedPlant;
+pub use reading::{MAX_BYTES, plan_of, plant_of, read_plan};
 pub use resolving::ProgrammedPlan;

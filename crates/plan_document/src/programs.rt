@@ -134,7 +134,7 @@ fn calls_of(alloc: Global, steps: &[Step]) -> Result<Vec<Call>, AllocError>
 }
 
 /// What a step asks: an inquiry if it waits for a zone, and nothing if it runs motors or waits for a sensor.
-fn asked(step: Step) -> Option<Call>
+pub(crate) fn asked(step: Step) -> Option<Call>
     ensures { result ≡ saying.asked step }
 {
     match step {
@@ -150,6 +150,11 @@ fn program_fault(
     _steps: Vec<Vec<Step>>,
     fault: ProgramFault,
 ) -> DocumentFault {
+    calls_fault(fault)
+}
+
+/// The fault of what machines ask, in words of the document.
+pub(crate) fn calls_fault(fault: ProgramFault) -> DocumentFault {
     match fault {
         ProgramFault::TooManyPrograms => too_many(Key::Machine, usize::from(MAX_MACHINES)),
         ProgramFault::TooLong { machine } => too_long(machine),

@@ -1,15 +1,18 @@
 //! Reads a plan's document.
-ghost use Rattle.std.specs.Prelude.{◌≤◌, length, IfOk, IfSome, IsOk, IsTrue, OnOk};
+ghost use Rattle.std.specs.Prelude.{◌≡◌, ◌≤◌, length, IfOk, IfSome, IsOk, IsTrue, OnOk, Some};
+ghost use Rattle.toml.specs.Parse.{parse_document};
 ghost use Rattle.toml.specs.View.{table_view};
 ghost use Rattle.text_io.specs.Input.{TakesAtMost};
 ghost use Rattle.plan_document.specs.Keys.{has_only, top_keys};
 ghost use Rattle.plan_document.specs.Limits.{byte_limit, max_bytes_read};
+ghost use Rattle.plan_document.specs.Plants.{IsPlantIn, IsPlantOfTable};
 ghost use Rattle.plan_document.specs.Reading.{IsDocumentIn, IsPlanIn, IsPlanOfTable};
 
 use crate::document::Document;
 use crate::fault::{DocumentFault, Key, PlanTextFault, RowNames, RowOf, Wrong};
 use crate::first::first_of;
 use crate::locating::{line_at, line_of};
+use crate::plants::{ProgrammedPlant, programmed_plant_of};
 use crate::resolving::{ProgrammedPlan, programmed_plan_of};
 use crate::row_kinds::{Hazards, Machines, Motors, rows_at};
 use crate::row_names::names_of;
@@ -45,14 +48,36 @@ pub fn plan_of(alloc: Global, bytes: &[u8]) -> Result<ProgrammedPlan, PlanTextFa
     ensures plan { IfOk result (IsPlanIn bytes.now) }
     ensures short { IsOk result → length bytes.now ≤ byte_limit }
 {
+    let table = toml_in(alloc, bytes)?;
+    match plan_in(alloc, &table) {
+        Ok(plan) => Ok(plan),
+        Err(fault) => Err(placed(alloc, bytes, &table, fault)),
+    }
+}
+
+/// The plant in a document's bytes, on as many words as its groups of zones need, or the first fault. A plan that fits
+/// one word is a plant on one.
+pub fn plant_of(alloc: Global, bytes: &[u8]) -> Result<ProgrammedPlant, PlanTextFault>
+    ensures plant { IfOk result (IsPlantIn bytes.now) }
+    ensures short { IsOk result → length bytes.now ≤ byte_limit }
+{
+    let table = toml_in(alloc, bytes)?;
+    match plant_in(alloc, &table) {
+        Ok(plant) => Ok(plant),
+        Err(fault) => Err(placed(alloc, bytes, &table, fault)),
+    }
+}
+
+/// The table in a document's bytes.
+fn toml_in(alloc: Global, bytes: &[u8]) -> Result<Table, PlanTextFault>
+    ensures table { IfOk result (λ table. parse_document bytes.now ≡ Some (table_view table)) }
+    ensures short { IsOk result → length bytes.now ≤ byte_limit }
+{
     if bytes.len() > MAX_BYTES {
         return Err(PlanTextFault::Long);
     }
     match toml::table_from_slice(alloc, bytes) {
-        Ok(table) => match plan_in(alloc, &table) {
-            Ok(plan) => Ok(plan),
-            Err(fault) => Err(placed(alloc, bytes, &table, fault)),
-        },
+        Ok(table) => Ok(table),
         Err(error) if error.is_memory() => Err(PlanTextFault::Memory),
         Err(error) => {
             let before = error.span().map_or(0, |span| span.start);
@@ -62,6 +87,13 @@ pub fn plan_of(alloc: Global, bytes: &[u8]) -> Result<ProgrammedPlan, PlanTextFa
             })
         }
     }
+}
+
+fn plant_in(alloc: Global, table: &Table) -> Result<ProgrammedPlant, PlanTextFault>
+    ensures { IfOk result (IsPlantOfTable (table_view table.now)) }
+{
+    let document = document_in(alloc, table)?;
+    programmed_plant_of(alloc, &document)
 }
 
 fn plan_in(alloc: Global, table: &Table) -> Result<ProgrammedPlan, PlanTextFault>

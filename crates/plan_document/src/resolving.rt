@@ -124,7 +124,7 @@ fn named_plan_of(alloc: Global, document: &Document) -> Result<NamedPlan, PlanTe
 }
 
 /// The fault of tables in words of the document.
-fn table_fault(alloc: Global, document: &Document, fault: PlanFault) -> PlanTextFault {
+pub(crate) fn table_fault(alloc: Global, document: &Document, fault: PlanFault) -> PlanTextFault {
     let fault = match fault {
         PlanFault::TooWide { missing } => return PlanTextFault::TooWide(too_wide(
             document, missing,
@@ -188,7 +188,7 @@ fn zone_at(document: &Document, zone: usize) -> RowOf {
 }
 
 /// The name of a zone, or an empty text if there is none.
-fn zone_name(document: &Document, zone: usize) -> &str {
+pub(crate) fn zone_name(document: &Document, zone: usize) -> &str {
     match document.zones.get(zone) {
         Some(row) => row.name.as_str(),
         None => "",

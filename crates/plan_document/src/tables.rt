@@ -81,11 +81,18 @@ fn add_rows(alloc: Global, document: &Document, rows: &mut Rows) -> Result<(), D
     add_all_places(
         alloc,
         &document.machines,
+        MAX_PLACES,
         &mut rows.places,
         &mut rows.place_rows,
     )?;
     check_ends(alloc, &document.machines)?;
-    add_zone_names(alloc, &document.zones, &mut rows.zones, &mut rows.taken)?;
+    add_zone_names(
+        alloc,
+        &document.zones,
+        MAX_ZONES,
+        &mut rows.zones,
+        &mut rows.taken,
+    )?;
     add_space_names(alloc, &document.zones, &mut rows.spaces)?;
     add_zone_rows(
         alloc,
@@ -160,7 +167,7 @@ pub fn push_name(alloc: Global, names: &mut Names, name: &str) -> Result<(), Doc
 }
 
 /// Adds the names of all machines.
-fn add_machine_names(
+pub fn add_machine_names(
     alloc: Global,
     machines: &[MachineRow],
     names: &mut Names,
@@ -190,10 +197,12 @@ fn check_free(alloc: Global, name: &str, at: Location) -> Result<(), DocumentFau
     Ok(())
 }
 
-/// Adds the names of all zones, and among those that are taken also the names of zones that list their guests.
-fn add_zone_names(
+/// Adds the names of all zones, at most `most`, and among those that are taken also the names of zones that list their
+/// guests.
+pub fn add_zone_names(
     alloc: Global,
     zones: &[ZoneRow],
+    most: usize,
     names: &mut Names,
     taken: &mut Names,
 ) -> Result<(), DocumentFault>
@@ -210,7 +219,7 @@ fn add_zone_names(
         let row = &zones[i];
         let at = row.at.key(Key::Name);
         add_space_before(alloc, row, taken)?;
-        add_name(alloc, names, row.name.as_str(), MAX_ZONES, at)?;
+        add_name(alloc, names, row.name.as_str(), most, at)?;
         add_name(alloc, taken, row.name.as_str(), MAX_NAMES, at)?;
     }
     Ok(())
@@ -294,7 +303,7 @@ fn have_ends(machines: &[MachineRow]) -> bool
 }
 
 /// Refuses a source or a sink that is no place of its machine.
-fn check_ends(alloc: Global, machines: &[MachineRow]) -> Result<(), DocumentFault>
+pub fn check_ends(alloc: Global, machines: &[MachineRow]) -> Result<(), DocumentFault>
     ensures { OnOk result (IsTrue (list_all saying.has_ends machines.now)) }
 {
     if have_ends(machines) {
@@ -338,10 +347,11 @@ fn unknown_in(
     None
 }
 
-/// Adds the places of all machines.
-fn add_all_places(
+/// Adds the places of all machines, at most `most`.
+pub fn add_all_places(
     alloc: Global,
     machines: &[MachineRow],
+    most: usize,
     names: &mut Names,
     rows: &mut Vec<PlanPlace>,
 ) -> Result<(), DocumentFault>
@@ -353,7 +363,7 @@ fn add_all_places(
     ensures rows { OnOk result (rows.new.items ≡ saying.place_rows machines.now) }
 {
     for i in 0..machines.len() {
-        add_places(alloc, &machines[i], i, names, rows)?;
+        add_places(alloc, &machines[i], i, most, names, rows)?;
     }
     Ok(())
 }
@@ -363,6 +373,7 @@ fn add_places(
     alloc: Global,
     row: &MachineRow,
     machine: usize,
+    most: usize,
     names: &mut Names,
     rows: &mut Vec<PlanPlace>,
 ) -> Result<(), DocumentFault>
@@ -375,13 +386,7 @@ fn add_places(
     let keeper = number_of(machine, row_at.key(Key::Places))?;
     for item in 0..row.places.len() {
         let name = row.places[item].as_str();
-        add_name(
-            alloc,
-            names,
-            name,
-            MAX_PLACES,
-            row_at.item(Key::Places, item),
-        )?;
+        add_name(alloc, names, name, most, row_at.item(Key::Places, item))?;
         rows.push(place_of(row, keeper, name))?;
     }
     Ok(())
@@ -398,7 +403,7 @@ pub fn number_of(machine: usize, at: Location) -> Result<u8, DocumentFault>
 }
 
 /// Adds the rows of all zones.
-fn add_zone_rows(
+pub fn add_zone_rows(
     alloc: Global,
     zones: &[ZoneRow],
     machines: &Names,
@@ -649,7 +654,7 @@ pub fn gives_of(
 }
 
 /// The zone that a row is about, and the posture that the row gives it.
-fn given_by(
+pub fn given_by(
     alloc: Global,
     zones: &Names,
     row: &PostureRow,

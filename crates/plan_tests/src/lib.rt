@@ -36,6 +36,8 @@ mod pages;
 #[cfg(test)]
 mod pictures;
 #[cfg(test)]
+mod plants;
+#[cfg(test)]
 mod progress;
 #[cfg(test)]
 mod served;
@@ -49,5 +51,7 @@ mod two_presses;
 mod word_calls;
 #[cfg(test)]
 mod words;
+#[cfg(test)]
+mod words_of_plants;
 #[cfg(test)]
 mod workers;

@@ -40,10 +40,24 @@ const WORDS: &str = "\
 2: ./plan run --turns 5 --pages
 2: ./plan run --turns 0 --page
 2: ./plan check --turns 5
+2: ./plan words --word 0
+2: ./plan words --page
+2: ./plan words words
+2: ./plan --word 0
+2: ./plan check --word
+2: ./plan check --word one
+2: ./plan check --word -1
+2: ./plan check --word 00000001
+2: ./plan check --word=1
+2: ./plan check --word 1 --word 1
+2: ./plan check --memory 5 --word 1
+2: ./plan explore --page --word 1
+2: ./plan run --word 1
+2: ./plan check --word 1 --help
 2: ./plan 
 =>
 =>
-error: the only argument is check, replay, explore, header, draw, run, --help or --version
+error: the only argument is check, replay, explore, header, draw, run, words, --help or --version
 --
 0: ./plan --help
 0: ./plan -h checks
@@ -53,6 +67,7 @@ error: the only argument is check, replay, explore, header, draw, run, --help or
 0: ./plan header --help
 0: ./plan draw --help
 0: ./plan run --help
+0: ./plan words --help
 =>
 =>
 Reads a plan of a plant, in TOML[..]
@@ -63,6 +78,8 @@ Reads a plan of a plant, in TOML[..]
 plan [..].[..].[..]
 --
 1: ./plan check
+1: ./plan check --word 0
+1: ./plan words
 =>
 =>
 fault plan the document: there is no [[machine]]
@@ -84,7 +101,7 @@ fn are_refused<T: Threads + Wait + Clock + Sync>(
 fn serves(rt: HostRuntime) {
     are_answered(&rt, rt.alloc(), "", WORDS);
     let other =
-        "error: the only argument is check, replay, explore, header, draw, run, --help or --version\n";
+        "error: the only argument is check, replay, explore, header, draw, run, words, --help or --version\n";
     let no_text = "error: a word isn't UTF-8\n";
     assert!(rt;
         are_refused(&rt, rt.alloc(), &[], other)
@@ -110,7 +127,8 @@ fn is_failed_read<T: Threads + Wait + Clock + Sync>(
 fn tells_a_failed_read(rt: HostRuntime) {
     for left in 0..=PRESS.len() {
         let is_told = is_failed_read(&rt, rt.alloc(), b"check", left)
-            && is_failed_read(&rt, rt.alloc(), b"replay", left);
+            && is_failed_read(&rt, rt.alloc(), b"replay", left)
+            && is_failed_read(&rt, rt.alloc(), b"words", left);
         assert!(rt; is_told, "after {left}");
     }
 }
@@ -125,6 +143,7 @@ const ASKED: &str = "\
     ./plan header --help|\
     ./plan draw --help|\
     ./plan run --help|\
+    ./plan words -h|\
     ./plan --version";
 
 /// Whether these words end well, and nothing of the input is read.
@@ -156,6 +175,10 @@ fn leaves_the_input_alone(rt: HostRuntime) {
 const WRITTEN: &str = "\
     ./plan check => [[machine]]\nname = \"a\"\n|\
     ./plan check => [[machine]]\n|\
+    ./plan check --word 0 => [[machine]]\nname = \"a\"\n|\
+    ./plan check --word 1 => [[machine]]\nname = \"a\"\n|\
+    ./plan words => [[machine]]\nname = \"a\"\n|\
+    ./plan words => [[machine]]\n|\
     ./plan header => [[machine]]\nname = \"a\"\n|\
     ./plan replay => [[machine]]\nname = \"a\"\nstart,\n|\
     ./plan explore => [[machine]]\nname = \"a\"\nstart,\n|\

@@ -11,8 +11,6 @@ pub mod plant;
 pub mod routing;
 mod rules;
 mod sharing;
-#[cfg(test)]
-mod tests;
 mod word_tables;
 pub mod words;
 

@@ -25,7 +25,7 @@ pub struct Routed {
     pub call: Call,
 }
 
-/// A call, with this number in place of its own.
+/// A call, with this number instead of its own.
 fn renumbered(call: Call, number: u8) -> Call
     ensures { result ≡ routes.renumbered call number }
 {

@@ -1,6 +1,5 @@
-use Rattle.std.proofs.Common.{◌⊎◌, inl, inr, subst, sym}
+use Rattle.std.proofs.Common.{◌⊎◌, subst, sym}
 use Rattle.plan_app.specs.Failed.{FailsBy, WroteUnread}
-use Rattle.plan_app.proofs.Failures.{report_fails}
 use Rattle.plan_app.proofs.serve.serve_plan.Goals as goal
 
 pub returns-in-Check-clause-failed : goal.returns-in-Check-clause-failed
@@ -37,13 +36,3 @@ returns-in-RunPage-clause-failed g c = λ failed.
     let new = g.W.Write.contents c.run_page_script.new.writer in
     subst (λ request. WroteUnread old new ⊎ FailsBy request c.args.plan.now c.args.script.now old new) (sym c.in-RunPage.is)
     (c.run_page_script.ensures.failed failed)
-
-pub returns-in_default-clause-failed : goal.returns-in_default-clause-failed
-returns-in_default-clause-failed g c = λ failed.
-    elim (c.report_script-in_default.ensures.failed failed) [
-      | inl unread ↦ inl unread
-      | inr wrote ↦
-          inr
-          (report_fails c.args.request c.args.plan.now c.args.script.now _ _ c.in_default.not-Check c.in_default.not-Replay c.in_default.not-Explore
-          c.in_default.not-Page c.in_default.not-Header c.in_default.not-Module c.in_default.not-Draw c.in_default.not-Run c.in_default.not-RunPage wrote)
-    ]

@@ -10,5 +10,5 @@ loop-i-preserved c =
       zones_count = length-set c.loop-i.holds _ _ ∙ c.loop-i.invariant.zones_count;
       known = known_more held_need c.args.zones.now c.args.rows.now c.loop-i.i c.index-rows-i.result c.in_ok-zone.zone c.in_ok-zone.need (omega arith) c.index-rows-i.is c.in_ok-zone.ensures.zone c.in_ok-zone.ensures.need c.loop-i.invariant.known;
       last_given =
-          λ zone small. rw same (given_more held_need c.args.zones.now c.args.rows.now c.loop-i.i c.index-rows-i.result c.in_ok-zone.zone c.in_ok-zone.need c.loop-i.holds (omega arith) c.index-rows-i.is c.in_ok-zone.ensures.zone c.in_ok-zone.ensures.need (omega (arith, c.loop-i.invariant.zones_count)) c.loop-i.invariant.last_given zone small);
+          λ zone small. rw same (given_more 10 held_need c.args.zones.now c.args.rows.now c.loop-i.i c.index-rows-i.result c.in_ok-zone.zone c.in_ok-zone.need c.loop-i.holds (omega arith) c.index-rows-i.is c.in_ok-zone.ensures.zone c.in_ok-zone.ensures.need (omega (arith, c.loop-i.invariant.zones_count)) c.loop-i.invariant.last_given zone small);
     }

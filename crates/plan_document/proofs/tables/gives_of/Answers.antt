@@ -10,5 +10,5 @@ loop-i-preserved c =
       zones_count = length-set c.loop-i.gives _ _ ∙ c.loop-i.invariant.zones_count;
       known = known_more posture_of c.args.zones.now c.args.rows.now c.loop-i.i c.index-rows-i.result c.in_ok-zone.zone c.in_ok-zone.posture (omega arith) c.index-rows-i.is c.in_ok-zone.ensures.zone c.in_ok-zone.ensures.posture c.loop-i.invariant.known;
       last_given =
-          λ zone small. rw same (given_more posture_of c.args.zones.now c.args.rows.now c.loop-i.i c.index-rows-i.result c.in_ok-zone.zone c.in_ok-zone.posture c.loop-i.gives (omega arith) c.index-rows-i.is c.in_ok-zone.ensures.zone c.in_ok-zone.ensures.posture (omega (arith, c.loop-i.invariant.zones_count)) c.loop-i.invariant.last_given zone small);
+          λ zone small. rw same (given_more 10 posture_of c.args.zones.now c.args.rows.now c.loop-i.i c.index-rows-i.result c.in_ok-zone.zone c.in_ok-zone.posture c.loop-i.gives (omega arith) c.index-rows-i.is c.in_ok-zone.ensures.zone c.in_ok-zone.ensures.posture (omega (arith, c.loop-i.invariant.zones_count)) c.loop-i.invariant.last_given zone small);
     }
