@@ -246,7 +246,7 @@ pub fn groups_when_cut()
     ensures { GroupsWhenCut }
 {}
 
-/// Forty zones, of which all are one group, are laid out on forty words.
+/// Forty zones are one group; with all places cut they are laid out on forty words.
 pub fn forty_zones_are_laid_out()
     ensures { FortyZones }
 {}
