@@ -72,7 +72,8 @@ plant = record {
       ∷ press (codes "die" ∷ []) (pose (codes "load") (codes "door") ∷ pose (codes "lift") (codes "gate") ∷ [])
       (codes "pose lift" ∷ codes "pose load" ∷ codes "take door or stop on held" ∷ []) ∷ [];
   zones = zone_row 0 (codes "door") ∷ zone_row 1 (codes "gate") ∷ [];
-  motors = arm (of_zone (codes "door") (codes "any") ∷ of_zone (codes "gate") (codes "moving") ∷ []) (codes "hand" ∷ []) ∷ [];
+  motors =
+      arm (of_zone (codes "door") (codes "any") ∷ of_zone (codes "gate") (codes "moving") ∷ []) (codes "hand" ∷ []) ∷ [];
   hazards = crushed ∷ [];
 }
 

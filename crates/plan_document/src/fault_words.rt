@@ -6,7 +6,7 @@ use crate::fault::{
 };
 use crate::reading::MAX_BYTES;
 use plan_types::{MAX_PLACES, MAX_POSES, MAX_ZONES, PlanFault};
-use plan_words::MAX_WORDS;
+use plan_words::{MAX_PLANT_ZONES, MAX_WORDS};
 use std::fmt;
 
 /// The most characters of a text that are shown.
@@ -267,12 +267,21 @@ fn write_plain<W: fmt::Write>(wrong: &Wrong, f: &mut fmt::Formatter<W>) -> fmt::
         Wrong::NoMotors => "it takes two motors, such as [\"ram\", \"arm_in_press\"]",
         Wrong::NoGuests => "there is no guest",
         Wrong::NeverPermitted => "no state of the plan permits it",
-        Wrong::TooMany(most) => return write!(f, "there are more than {most}"),
+        Wrong::TooMany(most) => return write_too_many(f, *most),
         Wrong::TooManyLines(most) => return write!(f, "it has more than {most} lines"),
         Wrong::HostIsGuest => "the host is its own guest",
         _ => "memory ran out",
     };
     f.write_str(text)
+}
+
+/// Writes that there are more than fit a plan; of zones, which command takes more.
+fn write_too_many<W: fmt::Write>(f: &mut fmt::Formatter<W>, most: usize) -> fmt::Result {
+    write!(f, "there are more than {most}")?;
+    if most == MAX_ZONES {
+        write!(f, "; plan words reads up to {MAX_PLANT_ZONES}")?;
+    }
+    Ok(())
 }
 
 impl fmt::Display for PlanTextFault {
@@ -316,7 +325,7 @@ fn write_first<W: fmt::Write>(f: &mut fmt::Formatter<W>, first: Option<usize>) -
 }
 
 impl fmt::Display for TooWide {
-    /// Says what would help: to leave out this number of bits, in places and in zones.
+    /// Says what would help: to leave out this number of bits, in places and in zones, or several words.
     fn fmt<W: fmt::Write>(&self, f: &mut fmt::Formatter<W>) -> fmt::Result {
         let TooWide {
             zones,
@@ -331,7 +340,8 @@ impl fmt::Display for TooWide {
         write_count(f, places, "place")?;
         write!(f, " need {needed} bits, and 64 fit: leave out ")?;
         write_count(f, missing, "bit")?;
-        f.write_str(bits_of_kinds(is_shared))
+        f.write_str(bits_of_kinds(is_shared))?;
+        f.write_str(", or try plan words")
     }
 }
 

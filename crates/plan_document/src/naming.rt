@@ -112,7 +112,8 @@ fn stands_by(
     verb: &[u8],
     name: &[u8],
 ) -> bool
-    ensures { result ≡ spec.stands_by zones.now places.now poses.now verb.now name.now (verb_of verb.now) }
+    ensures { result ≡ spec.stands_by zones.now places.now poses.now verb.now name.now
+        (verb_of verb.now) }
 {
     match Verb::read(verb) {
         Some(Verb::Pose) => poses.is_here(name),

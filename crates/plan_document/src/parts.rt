@@ -1,6 +1,6 @@
 //! The document of one word of a plant.
-ghost use Rattle.std.specs.Prelude.{◌≡◌, ◌+◌, ◌<◌, ◌++◌, ◌∷◌, [], filter, length, map, nat_eq, string_bytes, IfOk, OnOk};
-ghost use Rattle.std.specs.Prelude.{if◌then◌else◌};
+ghost use Rattle.std.specs.Prelude.{◌≡◌, ◌+◌, ◌<◌, ◌++◌, ◌∷◌, [], filter, length, map, nat_eq, string_bytes};
+ghost use Rattle.std.specs.Prelude.{if◌then◌else◌, IfOk, OnOk};
 ghost use Rattle.std.specs.List.{range_with_len};
 ghost use Rattle.plan_document.specs.OnWord as spec;
 ghost use Rattle.plan_document.specs.Texts as texts;

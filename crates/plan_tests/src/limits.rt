@@ -108,7 +108,7 @@ name = \"z#\"
 host = \"a\"
 guest = \"b\"
 @=>
-fault plan line 46: zone 11: name: there are more than 10
+fault plan line 46: zone 11: name: there are more than 10; plan words reads up to 40
 --
 0: ./plan check
 =>
@@ -162,7 +162,7 @@ name = \"z#\"
 host = \"a\"
 guest = \"b\"
 @=>
-fault plan wide: 10 zones and 4 places need 65 bits, and 64 fit: leave out 1 bit (a place has 1, a zone 2 to 5)
+fault plan wide: 10 zones and 4 places need 65 bits, and 64 fit: leave out 1 bit (a place has 1, a zone 2 to 5), or try plan words
 --
 1: ./plan check
 =>
@@ -180,7 +180,7 @@ name = \"z#\"
 host = \"a\"
 guest = \"b\"
 @=>
-fault plan wide: 8 zones and 13 places need 66 bits, and 64 fit: leave out 2 bits (a place has 1, a zone 2 to 5)
+fault plan wide: 8 zones and 13 places need 66 bits, and 64 fit: leave out 2 bits (a place has 1, a zone 2 to 5), or try plan words
 --
 1: ./plan check
 =>
@@ -198,7 +198,7 @@ name = \"z#\"
 host = \"a\"
 guest = \"b\"
 @=>
-fault plan wide: 10 zones and 16 places need 77 bits, and 64 fit: leave out 13 bits (a place has 1, a zone 2 to 5)
+fault plan wide: 10 zones and 16 places need 77 bits, and 64 fit: leave out 13 bits (a place has 1, a zone 2 to 5), or try plan words
 --
 1: ./plan explore
 =>
