@@ -3,6 +3,7 @@ mod Parted
 mod OnWordRows
 mod OnWordLaws
 mod PlantLines
+mod PlantProgramLaws
 mod LineWords
 mod Zoned
 mod Running

@@ -16,6 +16,7 @@ pub mod OnWord
 pub mod OnWordLaws
 pub mod OnWordExamples
 pub mod PlantPrograms
+pub mod PlantProgramLaws
 pub mod Plants
 pub mod WordExamples
 pub mod PlanExamples

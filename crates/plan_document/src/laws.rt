@@ -7,6 +7,7 @@ ghost use Rattle.plan_document.specs.OnWordExamples.{WordsHaveTheirRows};
 ghost use Rattle.plan_document.specs.OnWordLaws as on_word;
 ghost use Rattle.plan_document.specs.PlanExamples as plans;
 ghost use Rattle.plan_document.specs.PlanLaws as plan_laws;
+ghost use Rattle.plan_document.specs.PlantProgramLaws.{LinesGoToTheirWords};
 ghost use Rattle.plan_document.specs.Reading as reading;
 ghost use Rattle.plan_document.specs.ReadingExamples.{RowsAreRead};
 ghost use Rattle.plan_document.specs.ReadingLaws as reading_laws;
@@ -170,4 +171,11 @@ pub fn words_have_their_names()
 #[tactic(auto, using(crate::proofs::OnWordRows::word_rows))]
 pub fn words_of_plants_are_met()
     ensures { WordsHaveTheirRows }
+{}
+
+/// Of a plant each line that asks is asked on a word where it stands, by the plan of that word, in the order of the
+/// lines; a line that asks nothing in the plant asks nothing on any word. Each machine has a program.
+#[tactic(auto, using(crate::proofs::PlantProgramLaws::lines_go_to_their_words))]
+pub fn lines_go_to_their_words()
+    ensures { LinesGoToTheirWords }
 {}
