@@ -1,7 +1,10 @@
 //! Explorations of literal plants on two words.
-use plan_explorer::{Explored, PlantProgramFault, PlantPrograms, RoutedCall, explore_plant};
+use plan_explorer::{
+    Explored, PlantProgramFault, PlantPrograms, RoutedCall, RoutedEvent, explore_plant,
+    take_plant_turns,
+};
 use plan_rules::State;
-use plan_types::{Call, Plan, PlanPose, PlanZone, Posture, Tables};
+use plan_types::{Answer, Call, Event, Plan, PlanPose, PlanZone, Posture, Refusal, Tables};
 use std::alloc::Global;
 use std::test::Fail;
 
@@ -117,5 +120,41 @@ fn openings_that_no_word_tells_are_explored(rt: HostRuntime) -> Result<(), Fail>
         Explored::Free(situations) => assert_eq!(rt; situations, 7),
         Explored::Standstill(_) | Explored::Unfinished(_) => assert!(rt; false),
     }
+    Ok(())
+}
+
+// What a machine asks of a word, and the answer.
+fn claimed(machine: u8, word: usize, answer: Answer) -> RoutedEvent {
+    RoutedEvent {
+        word,
+        event: Event {
+            machine,
+            call: Call::Claim(0),
+            answer,
+        },
+    }
+}
+
+#[test]
+fn turns_into_a_standstill_are_told(rt: HostRuntime) -> Result<(), Fail> {
+    let alloc = rt.alloc();
+    let plan = crossing(alloc)?;
+    let lists = vec![in alloc; through(alloc, 0, 1)?, through(alloc, 1, 0)?]?;
+    let programs = PlantPrograms::new(alloc, lists, 2)?;
+    let mut opening = State::start([false; 16], 7);
+    opening.zones[0].posture = Posture::OpenIn;
+    let plans = [&plan, &plan];
+    let openings = [opening, opening];
+    let turns = [0, 2, 1, 0];
+    let walk = take_plant_turns(alloc, &plans, &openings, &programs, &turns)?;
+    let first_waits = claimed(0, 1, Answer::Refused(Refusal::Held(1)));
+    let second_waits = claimed(1, 0, Answer::Refused(Refusal::Held(0)));
+    let asked = [
+        claimed(0, 0, Answer::Done),
+        claimed(1, 1, Answer::Done),
+        first_waits,
+    ];
+    assert!(rt; walk.events.as_slice() == asked.as_slice());
+    assert!(rt; walk.outlook.as_slice() == [first_waits, second_waits].as_slice());
     Ok(())
 }
