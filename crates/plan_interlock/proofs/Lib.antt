@@ -2,3 +2,5 @@ mod Seen
 mod Order
 mod Callers
 mod Permitting
+mod Rights
+mod Opening

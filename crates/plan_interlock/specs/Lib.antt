@@ -7,3 +7,6 @@ pub mod SeenExamples
 pub mod BookExamples
 pub mod Motors
 pub mod MotorExamples
+pub mod Plant
+pub mod PlantCalls
+pub mod PlantMake

@@ -4,9 +4,15 @@
 pub mod examples;
 pub mod laws;
 pub mod motors;
+pub mod plant;
+pub mod plant_make;
+mod plant_stop;
 pub mod rules;
 
 pub use motors::permitted_motors;
+pub use plant::{PlantInterlock, PlantPass};
+pub use plant_make::{PlantFault, WordOpening};
+pub use plant_stop::WordReplies;
 pub use rules::PlanRules;
 
 /// The interlock of a plant, which threads share.
