@@ -4,3 +4,5 @@ mod Callers
 mod Permitting
 mod Rights
 mod Opening
+mod EachWord
+mod EachLoad

@@ -5,7 +5,7 @@ use Rattle.std.proofs.lemmas.List.Elements.{All-set}
 use Rattle.plan_interlock.specs.Plant.{WordView, RightView}
 
 -- the rights are as many as the words, and those of one number are of one table
-many_rights : (words : List WordView) (rights : List RightView) → map (λ v. v.table) rights ≡ map (λ i. i.table) words → length rights ≡ length words
+pub many_rights : (words : List WordView) (rights : List RightView) → map (λ v. v.table) rights ≡ map (λ i. i.table) words → length rights ≡ length words
 many_rights words rights same = sym (length-map rights (λ v. v.table)) ∙ (ap length same ∙ length-map words (λ i. i.table))
 
 same_table : (words : List WordView) (rights : List RightView) (k : ℕ) (i : WordView) (v : RightView) → map (λ v. v.table) rights ≡ map (λ i. i.table) words → k < length words

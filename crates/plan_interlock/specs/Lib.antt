@@ -10,3 +10,4 @@ pub mod MotorExamples
 pub mod Plant
 pub mod PlantCalls
 pub mod PlantMake
+pub mod PlantMotors

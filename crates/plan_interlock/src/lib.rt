@@ -6,6 +6,7 @@ pub mod laws;
 pub mod motors;
 pub mod plant;
 pub mod plant_make;
+mod plant_motors;
 mod plant_stop;
 pub mod rules;
 
