@@ -18,7 +18,7 @@ use Rattle.plan_interlock.specs.declared.rules.PlanRules.{PlanRules}
 use Rattle.plan_interlock.specs.declared.plant_make.PlantFault.TheVariants.{Machines}
 use Rattle.plan_interlock.specs.declared.plant_make.WordOpening.{WordOpening}
 use Rattle.plan_interlock.specs.Book.{callers_of, plan_of}
-use Rattle.plan_interlock.specs.Plant.{WordView, RightView, PlantPassView}
+use Rattle.plan_interlock.specs.Plant.{IsOfPlant, WordView, RightView, PlantPassView}
 use Rattle.plan_interlock.specs.PlantMake.{AreOpened, all_passes, callers, have_same_machines, machines_in, machines_of, new_pass, new_right, passes_left, plant_fault}
 
 abbrev Passes : Type 0
@@ -159,3 +159,11 @@ made_more words m made more pass rights so are is pushed =
     pushed
     ∙ (ap (λ ps. ps ++ pass ∷ []) so
       ∙ (ap (λ p. map (new_pass words) (range_with_len 0 m) ++ p ∷ []) own ∙ sym (map-range_with_len_more (new_pass words) 0 m m (omega arith))))
+
+-- each is of the interlock
+of_plant : (words : List WordView) (m : ℕ) → IsOfPlant words (new_pass words m)
+of_plant [] m = refl
+of_plant (i ∷ rest) m = ap (λ ts. i.table ∷ ts) (of_plant rest m)
+
+pub all_of_plant : (words : List WordView) (callers : List ℕ) (passes : List PlantPassView) → passes ≡ map (new_pass words) callers → All (IsOfPlant words) passes
+all_of_plant words callers passes are = subst (All (IsOfPlant words)) (sym are) (All-map (IsOfPlant words) (new_pass words) callers (λ k d low. of_plant words (get_or callers k d)))

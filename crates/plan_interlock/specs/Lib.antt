@@ -11,3 +11,4 @@ pub mod Plant
 pub mod PlantCalls
 pub mod PlantMake
 pub mod PlantMotors
+pub mod PlantExamples

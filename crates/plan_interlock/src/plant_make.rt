@@ -3,6 +3,7 @@ ghost use Rattle.std.specs.Prelude.{◌≡◌, ◌≢◌, ◌≤◌, ◌↔◌, 
 ghost use Rattle.std.specs.Prelude.{Some, None, map, ◌∷◌, length, OnOk};
 ghost use Rattle.plan_interlock.specs.declared.plant_make.PlantFault.{PlantFault};
 ghost use Rattle.plan_interlock.specs.declared.plant_make.PlantFault.TheVariants.{Memory};
+ghost use Rattle.plan_interlock.specs.Plant.{IsOfPlant};
 ghost use Rattle.plan_interlock.specs.PlantMake as making;
 ghost use Rattle.plan_interlock.specs.PlantMake.{OpensSoundly, AreOpened, plant_fault, machines_of};
 ghost use Rattle.plan_interlock.specs.PlantMake.{all_passes, callers, new_pass, new_right, passes_left};
@@ -138,7 +139,7 @@ impl PlantInterlock {
     /// the watch's last. Each word opens with its state. A call is Busy once it has lost `tries` exchanges.
     ///
     /// Each word's interlock is by its rules, opens with its state, and has this limit (`opened`). Each pass has one
-    /// right on each word, made with this interlock, before its first call (`passes`: `new_pass`).
+    /// right on each word, before its first call (`passes`: `new_pass`), and is of this interlock (`own`).
     ///
     /// Errors: the first that applies of `Tries`, `Words` and `Machines` (`fault`: `plant_fault`), and `Memory` if none
     /// does and there is no memory. No later call allocates memory.
@@ -153,6 +154,7 @@ impl PlantInterlock {
         ensures opened { IfOk result (λ made. AreOpened words.items tries made.0) }
         ensures passes { IfOk result (λ made.
             made.1.items ≡ map (new_pass made.0) (callers (making.machines_in words.items))) }
+        ensures own { IfOk result (λ made. All (IsOfPlant made.0) made.1.items) }
     {
         let machines = machines_in(words.as_slice(), tries)?;
         let Ok((words, mut left)) = open_words(alloc, words, tries) else {

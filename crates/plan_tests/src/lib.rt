@@ -36,6 +36,8 @@ mod pages;
 #[cfg(test)]
 mod pictures;
 #[cfg(test)]
+mod plant_interlocks;
+#[cfg(test)]
 mod plants;
 #[cfg(test)]
 mod progress;
