@@ -1,7 +1,6 @@
 -- One load of each word, one after another, and the motors that all of them permit.
-use Rattle.std.proofs.Common.{◌≡◌, ◌≢◌, ◌↔◌, ℕ, ◌+◌, ◌-◌, ◌/◌, ◌%◌, ◌^◌, ◌<◌, ◌≤◌, min, bit_and, List, [], ◌∷◌, All, length, get_or, map, refl, sym, ap, ◌∙◌, subst, arith, below_more}
+use Rattle.std.proofs.Common.{◌≡◌, ◌≢◌, ◌↔◌, ℕ, ◌+◌, ◌-◌, ◌^◌, ◌<◌, ◌≤◌, bit_and, List, [], ◌∷◌, length, get_or, refl, sym, ◌∙◌, subst, arith, below_more}
 use Rattle.std.proofs.Math.Nat.{lt_of_not-le}
-use Rattle.std.proofs.lemmas.List.{get_or-map}
 use Rattle.std.proofs.lemmas.Nat.Bits.{bit_at_above, bit_at_and, bit_at-lt, bit_at_ones}
 use Rattle.plan_motors.specs.declared.motor.Motor.{Motor}
 use Rattle.plan_motors.specs.declared.mask.MotorMask.{MotorMask}
@@ -58,9 +57,9 @@ module _ (words : List WordView) (masks : List (List MotorMask)) (before : Plant
     load_more bits more own low at so found same = record {
       looks = below_more (λ k. OnWord words before later k HasLooked) word earlier last;
       permitted = λ k parts are. (
-          λ h. next parts PermitsPart ((so.permitted k parts are).0 (both k h).0) (λ i w. (permits k parts are i w).0 (both k h).1),
-          λ h. (both_bits bits more k).1 ((so.permitted k parts are).1 (back parts PermitsPart h), (permits k parts are some_word some_right).1 (h word some_word some_right (omega arith))),
-        );
+        λ h. next parts PermitsPart ((so.permitted k parts are).0 (both k h).0) (λ i w. (permits k parts are i w).0 (both k h).1),
+        λ h. (both_bits bits more k).1 ((so.permitted k parts are).1 (back parts PermitsPart h), (permits k parts are some_word some_right).1 (h word some_word some_right (omega arith))),
+      );
       lasts = λ k parts are h. next parts PermitsPartLong (so.lasts k parts are (both k h).0) (λ i w. (found i w w).lasts k (parts word) (mask k parts are i).0 (mask k parts are i).1 (both k h).1);
       no_other = λ k h. below_more (λ n. (several : List MotorMask) → k < length (get_or masks n several)) word (λ n low several. so.no_other k (both k h).0 n low several) (λ several. subst (λ ms. k < length ms) (sym (at several)) ((found some_word some_right some_right).no_other k (both k h).1));
       others = λ k v above. let other : k ≢ word = omega (arith, above) in stay k v other ∙ so.others k v (omega (arith, above));

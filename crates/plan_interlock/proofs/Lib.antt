@@ -6,3 +6,4 @@ mod Rights
 mod Opening
 mod EachWord
 mod EachLoad
+mod EachHistory

@@ -1,12 +1,12 @@
 -- The words of a plant are opened one after another, and then its passes are taken, one on each word for each machine.
-use Rattle.std.proofs.Common.{◌≡◌, ℕ, suc, ◌+◌, ◌-◌, ◌<◌, ◌≤◌, min, Bool, true, false, nat_eq, nat_lt, ◌||◌, if◌then◌else◌, Option, Some, None, List, [], ◌∷◌, ◌++◌, All, length, get_or, set, take, drop, map, refl, sym, ap, ◌∙◌, subst, arith, append_assoc}
+use Rattle.std.proofs.Common.{◌≡◌, ℕ, suc, ◌+◌, ◌-◌, ◌<◌, ◌≤◌, min, true, false, nat_eq, nat_lt, None, List, [], ◌∷◌, ◌++◌, All, length, get_or, set, take, drop, map, refl, sym, ap, ◌∙◌, subst, arith, append_assoc}
 use Rattle.std.proofs.lemmas.Bool.Decides.{nat_tests}
-use Rattle.std.proofs.lemmas.List.{map_push, map_more, length-map, length-take-le, drop_more, get_or_at, set_at, take_all}
+use Rattle.std.proofs.lemmas.List.{map_push, map_more, length-map, length-take-le, drop_more, get_or_at, set_at}
 use Rattle.std.proofs.lemmas.List.Elements.{All-push, All-map, All-weaker, All-head, All-tail}
 use Rattle.std.proofs.lemmas.List.Sums.{list_all-from_AllPass}
 use Rattle.std.proofs.lemmas.List.FromFn.{map-range_with_len_more}
 use Rattle.std.proofs.Math.Nat.{min-eq_left}
-use Rattle.std.specs.List.{range_with_len, list_all}
+use Rattle.std.specs.List.{range_with_len}
 use Rattle.plan_types.specs.Table.{watch}
 use Rattle.plan_types.specs.declared.answer.Event.{Event}
 use Rattle.plan_rules.specs.declared.state.State.{State}
@@ -15,7 +15,6 @@ use Rattle.word_interlock.specs.Views.{PassesView, pass_of, view_of}
 use Rattle.word_interlock.specs.Rule.{new_view}
 use Rattle.word_interlock.specs.Bunches.{fresh_passes}
 use Rattle.plan_interlock.specs.declared.rules.PlanRules.{PlanRules}
-use Rattle.plan_interlock.specs.declared.plant_make.PlantFault.TheVariants.{Machines}
 use Rattle.plan_interlock.specs.declared.plant_make.WordOpening.{WordOpening}
 use Rattle.plan_interlock.specs.Book.{callers_of, plan_of}
 use Rattle.plan_interlock.specs.Plant.{IsOfPlant, WordView, RightView, PlantPassView}
@@ -126,7 +125,7 @@ module _ (interlocks : List WordView) (word actor : ℕ) (i : WordView) (low : w
       let one = takes i actor rest p q right (of_word rest passes p are read) took table same in
       pushed
       ∙ (ap (λ rs. rs ++ right ∷ []) so
-        ∙ (ap (λ r. map (new_right actor) (take word interlocks) ++ r ∷ []) (one.own ∙ ap (new_right actor) is) ∙ sym (map_more (new_right actor) interlocks word i low)))
+      ∙ (ap (λ r. map (new_right actor) (take word interlocks) ++ r ∷ []) (one.own ∙ ap (new_right actor) is) ∙ sym (map_more (new_right actor) interlocks word i low)))
 
   pub left_more : (rest : List ℕ) (passes : List Passes) (p q : Passes) (right : RightView) → passes ≡ so_far rest → p ≡ get_or passes word p → p.actors ≡ view_of right ∷ q.actors → right.table ≡ p.table → q.table ≡ p.table
       → set passes word q ≡ passes_left (take (word + 1) interlocks) rest ++ passes_left (drop (word + 1) interlocks) (actor ∷ rest)
@@ -136,9 +135,9 @@ module _ (interlocks : List WordView) (word actor : ℕ) (i : WordView) (low : w
       let later = passes_left (drop (word + 1) interlocks) (actor ∷ rest) in
       ap (λ ps. set ps word q) (are ∙ parted rest)
       ∙ (set_at before (fresh_passes i (actor ∷ rest)) later q word (many rest)
-        ∙ (ap (λ x. before ++ x ∷ later) (one.others ∙ ap (λ x. fresh_passes x rest) is)
-          ∙ (sym (append_assoc before (fresh_passes (get_or interlocks word i) rest ∷ []) later)
-            ∙ ap (λ ps. ps ++ later) (sym (map_more (λ i. fresh_passes i rest) interlocks word i low)))))
+      ∙ (ap (λ x. before ++ x ∷ later) (one.others ∙ ap (λ x. fresh_passes x rest) is)
+      ∙ (sym (append_assoc before (fresh_passes (get_or interlocks word i) rest ∷ []) later)
+      ∙ ap (λ ps. ps ++ later) (sym (map_more (λ i. fresh_passes i rest) interlocks word i low)))))
 
 -- ---- passes
 
@@ -158,7 +157,7 @@ made_more words m made more pass rights so are is pushed =
     let own : pass ≡ new_pass words m = is ∙ ap (λ rs. record { actor = m; rights = rs }) are in
     pushed
     ∙ (ap (λ ps. ps ++ pass ∷ []) so
-      ∙ (ap (λ p. map (new_pass words) (range_with_len 0 m) ++ p ∷ []) own ∙ sym (map-range_with_len_more (new_pass words) 0 m m (omega arith))))
+    ∙ (ap (λ p. map (new_pass words) (range_with_len 0 m) ++ p ∷ []) own ∙ sym (map-range_with_len_more (new_pass words) 0 m m (omega arith))))
 
 -- each is of the interlock
 of_plant : (words : List WordView) (m : ℕ) → IsOfPlant words (new_pass words m)

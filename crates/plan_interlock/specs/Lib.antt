@@ -12,3 +12,4 @@ pub mod PlantCalls
 pub mod PlantMake
 pub mod PlantMotors
 pub mod PlantExamples
+pub mod PlantLaws

@@ -9,6 +9,7 @@ ghost use Rattle.plan_interlock.specs.Laws.{EveryPassSeesLaws, RightsLast};
 ghost use Rattle.plan_interlock.specs.Motors.{PermissionsLast, SurveysPermitTheSame};
 ghost use Rattle.plan_interlock.specs.MotorExamples.{MotorExamples};
 ghost use Rattle.plan_interlock.specs.Order.{BusyCallsAreFew, CallsKeepOrder, HistoryIsOne};
+ghost use Rattle.plan_interlock.specs.PlantLaws.{WordsStayLawful};
 ghost use Rattle.plan_interlock.specs.SeenExamples.{SeenExamples};
 ghost use Rattle.plan_interlock.specs.BookExamples.{BookExamples, OrderTells};
 
@@ -109,4 +110,10 @@ pub fn busy_is_paid(rules: &PlanRules)
 pub fn book_examples_are_right()
     ensures book { BookExamples }
     ensures order { OrderTells }
+{}
+
+/// On each word of a plant, what a new pass has seen is a legal history, and so it stays by each of its calls, on
+/// whichever word: each law of such histories holds of each word by itself.
+pub fn words_stay_lawful()
+    ensures { WordsStayLawful }
 {}

@@ -1,8 +1,6 @@
 use Rattle.std.proofs.Common.{◌≡◌, List, [], ◌∷◌, All, map, refl, sym, ap, ◌∙◌, subst}
 use Rattle.std.proofs.lemmas.List.Elements.{All-cons, All-nil}
 use Rattle.plan_types.specs.Table.{PlanTable}
-use Rattle.plan_interlock.specs.declared.rules.PlanRules.{PlanRules}
-use Rattle.plan_interlock.specs.declared.plant_make.WordOpening.{WordOpening}
 use Rattle.plan_interlock.specs.Book.{plan_of}
 use Rattle.plan_interlock.specs.Plant.{WordView}
 use Rattle.plan_interlock.specs.PlantExamples.{press_word, shelf_word}
@@ -26,4 +24,4 @@ returns-clause-plans c =
     let shelf : plan_of c.in_ok-shelf.shelf.rules ≡ shelf_word = c.in_ok-shelf.ensures.plan ∙ c.in-Ok-shelf.ensures in
     plans_of c.in-Ok-new.made.0
     ∙ (ap (map plan_of) (c.in-Ok-new.ensures.opened.rules ∙ ap (map (λ w. w.rules)) c.in-Ok-vec.ensures.items)
-      ∙ (ap (λ t. t ∷ plan_of c.in_ok-shelf.shelf.rules ∷ []) press ∙ ap (λ t. press_word ∷ t ∷ []) shelf))
+    ∙ (ap (λ t. t ∷ plan_of c.in_ok-shelf.shelf.rules ∷ []) press ∙ ap (λ t. press_word ∷ t ∷ []) shelf))

@@ -1,6 +1,4 @@
-use Rattle.std.proofs.Common.{ap, []}
-use Rattle.word_interlock.specs.Asked.{Asked}
-use Rattle.plan_interlock.specs.Book.{plan_book, plan_of}
+use Rattle.std.proofs.Common.{ap}
 use Rattle.plan_interlock.specs.PlantCalls.{AskedBy}
 use Rattle.plan_interlock.proofs.Rights.{AreRead, are_read, at_word, same_actor, same_tables, tables_read}
 use Rattle.plan_interlock.proofs.plant.PlantInterlock.ask.Goals as goal
@@ -21,7 +19,7 @@ pub returns-clause-asked : goal.returns-clause-asked
 returns-clause-asked c =
     let e = c.ask.ensures in
     let asked : AskedBy c.args.call c.ask.result c.index-interlock.result.now c.index_mut-right.result.now c.ask.new.pass
-            = record { pass = e.pass; lawful = e.lawful; seen = e.seen; answer = e.answer; right = e.right; busy = e.busy; one_load = e.one_load; few_exchanges = e.few_exchanges; all_lost = e.all_lost; since = e.since; real_time = e.real_time } in
+    = record { pass = e.pass; lawful = e.lawful; seen = e.seen; answer = e.answer; right = e.right; busy = e.busy; one_load = e.one_load; few_exchanges = e.few_exchanges; all_lost = e.all_lost; since = e.since; real_time = e.real_time } in
     at_word _ _ _ _ _ c.ask.new.pass (read (goal.at.returns-clause-asked c).After-index_mut-right) (AskedBy c.args.call c.ask.result) c.pass.inside.rights.items (ap (λ p. p.rights) c.pass.view_is) asked
 
 pub returns-clause-pass : goal.returns-clause-pass

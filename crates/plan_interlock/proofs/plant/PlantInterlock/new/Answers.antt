@@ -11,7 +11,7 @@ take_passes-requires-clause-all c =
     let same = subst (All (λ w. machines_of w ≡ n)) c.as_slice.ensures.value c.in_ok-machines.ensures.machines in
     c.in-Ok.ensures.passes
     ∙ (all_left n words c.args.words.items c.in_ok-machines.ensures.few c.in-Ok.ensures.opened.rules same
-      ∙ ap (λ ws. passes_left ws (callers n)) (sym c.as_slice-2.ensures.value))
+    ∙ ap (λ ws. passes_left ws (callers n)) (sym c.as_slice-2.ensures.value))
 
 pub returns-clause-own : goal.returns-clause-own
 returns-clause-own c =

@@ -10,9 +10,9 @@ loop-word-init c =
     let many = c.requires.each_word in
     none_loaded c.args.self.now (map (λ several. several.items) ms) c.args.pass.now (omega (arith, c.words-word-end.ensures.count, c.words-word-end.ensures.some))
     (λ n several low.
-      let within : n < length ms = omega (arith, low, many) in
-      let d = one_of ms n within in
-      subst (λ xs. length xs ≤ 64) (sym (get_or-map (λ several. several.items) ms n d several within)) (c.requires.few n d within))
+    let within : n < length ms = omega (arith, low, many) in
+    let d = one_of ms n within in
+    subst (λ xs. length xs ≤ 64) (sym (get_or-map (λ several. several.items) ms n d several within)) (c.requires.few n d within))
     (record { actor = refl; plant = c.requires.same_plant })
 
 pub loop-word-preserved : goal.loop-word-preserved

@@ -20,12 +20,12 @@ pub returns-clause-found : goal.returns-clause-found
 returns-clause-found c =
     let e = c.permitted_motors.ensures in
     let found : IsFound c.args.masks.now c.permitted_motors.result c.index-interlock.result.now c.index_mut-right.result.now c.permitted_motors.new.pass
-            = record {
-              looked = record { more = e.more; moments = e.moments; one_load = e.one_load; no_exchange = e.no_exchange };
-              permitted = e.permitted;
-              lasts = λ k part low mask set is since kept. e.lasts k part low mask is set since kept;
-              no_other = bit_is_below c.permitted_motors.result (length c.args.masks.now) e.no_other;
-            } in
+    = record {
+      looked = record { more = e.more; moments = e.moments; one_load = e.one_load; no_exchange = e.no_exchange };
+      permitted = e.permitted;
+      lasts = λ k part low mask set is since kept. e.lasts k part low mask is set since kept;
+      no_other = bit_is_below c.permitted_motors.result (length c.args.masks.now) e.no_other;
+    } in
     at_word _ _ _ _ _ c.permitted_motors.new.pass (read (goal.at.returns-clause-found c).After-index_mut-right) (IsFound c.args.masks.now c.permitted_motors.result) c.pass.inside.rights.items (ap (λ p. p.rights) c.pass.view_is) found
 
 pub returns-clause-pass : goal.returns-clause-pass
