@@ -9,4 +9,6 @@ mod liveness;
 #[cfg(test)]
 mod plans;
 #[cfg(test)]
+mod plant_liveness;
+#[cfg(test)]
 mod plants;

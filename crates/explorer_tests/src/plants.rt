@@ -9,7 +9,7 @@ use std::alloc::Global;
 use std::test::Fail;
 
 // A zone that two machines share, and which is open.
-fn crossing(alloc: Global) -> Result<Plan, Fail> {
+pub(crate) fn crossing(alloc: Global) -> Result<Plan, Fail> {
     let zone = PlanZone {
         host: 0,
         guest: 1,
@@ -34,7 +34,7 @@ fn crossing(alloc: Global) -> Result<Plan, Fail> {
 }
 
 // Claims the zone of one word and then that of another, and releases both.
-fn through(alloc: Global, first: usize, second: usize) -> Result<Vec<RoutedCall>, Fail> {
+pub(crate) fn through(alloc: Global, first: usize, second: usize) -> Result<Vec<RoutedCall>, Fail> {
     let calls = [
         (first, Call::Claim(0)),
         (second, Call::Claim(0)),
