@@ -89,7 +89,9 @@ def proved_program(name, libraries):
         shutil.rmtree(f"{folder}/{part}", ignore_errors=True)
     for it in os.listdir(f"{HERE}/proved/{name}"):
         # (the gate accepts sources and proofs only in crates, so these have other names here)
-        to = f"{folder}/src/main.rt" if it == "main.txt" else f"{folder}/proofs/{it[:-4]}/Invariants.antt"
+        function, *answers = it[:-4].split(".")
+        proof = f"{folder}/proofs/{function}/{'Answers' if answers else 'Invariants'}.antt"
+        to = f"{folder}/src/main.rt" if it == "main.txt" else proof
         os.makedirs(os.path.dirname(to), exist_ok=True)
         shutil.copy(f"{HERE}/proved/{name}/{it}", to)
     for it in os.listdir(f"{ROOT}/crates"):

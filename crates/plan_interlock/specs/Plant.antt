@@ -1,4 +1,4 @@
--- What contracts see of a plant's interlock, which has several words, and of a machine's pass, which has a right on each.
+-- What contracts see of a plant's interlock, which has several words, and of a machine's pass: its right on each word.
 use Rattle.std.specs.Prelude.{◌≡◌, ◌≢◌, ℕ, List, map, slice_index_or}
 use Rattle.plan_types.specs.declared.answer.Event.{Event}
 use Rattle.plan_rules.specs.declared.state.State.{State}

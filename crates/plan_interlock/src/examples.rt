@@ -85,8 +85,8 @@ pub fn shelf(alloc: Global) -> Result<Tables, AllocError>
     })
 }
 
-// The word of some tables, with a start.
-fn opened(tables: Tables, full: [bool; 16]) -> Option<WordOpening>
+/// A word by these tables, which opens with a start with these places full, at stamp 0. `None` if the tables are no plan.
+pub fn word_of(tables: Tables, full: [bool; 16]) -> Option<WordOpening>
     requires places { (p : ℕ) → place_count tables ≤ p → get_or full p false ≡ false }
     ensures plan { IfSome result (λ w. plan_of w.rules ≡ tables) }
     ensures start { IfSome result (λ w. w.state ≡ start_state full 0) }
@@ -101,8 +101,8 @@ fn opened(tables: Tables, full: [bool; 16]) -> Option<WordOpening>
     Some(WordOpening { rules, state })
 }
 
-/// The interlock of a plant on two words, with its passes: on word 0 the loader, machine 0, and the press, machine 1; on
-/// word 1 the loader at the shelf, a zone of machine 2. The loader has a plate. `None` if there is no memory.
+/// The interlock of a plant on two words, with its passes: on word 0 the loader, machine 0, and the press, machine 1;
+/// on word 1 the loader at the shelf, a zone of machine 2. The loader has a plate. `None` if there is no memory.
 ///
 /// The words are by these plans (`plans`), and at the start only the loader's place on word 0 is full (`openings`). The
 /// passes are those of machines 0, 1 and 2, and the watch's, each with a right on both words, with nothing seen yet
@@ -125,8 +125,8 @@ pub fn press_and_shelf(alloc: Global) -> Option<(PlantInterlock, Vec<PlantPass>)
     };
     let mut full = [false; 16];
     full[0] = true;
-    let press = opened(at_press, full)?;
-    let shelf = opened(at_shelf, [false; 16])?;
+    let press = word_of(at_press, full)?;
+    let shelf = word_of(at_shelf, [false; 16])?;
     let Ok(words) = vec![in alloc; press, shelf] else {
         return None;
     };

@@ -6,7 +6,8 @@ ghost use Rattle.plan_interlock.specs.declared.plant_make.PlantFault.TheVariants
 ghost use Rattle.plan_interlock.specs.Plant.{IsOfPlant};
 ghost use Rattle.plan_interlock.specs.PlantMake as making;
 ghost use Rattle.plan_interlock.specs.PlantMake.{OpensSoundly, AreOpened, plant_fault, machines_of};
-ghost use Rattle.plan_interlock.specs.PlantMake.{all_passes, callers, new_pass, new_right, passes_left};
+ghost use Rattle.plan_interlock.specs.PlantMake.{all_passes, callers, new_pass, new_right};
+ghost use Rattle.plan_interlock.specs.PlantMake.{passes_left};
 
 use crate::plant::{MAX_WORDS, PlantInterlock, PlantPass};
 use crate::rules::PlanRules;

@@ -31,7 +31,8 @@ impl PlantInterlock {
     ///
     /// The pass was made with this interlock, and there are masks for each word. Whatever other threads do with the
     /// other passes:
-    /// - on each word this is one load, at whose moment the word's history is what the pass has now seen there (`looks`);
+    /// - on each word this is one load, at whose moment the word's history is what the pass has now seen there
+    ///   (`looks`);
     /// - a motor's bit is set exactly if each word permits its part after that history (`permitted`);
     /// - each word then goes on permitting the part, whatever events follow there, until a call of the motor's machine
     ///   loses the permission (`lasts`).

@@ -1,12 +1,10 @@
-//! A plant on two words: a loader at a press, and at a shelf. What the machines do in threads, each by one pass for both
-//! words, is a legal history of each word; a stop bars on both; a motor needs both.
-ghost use Rattle.std.specs.Prelude.{◌≡◌, All, IfSome};
+//! A plant on two words: a loader at a press, and at a shelf. What the machines do in threads, each by one pass for
+//! both words, is a legal history of each word; a stop bars on both; a motor needs both.
+ghost use Rattle.std.specs.Prelude.{All};
 ghost use Rattle.plan_interlock.specs.Plant.{IsOfPlant};
-ghost use Rattle.plan_interlock.specs.PlantMake.{OpensSoundly};
 
-use plan_interlock::examples::{press_and_shelf, shelf};
-use plan_interlock::laws::starts_can_open;
-use plan_interlock::{PlanRules, PlantFault, PlantInterlock, PlantPass, WordOpening, WordReplies};
+use plan_interlock::examples::{press_and_shelf, shelf, word_of};
+use plan_interlock::{PlantFault, PlantInterlock, PlantPass, WordReplies};
 use plan_motors::{Motor, MotorMask, NO_NEED, ZoneNeed};
 use plan_rules::State;
 use plan_types::{Answer, Call, Plan, Refusal, Tables, examples};
@@ -227,6 +225,17 @@ fn permitted(alloc: Global, interlock: &PlantInterlock, pass: &mut PlantPass) ->
     Some(interlock.permitted_motors(pass, masks.as_slice()))
 }
 
+/// Whether a machine's call is done on the shelf's word.
+fn is_done_there(interlock: &PlantInterlock, pass: &mut PlantPass, call: Call) -> bool
+    requires of_plant { IsOfPlant interlock.now pass.old }
+    ensures of_plant { IsOfPlant interlock.now pass.new }
+{
+    match asked_both(interlock, pass, call) {
+        Some((_, answer)) => answer == Answer::Done,
+        None => false,
+    }
+}
+
 #[test]
 fn a_motor_needs_both_words(rt: HostRuntime) {
     let Some((interlock, mut passes)) = press_and_shelf(rt.alloc()) else {
@@ -238,31 +247,27 @@ fn a_motor_needs_both_words(rt: HostRuntime) {
     let mut shelf = passes.remove(2);
     let mut loader = passes.remove(0);
     assert!(rt; loader.actor() == 0 && shelf.actor() == 2);
-    for call in [Call::Claim(0), Call::SetPose(0), Call::Release(0)] {
-        let answers = asked_both(&interlock, &mut shelf, call);
-        assert!(rt; answers.is_some_and(|answers| answers.1 == Answer::Done));
-    }
+    assert!(rt; is_done_there(&interlock, &mut shelf, Call::Claim(0)));
+    assert!(rt; is_done_there(&interlock, &mut shelf, Call::SetPose(0)));
+    assert!(rt; is_done_there(&interlock, &mut shelf, Call::Release(0)));
     assert!(rt; permitted(rt.alloc(), &interlock, &mut loader) == Some(0b00));
-    let claimed = asked_both(&interlock, &mut loader, Call::Claim(0));
-    assert!(rt; claimed.is_some_and(|answers| answers.1 == Answer::Done));
+    assert!(rt; is_done_there(&interlock, &mut loader, Call::Claim(0)));
     assert!(rt; permitted(rt.alloc(), &interlock, &mut loader) == Some(0b01));
-}
-
-/// Some tables, opened with all places empty.
-fn opened(tables: Tables) -> Option<WordOpening>
-    ensures { IfSome result OpensSoundly }
-{
-    let rules = PlanRules::new(Plan::new(tables).ok()?);
-    let state = State::start([false; 16], 0);
-    starts_can_open(&rules, &state);
-    Some(WordOpening { rules, state })
 }
 
 /// Why no interlock is made of a press, with two machines, and of a lift, with three.
 fn fault_of_two(alloc: Global) -> Option<PlantFault> {
-    let press = opened(examples::press(alloc).ok()?)?;
-    let lift = opened(examples::lift(alloc).ok()?)?;
-    let words = vec![in alloc; press, lift].ok()?;
+    let Ok(at_press) = examples::press(alloc) else {
+        return None;
+    };
+    let Ok(at_lift) = examples::lift(alloc) else {
+        return None;
+    };
+    let press = word_of(at_press, [false; 16])?;
+    let lift = word_of(at_lift, [false; 16])?;
+    let Ok(words) = vec![in alloc; press, lift] else {
+        return None;
+    };
     PlantInterlock::new(alloc, words, 8).err()
 }
 
