@@ -13,10 +13,13 @@ use Rattle.plan_explorer.specs.Programs.{PlanPrograms}
 use Rattle.plan_text.specs.Named.{Named}
 use Rattle.plan_text.specs.Names.{Text}
 use Rattle.plan_text.specs.Script.{script_start}
+use Rattle.plan_document.specs.Plants.{IsPlantIn}
+use Rattle.plan_document.specs.declared.plants.ProgrammedPlant.{ProgrammedPlant}
 use Rattle.plan_document.specs.declared.resolving.ProgrammedPlan.{ProgrammedPlan}
 use Rattle.plan_app.specs.Asked.{IsAsked, no_word_text}
 use Rattle.plan_app.specs.Apart.{TellsBy, TellsLarge, TellsNext, TellsPart, TellsParts, is_first, some_are_apart}
-use Rattle.plan_app.specs.Failed.{Fails, FailsBy, FailsWords, IsOfDocument, WroteEnd, WroteExploration, WroteFault, WroteNoWord, WrotePage, WrotePageText, WroteWords}
+use Rattle.plan_app.specs.Failed.{Fails, FailsBy, FailsExploreWords, FailsWords, IsOfDocument, WroteEnd, WroteExploration, WroteFault, WroteNoWord, WrotePage, WrotePageText, WrotePlant, WrotePlantText, WroteWords}
+use Rattle.plan_app.specs.PlantStarts.{plant_start}
 use Rattle.plan_app.specs.Going.{going_text}
 use Rattle.plan_app.specs.FailedExamples.{AreNoFault, FailedIsMeant, FaultLines, NumbersAreRefused}
 use Rattle.plan_app.specs.Input.{document_in, script_in}
@@ -53,6 +56,23 @@ of_words bytes new none (inr (inl (inl wrote))) = absurd (begins (codes "read") 
 of_words bytes new none (inr (inl (inr wrote))) = absurd (begins (codes "memory") new none wrote)
 of_words bytes new none (inr (inr (inl (words, of, wrote)))) = absurd (begins words new none wrote)
 of_words bytes new none (inr (inr (inr wrote))) = wrote
+
+by_start : (most : ℕ) (plant : ProgrammedPlant) (script new : Text) → AreNoFault new → WrotePlant most plant script (Some []) (Some new)
+    → (openings : List State) × (plant_start plant script ≡ Ok openings) × WrotePlantText plant openings (Some []) (Some new)
+by_start most plant script new none (inl (fault, is, wrote)) = absurd (begins (fault_text fault) new none wrote)
+by_start most plant script new none (inr (openings, is, inl (words, tells, wrote))) = absurd (begins words new none wrote)
+by_start most plant script new none (inr (openings, is, inr wrote)) = (openings, is, wrote)
+
+words_explored : (most : ℕ) (bytes new : Text) → AreNoFault new → FailsExploreWords most (Some bytes) (Some []) (Some new)
+    → (plant : ProgrammedPlant) × IsPlantIn (document_in bytes) plant × (openings : List State)
+    × (plant_start plant (script_in bytes) ≡ Ok openings) × WrotePlantText plant openings (Some []) (Some new)
+words_explored most bytes new none (inl wrote) = absurd (begins (codes "long") new none wrote.1)
+words_explored most bytes new none (inr (inl (inl wrote))) = absurd (begins (codes "read") new none wrote)
+words_explored most bytes new none (inr (inl (inr wrote))) = absurd (begins (codes "memory") new none wrote)
+words_explored most bytes new none (inr (inr (inl (words, of, wrote)))) = absurd (begins words new none wrote)
+words_explored most bytes new none (inr (inr (inr (plant, is, wrote)))) =
+    let (openings, begun, told) = by_start most plant (script_in bytes) new none wrote in
+    (plant, is, openings, begun, told)
 
 no_number : (document old new : Text) → ¬ WroteNoWord None document (Some old) (Some new)
 no_number document old new (number, count, is, has, wrote) = cc
@@ -175,6 +195,7 @@ failed-meant = record {
   paged = paged;
   large = is_large;
   words = of_words;
+  words_explored = words_explored;
   no_number = no_number;
 }
 

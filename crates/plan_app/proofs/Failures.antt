@@ -15,7 +15,7 @@ use Rattle.plan_app.specs.Apart.{TellsExploration}
 use Rattle.plan_app.specs.Asked.{IsAsked, IsNoPlan}
 use Rattle.plan_app.specs.declared.asking.NoPlan.{NoPlan}
 use Rattle.plan_app.specs.declared.asking.NoPlan.TheVariants.{OfDocument, OfWord}
-use Rattle.plan_app.specs.Failed.{Fails, FailsBy, FailsIn, FailsWords, FailsWordsIn, WroteExploration, WroteFault, WroteNoPlan, WroteUnread}
+use Rattle.plan_app.specs.Failed.{Fails, FailsBy, FailsExploreIn, FailsExploreWords, FailsIn, FailsWords, FailsWordsIn, WroteExploration, WroteFault, WroteNoPlan, WroteUnread}
 use Rattle.plan_app.specs.Input.{byte_limit, document_in, script_in}
 use Rattle.plan_app.specs.declared.request.Request.{Request}
 
@@ -37,36 +37,49 @@ long_if most read None is many = is
 long_if most read (Some bytes) is many = long most read bytes is many
 
 -- what was read is the input, or there is more of it
+whole_input : (P : List ℕ → Type 0) (read : List ℕ) (input : Option (List ℕ)) → (length read ≤ byte_limit → IfSome input (λ bytes. read ≡ bytes))
+    → (byte_limit < length read → IfSome input (λ bytes. byte_limit < length bytes))
+    → (byte_limit < length read → (bytes : List ℕ) → byte_limit < length bytes → P bytes) → P read → IfSome input P
+whole_input P read None same more long fails = tt
+whole_input P read (Some bytes) same more long fails =
+    elim (cases_lt byte_limit (length read)) [
+      | inl many ↦ long many bytes (more many)
+      | inr few ↦ subst P (same few) fails
+    ]
+
 pub fails_whole : (word : Option ℕ) (request : Request) (read : List ℕ) (input old new : Option (List ℕ))
     → (length read ≤ byte_limit → IfSome input (λ bytes. read ≡ bytes))
     → (byte_limit < length read → IfSome input (λ bytes. byte_limit < length bytes))
     → (byte_limit < length read → WroteFault (codes "long") old new)
     → FailsIn word request read old new → Fails word request input old new
-fails_whole word request read None old new same more long fails = tt
-fails_whole word request read (Some bytes) old new same more long fails =
-    elim (cases_lt byte_limit (length read)) [
-      | inl many ↦ inl (more many, long many)
-      | inr few ↦ subst (λ b. FailsIn word request b old new) (same few) fails
-    ]
+fails_whole word request read input old new same more long =
+    whole_input (λ bytes. FailsIn word request bytes old new) read input same more (λ many bytes larger. inl (larger, long many))
 
 pub unread_fails : (word : Option ℕ) (request : Request) (input old new : Option (List ℕ)) → WroteUnread old new → Fails word request input old new
 unread_fails word request input old new unread = if_known (λ bytes. FailsIn word request bytes old new) input (λ bytes. inr (inl unread))
 
--- the same of the words of a plant
+-- the same of the words of a plant, and of their exploration
 pub words_whole : (read : List ℕ) (input old new : Option (List ℕ))
     → (length read ≤ byte_limit → IfSome input (λ bytes. read ≡ bytes))
     → (byte_limit < length read → IfSome input (λ bytes. byte_limit < length bytes))
     → (byte_limit < length read → WroteFault (codes "long") old new)
     → FailsWordsIn read old new → FailsWords input old new
-words_whole read None old new same more long fails = tt
-words_whole read (Some bytes) old new same more long fails =
-    elim (cases_lt byte_limit (length read)) [
-      | inl many ↦ inl (more many, long many)
-      | inr few ↦ subst (λ b. FailsWordsIn b old new) (same few) fails
-    ]
+words_whole read input old new same more long =
+    whole_input (λ bytes. FailsWordsIn bytes old new) read input same more (λ many bytes larger. inl (larger, long many))
 
 pub unread_words : (input old new : Option (List ℕ)) → WroteUnread old new → FailsWords input old new
 unread_words input old new unread = if_known (λ bytes. FailsWordsIn bytes old new) input (λ bytes. inr (inl unread))
+
+pub explored_whole : (most : ℕ) (read : List ℕ) (input old new : Option (List ℕ))
+    → (length read ≤ byte_limit → IfSome input (λ bytes. read ≡ bytes))
+    → (byte_limit < length read → IfSome input (λ bytes. byte_limit < length bytes))
+    → (byte_limit < length read → WroteFault (codes "long") old new)
+    → FailsExploreIn most read old new → FailsExploreWords most input old new
+explored_whole most read input old new same more long =
+    whole_input (λ bytes. FailsExploreIn most bytes old new) read input same more (λ many bytes larger. inl (larger, long many))
+
+pub unread_explored : (most : ℕ) (input old new : Option (List ℕ)) → WroteUnread old new → FailsExploreWords most input old new
+unread_explored most input old new unread = if_known (λ bytes. FailsExploreIn most bytes old new) input (λ bytes. inr (inl unread))
 
 -- there is the plan that is asked for
 pub by_plan : (word : Option ℕ) (request : Request) (bytes : List ℕ) (plan : ProgrammedPlan) (old new : Option (List ℕ)) → IsAsked word (document_in bytes) plan

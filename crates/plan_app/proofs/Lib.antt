@@ -36,3 +36,7 @@ mod PageRows
 mod PageLegal
 mod Keeping
 mod OnWordRows
+mod PlantStarting
+mod PlantStartRows
+mod PlantScreening
+mod PlantScreenRows

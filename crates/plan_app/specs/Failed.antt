@@ -23,6 +23,8 @@ use Rattle.plan_app.specs.Hazards.{TellsReport, start_if}
 use Rattle.plan_app.specs.Input.{byte_limit, document_in, script_in}
 use Rattle.plan_app.specs.OnWords.{TellsWords}
 use Rattle.plan_app.specs.Pages.{IsLongPage, TellsPage}
+use Rattle.plan_app.specs.PlantScreens as plant_screens
+use Rattle.plan_app.specs.PlantStarts.{plant_start}
 use Rattle.plan_app.specs.RunPages.{ShowsRun}
 use Rattle.plan_app.specs.Runs.{HasForeignCall, IsTooLong, IsUnexplained, TellsRun}
 use Rattle.plan_app.specs.Screens.{TellsFree, TellsUnfinished}
@@ -225,3 +227,44 @@ FailsWordsIn bytes old new =
 -- in the input
 abbrev pub FailsWords : Option Text → Option Text → Option Text → Type 0
 FailsWords input old new = IfSome input (λ bytes. FailsWordsIn bytes old new)
+
+-- ---- the same of an exploration of all its words together
+
+-- the script has no start of the plant, and why
+abbrev pub WroteNoOpenings : ProgrammedPlant → Text → Option Text → Option Text → Type 0
+WroteNoOpenings plant script old new =
+    (fault : ScriptFault) × (plant_start plant script ≡ Err fault) × WroteFault (fault_text fault) old new
+
+-- turns lead to more situations than are explored, and how far the exploration came
+abbrev pub WroteLargePlant : ℕ → ProgrammedPlant → List State → Option Text → Option Text → Type 0
+WroteLargePlant most plant openings old new =
+    (words : Text) × plant_screens.TellsUnfinished most plant.plans.items plant.programs.programs openings words
+    × WroteFault words old new
+
+-- a text shows a standstill of all words together, or says that there is none
+abbrev pub WrotePlantText : ProgrammedPlant → List State → Option Text → Option Text → Type 0
+WrotePlantText plant openings old new =
+    (text : Text) × plant_screens.TellsEnd plant.plans.items plant.programs.programs openings text
+    × WrotePrefix old new text
+
+abbrev pub WrotePlantFrom : ℕ → ProgrammedPlant → List State → Option Text → Option Text → Type 0
+WrotePlantFrom most plant openings old new =
+    WroteLargePlant most plant openings old new ⊎ WrotePlantText plant openings old new
+
+-- the openings are the script's, if it has them
+abbrev pub WrotePlant : ℕ → ProgrammedPlant → Text → Option Text → Option Text → Type 0
+WrotePlant most plant script old new =
+    WroteNoOpenings plant script old new
+    ⊎ ((openings : List State) × (plant_start plant script ≡ Ok openings) × WrotePlantFrom most plant openings old new)
+
+abbrev pub WrotePlantOf : ℕ → Text → Text → Option Text → Option Text → Type 0
+WrotePlantOf most document script old new =
+    (plant : ProgrammedPlant) × IsPlantIn document plant × WrotePlant most plant script old new
+
+abbrev pub FailsExploreIn : ℕ → Text → Option Text → Option Text → Type 0
+FailsExploreIn most bytes old new =
+    WroteLong bytes old new ⊎ (WroteUnread old new ⊎ (WroteDocumentFault old new
+    ⊎ WrotePlantOf most (document_in bytes) (script_in bytes) old new))
+
+abbrev pub FailsExploreWords : ℕ → Option Text → Option Text → Option Text → Type 0
+FailsExploreWords most input old new = IfSome input (λ bytes. FailsExploreIn most bytes old new)

@@ -1,14 +1,18 @@
 -- What was written where the program failed: the lines of faults, and what a run says of the plan in its input.
-use Rattle.std.specs.Prelude.{◌≡◌, ◌≢◌, ℕ, [], ◌∷◌, ◌++◌, codes, Option, Some, None, Ok}
+use Rattle.std.specs.Prelude.{◌≡◌, ◌≢◌, ℕ, List, [], ◌∷◌, ◌++◌, codes, Option, Some, None, Ok}
 use Rattle.plan_rules.specs.declared.state.State.{State}
 use Rattle.plan_text.specs.Names.{Text}
 use Rattle.plan_text.specs.Script.{script_start}
+use Rattle.plan_document.specs.Plants.{IsPlantIn}
+use Rattle.plan_document.specs.declared.plants.ProgrammedPlant.{ProgrammedPlant}
 use Rattle.plan_document.specs.declared.resolving.ProgrammedPlan.{ProgrammedPlan}
 use Rattle.plan_app.specs.Apart.{TellsLarge}
 use Rattle.plan_app.specs.Asked.{IsAsked, no_word_text}
 use Rattle.plan_app.specs.Failed.{Fails, FailsBy, IsOfDocument, WroteEnd, WroteExploration, WroteFault}
-use Rattle.plan_app.specs.Failed.{FailsWords, WroteNoWord, WrotePage, WrotePageText, WroteWords}
+use Rattle.plan_app.specs.Failed.{FailsExploreWords, FailsWords, WroteNoWord, WrotePage, WrotePageText}
+use Rattle.plan_app.specs.Failed.{WrotePlantText, WroteWords}
 use Rattle.plan_app.specs.Input.{document_in, script_in}
+use Rattle.plan_app.specs.PlantStarts.{plant_start}
 use Rattle.plan_app.specs.declared.request.Request.{Request}
 use Rattle.plan_app.specs.declared.request.Request.TheVariants.{Explore}
 
@@ -65,6 +69,12 @@ pub record FailedIsMeant : Type 0 where
   -- of the words of a plant it is what is said of them
   pub words : (bytes new : Text) → AreNoFault new → FailsWords (Some bytes) (Some []) (Some new)
       → WroteWords (document_in bytes) (Some []) (Some new)
+  -- of an exploration of all words together it is what was found, from the start of the script
+  pub words_explored : (most : ℕ) (bytes new : Text) → AreNoFault new
+      → FailsExploreWords most (Some bytes) (Some []) (Some new)
+      → (plant : ProgrammedPlant) × IsPlantIn (document_in bytes) plant
+      × (openings : List State) × (plant_start plant (script_in bytes) ≡ Ok openings)
+      × WrotePlantText plant openings (Some []) (Some new)
   -- a plan that is asked for of no word is never refused for its number
   pub no_number : (document old new : Text) → ¬ WroteNoWord None document (Some old) (Some new)
 

@@ -8,7 +8,7 @@ use Rattle.plan_app.specs.declared.request.Request.{Request}
 use Rattle.plan_app.specs.declared.request.Request.TheVariants.{Check, Replay, Explore, Page, Header, Module, Draw}
 use Rattle.plan_app.specs.declared.request.Request.TheVariants.{Run, RunPage}
 use Rattle.plan_app.specs.declared.request.Wanted.{Wanted}
-use Rattle.plan_app.specs.declared.request.Wanted.TheVariants.{Help, Version, Words, Plan}
+use Rattle.plan_app.specs.declared.request.Wanted.TheVariants.{Help, Version, Words, ExploreWords, Plan}
 
 -- a document of one line, and a script of one
 abbrev pub both : List ℕ
@@ -53,6 +53,9 @@ run_with number = wanted_of (codes "plan" ∷ codes "run" ∷ codes "--turns" �
 
 abbrev pub memory_for : Text → Text → Option Wanted
 memory_for word number = wanted_of (codes "plan" ∷ word ∷ codes "--memory" ∷ number ∷ [])
+
+abbrev pub memory_with : Text → Text → Text → Option Wanted
+memory_with word number last = wanted_of (codes "plan" ∷ word ∷ codes "--memory" ∷ number ∷ last ∷ [])
 
 abbrev pub on_word : Text → Text → List Text → Option Wanted
 on_word word number more = wanted_of (codes "plan" ∷ word ∷ codes "--word" ∷ number ∷ more)
@@ -153,6 +156,23 @@ pub record RequestsAreRead : Type 0 where
   pub words_with_page : asked_with (codes "words") (codes "--page") ≡ None
   pub words_twice : asked_with (codes "words") (codes "words") ≡ None
   pub word_alone : asked (codes "word") ≡ None
+  pub explore_words : asked_with (codes "explore") (codes "--words") ≡ Some (ExploreWords 1000000)
+  pub explore_words_with_memory
+      : memory_with (codes "explore") (codes "64") (codes "--words") ≡ Some (ExploreWords 128000)
+  pub explore_words_without_memory : memory_with (codes "explore") (codes "0") (codes "--words") ≡ None
+  pub check_words : asked_with (codes "check") (codes "--words") ≡ None
+  pub check_words_with_memory : memory_with (codes "check") (codes "64") (codes "--words") ≡ None
+  pub run_words : wanted_of (codes "plan" ∷ codes "run" ∷ codes "--turns" ∷ codes "5" ∷ codes "--words" ∷ []) ≡ None
+  pub words_words : asked_with (codes "words") (codes "--words") ≡ None
+  pub words_flag_alone : asked (codes "--words") ≡ None
+  pub words_flag_longer : asked_with (codes "explore") (codes "--words=1") ≡ None
+  pub words_flag_twice
+      : wanted_of (codes "plan" ∷ codes "explore" ∷ codes "--words" ∷ codes "--words" ∷ []) ≡ None
+  pub words_before_memory
+      : wanted_of (codes "plan" ∷ codes "explore" ∷ codes "--words" ∷ codes "--memory" ∷ codes "64" ∷ []) ≡ None
+  pub words_with_page_of_all
+      : wanted_of (codes "plan" ∷ codes "explore" ∷ codes "--words" ∷ codes "--page" ∷ []) ≡ None
+  pub all_words_on_word : on_word (codes "explore") (codes "1") (codes "--words" ∷ []) ≡ None
   pub check_on_word : on_word (codes "check") (codes "2") [] ≡ on 2 (Check 1000000)
   pub check_on_first_word : on_word (codes "check") (codes "0") [] ≡ on 0 (Check 1000000)
   pub check_with_memory

@@ -17,6 +17,8 @@ pub mod Films
 pub mod Pages
 pub mod Asked
 pub mod OnWords
+pub mod PlantStarts
+pub mod PlantScreens
 pub mod Served
 pub mod Failed
 pub mod WordExamples
@@ -35,6 +37,8 @@ pub mod ScreenExamples
 pub mod PartExamples
 pub mod FailedExamples
 pub mod OnWordExamples
+pub mod PlantStartExamples
+pub mod PlantScreenExamples
 pub mod Simulated
 pub mod SimulatedExamples
 pub mod RunTexts

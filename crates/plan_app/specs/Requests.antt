@@ -12,7 +12,7 @@ use Rattle.plan_app.specs.declared.request.Request.{Request}
 use Rattle.plan_app.specs.declared.request.Request.TheVariants.{Check, Replay, Explore, Page, Header, Module, Draw}
 use Rattle.plan_app.specs.declared.request.Request.TheVariants.{Run, RunPage}
 use Rattle.plan_app.specs.declared.request.Wanted.{Wanted}
-use Rattle.plan_app.specs.declared.request.Wanted.TheVariants.{Help, Version, Words, Plan}
+use Rattle.plan_app.specs.declared.request.Wanted.TheVariants.{Help, Version, Words, ExploreWords, Plan}
 
 -- the words of this program alone
 abbrev pub own_words : List (List ℕ)
@@ -73,12 +73,7 @@ abbrev pub request_of_page : List ℕ → List ℕ → List ℕ → List ℕ →
 request_of_page word flag number last =
     if bytes_eq last (codes "--page") then page_of_number word flag number else None
 
--- what a word asks of a plan, with at least two words after it, or with any
-abbrev pub request_with : List ℕ → List ℕ → List ℕ → List (List ℕ) → Option Request
-request_with word flag number [] = request_of_number word flag number
-request_with word flag number (last ∷ []) = request_of_page word flag number last
-request_with word flag number _ = None
-
+-- what a word asks of a plan, with any words after it
 abbrev pub request_after : List ℕ → List (List ℕ) → Option Request
 request_after word [] = request_by word
 request_after word (flag ∷ []) = request_for word flag
@@ -94,18 +89,38 @@ of_document request = option_map (Plan None) request
 abbrev pub wanted_on : List ℕ → Option Request → Option Wanted
 wanted_on number request = option_and_then (λ n. option_map (Plan (Some n)) request) (number_in number)
 
+-- or, of an exploration, of all words together: `--words` comes last
+abbrev pub wanted_for : List ℕ → List ℕ → Option Wanted
+wanted_for word flag =
+    if bytes_eq word (codes "explore") && bytes_eq flag (codes "--words") then Some (ExploreWords usual_most)
+    else of_document (request_for word flag)
+
+abbrev pub words_of_number : List ℕ → List ℕ → List ℕ → Option Wanted
+words_of_number word flag number =
+    if bytes_eq word (codes "explore") then option_map ExploreWords (most_after flag number) else None
+
+abbrev pub wanted_by_last : List ℕ → List ℕ → List ℕ → List ℕ → Option Wanted
+wanted_by_last word flag number last =
+    if bytes_eq last (codes "--words") then words_of_number word flag number
+    else of_document (request_of_page word flag number last)
+
+abbrev pub wanted_by_number : List ℕ → List ℕ → List ℕ → List (List ℕ) → Option Wanted
+wanted_by_number word flag number [] = of_document (request_of_number word flag number)
+wanted_by_number word flag number (last ∷ []) = wanted_by_last word flag number last
+wanted_by_number word flag number _ = None
+
 -- `--word K` comes directly after the word
 abbrev pub wanted_with : List ℕ → List ℕ → List ℕ → List (List ℕ) → Option Wanted
 wanted_with word flag number more =
     if bytes_eq flag (codes "--word") then wanted_on number (request_after word more)
-    else of_document (request_with word flag number more)
+    else wanted_by_number word flag number more
 
 abbrev pub wanted_alone : List ℕ → Option Wanted
 wanted_alone word = if bytes_eq word (codes "words") then Some Words else of_document (request_by word)
 
 abbrev pub wanted_after : List ℕ → List (List ℕ) → Option Wanted
 wanted_after word [] = wanted_alone word
-wanted_after word (flag ∷ []) = of_document (request_for word flag)
+wanted_after word (flag ∷ []) = wanted_for word flag
 wanted_after word (flag ∷ number ∷ more) = wanted_with word flag number more
 
 -- the first is the program's name

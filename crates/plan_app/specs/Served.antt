@@ -17,6 +17,8 @@ use Rattle.plan_app.specs.Asked.{IsAsked}
 use Rattle.plan_app.specs.Input.{document_in, script_in}
 use Rattle.plan_app.specs.Hazards.{TellsReport, start_if}
 use Rattle.plan_app.specs.OnWords.{TellsWords}
+use Rattle.plan_app.specs.PlantScreens as plant_screens
+use Rattle.plan_app.specs.PlantStarts.{plant_start}
 use Rattle.plan_app.specs.RunPages.{ShowsRun}
 use Rattle.plan_app.specs.Runs.{TellsRun}
 use Rattle.plan_app.specs.Screens.{TellsFree}
@@ -140,6 +142,24 @@ WritesPlant document old new =
 abbrev pub WritesWordsIn : List ℕ → Option (List ℕ) → Option (List ℕ) → Type 0
 WritesWordsIn bytes old new = WritesPlant (document_in bytes) old new
 
+-- that its programs never stand still, of all words together, from these openings, was written, and nothing else
+abbrev pub WritesPlantFree : ProgrammedPlant → List State → Option (List ℕ) → Option (List ℕ) → Type 0
+WritesPlantFree plant openings old new =
+    (text : List ℕ) × plant_screens.TellsFree plant.plans.items plant.programs.programs openings text
+    × Appends old new text
+
+-- the openings are the script's
+abbrev pub ExploresPlant : ProgrammedPlant → List ℕ → Option (List ℕ) → Option (List ℕ) → Type 0
+ExploresPlant plant script old new =
+    (openings : List State) × (plant_start plant script ≡ Ok openings) × WritesPlantFree plant openings old new
+
+abbrev pub ExploresPlantIn : List ℕ → List ℕ → Option (List ℕ) → Option (List ℕ) → Type 0
+ExploresPlantIn document script old new =
+    (plant : ProgrammedPlant) × IsPlantIn document plant × ExploresPlant plant script old new
+
+abbrev pub ExploresWordsIn : List ℕ → Option (List ℕ) → Option (List ℕ) → Type 0
+ExploresWordsIn bytes old new = ExploresPlantIn (document_in bytes) (script_in bytes) old new
+
 -- ---- of the document in the input
 
 abbrev pub AnswersInput : Option ℕ → Option (List ℕ) → Option (List ℕ) → Option (List ℕ) → Type 0
@@ -171,3 +191,6 @@ ShowsInputRun word turns input old new = IfSome input (λ bytes. WritesRunPageIn
 
 abbrev pub WritesWords : Option (List ℕ) → Option (List ℕ) → Option (List ℕ) → Type 0
 WritesWords input old new = IfSome input (λ bytes. WritesWordsIn bytes old new)
+
+abbrev pub ExploresWords : Option (List ℕ) → Option (List ℕ) → Option (List ℕ) → Type 0
+ExploresWords input old new = IfSome input (λ bytes. ExploresWordsIn bytes old new)

@@ -27,7 +27,7 @@ use std::alloc::{AllocError, Global};
 /// What `plan explore` prints.
 #[derive(Drop)]
 pub enum Exploration {
-    /// Nothing stands still, and nobody starves, nor do plates rest.
+    /// Nothing stands still, and, as far as that is told, nobody starves, nor do plates rest.
     Well(String),
     /// Some machines stand still, or one may starve, or plates may rest.
     Unwell(String),

@@ -235,7 +235,7 @@ fn push_standstill(
 }
 
 /// Adds how many turns lead to a standstill.
-fn push_count(text: &mut String, count: usize) -> Result<(), AllocError>
+pub(crate) fn push_count(text: &mut String, count: usize) -> Result<(), AllocError>
     ensures { OnOk result (string_bytes text.new ≡ string_bytes text.old ++ spec.count_line count) }
 {
     text.push_str(STANDSTILL)?;
@@ -256,7 +256,11 @@ fn push_waiting(text: &mut String, named: &NamedPlan, waiting: &[Event]) -> Resu
 }
 
 /// Adds what a machine asks, and why it waits.
-fn push_wait(text: &mut String, named: &NamedPlan, event: &Event) -> Result<(), AllocError>
+pub(crate) fn push_wait(
+    text: &mut String,
+    named: &NamedPlan,
+    event: &Event,
+) -> Result<(), AllocError>
     ensures { OnOk result (string_bytes text.new
         ≡ string_bytes text.old ++ spec.wait_line named.now event.now) }
 {

@@ -510,7 +510,7 @@ fn push_asked(text: &mut String, named: &NamedPlan, asked: Option<Event>) -> Res
 }
 
 /// Adds a line of an order of turns, with what a machine asks, and the answer.
-fn push_event(
+pub(crate) fn push_event(
     text: &mut String,
     named: &NamedPlan,
     words: &str,

@@ -19,6 +19,8 @@ ghost use Rattle.plan_app.specs.PageExamples.{DataIsTold, LinesAreShown, OrdersA
 ghost use Rattle.plan_app.specs.PageLaws.{PagesTell};
 ghost use Rattle.plan_app.specs.PartExamples.{PartsAreTold};
 ghost use Rattle.plan_app.specs.PartLaws.{PartsSpeakOfAll};
+ghost use Rattle.plan_app.specs.PlantScreenExamples.{CrossingsAreTold, PlantScreensAreMeant};
+ghost use Rattle.plan_app.specs.PlantStartExamples.{StartsAreOfDigits, StartsOfThree};
 ghost use Rattle.plan_app.specs.ReportLaws.{ReportsTell};
 ghost use Rattle.plan_app.specs.RunExamples.{RunTextsAreTold};
 ghost use Rattle.plan_app.specs.RunPageExamples.{RunNotes};
@@ -219,6 +221,22 @@ pub fn word_lines_are_met()
 /// hazard are permitted both on each word.
 pub fn words_tell()
     ensures { WordsTell }
+{}
+
+/// Examples: starts of a plant on two words. And each word begins with the digits of its places, in any plant.
+pub fn plant_starts_are_met()
+    ensures examples { StartsOfThree }
+    ensures digits { StartsAreOfDigits }
+{}
+
+/// Examples: what is said of a standstill of two words together, line by line and whole.
+pub fn plant_standstills_are_told()
+    ensures { CrossingsAreTold }
+{}
+
+/// What is said of all words of a plant together is so: that no turns lead to a standstill, or that these do.
+pub fn plant_screens_are_meant()
+    ensures { PlantScreensAreMeant }
 {}
 
 /// Examples: what simulated sensors show, turn by turn.

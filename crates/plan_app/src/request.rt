@@ -53,6 +53,9 @@ pub enum Wanted {
     Version,
     /// Says what the words of a plant have, and which of them keeps the motors of each hazard apart.
     Words,
+    /// Explores the programs of a plant's machines on all words together: for standstills. At most this many situations
+    /// are explored.
+    ExploreWords(usize),
     /// Takes a plan.
     Plan {
         /// The word of the plant whose plan it is; `None` for the plan of the whole document.
@@ -95,7 +98,7 @@ fn wanted_after(word: &str, rest: &[&str]) -> Option<Wanted>
 {
     match rest {
         [] => wanted_alone(word),
-        [flag] => of_document(request_for(word, flag)),
+        [flag] => wanted_for(word, flag),
         [flag, number, more @ ..] => wanted_with(word, flag, number, more),
     }
 }
@@ -110,13 +113,54 @@ fn wanted_alone(word: &str) -> Option<Wanted>
     }
 }
 
+/// What it asks for with a flag after it.
+fn wanted_for(word: &str, flag: &str) -> Option<Wanted>
+    ensures { result ≡ requests.wanted_for word.now flag.now }
+{
+    match (word, flag) {
+        ("explore", "--words") => Some(Wanted::ExploreWords(USUAL_MOST)),
+        _ => of_document(request_for(word, flag)),
+    }
+}
+
 /// What it asks for with at least two words after it, of which the first may say that it is of one word of a plant.
 fn wanted_with(word: &str, flag: &str, number: &str, more: &[&str]) -> Option<Wanted>
     ensures { result ≡ requests.wanted_with word.now flag.now number.now (texts_of more.now) }
 {
     match flag {
         "--word" => wanted_on(number, request_after(word, more)),
-        _ => of_document(request_with(word, flag, number, more)),
+        _ => wanted_by_number(word, flag, number, more),
+    }
+}
+
+/// What it asks for with a number after a flag, and perhaps another flag after that.
+fn wanted_by_number(word: &str, flag: &str, number: &str, more: &[&str]) -> Option<Wanted>
+    ensures { result ≡ requests.wanted_by_number word.now flag.now number.now (texts_of more.now) }
+{
+    match more {
+        [] => of_document(request_of_number(word, flag, number)),
+        [last] => wanted_by_last(word, flag, number, last),
+        _ => None,
+    }
+}
+
+/// The same with another flag after that.
+fn wanted_by_last(word: &str, flag: &str, number: &str, last: &str) -> Option<Wanted>
+    ensures { result ≡ requests.wanted_by_last word.now flag.now number.now last.now }
+{
+    match last {
+        "--words" => words_of_number(word, flag, number),
+        _ => of_document(request_of_page(word, flag, number, last)),
+    }
+}
+
+/// What it asks for of all words, with a number after a flag.
+fn words_of_number(word: &str, flag: &str, number: &str) -> Option<Wanted>
+    ensures { result ≡ requests.words_of_number word.now flag.now number.now }
+{
+    match word {
+        "explore" => Some(Wanted::ExploreWords(most_after(flag, number)?)),
+        _ => None,
     }
 }
 
@@ -150,17 +194,6 @@ fn request_after(word: &str, rest: &[&str]) -> Option<Request>
         [flag] => request_for(word, flag),
         [flag, number] => request_of_number(word, flag, number),
         [flag, number, last] => request_of_page(word, flag, number, last),
-        _ => None,
-    }
-}
-
-/// The same with at least two words after it.
-fn request_with(word: &str, flag: &str, number: &str, more: &[&str]) -> Option<Request>
-    ensures { result ≡ requests.request_with word.now flag.now number.now (texts_of more.now) }
-{
-    match more {
-        [] => request_of_number(word, flag, number),
-        [last] => request_of_page(word, flag, number, last),
         _ => None,
     }
 }

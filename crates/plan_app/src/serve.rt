@@ -13,7 +13,8 @@ ghost use Rattle.plan_text.specs.HistoryLaws.{IsStartOf};
 ghost use Rattle.plan_header.specs.Printed.{header_of as header_text};
 ghost use Rattle.plan_header.specs.Modules.{module_text};
 ghost use Rattle.plan_app.specs.Asked.{no_word_text as no_word_words};
-ghost use Rattle.plan_app.specs.Failed.{Fails, FailsBy, FailsIn, FailsWords, WroteAnswers};
+ghost use Rattle.plan_app.specs.Failed.{Fails, FailsBy, FailsExploreWords, FailsIn, FailsWords};
+ghost use Rattle.plan_app.specs.Failed.{WroteAnswers};
 ghost use Rattle.plan_app.specs.Failed.{WroteDocumentFault, WroteNoPlan};
 ghost use Rattle.plan_app.specs.Failed.{WroteEnd, WroteEndFrom, WroteFault, WroteHeader};
 ghost use Rattle.plan_app.specs.Failed.{WroteRun, WroteRunFrom};
@@ -21,7 +22,7 @@ ghost use Rattle.plan_app.specs.Failed.{WroteModule, WrotePicture, WroteReport, 
 ghost use Rattle.plan_app.specs.Failed.{WroteUnread};
 ghost use Rattle.plan_app.specs.Input.{byte_limit, max_bytes_read};
 ghost use Rattle.plan_app.specs.Served.{AnswersIn, AnswersInput, AnswersScript, Draws, Explores};
-ghost use Rattle.plan_app.specs.Served.{ExploresIn, ExploresInput, FindsFree, FindsFreeIn};
+ghost use Rattle.plan_app.specs.Served.{ExploresIn, ExploresInput, ExploresWords, FindsFree, FindsFreeIn};
 ghost use Rattle.plan_app.specs.Served.{FindsInputFree, Reports, ReportsIn, WritesExploration};
 ghost use Rattle.plan_app.specs.Served.{WritesHeader, WritesHeaderIn, WritesModule};
 ghost use Rattle.plan_app.specs.Served.{WritesModuleIn, WritesPicture, WritesPictureIn};
@@ -37,6 +38,7 @@ use crate::request;
 use crate::request::{MAX_TURNS, Request, USUAL_MOST, Wanted};
 use crate::run::{RunFault, Told, run_and_tell};
 use crate::serve_page::{page_script, run_page_script};
+use crate::serve_plant::explore_words_input;
 use crate::serve_words::words_input;
 use plan_document::{PlanTextFault, ProgrammedPlan};
 use plan_header::{header_of, module_of};
@@ -63,7 +65,10 @@ Reads a plan of a plant, in TOML, from standard input.
   plan explore    says whether some order of turns of its programs leads from the start
                   after it, a line start,.., to a standstill; and else whether each machine
                   goes on for ever, or in which order it starves; with --page a page on which
-                  such a standstill, or the first such order, is played, to open in a browser
+                  such a standstill, or the first such order, is played, to open in a browser;
+                  with --words whether some order leads to a standstill of a plant on all its
+                  words together, after a start with a digit for each of its places (who starves
+                  is said of one word, with --word)
   plan header     prints its names and the layout of its word for C; with --python, a module
                   for Python
   plan draw       draws it, as SVG: machines, their places and motors, zones, and hazards
@@ -76,11 +81,11 @@ Reads a plan of a plant, in TOML, from standard input.
                   word keeps the motors of each hazard apart, or that none does
   plan --version  prints the version
 With --word K directly after another word than words, the plan is that of word K, from 0. With
---memory N after check or explore, and before --page, 2,000 situations are explored for each of
-N megabytes, 1 to 1000000; else 1,000,000. More are fault large. A script may follow the plan in
-each case. Exit status: 0 on success, and for help; 2 for bad arguments; otherwise 1: a fault,
-motors that aren't kept apart, a standstill, an order in which a machine starves or plates rest,
-a machine stopped in a run, or a failed write.
+--memory N after check or explore, and before --page or --words, 2,000 situations are explored
+for each of N megabytes, 1 to 1000000; else 1,000,000. More are fault large. A script may follow
+the plan in each case. Exit status: 0 on success, and for help; 2 for bad arguments; otherwise
+1: a fault, motors that aren't kept apart, a standstill, an order in which a machine starves or
+plates rest, a machine stopped in a run, or a failed write.
 
 Example:
   cat examples/plans/press.toml examples/plans/press.csv | plan replay
@@ -677,6 +682,17 @@ where
     ensures words_fails { wanted_of (texts_of words.now) ≡ Some Wanted.Words → result ≡ 1 →
         FailsWords (R.remaining reader.old) (W.contents writer.old) (W.contents writer.new) }
 
+    // With `explore --words`: status 0 says that no order of turns of the machines' programs, on all words of the plant
+    // together, leads from the script's start to a standstill, and that this was written; status 1 that a standstill
+    // was written, and the fewest turns that lead to it, or one of these; or the line of a fault.
+    ensures explore_words { (most : ℕ) →
+        wanted_of (texts_of words.now) ≡ Some (Wanted.ExploreWords most) → result ≡ 0 →
+        ExploresWords (R.remaining reader.old) (W.contents writer.old) (W.contents writer.new) }
+    ensures explore_words_fails { (most : ℕ) →
+        wanted_of (texts_of words.now) ≡ Some (Wanted.ExploreWords most) → result ≡ 1 →
+        FailsExploreWords most (R.remaining reader.old)
+        (W.contents writer.old) (W.contents writer.new) }
+
     // Status 2 comes exactly for other words, of which a line was printed, or a prefix of it.
     ensures refused { result ≡ 2 → wanted_of (texts_of words.now) ≡ None }
     ensures other { wanted_of (texts_of words.now) ≡ None → result ≡ 2 }
@@ -690,6 +706,9 @@ where
         Some(Wanted::Help) => print(writer, HELP.as_bytes()).status(),
         Some(Wanted::Version) => print_version(writer, "plan").status(),
         Some(Wanted::Words) => words_input(alloc, reader, writer).status(),
+        Some(Wanted::ExploreWords(most)) => {
+            explore_words_input(alloc, most, reader, writer).status()
+        }
         Some(Wanted::Plan { word, request }) => {
             serve_input(rt, alloc, word, request, reader, writer).status()
         }

@@ -56,4 +56,6 @@ mod words;
 #[cfg(test)]
 mod words_of_plants;
 #[cfg(test)]
+mod words_together;
+#[cfg(test)]
 mod workers;

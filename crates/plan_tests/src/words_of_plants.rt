@@ -84,7 +84,7 @@ motors = [\"ram#\", \"arm#\"]
 ";
 
 /// A document with this many presses.
-fn presses(alloc: Global, count: u32) -> Result<String, AllocError> {
+pub fn presses(alloc: Global, count: u32) -> Result<String, AllocError> {
     let mut text = String::new(alloc);
     for press in 1..=count {
         text.push_str(part(PRESS, "#", 0))?;
@@ -103,7 +103,7 @@ const ROWS: &str = "\
 =>
 start,100100
 =>
-fault plan line [..]: zone 11: name: there are more than 10
+fault plan line [..]: zone 11: name: there are more than 10; plan words reads up to 40
 --
 0: ./plan words
 =>
@@ -215,6 +215,13 @@ arm2 crushed: NOT kept apart: start 000 permits both
 start,100
 =>
 # 6 machines took 3 turns each[..]press2,claim,interior2[..]
+--
+0: ./plan run --word 1 --turns 3 --page
+1: ./plan explore --word 1 --page
+=>
+start,000
+=>
+<![..]loader2[..]interior2[..]
 ";
 
 /// One press is on one word, whose plan is the document's.

@@ -1,0 +1,222 @@
+//! What the program answers of a plant on all its words together.
+
+use super::doubles::are_answered;
+use super::words_of_plants::presses;
+use std::alloc::{AllocError, Global};
+
+/// Two cranes. Each takes two bays, `a` and `k`, which are on two words, and leaves a bay that it hosts open.
+const CRANES: &str = "\
+[[machine]]
+name = \"north\"
+places = [\"north_hook\"]
+poses = [{ name = \"above_a\", gives = { a = \"openin\" } }]
+program = [\"claim a\", \"pose above_a\", \"claim k\", \"release k\", \"release a\"]
+
+[[machine]]
+name = \"south\"
+places = [\"south_hook\"]
+poses = [{ name = \"above_k\", gives = { k = \"openin\" } }]
+";
+
+/// Bay `k` first, and then `a`, as `north` doesn't.
+const CROSSWISE: &str =
+    "program = [\"claim k\", \"pose above_k\", \"claim a\", \"release a\", \"release k\"]\n";
+
+/// Opens bay `k` alone, and then takes the bays as `north` does.
+const IN_ORDER: &str = "\
+program = [
+  \"claim k\", \"pose above_k\", \"release k\", \"claim a\", \"claim k\", \"release k\", \"release a\",
+]
+";
+
+/// The eleven bays: `a` to `j` fill a word.
+const BAYS: &str = "abcdefghijk";
+
+/// A hall of eleven bays under these cranes, of which `south` has this program.
+fn hall(alloc: Global, program: &str) -> Result<String, AllocError> {
+    let mut text = String::from_str(alloc, CRANES)?;
+    text.push_str(program)?;
+    for bay in BAYS.chars() {
+        let (host, guest) = if bay == 'k' {
+            ("south", "north")
+        } else {
+            ("north", "south")
+        };
+        write!(
+            text,
+            "[[zone]]\nname = \"{bay}\"\nhost = \"{host}\"\nguest = \"{guest}\"\n"
+        )?;
+    }
+    Ok(text)
+}
+
+/// Each crane has a bay of one word, and waits for that of the other; no word shows that by itself.
+const STANDING: &str = "\
+1: ./plan explore --words
+1: ./plan explore --memory 1 --words
+=>
+start,00
+=>
+a standstill after 4 turns, and no fewer
+north waits: claim k: held south
+south waits: claim a: held north
+turns:
+  north asks: claim a: done
+  north asks: pose above_a: done
+  south asks: claim k: done
+  south asks: pose above_k: done
+--
+1: ./plan explore --word 0
+=>
+start,00
+=>
+no standstill in any order of turns before the last stamp: [..]
+--
+1: ./plan explore --word 1
+=>
+start,
+=>
+no standstill in any order of turns before the last stamp: [..]
+--
+1: ./plan explore --words
+=>
+start,0
+=>
+fault badstart
+--
+1: ./plan explore --words
+=>
+start,000
+=>
+fault badstart
+--
+1: ./plan explore --words
+=>
+start,02
+=>
+fault badstart
+--
+1: ./plan explore --words
+=>
+start,00,late
+=>
+fault badstart
+--
+1: ./plan explore --words
+=>
+=>
+fault nostart
+--
+1: ./plan explore --words
+=>
+[[zone]]
+start,00
+=>
+fault plan line [..]: zone 12: [..]
+--
+2: ./plan explore --words --words
+2: ./plan explore --words --page
+2: ./plan explore --word 0 --words
+2: ./plan explore --memory 0 --words
+2: ./plan check --words
+2: ./plan --words
+=>
+start,00
+=>
+error: the only argument is [..]
+";
+
+/// In one order there is none: 31 situations, counted by hand.
+const GOING: &str = "\
+0: ./plan explore --words
+0: ./plan explore --memory 1 --words
+=>
+start,00
+press,claim,a
+=>
+no standstill in any order of turns before the last stamp: 31 situations
+";
+
+/// Of two presses, which share nothing, each of 15 situations goes with each: a digit for each place, three for each
+/// word. Without plates both stand still.
+const OF_TWO: &str = "\
+0: ./plan explore --words
+=>
+start,100100
+=>
+no standstill in any order of turns before the last stamp: 225 situations
+--
+1: ./plan explore --words
+=>
+start,100
+=>
+fault badstart
+--
+0: ./plan explore --words
+=>
+start,100000,12
+=>
+no standstill in any order of turns before the last stamp: [..]
+--
+0: ./plan explore --words
+=>
+start,000100
+=>
+no standstill in any order of turns before the last stamp: [..]
+--
+1: ./plan explore --words
+=>
+start,000000
+=>
+a standstill after [..] turns, and no fewer
+loader1 waits: give interior1: [..]
+press1 waits: take interior1: [..]
+loader2 waits: give interior2: [..]
+press2 waits: take interior2: [..]
+turns:
+[..]
+";
+
+/// Three have 3,375, which are more than one megabyte holds.
+const OF_THREE: &str = "\
+1: ./plan explore --memory 1 --words
+=>
+start,100100100
+=>
+fault large: more than 2000 situations; nothing stands still in fewer than [..] turns
+--
+0: ./plan explore --memory 2 --words
+=>
+start,100100100
+=>
+no standstill in any order of turns before the last stamp: 3375 situations
+";
+
+/// One press is on one word, and all words together are that one.
+const OF_ONE: &str = "\
+0: ./plan explore --words
+=>
+start,100
+=>
+no standstill in any order of turns before the last stamp: 15 situations
+";
+
+#[test]
+fn cranes_wait_for_each_other(rt: HostRuntime) -> Result<(), AllocError> {
+    let crosswise = hall(rt.alloc(), CROSSWISE)?;
+    are_answered(&rt, rt.alloc(), crosswise.as_str(), STANDING);
+    let in_order = hall(rt.alloc(), IN_ORDER)?;
+    are_answered(&rt, rt.alloc(), in_order.as_str(), GOING);
+    Ok(())
+}
+
+#[test]
+fn presses_go_on_together(rt: HostRuntime) -> Result<(), AllocError> {
+    let two = presses(rt.alloc(), 2)?;
+    are_answered(&rt, rt.alloc(), two.as_str(), OF_TWO);
+    let three = presses(rt.alloc(), 3)?;
+    are_answered(&rt, rt.alloc(), three.as_str(), OF_THREE);
+    let one = presses(rt.alloc(), 1)?;
+    are_answered(&rt, rt.alloc(), one.as_str(), OF_ONE);
+    Ok(())
+}
