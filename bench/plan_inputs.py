@@ -118,7 +118,7 @@ def plan(r, small=False):
     if r.randrange(5) == 0:
         return crowd(r)
     machines, names, places, zones = [], [], [], []
-    count = r.choice((1, 2, 2, 3, 3)) if small else r.choice((1, 2, 3, 3, 3, 4, 4, 6, 15))
+    count = r.choice((1, 2, 2, 3, 3)) if small else r.choice((1, 2, 3, 3, 3, 4, 4, 6, 15, 30))
     for _ in range(count):
         row = {"name": name(r, NAMES, names), "places": [], "poses": [], "program": []}
         row["places"] = [name(r, PLACES, places) for _ in range(r.choice((0, 1, 1, 2))) if len(places) < (4 if small else 13)]
@@ -378,7 +378,7 @@ def spoil_for_c(r, document, machine, zone, pose):
 def spoil_many(r, document, machine, zone, pose):
     kind = r.randrange(4)
     if kind == 0:
-        items(document, "machine").extend({"name": f"extra{it}", "places": []} for it in range(r.choice((12, 15, 16))))
+        items(document, "machine").extend({"name": f"extra{it}", "places": []} for it in range(r.choice((12, 27, 30, 31))))
     elif kind == 1:
         items(machine, "places").extend(f"extra{it}" for it in range(r.choice((5, 14, 16, 20, 33))))
     elif kind == 2 and zone:

@@ -36,7 +36,7 @@ extern "C" {
 #define BAGUNJOKI_PLAN_VERSION "1.0.0"
 
 /* The watch's number as a machine: it inquires, stops and resumes. */
-#define BAGUNJOKI_PLAN_WATCH 15
+#define BAGUNJOKI_PLAN_WATCH 30
 
 /* Where a reply names no machine, no zone or no posture. */
 #define BAGUNJOKI_PLAN_NOTHING 255
@@ -148,7 +148,7 @@ typedef struct bagunjoki_plan_turned {
 /* A plan that was opened, compiled. Its size never changes; what is in it is the library's alone. */
 typedef struct bagunjoki_plan_opened {
     bool is_plan; /* whether the bytes were a plan's */
-    uint64_t kept[3495];
+    uint64_t kept[4102];
 } bagunjoki_plan_opened;
 
 /* The proved functions. They read nothing but their arguments, keep nothing, and take no memory and no lock. Any thread

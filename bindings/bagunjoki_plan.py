@@ -26,7 +26,7 @@ from bagunjoki import LAST_STAMP, Answer, Posture, RawReply, Word, name_of, word
 __version__ = "1.0.0"
 
 # Who stops and resumes, and where a reply names no machine, zone or posture.
-WATCH, NOTHING = 15, 255
+WATCH, NOTHING = 30, 255
 # Instead of a word. No state of any plan has it.
 NO_WORD = 0x8000000000000002
 # Bits of the stamp.
@@ -55,7 +55,7 @@ WITHOUT_OBJECT = (Verb.STOP, Verb.RESUME)
 class RawOpened(ctypes.Structure):
     """A plan that was opened, as C has it."""
 
-    _fields_ = [("is_plan", ctypes.c_bool), ("kept", WORD * 3495)]
+    _fields_ = [("is_plan", ctypes.c_bool), ("kept", WORD * 4102)]
 
 
 OPENED = ctypes.POINTER(RawOpened)

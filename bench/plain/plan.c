@@ -11,7 +11,7 @@
 #endif
 
 enum { CLOSED, MOVING, OPEN_IN, OPEN_OUT };
-enum { CLAIM = 1, GIVE, YIELD, TAKE, RELEASE, SET_POSE, INQUIRE = 8, STOP, RESUME, ADVANCE, WATCH = 15, NOBODY = 255 };
+enum { CLAIM = 1, GIVE, YIELD, TAKE, RELEASE, SET_POSE, INQUIRE = 8, STOP, RESUME, ADVANCE, WATCH = 30, NOBODY = 255 };
 enum { HEAD = 20, MOST = 884, ZONES = 10, POSES = 64, PLACES = 16 };
 
 /* A zone: its parties; its lowest bit, how many it has, and the codes that they may have; the lowest bit of its

@@ -14,7 +14,7 @@
 #define PLAN_MACHINE_LATHE 2
 #define PLAN_MACHINE_UNLOADER 3
 #define PLAN_MACHINES 4
-#define PLAN_WATCH 15
+#define PLAN_WATCH 30
 
 /* Zones. */
 #define PLAN_ZONE_PICKUP 0

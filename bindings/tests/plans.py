@@ -106,7 +106,7 @@ ENDS_IN_RUST = """16: 0 11 1: 0
 19: 0 11 0: 8
 19: 1 11 0: 1
 19: 1 11 2: 1
-20: 15 9 0: 0
+20: 30 9 0: 0
 21: 0 11 1: 14
 0
 1
@@ -120,7 +120,7 @@ cell = Plant(("loader", "press"), ("interior",), ("hand", "tray", "die"), poses,
 calls = [("press", "claim", "interior"), (1, "pose", "travelling"), ("loader", "pose", 0), ("loader", "pose", "load")]
 calls += [("loader", "advance", "tray"), (0, "advance", 1), ("loader", Verb.ADVANCE, "hand"), ("loader", 11, 0)]
 calls += [("loader", cell_verbs.ADVANCE, "hand"), ("press", "advance", "die")]
-calls += [("watch", "stop"), (15, "inquire", 0), ("loader", "advance", "tray")]
+calls += [("watch", "stop"), (30, "inquire", 0), ("loader", "advance", "tray")]
 for call in calls:
     reply = cell.ask(*call)
     print(reply.order, cell.record(*call), reply)

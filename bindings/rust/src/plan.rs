@@ -15,7 +15,7 @@ use crate::{Reply, Rules, Shared};
 use std::sync::atomic::AtomicU64;
 
 /// The watch's number as a machine: it inquires, stops and resumes.
-pub const WATCH: u8 = 15;
+pub const WATCH: u8 = 30;
 
 /// Where a reply names no machine, no zone or no posture.
 pub const NOTHING: u8 = 255;
@@ -45,7 +45,7 @@ pub enum Verb {
 #[derive(Clone)]
 struct Opened {
     is_plan: bool,
-    kept: [u64; 3495],
+    kept: [u64; 4102],
 }
 
 unsafe extern "C" {

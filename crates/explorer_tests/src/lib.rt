@@ -11,4 +11,6 @@ mod plans;
 #[cfg(test)]
 mod plant_liveness;
 #[cfg(test)]
+mod plant_turns;
+#[cfg(test)]
 mod plants;

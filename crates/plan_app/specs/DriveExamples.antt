@@ -63,7 +63,7 @@ pub record RunsAreTold : Type 0 where
 abbrev pub RightDrivesArePermitted : Type 0
 RightDrivesArePermitted =
     (most : ℕ) (plan : ProgrammedPlan) (start : Option State) (text : Text) → TellsReport most plan start true text
-    → AreMotorsOf plan.named.plan plan.motors.motors.items plan.motors.hazards.items → length plan.steps.items ≤ 15
+    → AreMotorsOf plan.named.plan plan.motors.motors.items plan.motors.hazards.items → length plan.steps.items ≤ 30
     → (m : ℕ) (program : Vec Step) → slice_get plan.steps.items m ≡ Some program
     → IsDriven (motor_plan plan.named.plan plan.motors.motors.items plan.motors.hazards.items) m
     (map line_of program.items)

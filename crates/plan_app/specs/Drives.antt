@@ -47,7 +47,7 @@ abbrev pub AreDrives : ProgrammedPlan → List (Option Undriven) → Type 0
 AreDrives plan drives =
     let motors = plan.motors.motors.items in
     let hazards = plan.motors.hazards.items in
-    AreMotorsOf plan.named.plan motors hazards → length plan.steps.items ≤ 15
+    AreMotorsOf plan.named.plan motors hazards → length plan.steps.items ≤ 30
     → AllZip (IsDriveOf (motor_plan plan.named.plan motors hazards)) (enumerate_from 0 plan.steps.items) drives
 
 -- ---- what is said

@@ -58,4 +58,4 @@ pub record RunTextsAreTold : Type 0 where
   pub all_own : are_own floors session ≡ true
   pub foreign : are_own floors (event 0 (call.Claim 1) Done ∷ event 1 (call.SetPose 0) Done ∷ []) ≡ false
   pub stranger : are_own floors (event 3 (call.Claim 1) Done ∷ []) ≡ false
-  pub of_watch : are_own floors (event 15 call.Stop Done ∷ []) ≡ true
+  pub of_watch : are_own floors (event 30 call.Stop Done ∷ []) ≡ true

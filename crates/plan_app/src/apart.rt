@@ -63,7 +63,7 @@ pub fn exploration_of(
 
 /// The number of a machine's group.
 fn group_number(groups: &Groups, machine: u8) -> u8
-    requires { machine < 15 }
+    requires { machine < 30 }
     ensures { result ≡ group_in groups.now machine }
 {
     groups[usize::from(machine)]
@@ -71,8 +71,8 @@ fn group_number(groups: &Groups, machine: u8) -> u8
 
 /// Whether a machine is of the group of another one.
 fn is_of_group(groups: &Groups, first: u8, machine: u8) -> bool
-    requires first { first < 15 }
-    requires machine { machine < 15 }
+    requires first { first < 30 }
+    requires machine { machine < 30 }
     ensures { result ≡ spec.group_of groups.now first machine }
 {
     group_number(groups, machine) == group_number(groups, first)
@@ -80,7 +80,7 @@ fn is_of_group(groups: &Groups, first: u8, machine: u8) -> bool
 
 /// Whether a machine is the first of its group.
 fn is_first(groups: &Groups, machine: u8) -> bool
-    requires { machine < 15 }
+    requires { machine < 30 }
     ensures { result ≡ spec.is_first groups.now machine }
 {
     !any_before(groups, machine)
@@ -89,7 +89,7 @@ fn is_first(groups: &Groups, machine: u8) -> bool
 /// Whether a machine before this one is of its group.
 #[tactic(auto, using(plan_types::proofs::lemmas::Below::any_below_more))]
 fn any_before(groups: &Groups, machine: u8) -> bool
-    requires { machine < 15 }
+    requires { machine < 30 }
     ensures { result ≡ any_below (spec.group_of groups.now machine) machine }
 {
     let mut any = false;
@@ -108,8 +108,8 @@ fn has_program(programs: &Programs, machine: u8) -> bool
 
 /// Whether two machines have programs, and are of different groups.
 fn are_apart(groups: &Groups, programs: &Programs, one: u8, other: u8) -> bool
-    requires one { one < 15 }
-    requires other { other < 15 }
+    requires one { one < 30 }
+    requires other { other < 30 }
     ensures { result ≡ spec.are_apart groups.now programs.now one other }
 {
     has_program(programs, one) && has_program(programs, other) && !is_of_group(groups, one, other)
@@ -118,7 +118,7 @@ fn are_apart(groups: &Groups, programs: &Programs, one: u8, other: u8) -> bool
 /// Whether a machine has a program, and one of another group has one.
 #[tactic(auto, using(plan_types::proofs::lemmas::Below::any_below_more))]
 fn is_apart(groups: &Groups, programs: &Programs, machine: u8) -> bool
-    requires { machine < 15 }
+    requires { machine < 30 }
     ensures { result ≡ spec.is_apart groups.now programs.now machine }
 {
     let mut any = false;
@@ -209,7 +209,7 @@ fn large_part(
     most: usize,
     turns: usize,
 ) -> Result<Exploration, AllocError>
-    requires { first < 15 }
+    requires { first < 30 }
     ensures { IfOk result (spec.IsLargePart most plan.now.named.now groups.now first
         (length plan.now.programs.now) turns) }
 {
@@ -231,7 +231,7 @@ fn push_part(
     first: u8,
     most: usize,
 ) -> Result<Result<bool, usize>, AllocError>
-    requires { first < 15 }
+    requires { first < 30 }
     ensures told { IfOk result (λ found. IfOk found (λ well. spec.AddsPart plan.now.named.now
         plan.now.programs.now opening.now groups.now first well
         (string_bytes text.old) (string_bytes text.new))) }
@@ -259,7 +259,7 @@ fn part_of(
     first: u8,
     most: usize,
 ) -> Result<Result<(bool, String), usize>, AllocError>
-    requires { first < 15 }
+    requires { first < 30 }
     ensures { IfOk result (spec.IsPart most plan.now.named.now
         (alone (spec.group_of groups.now first) plan.now.programs.now) opening.now
         (spec.group_of groups.now first)) }
@@ -282,7 +282,7 @@ fn told_alone(
     first: u8,
     most: usize,
 ) -> Result<Result<(bool, String), usize>, AllocError>
-    requires { first < 15 }
+    requires { first < 30 }
     ensures { IfOk result (spec.IsPart most plan.now.named.now plan.now.programs.now opening.now
         (spec.group_of groups.now first)) }
 {
@@ -304,7 +304,7 @@ fn told_by(screen: Screen) -> Result<(bool, String), usize>
 
 /// Adds the head of a part: the machines of a group, by their numbers.
 fn push_head(text: &mut String, plan: &Acting, groups: &Groups, first: u8) -> Result<(), AllocError>
-    requires { first < 15 }
+    requires { first < 30 }
     ensures { OnOk result (string_bytes text.new ≡ string_bytes text.old
         ++ spec.part_head plan.now.named.now groups.now first (length plan.now.programs.now)) }
 {
@@ -320,7 +320,7 @@ fn push_names(
     groups: &Groups,
     first: u8,
 ) -> Result<(), AllocError>
-    requires { first < 15 }
+    requires { first < 30 }
     ensures { OnOk result (string_bytes text.new ≡ string_bytes text.old
         ++ spec.names_text plan.now.named.now groups.now first (length plan.now.programs.now)) }
 {
@@ -335,7 +335,7 @@ fn push_others(
     groups: &Groups,
     first: u8,
 ) -> Result<(), AllocError>
-    requires { first < 15 }
+    requires { first < 30 }
     ensures { OnOk result (string_bytes text.new ≡ string_bytes text.old
         ++ flat_map (spec.next_name plan.now.named.now groups.now first)
         (range_with_len 0 (length plan.now.programs.now))) }
@@ -354,8 +354,8 @@ fn push_next(
     first: u8,
     machine: u8,
 ) -> Result<(), AllocError>
-    requires first { first < 15 }
-    requires machine { machine < 15 }
+    requires first { first < 30 }
+    requires machine { machine < 30 }
     ensures { OnOk result (string_bytes text.new ≡ string_bytes text.old
         ++ spec.next_name named.now groups.now first machine) }
 {
@@ -378,7 +378,7 @@ fn part_screen(
     first: u8,
     most: usize,
 ) -> Result<Screen, AllocError>
-    requires { first < 15 }
+    requires { first < 30 }
     ensures { IfOk result (spec.IsPartScreen most plan.now.named.now plan.now.programs.now
         opening.now (spec.group_of groups.now first)) }
 {
@@ -399,7 +399,7 @@ fn part_free(
     first: u8,
     situations: usize,
 ) -> Result<Screen, AllocError>
-    requires { first < 15 }
+    requires { first < 30 }
     ensures { IfOk result (screens.ShowsGoingBy plan.now.named.now plan.now.programs.now opening.now
         (spec.part_starves (spec.group_of groups.now first) plan.now.named.now
         plan.now.programs.now)
@@ -435,7 +435,7 @@ fn part_text(
     own: &Own,
     situations: usize,
 ) -> Result<Screen, AllocError>
-    requires { own.now.first < 15 }
+    requires { own.now.first < 30 }
     ensures { IfOk result (screens.ShowsFree situations
         (spec.part_text (spec.group_of own.now.groups.now own.now.first) plan.now.named.now
         plan.now.programs.now
@@ -456,7 +456,7 @@ fn part_text(
 
 /// Adds what is said of a group's machines, and of their plates.
 fn push_own(text: &mut String, plan: &Acting, opening: &State, own: &Own) -> Result<(), AllocError>
-    requires { own.now.first < 15 }
+    requires { own.now.first < 30 }
     ensures { OnOk result (string_bytes text.new ≡ string_bytes text.old
         ++ spec.part_text (spec.group_of own.now.groups.now own.now.first) plan.now.named.now
         plan.now.programs.now
@@ -474,7 +474,7 @@ fn push_own_machines(
     opening: &State,
     own: &Own,
 ) -> Result<(), AllocError>
-    requires { own.now.first < 15 }
+    requires { own.now.first < 30 }
     ensures { OnOk result (string_bytes text.new ≡ string_bytes text.old
         ++ flat_map (spec.own_text (spec.group_of own.now.groups.now own.now.first)
         plan.now.named.now
@@ -495,8 +495,8 @@ fn push_own_machine(
     own: &Own,
     machine: u8,
 ) -> Result<(), AllocError>
-    requires first { own.now.first < 15 }
-    requires machine { machine < 15 }
+    requires first { own.now.first < 30 }
+    requires machine { machine < 30 }
     ensures { OnOk result (string_bytes text.new ≡ string_bytes text.old
         ++ spec.own_text (spec.group_of own.now.groups.now own.now.first) plan.now.named.now
         plan.now.programs.now
@@ -528,7 +528,7 @@ fn push_own_plates(
 
 /// Whether a machine of a group may starve, or its plates may rest.
 fn part_starves(plan: &Acting, own: &Own) -> bool
-    requires { own.now.first < 15 }
+    requires { own.now.first < 30 }
     ensures { result ≡ spec.part_starves (spec.group_of own.now.groups.now own.now.first)
         plan.now.named.now
         plan.now.programs.now own.now.answers.now own.now.plates.now }
@@ -540,7 +540,7 @@ fn part_starves(plan: &Acting, own: &Own) -> bool
 /// Whether a machine of a group may starve.
 #[tactic(auto, using(plan_types::proofs::lemmas::Below::any_below_more))]
 fn any_starves(programs: &Programs, own: &Own) -> bool
-    requires { own.now.first < 15 }
+    requires { own.now.first < 30 }
     ensures { result ≡ any_below (spec.own_starves (spec.group_of own.now.groups.now own.now.first)
         own.now.answers.now) (length programs.now) }
 {
@@ -553,8 +553,8 @@ fn any_starves(programs: &Programs, own: &Own) -> bool
 
 /// Whether a machine is of a group, and may starve.
 fn own_starves(own: &Own, machine: u8) -> bool
-    requires first { own.now.first < 15 }
-    requires machine { machine < 15 }
+    requires first { own.now.first < 30 }
+    requires machine { machine < 30 }
     ensures { result ≡ spec.own_starves (spec.group_of own.now.groups.now own.now.first)
         own.now.answers.now machine }
 {

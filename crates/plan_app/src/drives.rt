@@ -57,7 +57,7 @@ fn drives_by(
     plan: &MotorPlan,
     programs: &[Vec<Step>],
 ) -> Result<Vec<Option<Undriven>>, AllocError>
-    requires { length programs.now ≤ 15 }
+    requires { length programs.now ≤ 30 }
     ensures { IfOk result (λ drives.
         AllZip (spec.IsDriveOf plan.now) (enumerate_from 0 programs.now) drives.items) }
 {

@@ -89,7 +89,7 @@ pub record RepliesAreMet (word : ℕ) : Type 0 where
   pub bare : (answer : ℕ) → bare_reply answer word ≡ reply word answer 255 255 255 false
   -- literal ones
   pub zone_of_five : reply_of (Shown (Some 5) true OpenOut) 71 ≡ reply 71 32 5 255 3 true
-  pub held_by_last : reply_of (Refused (Held 14)) 82 ≡ reply 82 2 14 255 255 false
+  pub held_by_last : reply_of (Refused (Held 29)) 82 ≡ reply 82 2 29 255 255 false
 
 -- nothing else is asked of a plan's bytes and of a state's word, and nothing less
 pub record GivenIsMet : Type 0 where

@@ -87,14 +87,14 @@ const ROWS: &[([u8; 3], [u8; 4], u32, [bool; 2])] = &[
     ([0, 1, 0], [2, 1, 255, 255], 1, [false, false]),
     ([1, 6, 3], [0, 255, 255, 255], 2, [true, false]),
     ([0, 1, 0], [2, 1, 255, 255], 2, [true, false]),
-    ([15, 9, 0], [0, 255, 255, 255], 3, [true, false]),
-    ([15, 10, 0], [0, 255, 255, 255], 4, [true, false]),
+    ([30, 9, 0], [0, 255, 255, 255], 3, [true, false]),
+    ([30, 10, 0], [0, 255, 255, 255], 4, [true, false]),
     ([1, 6, 0], [0, 255, 255, 255], 5, [false, false]),
     ([0, 1, 0], [2, 1, 255, 255], 5, [false, false]),
     ([1, 3, 0], [0, 255, 255, 255], 6, [false, true]),
     ([1, 6, 3], [5, 0, 255, 255], 6, [false, true]),
     ([0, 2, 0], [0, 255, 255, 255], 7, [false, false]),
-    ([15, 8, 0], [32, 1, 255, 2], 7, [false, false]),
+    ([30, 8, 0], [32, 1, 255, 2], 7, [false, false]),
     ([1, 5, 0], [6, 255, 0, 255], 7, [false, false]),
     ([1, 4, 0], [0, 255, 255, 255], 8, [false, false]),
     ([0, 2, 0], [5, 1, 255, 255], 8, [false, false]),
@@ -103,11 +103,11 @@ const ROWS: &[([u8; 3], [u8; 4], u32, [bool; 2])] = &[
     ([1, 6, 4], [12, 255, 255, 255], 8, [false, false]),
     ([1, 6, 1], [10, 255, 255, 255], 8, [false, false]),
     ([1, 7, 0], [64, 255, 255, 255], 8, [false, false]),
-    ([15, 9, 1], [64, 255, 255, 255], 8, [false, false]),
-    ([15, 9, 0], [0, 255, 255, 255], 9, [false, false]),
+    ([30, 9, 1], [64, 255, 255, 255], 8, [false, false]),
+    ([30, 9, 0], [0, 255, 255, 255], 9, [false, false]),
     ([0, 1, 0], [14, 255, 255, 255], 9, [false, false]),
-    ([15, 10, 0], [0, 255, 255, 255], 10, [false, false]),
-    ([15, 10, 0], [15, 255, 255, 255], 10, [false, false]),
+    ([30, 10, 0], [0, 255, 255, 255], 10, [false, false]),
+    ([30, 10, 0], [15, 255, 255, 255], 10, [false, false]),
     // a number past the plan's machines names a machine that may only inquire
     ([255, 8, 0], [32, 1, 255, 2], 10, [false, false]),
     ([255, 1, 0], [1, 255, 255, 255], 10, [false, false]),
@@ -136,7 +136,7 @@ fn is_row(plan: &Opened, word: &mut u64, row: &([u8; 3], [u8; 4], u32, [bool; 2]
 fn takes_stamps(plan: &Opened, word: u64) -> bool {
     let worn = restamped(plan, word, LAST_STAMP);
     stamp_of(plan, worn) == LAST_STAMP
-        && step(plan, worn, [15, 9, 0]).answer == 13
+        && step(plan, worn, [30, 9, 0]).answer == 13
         && restamped(plan, worn, 10) == word
         && restamped(plan, word, 1_048_576) == NO_WORD
 }
@@ -170,9 +170,9 @@ const ADVANCES: &[([u8; 3], u8, u32)] = &[
     ([1, 11, 0], 1, 2),
     ([1, 11, 2], 1, 2),
     ([0, 11, 3], 1, 2),
-    ([15, 9, 0], 0, 3),
+    ([30, 9, 0], 0, 3),
     ([0, 11, 1], 14, 3),
-    ([15, 10, 0], 0, 4),
+    ([30, 10, 0], 0, 4),
 ];
 
 #[test]
@@ -449,22 +449,23 @@ fn an_open_free_zone_is_a_state(rt: HostRuntime) {
     assert!(rt; word_after(&plan, 12, [1, 1, 0], 0) == 30);
 }
 
-// The most machines, and the most poses, none of which gives a posture.
+// The most machines, of which the last one is a guest, and the most poses, none of which gives a posture.
 fn largest_counts() -> [u8; 780] {
     let mut bytes = [0; 780];
-    bytes[0] = 15;
+    bytes[0] = 30;
     bytes[1] = 1;
     bytes[2] = 64;
-    bytes[5] = 1;
+    bytes[5] = 29;
     bytes
 }
 
 // An opened plan has as many bytes as in the header for C.
 #[test]
 fn the_largest_counts_are_a_plan(rt: HostRuntime) {
-    assert!(rt; size_of::<Opened>() == 27_968);
+    assert!(rt; size_of::<Opened>() == 32_824);
     let plan = opened(&largest_counts());
     assert!(rt; start_of(&plan, b"") == 0 && step(&plan, 0, [0, 6, 64]).answer == 12);
+    assert!(rt; step(&plan, 0, [29, 1, 0]).answer == 4 && step(&plan, 0, [28, 1, 0]).answer == 1);
     assert!(rt; stamp_of(&plan, word_after(&plan, 0, [0, 6, 63], 0)) == 1);
 }
 
@@ -480,16 +481,16 @@ const ALL_BITS: [u8; 95] = [
 // state's.
 const WORDS: &[(u64, [u8; 3], u8, u64)] = &[
     (0x7FFF_F500_0000_0000, [0, 1, 7], 0, 0x7FFF_FD08_0000_0000),
-    (0x7FFF_F500_0000_0000, [15, 9, 0], 0, 0xFFFF_FD00_0000_0000),
+    (0x7FFF_F500_0000_0000, [30, 9, 0], 0, 0xFFFF_FD00_0000_0000),
     (
         0xFFFF_FD00_0000_0000,
-        [15, 10, 0],
+        [30, 10, 0],
         13,
         0xFFFF_FD00_0000_0000,
     ),
-    (0xFFFF_FD00_0000_0000, [15, 8, 7], 32, 0xFFFF_FD00_0000_0000),
+    (0xFFFF_FD00_0000_0000, [30, 8, 7], 32, 0xFFFF_FD00_0000_0000),
     (0x8000_3D00_0000_0000, [0, 1, 7], 14, 0x8000_3D00_0000_0000),
-    (0x8000_3D00_0000_0000, [15, 10, 0], 0, 0x4500_0000_0000),
+    (0x8000_3D00_0000_0000, [30, 10, 0], 0, 0x4500_0000_0000),
     (0xFFFF_FD18_0000_0000, [0, 1, 7], 65, 0xFFFF_FD18_0000_0000),
 ];
 
@@ -521,7 +522,7 @@ fn words_of_all_bits_are_answered(rt: HostRuntime) {
         assert!(rt; is_word_row(&plan, row));
     }
     assert!(rt; has_stamps(&plan));
-    let shown = step(&plan, 0xFFFF_FD00_0000_0000, [15, 8, 7]);
+    let shown = step(&plan, 0xFFFF_FD00_0000_0000, [30, 8, 7]);
     assert!(rt; shown.owner == 255 && shown.posture == 0);
 }
 
@@ -548,7 +549,7 @@ fn all_bits_may_be_set(rt: HostRuntime) {
 // Of `bindings/tests/plan_walk.c`, which makes the same calls by the library.
 const WALKED: u64 = 0x8ebe0a45669b9ad7;
 
-const CALLERS: [u8; 4] = [0, 1, 2, 15];
+const CALLERS: [u8; 4] = [0, 1, 2, 30];
 
 fn mix(sum: u64, value: u64) -> u64 {
     (sum ^ value).wrapping_mul(1_099_511_628_211)

@@ -60,8 +60,8 @@ last_stamp_tells s last = record {
   take = λ law owner flag. (law cell_table s 3 2 Worn).take.1 ((((omega arith, inl refl), owner, flag), worn));
   release = λ law owns closed. (law cell_table s 3 2 Worn).release.1
       ((((omega arith, inl refl), owns.0, empty_space s owns.1), (λ moves. let e : Closed ≡ Moving = sym closed ∙ moves in cc), worn));
-  stop = λ law runs. (law cell_table s 15 2 Worn).stop.1 ((refl, runs, worn));
-  resume = λ law stopped. (law cell_table s 15 2 Worn).resume.1 ((refl, stopped, worn));
+  stop = λ law runs. (law cell_table s 30 2 Worn).stop.1 ((refl, runs, worn));
+  resume = λ law stopped. (law cell_table s 30 2 Worn).resume.1 ((refl, stopped, worn));
   pose = λ law runs owns. (law cell_table s 3 3 Worn).1
       ((((((omega arith, refl), λ _. runs), no_owner s owns.0), no_plate s owns.1), no_jump s, has_room s, worn));
   inquire = λ m law e. (law cell_table s m 2 Worn).inquire.0 e;

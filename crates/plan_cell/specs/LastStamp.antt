@@ -1,5 +1,5 @@
 -- What the laws of refusals say of the cell's plan, of any state with the last stamp: what would be done, were stamps
--- left, is refused as Worn. Machine 3 is the press, which hosts zone 2; 2 is the robot, its guest; 15 is the watch.
+-- left, is refused as Worn. Machine 3 is the press, which hosts zone 2; 2 is the robot, its guest; 30 is the watch.
 -- Pose 3 of the press moves zone 2.
 use Rattle.std.specs.Prelude.{◌≡◌, ◌≢◌, ℕ, true, false, Some, None}
 use Rattle.plan_types.specs.declared.posture.Posture.TheVariants.{Closed, OpenIn}
@@ -37,8 +37,8 @@ pub record LastStampTells (s : State) (last : s.stamp ≡ 1048575) : Type 0 wher
   pub take : CallsAreRefusedExactly → owner_of s 2 ≡ Some 3 → (zone_at s 2).flag ≡ true
       → answer s 3 (Take 2) ≡ Refused Worn
   pub release : CallsAreRefusedExactly → OwnsEmpty s 3 → posture_at s 2 ≡ Closed → answer s 3 (Release 2) ≡ Refused Worn
-  pub stop : CallsAreRefusedExactly → s.stopped ≡ false → answer s 15 Stop ≡ Refused Worn
-  pub resume : CallsAreRefusedExactly → s.stopped ≡ true → answer s 15 Resume ≡ Refused Worn
+  pub stop : CallsAreRefusedExactly → s.stopped ≡ false → answer s 30 Stop ≡ Refused Worn
+  pub resume : CallsAreRefusedExactly → s.stopped ≡ true → answer s 30 Resume ≡ Refused Worn
   pub pose : PosesAreRefusedExactly → s.stopped ≡ false → OwnsEmpty s 3 → answer s 3 (SetPose 3) ≡ Refused Worn
   -- inquiries need no stamp; and other refusals come first
   pub inquire : (m : ℕ) → CallsAreRefusedExactly → answer s m (Inquire 2) ≢ Refused Worn

@@ -153,14 +153,14 @@ pub record InquiriesTell : Type 0 where
   pub posture : ¬ AreAlikeBy (λ s m d. without_posture (plan_reply cell_table s m d))
   -- whoever asks, and of whichever zone, also in a stopped plant
   pub of_press : (answers : PlanState → ℕ → PlanCall → PlanAnswer) → AreAlikeBy answers
-      → answers (plan_state press_given) 15 (DoInquire 2) ≡ Shown (Some 3) true IsOpenIn
+      → answers (plan_state press_given) 30 (DoInquire 2) ≡ Shown (Some 3) true IsOpenIn
   pub of_crane : (answers : PlanState → ℕ → PlanCall → PlanAnswer) → AreAlikeBy answers
       → answers (plan_state (cell_at Z6 (held_in Crane OpenOut) empty true)) 0 (DoInquire 5)
       ≡ Shown (Some 5) false IsOpenOut
 
 pub record NumbersAreRight : Type 0 where
   pub machines : map machine_number (Feed ∷ Table ∷ Robot ∷ Press ∷ Deposit ∷ Crane ∷ Watch ∷ [])
-      ≡ 0 ∷ 1 ∷ 2 ∷ 3 ∷ 4 ∷ 5 ∷ 15 ∷ []
+      ≡ 0 ∷ 1 ∷ 2 ∷ 3 ∷ 4 ∷ 5 ∷ 30 ∷ []
   pub zones : map zone_number (Z1 ∷ Z2 ∷ Z3 ∷ Z4 ∷ Z5 ∷ Z6 ∷ []) ≡ 0 ∷ 1 ∷ 2 ∷ 3 ∷ 4 ∷ 5 ∷ []
   pub places : map place_number (place.FeedEntry ∷ place.FeedEnd ∷ place.Table ∷ place.Arm1 ∷ place.PressIn ∷ [])
       ≡ 0 ∷ 1 ∷ 2 ∷ 3 ∷ 4 ∷ []

@@ -32,7 +32,7 @@ machine_number Robot = 2
 machine_number Press = 3
 machine_number Deposit = 4
 machine_number CraneMachine = 5
-machine_number Watch = 15
+machine_number Watch = 30
 
 abbrev pub zone_number : Zone → ℕ
 zone_number Z1 = 0

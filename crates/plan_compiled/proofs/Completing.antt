@@ -66,7 +66,7 @@ or_cases : (a b : Bool) → (a || b) ≡ true → (a ≡ true) ⊎ (b ≡ true)
 or_cases true b e = inl refl
 or_cases false b e = inr e
 
-party_small : (t : PlanTable) (m z : ℕ) → IsPlan t → Party t m z → m < 16
+party_small : (t : PlanTable) (m z : ℕ) → IsPlan t → Party t m z → m < 31
 party_small t m z p k =
     let few = p.machines_at_most in
     let host = p.host_is_machine z k.there in
@@ -76,7 +76,7 @@ party_small t m z p k =
       | inr e ↦ let is = eqb-true m (guest_of t z) e in omega (arith, is, guest, few)
     ]
 
-pub complete_by : (t : PlanTable) (rows : List Row) (starts : List ℕ) → IsPlan t → ((m : ℕ) → m < 16 → HasMachineRows t rows starts m) → IsComplete t rows starts
+pub complete_by : (t : PlanTable) (rows : List Row) (starts : List ℕ) → IsPlan t → ((m : ℕ) → m < 31 → HasMachineRows t rows starts m) → IsComplete t rows starts
 complete_by t rows starts p all m (Claim z) s o fresh e =
     let k = (claim_done t s m z (done_none _ _ e)).caller in
     ((all m (party_small t m z p k)).zones z k.there).claim s o fresh e

@@ -214,7 +214,7 @@ pub(crate) fn has_every_row(plan: &Plan, layout: &Layout, rows: &[Row], starts: 
     if !is_plain(plan) {
         return false;
     }
-    for machine in 0..16u8 {
+    for machine in 0..31u8 {
         if !has_machine_rows(plan, layout, rows, starts, machine) {
             return false;
         }

@@ -11,8 +11,8 @@ use plan_types::Call;
 /// for advances.
 const SLOTS: usize = 162;
 
-/// How many slots there are, of sixteen machines.
-pub const SLOTS_OF_ALL: usize = SLOTS * 16;
+/// How many slots there are, of thirty machines and the watch.
+pub const SLOTS_OF_ALL: usize = SLOTS * 31;
 
 /// The most rows of a call.
 const MOST_ROWS: u8 = 16;

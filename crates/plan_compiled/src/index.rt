@@ -21,7 +21,7 @@ pub const ROWS_OF_ALL: usize = 512;
 const ZONE_CALLS: u8 = 5;
 
 /// How many machines have slots, with the watch.
-const CALLERS: u8 = 16;
+const CALLERS: u8 = 31;
 
 /// The rows so far, with rows that no word matches after them.
 #[derive(Drop)]

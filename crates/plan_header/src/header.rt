@@ -34,7 +34,7 @@ const BEGIN: &str = "\
 
 /// What stands before the numbers of zones.
 const ZONES: &str = "\
-#define PLAN_WATCH 15
+#define PLAN_WATCH 30
 
 /* Zones. */
 ";

@@ -29,14 +29,14 @@ in-range m a (suc n) low high = go (nat_eq a m) refl (in-range m (a + 1) n)
         let above : a + 1 ≤ m = grind (arith, nat_tests, low, e) in
         omega (arith, head, rest above (omega (arith, high)))
 
-pub all-machines : (n : ℕ) → n ≤ 15 → min n 15 ≡ n
+pub all-machines : (n : ℕ) → n ≤ 30 → min n 30 ≡ n
 all-machines n few = grind (arith, few)
 
 -- the watch stands at the end alone
-at-the-end : (m n : ℕ) → times nat_eq m (range_with_len 0 n ++ watch ∷ []) ≡ times nat_eq m (range_with_len 0 n) + once_if (nat_eq 15 m)
+at-the-end : (m n : ℕ) → times nat_eq m (range_with_len 0 n ++ watch ∷ []) ≡ times nat_eq m (range_with_len 0 n) + once_if (nat_eq 30 m)
 at-the-end m n = omega (arith, times-append m (range_with_len 0 n) (watch ∷ []))
 
-among : (t : PlanTable) (m : ℕ) → IsPlan t → passes_of t m ≡ times nat_eq m (range_with_len 0 t.machines) + once_if (nat_eq 15 m)
+among : (t : PlanTable) (m : ℕ) → IsPlan t → passes_of t m ≡ times nat_eq m (range_with_len 0 t.machines) + once_if (nat_eq 30 m)
 among t m is =
     ap (λ n. times nat_eq m (range_with_len 0 n ++ watch ∷ [])) (all-machines t.machines is.machines_at_most)
     ∙ at-the-end m t.machines
@@ -44,16 +44,16 @@ among t m is =
 pub every_machine_calls : (t : PlanTable) → IsPlan t → EveryMachineCalls t
 every_machine_calls t is = record {
   each_machine = λ m low.
-      let other = ap once_if (apart m 15 (below low)) in
+      let other = ap once_if (apart m 30 (below low)) in
       omega (arith, among t m is, in-range m 0 t.machines (omega arith) (omega (arith, low)), other);
   the_watch = omega (arith, among t watch is, past-range watch 0 t.machines few);
   nobody_else = λ m high other.
-      let last = ap once_if (apart m 15 other) in
+      let last = ap once_if (apart m 30 other) in
       omega (arith, among t m is, past-range m 0 t.machines (omega (arith, high)), last);
 }
   where
-    few : 0 + t.machines ≤ 15
+    few : 0 + t.machines ≤ 30
     few = omega (arith, is.machines_at_most)
 
-    below : {m : ℕ} → m < t.machines → m ≢ 15
+    below : {m : ℕ} → m < t.machines → m ≢ 30
     below {m} low e = omega (arith, low, e, is.machines_at_most)

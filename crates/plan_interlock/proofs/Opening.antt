@@ -68,7 +68,7 @@ passes_more interlocks more i rules passes later all are pushed taken by is =
     taken ∙ (ap (λ ps. ps ++ all ∷ []) are ∙ (ap (λ p. map all_passes interlocks ++ p ∷ []) own ∙ (sym (map_push all_passes interlocks i) ∙ ap (map all_passes) (sym pushed))))
 
 -- all words have the callers of so many machines
-pub all_left : (n : ℕ) (interlocks : List WordView) (words : List WordOpening) → n ≤ 15 → map (λ i. i.rules) interlocks ≡ map (λ w. w.rules) words → All (λ w. machines_of w ≡ n) words
+pub all_left : (n : ℕ) (interlocks : List WordView) (words : List WordOpening) → n ≤ 30 → map (λ i. i.rules) interlocks ≡ map (λ w. w.rules) words → All (λ w. machines_of w ≡ n) words
     → map all_passes interlocks ≡ passes_left interlocks (callers n)
 all_left n [] words few by all = refl
 all_left n (i ∷ rest) [] few by all = absurd cc
@@ -76,7 +76,7 @@ all_left n (i ∷ rest) (w ∷ others) few by all =
     let head : i.rules ≡ w.rules = cc in
     let tail : map (λ i. i.rules) rest ≡ map (λ w. w.rules) others = cc in
     let many : (plan_of i.rules).machines ≡ n = ap (λ r. (plan_of r).machines) head ∙ All-head (λ w. machines_of w ≡ n) w others all in
-    let same : min (plan_of i.rules).machines 15 ≡ n = ap (λ k. min k 15) many ∙ min-eq_left few in
+    let same : min (plan_of i.rules).machines 30 ≡ n = ap (λ k. min k 30) many ∙ min-eq_left few in
     let one : all_passes i ≡ fresh_passes i (callers n) = ap (λ k. fresh_passes i (range_with_len 0 k ++ watch ∷ [])) same in
     let more = all_left n rest others few tail (All-tail (λ w. machines_of w ≡ n) w others all) in
     ap (λ p. p ∷ map all_passes rest) one ∙ ap (λ ps. fresh_passes i (callers n) ∷ ps) more

@@ -18,9 +18,9 @@ use Rattle.plan_interlock.specs.declared.rules.PlanRules.{PlanRules}
 abbrev pub plan_of : PlanRules → PlanTable
 plan_of rules = rules.plan.table
 
--- the machines of a plan, which has at most 15, and the watch
+-- the machines of a plan, which has at most 30, and the watch
 abbrev pub callers_of : PlanTable → List ℕ
-callers_of t = range_with_len 0 (min t.machines 15) ++ watch ∷ []
+callers_of t = range_with_len 0 (min t.machines 30) ++ watch ∷ []
 
 -- states are those of the plan; answers and the states after calls are those of the sequential interlock
 abbrev pub plan_book : PlanTable → RuleBook State ℕ Call Answer Event

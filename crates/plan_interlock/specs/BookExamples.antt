@@ -48,8 +48,9 @@ pub record BookExamples : Type 0 where
   pub third_place : ¬ press_book.is_sound (start_state (false ∷ false ∷ true ∷ replicate 13 false) 0)
   pub no_plan : ¬ (plan_book (plan_table 2 (zone 1 1 None None ∷ []) [] [])).is_sound press_start
   -- the machines of the largest plan, and the watch
-  pub most : (plan_book (plan_table 15 [] [] [])).actors
-      ≡ 0 ∷ 1 ∷ 2 ∷ 3 ∷ 4 ∷ 5 ∷ 6 ∷ 7 ∷ 8 ∷ 9 ∷ 10 ∷ 11 ∷ 12 ∷ 13 ∷ 14 ∷ 15 ∷ []
+  pub most : (plan_book (plan_table 30 [] [] [])).actors
+      ≡ 0 ∷ 1 ∷ 2 ∷ 3 ∷ 4 ∷ 5 ∷ 6 ∷ 7 ∷ 8 ∷ 9 ∷ 10 ∷ 11 ∷ 12 ∷ 13 ∷ 14 ∷ 15 ∷ 16 ∷ 17 ∷ 18 ∷ 19
+      ∷ 20 ∷ 21 ∷ 22 ∷ 23 ∷ 24 ∷ 25 ∷ 26 ∷ 27 ∷ 28 ∷ 29 ∷ 30 ∷ []
 
 pub record OrderTells : Type 0 where
   pub runs : (t : PlanTable) → CallsKeepOrder t → RunsKeepOrder (plan_book t)

@@ -65,22 +65,22 @@ once-in-range m a (suc n) = go (nat_eq a m) refl (once-in-range m (a + 1) n)
     go true e rest = omega (arith, below-range m (a + 1) n (omega (arith, one_number a m e)))
     go false e rest = omega (arith, rest)
 
-once-among : (m n : ℕ) → n ≤ 15 → times nat_eq m (range_with_len 0 n ++ watch ∷ []) ≤ 1
-once-among m n few = go (nat_eq 15 m) refl
+once-among : (m n : ℕ) → n ≤ 30 → times nat_eq m (range_with_len 0 n ++ watch ∷ []) ≤ 1
+once-among m n few = go (nat_eq 30 m) refl
   where
     both : times nat_eq m (range_with_len 0 n ++ watch ∷ [])
         ≡ times nat_eq m (range_with_len 0 n) + times nat_eq m (watch ∷ [])
     both = times-append m (range_with_len 0 n) (watch ∷ [])
 
-    go : (b : Bool) → nat_eq 15 m ≡ b → times nat_eq m (range_with_len 0 n ++ watch ∷ []) ≤ 1
+    go : (b : Bool) → nat_eq 30 m ≡ b → times nat_eq m (range_with_len 0 n ++ watch ∷ []) ≤ 1
     go true e =
         let last : times nat_eq m (watch ∷ []) ≡ 1 = ap (λ (b : Bool). (if b then 1 else 0) + 0) e in
-        omega (arith, both, last, past-range m 0 n (omega (arith, one_number 15 m e, few)))
+        omega (arith, both, last, past-range m 0 n (omega (arith, one_number 30 m e, few)))
     go false e =
         let last : times nat_eq m (watch ∷ []) ≡ 0 = ap (λ (b : Bool). (if b then 1 else 0) + 0) e in
         omega (arith, both, last, once-in-range m 0 n)
 
-few_machines : (n : ℕ) → min n 15 ≤ 15
+few_machines : (n : ℕ) → min n 30 ≤ 30
 few_machines n = grind arith
 
 pub plan_is_rule_book : (t : PlanTable) → IsRuleBook (plan_book t)
@@ -90,7 +90,7 @@ plan_is_rule_book t = record {
   counts = λ s m c e. counts_by (reply t s m c) t s m c e;
   itself = itself;
   one = one_number;
-  once = λ m. once-among m (min t.machines 15) (few_machines t.machines);
+  once = λ m. once-among m (min t.machines 30) (few_machines t.machines);
   actor = λ m c a. refl;
   call = λ m c a. refl;
   answer = λ m c a. refl;

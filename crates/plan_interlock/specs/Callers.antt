@@ -22,7 +22,7 @@ CallsInOrder t = (plan_book t).actors ≡ range_with_len 0 t.machines ++ watch �
 
 -- the same of literal plans
 pub record PassesInOrder : Type 0 where
-  pub press : (plan_book press_table).actors ≡ 0 ∷ 1 ∷ 15 ∷ []
-  pub lift : (plan_book lift_table).actors ≡ 0 ∷ 1 ∷ 2 ∷ 15 ∷ []
-  pub ten : (plan_book (plan_table 10 [] [] [])).actors ≡ 0 ∷ 1 ∷ 2 ∷ 3 ∷ 4 ∷ 5 ∷ 6 ∷ 7 ∷ 8 ∷ 9 ∷ 15 ∷ []
-  pub nobody : (plan_book (plan_table 0 [] [] [])).actors ≡ 15 ∷ []
+  pub press : (plan_book press_table).actors ≡ 0 ∷ 1 ∷ 30 ∷ []
+  pub lift : (plan_book lift_table).actors ≡ 0 ∷ 1 ∷ 2 ∷ 30 ∷ []
+  pub ten : (plan_book (plan_table 10 [] [] [])).actors ≡ 0 ∷ 1 ∷ 2 ∷ 3 ∷ 4 ∷ 5 ∷ 6 ∷ 7 ∷ 8 ∷ 9 ∷ 30 ∷ []
+  pub nobody : (plan_book (plan_table 0 [] [] [])).actors ≡ 30 ∷ []

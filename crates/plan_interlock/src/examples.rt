@@ -113,7 +113,7 @@ pub fn press_and_shelf(alloc: Global) -> Option<(PlantInterlock, Vec<PlantPass>)
     ensures openings { IfSome result (λ made. map (λ i. i.opening) made.0
         ≡ start_state (true ∷ replicate 15 false) 0 ∷ start_state (replicate 16 false) 0 ∷ []) }
     ensures passes { IfSome result (λ made. made.1.items
-        ≡ new_pass made.0 0 ∷ new_pass made.0 1 ∷ new_pass made.0 2 ∷ new_pass made.0 15 ∷ []) }
+        ≡ new_pass made.0 0 ∷ new_pass made.0 1 ∷ new_pass made.0 2 ∷ new_pass made.0 30 ∷ []) }
     ensures own { IfSome result (λ made. All (IsOfPlant made.0) made.1.items) }
 {
     let Ok(mut at_press) = examples::press(alloc) else {

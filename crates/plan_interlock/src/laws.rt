@@ -36,7 +36,7 @@ pub fn every_machine_calls(rules: &PlanRules)
 
 /// The passes come in the order of the machines' numbers, the watch's last: of any plan, and of literal ones.
 pub fn passes_in_order()
-    ensures any { (t : PlanTable) → t.machines ≤ 15 → CallsInOrder t }
+    ensures any { (t : PlanTable) → t.machines ≤ 30 → CallsInOrder t }
     ensures literal { PassesInOrder }
 {}
 

@@ -48,7 +48,7 @@ impl Model for PlantPass {
 }
 
 impl PlantPass {
-    /// The machine whose calls it makes, on each word; 15 is the watch.
+    /// The machine whose calls it makes, on each word; 30 is the watch.
     pub fn actor(&self) -> u8
         ensures machine { result ≡ self.now.actor }
         ensures rights { All (λ v. v.actor ≡ result) self.now.rights }

@@ -47,7 +47,7 @@ fn machines_in(words: &[WordOpening], tries: u8) -> Result<u8, PlantFault>
     ensures ok { OnOk result (plant_fault words.now tries ≡ None) }
     ensures tries { OnOk result ((1 ≤ tries) × (tries ≤ 64)) }
     ensures words { OnOk result ((1 ≤ length words.now) × (length words.now ≤ 16)) }
-    ensures few { IfOk result (λ machines. machines ≤ 15) }
+    ensures few { IfOk result (λ machines. machines ≤ 30) }
     ensures machines { IfOk result (λ machines. All (λ w. machines_of w ≡ machines) words.now) }
 {
     if tries < 1 || tries > 64 {
@@ -117,7 +117,7 @@ fn take_passes(
     passes: &mut Vec<PlanPasses>,
     machines: u8,
 ) -> Result<Vec<PlantPass>, AllocError>
-    requires few { machines ≤ 15 }
+    requires few { machines ≤ 30 }
     requires all { passes.old.items ≡ passes_left interlocks.now (callers machines) }
     ensures { IfOk result
         (λ made. made.items ≡ map (new_pass interlocks.now) (callers machines)) }

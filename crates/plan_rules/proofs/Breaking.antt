@@ -131,8 +131,8 @@ stops = record {
       let e : false ≡ true = law.mark.0 (inr by_events) in
       cc;
   barred = λ law. let e : true ≡ false = law.barred [] [] 0 (Claim 0) refl stopped_at_first in cc;
-  stop = λ law. let e : 1 ≡ 15 = (law.stop [] (done watch Resume ∷ []) 1 refl).0 in absurd (omega arith);
-  resume = λ law. let e : 1 ≡ 15 = (law.resume (done watch Stop ∷ []) (done watch Stop ∷ []) 1 refl).0 in absurd (omega arith);
+  stop = λ law. let e : 1 ≡ 30 = (law.stop [] (done watch Resume ∷ []) 1 refl).0 in absurd (omega arith);
+  resume = λ law. let e : 1 ≡ 30 = (law.resume (done watch Stop ∷ []) (done watch Stop ∷ []) 1 refl).0 in absurd (omega arith);
   stop_again = λ law. (law.stop [] [] watch refl).1 stopped_at_first;
   resume_again = λ law. going_at_first (law.resume [] [] watch refl).1;
 }

@@ -462,19 +462,19 @@ module _ (t : PlanTable) (s : State) (m z : ℕ) where
   abbrev nw : Option Refusal
   nw = refusals.not_watch m
 
-  watched : (P : Refusal → Type 0) → (m ≢ 15 → P NotParty) → Sorts P nw (m ≡ 15)
-  watched P says = test (not (nat_eq m watch)) NotParty (λ yes. says (λ same. not_both (nat_eq m watch) (is_same m watch same) (is_not (nat_eq m watch) yes))) (λ is. eqb-true m 15 (no_not (nat_eq m watch) is))
+  watched : (P : Refusal → Type 0) → (m ≢ 30 → P NotParty) → Sorts P nw (m ≡ 30)
+  watched P says = test (not (nat_eq m watch)) NotParty (λ yes. says (λ same. not_both (nat_eq m watch) (is_same m watch same) (is_not (nat_eq m watch) yes))) (λ is. eqb-true m 30 (no_not (nat_eq m watch) is))
 
-  unwatched_by : m ≢ 15 → nw ≡ Some NotParty
-  unwatched_by f = yes_then_not (nat_eq m watch) NotParty (nat_eq-apart m 15 f)
+  unwatched_by : m ≢ 30 → nw ≡ Some NotParty
+  unwatched_by f = yes_then_not (nat_eq m watch) NotParty (nat_eq-apart m 30 f)
 
-  watched_by : m ≡ 15 → nw ≡ None
-  watched_by f = no_then_not (nat_eq m watch) NotParty (is_same m 15 f)
+  watched_by : m ≡ 30 → nw ≡ None
+  watched_by f = no_then_not (nat_eq m watch) NotParty (is_same m 30 f)
 
   stop : Sorts (BarsStop s m) (refusals.stop_refusal s m) Unit
   stop =
       let P : Refusal → Type 0 = BarsStop s m in
-      let s1 : Sorts P (nw or st) ((m ≡ 15) × (s.stopped ≡ false)) = in_turn nw st (watched P (λ f. f)) (λ f. test s.stopped Stopped (λ yes. (f, yes)) (λ runs. (f, runs))) in
+      let s1 : Sorts P (nw or st) ((m ≡ 30) × (s.stopped ≡ false)) = in_turn nw st (watched P (λ f. f)) (λ f. test s.stopped Stopped (λ yes. (f, yes)) (λ runs. (f, runs))) in
       in_turn (nw or st) wo s1 (λ f. worn P (λ last. (f.0, f.1, last)))
 
   stop_by : (r : Refusal) → BarsStop s m r → refusals.stop_refusal s m ≡ Some r
@@ -489,7 +489,7 @@ module _ (t : PlanTable) (s : State) (m z : ℕ) where
   resume : Sorts (BarsResume s m) (refusals.resume_refusal s m) Unit
   resume =
       let P : Refusal → Type 0 = BarsResume s m in
-      let s1 : Sorts P (nw or ns) ((m ≡ 15) × (s.stopped ≡ true)) = in_turn nw ns (watched P (λ f. f)) (λ f. test (not s.stopped) NotStopped (λ yes. (f, is_not s.stopped yes)) (λ stopped. (f, no_not s.stopped stopped))) in
+      let s1 : Sorts P (nw or ns) ((m ≡ 30) × (s.stopped ≡ true)) = in_turn nw ns (watched P (λ f. f)) (λ f. test (not s.stopped) NotStopped (λ yes. (f, is_not s.stopped yes)) (λ stopped. (f, no_not s.stopped stopped))) in
       in_turn (nw or ns) wo s1 (λ f. worn P (λ last. (f.0, f.1, last)))
 
   resume_by : (r : Refusal) → BarsResume s m r → refusals.resume_refusal s m ≡ Some r

@@ -331,7 +331,7 @@ module _ (t : PlanTable) (s : State) (m : ℕ) where
       (zones_say P0 (refusals.opens_onto_plate t s p) n (room_says t s m p)))
       (worn_says t s m c)
 
-  watch_says : (c : Call) → (m ≢ 15 → Says t s m c NotParty) → (r : Refusal) → refusals.not_watch m ≡ Some r → Says t s m c r
+  watch_says : (c : Call) → (m ≢ 30 → Says t s m c NotParty) → (r : Refusal) → refusals.not_watch m ≡ Some r → Says t s m c r
   watch_says c says = one_says (λ r. Says t s m c r) (not (nat_eq m watch)) NotParty (λ yes. says (λ same. not_both (nat_eq m watch) (is_same m watch same) (is_not (nat_eq m watch) yes)))
 
   stop_says : (r : Refusal) → refusals.stop_refusal s m ≡ Some r → Says t s m Stop r

@@ -102,9 +102,9 @@ pub record MayAdvance (t : PlanTable) (s : State) (m p : ℕ) : Type 0 where
   pub moves : PlateMoves t s p
   pub stamps : HasStampsLeft s
 
--- the watch, 15, alone stops and resumes, in turn
+-- the watch, 30, alone stops and resumes, in turn
 pub record MayMark (s : State) (m : ℕ) (stopped : Bool) : Type 0 where
-  pub watch : m ≡ 15
+  pub watch : m ≡ 30
   pub in_turn : s.stopped ≡ stopped
   pub stamps : HasStampsLeft s
 

@@ -54,7 +54,7 @@ unloading =
     ∷ did 0 (Claim 0) ∷ refused 0 (Give 0) WrongWay ∷ did 0 (Release 0) ∷ did 1 (Claim 0) ∷ did 1 (Give 0)
     ∷ did 0 (Take 0) ∷ did 0 (Release 0) ∷ []
 
--- the watch, 15, stops the plant while the press moves
+-- the watch, 30, stops the plant while the press moves
 abbrev pub stopping : List Event
 stopping =
     refused watch Resume NotStopped ∷ refused 1 Stop NotParty ∷ did 1 (Claim 0) ∷ did 1 (SetPose 3) ∷ did watch Stop

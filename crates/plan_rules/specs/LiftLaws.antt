@@ -90,8 +90,8 @@ pub record LiftStops (s : State) (before rest : List Event) (m : ℕ) : Type 0 w
   pub claim : StoppedUntilResumed lift_table s (before ++ done m (Claim 1) ∷ rest) → ¬ IsStopped s before
   pub give : StoppedUntilResumed lift_table s (before ++ done m (Give 1) ∷ rest) → ¬ IsStopped s before
   pub moves : StoppedUntilResumed lift_table s (before ++ done m (SetPose 0) ∷ rest) → ¬ IsStopped s before
-  pub stop : StoppedUntilResumed lift_table s (before ++ done m Stop ∷ rest) → (m ≡ 15) × ¬ IsStopped s before
-  pub resume : StoppedUntilResumed lift_table s (before ++ done m Resume ∷ rest) → (m ≡ 15) × IsStopped s before
+  pub stop : StoppedUntilResumed lift_table s (before ++ done m Stop ∷ rest) → (m ≡ 30) × ¬ IsStopped s before
+  pub resume : StoppedUntilResumed lift_table s (before ++ done m Resume ∷ rest) → (m ≡ 30) × IsStopped s before
 
 -- the same state, stopped or not: what a stop doesn't bar; and refusals and their causes
 pub record LiftReplies (s : State) (m : ℕ) : Type 0 where

@@ -71,7 +71,7 @@ pub record RefusalParts : Type 0 where
       ≡ None ∷ None ∷ Some Worn ∷ Some Worn ∷ []
   pub stopped : map refusal.while_stopped (riding ∷ with_stop riding ∷ []) ≡ None ∷ Some Stopped ∷ []
   pub not_stopped : map refusal.not_stopped (riding ∷ with_stop riding ∷ []) ≡ Some NotStopped ∷ None ∷ []
-  pub not_watch : map refusal.not_watch (0 ∷ 14 ∷ 15 ∷ 16 ∷ [])
+  pub not_watch : map refusal.not_watch (0 ∷ 29 ∷ 30 ∷ 31 ∷ [])
       ≡ Some NotParty ∷ Some NotParty ∷ None ∷ Some NotParty ∷ []
   pub not_owner : refusal.not_owner riding 0 1 ≡ Some (NotOwner (Some 2))
   pub owner : refusal.not_owner riding 2 1 ≡ None

@@ -93,17 +93,17 @@ abbrev pub BarsInquire : PlanTable → ℕ → Refusal → Type 0
 BarsInquire t z NotParty = zone_count t ≤ z
 BarsInquire t z _ = ⊥
 
--- 15 is the watch
+-- 30 is the watch
 abbrev pub BarsStop : State → ℕ → Refusal → Type 0
-BarsStop s m NotParty = m ≢ 15
-BarsStop s m Stopped = (m ≡ 15) × (s.stopped ≡ true)
-BarsStop s m Worn = (m ≡ 15) × (s.stopped ≡ false) × HasNoStampLeft s
+BarsStop s m NotParty = m ≢ 30
+BarsStop s m Stopped = (m ≡ 30) × (s.stopped ≡ true)
+BarsStop s m Worn = (m ≡ 30) × (s.stopped ≡ false) × HasNoStampLeft s
 BarsStop s m _ = ⊥
 
 abbrev pub BarsResume : State → ℕ → Refusal → Type 0
-BarsResume s m NotParty = m ≢ 15
-BarsResume s m NotStopped = (m ≡ 15) × (s.stopped ≡ false)
-BarsResume s m Worn = (m ≡ 15) × (s.stopped ≡ true) × HasNoStampLeft s
+BarsResume s m NotParty = m ≢ 30
+BarsResume s m NotStopped = (m ≡ 30) × (s.stopped ≡ false)
+BarsResume s m Worn = (m ≡ 30) × (s.stopped ≡ true) × HasNoStampLeft s
 BarsResume s m _ = ⊥
 
 -- the keeper of a source or sink asks, while the plant runs

@@ -35,8 +35,8 @@ OfSome t m c holds = (y : ℕ) × IsAbout t m c y × holds y
 -- in the plan
 abbrev pub HasNoPart : PlanTable → ℕ → Call → Type 0
 HasNoPart t m (Inquire z) = zone_count t ≤ z
-HasNoPart t m Stop = m ≢ 15
-HasNoPart t m Resume = m ≢ 15
+HasNoPart t m Stop = m ≢ 30
+HasNoPart t m Resume = m ≢ 30
 HasNoPart t m (Advance p) = ¬ KeepsEnd t m p
 HasNoPart t m c = OfSome t m c (λ z. ¬ IsPartyOf t m z)
 

@@ -104,6 +104,26 @@ start,
 fault plan line 1: machine 1: name: it is missing
 ";
 
+/// The most machines, each in a thread of its own: each asks in each turn.
+const OF_THIRTY: &str = "\
+0: ./plan run --turns 4
+=>
+@30 [[machine]]
+name = \"fan#\"
+poses = [{ name = \"left\", gives = {} }, { name = \"right\", gives = {} }]
+program = [\"pose left\", \"pose right\"]
+@start,
+=>
+# 30 machines took 4 turns each, in threads of their own, at one pace
+[..]
+# fan30: 4 calls done, 0 refused
+# journals: one legal history of 120 calls
+start,
+[..]
+fan30,pose,left
+[..]
+";
+
 /// A machine that asks in each turn.
 const FAN: &str = "\
 [[machine]]
@@ -151,6 +171,7 @@ fn tells_what_machines_did(rt: HostRuntime) {
     are_answered(&rt, rt.alloc(), HOIST, OF_HOIST);
     are_answered(&rt, rt.alloc(), JUMPER, OF_JUMPER);
     are_answered(&rt, rt.alloc(), "", OF_NONE);
+    are_answered(&rt, rt.alloc(), "", OF_THIRTY);
     are_answered(&rt, rt.alloc(), FAN, OF_FAN);
     are_answered(&rt, rt.alloc(), PRESS, OF_PRESS);
 }

@@ -11,12 +11,14 @@ use plan_types::{
 use plan_word::pack;
 use std::alloc::Global;
 
-/// Fifteen machines in a line: every other one hosts a zone for the next one, and has a pose for each posture. And a
+/// Thirty machines: ten host a zone each for another one, and have a pose for each posture; eleven have no zone. And a
 /// hall with two doors, which one pose opens both inward: of it this isn't known.
 const ROWS: &str = "\
 0: ./plan check
 =>
-@8 [[machine]]
+@11 [[machine]]
+name = \"n#\"
+@@10 [[machine]]
 name = \"h#\"
 poses = [
   { name = \"moving\", gives = { z# = \"moving\" } },
@@ -24,19 +26,19 @@ poses = [
   { name = \"inward\", gives = { z# = \"openin\" }, after_moving = true },
   { name = \"outward\", gives = { z# = \"openout\" }, after_moving = true },
 ]
-@@7 [[machine]]
+@@9 [[machine]]
 name = \"g#\"
-@@7 [[zone]]
+@@9 [[zone]]
 name = \"z#\"
 host = \"h#\"
 guest = \"g#\"
 @[[zone]]
-name = \"z8\"
-host = \"h8\"
+name = \"z10\"
+host = \"h10\"
 guest = \"h1\"
 =>
-15 machines: h1[..]
-32 poses: moving[..]
+30 machines: n1[..]
+40 poses: moving[..]
 rows: each call that is done has its row
 --
 0: ./plan check

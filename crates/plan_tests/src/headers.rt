@@ -25,7 +25,7 @@ const OF_PRESS: &str = "\
 #define PLAN_MACHINE_LOADER 0
 #define PLAN_MACHINE_PRESS 1
 #define PLAN_MACHINES 2
-#define PLAN_WATCH 15
+#define PLAN_WATCH 30
 
 /* Zones. */
 #define PLAN_ZONE_INTERIOR 0
@@ -177,7 +177,7 @@ const OF_LIFT: &str = "\
 #define PLAN_MACHINE_BELOW 1
 #define PLAN_MACHINE_ABOVE 2
 #define PLAN_MACHINES 3
-#define PLAN_WATCH 15
+#define PLAN_WATCH 30
 
 /* Zones. */
 #define PLAN_ZONE_LOWER 0

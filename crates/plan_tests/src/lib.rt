@@ -48,6 +48,8 @@ mod sizes;
 #[cfg(test)]
 mod spaces;
 #[cfg(test)]
+mod thirty_machines;
+#[cfg(test)]
 mod two_presses;
 #[cfg(test)]
 mod word_calls;

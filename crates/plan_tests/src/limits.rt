@@ -8,17 +8,18 @@ use super::doubles::are_answered;
 const COUNTS: &str = "\
 0: ./plan check
 =>
-@15 [[machine]]
+@30 [[machine]]
 name = \"m#\"
 @=>
-15 machines: m1 m2[..]
+30 machines: m1 m2[..]
 --
 1: ./plan check
+1: ./plan words
 =>
-@16 [[machine]]
+@31 [[machine]]
 name = \"m#\"
 @=>
-fault plan line 32: machine 16: name: there are more than 15
+fault plan line 62: machine 31: name: there are more than 30
 --
 0: ./plan check
 =>

@@ -123,7 +123,7 @@ fn each_word_has_one_legal_history(rt: HostRuntime) {
     };
     assert!(rt; interlock.words() == 2 && passes.len() == 4);
     let watch = passes.pop();
-    assert!(rt; watch.is_some_and(|watch| watch.actor() == 15));
+    assert!(rt; watch.is_some_and(|watch| watch.actor() == 30));
     let noted = notes_in_threads(&rt, rt.alloc(), &interlock, passes, 300);
     let noted = noted.expect(&rt, "memory");
     let Some((press, shelf)) = plans(rt.alloc()) else {

@@ -100,9 +100,9 @@ names-plain (name ∷ names) (suc number) all = names-plain names number (and_pa
 -- ---- events
 
 caller-plain : (n : Named) (machine : ℕ) → AreToldApart n → IsPlain (caller_word n machine)
-caller-plain n machine k = by (nat_eq machine 15) refl
+caller-plain n machine k = by (nat_eq machine 30) refl
   where
-    by : (b : Bool) → nat_eq machine 15 ≡ b → IsPlain (caller_word n machine)
+    by : (b : Bool) → nat_eq machine 30 ≡ b → IsPlain (caller_word n machine)
     by true e = rw e refl
     by false e = rw e (names-plain n.machines machine k.spelled_machines)
 

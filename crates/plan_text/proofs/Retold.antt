@@ -49,10 +49,10 @@ use Rattle.plan_text.proofs.ScriptLaws.{records_read, starts_of_digits}
 
 caller_read : (n : Named) (machine : ℕ) → AreToldApart n → IsCaller n machine → caller_of n (caller_word n machine) ≡ Some machine
 caller_read n machine k (inl e) = rw e refl
-caller_read n machine k (inr few) = by (nat_eq machine 15) refl
+caller_read n machine k (inr few) = by (nat_eq machine 30) refl
   where
-    by : (b : Bool) → nat_eq machine 15 ≡ b → caller_of n (caller_word n machine) ≡ Some machine
-    by true e = let same : machine ≡ 15 = eqb-true machine 15 e in rw same refl
+    by : (b : Bool) → nat_eq machine 30 ≡ b → caller_of n (caller_word n machine) ≡ Some machine
+    by true e = let same : machine ≡ 30 = eqb-true machine 30 e in rw same refl
     by false e = rw e (k.machines machine few)
 
 -- the call in a record of a verb and a name

@@ -21,13 +21,13 @@ abbrev pub each_verb : List Event
 each_verb =
     event 0 (call.Claim 1) Done ∷ event 1 (call.Give 0) Done ∷ event 2 (call.Yield 1) Done ∷ event 0 (call.Take 0) Done
     ∷ event 1 (call.Release 0) Done ∷ event 2 (call.Inquire 1) Done ∷ event 2 (call.SetPose 3) Done
-    ∷ event 15 call.Stop Done ∷ event 0 call.Resume Done ∷ event 1 (call.Advance 1) Done ∷ []
+    ∷ event 30 call.Stop Done ∷ event 0 call.Resume Done ∷ event 1 (call.Advance 1) Done ∷ []
 
 -- the lift claims a zone, which the upper floor then can't; the watch stops the plant, and the lower floor is barred
 abbrev pub session : List Event
 session =
     event 0 (call.Claim 1) Done ∷ event 2 (call.Claim 1) (Refused (Held 0))
-    ∷ event 15 (call.Inquire 1) (Shown (Some 0) false Closed) ∷ event 15 call.Stop Done
+    ∷ event 30 (call.Inquire 1) (Shown (Some 0) false Closed) ∷ event 30 call.Stop Done
     ∷ event 1 (call.Claim 0) (Refused Stopped) ∷ []
 
 pub record ScriptsOfHistories : Type 0 where
@@ -51,7 +51,7 @@ pub record ScriptsOfHistories : Type 0 where
   pub stamps : map stamp_fields (0 ∷ 1 ∷ 1048575 ∷ [])
       ≡ [] ∷ (codes "1" ∷ []) ∷ (codes "1048575" ∷ []) ∷ []
   pub start : start_row floors (middle 0) ≡ codes "start" ∷ codes "010" ∷ []
-  pub callers : map (caller_word floors) (0 ∷ 1 ∷ 2 ∷ 3 ∷ 15 ∷ 16 ∷ [])
+  pub callers : map (caller_word floors) (0 ∷ 1 ∷ 2 ∷ 3 ∷ 30 ∷ 31 ∷ [])
       ≡ codes "lift" ∷ codes "low" ∷ codes "high" ∷ [] ∷ codes "watch" ∷ [] ∷ []
   pub fields : map line_of_row ([] ∷ (codes "ab" ∷ []) ∷ (codes "ab" ∷ [] ∷ codes "c" ∷ []) ∷ [])
       ≡ codes "\n" ∷ codes "ab\n" ∷ codes "ab,,c\n" ∷ []

@@ -78,22 +78,22 @@ pub record RequestsAreRead : Type 0 where
   pub yield : three_words (codes "lift") (codes "yield") (codes "above") ≡ asks 0 (call.Yield 1)
   pub take : three_words (codes "lift") (codes "take") (codes "below") ≡ asks 0 (call.Take 0)
   pub release : three_words (codes "high") (codes "release") (codes "above") ≡ asks 2 (call.Release 1)
-  pub inquire : three_words (codes "watch") (codes "inquire") (codes "above") ≡ asks 15 (call.Inquire 1)
+  pub inquire : three_words (codes "watch") (codes "inquire") (codes "above") ≡ asks 30 (call.Inquire 1)
   pub advance : three_words (codes "lift") (codes "advance") (codes "attic") ≡ asks 0 (call.Advance 2)
   -- the own pose of that name, or else the first of another machine
   pub own : three_words (codes "high") (codes "pose") (codes "away") ≡ asks 2 (call.SetPose 3)
   pub own_second : three_words (codes "high") (codes "pose") (codes "open") ≡ asks 2 (call.SetPose 2)
   pub others : three_words (codes "low") (codes "pose") (codes "away") ≡ asks 1 (call.SetPose 0)
-  pub by_watch : three_words (codes "watch") (codes "pose") (codes "open") ≡ asks 15 (call.SetPose 1)
-  pub stop : two_words (codes "watch") (codes "stop") ≡ asks 15 call.Stop
+  pub by_watch : three_words (codes "watch") (codes "pose") (codes "open") ≡ asks 30 (call.SetPose 1)
+  pub stop : two_words (codes "watch") (codes "stop") ≡ asks 30 call.Stop
   pub resume : two_words (codes "high") (codes "resume") ≡ asks 2 call.Resume
   pub stop_by_low : two_words (codes "low") (codes "stop") ≡ asks 1 call.Stop
-  pub resume_by_watch : two_words (codes "watch") (codes "resume") ≡ asks 15 call.Resume
-  pub give_by_watch : three_words (codes "watch") (codes "give") (codes "below") ≡ asks 15 (call.Give 0)
+  pub resume_by_watch : two_words (codes "watch") (codes "resume") ≡ asks 30 call.Resume
+  pub give_by_watch : three_words (codes "watch") (codes "give") (codes "below") ≡ asks 30 (call.Give 0)
   pub stop_alone : map stop_by (codes "stop" ∷ codes "resume" ∷ codes "stops" ∷ [] ∷ [])
       ≡ Some call.Stop ∷ Some call.Resume ∷ None ∷ None ∷ []
   pub callers : map (caller_of floors) (codes "watch" ∷ codes "lift" ∷ codes "low" ∷ codes "high" ∷ codes "attic" ∷ [])
-      ≡ Some 15 ∷ Some 0 ∷ Some 1 ∷ Some 2 ∷ None ∷ []
+      ≡ Some 30 ∷ Some 0 ∷ Some 1 ∷ Some 2 ∷ None ∷ []
 
 pub record NoRequests : Type 0 where
   pub no_fields : request_of floors [] ≡ None
@@ -126,11 +126,11 @@ pub record OwnPoses : Type 0 where
   pub of_high : own_pose floors 2 (codes "away") ≡ Some 3
   pub of_low : own_pose floors 1 (codes "open") ≡ Some 1
   pub others : own_pose floors 0 (codes "open") ≡ None
-  pub watch_has_none : own_pose floors 15 (codes "away") ≡ None
+  pub watch_has_none : own_pose floors 30 (codes "away") ≡ None
   pub zone : own_pose floors 0 (codes "below") ≡ None
   pub read : call_of floors 0 verbs.Pose (codes "open") ≡ Some (call.SetPose 1)
   pub tried : map (pose_if floors 2 (codes "open")) (0 ∷ 1 ∷ 2 ∷ 3 ∷ []) ≡ None ∷ None ∷ Some 2 ∷ None ∷ []
-  pub named : map (λ m. pose_named floors m (codes "away")) (0 ∷ 1 ∷ 2 ∷ 15 ∷ [])
+  pub named : map (λ m. pose_named floors m (codes "away")) (0 ∷ 1 ∷ 2 ∷ 30 ∷ [])
       ≡ Some 0 ∷ Some 0 ∷ Some 3 ∷ Some 0 ∷ []
   pub numbered : map (number_if three (codes "lift")) (0 ∷ 1 ∷ 2 ∷ 3 ∷ []) ≡ Some 0 ∷ None ∷ Some 2 ∷ None ∷ []
 

@@ -62,13 +62,13 @@ astray t giver receiver w fails goes = let holds : leads t giver receiver w ≡ 
 module _ (t : PlanTable) where
   counts : (f : PlanFault) → count_fault t ≡ Some f → Says t f
   counts =
-      let a = unless (nat_le t.machines 15) TooManyMachines in
+      let a = unless (nat_le t.machines 30) TooManyMachines in
       let b = unless (nat_le (zone_count t) 10) TooManyZones in
       let c = unless (nat_le (pose_count t) 64) TooManyPoses in
       let d = unless (nat_le (place_count t) 16) TooManyPlaces in
       both_say (Says t) (a or b or c) d
       (both_say (Says t) (a or b) c
-      (both_say (Says t) a b (one_says (Says t) (nat_le t.machines 15) TooManyMachines (more t.machines 15)) (one_says (Says t) (nat_le (zone_count t) 10) TooManyZones (more (zone_count t) 10)))
+      (both_say (Says t) a b (one_says (Says t) (nat_le t.machines 30) TooManyMachines (more t.machines 30)) (one_says (Says t) (nat_le (zone_count t) 10) TooManyZones (more (zone_count t) 10)))
       (one_says (Says t) (nat_le (pose_count t) 64) TooManyPoses (more (pose_count t) 64)))
       (one_says (Says t) (nat_le (place_count t) 16) TooManyPlaces (more (place_count t) 16))
 

@@ -71,7 +71,7 @@ module _ (t : PlanTable) where
   -- ---- counts and width
 
   abbrev machines_test : Option PlanFault
-  machines_test = unless (nat_le t.machines 15) TooManyMachines
+  machines_test = unless (nat_le t.machines 30) TooManyMachines
 
   abbrev zones_test : Option PlanFault
   zones_test = unless (nat_le (zone_count t) 10) TooManyZones
@@ -119,7 +119,7 @@ module _ (t : PlanTable) where
       both_first Earliest (machines_test or zones_test or poses_test) places_test
       (both_first Earliest (machines_test or zones_test) poses_test
       (both_first Earliest machines_test zones_test
-      (one_says Earliest (nat_le t.machines 15) TooManyMachines (λ _. start))
+      (one_says Earliest (nat_le t.machines 30) TooManyMachines (λ _. start))
       (λ none. one_says Earliest (nat_le (zone_count t) 10) TooManyZones (λ _. past_machines none)))
       (λ none. one_says Earliest (nat_le (pose_count t) 64) TooManyPoses (λ _. past_zones none)))
       (λ none. one_says Earliest (nat_le (place_count t) 16) TooManyPlaces (λ _. past_poses none))

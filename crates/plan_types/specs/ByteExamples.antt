@@ -82,8 +82,8 @@ pub record BytesAreRight : Type 0 where
   pub nothing : bytes_of (plan_table 0 [] [] []) ≡ 0 ∷ 0 ∷ 0 ∷ 0 ∷ []
   pub places_alone : bytes_of (plan_table 3 [] [] (2 ∷ 1 ∷ [])) ≡ 3 ∷ 0 ∷ 0 ∷ 2 ∷ 2 ∷ 1 ∷ []
   -- a place that is neither source nor sink, a source, a sink, and both
-  pub ends : bytes_of (whole_table 15 [] []
-      (kept_by 14 ∷ record { keeper = 14; source = true; sink = false }
-      ∷ record { keeper = 3; source = false; sink = true } ∷ hand ∷ [])) ≡ 15 ∷ 0 ∷ 0 ∷ 4 ∷ 14 ∷ 78 ∷ 131 ∷ 192 ∷ []
+  pub ends : bytes_of (whole_table 30 [] []
+      (kept_by 29 ∷ record { keeper = 29; source = true; sink = false }
+      ∷ record { keeper = 3; source = false; sink = true } ∷ hand ∷ [])) ≡ 30 ∷ 0 ∷ 0 ∷ 4 ∷ 29 ∷ 93 ∷ 131 ∷ 192 ∷ []
   pub pose_alone : bytes_of (plan_table 5 [] (pose 4 true None (Some OpenIn) ∷ []) [])
       ≡ 5 ∷ 0 ∷ 1 ∷ 0 ∷ 4 ∷ 1 ∷ 0 ∷ 3 ∷ 0 ∷ 0 ∷ 0 ∷ 0 ∷ 0 ∷ 0 ∷ 0 ∷ 0 ∷ []

@@ -211,9 +211,9 @@ gives_at z q = plan_table 1 [] (pose_at 0 z q ∷ []) []
 abbrev pub counted : ℕ → ℕ → PlanTable
 counted zones places = plan_table 2 (replicate zones (zone 1 0 None None)) [] (replicate places 0)
 
--- the largest tables are plans: 15 machines, of which the last hosts a zone and keeps a place; 64 poses; 16 places
+-- the largest tables are plans: 30 machines, of which the last hosts a zone and keeps a place; 64 poses; 16 places
 pub record LargestPlans : Type 0 where
-  pub machines : plan_fault (plan_table 15 (zone 14 13 None None ∷ []) [] (14 ∷ [])) ≡ None
+  pub machines : plan_fault (plan_table 30 (zone 29 28 None None ∷ []) [] (29 ∷ [])) ≡ None
   pub poses : plan_fault (two_at press_zone (replicate 64 (pose 1 false None None))) ≡ None
   pub places : plan_fault (counted 0 16) ≡ None
   -- a word of 64 bits
@@ -227,7 +227,7 @@ pub record LargestPlans : Type 0 where
 
 -- tables with faults, and the first fault of each
 pub record FirstFaults : Type 0 where
-  pub machines : plan_fault (plan_table 16 (zone 1 1 None None ∷ []) [] []) ≡ Some TooManyMachines
+  pub machines : plan_fault (plan_table 31 (zone 1 1 None None ∷ []) [] []) ≡ Some TooManyMachines
   pub zones : plan_fault (plan_table 2 (replicate 11 press_zone) press_poses (0 ∷ 1 ∷ [])) ≡ Some TooManyZones
   pub poses : plan_fault (two_at press_zone (replicate 65 (pose 1 false None None))) ≡ Some TooManyPoses
   pub places : plan_fault (plan_table 2 (press_zone ∷ []) press_poses (replicate 17 0)) ≡ Some TooManyPlaces
@@ -269,7 +269,7 @@ pub record FirstFaults : Type 0 where
 
 -- a pose of a machine that no table has
 abbrev pub strange_pose : PlanPose
-strange_pose = pose 15 false (Some Moving) None
+strange_pose = pose 30 false (Some Moving) None
 
 -- a third zone of five machines, each of which keeps the place with its number
 abbrev pub third : PlanZone → PlanTable
@@ -309,27 +309,27 @@ pub record FaultsTellRows : Type 0 where
       ≡ Some (ForeignZone 0 1)
   pub earlier_pose : plan_fault (posed (pose_at 2 2 Closed ∷ strange_pose ∷ [])) ≡ Some (ForeignZone 0 2)
 
--- as many rows as these numbers say, each of them wrong: no table has a machine 15 or a place 99
+-- as many rows as these numbers say, each of them wrong: no table has a machine 30 or a place 99
 abbrev pub wrong : ℕ → ℕ → ℕ → ℕ → PlanTable
 wrong machines zones poses places =
-    plan_table machines (replicate zones (zone 15 15 (way 99 99) (way 99 99)))
-    (replicate poses strange_pose) (replicate places 15)
+    plan_table machines (replicate zones (zone 30 30 (way 99 99) (way 99 99)))
+    (replicate poses strange_pose) (replicate places 30)
 
 -- the order of faults: each table has more than one, and lacks that of the row before it
 pub record FaultsInOrder : Type 0 where
-  pub machines : plan_fault (wrong 16 11 65 17) ≡ Some TooManyMachines
-  pub zones : plan_fault (wrong 15 11 65 17) ≡ Some TooManyZones
-  pub poses : plan_fault (wrong 15 10 65 17) ≡ Some TooManyPoses
-  pub places : plan_fault (wrong 15 10 64 17) ≡ Some TooManyPlaces
+  pub machines : plan_fault (wrong 31 11 65 17) ≡ Some TooManyMachines
+  pub zones : plan_fault (wrong 30 11 65 17) ≡ Some TooManyZones
+  pub poses : plan_fault (wrong 30 10 65 17) ≡ Some TooManyPoses
+  pub places : plan_fault (wrong 30 10 64 17) ≡ Some TooManyPlaces
   -- 4 + 9 * 3 + 16 + 21 bits
-  pub width : plan_fault (wrong 15 10 64 16) ≡ Some (TooWide 4)
-  pub keeper : plan_fault (wrong 15 8 64 3) ≡ Some (NoSuchKeeper 0)
-  pub host : plan_fault (wrong 15 8 64 0) ≡ Some (NoSuchHost 0)
-  pub guest : plan_fault (two_at (zone 1 15 (way 99 99) (way 99 99)) (strange_pose ∷ [])) ≡ Some (NoSuchGuest 0)
+  pub width : plan_fault (wrong 30 10 64 16) ≡ Some (TooWide 4)
+  pub keeper : plan_fault (wrong 30 8 64 3) ≡ Some (NoSuchKeeper 0)
+  pub host : plan_fault (wrong 30 8 64 0) ≡ Some (NoSuchHost 0)
+  pub guest : plan_fault (two_at (zone 1 30 (way 99 99) (way 99 99)) (strange_pose ∷ [])) ≡ Some (NoSuchGuest 0)
   pub same : plan_fault (two_at (zone 1 1 (way 99 99) (way 99 99)) (strange_pose ∷ [])) ≡ Some (HostIsGuest 0)
   pub ways : plan_fault (two_at (zone 1 0 (way 99 99) (way 99 99)) (strange_pose ∷ [])) ≡ Some (InwardAstray 0)
   pub outward : plan_fault (two_at (zone 1 0 None (way 99 99)) (strange_pose ∷ [])) ≡ Some (OutwardAstray 0)
-  pub pose : plan_fault (wrong 15 0 64 0) ≡ Some (NoSuchMachine 0)
+  pub pose : plan_fault (wrong 30 0 64 0) ≡ Some (NoSuchMachine 0)
 
 -- tables are no plan, and this is their first fault
 abbrev pub IsNoPlan : PlanTable → PlanFault → Type 0
@@ -345,7 +345,7 @@ pose_after row = plan_table 3 (zone 2 1 None None ∷ []) (pose 2 true (Some Clo
 
 -- each rule broken alone: by a count where the tables have nothing else, or by the last row of a table
 pub record NoPlans : Type 0 where
-  pub machines : IsNoPlan (plan_table 16 [] [] []) TooManyMachines
+  pub machines : IsNoPlan (plan_table 31 [] [] []) TooManyMachines
   pub many_machines : IsNoPlan (plan_table 255 [] [] []) TooManyMachines
   pub zones : IsNoPlan (counted 11 0) TooManyZones
   pub poses : IsNoPlan (plan_table 1 [] (replicate 65 (pose 0 false None None)) []) TooManyPoses

@@ -30,7 +30,7 @@ GivesForeign t z row =
     × ¬ ((z < length t.zones) × ((get_or t.zones z no_zone).host ≡ row.machine))
 
 abbrev pub Says : PlanTable → PlanFault → Type 0
-Says t TooManyMachines = 15 < t.machines
+Says t TooManyMachines = 30 < t.machines
 Says t TooManyZones = 10 < length t.zones
 Says t TooManyPoses = 64 < length t.poses
 Says t TooManyPlaces = 16 < length t.places

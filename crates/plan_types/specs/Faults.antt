@@ -22,7 +22,7 @@ unless holds fault = then_some (not holds) fault
 
 abbrev pub count_fault : PlanTable → Option PlanFault
 count_fault t =
-    unless (nat_le t.machines 15) TooManyMachines
+    unless (nat_le t.machines 30) TooManyMachines
     or unless (nat_le (zone_count t) 10) TooManyZones
     or unless (nat_le (pose_count t) 64) TooManyPoses
     or unless (nat_le (place_count t) 16) TooManyPlaces

@@ -20,7 +20,7 @@ is_alike (Some q) (Some r) = if same_posture q Moving then same_posture r Moving
 is_alike _ _ = false
 
 pub record IsPlan (t : PlanTable) : Type 0 where
-  pub machines_at_most : t.machines ≤ 15
+  pub machines_at_most : t.machines ≤ 30
   pub zones_at_most : zone_count t ≤ 10
   pub poses_at_most : pose_count t ≤ 64
   pub places_at_most : place_count t ≤ 16

@@ -109,7 +109,7 @@ pub record RowsTell : Type 0 where
   pub outward : transfer_of unlike_table 1 OpenOut ≡ transfer 7 8 12 13
   pub first_inward : transfer_of unlike_table 0 OpenIn ≡ transfer 2 1 3 4
   pub first_outward : transfer_of unlike_table 0 OpenOut ≡ transfer 1 2 5 6
-  pub watch : watch ≡ 15
+  pub watch : watch ≡ 30
   -- whole rows
   pub first_zone : zone_row unlike_table 0 ≡ zone 1 2 (way 3 4) (way 5 6)
   pub second_zone : zone_row unlike_table 1 ≡ zone 7 8 (way 10 11) (way 12 13)

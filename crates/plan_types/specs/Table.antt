@@ -43,7 +43,7 @@ plan_table machines zones poses keepers = whole_table machines zones poses (map 
 
 -- the watch's number
 abbrev pub watch : ℕ
-watch = 15
+watch = 30
 
 abbrev pub zone_count : PlanTable → ℕ
 zone_count t = length t.zones

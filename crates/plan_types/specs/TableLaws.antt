@@ -127,7 +127,7 @@ pub record KeepsSpaceRules (t : PlanTable) (z : ℕ) : Type 0 where
   pub poses : (p : ℕ) → p < length t.poses → IsTrue (is_alike (posture_of t p (space_of t z)) (posture_of t p z))
 
 pub record KeepsRules (t : PlanTable) : Type 0 where
-  pub machines : t.machines < 16
+  pub machines : t.machines < 31
   pub zones : length t.zones < 11
   pub poses : length t.poses < 65
   pub places : length t.places < 17

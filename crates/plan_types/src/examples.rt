@@ -123,7 +123,7 @@ pub fn faults_in_order()
     ensures { FaultsInOrder }
 {}
 
-/// The largest tables are plans: 15 machines, 64 poses, 16 places, and words of 64 bits.
+/// The largest tables are plans: 30 machines, 64 poses, 16 places, and words of 64 bits.
 pub fn largest_plans()
     ensures { LargestPlans }
 {}

@@ -4,7 +4,7 @@
 /// the spaces. Each table is read from its first row to its last.
 #[derive(Clone, Copy, Debug, PartialEq, Eq)]
 pub enum PlanFault {
-    /// There are more than 15 machines.
+    /// There are more than 30 machines.
     TooManyMachines,
     /// There are more than 10 zones.
     TooManyZones,

@@ -72,7 +72,7 @@ impl Plan {
     /// How many machines there are.
     pub fn machines(&self) -> u8
         ensures machines { result ≡ self.now.machines }
-        ensures few { result ≤ 15 }
+        ensures few { result ≤ 30 }
         ensures plan { IsPlan self.now }
     {
         self.sheet.machines()

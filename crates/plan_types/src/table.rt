@@ -7,7 +7,7 @@ use crate::posture::Posture;
 use std::marker::Model;
 
 /// The most machines that a plan has.
-pub const MAX_MACHINES: u8 = 15;
+pub const MAX_MACHINES: u8 = 30;
 
 /// The most zones.
 pub const MAX_ZONES: usize = 10;
@@ -19,7 +19,7 @@ pub const MAX_POSES: usize = 64;
 pub const MAX_PLACES: usize = 16;
 
 /// The number of the watch, which is no machine: it inquires, stops the plant and resumes it.
-pub const WATCH: u8 = 15;
+pub const WATCH: u8 = 30;
 
 /// From which place a plate goes to which.
 #[derive(Clone, Copy, Debug, PartialEq, Eq)]

@@ -21,11 +21,11 @@ use Rattle.plan_words.proofs.CutTables.{is_cut_at, cut_is_large}
 
 -- ---- it is a large plan
 
-pose_is : (p : ℕ) → p < 40 → pose_row forty_zones p ≡ pose_at ((p + 1) % 15) p OpenIn
-pose_is p l = get_or-map-range_with_len (λ z. pose_at ((z + 1) % 15) z OpenIn) 0 40 p p no_pose l (omega arith)
+pose_is : (p : ℕ) → p < 40 → pose_row forty_zones p ≡ pose_at ((p + 1) % 30) p OpenIn
+pose_is p l = get_or-map-range_with_len (λ z. pose_at ((z + 1) % 30) z OpenIn) 0 40 p p no_pose l (omega arith)
 
-host_is : (z : ℕ) → z < 40 → host_of forty_zones z ≡ (z + 1) % 15
-host_is z l = eqb-true _ _ (each (λ x. nat_eq (host_of forty_zones x) ((x + 1) % 15)) 40 refl z l)
+host_is : (z : ℕ) → z < 40 → host_of forty_zones z ≡ (z + 1) % 30
+host_is z l = eqb-true _ _ (each (λ x. nat_eq (host_of forty_zones x) ((x + 1) % 30)) 40 refl z l)
 
 pose_of_host : (p z : ℕ) (q : Posture) → p < 40 → posture_of forty_zones p z ≡ Some q → (z < 40) × (host_of forty_zones z ≡ machine_of forty_zones p)
 pose_of_host p z q l e =
@@ -34,13 +34,13 @@ pose_of_host p z q l e =
 
 forty_large : IsLargePlan forty_zones
 forty_large = record {
-  keeper_is_machine = λ p l. ltb-true _ _ (each (λ x. nat_lt (keeper_of forty_zones x) 15) 41 refl p l);
-  host_is_machine = λ z l. ltb-true _ _ (each (λ x. nat_lt (host_of forty_zones x) 15) 40 refl z l);
-  guest_is_machine = λ z l. ltb-true _ _ (each (λ x. nat_lt (guest_of forty_zones x) 15) 40 refl z l);
+  keeper_is_machine = λ p l. ltb-true _ _ (each (λ x. nat_lt (keeper_of forty_zones x) 30) 41 refl p l);
+  host_is_machine = λ z l. ltb-true _ _ (each (λ x. nat_lt (host_of forty_zones x) 30) 40 refl z l);
+  guest_is_machine = λ z l. ltb-true _ _ (each (λ x. nat_lt (guest_of forty_zones x) 30) 40 refl z l);
   host_is_not_guest = λ z l. eqb-false _ _ (not_true _ (each (λ x. not (nat_eq (host_of forty_zones x) (guest_of forty_zones x))) 40 refl z l));
   inward_to_host = λ z l. each (λ x. leads forty_zones (guest_of forty_zones x) (host_of forty_zones x) (zone_row forty_zones x).inward) 40 refl z l;
   outward_to_guest = λ z l. each (λ x. leads forty_zones (host_of forty_zones x) (guest_of forty_zones x) (zone_row forty_zones x).outward) 40 refl z l;
-  pose_of_machine = λ p l. ltb-true _ _ (each (λ x. nat_lt (machine_of forty_zones x) 15) 40 refl p l);
+  pose_of_machine = λ p l. ltb-true _ _ (each (λ x. nat_lt (machine_of forty_zones x) 30) 40 refl p l);
   pose_of_host = pose_of_host;
   one_host_a_space = λ z l. ap (host_of forty_zones) (alone z l);
   guests_differ = λ y z l m same. absurd (let n : y < 40 = omega (arith, l, m) in let own = sym (alone y n) ∙ (same ∙ alone z m) in omega (arith, own, l));

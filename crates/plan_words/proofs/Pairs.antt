@@ -25,9 +25,9 @@ alike_self (Some OpenOut) = refl
 
 pairs_are_large : IsLargePlan twelve_pairs
 pairs_are_large = record {
-  keeper_is_machine = λ p l. ltb-true _ _ (each (λ x. nat_lt (keeper_of twelve_pairs x) 15) 24 refl p l);
-  host_is_machine = λ z l. ltb-true _ _ (each (λ x. nat_lt (host_of twelve_pairs x) 15) 12 refl z l);
-  guest_is_machine = λ z l. ltb-true _ _ (each (λ x. nat_lt (guest_of twelve_pairs x) 15) 12 refl z l);
+  keeper_is_machine = λ p l. ltb-true _ _ (each (λ x. nat_lt (keeper_of twelve_pairs x) 30) 24 refl p l);
+  host_is_machine = λ z l. ltb-true _ _ (each (λ x. nat_lt (host_of twelve_pairs x) 30) 12 refl z l);
+  guest_is_machine = λ z l. ltb-true _ _ (each (λ x. nat_lt (guest_of twelve_pairs x) 30) 12 refl z l);
   host_is_not_guest = λ z l. eqb-false _ _ (not_true _ (each (λ x. not (nat_eq (host_of twelve_pairs x) (guest_of twelve_pairs x))) 12 refl z l));
   inward_to_host = λ z l. each (λ x. leads twelve_pairs (guest_of twelve_pairs x) (host_of twelve_pairs x) (zone_row twelve_pairs x).inward) 12 refl z l;
   outward_to_guest = λ z l. each (λ x. leads twelve_pairs (host_of twelve_pairs x) (guest_of twelve_pairs x) (zone_row twelve_pairs x).outward) 12 refl z l;

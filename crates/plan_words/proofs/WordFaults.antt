@@ -20,16 +20,16 @@ use Rattle.plan_words.specs.PlantFaults.{count_fault, IsWordFault, IsFaultOfSome
 use Rattle.plan_words.proofs.WordOrder.{plan_fits, fit_is_plan}
 
 -- a group with too many rows is no plan, for these
-counts : (machines zones poses places : ℕ) (a b c : ℕ) → machines ≤ 15 → zones ≡ a → poses ≡ b → places ≡ c
-    → (unless (nat_le machines 15) TooManyMachines or unless (nat_le zones 10) TooManyZones or unless (nat_le poses 64) TooManyPoses or unless (nat_le places 16) TooManyPlaces)
+counts : (machines zones poses places : ℕ) (a b c : ℕ) → machines ≤ 30 → zones ≡ a → poses ≡ b → places ≡ c
+    → (unless (nat_le machines 30) TooManyMachines or unless (nat_le zones 10) TooManyZones or unless (nat_le poses 64) TooManyPoses or unless (nat_le places 16) TooManyPlaces)
     ≡ (unless (nat_le a 10) TooManyZones or unless (nat_le b 64) TooManyPoses or unless (nat_le c 16) TooManyPlaces)
 counts machines zones poses places a b c few e f g =
-    ap (λ x. unless x TooManyMachines or unless (nat_le zones 10) TooManyZones or unless (nat_le poses 64) TooManyPoses or unless (nat_le places 16) TooManyPlaces) (le-leb machines 15 few)
+    ap (λ x. unless x TooManyMachines or unless (nat_le zones 10) TooManyZones or unless (nat_le poses 64) TooManyPoses or unless (nat_le places 16) TooManyPlaces) (le-leb machines 30 few)
     ∙ (ap (λ n. unless (nat_le n 10) TooManyZones or unless (nat_le poses 64) TooManyPoses or unless (nat_le places 16) TooManyPlaces) e
     ∙ (ap (λ n. unless (nat_le a 10) TooManyZones or unless (nat_le n 64) TooManyPoses or unless (nat_le places 16) TooManyPlaces) f
     ∙ ap (λ n. unless (nat_le a 10) TooManyZones or unless (nat_le b 64) TooManyPoses or unless (nat_le n 16) TooManyPlaces) g))
 
-pub count_first : (t : PlanTable) (g : Group) (fault : PlanFault) → t.machines ≤ 15 → count_fault g ≡ Some fault → plan_fault (table_of t g) ≡ Some fault
+pub count_first : (t : PlanTable) (g : Group) (fault : PlanFault) → t.machines ≤ 30 → count_fault g ≡ Some fault → plan_fault (table_of t g) ≡ Some fault
 count_first t g fault few e =
     count_fault_first (table_of t g) fault
     (counts t.machines (zone_count (table_of t g)) (pose_count (table_of t g)) (place_count (table_of t g)) (length g.zones) (length g.poses) (length g.places) few

@@ -225,20 +225,20 @@ is_on_words t large plans = record {
 
 pub fits_from : (t : PlanTable) (g : Group) → Fits t g → fits t g ≡ true
 fits_from t g f =
-    and_from (nat_le t.machines 15 && nat_le (length g.zones) 10 && nat_le (length g.poses) 64 && nat_le (length g.places) 16) (nat_le (word_width (table_of t g)) 64)
-    (and_from (nat_le t.machines 15 && nat_le (length g.zones) 10 && nat_le (length g.poses) 64) (nat_le (length g.places) 16)
-    (and_from (nat_le t.machines 15 && nat_le (length g.zones) 10) (nat_le (length g.poses) 64)
-    (and_from (nat_le t.machines 15) (nat_le (length g.zones) 10) (le-leb _ _ f.machines) (le-leb _ _ f.zones))
+    and_from (nat_le t.machines 30 && nat_le (length g.zones) 10 && nat_le (length g.poses) 64 && nat_le (length g.places) 16) (nat_le (word_width (table_of t g)) 64)
+    (and_from (nat_le t.machines 30 && nat_le (length g.zones) 10 && nat_le (length g.poses) 64) (nat_le (length g.places) 16)
+    (and_from (nat_le t.machines 30 && nat_le (length g.zones) 10) (nat_le (length g.poses) 64)
+    (and_from (nat_le t.machines 30) (nat_le (length g.zones) 10) (le-leb _ _ f.machines) (le-leb _ _ f.zones))
     (le-leb _ _ f.poses))
     (le-leb _ _ f.places))
     (le-leb _ _ f.width)
 
 pub fits_from_test : (t : PlanTable) (g : Group) → fits t g ≡ true → Fits t g
 fits_from_test t g e =
-    let four = and_parts (nat_le t.machines 15 && nat_le (length g.zones) 10 && nat_le (length g.poses) 64 && nat_le (length g.places) 16) (nat_le (word_width (table_of t g)) 64) e in
-    let three = and_parts (nat_le t.machines 15 && nat_le (length g.zones) 10 && nat_le (length g.poses) 64) (nat_le (length g.places) 16) four.0 in
-    let two = and_parts (nat_le t.machines 15 && nat_le (length g.zones) 10) (nat_le (length g.poses) 64) three.0 in
-    let one = and_parts (nat_le t.machines 15) (nat_le (length g.zones) 10) two.0 in
+    let four = and_parts (nat_le t.machines 30 && nat_le (length g.zones) 10 && nat_le (length g.poses) 64 && nat_le (length g.places) 16) (nat_le (word_width (table_of t g)) 64) e in
+    let three = and_parts (nat_le t.machines 30 && nat_le (length g.zones) 10 && nat_le (length g.poses) 64) (nat_le (length g.places) 16) four.0 in
+    let two = and_parts (nat_le t.machines 30 && nat_le (length g.zones) 10) (nat_le (length g.poses) 64) three.0 in
+    let one = and_parts (nat_le t.machines 30) (nat_le (length g.zones) 10) two.0 in
     record { machines = leb-true _ _ one.0; zones = leb-true _ _ one.1; poses = leb-true _ _ two.1; places = leb-true _ _ three.1; width = leb-true _ _ four.1 }
 
 -- the other way round: the tables of a plan have the group's rows

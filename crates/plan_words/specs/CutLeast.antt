@@ -63,10 +63,10 @@ pub record GroupsWhenCut : Type 0 where
   pub tending_whole : labels_of tending ≡ 0 ∷ 0 ∷ 0 ∷ 0 ∷ 0 ∷ []
   pub tending : labels_of (all_cut tending) ≡ 0 ∷ 1 ∷ 2 ∷ 3 ∷ 4 ∷ []
 
--- forty zones of fifteen machines, in a ring that goes round almost three times: no plan of one word; with all places
+-- forty zones of thirty machines, in a ring that goes round more than once: no plan of one word; with all places
 -- cut each zone is on a word of its own
 abbrev pub forty_zones : PlanTable
-forty_zones = line_of (λ k. k % 15) 15 40
+forty_zones = line_of (λ k. k % 30) 30 40
 
 pub record FortyZones : Type 0 where
   pub whole_labels : labels_of forty_zones ≡ map (λ z. 0) (range_with_len 0 40)

@@ -136,7 +136,7 @@ word_of t n = record { group = group_of t n; table = table_of t (group_of t n) }
 
 -- a group fits a word
 pub record Fits (t : PlanTable) (g : Group) : Type 0 where
-  pub machines : t.machines ≤ 15
+  pub machines : t.machines ≤ 30
   pub zones : length g.zones ≤ 10
   pub poses : length g.poses ≤ 64
   pub places : length g.places ≤ 16

@@ -45,7 +45,7 @@ both [] = []
 both (k ∷ ks) = 0 ∷ 1 ∷ both ks
 
 abbrev pub pairs : List ℕ → PlanTable
-pairs ks = plan_table 15 (map (λ k. zone 1 0 (way (2 * k) (2 * k + 1)) None) ks) [] (both ks)
+pairs ks = plan_table 30 (map (λ k. zone 1 0 (way (2 * k) (2 * k + 1)) None) ks) [] (both ks)
 
 abbrev pub twelve_pairs : PlanTable
 twelve_pairs = pairs (range_with_len 0 12)
@@ -83,7 +83,7 @@ pub record GroupsAreRight : Type 0 where
   pub last_zone : (group_of twelve_pairs 11).zones ≡ 11 ∷ []
   pub last_places : (group_of twelve_pairs 11).places ≡ 22 ∷ 23 ∷ []
   pub last_table : table_of twelve_pairs (group_of twelve_pairs 11)
-      ≡ plan_table 15 (zone 1 0 (way 0 1) None ∷ []) [] (0 ∷ 1 ∷ [])
+      ≡ plan_table 30 (zone 1 0 (way 0 1) None ∷ []) [] (0 ∷ 1 ∷ [])
 
 -- twelve pairs are a large plan, which isn't a plan of one word, and are laid out on words: the last one has nothing
 pub record TwelvePairs : Type 0 where

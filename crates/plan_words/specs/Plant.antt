@@ -16,7 +16,7 @@ use Rattle.plan_words.specs.Run.{Word, IsLaidOut}
 -- ---- what a plant may have
 
 pub record FitsPlant (t : PlanTable) : Type 0 where
-  pub machines : t.machines ≤ 15
+  pub machines : t.machines ≤ 30
   pub zones : zone_count t ≤ 40
   pub poses : pose_count t ≤ 255
   pub places : place_count t ≤ 255
@@ -57,7 +57,7 @@ together t labels = labelled t (λ l. list_any (nat_eq l) labels)
 -- it fits a word, computed
 abbrev pub fits : PlanTable → Group → Bool
 fits t g =
-    nat_le t.machines 15 && nat_le (length g.zones) 10 && nat_le (length g.poses) 64 && nat_le (length g.places) 16
+    nat_le t.machines 30 && nat_le (length g.zones) 10 && nat_le (length g.poses) 64 && nat_le (length g.places) 16
     && nat_le (word_width (table_of t g)) 64
 
 -- the first word that has room for one group more; if none has, the word after all

@@ -14,7 +14,7 @@ use Rattle.plan_words.specs.Plant.{row_fault, group_labels, together, sharers}
 
 -- the plant has more than it may have
 abbrev pub Exceeds : PlanTable → Limit → Type 0
-Exceeds t Machines = 15 < t.machines
+Exceeds t Machines = 30 < t.machines
 Exceeds t Zones = 40 < zone_count t
 Exceeds t Poses = 255 < pose_count t
 Exceeds t Places = 255 < place_count t

@@ -90,7 +90,7 @@ pub record WrongSplits : Type 0 where
   pub second_give : reply one_of_them second_word 0 (Give 0) ≡ Done
 
 -- ---- what several words don't promise. Two zones, each on a word of its own; a robot, 0, hosts both, and claims first
--- the one, then the other. The watch, 15, looks at the second one first
+-- the one, then the other. The watch, 30, looks at the second one first
 
 abbrev pub one_zone : PlanTable
 one_zone = plan_table 2 (zone 0 1 None None ∷ []) [] []
@@ -103,11 +103,11 @@ event m c a = record { machine = m; call = c; answer = a }
 
 -- the first word's history: the watch finds the zone free, then the robot claims it
 abbrev pub first_history : List Event
-first_history = event 15 (Inquire 0) (Shown None false Closed) ∷ event 0 (Claim 0) Done ∷ []
+first_history = event 30 (Inquire 0) (Shown None false Closed) ∷ event 0 (Claim 0) Done ∷ []
 
 -- the second word's: the robot claims its zone, then the watch finds it claimed
 abbrev pub second_history : List Event
-second_history = event 0 (Claim 0) Done ∷ event 15 (Inquire 0) (Shown (Some 0) false Closed) ∷ []
+second_history = event 0 (Claim 0) Done ∷ event 30 (Inquire 0) (Shown (Some 0) false Closed) ∷ []
 
 -- both are legal, and each caller's calls are in its order on each word; but no order of all four keeps both callers'
 -- orders. Each contract of one word allows it: none excludes that the watch sees the second claim without the first.
@@ -127,7 +127,7 @@ abbrev pub held_first : State
 held_first = state (owned 0 Closed ∷ replicate 9 free_zone) (replicate 16 false)
 
 abbrev pub first_shown : List Event
-first_shown = event 15 (Inquire 0) (Shown (Some 0) false Closed) ∷ event 0 (Release 0) Done ∷ []
+first_shown = event 30 (Inquire 0) (Shown (Some 0) false Closed) ∷ event 0 (Release 0) Done ∷ []
 
 -- one large plan of both zones, in the only order that keeps both callers' orders and both words'
 abbrev pub two_zones : PlanTable
@@ -135,8 +135,8 @@ two_zones = plan_table 2 (zone 0 1 None None ∷ zone 0 1 None None ∷ []) [] [
 
 abbrev pub in_order : List Event
 in_order =
-    event 15 (Inquire 0) (Shown (Some 0) false Closed) ∷ event 0 (Release 0) Done ∷ event 0 (Claim 1) Done
-    ∷ event 15 (Inquire 1) (Shown (Some 0) false Closed) ∷ []
+    event 30 (Inquire 0) (Shown (Some 0) false Closed) ∷ event 0 (Release 0) Done ∷ event 0 (Claim 1) Done
+    ∷ event 30 (Inquire 1) (Shown (Some 0) false Closed) ∷ []
 
 -- whether the robot holds both zones at some moment of a history
 abbrev pub holds_both : State → List Event → Bool

@@ -8,7 +8,7 @@ use std::alloc::{AllocError, AllocFailed};
 /// Of what a plant has more than it may have.
 #[derive(Clone, Copy, Debug, PartialEq, Eq)]
 pub enum Limit {
-    /// More than 15 machines.
+    /// More than 30 machines.
     Machines,
     /// More than 40 zones.
     Zones,

@@ -9,7 +9,7 @@ use plan_types::{PlanPlace, PlanZone, Posture};
 use std::marker::Model;
 
 /// The most machines of a plant.
-pub const MAX_PLANT_MACHINES: u8 = 15;
+pub const MAX_PLANT_MACHINES: u8 = 30;
 
 /// The most zones of a plant.
 pub const MAX_PLANT_ZONES: usize = 40;

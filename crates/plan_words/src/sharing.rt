@@ -83,7 +83,7 @@ impl PlantTables {
     fn fits(&self, labels: &[usize], groups: &[usize], alloc: Global) -> Result<bool, PlantFault>
         requires labels { labels.now ≡ labels_of self.now }
         requires large { IsLargePlan self.now }
-        requires machines { self.now.machines ≤ 15 }
+        requires machines { self.now.machines ≤ 30 }
         ensures fits { let members = together self.now groups.now in
             IfOk result (λ fits. fits ≡ plant.fits self.now members) }
         ensures fault { IfErr result (λ fault. fault ≡ OutOfMemory) }
@@ -105,7 +105,7 @@ impl PlantTables {
     ) -> Result<bool, PlantFault>
         requires labels { labels.now ≡ labels_of self.now }
         requires large { IsLargePlan self.now }
-        requires machines { self.now.machines ≤ 15 }
+        requires machines { self.now.machines ≤ 30 }
         ensures room { let members = together self.now (word.now ++ label ∷ []) in
             IfOk result (λ room. room ≡ plant.fits self.now members) }
         ensures fault { IfErr result (λ fault. fault ≡ OutOfMemory) }
@@ -125,7 +125,7 @@ impl PlantTables {
     ) -> Result<usize, PlantFault>
         requires labels { labels.now ≡ labels_of self.now }
         requires large { IsLargePlan self.now }
-        requires machines { self.now.machines ≤ 15 }
+        requires machines { self.now.machines ≤ 30 }
         ensures first { IfOk result (λ word. word ≡ first_room self.now label words.now) }
         ensures fault { IfErr result (λ fault. fault ≡ OutOfMemory) }
     {
@@ -149,7 +149,7 @@ impl PlantTables {
     ) -> Result<Vec<Sharers>, PlantFault>
         requires labels { labels.now ≡ labels_of self.now }
         requires large { IsLargePlan self.now }
-        requires machines { self.now.machines ≤ 15 }
+        requires machines { self.now.machines ≤ 30 }
         ensures words { IfOk result (λ words. words.items ≡ all_put_on self.now groups.now []) }
         ensures fault { IfErr result (λ fault. fault ≡ OutOfMemory) }
     {

@@ -153,7 +153,7 @@ impl PlantTables {
         alloc: Global,
     ) -> Result<PlantWord, PlantFault>
         requires labels { labels.now ≡ labels_of self.now }
-        requires machines { self.now.machines ≤ 15 }
+        requires machines { self.now.machines ≤ 30 }
         ensures word { IfOk result (λ word. word ≡ shared_word self.now groups.now) }
         ensures plan { IfOk result (λ word. IsPlan word.table) }
         ensures fault { IfErr result (IsWordFault self.now groups.now) }
@@ -219,7 +219,7 @@ impl PlantTables {
         alloc: Global,
     ) -> Result<(), PlantFault>
         requires labels { labels.now ≡ labels_of self.now }
-        requires machines { self.now.machines ≤ 15 }
+        requires machines { self.now.machines ≤ 30 }
         ensures plans { IsOk result → AreAlonePlans self.now groups.now }
         ensures fault { IfErr result (IsFaultOfSome self.now groups.now) }
     {
@@ -238,7 +238,7 @@ impl PlantTables {
         alloc: Global,
     ) -> Result<PlantWord, PlantFault>
         requires labels { labels.now ≡ labels_of self.now }
-        requires machines { self.now.machines ≤ 15 }
+        requires machines { self.now.machines ≤ 30 }
         requires plan { IsPlan (shared_word self.now groups.now).table }
         ensures word { IfOk result (λ word. word ≡ shared_word self.now groups.now) }
         ensures fault { IfErr result (λ fault. fault ≡ OutOfMemory) }
@@ -255,7 +255,7 @@ impl PlantTables {
         alloc: Global,
     ) -> Result<Vec<PlantWord>, PlantFault>
         requires labels { labels.now ≡ labels_of self.now }
-        requires machines { self.now.machines ≤ 15 }
+        requires machines { self.now.machines ≤ 30 }
         requires plans { ArePlans (map (shared_word self.now) sharers.now) }
         ensures words { IfOk result (λ made. made.items ≡ map (shared_word self.now) sharers.now) }
         ensures fault { IfErr result (λ fault. fault ≡ OutOfMemory) }

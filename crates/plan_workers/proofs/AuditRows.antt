@@ -70,5 +70,5 @@ rows = record {
   too_late = waits ((shut_at 1 ∷ []) ∷ []) 0 (shut_at 1) [] refl refl;
   out_of_turn = waits (own (again_at 1 ∷ claimed_at 1 ∷ [])) 1 (again_at 1) (claimed_at 1 ∷ []) refl refl;
   other_end = after_claim [] (Some press_start) other_end;
-  stranger = of_no_machine press_table press_start _ None 16 (omega arith) (λ e. cc);
+  stranger = of_no_machine press_table press_start _ None 31 (omega arith) (λ e. cc);
 }

@@ -1,5 +1,6 @@
 -- Reading the entry that comes next goes on with each history that explains the journals, and with no other.
-use Rattle.std.proofs.Common.{◌≡◌, ◌≢◌, ℕ, ◌+◌, ◌<◌, ◌≤◌, inl, inr, Bool, true, false, List, [], ◌∷◌, Option, refl, sym, ap, ◌∙◌, subst, arith}
+use Rattle.std.proofs.Common.{◌≡◌, ◌≢◌, ℕ, zero, suc, ◌+◌, ◌<◌, ◌≤◌, inl, inr, Bool, true, false, List, [], ◌∷◌, Option, get_or, refl, sym, ap, ◌∙◌, subst, arith}
+use Rattle.std.specs.Prelude.{drop, replicate}
 use Rattle.std.proofs.lemmas.Bool.{cases_Bool, cases_eq}
 use Rattle.plan_types.specs.declared.answer.Event.{Event}
 use Rattle.plan_types.specs.Table.{PlanTable, watch}
@@ -12,8 +13,23 @@ use Rattle.plan_workers.specs.declared.audit_fault.PlanAuditFault.TheVariants.{M
 use Rattle.plan_workers.specs.declared.journal.PlanEntry.{PlanEntry}
 use Rattle.plan_workers.specs.Journals.{entry_of, event_by, journal_of, stamp_after}
 use Rattle.plan_workers.specs.Audited.{AreByCallers, EndsIn, HasNoHistory, IsAudited, Journals}
-use Rattle.plan_workers.specs.Replays.{Follows, HasNoNext, IsNext, NoneFollows, Reads}
+use Rattle.plan_workers.specs.Replays.{Follows, HasNoNext, IsNext, NoneFollows, Reads, rest_of}
 use Rattle.plan_workers.proofs.Journaling.{calm_stays, next_stamp, others_first, own_first, stamp_calm, stamp_done, stamps_from}
+
+-- ---- of journals of which nothing has been read all is left
+
+unread : (n m : ℕ) → ◌≡◌ {A = ℕ} (get_or (replicate n 0) m 0) 0
+unread zero m = refl
+unread (suc n) zero = refl
+unread (suc n) (suc m) = unread n m
+
+pub all_left : (js : Journals) (read : List ℕ) → read ≡ replicate 31 0 → (m : ℕ) → rest_of read js m ≡ js m
+all_left js read none m = ap (λ r. drop (get_or r m 0) (js m)) none ∙ ap (λ k. drop k (js m)) (unread 31 m)
+
+pub alike : (t : PlanTable) (s now : State) (js ks : Journals) (end : Option State) (h : List Event) → now ≡ s → ((m : ℕ) → js m ≡ ks m) → IsAudited t now js end h → IsAudited t s ks end h
+alike t s now js ks end h at same a =
+    let there = subst (λ z. IsAudited t z js end h) at a in
+    record { legal = there.legal; callers = there.callers; own = λ m. there.own m ∙ same m; ends = there.ends }
 
 -- ---- what was read explains what was left before
 

@@ -12,7 +12,7 @@ count_below zero js = 0
 count_below (suc n) js = length (js n) + count_below n js
 
 abbrev pub count_in : Journals → ℕ
-count_in js = count_below 16 js
+count_in js = count_below 31 js
 
 same_below : (n m : ℕ) (js ks : Journals) → n ≤ m → ((k : ℕ) → k ≢ m → ks k ≡ js k) → count_below n ks ≡ count_below n js
 same_below zero m js ks past same = refl
@@ -37,4 +37,4 @@ fewer_below (suc n) m js ks below less same =
 
 -- one fewer is left after an entry is read
 pub fewer : (t : PlanTable) (m : ℕ) (x : PlanEntry) (s now : State) (before later : Journals) → m ≤ watch → Reads t m x s now before later → count_in later < count_in before
-fewer t m x s now before later caller r = fewer_below 16 m before later (omega (arith, caller)) (subst (λ j. length (later m) < length j) (sym r.own) (omega arith)) r.others
+fewer t m x s now before later caller r = fewer_below 31 m before later (omega (arith, caller)) (subst (λ j. length (later m) < length j) (sym r.own) (omega arith)) r.others

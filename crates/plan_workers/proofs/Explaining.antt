@@ -24,7 +24,7 @@ use Rattle.plan_workers.proofs.Renewing.{Recorded, first_recorded, job_of, later
 
 -- ---- who has called
 
-by_callers : (n : ℕ) (h : List Event) → n ≤ 15 → AreOfMachines n h → AreByCallers h
+by_callers : (n : ℕ) (h : List Event) → n ≤ 30 → AreOfMachines n h → AreByCallers h
 by_callers n [] few k = tt
 by_callers n (e ∷ h) few k = let less = k.0 in (omega (arith, few, less), by_callers n h few k.1)
 
@@ -89,11 +89,11 @@ rounds_explained {D} reads drives takes gate t tries turns before now k of =
     let i = k.interlock in
     let h = k.ended.history in
     let n = length before.machines in
-    let few : n ≤ 15 = let most = k.ended.lawful.opened.0.machines_at_most in let all = k.all in omega (arith, most, all) in
+    let few : n ≤ 30 = let most = k.ended.lawful.opened.0.machines_at_most in let all = k.all in omega (arith, most, all) in
     let J : Journals = λ m. get_or (items_of k.backs) m [] in
     let long : length (items_of k.backs) ≡ n = length-map (map (λ (b : PlanRecorded D). b.journal) k.backs) (λ (j : Vec PlanEntry). j.items) ∙ (length-map k.backs (λ (b : PlanRecorded D). b.journal) ∙ k.many) in
     let past : (m : ℕ) → n ≤ m → J m ≡ [] = λ m least. get_or_past (items_of k.backs) m [] (omega (arith, long, least)) in
-    let watched : AreKept i.opening.stamp (watch_alone i) J = (record { since = []; split = refl; is = past 15 few }, tt) in
+    let watched : AreKept i.opening.stamp (watch_alone i) J = (record { since = []; split = refl; is = past 30 few }, tt) in
     let fit = fits J 0 k.backs (λ m. ap J (omega arith)) in
     let kept = all_kept reads drives gate turns i J 0 before.machines k.backs (watch_alone i) k.many k.recorded fit watched in
     let is_one : (m : ℕ) → m < n → IsOneOf m (given_back (watch_alone i) k.backs) = λ m less. each_one reads drives gate turns i J 0 before.machines k.backs (watch_alone i) k.many k.recorded m (omega arith) (omega (arith, less)) in

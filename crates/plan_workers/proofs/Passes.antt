@@ -20,9 +20,9 @@ use Rattle.plan_workers.specs.Renewing.{fresh_pass, jobs_from, watch_alone}
 next_range : (k n : ℕ) → k < n → range_with_len k (n - k) ≡ k ∷ range_with_len (k + 1) (n - (k + 1))
 next_range k n few = let one : n - k ≡ suc (n - (k + 1)) = omega arith in ap (range_with_len k) one
 
-pub all_callers : (t : PlanTable) → t.machines ≤ 15 → callers_of t ≡ range_with_len 0 (t.machines - 0) ++ watch ∷ []
+pub all_callers : (t : PlanTable) → t.machines ≤ 30 → callers_of t ≡ range_with_len 0 (t.machines - 0) ++ watch ∷ []
 all_callers t few =
-    let same : min t.machines 15 ≡ t.machines - 0 = min-eq_left few ∙ omega arith in
+    let same : min t.machines 30 ≡ t.machines - 0 = min-eq_left few ∙ omega arith in
     ap (λ n. range_with_len 0 n ++ watch ∷ []) same
 
 abbrev pub Actor : Type 0

@@ -75,7 +75,7 @@ pub record PaceExamples : Type 0 where
   pub all : HaveHad 3 4 (4 ∷ 5 ∷ 4 ∷ [])
   pub of_run : HaveHad 2 4 (4 ∷ 5 ∷ 0 ∷ [])
   pub not_the_first : ¬ HaveHad 2 4 (3 ∷ 5 ∷ [])
-  pub not_the_last : ¬ HaveHad 16 4 (replicate 15 4 ++ 3 ∷ [])
+  pub not_the_last : ¬ HaveHad 31 4 (replicate 30 4 ++ 3 ∷ [])
 
 -- the journals of these machines, from the first on
 abbrev pub these : List (List PlanEntry) → Journals

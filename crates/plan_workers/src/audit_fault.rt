@@ -8,7 +8,7 @@ use thiserror::Error;
 /// Why an audit refuses journals.
 #[derive(Clone, Copy, Debug, PartialEq, Eq, Error)]
 pub enum PlanAuditFault {
-    /// The journal of this number has entries, but no machine has a number above 15.
+    /// The journal of this number has entries, but no machine has a number above 30.
     #[error("journal {journal}: no machine has this number")]
     NoMachine { journal: usize },
     /// Entries are left, but no journal goes on from the state with this stamp: a stamp is missing, or stands twice, or

@@ -12,7 +12,7 @@ use plan_types::{Event, Plan};
 use std::alloc::Global;
 
 /// Finds the legal history that explains the journals: it begins at the start, journal k is what machine k noted of it,
-/// and it ends at the end, if one is given. The watch is machine 15.
+/// and it ends at the end, if one is given. The watch is machine 30.
 ///
 /// At one stamp the done event is first; the others are by machine, and then in the order of the journal. For each
 /// entry it looks at each journal at most twice.

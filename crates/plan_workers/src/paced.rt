@@ -6,8 +6,8 @@ use crate::gate::PlanGate;
 use std::sync::{Condvar, CondvarTimeouts, Mutex, Wait};
 use std::time::{Clock, Duration};
 
-/// The most callers of a plan: 15 machines, and the watch.
-const CALLERS: usize = 16;
+/// The most callers of a plan: 30 machines, and the watch.
+const CALLERS: usize = 31;
 
 /// How far machines have come.
 #[derive(Drop)]
@@ -20,7 +20,7 @@ struct Paces {
 
 /// Lets a machine begin its turn k once each machine of the run has had its turn k - 1. Until then it waits.
 ///
-/// A gate is for one run, or for the rounds of one, of all machines with a number below `machines`, at most 16. A
+/// A gate is for one run, or for the rounds of one, of all machines with a number below `machines`, at most 31. A
 /// machine that has waited for `patience` opens it: from then on none waits. So a run ends also where machines get no
 /// thread and work one after another, or where one isn't there.
 #[derive(Drop)]
@@ -34,7 +34,7 @@ pub struct PacedPlanGate<'r, R: Wait + Clock> {
 }
 
 impl Paces {
-    /// A machine has had this number of turns. A number above 15 is no machine's.
+    /// A machine has had this number of turns. A number above 30 is no machine's.
     fn put(&mut self, machine: u8, turns: u32)
         ensures { self.new ≡ record self.old { turns = slice_set self.old.turns machine turns } }
     {

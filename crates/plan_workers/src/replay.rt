@@ -17,7 +17,7 @@ use plan_rules::{State, apply};
 use plan_types::{Answer, Event, Plan};
 
 /// How many callers there are: machines, and the watch.
-const CALLERS: usize = 16;
+const CALLERS: usize = 31;
 
 /// The first journal past the watch's that has an entry.
 pub(crate) fn stranger_in(journals: &[Vec<PlanEntry>]) -> Option<usize>
@@ -77,7 +77,7 @@ fn ends_in(state: &State, end: Option<&State>) -> bool
 impl Replay {
     /// Nothing has been read.
     pub(crate) fn new(start: &State) -> Replay
-        ensures read { result.read ≡ replicate 16 0 }
+        ensures read { result.read ≡ replicate 31 0 }
         ensures state { result.state ≡ start.now }
     {
         Replay {
@@ -103,7 +103,7 @@ impl Replay {
             MatchOption result (NoneFollows done stamp left)
             (λ next. FollowsFirst done stamp left next.0 next.1) }
     {
-        for machine in 0..16 {
+        for machine in 0..31 {
             if let Some(entry) = self.next_of(journals, machine) {
                 if may_follow(&entry, done, self.state.stamp) {
                     return Some((machine, entry));
@@ -178,7 +178,7 @@ impl Replay {
         ensures { IsTrue result ↔ ((m : ℕ) → m ≤ watch
             → rest_of self.now.read (journals_in journals.now) m ≡ []) }
     {
-        for machine in 0..16 {
+        for machine in 0..31 {
             if self.next_of(journals, machine).is_some() {
                 return false;
             }

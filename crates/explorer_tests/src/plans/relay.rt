@@ -1,5 +1,5 @@
-//! A chain of eight machines that hand a plate on, each after a long program, beside seven that only wait. At most one
-//! machine can go on, so the turns and the situations are counted by hand.
+//! A chain of eight machines that hand a plate on, each after a long program, beside twenty-two that only wait, or ask
+//! nothing. At most one machine can go on, so the turns and the situations are counted by hand.
 
 use plan_explorer::{Explored, Programs, explore, take_turns};
 use plan_liveness::{Liveness, Progress, explore_machines, explore_plates};
@@ -11,10 +11,10 @@ use std::alloc::{AllocError, Global};
 const LINKS: u8 = 7;
 
 /// How many machines there are.
-const MACHINES: u8 = 15;
+const MACHINES: u8 = 30;
 
 /// A machine that only waits, or has a pose of its own: it is the last.
-const LAST: u8 = 14;
+const LAST: u8 = 29;
 
 /// A pose of a machine, which opens its zone outward if it is a link.
 fn pose_of(machine: u8) -> PlanPose {
@@ -76,11 +76,12 @@ fn push_list(lists: &mut Vec<Vec<Call>>, alloc: Global, calls: &[Call]) -> Resul
 }
 
 /// Adds the programs, of this many steps for each link. The machine after the links takes the plate, and waits for
-/// another one; those after it wait for a zone that isn't theirs. The last machine has this one.
+/// another one; those after it have the next one of these programs, and the last machine has the last.
 fn push_programs(
     lists: &mut Vec<Vec<Call>>,
     alloc: Global,
     steps: usize,
+    others: &[Call],
     last: &[Call],
 ) -> Result<(), AllocError> {
     for link in 0..LINKS {
@@ -88,7 +89,7 @@ fn push_programs(
     }
     push_list(lists, alloc, &[Call::Take(6), Call::Take(6)])?;
     for _ in LINKS + 1..LAST {
-        push_list(lists, alloc, &[Call::Release(0)])?;
+        push_list(lists, alloc, others)?;
     }
     push_list(lists, alloc, last)
 }
@@ -103,9 +104,9 @@ fn link_program(alloc: Global, link: u8, steps: usize) -> Result<Vec<Call>, Allo
 }
 
 /// Those programs, if there is memory.
-fn programs(alloc: Global, steps: usize, last: &[Call]) -> Option<Programs> {
+fn programs(alloc: Global, steps: usize, others: &[Call], last: &[Call]) -> Option<Programs> {
     let mut lists = Vec::new(alloc);
-    let is_made = push_programs(&mut lists, alloc, steps, last).is_ok();
+    let is_made = push_programs(&mut lists, alloc, steps, others, last).is_ok();
     match Programs::new(lists) {
         Ok(programs) if is_made => Some(programs),
         _ => None,
@@ -174,23 +175,28 @@ fn are_fewest(alloc: Global, plan: &Plan, programs: &Programs, way: &[u8]) -> bo
     }
 }
 
-// All fifteen machines wait at the end: the fewest turns to it are found, and taken.
+// All thirty machines wait at the end: the fewest turns to it are found, and taken.
 #[test]
-fn fifteen_machines_stand_still_after_many_turns(rt: HostRuntime) {
+fn thirty_machines_stand_still_after_many_turns(rt: HostRuntime) {
     let plan = plan(rt.alloc()).expect(&rt, "a plan");
-    let programs = programs(rt.alloc(), 255, &[Call::Release(0)]).expect(&rt, "programs");
+    // a zone that isn't theirs
+    let waits = [Call::Release(0)];
+    let programs = programs(rt.alloc(), 255, &waits, &waits).expect(&rt, "programs");
     let mut way = Vec::new(rt.alloc());
     let is_made = push_way(&mut way, 255).is_ok();
     assert!(rt; is_made && are_fewest(rt.alloc(), &plan, &programs, way.as_slice()));
 }
 
-/// Whether these are the answers for all machines, of which only the last goes on for ever.
+/// Whether these are the answers for all machines. Only the last goes on for ever; those of the chain starve, and all
+/// others ask nothing.
 fn are_known(answers: &[Liveness]) -> bool {
     for (machine, answer) in answers.iter().enumerate() {
         let is_last = machine == usize::from(LAST);
+        let is_of_chain = machine <= usize::from(LINKS);
         let is_known = match answer {
             Liveness::Always(_) => is_last,
-            Liveness::Starves(_) => !is_last,
+            Liveness::Starves(_) => is_of_chain,
+            Liveness::Silent => !is_last && !is_of_chain,
             _ => false,
         };
         if !is_known {
@@ -228,12 +234,12 @@ fn situations_from(
 
 // The last machine goes on for ever, at each moment and at the end. No other machine does, and the plate rests there.
 #[test]
-fn one_of_fifteen_machines_goes_on(rt: HostRuntime) {
+fn one_of_thirty_machines_goes_on(rt: HostRuntime) {
     let plan = plan(rt.alloc()).expect(&rt, "a plan");
     let last = [Call::SetPose(LINKS), Call::SetPose(LINKS)];
-    let programs = programs(rt.alloc(), 9, &last).expect(&rt, "programs");
+    let programs = programs(rt.alloc(), 4, &[], &last).expect(&rt, "programs");
     // before the turns of each step and at the end, with the last machine at either of its steps
-    let wanted = 2 * (7 * 9 + 2);
+    let wanted = 2 * (7 * 4 + 2);
     assert!(rt; situations_from(rt.alloc(), &plan, &opening(), &programs) == Some(wanted));
     assert!(rt; goes_on_alone(rt.alloc(), &plan, &programs));
 }
@@ -243,7 +249,7 @@ fn one_of_fifteen_machines_goes_on(rt: HostRuntime) {
 fn a_plate_past_the_plan_changes_nothing(rt: HostRuntime) {
     let plan = plan(rt.alloc()).expect(&rt, "a plan");
     let last = [Call::SetPose(LINKS), Call::SetPose(LINKS)];
-    let programs = programs(rt.alloc(), 9, &last).expect(&rt, "programs");
+    let programs = programs(rt.alloc(), 9, &[], &last).expect(&rt, "programs");
     let told = situations_from(rt.alloc(), &plan, &opening(), &programs);
     let untold = situations_from(rt.alloc(), &plan, &opening_past_the_plan(), &programs);
     assert!(rt; told.is_some() && told == untold);

@@ -42,14 +42,14 @@ test_apart a b ne = ap not (false_from_ne_true (nat_eq a b) (λ t. ne (eqb-true 
 -- ---- from no fault to the rules
 
 pub record Counts (t : PlanTable) : Type 0 where
-  machines : t.machines ≤ 15
+  machines : t.machines ≤ 30
   zones : zone_count t ≤ 10
   poses : pose_count t ≤ 64
   places : place_count t ≤ 16
 
 pub counts : (t : PlanTable) → count_fault t ≡ None → Counts t
 counts t e =
-    let a = unless (nat_le t.machines 15) TooManyMachines in
+    let a = unless (nat_le t.machines 30) TooManyMachines in
     let b = unless (nat_le (zone_count t) 10) TooManyZones in
     let c = unless (nat_le (pose_count t) 64) TooManyPoses in
     let d = unless (nat_le (place_count t) 16) TooManyPlaces in
@@ -230,9 +230,9 @@ few_rows : (first : Option PlanFault) (zones poses places : Bool) → zones ≡ 
 few_rows first zones poses places z p k =
     rw (z, p, k) (sym (or_none (first or None or None) ∙ or_none (first or None) ∙ or_none first))
 
-pub count_fault_of_sheet : (t : PlanTable) → FitsSheet t → unless (nat_le t.machines 15) TooManyMachines ≡ count_fault t
+pub count_fault_of_sheet : (t : PlanTable) → FitsSheet t → unless (nat_le t.machines 30) TooManyMachines ≡ count_fault t
 count_fault_of_sheet t fits =
-    few_rows (unless (nat_le t.machines 15) TooManyMachines) _ _ _ (le-leb _ _ fits.zones) (le-leb _ _ fits.poses)
+    few_rows (unless (nat_le t.machines 30) TooManyMachines) _ _ _ (le-leb _ _ fits.zones) (le-leb _ _ fits.poses)
     (le-leb _ _ fits.places)
 
 pub empty_is_plan : IsPlan (plan_table 0 [] [] [])

@@ -11,7 +11,7 @@ loop-machine-init c =
     record {
       table = ap (λ p. p.table) c.requires.fresh;
       left = ap (λ p. p.actors) c.requires.fresh
-          ∙ ap (map (new_view c.args.interlock.now.rules c.args.interlock.now.opening)) (all_callers c.args.plan.now.named.plan (subst (λ n. n ≤ 15) end c.machines-machine-end.ensures.few));
+          ∙ ap (map (new_view c.args.interlock.now.rules c.args.interlock.now.opening)) (all_callers c.args.plan.now.named.plan (subst (λ n. n ≤ 30) end c.machines-machine-end.ensures.few));
       many = none;
       each = λ m job few. absurd (omega (arith, few, none));
     }

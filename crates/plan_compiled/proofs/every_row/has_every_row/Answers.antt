@@ -9,5 +9,5 @@ loop-machine-preserved c =
 
 pub returns-clause-rows : goal.returns-clause-rows
 returns-clause-rows c = λ e.
-    let end : c.loop-machine.machine ≡ 16 = omega arith in
+    let end : c.loop-machine.machine ≡ 31 = omega arith in
     complete_by c.args.plan.now c.args.rows.now c.args.starts.now c.machines.ensures.plan (λ m l. c.loop-machine.invariant m (omega (arith, end, l)))

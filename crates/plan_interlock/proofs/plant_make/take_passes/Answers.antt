@@ -22,4 +22,4 @@ loop-actor-preserved c =
     }
 
 pub invariant_of-push-2 : goal.invariant_of-push-2
-invariant_of-push-2 c = rights_of 15 c.args.interlocks.now c.in_ok-rights-2.rights.items c.in_ok-rights-2.ensures.rights
+invariant_of-push-2 c = rights_of 30 c.args.interlocks.now c.in_ok-rights-2.rights.items c.in_ok-rights-2.ensures.rights

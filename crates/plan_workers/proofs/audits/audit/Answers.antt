@@ -1,11 +1,12 @@
-use Rattle.std.proofs.Common.{◌≡◌, [], ◌∷◌, ◌++◌, refl, sym, ap, ◌∙◌, subst, append_assoc, append-nil}
+use Rattle.std.proofs.Common.{rules, ◌≡◌, [], ◌∷◌, ◌++◌, refl, sym, ap, ◌∙◌, subst, append_assoc, append-nil}
 use Rattle.std.specs.Option.{option_copied}
 use Rattle.plan_workers.specs.Audited.{AreInOrder, IsAudited, HasNoHistory, journals_in}
 use Rattle.plan_workers.specs.Journals.{event_by}
 use Rattle.plan_workers.specs.Replays.{rest_of}
+use Rattle.plan_workers.proofs.Counting.{fewer}
 use Rattle.plan_workers.proofs.Reading.{all_read}
-use Rattle.plan_workers.proofs.Auditing.{at_its_stamp, differs, is_at_end, nothing_left, of_no_machine, reads_no_more, reads_on, whatever_fault}
-use Rattle.plan_workers.proofs.Ordering.{IsLastInOrder, goes_in_order, last_in_order}
+use Rattle.plan_workers.proofs.Auditing.{alike, all_left, at_its_stamp, differs, is_at_end, nothing_left, of_no_machine, reads_no_more, reads_on, whatever_fault}
+use Rattle.plan_workers.proofs.Ordering.{IsLastInOrder, goes_in_order, last_in_order, none_yet}
 use Rattle.plan_workers.proofs.audits.audit.Goals as goal
 
 pub returns-in-Some-clause-refused : goal.returns-in-Some-clause-refused
@@ -18,6 +19,31 @@ returns-in_err-read-clause-refused c =
     let at = c.loop-machine.replay in
     whatever_fault c.from_residual.result (HasNoHistory c.args.plan.now c.args.start.now all end)
     (c.loop-machine.invariant.none (differs c.args.plan.now at.state (rest_of at.read all) end c.in-Some-next.machine c.in-Some-next.entry c.in-Some-next.ensures c.in_err-read.ensures.fault.1))
+
+pub loop-machine-init : goal.loop-machine-init
+loop-machine-init c =
+    let t = c.args.plan.now in
+    let all = journals_in c.args.journals.now in
+    let end = option_copied c.args.end in
+    let at = c.new-replay.ensures.state in
+    let left = all_left all c.new-replay.result.read c.new-replay.ensures.read in record {
+      callers = search rules;
+      goes_on = λ h a.
+          subst (λ es. IsAudited t c.args.start.now all end (es ++ h)) (sym c.new-events.ensures.items)
+          (alike t c.args.start.now c.new-replay.result.state (rest_of c.new-replay.result.read all) all end h at left a);
+      order = search rules;
+      last = subst (λ es. IsLastInOrder c.new-replay.result.state.stamp (rest_of c.new-replay.result.read all) es) (sym c.new-events.ensures.items)
+          (none_yet c.new-replay.result.state.stamp (rest_of c.new-replay.result.read all));
+      none = λ empty h a. empty h (alike t c.new-replay.result.state c.args.start.now all (rest_of c.new-replay.result.read all) end h (sym at) (λ m. sym (left m)) a);
+    }
+
+pub loop-machine-smaller : goal.loop-machine-smaller
+loop-machine-smaller c =
+    let all = journals_in c.args.journals.now in
+    let at = c.loop-machine.replay in
+    let now = c.read.new.self in
+    fewer c.args.plan.now c.in-Some-next.machine c.in-Some-next.entry at.state now.state (rest_of at.read all) (rest_of now.read all)
+    c.in-Some-next.ensures.follows.caller c.in_ok-read.ensures.read
 
 pub loop-machine-preserved : goal.loop-machine-preserved
 loop-machine-preserved c =

@@ -18,5 +18,5 @@ returns c = record {
   all = λ m low _. all_three m low;
   of_run = λ m low _. both m low;
   not_the_first = λ k. let turns = k 0 (omega arith) (omega arith) in omega (arith, turns);
-  not_the_last = λ k. let turns = k 15 (omega arith) (omega arith) in omega (arith, turns);
+  not_the_last = λ k. let turns = k 30 (omega arith) (omega arith) in omega (arith, turns);
 }
