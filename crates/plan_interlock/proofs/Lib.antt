@@ -7,3 +7,4 @@ mod Opening
 mod EachWord
 mod EachLoad
 mod EachHistory
+mod EachStop

@@ -67,7 +67,7 @@ passes_more interlocks more i rules passes later all are pushed taken by is =
     let own : all ≡ all_passes i = is ∙ ap (λ r. fresh_passes i (callers_of (plan_of r))) (sym by) in
     taken ∙ (ap (λ ps. ps ++ all ∷ []) are ∙ (ap (λ p. map all_passes interlocks ++ p ∷ []) own ∙ (sym (map_push all_passes interlocks i) ∙ ap (map all_passes) (sym pushed))))
 
--- all words have the callers of so many machines
+-- all words have the callers of this number of machines
 pub all_left : (n : ℕ) (interlocks : List WordView) (words : List WordOpening) → n ≤ 30 → map (λ i. i.rules) interlocks ≡ map (λ w. w.rules) words → All (λ w. machines_of w ≡ n) words
     → map all_passes interlocks ≡ passes_left interlocks (callers n)
 all_left n [] words few by all = refl

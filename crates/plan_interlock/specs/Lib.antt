@@ -13,3 +13,4 @@ pub mod PlantMake
 pub mod PlantMotors
 pub mod PlantExamples
 pub mod PlantLaws
+pub mod PlantStops

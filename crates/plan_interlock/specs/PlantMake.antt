@@ -37,13 +37,13 @@ plant_fault words tries =
     else if nat_eq (length words) 0 || nat_lt 16 (length words) then Some Words
     else if have_same_machines words then None else Some Machines
 
--- each word's interlock is by its rules, opens with its state, and lets a call lose so many exchanges
+-- each word's interlock is by its rules, opens with its state, and lets a call lose this number of exchanges
 pub record AreOpened (words : List WordOpening) (tries : ℕ) (interlocks : List WordView) : Type 0 where
   pub rules : map (λ i. i.rules) interlocks ≡ map (λ w. w.rules) words
   pub opening : map (λ i. i.opening) interlocks ≡ map (λ w. w.state) words
   pub limit : All (λ i. i.tries ≡ tries) interlocks
 
--- who has a pass: as many machines, and the watch
+-- who has a pass: the machines, of this number, and the watch
 abbrev pub callers : ℕ → List ℕ
 callers machines = range_with_len 0 machines ++ watch ∷ []
 

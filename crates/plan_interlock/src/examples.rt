@@ -85,7 +85,8 @@ pub fn shelf(alloc: Global) -> Result<Tables, AllocError>
     })
 }
 
-/// A word by these tables, which opens with a start with these places full, at stamp 0. `None` if the tables are no plan.
+/// A word by these tables, which opens with a start with these places full, at stamp 0. `None` if the tables are no
+/// plan.
 pub fn word_of(tables: Tables, full: [bool; 16]) -> Option<WordOpening>
     requires places { (p : ℕ) → place_count tables ≤ p → get_or full p false ≡ false }
     ensures plan { IfSome result (λ w. plan_of w.rules ≡ tables) }

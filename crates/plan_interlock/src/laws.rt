@@ -10,6 +10,7 @@ ghost use Rattle.plan_interlock.specs.Motors.{PermissionsLast, SurveysPermitTheS
 ghost use Rattle.plan_interlock.specs.MotorExamples.{MotorExamples};
 ghost use Rattle.plan_interlock.specs.Order.{BusyCallsAreFew, CallsKeepOrder, HistoryIsOne};
 ghost use Rattle.plan_interlock.specs.PlantLaws.{WordsStayLawful};
+ghost use Rattle.plan_interlock.specs.PlantStops.{StopsReachEachWord};
 ghost use Rattle.plan_interlock.specs.SeenExamples.{SeenExamples};
 ghost use Rattle.plan_interlock.specs.BookExamples.{BookExamples, OrderTells};
 
@@ -116,4 +117,11 @@ pub fn book_examples_are_right()
 /// whichever word: each law of such histories holds of each word by itself.
 pub fn words_stay_lawful()
     ensures { WordsStayLawful }
+{}
+
+/// The watch's stop (`PlantInterlock::stop`) reaches each word: its reply stands at the word's number. `Done` has
+/// stopped the word, and `Stopped` found it stopped. `Worn` found it running; and where the call was Busy the word runs
+/// still, after all that the pass has now seen there. Likewise `resume` lets each word go on.
+pub fn stops_reach_each_word()
+    ensures { StopsReachEachWord }
 {}
