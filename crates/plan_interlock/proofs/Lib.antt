@@ -8,3 +8,4 @@ mod EachWord
 mod EachLoad
 mod EachHistory
 mod EachStop
+mod EachRun

@@ -14,3 +14,4 @@ pub mod PlantMotors
 pub mod PlantExamples
 pub mod PlantLaws
 pub mod PlantStops
+pub mod PlantRuns

@@ -10,6 +10,7 @@ ghost use Rattle.plan_interlock.specs.Motors.{PermissionsLast, SurveysPermitTheS
 ghost use Rattle.plan_interlock.specs.MotorExamples.{MotorExamples};
 ghost use Rattle.plan_interlock.specs.Order.{BusyCallsAreFew, CallsKeepOrder, HistoryIsOne};
 ghost use Rattle.plan_interlock.specs.PlantLaws.{WordsStayLawful};
+ghost use Rattle.plan_interlock.specs.PlantRuns.{LoadsKeepApart};
 ghost use Rattle.plan_interlock.specs.PlantStops.{StopsReachEachWord};
 ghost use Rattle.plan_interlock.specs.SeenExamples.{SeenExamples};
 ghost use Rattle.plan_interlock.specs.BookExamples.{BookExamples, OrderTells};
@@ -18,6 +19,7 @@ use crate::rules::PlanRules;
 use plan_rules::State;
 use plan_rules::laws::lawful_histories;
 use plan_word::laws::words_are_laid_out;
+use plan_words::laws::{hazards_never_run_between_words, one_word_keeps_motors_apart};
 
 /// A start can open an interlock if only places of the plan are full.
 pub fn starts_can_open(rules: &PlanRules, opening: &State)
@@ -125,3 +127,13 @@ pub fn words_stay_lawful()
 pub fn stops_reach_each_word()
     ensures { StopsReachEachWord }
 {}
+
+/// What one load of each word told of a motor (`PlantInterlock::permitted_motors`) is a reading of its permission on
+/// each word, at a moment of its own. So two motors never both run by such loads, whatever is done on any word, if one
+/// zone or place keeps them apart, or the plan of one word.
+pub fn permitted_motors_exclude_between_words()
+    ensures { LoadsKeepApart }
+{
+    hazards_never_run_between_words();
+    one_word_keeps_motors_apart();
+}

@@ -37,9 +37,9 @@ impl PlantInterlock {
     /// - each word then goes on permitting the part, whatever events follow there, until a call of the motor's machine
     ///   loses the permission (`lasts`).
     ///
-    /// The words are loaded one after another: there is no one moment of all words. That two motors which exclude each
-    /// other never both go by such permissions, though they are read at different moments: `plan_words`,
-    /// `hazards_never_run_between_words`.
+    /// The words are loaded one after another: there is no one moment of all words. Yet two machines whose motors a
+    /// zone, a place or one word's plan keeps apart never both run them by such loads: the law
+    /// `permitted_motors_exclude_between_words`.
     pub fn permitted_motors(&self, pass: &mut PlantPass, masks: &[Vec<MotorMask>]) -> u64
         requires same_plant { IsOfPlant self.now pass.old }
         requires each_word { length masks.now ≡ length self.now }
