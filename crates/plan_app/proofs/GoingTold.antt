@@ -12,7 +12,7 @@ use Rattle.plan_liveness.specs.declared.answer.Liveness.{Liveness}
 use Rattle.plan_liveness.specs.declared.answer.Relay.{Relay}
 use Rattle.plan_text.specs.Names.{name_in}
 use Rattle.plan_text.specs.Named.{Named}
-use Rattle.plan_app.specs.Going.{bound_text, liveness_text, relay_end, within_text}
+use Rattle.plan_app.specs.Going.{bound_text, liveness_by, order_text, relay_end, within_text}
 use Rattle.plan_app.specs.GoingLaws.{AnswersTell, BoundsTell, GoingTells, MachinesTell, NoneStarves, StarvingTells}
 use Rattle.plan_app.specs.GoingLaws.{TextsTell, by_relay}
 use Rattle.plan_app.specs.Starving.{may_starve}
@@ -87,8 +87,8 @@ answers-tell = record {
 
 machines-tell : MachinesTell
 machines-tell = record {
-  machine = λ n ps opening answers m found there. ap (liveness_text n ps opening m) there;
-  no_answer = λ n ps opening answers m none. ap (liveness_text n ps opening m) none;
+  machine = λ n ps opening answers m found there. ap (liveness_by n (order_text n ps opening) m) there;
+  no_answer = λ n ps opening answers m none. ap (liveness_by n (order_text n ps opening) m) none;
   all = λ n ps opening answers. refl;
   plates = λ n ps opening b. refl;
 }

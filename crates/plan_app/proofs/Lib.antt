@@ -38,5 +38,6 @@ mod Keeping
 mod OnWordRows
 mod PlantStarting
 mod PlantStartRows
+mod PlantOrders
 mod PlantScreening
 mod PlantScreenRows

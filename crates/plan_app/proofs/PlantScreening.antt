@@ -1,57 +1,125 @@
 -- What was found of all words of a plant together is what is printed.
-use Rattle.std.proofs.Common.{◌≡◌, ◌∙◌, ◌+◌, ◌<◌, ◌++◌, ◌∷◌, [], ℕ, List, ap, get_or, length, subst, sym, take}
-use Rattle.std.proofs.lemmas.List.{map-append, take_more}
+use Rattle.std.proofs.Common.{◌≡◌, ◌∙◌, ◌+◌, ◌<◌, ◌++◌, ◌∷◌, [], ℕ, List, Result, Ok, Err, IfOk, ap, get_or, length}
+use Rattle.std.proofs.Common.{map, subst, sym, take}
+use Rattle.std.proofs.lemmas.List.{length-map, map-append, take_more}
 use Rattle.plan_types.specs.Table.{PlanTable}
 use Rattle.plan_rules.specs.declared.state.State.{State}
 use Rattle.plan_explorer.specs.declared.exploring.Explored.{Explored}
-use Rattle.plan_explorer.specs.declared.exploring.Explored.TheVariants.{Free, Standstill, Unfinished}
-use Rattle.plan_explorer.specs.Explored.{IfFree, IfStandstill, IfUnfinished}
-use Rattle.plan_explorer.specs.PlantExplored.{AreShortest, ComeTo, ComeToMore, LeadToStandstill, NoneStandsStill, NoneStandsStillBefore}
+use Rattle.plan_explorer.specs.declared.exploring.Explored.TheVariants as explored
+use Rattle.plan_explorer.specs.Explored.{IfFree, IfUnfinished}
+use Rattle.plan_explorer.specs.PlantExplored.{AreShortest, ComeTo, ComeToMore, LeadToStandstill, NoneStandsStill}
+use Rattle.plan_explorer.specs.PlantExplored.{NoneStandsStillBefore}
 use Rattle.plan_explorer.specs.PlantPrograms.{RoutedPrograms}
-use Rattle.std.specs.Global.{Vec}
-use Rattle.plan_text.specs.Names.{Text}
+use Rattle.plan_liveness.specs.declared.answer.Liveness.{Liveness}
 use Rattle.plan_document.specs.declared.resolving.ProgrammedPlan.{ProgrammedPlan}
-use Rattle.plan_app.specs.PlantScreens.{TellsFree, TellsStandstill, TellsUnfinished, turns_told}
+use Rattle.plan_app.specs.PlantGoing.{going_text}
+use Rattle.plan_app.specs.PlantScreens.{AreAnswers, IsPlantScreen, IsUnfinished, ShowsGoing, ShowsStandstill}
+use Rattle.plan_app.specs.PlantScreens.{any_starves}
 use Rattle.plan_app.specs.PlantStarts.{tables_of}
-use Rattle.plan_app.specs.Screens.{free_line, large_words}
+use Rattle.plan_app.specs.Screens.{ShowsFree}
+use Rattle.plan_app.specs.declared.explore.Screen.{Screen}
+use Rattle.plan_app.specs.declared.explore.Screen.TheVariants.{Free, Starving, Standstill, Unfinished}
 
-pub free_is_told : (plans : List ProgrammedPlan) (ps : RoutedPrograms) (openings : List State) (ts : List PlanTable) (found : Explored) (situations : ℕ) (text : Text)
-    → found ≡ Free situations → IfFree found (λ _. NoneStandsStill ts ps openings) → IfFree found (ComeTo ts ps openings)
-    → text ≡ free_line situations → ts ≡ tables_of plans → TellsFree plans ps openings text
-free_is_told plans ps openings ts found situations text is none come told tables =
-    let free = subst (λ f. IfFree f (λ _. NoneStandsStill ts ps openings)) is none in
-    let comes = subst (λ f. IfFree f (ComeTo ts ps openings)) is come in
-    record {
-      free = subst (λ t. NoneStandsStill t ps openings) tables free;
-      situations = situations;
-      come = subst (λ t. ComeTo t ps openings situations) tables comes;
-      told = told;
-    }
+-- ---- no standstill
 
-pub standstill_is_told : (plans : List ProgrammedPlan) (ps : RoutedPrograms) (openings : List State) (ts : List PlanTable) (found : Explored) (turns : Vec ℕ) (text : Text)
-    → found ≡ Standstill turns → IfStandstill found (LeadToStandstill ts ps openings) → IfStandstill found (AreShortest ts ps openings)
-    → text ≡ turns_told plans ps openings turns.items → ts ≡ tables_of plans → TellsStandstill plans ps openings text
-standstill_is_told plans ps openings ts found turns text is leads fewest told tables =
-    let lead = subst (λ f. IfStandstill f (LeadToStandstill ts ps openings)) is leads in
-    let shortest = subst (λ f. IfStandstill f (AreShortest ts ps openings)) is fewest in
-    record {
-      turns = turns.items;
-      lead = subst (λ t. LeadToStandstill t ps openings turns.items) tables lead;
-      shortest = subst (λ t. AreShortest t ps openings turns.items) tables shortest;
-      told = told;
-    }
+free_is_screen : (most : ℕ) (plans : List ProgrammedPlan) (ps : RoutedPrograms) (openings : List State) (situations : ℕ)
+    (screen : Screen) → NoneStandsStill (tables_of plans) ps openings → ComeTo (tables_of plans) ps openings situations
+    → ShowsGoing plans ps openings situations screen → IsPlantScreen most plans ps openings screen
+free_is_screen most plans ps openings situations (Free text) none come (answers, are, shown) = record {
+  free = none;
+  situations = situations;
+  come = come;
+  answers = answers;
+  are = are;
+  starving = shown.0;
+  told = shown.1;
+}
+free_is_screen most plans ps openings situations (Starving text) none come (answers, are, shown) = record {
+  free = none;
+  situations = situations;
+  come = come;
+  answers = answers;
+  are = are;
+  starving = shown.0;
+  told = shown.1;
+}
+free_is_screen most plans ps openings situations (Standstill text) none come (answers, are, shown) = absurd shown
+free_is_screen most plans ps openings situations (Unfinished turns) none come (answers, are, shown) = absurd shown
 
-pub unfinished_is_told : (most : ℕ) (plans : List ProgrammedPlan) (ps : RoutedPrograms) (openings : List State) (ts : List PlanTable) (found : Explored) (turns : ℕ) (words : Text)
-    → found ≡ Unfinished turns → IfUnfinished found (λ _. ComeToMore ts ps openings most) → IfUnfinished found (NoneStandsStillBefore ts ps openings)
-    → words ≡ large_words most turns → ts ≡ tables_of plans → TellsUnfinished most plans ps openings words
-unfinished_is_told most plans ps openings ts found turns words is comes none told tables =
-    let more = subst (λ f. IfUnfinished f (λ _. ComeToMore ts ps openings most)) is comes in
-    let before = subst (λ f. IfUnfinished f (NoneStandsStillBefore ts ps openings)) is none in
+free_is_shown : {E : Type 0} (most : ℕ) (plans : List ProgrammedPlan) (ps : RoutedPrograms) (openings : List State)
+    (situations : ℕ) (r : Result Screen E) → NoneStandsStill (tables_of plans) ps openings
+    → ComeTo (tables_of plans) ps openings situations
+    → IfOk r (λ screen. ShowsGoing plans ps openings situations screen)
+    → IfOk r (λ screen. IsPlantScreen most plans ps openings screen)
+free_is_shown most plans ps openings situations (Ok screen) none come shown =
+    free_is_screen most plans ps openings situations screen none come shown
+free_is_shown most plans ps openings situations (Err e) none come shown = tt
+
+pub going_is_shown : {E : Type 0} (plans : List ProgrammedPlan) (ps : RoutedPrograms) (openings : List State) (situations : ℕ)
+    (answers : List Liveness) (r : Result Screen E) → AreAnswers plans ps openings answers
+    → IfOk r (λ screen. ShowsFree situations (going_text plans ps openings answers) (any_starves answers) screen)
+    → IfOk r (λ screen. ShowsGoing plans ps openings situations screen)
+going_is_shown plans ps openings situations answers (Ok screen) are shown = (answers, are, shown)
+going_is_shown plans ps openings situations answers (Err e) are shown = tt
+
+-- ---- a standstill
+
+standstill_is_screen : (most : ℕ) (plans : List ProgrammedPlan) (ps : RoutedPrograms) (openings : List State)
+    (turns : List ℕ) (screen : Screen) → LeadToStandstill (tables_of plans) ps openings turns
+    → AreShortest (tables_of plans) ps openings turns → ShowsStandstill plans ps openings turns screen
+    → IsPlantScreen most plans ps openings screen
+standstill_is_screen most plans ps openings turns (Free text) lead shortest shown = absurd shown
+standstill_is_screen most plans ps openings turns (Starving text) lead shortest shown = absurd shown
+standstill_is_screen most plans ps openings turns (Unfinished fewer) lead shortest shown = absurd shown
+standstill_is_screen most plans ps openings turns (Standstill text) lead shortest shown = record {
+  turns = turns;
+  lead = lead;
+  shortest = shortest;
+  told = shown;
+}
+
+standstill_is_shown : {E : Type 0} (most : ℕ) (plans : List ProgrammedPlan) (ps : RoutedPrograms) (openings : List State)
+    (turns : List ℕ) (r : Result Screen E) → LeadToStandstill (tables_of plans) ps openings turns
+    → AreShortest (tables_of plans) ps openings turns
+    → IfOk r (λ screen. ShowsStandstill plans ps openings turns screen)
+    → IfOk r (λ screen. IsPlantScreen most plans ps openings screen)
+standstill_is_shown most plans ps openings turns (Ok screen) lead shortest shown =
+    standstill_is_screen most plans ps openings turns screen lead shortest shown
+standstill_is_shown most plans ps openings turns (Err e) lead shortest shown = tt
+
+-- ---- by what the exploration answers, of these tables
+
+pub free_is_found : {E : Type 0} (most : ℕ) (plans : List ProgrammedPlan) (ps : RoutedPrograms) (openings : List State)
+    (ts : List PlanTable) (found : Explored) (situations : ℕ) (r : Result Screen E) → ts ≡ tables_of plans
+    → found ≡ explored.Free situations → IfFree found (λ _. NoneStandsStill ts ps openings)
+    → IfFree found (ComeTo ts ps openings) → IfOk r (λ screen. ShowsGoing plans ps openings situations screen)
+    → IfOk r (λ screen. IsPlantScreen most plans ps openings screen)
+free_is_found most plans ps openings ts found situations r tables is none come shown =
+    let none_there = subst (λ f. IfFree f (λ _. NoneStandsStill ts ps openings)) is none in
+    let so_many = subst (λ f. IfFree f (ComeTo ts ps openings)) is come in
+    free_is_shown most plans ps openings situations r (subst (λ t. NoneStandsStill t ps openings) tables none_there)
+    (subst (λ t. ComeTo t ps openings situations) tables so_many) shown
+
+pub standstill_is_found : {E : Type 0} (most : ℕ) (plans : List ProgrammedPlan) (ps : RoutedPrograms) (openings : List State)
+    (ts : List PlanTable) (turns told : List ℕ) (r : Result Screen E) → ts ≡ tables_of plans → told ≡ turns
+    → LeadToStandstill ts ps openings turns → AreShortest ts ps openings turns
+    → IfOk r (λ screen. ShowsStandstill plans ps openings told screen)
+    → IfOk r (λ screen. IsPlantScreen most plans ps openings screen)
+standstill_is_found most plans ps openings ts turns told r tables all lead shortest shown =
+    standstill_is_shown most plans ps openings told r
+    (subst (λ t. LeadToStandstill t ps openings told) tables (subst (LeadToStandstill ts ps openings) (sym all) lead))
+    (subst (λ t. AreShortest t ps openings told) tables (subst (AreShortest ts ps openings) (sym all) shortest)) shown
+
+pub unfinished_is_found : (most : ℕ) (plans : List ProgrammedPlan) (ps : RoutedPrograms) (openings : List State)
+    (ts : List PlanTable) (found : Explored) (turns : ℕ) → ts ≡ tables_of plans → found ≡ explored.Unfinished turns
+    → IfUnfinished found (λ _. ComeToMore ts ps openings most) → IfUnfinished found (NoneStandsStillBefore ts ps openings)
+    → IsUnfinished most plans ps openings turns
+unfinished_is_found most plans ps openings ts found turns tables is more before =
+    let many = subst (λ f. IfUnfinished f (λ _. ComeToMore ts ps openings most)) is more in
+    let none = subst (λ f. IfUnfinished f (NoneStandsStillBefore ts ps openings)) is before in
     record {
-      more = subst (λ t. ComeToMore t ps openings most) tables more;
-      turns = turns;
-      before = subst (λ t. NoneStandsStillBefore t ps openings turns) tables before;
-      told = told;
+      more = subst (λ t. ComeToMore t ps openings most) tables many;
+      before = subst (λ t. NoneStandsStillBefore t ps openings turns) tables none;
     }
 
 -- the tables of one word more
@@ -62,3 +130,8 @@ table_more plans word plan before after few is so_far pushed =
     let more : take (word + 1) plans ≡ take word plans ++ plan ∷ [] = take_more plans word plan few ∙ ap (λ x. take word plans ++ x ∷ []) (sym is) in
     pushed ∙ ap (λ ts. ts ++ plan.named.plan ∷ []) so_far
     ∙ sym (ap tables_of more ∙ map-append (λ (p : ProgrammedPlan). p.named.plan) (take word plans) (plan ∷ []))
+
+-- as many tables as words
+pub table_count : {R : Type 0} (now : R → PlanTable) (tables : List R) (plans : List ProgrammedPlan) → map now tables ≡ tables_of plans
+    → length tables ≡ length plans
+table_count now tables plans are = sym (length-map tables now) ∙ ap length are ∙ length-map plans (λ (p : ProgrammedPlan). p.named.plan)

@@ -1,7 +1,7 @@
 -- The start of each word of a plant.
 use Rattle.std.proofs.Common.{◌≡◌, ◌∙◌, ◌+◌, ◌<◌, ◌≤◌, ◌++◌, ◌∷◌, [], ◌&&◌, ℕ, zero, suc, Bool, true, false, List, get_or, length, map, nat_eq, nat_lt, Option, Some, None, slice_get, Result, Ok, Err, refl, ap, sym, subst, arith}
 use Rattle.std.specs.List.{range_with_len}
-use Rattle.std.specs.Option.{ok_or, option_and_then}
+use Rattle.std.specs.Option.{ok_or}
 use Rattle.std.specs.Str.{bytes_eq}
 use Rattle.std.specs.Prelude.{if◌then◌else◌, is_some, nat_le, set, drop, take, codes, replicate, IfSome, IsNone}
 use Rattle.std.proofs.Common.{inl, inr, drop-cons}
@@ -22,7 +22,7 @@ use Rattle.plan_rules.specs.declared.state.State.{State}
 use Rattle.plan_rules.specs.State.{free_zone, is_full, start_state, last_stamp}
 use Rattle.plan_explorer.specs.Plants.{state_on, table_on}
 use Rattle.plan_text.specs.Names.{Text}
-use Rattle.plan_text.specs.Starts.{are_places, full_places, is_one, start_by, start_fields, start_in, start_of, stamp_in}
+use Rattle.plan_text.specs.Starts.{are_places, full_places, is_one, start_fields, start_in, start_of, stamp_in}
 use Rattle.plan_words.specs.Group.{past, place_out, zone_out}
 use Rattle.plan_words.specs.Run.{whole_start}
 use Rattle.plan_words.specs.Words.{IsIn}

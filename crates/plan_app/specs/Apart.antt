@@ -203,8 +203,10 @@ pub record TellsLarge (most : ℕ) (n : Named) (ps : PlanPrograms) (opening : St
 -- by the groups
 abbrev pub IsExplorationBy : ℕ → Bool → Named → PlanPrograms → State → List ℕ → Exploration → Type 0
 IsExplorationBy most apart n ps opening groups (Well text) = TellsBy apart n ps opening groups true (string_bytes text)
-IsExplorationBy most apart n ps opening groups (Unwell text) = TellsBy apart n ps opening groups false (string_bytes text)
-IsExplorationBy most apart n ps opening groups (Large words) = TellsLargeBy most apart n ps opening groups (string_bytes words)
+IsExplorationBy most apart n ps opening groups (Unwell text) =
+    TellsBy apart n ps opening groups false (string_bytes text)
+IsExplorationBy most apart n ps opening groups (Large words) =
+    TellsLargeBy most apart n ps opening groups (string_bytes words)
 
 -- it is these words
 abbrev pub IsLargePart : ℕ → Named → List ℕ → ℕ → ℕ → ℕ → Exploration → Type 0

@@ -241,11 +241,11 @@ WroteLargePlant most plant openings old new =
     (words : Text) × plant_screens.TellsUnfinished most plant.plans.items plant.programs.programs openings words
     × WroteFault words old new
 
--- a text shows a standstill of all words together, or says that there is none
+-- a text shows a standstill of all words together, or says that there is none, and whether some machine starves
 abbrev pub WrotePlantText : ProgrammedPlant → List State → Option Text → Option Text → Type 0
 WrotePlantText plant openings old new =
-    (text : Text) × plant_screens.TellsEnd plant.plans.items plant.programs.programs openings text
-    × WrotePrefix old new text
+    (well : Bool) × (text : Text)
+    × plant_screens.TellsPlant plant.plans.items plant.programs.programs openings well text × WrotePrefix old new text
 
 abbrev pub WrotePlantFrom : ℕ → ProgrammedPlant → List State → Option Text → Option Text → Type 0
 WrotePlantFrom most plant openings old new =

@@ -91,10 +91,14 @@ line_of n words e =
 abbrev pub event_line : Named → Text → Event → Text
 event_line n words e = codes "  " ++ line_of n words e
 
+-- what is said of what is asked, if anything is
+abbrev pub told_if : {E : Type 0} → (E → Text) → Option E → Text
+told_if told None = []
+told_if told (Some e) = told e
+
 -- what a turn asks: nothing if the machine has no program
 abbrev pub asked_line : Named → Option Event → Text
-asked_line n None = []
-asked_line n (Some e) = event_line n (codes " asks: ") e
+asked_line n asked = told_if (event_line n (codes " asks: ")) asked
 
 -- what a machine that starves would be answered
 abbrev pub outlook_words : Answer → Text
@@ -105,29 +109,36 @@ outlook_words (Refused _) = codes " waits: "
 abbrev pub told_outlook : Named → Event → Text
 told_outlook n e = event_line n (outlook_words e.answer) e
 
-abbrev pub outlook_line : Named → Option Event → Text
-outlook_line n None = []
-outlook_line n (Some e) = told_outlook n e
+-- what the machine that is named asks in a situation
+abbrev pub outlook_by : {S E : Type 0} → (S → ℕ → Option E) → Option ℕ → S → Option E
+outlook_by asks who at = option_and_then (asks at) who
 
 abbrev pub outlook_at : Named → PlanPrograms → Option ℕ → Situation → Option Event
-outlook_at n ps who at = option_and_then (λ machine. event_of n.plan ps at machine) who
+outlook_at n ps who at = outlook_by (event_of n.plan ps) who at
 
 -- it is said as often as it changes
+abbrev pub news_by : {E : Type 0} → (E → E → Bool) → (E → Text) → Option E → Option E → Text
+news_by same told last now = if option_eq same now last then [] else told_if told now
+
 abbrev pub same_outlook : Option Event → Option Event → Bool
 same_outlook a b = option_eq event_ghosts.eq a b
 
 abbrev pub news : Named → Option Event → Option Event → Text
-news n last now = if same_outlook now last then [] else outlook_line n now
+news n last now = news_by event_ghosts.eq (told_outlook n) last now
 
 abbrev pub step_text : Named → Option Event → Option Event → Option Event → Text
 step_text n last now asked = news n last now ++ asked_line n asked
 
--- turn by turn what is asked
+-- turn by turn what is asked: where a turn leads, what a machine asks in a situation, and how a step is told are given
+abbrev pub walk_by : {S E : Type 0} → (S → ℕ → S) → (S → ℕ → Option E) → (Option E → Option E → Option E → Text)
+    → Option ℕ → S → Option E → List ℕ → Text
+walk_by turn asks step who at last [] = []
+walk_by turn asks step who at last (m ∷ ms) =
+    step last (outlook_by asks who at) (asks at m)
+    ++ walk_by turn asks step who (turn at m) (outlook_by asks who at) ms
+
 abbrev pub walk_text : Named → PlanPrograms → Option ℕ → Situation → Option Event → List ℕ → Text
-walk_text n ps who at last [] = []
-walk_text n ps who at last (m ∷ ms) =
-    step_text n last (outlook_at n ps who at) (event_of n.plan ps at m)
-    ++ walk_text n ps who (turn_of n.plan ps at m) (outlook_at n ps who at) ms
+walk_text n ps who at last turns = walk_by (turn_of n.plan ps) (event_of n.plan ps) (step_text n) who at last turns
 
 -- what turns from an opening ask
 abbrev pub way_text : Named → PlanPrograms → State → List ℕ → Text
@@ -150,32 +161,52 @@ order_text n ps opening who order = stem_text n ps opening order ++ loop_text n 
 
 -- ---- what is said of each machine, and of plates
 
+-- by how an order is told, in which the machine that is named starves
+abbrev pub ByOrder : Type 0
+ByOrder = Option ℕ → FairOrder → Text
+
+abbrev pub starves_by : ByOrder → ℕ → FairOrder → Text
+starves_by told machine order = codes "  a fair order in which it starves: first\n" ++ told (Some machine) order
+
+abbrev pub starving_by : ByOrder → ℕ → Liveness → Text
+starving_by told machine liveness.Silent = []
+starving_by told machine (liveness.Always bound) = []
+starving_by told machine (liveness.IfOne strong bound order) = starves_by told machine order
+starving_by told machine (liveness.IfAll bound order) = starves_by told machine order
+starving_by told machine (liveness.IfTwo relay order) = starves_by told machine order
+starving_by told machine (liveness.Starves order) = starves_by told machine order
+starving_by told machine (liveness.Unknown reason) = []
+
+abbrev pub found_by : Named → ByOrder → ℕ → Liveness → Text
+found_by n told machine found =
+    machine_name n machine ++ (answer_words n machine found ++ starving_by told machine found)
+
+abbrev pub liveness_by : Named → ByOrder → ℕ → Option Liveness → Text
+liveness_by n told machine None = []
+liveness_by n told machine (Some found) = found_by n told machine found
+
+abbrev pub machine_by : Named → ByOrder → List Liveness → ℕ → Text
+machine_by n told answers machine = liveness_by n told machine (slice_get answers machine)
+
+-- of each machine that has a program
+abbrev pub machines_by : Named → ByOrder → List Liveness → ℕ → Text
+machines_by n told answers count = flat_map (machine_by n told answers) (range_with_len 0 count)
+
+-- the same of a plan's machines
 abbrev pub starves_text : Named → PlanPrograms → State → ℕ → FairOrder → Text
-starves_text n ps opening machine order =
-    codes "  a fair order in which it starves: first\n" ++ order_text n ps opening (Some machine) order
+starves_text n ps opening machine order = starves_by (order_text n ps opening) machine order
 
 abbrev pub starving_text : Named → PlanPrograms → State → ℕ → Liveness → Text
-starving_text n ps opening machine liveness.Silent = []
-starving_text n ps opening machine (liveness.Always bound) = []
-starving_text n ps opening machine (liveness.IfOne strong bound order) = starves_text n ps opening machine order
-starving_text n ps opening machine (liveness.IfAll bound order) = starves_text n ps opening machine order
-starving_text n ps opening machine (liveness.IfTwo relay order) = starves_text n ps opening machine order
-starving_text n ps opening machine (liveness.Starves order) = starves_text n ps opening machine order
-starving_text n ps opening machine (liveness.Unknown reason) = []
+starving_text n ps opening machine found = starving_by (order_text n ps opening) machine found
 
 abbrev pub found_text : Named → PlanPrograms → State → ℕ → Liveness → Text
-found_text n ps opening machine found =
-    machine_name n machine ++ (answer_words n machine found ++ starving_text n ps opening machine found)
-
-abbrev pub liveness_text : Named → PlanPrograms → State → ℕ → Option Liveness → Text
-liveness_text n ps opening machine None = []
-liveness_text n ps opening machine (Some found) = found_text n ps opening machine found
+found_text n ps opening machine found = found_by n (order_text n ps opening) machine found
 
 abbrev pub machine_text : Named → PlanPrograms → State → List Liveness → ℕ → Text
-machine_text n ps opening answers machine = liveness_text n ps opening machine (slice_get answers machine)
+machine_text n ps opening answers machine = machine_by n (order_text n ps opening) answers machine
 
 abbrev pub machines_text : Named → PlanPrograms → State → List Liveness → Text
-machines_text n ps opening answers = flat_map (machine_text n ps opening answers) (range_with_len 0 (length ps))
+machines_text n ps opening answers = machines_by n (order_text n ps opening) answers (length ps)
 
 abbrev pub moving_text : Bound → Text
 moving_text bound = codes "plates move for ever in each fair order: " ++ within_text bound

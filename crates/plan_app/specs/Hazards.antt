@@ -44,7 +44,8 @@ IsHazardLead most plan start h v lead =
     (motor_at plan.motors.motors.items h.second) lead
 
 -- what is shown of a hazard: a verdict, and what a search for turns that lead to a state which permits both has found
-pub record IsFindingOf (most : ℕ) (plan : ProgrammedPlan) (start : Option State) (h : Hazard) (f : Finding) : Type 0 where
+pub record IsFindingOf (most : ℕ) (plan : ProgrammedPlan) (start : Option State) (h : Hazard) (f : Finding)
+    : Type 0 where
   pub verdict : IsVerdictOf plan.named.plan plan.motors.motors.items h f.verdict
   pub lead : IsHazardLead most plan start h f.verdict f.lead
 
@@ -173,7 +174,8 @@ whole_report plan start every drives findings =
 -- whether each call that is done has its row, as far as that is known; what programs run that isn't permitted; what is
 -- shown of each hazard, with turns from the start if there is one; and whether nothing is wrong: all motors are kept
 -- apart that have to be, and each is permitted where its program runs it
-pub record TellsReport (most : ℕ) (plan : ProgrammedPlan) (start : Option State) (kept : Bool) (text : Text) : Type 0 where
+pub record TellsReport (most : ℕ) (plan : ProgrammedPlan) (start : Option State) (kept : Bool) (text : Text)
+    : Type 0 where
   pub findings : List Finding
   pub are : AreFindings most plan start findings
   pub drives : List (Option Undriven)

@@ -18,6 +18,7 @@ pub mod Pages
 pub mod Asked
 pub mod OnWords
 pub mod PlantStarts
+pub mod PlantGoing
 pub mod PlantScreens
 pub mod Served
 pub mod Failed

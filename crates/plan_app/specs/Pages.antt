@@ -175,8 +175,8 @@ pub record IsLongPage (plan : ProgrammedPlan) (opening : State) : Type 0 where
   pub shows : Shows plan.named plan.programs opening note events
   pub many : max_turns < length events
 
--- what is printed: the page; or that nothing stands still and no machine starves, or that there are more situations than
--- are explored, as without a page; or nothing
+-- what is printed: the page; or that nothing stands still and no machine starves, or that there are more situations
+-- than are explored, as without a page; or nothing
 abbrev pub IsPage : ℕ → ProgrammedPlan → State → Page → Type 0
 IsPage most plan opening (Free text) = TellsFree plan.named plan.programs opening (string_bytes text)
 IsPage most plan opening (Found text) = TellsPage plan opening (string_bytes text)

@@ -1,6 +1,7 @@
 -- Which groups are told apart, and lines of their parts.
 use Rattle.std.specs.Prelude.{◌≡◌, ℕ, true, false, List, [], ◌∷◌, ◌++◌, codes, None}
-use Rattle.plan_types.specs.declared.call.Call.TheVariants.{Claim, Give, Yield, Take, Release, SetPose, Inquire, Advance}
+use Rattle.plan_types.specs.declared.call.Call.TheVariants.{Claim, Give, Yield, Take, Release, SetPose}
+use Rattle.plan_types.specs.declared.call.Call.TheVariants.{Inquire, Advance}
 use Rattle.plan_types.specs.Table.{plan_table}
 use Rattle.plan_explorer.specs.Examples.{start}
 use Rattle.plan_explorer.specs.Programs.{PlanPrograms}

@@ -18,7 +18,8 @@ use Rattle.plan_liveness.specs.Progress.{GoesOn}
 use Rattle.plan_text.specs.Named.{Named}
 use Rattle.plan_text.specs.Names.{Text}
 use Rattle.plan_app.specs.Apart.{TellsParts, TellsPart, group_of, is_first, part_starves, part_text}
-use Rattle.plan_app.specs.Screens.{IsUnfinished, TellsGoingBy, TellsStandstill, free_line, outlook_after, standstill_text}
+use Rattle.plan_app.specs.Screens.{IsUnfinished, TellsGoingBy, TellsStandstill, free_line, outlook_after}
+use Rattle.plan_app.specs.Screens.{standstill_text}
 
 -- ---- machines that go on
 

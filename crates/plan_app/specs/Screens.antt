@@ -124,8 +124,10 @@ TellsUnfinished most n ps opening words =
 -- ---- what is printed is what was found
 
 abbrev pub IsScreenBy : ℕ → Named → PlanPrograms → State → ByAnswers Bool → ByAnswers Text → Screen → Type 0
-IsScreenBy most n ps opening starves going (Free text) = TellsGoingBy n ps opening starves going false (string_bytes text)
-IsScreenBy most n ps opening starves going (Starving text) = TellsGoingBy n ps opening starves going true (string_bytes text)
+IsScreenBy most n ps opening starves going (Free text) =
+    TellsGoingBy n ps opening starves going false (string_bytes text)
+IsScreenBy most n ps opening starves going (Starving text) =
+    TellsGoingBy n ps opening starves going true (string_bytes text)
 IsScreenBy most n ps opening starves going (Standstill text) = TellsStandstill n ps opening (string_bytes text)
 IsScreenBy most n ps opening starves going (Unfinished turns) = IsUnfinished most n ps opening turns
 

@@ -142,7 +142,8 @@ WritesPlant document old new =
 abbrev pub WritesWordsIn : List ℕ → Option (List ℕ) → Option (List ℕ) → Type 0
 WritesWordsIn bytes old new = WritesPlant (document_in bytes) old new
 
--- that its programs never stand still, of all words together, from these openings, was written, and nothing else
+-- that its programs never stand still, of all words together, from these openings, and none starves, was written, and
+-- nothing else
 abbrev pub WritesPlantFree : ProgrammedPlant → List State → Option (List ℕ) → Option (List ℕ) → Type 0
 WritesPlantFree plant openings old new =
     (text : List ℕ) × plant_screens.TellsFree plant.plans.items plant.programs.programs openings text

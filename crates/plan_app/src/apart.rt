@@ -4,7 +4,7 @@ ghost use Rattle.std.specs.Prelude.{◌≡◌, ◌++◌, ◌<◌, ℕ, List, tru
 ghost use Rattle.std.specs.Prelude.{length, flat_map, slice_get, string_bytes};
 ghost use Rattle.std.specs.List.{range_with_len};
 ghost use Rattle.plan_types.specs.Below.{any_below};
-ghost use Rattle.plan_explorer.specs.Groups.{alone, group_in, in_group};
+ghost use Rattle.plan_explorer.specs.Groups.{alone, group_in};
 ghost use Rattle.plan_liveness.specs.declared.answer.Liveness.{Liveness};
 ghost use Rattle.plan_app.specs.Apart as spec;
 ghost use Rattle.plan_app.specs.Screens as screens;

@@ -25,7 +25,7 @@ const TURNS: &str = ") turns; ";
 const BRINGS: &str = " brings it chances\n";
 
 /// What stands between the turns that lead into a cycle and those that come again and again.
-const AGAIN: &str = "  and then again and again\n";
+pub(crate) const AGAIN: &str = "  and then again and again\n";
 
 /// Adds what is said of machines that go on, and of plates.
 pub fn push_all(
@@ -116,7 +116,7 @@ fn push_starving(
 }
 
 /// Adds whether a machine goes on for ever, and what that takes.
-fn push_answer(
+pub(crate) fn push_answer(
     text: &mut String,
     named: &NamedPlan,
     machine: u8,
@@ -488,7 +488,11 @@ fn push_news(
 }
 
 /// Adds what a machine waits for, or that it could go on.
-fn push_outlook(text: &mut String, named: &NamedPlan, event: Event) -> Result<(), AllocError>
+pub(crate) fn push_outlook(
+    text: &mut String,
+    named: &NamedPlan,
+    event: Event,
+) -> Result<(), AllocError>
     ensures { OnOk result (string_bytes text.new
         ≡ string_bytes text.old ++ spec.told_outlook named.now event) }
 {

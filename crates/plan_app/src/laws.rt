@@ -229,12 +229,13 @@ pub fn plant_starts_are_met()
     ensures digits { StartsAreOfDigits }
 {}
 
-/// Examples: what is said of a standstill of two words together, line by line and whole.
+/// Examples: what is said of a standstill of two words together, and of who goes on or starves, line by line and whole.
 pub fn plant_standstills_are_told()
     ensures { CrossingsAreTold }
 {}
 
-/// What is said of all words of a plant together is so: that no turns lead to a standstill, or that these do.
+/// What is said of all words of a plant together is so: that no turns lead to a standstill, and who goes on; or that
+/// these do. Each line has the names of its word.
 pub fn plant_screens_are_meant()
     ensures { PlantScreensAreMeant }
 {}

@@ -20,6 +20,7 @@ mod page_middle;
 mod page_spaces;
 mod page_tail;
 pub mod plant_explore;
+mod plant_going;
 pub mod plant_start;
 pub mod report;
 pub mod request;

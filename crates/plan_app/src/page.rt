@@ -1,6 +1,6 @@
 //! What `plan explore --page` prints: a page on which machines ask turn by turn, to a standstill, or in an order in
 //! which one of them starves.
-ghost use Rattle.std.specs.Prelude.{◌≡◌, ◌++◌, ◌≤◌, ℕ, Some, None, IfOk, OnOk, length};
+ghost use Rattle.std.specs.Prelude.{◌≡◌, ◌++◌, ℕ, Some, None, IfOk, OnOk};
 ghost use Rattle.std.specs.Prelude.{option_copied, string_bytes};
 ghost use Rattle.plan_types.specs.Below.{any_below, first_below};
 ghost use Rattle.plan_types.specs.Table.{joins, zone_count};

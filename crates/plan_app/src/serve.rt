@@ -66,9 +66,9 @@ Reads a plan of a plant, in TOML, from standard input.
                   after it, a line start,.., to a standstill; and else whether each machine
                   goes on for ever, or in which order it starves; with --page a page on which
                   such a standstill, or the first such order, is played, to open in a browser;
-                  with --words whether some order leads to a standstill of a plant on all its
-                  words together, after a start with a digit for each of its places (who starves
-                  is said of one word, with --word)
+                  with --words the same of a plant on all its words together, after a start with
+                  a digit for each of its places (whether plates move is said of one word, with
+                  --word)
   plan header     prints its names and the layout of its word for C; with --python, a module
                   for Python
   plan draw       draws it, as SVG: machines, their places and motors, zones, and hazards
@@ -683,8 +683,9 @@ where
         FailsWords (R.remaining reader.old) (W.contents writer.old) (W.contents writer.new) }
 
     // With `explore --words`: status 0 says that no order of turns of the machines' programs, on all words of the plant
-    // together, leads from the script's start to a standstill, and that this was written; status 1 that a standstill
-    // was written, and the fewest turns that lead to it, or one of these; or the line of a fault.
+    // together, leads from the script's start to a standstill, that no machine starves by what an exploration answers,
+    // and that this was written; status 1 that a standstill was written, and the fewest turns that lead to it; or that
+    // there is none, and what an exploration answers of each machine; or one of these; or the line of a fault.
     ensures explore_words { (most : ℕ) →
         wanted_of (texts_of words.now) ≡ Some (Wanted.ExploreWords most) → result ≡ 0 →
         ExploresWords (R.remaining reader.old) (W.contents writer.old) (W.contents writer.new) }

@@ -14,7 +14,7 @@ pub fn any_starves(named: &NamedPlan, answers: &[Liveness], plates: &Progress) -
 }
 
 /// Whether some machine may starve.
-fn any_machine_starves(answers: &[Liveness]) -> bool
+pub(crate) fn any_machine_starves(answers: &[Liveness]) -> bool
     ensures { result ≡ list_any spec.may_starve answers.now }
 {
     answers.iter().any(|found| may_starve(found))

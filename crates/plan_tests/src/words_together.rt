@@ -126,25 +126,48 @@ start,00
 error: the only argument is [..]
 ";
 
-/// In one order there is none: 31 situations, counted by hand.
+/// In one order there is none: 31 situations, counted by hand. But each crane may be passed over where the other one has
+/// bay `a` again and again. The bays of each line are of its own word.
 const GOING: &str = "\
-0: ./plan explore --words
-0: ./plan explore --memory 1 --words
+1: ./plan explore --words
+1: ./plan explore --memory 1 --words
 =>
 start,00
 press,claim,a
 =>
 no standstill in any order of turns before the last stamp: 31 situations
+north goes on for ever if it isn't passed over for ever: within [..] turns
+  a fair order in which it starves: first
+[..]
+  and then again and again
+  north could go on: claim a: done
+  south asks: claim a: done
+  north waits: claim a: held south
+  south asks: claim k: done
+[..]
+south goes on for ever if it isn't passed over for ever: within [..] turns
+  a fair order in which it starves: first
+[..]
+  and then again and again
+[..]
+in an order that is fair with bound k, each machine that could go on at k turns on end goes on;
+a machine isn't passed over for ever if it goes on wherever it could at k turns, on end or not
 ";
 
 /// Of two presses, which share nothing, each of 15 situations goes with each: a digit for each place, three for each
-/// word. Without plates both stand still.
+/// word. Without plates both stand still; and where one has none, its machines starve, though the others go on.
 const OF_TWO: &str = "\
 0: ./plan explore --words
 =>
 start,100100
 =>
 no standstill in any order of turns before the last stamp: 225 situations
+loader1 goes on for ever in each fair order: within [..] turns
+press1 goes on for ever in each fair order: within [..] turns
+[..]
+loader2 goes on for ever in each fair order: within [..] turns
+press2 goes on for ever in each fair order: within [..] turns
+[..]
 --
 1: ./plan explore --words
 =>
@@ -152,17 +175,22 @@ start,100
 =>
 fault badstart
 --
-0: ./plan explore --words
+1: ./plan explore --words
 =>
 start,100000,12
 =>
 no standstill in any order of turns before the last stamp: [..]
+loader2 may starve though no machine is passed over for ever
+  a fair order in which it starves: first
+[..]
 --
-0: ./plan explore --words
+1: ./plan explore --words
 =>
 start,000100
 =>
 no standstill in any order of turns before the last stamp: [..]
+press1 may starve though no machine is passed over for ever
+[..]
 --
 1: ./plan explore --words
 =>
@@ -190,6 +218,7 @@ fault large: more than 2000 situations; nothing stands still in fewer than [..] 
 start,100100100
 =>
 no standstill in any order of turns before the last stamp: 3375 situations
+[..]
 ";
 
 /// One press is on one word, and all words together are that one.
@@ -199,6 +228,7 @@ const OF_ONE: &str = "\
 start,100
 =>
 no standstill in any order of turns before the last stamp: 15 situations
+[..]
 ";
 
 #[test]

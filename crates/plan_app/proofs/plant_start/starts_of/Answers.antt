@@ -1,4 +1,4 @@
-use Rattle.std.proofs.Common.{◌≡◌, ◌∙◌, ◌<◌, ap, length, map, sym, subst, arith}
+use Rattle.std.proofs.Common.{◌≡◌, ◌∙◌, ◌<◌, ap, length, map, sym, arith}
 use Rattle.std.specs.List.{range_with_len}
 use Rattle.csv.specs.Records.{fields_of}
 use Rattle.plan_app.specs.PlantStarts.{all_starts, start_on, tables_of}

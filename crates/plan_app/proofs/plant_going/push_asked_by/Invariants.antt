@@ -1,6 +1,6 @@
 use Rattle.std.proofs.Common.{◌≡◌, ◌++◌, string_bytes, flat_map, take}
-use Rattle.plan_app.specs.PlantScreens as spec
-use Rattle.plan_app.proofs.plant_explore.push_asked_by.Given as goal
+use Rattle.plan_app.specs.PlantGoing as spec
+use Rattle.plan_app.proofs.plant_going.push_asked_by.Given as goal
 
 abbrev pub invariant-events : goal.invariant-events
 invariant-events l =

@@ -1,0 +1,33 @@
+use Rattle.std.proofs.Common.{map, subst}
+use Rattle.plan_explorer.specs.Explored.{IfStandstill}
+use Rattle.plan_explorer.specs.PlantExplored.{AreShortest, LeadToStandstill}
+use Rattle.plan_app.proofs.PlantScreening.{free_is_found, standstill_is_found, unfinished_is_found}
+use Rattle.plan_app.proofs.plant_explore.screen_of.Goals as goal
+
+pub returns-in-Free : goal.returns-in-Free
+returns-in-Free c =
+    let e = c.in_ok-situations.ensures in
+    let plant = c.args.plant.now in
+    let ts = map (λ table. table.now) plant.tables.now in
+    free_is_found c.args.most plant.plans.now plant.programs.now.programs plant.openings.now ts _ c.in-Free.situations
+    c.free_screen.result c.requires.tables c.in-Free.is e.free e.situations c.free_screen.ensures
+
+pub returns-in-Standstill : goal.returns-in-Standstill
+returns-in-Standstill c =
+    let e = c.in_ok-situations.ensures in
+    let plant = c.args.plant.now in
+    let ps = plant.programs.now.programs in
+    let openings = plant.openings.now in
+    let ts = map (λ table. table.now) plant.tables.now in
+    let lead = subst (λ f. IfStandstill f (LeadToStandstill ts ps openings)) c.in-Standstill.is e.standstill in
+    let shortest = subst (λ f. IfStandstill f (AreShortest ts ps openings)) c.in-Standstill.is e.shortest in
+    standstill_is_found c.args.most plant.plans.now ps openings ts c.in-Standstill.turns.items c.as_slice.result.now
+    c.standstill_screen.result c.requires.tables c.as_slice.ensures.value lead shortest c.standstill_screen.ensures
+
+pub returns-in-Unfinished : goal.returns-in-Unfinished
+returns-in-Unfinished c =
+    let e = c.in_ok-situations.ensures in
+    let plant = c.args.plant.now in
+    let ts = map (λ table. table.now) plant.tables.now in
+    unfinished_is_found c.args.most plant.plans.now plant.programs.now.programs plant.openings.now ts _
+    c.in-Unfinished.turns c.requires.tables c.in-Unfinished.is e.more e.unfinished
