@@ -155,7 +155,7 @@ typedef struct bagunjoki_plan_opened {
    may call them, and a signal handler too. `bytes` points to `length` bytes, `digits` to `count` of them, `program` to
    `count` lines; none may be null. */
 
-/* Opens a plan. If the bytes are no plan's, `is_plan` is false, and all calls by it are NO_PLAN. It takes some 250 KB
+/* Opens a plan. If the bytes are no plan's, `is_plan` is false, and all calls by it are NO_PLAN. It takes some 220 KB
    of stack, and some milliseconds; the others take up to 1.5 KB. */
 bagunjoki_plan_opened bagunjoki_plan_open(const uint8_t *bytes, size_t length);
 
