@@ -37,7 +37,7 @@ pub record CameLast (t : PlanTable) (call : Call) (a : Answer) (w : RightView) (
   pub last : w.seen ≡ earlier ++ record { machine = watch; call = call; answer = a } ∷ []
   pub states : holds (after t w.opening earlier) (after t w.opening w.seen)
 
--- what the reply to a stop tells of its word. Where it is Busy, the word isn't stopped after all that is seen there
+-- what the reply to a stop tells of its word. Where it is Busy, the word runs, by all that has been seen there
 abbrev pub StopTells : Reply Answer → PlanTable → RightView → Type 0
 StopTells (Settled a stamp) t w = CameLast t Stop a w (StopSays a)
 StopTells (Busy lost stamp) t w = (after t w.opening w.seen).stopped ≡ false

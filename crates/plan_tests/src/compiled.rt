@@ -1,5 +1,5 @@
-//! Compiled plans: each call that is done has its row, but for a plan in which a zone joins another. That rows answer as
-//! the rules do is what the clauses of `step_word` say; of the example plans `check` says that they are complete.
+//! Compiled plans: each call that is done has its row, but for a plan in which a zone joins another. That rows answer
+//! as the rules do is what the clauses of `step_word` say; of the example plans `check` says that they are complete.
 
 use super::doubles::are_answered;
 use plan_compiled::{Compiled, SLOTS_OF_ALL, slot};

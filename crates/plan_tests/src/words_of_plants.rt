@@ -4,8 +4,8 @@ use super::doubles::are_answered;
 use std::alloc::{AllocError, Global};
 use test_doubles::{count_parts, part};
 
-/// A press with a loader and a crane of its own, and a number for `#`. Its six zones share a word, since each has a way from
-/// the loader's hand, and no word has room for twelve.
+/// A press with a loader and a crane of its own, and a number for `#`. Its six zones share a word, since each has a way
+/// from the loader's hand, and no word has room for twelve.
 const PRESS: &str = "\
 [[machine]]
 name = \"loader#\"
@@ -95,8 +95,8 @@ pub fn presses(alloc: Global, count: u32) -> Result<String, AllocError> {
     Ok(text)
 }
 
-/// Two presses have a word each; their rams are of two words, which keep them apart from nothing of the other. Without a
-/// word there are too many zones. On a word all machines of the other have nothing to do.
+/// Two presses have a word each; their rams are of two words, which keep them apart from nothing of the other. Without
+/// a word there are too many zones. On a word all machines of the other have nothing to do.
 const ROWS: &str = "\
 1: ./plan check
 1: ./plan explore

@@ -126,8 +126,8 @@ start,00
 error: the only argument is [..]
 ";
 
-/// In one order there is none: 31 situations, counted by hand. But each crane may be passed over where the other one has
-/// bay `a` again and again. The bays of each line are of its own word.
+/// In one order there is none: 31 situations, counted by hand. But each crane may be passed over where the other one
+/// has bay `a` again and again. The bays of each line are of its own word.
 const GOING: &str = "\
 1: ./plan explore --words
 1: ./plan explore --memory 1 --words

@@ -187,16 +187,16 @@ fn thirty_machines_stand_still_after_many_turns(rt: HostRuntime) {
     assert!(rt; is_made && are_fewest(rt.alloc(), &plan, &programs, way.as_slice()));
 }
 
-/// Whether these are the answers for all machines. Only the last goes on for ever; those of the chain starve, and all
-/// others ask nothing.
-fn are_known(answers: &[Liveness]) -> bool {
+/// Whether these are the answers for all machines. Only the last goes on for ever. Those of the chain starve, and so do
+/// all others, unless they ask nothing.
+fn are_known(answers: &[Liveness], all_ask: bool) -> bool {
     for (machine, answer) in answers.iter().enumerate() {
         let is_last = machine == usize::from(LAST);
         let is_of_chain = machine <= usize::from(LINKS);
         let is_known = match answer {
             Liveness::Always(_) => is_last,
-            Liveness::Starves(_) => is_of_chain,
-            Liveness::Silent => !is_last && !is_of_chain,
+            Liveness::Starves(_) => !is_last && (is_of_chain || all_ask),
+            Liveness::Silent => !is_last && !is_of_chain && !all_ask,
             _ => false,
         };
         if !is_known {
@@ -207,10 +207,10 @@ fn are_known(answers: &[Liveness]) -> bool {
 }
 
 /// Whether the last machine alone goes on for ever, and plates don't.
-fn goes_on_alone(alloc: Global, plan: &Plan, programs: &Programs) -> bool {
+fn goes_on_alone(alloc: Global, plan: &Plan, programs: &Programs, all_ask: bool) -> bool {
     let opening = opening();
     let are_right = match explore_machines(alloc, plan, &opening, programs) {
-        Ok(answers) => are_known(answers.as_slice()),
+        Ok(answers) => are_known(answers.as_slice(), all_ask),
         Err(_) => false,
     };
     match explore_plates(alloc, plan, &opening, programs, None, &[]) {
@@ -241,7 +241,20 @@ fn one_of_thirty_machines_goes_on(rt: HostRuntime) {
     // before the turns of each step and at the end, with the last machine at either of its steps
     let wanted = 2 * (7 * 4 + 2);
     assert!(rt; situations_from(rt.alloc(), &plan, &opening(), &programs) == Some(wanted));
-    assert!(rt; goes_on_alone(rt.alloc(), &plan, &programs));
+    assert!(rt; goes_on_alone(rt.alloc(), &plan, &programs, false));
+}
+
+// Who asks in vain starves: all machines but the last. A link without poses claims its zone, and gives in vain.
+#[test]
+fn each_of_29_machines_starves(rt: HostRuntime) {
+    let plan = plan(rt.alloc()).expect(&rt, "a plan");
+    // a zone that isn't theirs
+    let waits = [Call::Release(0)];
+    let last = [Call::SetPose(LINKS), Call::SetPose(LINKS)];
+    let programs = programs(rt.alloc(), 1, &waits, &last).expect(&rt, "programs");
+    // before the claim and after it, with the last machine at either of its steps
+    assert!(rt; situations_from(rt.alloc(), &plan, &opening(), &programs) == Some(4));
+    assert!(rt; goes_on_alone(rt.alloc(), &plan, &programs, true));
 }
 
 // An opening that no word tells is explored alike.
