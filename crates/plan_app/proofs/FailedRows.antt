@@ -17,7 +17,7 @@ use Rattle.plan_document.specs.Plants.{IsPlantIn}
 use Rattle.plan_document.specs.declared.plants.ProgrammedPlant.{ProgrammedPlant}
 use Rattle.plan_document.specs.declared.resolving.ProgrammedPlan.{ProgrammedPlan}
 use Rattle.plan_app.specs.Asked.{IsAsked, no_word_text}
-use Rattle.plan_app.specs.Apart.{TellsBy, TellsLarge, TellsNext, TellsPart, TellsParts, is_first, some_are_apart}
+use Rattle.plan_app.specs.Apart.{TellsBy, TellsLarge, TellsNext, TellsPart, TellsParts, Telling, is_first, some_are_apart, told_of}
 use Rattle.plan_app.specs.Failed.{Fails, FailsBy, FailsExploreWords, FailsWords, IsOfDocument, WroteEnd, WroteExploration, WroteFault, WroteNoWord, WrotePage, WrotePageText, WrotePlant, WrotePlantText, WroteWords}
 use Rattle.plan_app.specs.PlantStarts.{plant_start}
 use Rattle.plan_app.specs.Going.{going_text}
@@ -140,15 +140,14 @@ of_both : (xs ys : Text) → (102 ≡ get_or xs 0 0 → ⊥) → (102 ≡ get_or
 of_both [] ys one two first = two first
 of_both (x ∷ xs) ys one two first = one first
 
-of_parts : (n : Named) (ps : PlanPrograms) (s : State) (groups : List ℕ) (count : ℕ) (well : Bool) (text : Text)
-    → TellsParts n ps s groups count well text → 102 ≡ get_or text 0 0 → ⊥
-of_parts n ps s groups zero well text told first =
+of_parts : (v : Telling) (groups : List ℕ) (count : ℕ) (well : Bool) (text : Text) → TellsParts v groups count well text
+    → 102 ≡ get_or text 0 0 → ⊥
+of_parts v groups zero well text told first =
     let e : 102 ≡ 0 = first ∙ ap (λ l. get_or l 0 0) told.1 in omega (arith, e)
-of_parts n ps s groups (suc m) well text told first =
-    by (is_first groups m) (of_parts n ps s groups m) told
+of_parts v groups (suc m) well text told first = by (is_first groups m) (of_parts v groups m) told
   where
-    by : (b : Bool) → ((w : Bool) (t : Text) → TellsParts n ps s groups m w t → 102 ≡ get_or t 0 0 → ⊥)
-        → TellsNext b (TellsParts n ps s groups m) (TellsPart n ps s groups m) well text → ⊥
+    by : (b : Bool) → ((w : Bool) (t : Text) → TellsParts v groups m w t → 102 ≡ get_or t 0 0 → ⊥)
+        → TellsNext b (TellsParts v groups m) (TellsPart v groups m) well text → ⊥
     by true earlier (early, late, before, after, all, part, together, is) =
         of_both before after (earlier early before all)
         (λ at. let e : 102 ≡ 97 = at ∙ ap (λ l. get_or l 0 0) part.2 in omega (arith, e))
@@ -156,15 +155,15 @@ of_parts n ps s groups (suc m) well text told first =
     by false earlier all = earlier well text all first
 
 of_found : (b : Bool) (n : Named) (ps : PlanPrograms) (s : State) (groups : List ℕ) (well : Bool) (text : Text)
-    → TellsBy b n ps s groups well text → 102 ≡ get_or text 0 0 → ⊥
-of_found true n ps s groups well text tells first = of_parts n ps s groups (length ps) well text tells first
+    → TellsBy b (told_of n ps s) groups well text → 102 ≡ get_or text 0 0 → ⊥
+of_found true n ps s groups well text tells first = of_parts (told_of n ps s) groups (length ps) well text tells first
 of_found false n ps s groups well text tells first =
     of_screen n ps s (any_starves n) (going_text n ps s) well text tells first
 
 abbrev IsTold : ℕ → ProgrammedPlan → Text → Text → Type 0
 IsTold most plan script rest =
     (opening : State) × (script_start plan.named script ≡ Ok opening)
-    × (words : Text) × TellsLarge most plan.named plan.programs opening words × WroteFault words (Some []) (Some (large rest))
+    × (words : Text) × TellsLarge most (told_of plan.named plan.programs opening) words × WroteFault words (Some []) (Some (large rest))
 
 large_by : (most : ℕ) (plan : ProgrammedPlan) (script rest : Text) → WroteEnd most plan script (Some []) (Some (large rest)) → IsTold most plan script rest
 large_by most plan script rest (inl (fault, is, wrote)) = absurd (of_start rest fault wrote)
@@ -177,7 +176,7 @@ large_by most plan script rest (inr (opening, is, inr (well, text, tells, wrote)
 is_large : (word : Option ℕ) (most : ℕ) (bytes rest : Text) → Fails word (Explore most) (Some bytes) (Some []) (Some (large rest))
     → (plan : ProgrammedPlan) × IsAsked word (document_in bytes) plan × (opening : State)
     × (script_start plan.named (script_in bytes) ≡ Ok opening) × (words : Text)
-    × TellsLarge most plan.named plan.programs opening words × WroteFault words (Some []) (Some (large rest))
+    × TellsLarge most (told_of plan.named plan.programs opening) words × WroteFault words (Some []) (Some (large rest))
 is_large word most bytes rest (inl wrote) = let e : 97 ≡ 111 = seventh rest (fault_line (codes "long")) wrote.1 in absurd (omega (arith, e))
 is_large word most bytes rest (inr (inl (inl wrote))) = let e : 108 ≡ 114 = sixth rest (fault_line (codes "read")) wrote in absurd (omega (arith, e))
 is_large word most bytes rest (inr (inl (inr wrote))) = let e : 108 ≡ 109 = sixth rest (fault_line (codes "memory")) wrote in absurd (omega (arith, e))

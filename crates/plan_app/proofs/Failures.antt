@@ -11,7 +11,7 @@ use Rattle.program_shell.proofs.lemmas.Prefixes.{whole_prefix}
 use Rattle.program_shell.proofs.lemmas.Serving.{if_known}
 use Rattle.plan_rules.specs.declared.state.State.{State}
 use Rattle.plan_document.specs.declared.resolving.ProgrammedPlan.{ProgrammedPlan}
-use Rattle.plan_app.specs.Apart.{TellsExploration}
+use Rattle.plan_app.specs.Apart.{TellsExploration, told_of}
 use Rattle.plan_app.specs.Asked.{IsAsked, IsNoPlan}
 use Rattle.plan_app.specs.declared.asking.NoPlan.{NoPlan}
 use Rattle.plan_app.specs.declared.asking.NoPlan.TheVariants.{OfDocument, OfWord}
@@ -97,6 +97,6 @@ by_fault word request bytes (OfWord number count) old new none (inr wrote) =
 
 -- what was found was written, whether all is well or not
 pub exploration_written : (plan : ProgrammedPlan) (opening : State) (well : Bool) (text : List ℕ) (old new : Option (List ℕ))
-    → TellsExploration plan.named plan.programs opening well text → WrotePrefix old new text
+    → TellsExploration (told_of plan.named plan.programs opening) well text → WrotePrefix old new text
     → WroteExploration plan opening old new
 exploration_written plan opening well text old new tells wrote = (well, text, tells, wrote)

@@ -40,4 +40,5 @@ mod PlantStarting
 mod PlantStartRows
 mod PlantOrders
 mod PlantScreening
+mod PlantPartsSpeak
 mod PlantScreenRows

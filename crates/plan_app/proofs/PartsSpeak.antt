@@ -1,8 +1,6 @@
 -- What is found of a group alone is so among all machines: the law `parts_speak_of_all`.
-use Rattle.std.proofs.Common.{◌≡◌, ◌<◌, ◌⊎◌, ◌&&◌, ℕ, zero, suc, Bool, true, false, List, [], ◌∷◌, length, filter, Some, None, ap, ◌∙◌, sym, subst, refl, arith}
-use Rattle.std.proofs.Common.{inl, inr, nat_eq}
+use Rattle.std.proofs.Common.{◌≡◌, ℕ, Bool, true, List, [], ◌∷◌, length, filter, Some, None, ap, ◌∙◌, subst, nat_eq}
 use Rattle.std.specs.List.{range_with_len}
-use Rattle.plan_types.proofs.lemmas.Below.{below_next}
 use Rattle.plan_rules.specs.declared.state.State.{State}
 use Rattle.plan_rules.specs.Sound.{IsSound}
 use Rattle.plan_explorer.specs.GroupLaws.{MachinesAreApart, OursAreApart}
@@ -22,18 +20,14 @@ use Rattle.plan_liveness.specs.Plates.{PlatesMove}
 use Rattle.plan_liveness.specs.Progress.{GoesOn, Starves}
 use Rattle.plan_text.specs.Named.{Named}
 use Rattle.plan_text.specs.Names.{Text}
-use Rattle.plan_app.specs.Apart.{TellsNext, TellsPart, TellsParts, group_of, is_first, part_starves, part_text}
+use Rattle.plan_app.specs.Apart.{group_of, part_starves, part_text, told_of}
 use Rattle.plan_app.specs.PartLaws.{GoingIsOfAll, HoldsAmongAll, IsUnfinishedAmongAll, PartsSpeakOfAll, StandstillIsOfAll, StarvesAmongAll}
 use Rattle.plan_app.specs.Screens.{IsUnfinished, MoveOn, TellsGoingBy, TellsStandstill}
+use Rattle.plan_app.proofs.GroupsTold.{has_its_part}
 
 -- the machines of a group share nothing with the others
 share : (n : Named) (groups : List ℕ) (first : ℕ) → AreGroups n.plan (group_in groups) → ShareNothing n.plan (group_of groups first)
 share n groups first are = λ z few. ap (λ g. nat_eq g (group_in groups first)) (are z few)
-
-both_true : (a b : Bool) → true ≡ (a && b) → (a ≡ true) × (b ≡ true)
-both_true true true is = (refl, refl)
-both_true true false is = absurd (cc)
-both_true false b is = absurd (cc)
 
 module _ (n : Named) (ps : PlanPrograms) (s : State) (ours : ℕ → Bool) (a : OursAreApart n.plan ps s ours)
     (g : TheyGoOn n.plan ps s ours) (v : TheyStarve n.plan ps s ours) where
@@ -105,37 +99,6 @@ module _ (n : Named) (ps : PlanPrograms) (s : State) (ours : ℕ → Bool) (a : 
   unfinished : (most turns : ℕ) → IsUnfinished most n (alone ours ps) s turns → IsUnfinishedAmongAll most n.plan ps s ours turns
   unfinished most turns is = record { more = a.more most is.more; before = a.standstills.before turns is.before }
 
--- a group has its part
-abbrev Told : Named → PlanPrograms → State → List ℕ → ℕ → Bool → Type 0
-Told n ps s groups first well =
-    (own : Bool) × (part : Text) × TellsPart n ps s groups first own part × (well ≡ true → own ≡ true)
-
-parts : (n : Named) (ps : PlanPrograms) (s : State) (groups : List ℕ) (count : ℕ) (well : Bool) (text : Text)
-    → TellsParts n ps s groups count well text → (first : ℕ) → first < count → is_first groups first ≡ true
-    → Told n ps s groups first well
-parts n ps s groups zero well text told first few is = absurd (omega arith)
-parts n ps s groups (suc m) well text told first few is =
-    by (is_first groups m) refl (parts n ps s groups m) told (below_next first m few)
-  where
-    by : (b : Bool) → is_first groups m ≡ b
-        → ((w : Bool) (t : Text) → TellsParts n ps s groups m w t → (k : ℕ) → k < m → is_first groups k ≡ true
-        → Told n ps s groups k w)
-        → TellsNext b (TellsParts n ps s groups m) (TellsPart n ps s groups m) well text
-        → (first < m) ⊎ (first ≡ m) → Told n ps s groups first well
-    by true at earlier (early, late, before, after, all, part, together, text_is) (inl less) =
-        let (own, own_part, tells, so) = earlier early before all first less is in
-        (own, own_part, tells, λ good. so (both_true early late (sym good ∙ together)).0)
-    by true at earlier (early, late, before, after, all, part, together, text_is) (inr same) = (
-      late,
-      after,
-      subst (λ k. TellsPart n ps s groups k late after) (sym same) part,
-      λ good. (both_true early late (sym good ∙ together)).1,
-    )
-    by false at earlier told_before (inl less) = earlier well text told_before first less is
-    by false at earlier told_before (inr same) =
-        let lie : true ≡ false = sym is ∙ (ap (is_first groups) same ∙ at) in
-        absurd (cc)
-
 pub parts_speak : (n : Named) (ps : PlanPrograms) (s : State) → MachinesAreApart n.plan ps s → GroupsGoOn n.plan ps s
     → GroupsStarve n.plan ps s → IsSound n.plan s → PartsSpeakOfAll n ps s
 parts_speak n ps s apart goes starve sound = record {
@@ -151,5 +114,5 @@ parts_speak n ps s apart goes starve sound = record {
       let ours = group_of groups first in
       let nothing = share n groups first are in
       unfinished n ps s ours (apart ours nothing sound) (goes ours nothing sound) (starve ours nothing sound) most turns is;
-  parts = λ groups count well text told first few is. parts n ps s groups count well text told first few is;
+  parts = λ groups count well text told first few is. has_its_part (told_of n ps s) groups count well text told first few is;
 }

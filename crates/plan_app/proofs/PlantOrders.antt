@@ -4,7 +4,7 @@ use Rattle.std.proofs.Common.{Option, Some, None, inl, inr, ap, sym, refl, arith
 use Rattle.std.proofs.lemmas.Bool.{eqb-true, false_from_ne_true}
 use Rattle.std.proofs.lemmas.Bool.Decides.{nat_tests}
 use Rattle.std.proofs.lemmas.List.{append_assoc, get_or_past}
-use Rattle.std.specs.Prelude.{cond, find, get_or, slice_get, ◌⊎◌}
+use Rattle.std.specs.Prelude.{cond, find, get_or, option_and_then, slice_get, ◌⊎◌}
 use Rattle.std.specs.List.{cons_option, filter_map, range_with_len}
 use Rattle.plan_types.specs.Table.{PlanTable}
 use Rattle.plan_explorer.specs.declared.plant_programs.RoutedCall.{RoutedCall}
@@ -103,28 +103,28 @@ module _ (ts : List PlanTable) (ps : RoutedPrograms) (at : PlantSituation) where
 -- ---- what turns ask, one after another
 
 module _ (ts : List PlanTable) (ps : RoutedPrograms) (first : PlantSituation)
-    (step : Option RoutedEvent → Option RoutedEvent → Option RoutedEvent → List ℕ) (m : ℕ) where
+    (step : Option RoutedEvent → Option RoutedEvent → Option RoutedEvent → List ℕ) (who : Option ℕ) where
   abbrev outlook_after : List ℕ → List RoutedEvent
   outlook_after way = outlook_of ts ps (after_turns ts ps first way)
 
   -- what is told after this way
   abbrev walk : List ℕ → Option RoutedEvent → List ℕ → List ℕ
-  walk way last turns = walk_by (turn_of ts ps) (event_of ts ps) step (Some m) (after_turns ts ps first way) last turns
+  walk way last turns = walk_by (turn_of ts ps) (event_of ts ps) step who (after_turns ts ps first way) last turns
 
   pub one_turn_more : (t : ℕ) (way longer turns rest : List ℕ) (last outlook asked : Option RoutedEvent) (old new whole : List ℕ)
-      → turns ≡ t ∷ rest → longer ≡ way ++ t ∷ [] → outlook ≡ find (is_of m) (outlook_after way)
+      → turns ≡ t ∷ rest → longer ≡ way ++ t ∷ [] → outlook ≡ option_and_then (λ m. find (is_of m) (outlook_after way)) who
       → asked ≡ find (is_of t) (outlook_after way) → new ≡ old ++ step last outlook asked
       → old ++ walk way last turns ≡ whole → new ++ walk longer outlook rest ≡ whole
   one_turn_more t way longer turns rest last outlook asked old new whole are grown is_outlook is_asked pushed so_far =
       let at = after_turns ts ps first way in
-      let own : event_of ts ps at m ≡ outlook = sym (is_outlook ∙ event_is_found ts ps at m) in
+      let own : option_and_then (event_of ts ps at) who ≡ outlook = sym (is_outlook ∙ ap (λ asks. option_and_then asks who) (λ i m. event_is_found ts ps at m i)) in
       let its : event_of ts ps at t ≡ asked = sym (is_asked ∙ event_is_found ts ps at t) in
       let end : turn_of ts ps at t ≡ after_turns ts ps first longer =
       sym (ap (after_turns ts ps first) grown ∙ after_more ts ps first way t) in
       let walked : walk way last turns ≡ step last outlook asked ++ walk longer outlook rest =
       ap (walk way last) are
       ∙ (λ i. step last (own i) (its i)
-      ++ walk_by (turn_of ts ps) (event_of ts ps) step (Some m) (end i) (own i) rest) in
+      ++ walk_by (turn_of ts ps) (event_of ts ps) step who (end i) (own i) rest) in
       ap (λ x. x ++ walk longer outlook rest) pushed
       ∙ (append_assoc old (step last outlook asked) (walk longer outlook rest)
       ∙ (ap (λ x. old ++ x) (sym walked) ∙ so_far))

@@ -1,13 +1,13 @@
 -- The start of each word of a plant.
 use Rattle.std.proofs.Common.{◌≡◌, ◌∙◌, ◌+◌, ◌<◌, ◌≤◌, ◌++◌, ◌∷◌, [], ◌&&◌, ℕ, zero, suc, Bool, true, false, List, get_or, length, map, nat_eq, nat_lt, Option, Some, None, slice_get, Result, Ok, Err, refl, ap, sym, subst, arith}
 use Rattle.std.specs.List.{range_with_len}
-use Rattle.std.specs.Option.{ok_or}
+use Rattle.std.specs.Option.{ok_or, option_and_then}
 use Rattle.std.specs.Str.{bytes_eq}
 use Rattle.std.specs.Prelude.{if◌then◌else◌, is_some, nat_le, set, drop, take, codes, replicate, IfSome, IsNone}
 use Rattle.std.proofs.Common.{inl, inr, drop-cons}
 use Rattle.std.specs.Prelude.{unwrap_or}
 use Rattle.std.proofs.lemmas.List.{length-map, map-append, take-append-drop}
-use Rattle.std.proofs.lemmas.Bool.{cases_lt, eqb-true, le-ltb, lt-ltb}
+use Rattle.std.proofs.lemmas.Bool.{and_parts, cases_lt, eqb-true, le-ltb, leb-true, lt-ltb}
 use Rattle.std.proofs.lemmas.List.{get_or-map, get_or_default, get_or_past}
 use Rattle.std.proofs.lemmas.List.FromFn.{map-range_with_len_more, take-map-range_with_len}
 use Rattle.std.proofs.lemmas.Option.{get_or_from_slice_get, same_Some, slice_get-get_or, slice_get_within}
@@ -19,10 +19,11 @@ use Rattle.csv_rows.specs.declared.script_end.ScriptFault.{ScriptFault}
 use Rattle.csv_rows.specs.declared.script_end.ScriptFault.TheVariants.{NoStart, BadStart}
 use Rattle.plan_types.specs.Table.{PlanTable, place_count, zone_count}
 use Rattle.plan_rules.specs.declared.state.State.{State}
+use Rattle.plan_rules.specs.Sound.{IsStart}
 use Rattle.plan_rules.specs.State.{free_zone, is_full, start_state, last_stamp}
 use Rattle.plan_explorer.specs.Plants.{state_on, table_on}
 use Rattle.plan_text.specs.Names.{Text}
-use Rattle.plan_text.specs.Starts.{are_places, full_places, is_one, start_fields, start_in, start_of, stamp_in}
+use Rattle.plan_text.specs.Starts.{are_places, full_places, is_one, start_by, start_fields, start_in, start_of, stamp_in}
 use Rattle.plan_words.specs.Group.{past, place_out, zone_out}
 use Rattle.plan_words.specs.Run.{whole_start}
 use Rattle.plan_words.specs.Words.{IsIn}
@@ -112,6 +113,55 @@ plant_count plant script openings is =
     by [] none = absurd (cc)
     by (row ∷ rows) some = opening_count plant.words (tables_of plant.plans.items) row openings some
 
+-- ---- they are starts
+
+given : {A E : Type 0} (o : Option A) (fault : E) (x : A) → ok_or o fault ≡ Ok x → o ≡ Some x
+given None fault x e = absurd (cc)
+given (Some y) fault x e = let same : y ≡ x = cc in ap Some same
+
+start_of_digits : (count : ℕ) (digits : Text) (stamp : Option ℕ) (s : State) → start_of count digits stamp ≡ Some s → IsStart s
+start_of_digits count digits None s e = absurd (cc)
+start_of_digits count digits (Some stamp) s e = by (are_places count digits && nat_le stamp last_stamp) refl e
+  where
+    by : (b : Bool) → (are_places count digits && nat_le stamp last_stamp) ≡ b
+        → (if b then Some (start_state (full_places digits) stamp) else None) ≡ Some s → IsStart s
+    by false is same = absurd (cc)
+    by true is same = subst IsStart (same_Some (start_state (full_places digits) stamp) s same) (record {
+      stamp_in_range = leb-true stamp last_stamp (and_parts (are_places count digits) (nat_le stamp last_stamp) is).1;
+      has_sixteen_places = length-map-range_with_len (is_one digits) 0 16;
+      same = refl;
+    })
+
+start_of_row : (count : ℕ) (row : Row) (s : State) → start_in count row ≡ Ok s → IsStart s
+start_of_row count row s e = by (field_at row 0) e
+  where
+    fields : (b : Bool) (o : Option Text)
+        → (if b then None else option_and_then (λ digits. start_of count digits (stamp_in (field_at row 2))) o) ≡ Some s → IsStart s
+    fields true o is = absurd (cc)
+    fields false None is = absurd (cc)
+    fields false (Some digits) is = start_of_digits count digits (stamp_in (field_at row 2)) s is
+
+    whether : (b : Bool) → (if b then ok_or (start_fields count row) BadStart else Err NoStart) ≡ Ok s → IsStart s
+    whether true k = fields (nat_lt 3 (length row)) (field_at row 1) (given (start_fields count row) BadStart s k)
+    whether false k = absurd (cc)
+
+    by : (o : Option Text) → start_by count o row ≡ Ok s → IsStart s
+    by None is = absurd (cc)
+    by (Some word) is = whether (bytes_eq word (codes "start")) is
+
+-- so is what a script opens each word with
+pub openings_are_starts : (plant : ProgrammedPlant) (script : List ℕ) (openings : List State) → plant_start plant script ≡ Ok openings
+    → (w : ℕ) → w < length openings → IsStart (state_on openings w)
+openings_are_starts plant script openings is w few = by (records default_config (strip_bom script)) is
+  where
+    by : (rows : List Row) → rows_openings plant.words (tables_of plant.plans.items) rows ≡ Ok openings → IsStart (state_on openings w)
+    by [] none = absurd (cc)
+    by (row ∷ rows) some =
+        let ts = tables_of plant.plans.items in
+        let there : w < length ts = subst (λ n. w < n) (opening_count plant.words ts row openings some) few in
+        start_of_row (place_count (table_on ts w)) (row_on row (word_at plant.words w).group.places) (state_on openings w)
+        (opening_on plant.words ts row openings w some there)
+
 -- ---- as the code finds them
 
 -- one start more, after those so far
@@ -168,10 +218,6 @@ row_is (word ∷ []) places = refl
 row_is (word ∷ digits ∷ rest) places = refl
 
 -- ---- the start of a word
-
-given : {A E : Type 0} (o : Option A) (fault : E) (x : A) → ok_or o fault ≡ Ok x → o ≡ Some x
-given None fault x is = absurd (cc)
-given (Some y) fault x is = let same : y ≡ x = cc in ap Some same
 
 otherwise : {A : Type 0} (b : Bool) (o : Option A) (x : A) → (if b then None else o) ≡ Some x → o ≡ Some x
 otherwise true o x is = absurd (cc)

@@ -1,4 +1,5 @@
--- What `plan explore` prints, and what it prints of groups of machines that share nothing with each other.
+-- What `plan explore` prints, and what it prints of groups of machines that share nothing with each other: of a plan,
+-- or of a plant on all its words.
 use Rattle.std.specs.Prelude.{◌≡◌, ◌<◌, ℕ, zero, suc, Bool, true, false, ◌&&◌, ◌||◌, not, nat_lt, List, []}
 use Rattle.std.specs.Prelude.{◌++◌, codes, flat_map, length, slice_get, Option, Some, None, Result, Ok, Err}
 use Rattle.std.specs.Prelude.{String, string_bytes}
@@ -18,7 +19,7 @@ use Rattle.plan_text.specs.Named.{Named}
 use Rattle.plan_text.specs.Names.{Text}
 use Rattle.plan_header.specs.Words.{machine_name}
 use Rattle.plan_app.specs.Going.{machine_text, plates_if_any}
-use Rattle.plan_app.specs.Screens.{IsScreenBy, IsUnfinished, TellsScreen, TellsScreenBy, TellsUnfinished}
+use Rattle.plan_app.specs.Screens.{IsScreenBy, IsUnfinished, TellsScreen, TellsScreenBy, large_words}
 use Rattle.plan_app.specs.Screens.{unfinished_words}
 use Rattle.plan_app.specs.Starving.{may_starve, plates_may_rest}
 use Rattle.plan_app.specs.declared.apart.Exploration.{Exploration}
@@ -62,9 +63,9 @@ abbrev pub names_text : Named → List ℕ → ℕ → ℕ → Text
 names_text n groups first count =
     machine_name n first ++ flat_map (next_name n groups first) (range_with_len 0 count)
 
-abbrev pub part_head : Named → List ℕ → ℕ → ℕ → Text
-part_head n groups first count =
-    codes "apart from all others: " ++ (names_text n groups first count ++ codes "\n")
+-- the head of its part, by these names
+abbrev pub head_of : Text → Text
+head_of names = codes "apart from all others: " ++ (names ++ codes "\n")
 
 -- a call gives or takes a plate, or lets one come or go
 abbrev pub hands_over : Option Call → Bool
@@ -94,8 +95,11 @@ abbrev pub part_plates : Named → PlanPrograms → State → Progress → Text
 part_plates n ps opening plates = if some_move_plates ps then plates_if_any n ps opening plates else []
 
 -- of machines it speaks of its own
+abbrev pub if_own : (ℕ → Bool) → (ℕ → Text) → ℕ → Text
+if_own ours told m = if ours m then told m else []
+
 abbrev pub own_text : (ℕ → Bool) → Named → PlanPrograms → State → List Liveness → ℕ → Text
-own_text ours n ps opening answers m = if ours m then machine_text n ps opening answers m else []
+own_text ours n ps opening answers m = if_own ours (machine_text n ps opening answers) m
 
 abbrev pub part_text : (ℕ → Bool) → Named → PlanPrograms → State → List Liveness → Progress → Text
 part_text ours n ps opening answers plates =
@@ -131,23 +135,40 @@ abbrev pub TellsAlone : Named → PlanPrograms → State → (ℕ → Bool) → 
 TellsAlone n ps opening ours well text =
     TellsScreenBy n ps opening (part_starves ours n ps) (part_text ours n ps opening) well text
 
--- this is told of it; or how far the exploration came, where turns lead to more situations than are explored
+-- this is told; or how far the exploration came, where turns lead to more situations than are explored
+abbrev pub IsTold : (Bool → Text → Type 0) → (ℕ → Type 0) → Result (Bool × String Global) ℕ → Type 0
+IsTold tells unfinished (Ok told) = tells told.0 (string_bytes told.1)
+IsTold tells unfinished (Err turns) = unfinished turns
+
 abbrev pub IsPart : ℕ → Named → PlanPrograms → State → (ℕ → Bool) → Result (Bool × String Global) ℕ → Type 0
-IsPart most n ps opening ours (Ok told) = TellsAlone n ps opening ours told.0 (string_bytes told.1)
-IsPart most n ps opening ours (Err turns) = IsUnfinished most n ps opening turns
+IsPart most n ps opening ours told = IsTold (TellsAlone n ps opening ours) (IsUnfinished most n ps opening) told
+
+-- ---- what is said of all groups, of a plan or of a plant
+
+-- What there is to tell, from an opening: of all machines together, and of some alone, whether all is well, and a text;
+-- or of how many turns it is known that no fewer lead to a standstill, where more situations than a number are found.
+pub record Telling : Type 1 where
+  -- what this number of machines asks
+  pub count : ℕ
+  pub programs : PlanPrograms
+  -- the names of a group's machines, by the numbers of the groups and the group's first machine
+  pub names : List ℕ → ℕ → Text
+  pub all : Bool → Text → Type 0
+  pub alone : (ℕ → Bool) → Bool → Text → Type 0
+  pub all_unfinished : ℕ → ℕ → Type 0
+  pub unfinished : ℕ → (ℕ → Bool) → ℕ → Type 0
+  -- machines of two groups share nothing, and no groups could be smaller
+  pub apart : (ℕ → ℕ) → Type 0
+  pub smallest : (ℕ → ℕ) → Type 0
 
 -- its head, and then what is said of its machines alone
-abbrev pub TellsPart : Named → PlanPrograms → State → List ℕ → ℕ → Bool → Text → Type 0
-TellsPart n ps opening groups first well text =
-    (said : Text) × TellsAlone n (alone (group_of groups first) ps) opening (group_of groups first) well said
-    × (text ≡ part_head n groups first (length ps) ++ said)
+abbrev pub TellsPart : Telling → List ℕ → ℕ → Bool → Text → Type 0
+TellsPart v groups first well text =
+    (said : Text) × v.alone (group_of groups first) well said × (text ≡ head_of (v.names groups first) ++ said)
 
 -- one text is another one, and then a part
-abbrev pub AddsPart : Named → PlanPrograms → State → List ℕ → ℕ → Bool → Text → Text → Type 0
-AddsPart n ps opening groups first well old new =
-    (part : Text) × TellsPart n ps opening groups first well part × (new ≡ old ++ part)
-
--- ---- what is said of all groups, in the order of their first machines
+abbrev pub AddsPart : Telling → List ℕ → ℕ → Bool → Text → Text → Type 0
+AddsPart v groups first well old new = (part : Text) × TellsPart v groups first well part × (new ≡ old ++ part)
 
 -- what comes before, and then a part: all is well if it is in both
 abbrev pub TellsBoth : (Bool → Text → Type 0) → (Bool → Text → Type 0) → Bool → Text → Type 0
@@ -159,63 +180,71 @@ abbrev pub TellsNext : Bool → (Bool → Text → Type 0) → (Bool → Text �
 TellsNext true before part well text = TellsBoth before part well text
 TellsNext false before part well text = before well text
 
--- the parts of the groups whose first machine is below a number
-abbrev pub TellsParts : Named → PlanPrograms → State → List ℕ → ℕ → Bool → Text → Type 0
-TellsParts n ps opening groups zero well text = (well ≡ true) × (text ≡ [])
-TellsParts n ps opening groups (suc m) well text =
-    TellsNext (is_first groups m) (TellsParts n ps opening groups m) (TellsPart n ps opening groups m) well text
+-- the parts of the groups whose first machine is below a number, in the order of these
+abbrev pub TellsParts : Telling → List ℕ → ℕ → Bool → Text → Type 0
+TellsParts v groups zero well text = (well ≡ true) × (text ≡ [])
+TellsParts v groups (suc m) well text =
+    TellsNext (is_first groups m) (TellsParts v groups m) (TellsPart v groups m) well text
 
 -- ---- what is printed: of each group if at least two have programs, else of all machines together
 
-abbrev pub TellsBy : Bool → Named → PlanPrograms → State → List ℕ → Bool → Text → Type 0
-TellsBy true n ps opening groups well text = TellsParts n ps opening groups (length ps) well text
-TellsBy false n ps opening groups well text = TellsScreen n ps opening well text
+abbrev pub TellsBy : Bool → Telling → List ℕ → Bool → Text → Type 0
+TellsBy true v groups well text = TellsParts v groups v.count well text
+TellsBy false v groups well text = v.all well text
 
-pub record TellsExploration (n : Named) (ps : PlanPrograms) (opening : State) (well : Bool) (text : Text) : Type 0
-  where
-    pub groups : List ℕ
-    pub apart : AreGroups n.plan (group_in groups)
-    pub smallest : AreSmallest n.plan (group_in groups)
-    pub told : TellsBy (some_are_apart groups ps) n ps opening groups well text
+pub record TellsExploration (v : Telling) (well : Bool) (text : Text) : Type 0 where
+  pub groups : List ℕ
+  pub apart : v.apart (group_in groups)
+  pub smallest : v.smallest (group_in groups)
+  pub told : TellsBy (some_are_apart groups v.programs) v groups well text
 
 -- where turns of a group alone lead to more situations than are explored, its machines are named
-abbrev pub large_part : ℕ → Named → List ℕ → ℕ → ℕ → ℕ → Text
-large_part most n groups first count turns =
-    codes "large: " ++ (names_text n groups first count ++ (codes ": " ++ unfinished_words most turns))
+abbrev pub large_of : ℕ → Text → ℕ → Text
+large_of most names turns = codes "large: " ++ (names ++ (codes ": " ++ unfinished_words most turns))
 
-abbrev pub TellsLargePart : ℕ → Named → PlanPrograms → State → List ℕ → ℕ → Text → Type 0
-TellsLargePart most n ps opening groups first words =
-    (turns : ℕ) × IsUnfinished most n (alone (group_of groups first) ps) opening turns
-    × (words ≡ large_part most n groups first (length ps) turns)
+abbrev pub TellsLargePart : ℕ → Telling → List ℕ → ℕ → Text → Type 0
+TellsLargePart most v groups first words =
+    (turns : ℕ) × v.unfinished most (group_of groups first) turns × (words ≡ large_of most (v.names groups first) turns)
 
 -- or turns of all machines together do
-abbrev pub TellsLargeBy : ℕ → Bool → Named → PlanPrograms → State → List ℕ → Text → Type 0
-TellsLargeBy most true n ps opening groups words =
-    (first : ℕ) × (first < length ps) × TellsLargePart most n ps opening groups first words
-TellsLargeBy most false n ps opening groups words = TellsUnfinished most n ps opening words
+abbrev pub TellsLargeBy : ℕ → Bool → Telling → List ℕ → Text → Type 0
+TellsLargeBy most true v groups words = (first : ℕ) × (first < v.count) × TellsLargePart most v groups first words
+TellsLargeBy most false v groups words = (turns : ℕ) × v.all_unfinished most turns × (words ≡ large_words most turns)
 
-pub record TellsLarge (most : ℕ) (n : Named) (ps : PlanPrograms) (opening : State) (words : Text) : Type 0 where
+pub record TellsLarge (most : ℕ) (v : Telling) (words : Text) : Type 0 where
   pub groups : List ℕ
-  pub apart : AreGroups n.plan (group_in groups)
-  pub smallest : AreSmallest n.plan (group_in groups)
-  pub told : TellsLargeBy most (some_are_apart groups ps) n ps opening groups words
+  pub apart : v.apart (group_in groups)
+  pub smallest : v.smallest (group_in groups)
+  pub told : TellsLargeBy most (some_are_apart groups v.programs) v groups words
 
 -- by the groups
-abbrev pub IsExplorationBy : ℕ → Bool → Named → PlanPrograms → State → List ℕ → Exploration → Type 0
-IsExplorationBy most apart n ps opening groups (Well text) = TellsBy apart n ps opening groups true (string_bytes text)
-IsExplorationBy most apart n ps opening groups (Unwell text) =
-    TellsBy apart n ps opening groups false (string_bytes text)
-IsExplorationBy most apart n ps opening groups (Large words) =
-    TellsLargeBy most apart n ps opening groups (string_bytes words)
+abbrev pub IsExplorationBy : ℕ → Bool → Telling → List ℕ → Exploration → Type 0
+IsExplorationBy most apart v groups (Well text) = TellsBy apart v groups true (string_bytes text)
+IsExplorationBy most apart v groups (Unwell text) = TellsBy apart v groups false (string_bytes text)
+IsExplorationBy most apart v groups (Large words) = TellsLargeBy most apart v groups (string_bytes words)
 
 -- it is these words
-abbrev pub IsLargePart : ℕ → Named → List ℕ → ℕ → ℕ → ℕ → Exploration → Type 0
-IsLargePart most n groups first count turns (Well text) = ⊥
-IsLargePart most n groups first count turns (Unwell text) = ⊥
-IsLargePart most n groups first count turns (Large words) =
-    string_bytes words ≡ large_part most n groups first count turns
+abbrev pub IsLarge : Text → Exploration → Type 0
+IsLarge said (Well text) = ⊥
+IsLarge said (Unwell text) = ⊥
+IsLarge said (Large words) = string_bytes words ≡ said
 
-abbrev pub IsExploration : ℕ → Named → PlanPrograms → State → Exploration → Type 0
-IsExploration most n ps opening (Well text) = TellsExploration n ps opening true (string_bytes text)
-IsExploration most n ps opening (Unwell text) = TellsExploration n ps opening false (string_bytes text)
-IsExploration most n ps opening (Large words) = TellsLarge most n ps opening (string_bytes words)
+abbrev pub IsExploration : ℕ → Telling → Exploration → Type 0
+IsExploration most v (Well text) = TellsExploration v true (string_bytes text)
+IsExploration most v (Unwell text) = TellsExploration v false (string_bytes text)
+IsExploration most v (Large words) = TellsLarge most v (string_bytes words)
+
+-- ---- of a plan
+
+abbrev pub told_of : Named → PlanPrograms → State → Telling
+told_of n ps opening = record {
+  count = length ps;
+  programs = ps;
+  names = λ groups first. names_text n groups first (length ps);
+  all = TellsScreen n ps opening;
+  alone = λ ours. TellsAlone n (alone ours ps) opening ours;
+  all_unfinished = λ most. IsUnfinished most n ps opening;
+  unfinished = λ most ours. IsUnfinished most n (alone ours ps) opening;
+  apart = AreGroups n.plan;
+  smallest = AreSmallest n.plan;
+}

@@ -17,13 +17,13 @@ use Rattle.plan_document.specs.declared.resolving.ProgrammedPlan.{ProgrammedPlan
 use Rattle.plan_header.specs.Printed.{header_of}
 use Rattle.plan_header.specs.Modules.{module_text}
 use Rattle.plan_picture.specs.Pictures.{IsPicture}
-use Rattle.plan_app.specs.Apart.{TellsExploration, TellsLarge}
+use Rattle.plan_app.specs.Apart.{TellsExploration, TellsLarge, told_of}
 use Rattle.plan_app.specs.Asked.{HasNoWord, IsAsked, no_word_text}
 use Rattle.plan_app.specs.Hazards.{TellsReport, start_if}
 use Rattle.plan_app.specs.Input.{byte_limit, document_in, script_in}
 use Rattle.plan_app.specs.OnWords.{TellsWords}
 use Rattle.plan_app.specs.Pages.{IsLongPage, TellsPage}
-use Rattle.plan_app.specs.PlantScreens as plant_screens
+use Rattle.plan_app.specs.PlantScreens.{told_of as of_plant}
 use Rattle.plan_app.specs.PlantStarts.{plant_start}
 use Rattle.plan_app.specs.RunPages.{ShowsRun}
 use Rattle.plan_app.specs.Runs.{HasForeignCall, IsTooLong, IsUnexplained, TellsRun}
@@ -95,13 +95,13 @@ WroteReport most plan script old new = WroteReportFrom most plan (start_if (scri
 -- machine starves or plates rest
 abbrev pub WroteExploration : ProgrammedPlan → State → Option Text → Option Text → Type 0
 WroteExploration plan opening old new =
-    (well : Bool) × (text : Text) × TellsExploration plan.named plan.programs opening well text
+    (well : Bool) × (text : Text) × TellsExploration (told_of plan.named plan.programs opening) well text
     × WrotePrefix old new text
 
 -- the same of a group, or of all machines together
 abbrev pub WroteTooMany : ℕ → ProgrammedPlan → State → Option Text → Option Text → Type 0
 WroteTooMany most plan opening old new =
-    (words : Text) × TellsLarge most plan.named plan.programs opening words × WroteFault words old new
+    (words : Text) × TellsLarge most (told_of plan.named plan.programs opening) words × WroteFault words old new
 
 abbrev pub WroteEndFrom : ℕ → ProgrammedPlan → State → Option Text → Option Text → Type 0
 WroteEndFrom most plan opening old new = WroteTooMany most plan opening old new ⊎ WroteExploration plan opening old new
@@ -238,14 +238,16 @@ WroteNoOpenings plant script old new =
 -- turns lead to more situations than are explored, and how far the exploration came
 abbrev pub WroteLargePlant : ℕ → ProgrammedPlant → List State → Option Text → Option Text → Type 0
 WroteLargePlant most plant openings old new =
-    (words : Text) × plant_screens.TellsUnfinished most plant.plans.items plant.programs.programs openings words
+    (words : Text) × TellsLarge most (of_plant plant.plans.items plant.programs.programs openings) words
     × WroteFault words old new
 
--- a text shows a standstill of all words together, or says that there is none, and whether some machine starves
+-- of each group, or of all machines together, a text shows a standstill of all words together, or says that there is
+-- none, and whether some machine starves
 abbrev pub WrotePlantText : ProgrammedPlant → List State → Option Text → Option Text → Type 0
 WrotePlantText plant openings old new =
     (well : Bool) × (text : Text)
-    × plant_screens.TellsPlant plant.plans.items plant.programs.programs openings well text × WrotePrefix old new text
+    × TellsExploration (of_plant plant.plans.items plant.programs.programs openings) well text
+    × WrotePrefix old new text
 
 abbrev pub WrotePlantFrom : ℕ → ProgrammedPlant → List State → Option Text → Option Text → Type 0
 WrotePlantFrom most plant openings old new =

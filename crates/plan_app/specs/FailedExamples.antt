@@ -6,7 +6,7 @@ use Rattle.plan_text.specs.Script.{script_start}
 use Rattle.plan_document.specs.Plants.{IsPlantIn}
 use Rattle.plan_document.specs.declared.plants.ProgrammedPlant.{ProgrammedPlant}
 use Rattle.plan_document.specs.declared.resolving.ProgrammedPlan.{ProgrammedPlan}
-use Rattle.plan_app.specs.Apart.{TellsLarge}
+use Rattle.plan_app.specs.Apart.{TellsLarge, told_of}
 use Rattle.plan_app.specs.Asked.{IsAsked, no_word_text}
 use Rattle.plan_app.specs.Failed.{Fails, FailsBy, IsOfDocument, WroteEnd, WroteExploration, WroteFault}
 use Rattle.plan_app.specs.Failed.{FailsExploreWords, FailsWords, WroteNoWord, WrotePage, WrotePageText}
@@ -64,7 +64,7 @@ pub record FailedIsMeant : Type 0 where
       → Fails word (Explore most) (Some bytes) (Some []) (Some (codes "fault large: " ++ rest))
       → (plan : ProgrammedPlan) × IsAsked word (document_in bytes) plan
       × (opening : State) × (script_start plan.named (script_in bytes) ≡ Ok opening)
-      × (words : Text) × TellsLarge most plan.named plan.programs opening words
+      × (words : Text) × TellsLarge most (told_of plan.named plan.programs opening) words
       × WroteOf words (codes "fault large: " ++ rest)
   -- of the words of a plant it is what is said of them
   pub words : (bytes new : Text) → AreNoFault new → FailsWords (Some bytes) (Some []) (Some new)

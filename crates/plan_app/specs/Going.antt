@@ -211,14 +211,20 @@ machines_text n ps opening answers = machines_by n (order_text n ps opening) ans
 abbrev pub moving_text : Bound → Text
 moving_text bound = codes "plates move for ever in each fair order: " ++ within_text bound
 
+abbrev pub resting_by : ByOrder → FairOrder → Text
+resting_by told order =
+    codes "plates may rest for ever\n  a fair order in which none moves: first\n" ++ told None order
+
+abbrev pub plates_by : ByOrder → Progress → Text
+plates_by told (progress.Within bound) = moving_text bound
+plates_by told (progress.Starves order) = resting_by told order
+plates_by told (progress.Unknown reason) = codes "it isn't known whether plates move for ever\n"
+
 abbrev pub resting_text : Named → PlanPrograms → State → FairOrder → Text
-resting_text n ps opening order =
-    codes "plates may rest for ever\n  a fair order in which none moves: first\n" ++ order_text n ps opening None order
+resting_text n ps opening order = resting_by (order_text n ps opening) order
 
 abbrev pub plates_text : Named → PlanPrograms → State → Progress → Text
-plates_text n ps opening (progress.Within bound) = moving_text bound
-plates_text n ps opening (progress.Starves order) = resting_text n ps opening order
-plates_text n ps opening (progress.Unknown reason) = codes "it isn't known whether plates move for ever\n"
+plates_text n ps opening found = plates_by (order_text n ps opening) found
 
 -- of a plan without places nothing is said of plates
 abbrev pub plates_if_any : Named → PlanPrograms → State → Progress → Text

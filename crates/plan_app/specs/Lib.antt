@@ -20,6 +20,7 @@ pub mod OnWords
 pub mod PlantStarts
 pub mod PlantGoing
 pub mod PlantScreens
+pub mod PlantPartLaws
 pub mod Served
 pub mod Failed
 pub mod WordExamples

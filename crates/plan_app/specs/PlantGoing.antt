@@ -1,22 +1,27 @@
 -- What `plan explore --words` prints of machines that go on, or starve, on all words of a plant together. Each line of
 -- an order has the names of the word that is asked.
 use Rattle.std.specs.Prelude.{◌≡◌, ◌≤◌, ℕ, List, [], ◌++◌, codes, flat_map, length, map, nat_eq, slice_get}
-use Rattle.std.specs.Prelude.{Bool, Option, Some, None}
+use Rattle.std.specs.Prelude.{Bool, true, Option, Some, None, if◌then◌else◌}
+use Rattle.std.specs.List.{range_with_len}
 use Rattle.plan_types.specs.declared.answer.Event.{Event}
 use Rattle.plan_rules.specs.declared.state.State.{State}
 use Rattle.plan_explorer.specs.contracts.plant_walk.RoutedEventPartialEq.TheImpl.{ghosts as routed_ghosts}
 use Rattle.plan_explorer.specs.declared.plant_walk.RoutedEvent.{RoutedEvent}
-use Rattle.plan_explorer.specs.PlantPrograms.{RoutedPrograms}
+use Rattle.plan_explorer.specs.Groups.{group_in, in_group}
+use Rattle.plan_explorer.specs.PlantPrograms.{RoutedPrograms, calls_of}
 use Rattle.plan_explorer.specs.PlantWalks.{event_of, events_of}
 use Rattle.plan_explorer.specs.Plants.{PlantSituation, after_turns, first_situation, turn_of}
 use Rattle.plan_liveness.specs.declared.answer.FairOrder.{FairOrder}
 use Rattle.plan_liveness.specs.declared.answer.Liveness.{Liveness}
+use Rattle.plan_liveness.specs.declared.answer.Progress.{Progress}
 use Rattle.plan_text.specs.Names.{Text}
 use Rattle.plan_text.specs.Named.{Named}
 use Rattle.plan_document.specs.declared.resolving.ProgrammedPlan.{ProgrammedPlan}
+use Rattle.plan_app.specs.Apart.{if_own, some_move_plates}
 use Rattle.plan_app.specs.Going as going
 use Rattle.plan_app.specs.PlantStarts.{tables_of}
 use Rattle.plan_app.specs.declared.going.TheConstants.{AGAIN, FAIRNESS}
+use Rattle.plan_app.specs.declared.plant_going.Group.{Group}
 use Rattle.plan_app.specs.declared.plant_going.OpenedPlant.{OpenedPlant}
 
 -- a plant is opened: each word has its table and an opening, and programs ask by these words
@@ -82,7 +87,7 @@ loop_text plans ps openings who order =
 abbrev pub order_text : List ProgrammedPlan → RoutedPrograms → List State → Option ℕ → FairOrder → Text
 order_text plans ps openings who order = stem_text plans ps openings order ++ loop_text plans ps openings who order
 
--- ---- what is said of each machine; of plates nothing is
+-- ---- what is said of each machine
 
 abbrev pub starves_text : List ProgrammedPlan → RoutedPrograms → List State → ℕ → FairOrder → Text
 starves_text plans ps openings machine order = going.starves_by (order_text plans ps openings) machine order
@@ -97,15 +102,40 @@ abbrev pub machine_text : Named → List ProgrammedPlan → RoutedPrograms → L
 machine_text n plans ps openings answers machine =
     going.machine_by n (order_text plans ps openings) answers machine
 
+-- what is said of the machines of a group, or of all
+abbrev pub everyone : ℕ → Bool
+everyone machine = true
+
+abbrev pub machines_of : Option Group → ℕ → Bool
+machines_of None = everyone
+machines_of (Some group) = in_group (group_in group.groups) group.number
+
+abbrev pub own_text : (ℕ → Bool) → Named → List ProgrammedPlan → RoutedPrograms → List State → List Liveness → ℕ → Text
+own_text ours n plans ps openings answers machine = if_own ours (machine_text n plans ps openings answers) machine
+
 -- a machine has the same name on each word: that of the first is said
-abbrev pub machines_if : Option ProgrammedPlan → List ProgrammedPlan → RoutedPrograms → List State → List Liveness
+abbrev pub named_if : (Named → Text) → Option ProgrammedPlan → Text
+named_if told None = []
+named_if told (Some first) = told first.named
+
+abbrev pub each_text : (ℕ → Bool) → List ProgrammedPlan → RoutedPrograms → List State → List Liveness → Named → Text
+each_text ours plans ps openings answers n =
+    flat_map (own_text ours n plans ps openings answers) (range_with_len 0 (length ps))
+
+abbrev pub machines_text : (ℕ → Bool) → List ProgrammedPlan → RoutedPrograms → List State → List Liveness → Text
+machines_text ours plans ps openings answers =
+    named_if (each_text ours plans ps openings answers) (slice_get plans 0)
+
+-- ---- what is said of plates: nothing if no program moves any
+
+abbrev pub resting_text : List ProgrammedPlan → RoutedPrograms → List State → FairOrder → Text
+resting_text plans ps openings order = going.resting_by (order_text plans ps openings) order
+
+abbrev pub plates_text : List ProgrammedPlan → RoutedPrograms → List State → Progress → Text
+plates_text plans ps openings plates =
+    if some_move_plates (calls_of ps) then going.plates_by (order_text plans ps openings) plates else []
+
+abbrev pub going_text : (ℕ → Bool) → List ProgrammedPlan → RoutedPrograms → List State → List Liveness → Progress
     → Text
-machines_if None plans ps openings answers = []
-machines_if (Some first) plans ps openings answers =
-    going.machines_by first.named (order_text plans ps openings) answers (length ps)
-
-abbrev pub machines_text : List ProgrammedPlan → RoutedPrograms → List State → List Liveness → Text
-machines_text plans ps openings answers = machines_if (slice_get plans 0) plans ps openings answers
-
-abbrev pub going_text : List ProgrammedPlan → RoutedPrograms → List State → List Liveness → Text
-going_text plans ps openings answers = machines_text plans ps openings answers ++ FAIRNESS.now
+going_text ours plans ps openings answers plates =
+    machines_text ours plans ps openings answers ++ (plates_text plans ps openings plates ++ FAIRNESS.now)

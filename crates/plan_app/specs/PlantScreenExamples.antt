@@ -1,32 +1,44 @@
--- What is said of two machines that pass two zones, each of them on a word of its own; and what a text, or what was
--- written, says for certain.
-use Rattle.std.specs.Prelude.{◌≡◌, ℕ, Bool, true, false, List, [], ◌∷◌, ◌++◌, codes, length, slice_get}
+-- What is said of two machines that pass two zones, each of them on a word of its own, and of two that share nothing;
+-- and what a text, or what was written, says for certain.
+use Rattle.std.specs.Prelude.{◌≡◌, ℕ, Bool, true, false, ◌&&◌, ◌||◌, List, [], ◌∷◌, ◌++◌, codes, length, slice_get}
 use Rattle.std.specs.Prelude.{Ok, Some, None}
 use Rattle.plan_types.specs.declared.answer.Answer.TheVariants.{Done, Refused}
 use Rattle.plan_types.specs.declared.answer.Refusal.TheVariants.{Held}
+use Rattle.plan_types.specs.declared.call.Call.TheVariants.{Claim, Give, Release, SetPose}
+use Rattle.plan_types.specs.Examples.{pose}
+use Rattle.plan_types.specs.Table.{plan_table}
 use Rattle.plan_rules.specs.declared.state.State.{State}
+use Rattle.graph_progress.specs.declared.answer.Reason.TheVariants.{Unchecked}
 use Rattle.plan_explorer.specs.declared.plant_walk.RoutedEvent.{RoutedEvent}
-use Rattle.plan_explorer.specs.PlantExamples.{claims, crossing, crosswise, in_order, openings}
+use Rattle.plan_explorer.specs.Groups.{group_in}
+use Rattle.plan_explorer.specs.PlantExamples.{claims, crossing, crosswise, in_order, on, openings}
 use Rattle.plan_explorer.specs.PlantExplored.{AreShortest, ComeTo, ComeToMore, LeadToStandstill, NoneStandsStill}
 use Rattle.plan_explorer.specs.PlantExplored.{NoneStandsStillBefore}
-use Rattle.plan_explorer.specs.PlantPrograms.{RoutedPrograms}
+use Rattle.plan_explorer.specs.PlantPrograms.{RoutedPrograms, calls_of}
 use Rattle.plan_explorer.specs.Plants.{first_situation}
 use Rattle.plan_liveness.specs.declared.answer.FairOrder.{FairOrder}
 use Rattle.plan_liveness.specs.declared.answer.Liveness.{Liveness}
 use Rattle.plan_liveness.specs.declared.answer.Liveness.TheVariants.{Always, IfOne, Silent, Starves}
+use Rattle.plan_liveness.specs.declared.answer.Progress.{Progress}
+use Rattle.plan_liveness.specs.declared.answer.Progress.TheVariants.{Within, Unknown}
+use Rattle.plan_liveness.specs.declared.answer.Progress.TheVariants as progress
 use Rattle.plan_liveness.specs.PlantAnswers.{IsPlantLiveness}
+use Rattle.plan_liveness.specs.PlantGroups.{AreGroups, alone}
+use Rattle.plan_liveness.specs.PlantPlates.{IsPlateProgress}
 use Rattle.plan_text.specs.Names.{Text}
 use Rattle.plan_text.specs.Named.{Named, named}
 use Rattle.plan_document.specs.Plants.{IsPlantIn}
 use Rattle.plan_document.specs.declared.plants.ProgrammedPlant.{ProgrammedPlant}
 use Rattle.plan_document.specs.declared.resolving.ProgrammedPlan.{ProgrammedPlan}
+use Rattle.plan_app.specs.Apart.{TellsBy, TellsExploration, TellsLargeBy, group_of, large_of, some_are_apart}
 use Rattle.plan_app.specs.Going as of_plan
 use Rattle.plan_app.specs.GoingExamples.{ends}
 use Rattle.plan_app.specs.Input.{document_in, script_in}
-use Rattle.plan_app.specs.PlantGoing.{asked_line, found_text, going_text, machines_text, news, outlook_line}
-use Rattle.plan_app.specs.PlantGoing.{starves_text}
-use Rattle.plan_app.specs.PlantScreens.{AreAnswers, TellsFree, TellsGoing, TellsStandstill}
-use Rattle.plan_app.specs.PlantScreens.{TellsStarving, TellsUnfinished, any_starves, standstill_text, turns_told}
+use Rattle.plan_app.specs.PlantGoing.{asked_line, everyone, found_text, going_text, machines_text, news}
+use Rattle.plan_app.specs.PlantGoing.{outlook_line, plates_text, starves_text}
+use Rattle.plan_app.specs.PlantScreens.{AreAnswers, TellsFree, TellsGoing, TellsPlant, TellsStandstill}
+use Rattle.plan_app.specs.PlantScreens.{TellsStarving}
+use Rattle.plan_app.specs.PlantScreens.{any_starves, names_text, plates_starve, standstill_text, told_of, turns_told}
 use Rattle.plan_app.specs.PlantScreens.{wait_line}
 use Rattle.plan_app.specs.PlantStarts.{plant_start, tables_of}
 use Rattle.plan_app.specs.Screens as of_screen
@@ -50,6 +62,14 @@ passed_over =
     ++ codes "  second could go on: claim north: done\n" ++ codes "  first asks: claim north: done\n"
     ++ codes "  second waits: claim north: held first\n" ++ codes "  first asks: claim south: done\n"
     ++ codes "  first asks: release south: done\n" ++ codes "  first asks: release north: done\n"
+
+-- nothing is known of plates
+abbrev pub unknown : Progress
+unknown = Unknown Unchecked
+
+-- after its claim the first machine would give a plate on the word of the other
+abbrev pub giving : RoutedPrograms
+giving = (on 0 (Claim 0) ∷ on 1 (Give 0) ∷ []) ∷ (on 1 (Claim 0) ∷ on 1 (Release 0) ∷ []) ∷ []
 
 -- by the plans of both words
 pub record CrossingLines (plans : List ProgrammedPlan) : Type 0 where
@@ -79,18 +99,82 @@ pub record CrossingLines (plans : List ProgrammedPlan) : Type 0 where
       ++ codes "  second asks: claim north: held first\n"
   -- each machine by its own answer
   pub going : (order : FairOrder) → IsOrder order [] (0 ∷ 0 ∷ 0 ∷ 0 ∷ [])
-      → going_text plans in_order openings (Always (within 7 0) ∷ IfOne 1 (within 4 3) order ∷ [])
+      → going_text everyone plans in_order openings (Always (within 7 0) ∷ IfOne 1 (within 4 3) order ∷ []) unknown
       ≡ codes "first goes on for ever in each fair order: within k * 7 turns\n"
       ++ codes "second goes on for ever if it isn't passed over for ever: within k * 4 + k * k * 3 turns\n"
       ++ passed_over ++ ends
   pub starves : (order : FairOrder) → IsOrder order [] (0 ∷ 0 ∷ 0 ∷ 0 ∷ [])
       → found_text (on_word (codes "north")) plans in_order openings 1 (Starves order)
       ≡ codes "second may starve though no machine is passed over for ever\n" ++ passed_over
+  -- of plates, if some program moves any
+  pub moving : plates_text plans giving openings (Within (within 6 0))
+      ≡ codes "plates move for ever in each fair order: within k * 6 turns\n"
+  pub resting : (order : FairOrder) → IsOrder order (0 ∷ []) (1 ∷ [])
+      → plates_text plans giving openings (progress.Starves order)
+      ≡ codes "plates may rest for ever\n" ++ codes "  a fair order in which none moves: first\n"
+      ++ codes "  first asks: claim north: done\n" ++ codes "  and then again and again\n"
+      ++ codes "  second asks: claim south: done\n"
+  pub not_known : plates_text plans giving openings unknown
+      ≡ codes "it isn't known whether plates move for ever\n"
+  pub no_plates : plates_text plans in_order openings (Within (within 6 0)) ≡ []
+  pub both_go_on : going_text everyone plans giving openings (Silent ∷ Silent ∷ []) (Within (within 6 0))
+      ≡ codes "first asks nothing\n" ++ codes "second asks nothing\n"
+      ++ codes "plates move for ever in each fair order: within k * 6 turns\n" ++ ends
 
 abbrev pub CrossingsAreTold : Type 0
 CrossingsAreTold =
     (north south : ProgrammedPlan) → north.named ≡ on_word (codes "north") → south.named ≡ on_word (codes "south")
     → CrossingLines (north ∷ south ∷ [])
+
+-- ---- two machines that share nothing
+
+-- on a word of its own each has a pose
+abbrev pub turner : ℕ → Named
+turner machine =
+    named (plan_table 2 [] (pose machine false None None ∷ []) []) (codes "first" ∷ codes "second" ∷ []) [] []
+    (codes "turned" ∷ [])
+
+abbrev pub turning : RoutedPrograms
+turning = (on 0 (SetPose 0) ∷ []) ∷ (on 1 (SetPose 0) ∷ []) ∷ []
+
+-- the number of each machine's group
+abbrev pub lines : List ℕ
+lines = 0 ∷ 1 ∷ []
+
+-- a text is the part of the first machine, and then that of the second one: each told of its machine, by its program
+pub record IsTwoParts (plans : List ProgrammedPlan) (openings : List State) (well : Bool) (text : Text) : Type 0 where
+  pub fine : Bool
+  pub first : Text
+  pub of_first : TellsPlant (group_of lines 0) plans (alone (group_of lines 0) turning) openings fine first
+  pub also : Bool
+  pub second : Text
+  pub of_second : TellsPlant (group_of lines 1) plans (alone (group_of lines 1) turning) openings also second
+  pub both : well ≡ (fine && also)
+  pub told : text ≡ (codes "apart from all others: first\n" ++ first)
+      ++ (codes "apart from all others: second\n" ++ second)
+
+-- by the plans of both words, and from any openings
+pub record LinesApart (plans : List ProgrammedPlan) (openings : List State) : Type 0 where
+  pub groups : AreGroups (tables_of plans) (group_in lines)
+  pub apart : some_are_apart lines (calls_of turning) ≡ true
+  pub together : some_are_apart (0 ∷ 0 ∷ []) (calls_of turning) ≡ false
+  pub parts : (well : Bool) (text : Text) → TellsBy true (told_of plans turning openings) lines well text
+      → IsTwoParts plans openings well text
+  -- of the second machine alone
+  pub goes_on : (ps : RoutedPrograms) → length ps ≡ 2
+      → plates_text plans ps openings unknown ≡ []
+      → going_text (group_of lines 1) plans ps openings (Silent ∷ Always (within 1 0) ∷ []) unknown
+      ≡ codes "second goes on for ever in each fair order: within k * 1 turns\n" ++ ends
+  pub large : large_of 2000 (names_text plans lines 1 2) 5
+      ≡ codes "large: second: more than 2000 situations; nothing stands still in fewer than 5 turns"
+  pub of_other : (order : FairOrder) → any_starves (group_of lines 1) (Starves order ∷ Silent ∷ []) 2 ≡ false
+
+abbrev pub LinesAreTold : Type 0
+LinesAreTold =
+    (one other : ProgrammedPlan) (openings : List State) → one.named ≡ turner 0 → other.named ≡ turner 1
+    → LinesApart (one ∷ other ∷ []) openings
+
+-- ---- what is said for certain
 
 -- each line has the names of the word of its call, and each machine's name is that of the first word
 pub record PlantLinesTell : Type 0 where
@@ -100,28 +184,38 @@ pub record PlantLinesTell : Type 0 where
       → slice_get plans e.word ≡ Some plan → asked_line plans e ≡ of_plan.asked_line plan.named (Some e.event)
   pub outlook : (plans : List ProgrammedPlan) (plan : ProgrammedPlan) (e : RoutedEvent)
       → slice_get plans e.word ≡ Some plan → outlook_line plans e ≡ of_plan.told_outlook plan.named e.event
-  pub no_words : (ps : RoutedPrograms) (openings : List State) (answers : List Liveness)
-      → machines_text [] ps openings answers ≡ []
+  pub no_words : (ours : ℕ → Bool) (ps : RoutedPrograms) (openings : List State) (answers : List Liveness)
+      → machines_text ours [] ps openings answers ≡ []
 
 -- what is said is so, of all words together
 pub record PlantScreensAreMeant : Type 0 where
   pub lines : PlantLinesTell
-  pub none : (plans : List ProgrammedPlan) (ps : RoutedPrograms) (openings : List State) (starve : Bool) (text : Text)
-      → TellsGoing plans ps openings starve text → NoneStandsStill (tables_of plans) ps openings
-  pub situations : (plans : List ProgrammedPlan) (ps : RoutedPrograms) (openings : List State) (starve : Bool)
-      (text : Text) → TellsGoing plans ps openings starve text
-      → (situations : ℕ) × (answers : List Liveness) × ComeTo (tables_of plans) ps openings situations
-      × AreAnswers plans ps openings answers
-      × (text ≡ free_line situations ++ going_text plans ps openings answers)
-  -- either none starves, or some do
-  pub none_starves : (plans : List ProgrammedPlan) (ps : RoutedPrograms) (openings : List State) (text : Text)
-      → TellsFree plans ps openings text
-      → (answers : List Liveness) × AreAnswers plans ps openings answers × (any_starves answers ≡ false)
-  pub some_starves : (plans : List ProgrammedPlan) (ps : RoutedPrograms) (openings : List State) (text : Text)
-      → TellsStarving plans ps openings text
-      → (answers : List Liveness) × AreAnswers plans ps openings answers × (any_starves answers ≡ true)
-  pub all_go_on : any_starves (Always (within 7 0) ∷ Silent ∷ []) ≡ false
-  pub one_starves : (order : FairOrder) → any_starves (Always (within 7 0) ∷ IfOne 1 (within 4 3) order ∷ []) ≡ true
+  pub none : (ours : ℕ → Bool) (plans : List ProgrammedPlan) (ps : RoutedPrograms) (openings : List State)
+      (starve : Bool) (text : Text) → TellsGoing ours plans ps openings starve text
+      → NoneStandsStill (tables_of plans) ps openings
+  pub situations : (ours : ℕ → Bool) (plans : List ProgrammedPlan) (ps : RoutedPrograms) (openings : List State)
+      (starve : Bool) (text : Text) → TellsGoing ours plans ps openings starve text
+      → (situations : ℕ) × (answers : List Liveness) × (plates : Progress)
+      × ComeTo (tables_of plans) ps openings situations × AreAnswers plans ps openings answers
+      × IsPlateProgress (tables_of plans) ps (first_situation openings) plates
+      × (text ≡ free_line situations ++ going_text ours plans ps openings answers plates)
+  -- either none starves, nor may plates rest; or some do
+  pub none_starves : (ours : ℕ → Bool) (plans : List ProgrammedPlan) (ps : RoutedPrograms) (openings : List State)
+      (text : Text) → TellsFree ours plans ps openings text
+      → (answers : List Liveness) × (plates : Progress) × AreAnswers plans ps openings answers
+      × IsPlateProgress (tables_of plans) ps (first_situation openings) plates
+      × ((any_starves ours answers (length ps) || plates_starve ps plates) ≡ false)
+  pub some_starves : (ours : ℕ → Bool) (plans : List ProgrammedPlan) (ps : RoutedPrograms) (openings : List State)
+      (text : Text) → TellsStarving ours plans ps openings text
+      → (answers : List Liveness) × (plates : Progress) × AreAnswers plans ps openings answers
+      × IsPlateProgress (tables_of plans) ps (first_situation openings) plates
+      × ((any_starves ours answers (length ps) || plates_starve ps plates) ≡ true)
+  pub all_go_on : any_starves everyone (Always (within 7 0) ∷ Silent ∷ []) 2 ≡ false
+  pub one_starves : (order : FairOrder)
+      → any_starves everyone (Always (within 7 0) ∷ IfOne 1 (within 4 3) order ∷ []) 2 ≡ true
+  pub plates_move : plates_starve giving (Within (within 6 0)) ≡ false
+  pub plates_rest : (order : FairOrder) → plates_starve giving (progress.Starves order) ≡ true
+  pub none_moves : (order : FairOrder) → plates_starve in_order (progress.Starves order) ≡ false
   pub count : (plans : List ProgrammedPlan) (ps : RoutedPrograms) (openings : List State) (answers : List Liveness)
       → AreAnswers plans ps openings answers → length answers ≡ length ps
   pub each : (plans : List ProgrammedPlan) (ps : RoutedPrograms) (openings : List State) (answers : List Liveness)
@@ -131,12 +225,13 @@ pub record PlantScreensAreMeant : Type 0 where
       → TellsStandstill plans ps openings text
       → (turns : List ℕ) × LeadToStandstill (tables_of plans) ps openings turns
       × AreShortest (tables_of plans) ps openings turns × (text ≡ turns_told plans ps openings turns)
-  pub unfinished : (most : ℕ) (plans : List ProgrammedPlan) (ps : RoutedPrograms) (openings : List State) (words : Text)
-      → TellsUnfinished most plans ps openings words
+  pub unfinished : (most : ℕ) (plans : List ProgrammedPlan) (ps : RoutedPrograms) (openings : List State)
+      (groups : List ℕ) (words : Text) → TellsLargeBy most false (told_of plans ps openings) groups words
       → (turns : ℕ) × ComeToMore (tables_of plans) ps openings most
       × NoneStandsStillBefore (tables_of plans) ps openings turns × (words ≡ large_words most turns)
   -- by the plant of the document in an input, and the start of the script after that
   pub served : (bytes old new : List ℕ) → ExploresWords (Some bytes) (Some old) (Some new)
       → (plant : ProgrammedPlant) × IsPlantIn (document_in bytes) plant × (openings : List State)
       × (plant_start plant (script_in bytes) ≡ Ok openings)
-      × (text : List ℕ) × TellsFree plant.plans.items plant.programs.programs openings text × (new ≡ old ++ text)
+      × (text : List ℕ) × TellsExploration (told_of plant.plans.items plant.programs.programs openings) true text
+      × (new ≡ old ++ text)

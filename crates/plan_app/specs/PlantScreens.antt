@@ -1,24 +1,29 @@
--- What `plan explore --words` prints of a plant: the programs of its machines on all words together.
-use Rattle.std.specs.Prelude.{◌≡◌, ◌⊎◌, ℕ, Bool, true, false, List, ◌++◌, codes, flat_map, length, slice_get}
-use Rattle.std.specs.Prelude.{Some, string_bytes}
-use Rattle.std.specs.List.{list_any}
+-- What `plan explore --words` prints of a plant's machines on all words together: of all machines, or of some alone.
+use Rattle.std.specs.Prelude.{◌≡◌, ◌⊎◌, ℕ, Bool, true, false, ◌&&◌, ◌||◌, List, ◌++◌, codes, flat_map, length}
+use Rattle.std.specs.Prelude.{slice_get, Some, Result, String, string_bytes}
+use Rattle.std.specs.declared.alloc.Global.{Global}
+use Rattle.plan_types.specs.Below.{any_below}
 use Rattle.plan_rules.specs.declared.state.State.{State}
 use Rattle.plan_explorer.specs.PlantExplored.{AreShortest, ComeTo, ComeToMore, LeadToStandstill}
 use Rattle.plan_explorer.specs.PlantExplored.{NoneStandsStill, NoneStandsStillBefore}
-use Rattle.plan_explorer.specs.PlantPrograms.{RoutedPrograms}
+use Rattle.plan_explorer.specs.PlantPrograms.{RoutedPrograms, calls_of}
 use Rattle.plan_explorer.specs.PlantWalks.{outlook_of}
 use Rattle.plan_explorer.specs.Plants.{first_situation}
 use Rattle.plan_explorer.specs.declared.plant_walk.RoutedEvent.{RoutedEvent}
 use Rattle.plan_liveness.specs.declared.answer.Liveness.{Liveness}
+use Rattle.plan_liveness.specs.declared.answer.Progress.{Progress}
 use Rattle.plan_liveness.specs.PlantAnswers.{IsPlantLiveness}
+use Rattle.plan_liveness.specs.PlantGroups.{AreGroups, AreSmallest, alone}
+use Rattle.plan_liveness.specs.PlantPlates.{IsPlateProgress}
 use Rattle.plan_text.specs.Names.{Text}
 use Rattle.plan_document.specs.declared.resolving.ProgrammedPlan.{ProgrammedPlan}
-use Rattle.plan_app.specs.PlantGoing.{after_all, asked_by, asked_line, going_text, line_on}
+use Rattle.plan_app.specs.Apart as apart
+use Rattle.plan_app.specs.Apart.{own_starves, some_move_plates}
+use Rattle.plan_app.specs.PlantGoing.{after_all, asked_by, asked_line, everyone, going_text, line_on, named_if}
 use Rattle.plan_app.specs.PlantStarts.{tables_of}
 use Rattle.plan_app.specs.Screens as screens
-use Rattle.plan_app.specs.Starving.{may_starve}
+use Rattle.plan_app.specs.Starving.{may_rest}
 use Rattle.plan_app.specs.declared.apart.Exploration.{Exploration}
-use Rattle.plan_app.specs.declared.apart.Exploration.TheVariants.{Well, Unwell, Large}
 use Rattle.plan_app.specs.declared.explore.Screen.{Screen}
 use Rattle.plan_app.specs.declared.explore.Screen.TheVariants.{Free, Starving, Standstill, Unfinished}
 
@@ -61,30 +66,36 @@ pub record AreAnswers (plans : List ProgrammedPlan) (ps : RoutedPrograms) (openi
   pub each : (m : ℕ) (answer : Liveness) → slice_get answers m ≡ Some answer
       → IsPlantLiveness (tables_of plans) ps (first_situation openings) m answer
 
--- some machine may starve by them
-abbrev pub any_starves : List Liveness → Bool
-any_starves answers = list_any may_starve answers
+-- some of these machines may starve by them
+abbrev pub any_starves : (ℕ → Bool) → List Liveness → ℕ → Bool
+any_starves ours answers count = any_below (own_starves ours answers) count
+
+-- some program moves plates, and they may rest
+abbrev pub plates_starve : RoutedPrograms → Progress → Bool
+plates_starve ps plates = some_move_plates (calls_of ps) && may_rest plates
 
 -- In no order of turns is there a standstill, and `situations` is the number of situations that the machines come to.
--- What is said of machines that go on is said by what an exploration answers, and `starve` is whether some starve by
--- that.
-pub record TellsGoing (plans : List ProgrammedPlan) (ps : RoutedPrograms) (openings : List State) (starve : Bool)
-    (text : Text) : Type 0 where
+-- What is said of those machines that are told of, and of plates, is said by what explorations answer, and `starve` is
+-- whether some starve by that, or plates rest.
+pub record TellsGoing (ours : ℕ → Bool) (plans : List ProgrammedPlan) (ps : RoutedPrograms) (openings : List State)
+    (starve : Bool) (text : Text) : Type 0 where
   pub free : NoneStandsStill (tables_of plans) ps openings
   pub situations : ℕ
   pub come : ComeTo (tables_of plans) ps openings situations
   pub answers : List Liveness
   pub are : AreAnswers plans ps openings answers
-  pub starving : any_starves answers ≡ starve
-  pub told : text ≡ screens.free_line situations ++ going_text plans ps openings answers
+  pub plates : Progress
+  pub moving : IsPlateProgress (tables_of plans) ps (first_situation openings) plates
+  pub starving : (any_starves ours answers (length ps) || plates_starve ps plates) ≡ starve
+  pub told : text ≡ screens.free_line situations ++ going_text ours plans ps openings answers plates
 
 -- by that none starves
-abbrev pub TellsFree : List ProgrammedPlan → RoutedPrograms → List State → Text → Type 0
-TellsFree plans ps openings text = TellsGoing plans ps openings false text
+abbrev pub TellsFree : (ℕ → Bool) → List ProgrammedPlan → RoutedPrograms → List State → Text → Type 0
+TellsFree ours plans ps openings text = TellsGoing ours plans ps openings false text
 
 -- or some do
-abbrev pub TellsStarving : List ProgrammedPlan → RoutedPrograms → List State → Text → Type 0
-TellsStarving plans ps openings text = TellsGoing plans ps openings true text
+abbrev pub TellsStarving : (ℕ → Bool) → List ProgrammedPlan → RoutedPrograms → List State → Text → Type 0
+TellsStarving ours plans ps openings text = TellsGoing ours plans ps openings true text
 
 -- ---- more situations than are explored
 
@@ -94,34 +105,33 @@ pub record IsUnfinished (most : ℕ) (plans : List ProgrammedPlan) (ps : RoutedP
   pub more : ComeToMore (tables_of plans) ps openings most
   pub before : NoneStandsStillBefore (tables_of plans) ps openings turns
 
-abbrev pub TellsUnfinished : ℕ → List ProgrammedPlan → RoutedPrograms → List State → Text → Type 0
-TellsUnfinished most plans ps openings words =
-    (turns : ℕ) × IsUnfinished most plans ps openings turns × (words ≡ screens.large_words most turns)
+-- ---- what is found
 
--- ---- what is printed is what was found
-
-abbrev pub IsPlantScreen : ℕ → List ProgrammedPlan → RoutedPrograms → List State → Screen → Type 0
-IsPlantScreen most plans ps openings (Free text) = TellsFree plans ps openings (string_bytes text)
-IsPlantScreen most plans ps openings (Starving text) = TellsStarving plans ps openings (string_bytes text)
-IsPlantScreen most plans ps openings (Standstill text) = TellsStandstill plans ps openings (string_bytes text)
-IsPlantScreen most plans ps openings (Unfinished turns) = IsUnfinished most plans ps openings turns
+abbrev pub IsPlantScreen : ℕ → (ℕ → Bool) → List ProgrammedPlan → RoutedPrograms → List State → Screen → Type 0
+IsPlantScreen most ours plans ps openings (Free text) = TellsFree ours plans ps openings (string_bytes text)
+IsPlantScreen most ours plans ps openings (Starving text) = TellsStarving ours plans ps openings (string_bytes text)
+IsPlantScreen most ours plans ps openings (Standstill text) = TellsStandstill plans ps openings (string_bytes text)
+IsPlantScreen most ours plans ps openings (Unfinished turns) = IsUnfinished most plans ps openings turns
 
 -- whether all is well by a text: nothing stands still, and none starves
-abbrev pub TellsPlant : List ProgrammedPlan → RoutedPrograms → List State → Bool → Text → Type 0
-TellsPlant plans ps openings true text = TellsFree plans ps openings text
-TellsPlant plans ps openings false text =
-    TellsStandstill plans ps openings text ⊎ TellsStarving plans ps openings text
+abbrev pub TellsPlant : (ℕ → Bool) → List ProgrammedPlan → RoutedPrograms → List State → Bool → Text → Type 0
+TellsPlant ours plans ps openings true text = TellsFree ours plans ps openings text
+TellsPlant ours plans ps openings false text =
+    TellsStandstill plans ps openings text ⊎ TellsStarving ours plans ps openings text
 
-abbrev pub IsPlantExploration : ℕ → List ProgrammedPlan → RoutedPrograms → List State → Exploration → Type 0
-IsPlantExploration most plans ps openings (Well text) = TellsPlant plans ps openings true (string_bytes text)
-IsPlantExploration most plans ps openings (Unwell text) = TellsPlant plans ps openings false (string_bytes text)
-IsPlantExploration most plans ps openings (Large words) = TellsUnfinished most plans ps openings (string_bytes words)
+-- this is told; or how far the exploration came
+abbrev pub IsPart : ℕ → (ℕ → Bool) → List ProgrammedPlan → RoutedPrograms → List State
+    → Result (Bool × String Global) ℕ → Type 0
+IsPart most ours plans ps openings told =
+    apart.IsTold (TellsPlant ours plans ps openings) (IsUnfinished most plans ps openings) told
 
--- a screen says that nothing stands still, and what is said of each machine by answers
-abbrev pub ShowsGoing : List ProgrammedPlan → RoutedPrograms → List State → ℕ → Screen → Type 0
-ShowsGoing plans ps openings situations screen =
-    (answers : List Liveness) × AreAnswers plans ps openings answers
-    × screens.ShowsFree situations (going_text plans ps openings answers) (any_starves answers) screen
+-- a screen says that nothing stands still, and what is said of each machine, and of plates, by answers
+abbrev pub ShowsGoing : (ℕ → Bool) → List ProgrammedPlan → RoutedPrograms → List State → ℕ → Screen → Type 0
+ShowsGoing ours plans ps openings situations screen =
+    (answers : List Liveness) × (plates : Progress) × AreAnswers plans ps openings answers
+    × IsPlateProgress (tables_of plans) ps (first_situation openings) plates
+    × screens.ShowsFree situations (going_text ours plans ps openings answers plates)
+    (any_starves ours answers (length ps) || plates_starve ps plates) screen
 
 -- or that these turns lead to a standstill
 abbrev pub ShowsStandstill : List ProgrammedPlan → RoutedPrograms → List State → List ℕ → Screen → Type 0
@@ -129,3 +139,26 @@ ShowsStandstill plans ps openings turns (Free text) = ⊥
 ShowsStandstill plans ps openings turns (Starving text) = ⊥
 ShowsStandstill plans ps openings turns (Standstill text) = string_bytes text ≡ turns_told plans ps openings turns
 ShowsStandstill plans ps openings turns (Unfinished fewer) = ⊥
+
+-- ---- what is printed: of each group if at least two have programs, else of all machines together
+
+-- a group's machines have their names on the first word
+abbrev pub names_text : List ProgrammedPlan → List ℕ → ℕ → ℕ → Text
+names_text plans groups first count =
+    named_if (λ n. apart.names_text n groups first count) (slice_get plans 0)
+
+abbrev pub told_of : List ProgrammedPlan → RoutedPrograms → List State → apart.Telling
+told_of plans ps openings = record {
+  count = length ps;
+  programs = calls_of ps;
+  names = λ groups first. names_text plans groups first (length ps);
+  all = TellsPlant everyone plans ps openings;
+  alone = λ ours. TellsPlant ours plans (alone ours ps) openings;
+  all_unfinished = λ most. IsUnfinished most plans ps openings;
+  unfinished = λ most ours. IsUnfinished most plans (alone ours ps) openings;
+  apart = AreGroups (tables_of plans);
+  smallest = AreSmallest (tables_of plans);
+}
+
+abbrev pub IsPlantExploration : ℕ → List ProgrammedPlan → RoutedPrograms → List State → Exploration → Type 0
+IsPlantExploration most plans ps openings found = apart.IsExploration most (told_of plans ps openings) found

@@ -12,12 +12,12 @@ use Rattle.plan_text.specs.Script.{script_answers, script_start}
 use Rattle.plan_header.specs.Printed.{header_of}
 use Rattle.plan_header.specs.Modules.{module_text}
 use Rattle.plan_picture.specs.Pictures.{IsPicture}
-use Rattle.plan_app.specs.Apart.{TellsExploration}
+use Rattle.plan_app.specs.Apart.{TellsExploration, told_of}
 use Rattle.plan_app.specs.Asked.{IsAsked}
 use Rattle.plan_app.specs.Input.{document_in, script_in}
 use Rattle.plan_app.specs.Hazards.{TellsReport, start_if}
 use Rattle.plan_app.specs.OnWords.{TellsWords}
-use Rattle.plan_app.specs.PlantScreens as plant_screens
+use Rattle.plan_app.specs.PlantScreens.{told_of as of_plant}
 use Rattle.plan_app.specs.PlantStarts.{plant_start}
 use Rattle.plan_app.specs.RunPages.{ShowsRun}
 use Rattle.plan_app.specs.Runs.{TellsRun}
@@ -37,7 +37,7 @@ WritesFree n ps opening old new = (text : List ℕ) × TellsFree n ps opening te
 -- or the same of each group
 abbrev pub WritesExploration : Named → PlanPrograms → State → Option (List ℕ) → Option (List ℕ) → Type 0
 WritesExploration n ps opening old new =
-    (text : List ℕ) × TellsExploration n ps opening true text × Appends old new text
+    (text : List ℕ) × TellsExploration (told_of n ps opening) true text × Appends old new text
 
 -- the start is the script's
 abbrev pub Explores : ProgrammedPlan → List ℕ → Option (List ℕ) → Option (List ℕ) → Type 0
@@ -142,11 +142,11 @@ WritesPlant document old new =
 abbrev pub WritesWordsIn : List ℕ → Option (List ℕ) → Option (List ℕ) → Type 0
 WritesWordsIn bytes old new = WritesPlant (document_in bytes) old new
 
--- that its programs never stand still, of all words together, from these openings, and none starves, was written, and
--- nothing else
+-- that its programs never stand still, of all words together, from these openings, and none starves, of each group or
+-- of all machines, was written, and nothing else
 abbrev pub WritesPlantFree : ProgrammedPlant → List State → Option (List ℕ) → Option (List ℕ) → Type 0
 WritesPlantFree plant openings old new =
-    (text : List ℕ) × plant_screens.TellsFree plant.plans.items plant.programs.programs openings text
+    (text : List ℕ) × TellsExploration (of_plant plant.plans.items plant.programs.programs openings) true text
     × Appends old new text
 
 -- the openings are the script's

@@ -1,6 +1,6 @@
 //! What `plan explore` prints. Groups of machines that share nothing with each other are explored apart, if at least
 //! two of them have programs.
-ghost use Rattle.std.specs.Prelude.{◌≡◌, ◌++◌, ◌<◌, ℕ, List, true, false, ◌&&◌, Some, IfOk, IfErr, OnOk};
+ghost use Rattle.std.specs.Prelude.{◌≡◌, ◌++◌, ◌<◌, ◌≤◌, ℕ, List, true, false, ◌&&◌, Some, IfOk, IfErr, OnOk};
 ghost use Rattle.std.specs.Prelude.{length, flat_map, slice_get, string_bytes};
 ghost use Rattle.std.specs.List.{range_with_len};
 ghost use Rattle.plan_types.specs.Below.{any_below};
@@ -45,7 +45,8 @@ pub fn exploration_of(
     opening: &State,
     most: usize,
 ) -> Result<Exploration, AllocError>
-    ensures { IfOk result (spec.IsExploration most plan.now.named plan.now.programs opening.now) }
+    ensures { IfOk result (spec.IsExploration most
+        (spec.told_of plan.now.named plan.now.programs opening.now)) }
 {
     let acting = Acting {
         named: &plan.named,
@@ -62,7 +63,7 @@ pub fn exploration_of(
 // ---- groups
 
 /// The number of a machine's group.
-fn group_number(groups: &Groups, machine: u8) -> u8
+pub(crate) fn group_number(groups: &Groups, machine: u8) -> u8
     requires { machine < 30 }
     ensures { result ≡ group_in groups.now machine }
 {
@@ -79,7 +80,7 @@ fn is_of_group(groups: &Groups, first: u8, machine: u8) -> bool
 }
 
 /// Whether a machine is the first of its group.
-fn is_first(groups: &Groups, machine: u8) -> bool
+pub(crate) fn is_first(groups: &Groups, machine: u8) -> bool
     requires { machine < 30 }
     ensures { result ≡ spec.is_first groups.now machine }
 {
@@ -130,7 +131,7 @@ fn is_apart(groups: &Groups, programs: &Programs, machine: u8) -> bool
 
 /// Whether at least two groups have programs.
 #[tactic(auto, using(plan_types::proofs::lemmas::Below::any_below_more))]
-fn some_are_apart(groups: &Groups, programs: &Programs) -> bool
+pub(crate) fn some_are_apart(groups: &Groups, programs: &Programs) -> bool
     ensures { result ≡ spec.some_are_apart groups.now programs.now }
 {
     let mut any = false;
@@ -150,7 +151,7 @@ fn all_of(
     most: usize,
 ) -> Result<Exploration, AllocError>
     ensures { IfOk result (λ found. (groups : List ℕ) → spec.IsExplorationBy most false
-        plan.now.named.now plan.now.programs.now opening.now groups found) }
+        (spec.told_of plan.now.named.now plan.now.programs.now opening.now) groups found) }
 {
     match screen_of(alloc, plan, opening, most)? {
         Screen::Free(text) => Ok(Exploration::Well(text)),
@@ -170,9 +171,8 @@ fn parts_of(
     groups: &Groups,
     most: usize,
 ) -> Result<Exploration, AllocError>
-    ensures { IfOk result
-        (spec.IsExplorationBy most true plan.now.named.now plan.now.programs.now opening.now
-        groups.now) }
+    ensures { IfOk result (spec.IsExplorationBy most true
+        (spec.told_of plan.now.named.now plan.now.programs.now opening.now) groups.now) }
 {
     let mut text = String::new(alloc);
     let mut well = true;
@@ -194,7 +194,7 @@ fn parts_of(
 }
 
 /// Whether all is well in what was told, and in a part.
-fn both(well: bool, part: bool) -> bool
+pub(crate) fn both(well: bool, part: bool) -> bool
     ensures { result ≡ (well && part) }
 {
     well && part
@@ -210,11 +210,25 @@ fn large_part(
     turns: usize,
 ) -> Result<Exploration, AllocError>
     requires { first < 30 }
-    ensures { IfOk result (spec.IsLargePart most plan.now.named.now groups.now first
-        (length plan.now.programs.now) turns) }
+    ensures { IfOk result (spec.IsLarge (spec.large_of most
+        (spec.names_text plan.now.named.now groups.now first (length plan.now.programs.now))
+        turns)) }
+{
+    let names = names_of(alloc, plan.named, groups, first, plan.programs.count())?;
+    large_of(alloc, names.as_str(), most, turns)
+}
+
+/// The words of that fault, by the names of the group's machines.
+pub(crate) fn large_of(
+    alloc: Global,
+    names: &str,
+    most: usize,
+    turns: usize,
+) -> Result<Exploration, AllocError>
+    ensures { IfOk result (spec.IsLarge (spec.large_of most names.now turns)) }
 {
     let mut words = String::from_str(alloc, "large: ")?;
-    push_names(&mut words, plan, groups, first)?;
+    words.push_str(names)?;
     words.push_str(": ")?;
     push_unfinished(&mut words, most, turns)?;
     Ok(Exploration::Large(words))
@@ -232,8 +246,8 @@ fn push_part(
     most: usize,
 ) -> Result<Result<bool, usize>, AllocError>
     requires { first < 30 }
-    ensures told { IfOk result (λ found. IfOk found (λ well. spec.AddsPart plan.now.named.now
-        plan.now.programs.now opening.now groups.now first well
+    ensures told { IfOk result (λ found. IfOk found (λ well. spec.AddsPart
+        (spec.told_of plan.now.named.now plan.now.programs.now opening.now) groups.now first well
         (string_bytes text.old) (string_bytes text.new))) }
     ensures large { IfOk result (λ found. IfErr found (screens.IsUnfinished most
         plan.now.named.now
@@ -241,8 +255,8 @@ fn push_part(
 {
     match part_of(alloc, plan, opening, groups, first, most)? {
         Ok((well, found)) => {
-            push_head(text, plan, groups, first)?;
-            text.push_str(found.as_str())?;
+            let names = names_of(alloc, plan.named, groups, first, plan.programs.count())?;
+            push_told(text, names.as_str(), found.as_str())?;
             Ok(Ok(well))
         }
         Err(turns) => Ok(Err(turns)),
@@ -291,7 +305,7 @@ fn told_alone(
 }
 
 /// Whether all is well by a screen, and its text; or how far the exploration came.
-fn told_by(screen: Screen) -> Result<(bool, String), usize>
+pub(crate) fn told_by(screen: Screen) -> Result<(bool, String), usize>
     ensures { result ≡ spec.told_by screen }
 {
     match screen {
@@ -302,46 +316,50 @@ fn told_by(screen: Screen) -> Result<(bool, String), usize>
     }
 }
 
-/// Adds the head of a part: the machines of a group, by their numbers.
-fn push_head(text: &mut String, plan: &Acting, groups: &Groups, first: u8) -> Result<(), AllocError>
-    requires { first < 30 }
+/// Adds a part: its head, with the names of a group's machines, and what is told of them alone.
+pub(crate) fn push_told(text: &mut String, names: &str, found: &str) -> Result<(), AllocError>
     ensures { OnOk result (string_bytes text.new ≡ string_bytes text.old
-        ++ spec.part_head plan.now.named.now groups.now first (length plan.now.programs.now)) }
+        ++ (spec.head_of names.now ++ found.now)) }
 {
     text.push_str("apart from all others: ")?;
-    push_names(text, plan, groups, first)?;
-    text.push_str("\n")
+    text.push_str(names)?;
+    text.push_str("\n")?;
+    text.push_str(found)
 }
 
-/// Adds the names of a group's machines.
-fn push_names(
-    text: &mut String,
-    plan: &Acting,
+/// The names of a group's machines, by their numbers; there are this number of machines.
+pub(crate) fn names_of(
+    alloc: Global,
+    named: &NamedPlan,
     groups: &Groups,
     first: u8,
-) -> Result<(), AllocError>
-    requires { first < 30 }
-    ensures { OnOk result (string_bytes text.new ≡ string_bytes text.old
-        ++ spec.names_text plan.now.named.now groups.now first (length plan.now.programs.now)) }
+    count: u8,
+) -> Result<String, AllocError>
+    requires first { first < 30 }
+    requires count { count ≤ 30 }
+    ensures { IfOk result (λ names. string_bytes names
+        ≡ spec.names_text named.now groups.now first count) }
 {
-    text.push_str(plan.named.machines().name(first))?;
-    push_others(text, plan, groups, first)
+    let mut text = String::from_str(alloc, named.machines().name(first))?;
+    push_others(&mut text, named, groups, first, count)?;
+    Ok(text)
 }
 
 /// Adds the names of a group's machines after its first.
 fn push_others(
     text: &mut String,
-    plan: &Acting,
+    named: &NamedPlan,
     groups: &Groups,
     first: u8,
+    count: u8,
 ) -> Result<(), AllocError>
-    requires { first < 30 }
+    requires first { first < 30 }
+    requires count { count ≤ 30 }
     ensures { OnOk result (string_bytes text.new ≡ string_bytes text.old
-        ++ flat_map (spec.next_name plan.now.named.now groups.now first)
-        (range_with_len 0 (length plan.now.programs.now))) }
+        ++ flat_map (spec.next_name named.now groups.now first) (range_with_len 0 count)) }
 {
-    'machines: for machine in 0..plan.programs.count() {
-        push_next(text, plan.named, groups, first, machine)?;
+    'machines: for machine in 0..count {
+        push_next(text, named, groups, first, machine)?;
     }
     Ok(())
 }
@@ -562,7 +580,7 @@ fn own_starves(own: &Own, machine: u8) -> bool
 }
 
 /// Whether a machine may starve, if it was asked of it.
-fn may_starve_at(answers: &[Liveness], machine: u8) -> bool
+pub(crate) fn may_starve_at(answers: &[Liveness], machine: u8) -> bool
     ensures { result ≡ spec.may_starve_if (slice_get answers.now machine) }
 {
     match answers.get(usize::from(machine)) {
@@ -573,7 +591,7 @@ fn may_starve_at(answers: &[Liveness], machine: u8) -> bool
 
 /// Whether one of these programs moves plates.
 #[tactic(auto, using(plan_types::proofs::lemmas::Below::any_below_more))]
-fn some_move_plates(programs: &Programs) -> bool
+pub(crate) fn some_move_plates(programs: &Programs) -> bool
     ensures { result ≡ spec.some_move_plates programs.now }
 {
     let mut any = false;

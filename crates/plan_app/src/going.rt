@@ -1,5 +1,5 @@
 //! What `plan explore` prints where nothing stands still: whether each machine goes on for ever.
-ghost use Rattle.std.specs.Prelude.{◌≡◌, ◌++◌, None, OnOk, string_bytes};
+ghost use Rattle.std.specs.Prelude.{◌≡◌, ◌++◌, None, OnOk, codes, string_bytes};
 ghost use Rattle.plan_explorer.specs.Walks as walks;
 ghost use Rattle.plan_app.specs.Going as spec;
 
@@ -288,17 +288,33 @@ pub(crate) fn push_plates(
     match found {
         Progress::Within(bound) => push_moving(text, *bound),
         Progress::Starves(order) => push_resting(text, plan, opening, order),
-        Progress::Unknown(_) => text.push_str("it isn't known whether plates move for ever\n"),
+        Progress::Unknown(_) => push_plates_unknown(text),
     }
 }
 
 /// Adds that plates move for ever.
-fn push_moving(text: &mut String, bound: Bound) -> Result<(), AllocError>
+pub(crate) fn push_moving(text: &mut String, bound: Bound) -> Result<(), AllocError>
     ensures { OnOk result (string_bytes text.new
         ≡ string_bytes text.old ++ spec.moving_text bound) }
 {
     text.push_str("plates move for ever in each fair order: ")?;
     push_within(text, bound)
+}
+
+/// Adds that it isn't known whether plates move for ever.
+pub(crate) fn push_plates_unknown(text: &mut String) -> Result<(), AllocError>
+    ensures { OnOk result (string_bytes text.new ≡ string_bytes text.old
+        ++ codes "it isn't known whether plates move for ever\n") }
+{
+    text.push_str("it isn't known whether plates move for ever\n")
+}
+
+/// Adds that plates may rest; an order follows in which none moves.
+pub(crate) fn push_rest(text: &mut String) -> Result<(), AllocError>
+    ensures { OnOk result (string_bytes text.new ≡ string_bytes text.old
+        ++ codes "plates may rest for ever\n  a fair order in which none moves: first\n") }
+{
+    text.push_str("plates may rest for ever\n  a fair order in which none moves: first\n")
 }
 
 /// Adds an order in which no plate moves.
@@ -311,7 +327,7 @@ fn push_resting(
     ensures { OnOk result (string_bytes text.new ≡ string_bytes text.old
         ++ spec.resting_text plan.now.named.now plan.now.programs.now opening.now order.now) }
 {
-    text.push_str("plates may rest for ever\n  a fair order in which none moves: first\n")?;
+    push_rest(text)?;
     push_turns(text, plan, opening, None, order)
 }
 

@@ -1,6 +1,10 @@
 //! Laws of what is printed, each the contract of a function that does nothing.
-ghost use Rattle.std.specs.Prelude.{ℕ, Bool, List, Option};
+ghost use Rattle.std.specs.Prelude.{◌≡◌, ◌<◌, ℕ, All, Bool, List, Option, length};
+ghost use Rattle.plan_types.specs.Plan.{IsPlan};
 ghost use Rattle.plan_rules.specs.declared.state.State.{State};
+ghost use Rattle.plan_rules.specs.Sound.{IsSound, IsStart};
+ghost use Rattle.plan_explorer.specs.PlantCommuting.{AreSound};
+ghost use Rattle.plan_explorer.specs.Plants.{state_on};
 ghost use Rattle.plan_text.specs.HistoryLaws.{IsStartOf};
 ghost use Rattle.plan_document.specs.declared.resolving.ProgrammedPlan.{ProgrammedPlan};
 ghost use Rattle.plan_app.specs.CountLaws.{CountsTell};
@@ -19,7 +23,10 @@ ghost use Rattle.plan_app.specs.PageExamples.{DataIsTold, LinesAreShown, OrdersA
 ghost use Rattle.plan_app.specs.PageLaws.{PagesTell};
 ghost use Rattle.plan_app.specs.PartExamples.{PartsAreTold};
 ghost use Rattle.plan_app.specs.PartLaws.{PartsSpeakOfAll};
-ghost use Rattle.plan_app.specs.PlantScreenExamples.{CrossingsAreTold, PlantScreensAreMeant};
+ghost use Rattle.plan_app.specs.PlantPartLaws.{AreOfScript, PlantPartsSpeakOfAll};
+ghost use Rattle.plan_app.specs.PlantScreenExamples.{CrossingsAreTold, LinesAreTold};
+ghost use Rattle.plan_app.specs.PlantScreenExamples.{PlantScreensAreMeant};
+ghost use Rattle.plan_app.specs.PlantStarts.{HasWords, tables_of};
 ghost use Rattle.plan_app.specs.PlantStartExamples.{StartsAreOfDigits, StartsOfThree};
 ghost use Rattle.plan_app.specs.ReportLaws.{ReportsTell};
 ghost use Rattle.plan_app.specs.RunExamples.{RunTextsAreTold};
@@ -31,9 +38,12 @@ ghost use Rattle.plan_app.specs.SimulatedExamples.{SimulationsAreMet};
 ghost use Rattle.plan_app.specs.StarvingExamples.{StarvingIsKnown};
 ghost use Rattle.plan_app.specs.WordExamples.{PlatesAreTold, WordsAreTold};
 
-use plan_document::ProgrammedPlan;
+use plan_document::{ProgrammedPlan, ProgrammedPlant};
 use plan_explorer::laws::groups_are_apart;
-use plan_liveness::laws::{groups_go_on, groups_starve};
+use plan_liveness::laws::{
+    groups_go_on, groups_starve, one_word_has_plans_groups, plant_groups_are_apart,
+};
+use plan_liveness::plant_laws::{plant_groups_go_on, plant_groups_starve};
 use plan_rules::State;
 use plan_rules::laws::starts_are_sound;
 use plan_text::laws::histories_are_answered;
@@ -229,9 +239,11 @@ pub fn plant_starts_are_met()
     ensures digits { StartsAreOfDigits }
 {}
 
-/// Examples: what is said of a standstill of two words together, and of who goes on or starves, line by line and whole.
+/// Examples: what is said of a standstill of two words together, and of who goes on or starves, line by line and whole;
+/// and the parts of two machines that share nothing, each on a word of its own.
 pub fn plant_standstills_are_told()
-    ensures { CrossingsAreTold }
+    ensures crossings { CrossingsAreTold }
+    ensures apart { LinesAreTold }
 {}
 
 /// What is said of all words of a plant together is so: that no turns lead to a standstill, and who goes on; or that
@@ -239,6 +251,45 @@ pub fn plant_standstills_are_told()
 pub fn plant_screens_are_meant()
     ensures { PlantScreensAreMeant }
 {}
+
+/// What is found of a group of a plant's machines alone, from the start of a script, is so among all machines on all
+/// words together: the group never stands still, or comes to a standstill by these turns, and by no fewer, and then
+/// stands still for ever; and each bound holds, and each machine that may starve may starve. Each group has its part.
+pub fn plant_parts_speak_of_all(plant: &ProgrammedPlant, openings: &[State])
+    requires words { HasWords plant.now }
+    requires script { AreOfScript plant.now openings.now }
+    ensures { PlantPartsSpeakOfAll plant.now.plans.items plant.now.programs.programs openings.now }
+{
+    are_sound(&plant.plans, openings);
+    let _ = plant.programs.words();
+    one_word_has_plans_groups();
+    plant_groups_are_apart();
+    plant_groups_go_on();
+    plant_groups_starve();
+}
+
+/// Words that begin with starts begin soundly, and their tables are those of plans.
+fn are_sound(plans: &[ProgrammedPlan], openings: &[State])
+    requires openings { length openings.now ≡ length plans.now }
+    requires starts { (word : ℕ) → word < length openings.now → IsStart (state_on openings.now word) }
+    ensures plans { All IsPlan (tables_of plans.now) }
+    ensures sound { AreSound (tables_of plans.now) openings.now }
+{
+    for word in 0..plans.len() {
+        is_sound(&plans[word], &openings[word]);
+    }
+}
+
+/// A word that begins with a start begins soundly, and its table is that of a plan.
+fn is_sound(plan: &ProgrammedPlan, opening: &State)
+    requires { IsStart opening.now }
+    ensures plan { IsPlan plan.now.named.plan }
+    ensures sound { IsSound plan.now.named.plan opening.now }
+{
+    let table = plan.named.plan();
+    let _ = table.machines();
+    starts_are_sound(table, opening);
+}
 
 /// Examples: what simulated sensors show, turn by turn.
 pub fn simulations_are_met()

@@ -1,82 +1,34 @@
-//! What `plan explore --words` prints of a plant: whether some order of its machines' turns leads to a standstill of
-//! all words together, and else whether each machine goes on for ever.
-ghost use Rattle.std.specs.Prelude.{◌≡◌, ◌++◌, ℕ, Some, IfOk, OnOk, flat_map, length, map, slice_get};
+//! What `plan explore --words` prints of a plant's machines, or of those of a group alone: whether some order of their
+//! turns leads to a standstill of all words together, and else whether each of them goes on for ever, and plates move.
+ghost use Rattle.std.specs.Prelude.{◌≡◌, ◌++◌, ◌<◌, ◌||◌, ℕ, Some, IfOk, OnOk, flat_map, length, slice_get};
 ghost use Rattle.std.specs.Prelude.{string_bytes};
 ghost use Rattle.plan_explorer.specs.Plants.{first_situation};
 ghost use Rattle.plan_liveness.specs.declared.answer.Liveness.{Liveness};
 ghost use Rattle.plan_liveness.specs.PlantAnswers.{IsPlantLiveness};
-ghost use Rattle.plan_app.specs.PlantGoing.{IsOpened, going_text};
+ghost use Rattle.plan_liveness.specs.PlantPlates.{IsPlateProgress};
+ghost use Rattle.plan_app.specs.Apart as of_groups;
+ghost use Rattle.plan_app.specs.PlantGoing.{IsOpened, going_text, machines_of};
 ghost use Rattle.plan_app.specs.PlantScreens as spec;
-ghost use Rattle.plan_app.specs.PlantStarts.{HasWords, tables_of};
+ghost use Rattle.plan_app.specs.PlantStarts.{tables_of};
 ghost use Rattle.plan_app.specs.Screens.{ShowsFree, free_line};
 
-use crate::apart::Exploration;
-use crate::explore::{Screen, large_words, push_count, push_situations, push_wait};
-use crate::plant_going::{OpenedPlant, push_asked_by, push_going, walk_of};
-use crate::starving::any_machine_starves;
-use plan_document::{ProgrammedPlan, ProgrammedPlant};
-use plan_explorer::{Explored, PlantWalk, RoutedEvent, explore_plant};
-use plan_liveness::{Liveness, explore_plant_machines};
-use plan_rules::State;
-use plan_types::Plan;
+use crate::apart::{may_starve_at, some_move_plates};
+use crate::explore::{Screen, push_count, push_situations, push_wait};
+use crate::plant_going::{OpenedPlant, is_told, push_asked_by, push_going, walk_of};
+use crate::starving::may_rest;
+use plan_document::ProgrammedPlan;
+use plan_explorer::{Explored, PlantPrograms, PlantWalk, RoutedEvent, explore_plant};
+use plan_liveness::{Liveness, Progress, Reason, explore_plant_machines, explore_plant_plates};
 use std::alloc::{AllocError, Global};
 
-/// What `plan explore --words` prints of a plant whose words begin at these openings, where at most `most` situations
-/// are explored. An error says that memory ran out.
-pub fn plant_exploration_of(
-    alloc: Global,
-    plant: &ProgrammedPlant,
-    openings: &[State],
-    most: usize,
-) -> Result<Exploration, AllocError>
-    requires words { HasWords plant.now }
-    requires openings { length openings.now ≡ length plant.now.plans.items }
-    ensures { IfOk result (spec.IsPlantExploration most plant.now.plans.items
-        plant.now.programs.programs openings.now) }
-{
-    let tables = tables_of(alloc, &plant.plans)?;
-    let opened = OpenedPlant {
-        plans: &plant.plans,
-        tables: tables.as_slice(),
-        programs: &plant.programs,
-        openings,
-    };
-    exploration_of(alloc, &opened, most)
-}
-
-/// The tables of words, by their plans.
-fn tables_of(alloc: Global, plans: &[ProgrammedPlan]) -> Result<Vec<&Plan>, AllocError>
-    ensures { IfOk result (λ tables. map (λ table. table.now) tables.items ≡ tables_of plans.now) }
-{
-    let mut tables = Vec::new(alloc);
-    for word in 0..plans.len() {
-        tables.push(plans[word].named.plan())?;
-    }
-    Ok(tables)
-}
-
-/// What is printed of a plant that is opened.
-fn exploration_of(
+/// What is found of a plant that is opened.
+pub(crate) fn screen_of(
     alloc: Global,
     plant: &OpenedPlant,
     most: usize,
-) -> Result<Exploration, AllocError>
+) -> Result<Screen, AllocError>
     requires { IsOpened plant.now }
-    ensures { IfOk result (spec.IsPlantExploration most plant.now.plans.now
-        plant.now.programs.now.programs plant.now.openings.now) }
-{
-    match screen_of(alloc, plant, most)? {
-        Screen::Free(text) => Ok(Exploration::Well(text)),
-        Screen::Starving(text) => Ok(Exploration::Unwell(text)),
-        Screen::Standstill(text) => Ok(Exploration::Unwell(text)),
-        Screen::Unfinished(turns) => Ok(Exploration::Large(large_words(alloc, most, turns)?)),
-    }
-}
-
-/// What is found of a plant that is opened.
-fn screen_of(alloc: Global, plant: &OpenedPlant, most: usize) -> Result<Screen, AllocError>
-    requires { IsOpened plant.now }
-    ensures { IfOk result (spec.IsPlantScreen most plant.now.plans.now
+    ensures { IfOk result (spec.IsPlantScreen most (machines_of plant.now.group) plant.now.plans.now
         plant.now.programs.now.programs plant.now.openings.now) }
 {
     match explore_plant(alloc, plant.tables, plant.openings, plant.programs, most)? {
@@ -91,15 +43,29 @@ fn screen_of(alloc: Global, plant: &OpenedPlant, most: usize) -> Result<Screen, 
 /// What is printed where nothing stands still.
 fn free_screen(alloc: Global, plant: &OpenedPlant, situations: usize) -> Result<Screen, AllocError>
     requires { IsOpened plant.now }
-    ensures { IfOk result (spec.ShowsGoing plant.now.plans.now plant.now.programs.now.programs
-        plant.now.openings.now situations) }
+    ensures { IfOk result (spec.ShowsGoing (machines_of plant.now.group) plant.now.plans.now
+        plant.now.programs.now.programs plant.now.openings.now situations) }
 {
-    let answers = machines_of(alloc, plant)?;
-    free_text(alloc, plant, situations, answers.as_slice())
+    let answers = answers_of(alloc, plant)?;
+    let plates = plates_of(alloc, plant)?;
+    free_text(alloc, plant, situations, answers.as_slice(), &plates)
+}
+
+/// Whether plates move for ever, on all words together. It isn't asked if no program moves any.
+fn plates_of(alloc: Global, plant: &OpenedPlant) -> Result<Progress, AllocError>
+    requires { IsOpened plant.now }
+    ensures { IfOk result (IsPlateProgress (tables_of plant.now.plans.now)
+        plant.now.programs.now.programs (first_situation plant.now.openings.now)) }
+{
+    if some_move_plates(plant.programs.calls()) {
+        explore_plant_plates(alloc, plant.tables, plant.openings, plant.programs)
+    } else {
+        Ok(Progress::Unknown(Reason::Unchecked))
+    }
 }
 
 /// Whether each machine goes on for ever, on all words together.
-fn machines_of(alloc: Global, plant: &OpenedPlant) -> Result<Vec<Liveness>, AllocError>
+fn answers_of(alloc: Global, plant: &OpenedPlant) -> Result<Vec<Liveness>, AllocError>
     requires { IsOpened plant.now }
     ensures count { IfOk result (λ answers. length answers.items
         ≡ length plant.now.programs.now.programs) }
@@ -117,38 +83,70 @@ fn free_text(
     plant: &OpenedPlant,
     situations: usize,
     answers: &[Liveness],
+    plates: &Progress,
 ) -> Result<Screen, AllocError>
     requires { IsOpened plant.now }
     ensures { IfOk result (λ screen. ShowsFree situations
-        (going_text plant.now.plans.now plant.now.programs.now.programs plant.now.openings.now
-        answers.now)
-        (spec.any_starves answers.now) screen) }
+        (going_text (machines_of plant.now.group) plant.now.plans.now
+        plant.now.programs.now.programs plant.now.openings.now answers.now plates.now)
+        (spec.any_starves (machines_of plant.now.group) answers.now
+        (length plant.now.programs.now.programs)
+        || spec.plates_starve plant.now.programs.now.programs plates.now) screen) }
 {
     let mut text = String::new(alloc);
-    push_free(&mut text, alloc, plant, situations, answers)?;
-    if any_machine_starves(answers) {
+    push_free(&mut text, alloc, plant, situations, answers, plates)?;
+    if any_starves(plant, answers) || plates_starve(plant.programs, plates) {
         Ok(Screen::Starving(text))
     } else {
         Ok(Screen::Free(text))
     }
 }
 
-/// Adds the line of the situations, and what is said of machines that go on.
+/// Adds the line of the situations, and what is said of machines that go on, and of plates.
 fn push_free(
     text: &mut String,
     alloc: Global,
     plant: &OpenedPlant,
     situations: usize,
     answers: &[Liveness],
+    plates: &Progress,
 ) -> Result<(), AllocError>
     requires { IsOpened plant.now }
     ensures { OnOk result (string_bytes text.new
         ≡ string_bytes text.old ++ (free_line situations
-        ++ going_text plant.now.plans.now plant.now.programs.now.programs
-        plant.now.openings.now answers.now)) }
+        ++ going_text (machines_of plant.now.group) plant.now.plans.now
+        plant.now.programs.now.programs plant.now.openings.now answers.now plates.now)) }
 {
     push_situations(text, situations)?;
-    push_going(text, alloc, plant, answers)
+    push_going(text, alloc, plant, answers, plates)
+}
+
+/// Whether some program moves plates, and they may rest.
+fn plates_starve(programs: &PlantPrograms, found: &Progress) -> bool
+    ensures { result ≡ spec.plates_starve programs.now.programs found.now }
+{
+    some_move_plates(programs.calls()) && may_rest(found)
+}
+
+/// Whether a machine that is told of may starve.
+#[tactic(auto, using(plan_types::proofs::lemmas::Below::any_below_more))]
+fn any_starves(plant: &OpenedPlant, answers: &[Liveness]) -> bool
+    ensures { result ≡ spec.any_starves (machines_of plant.now.group) answers.now
+        (length plant.now.programs.now.programs) }
+{
+    let mut any = false;
+    for machine in 0..plant.programs.count() {
+        any = any || own_starves(plant, answers, machine);
+    }
+    any
+}
+
+/// Whether it is told of a machine, and it may starve.
+fn own_starves(plant: &OpenedPlant, answers: &[Liveness], machine: u8) -> bool
+    requires { machine < 30 }
+    ensures { result ≡ of_groups.own_starves (machines_of plant.now.group) answers.now machine }
+{
+    is_told(plant, machine) && may_starve_at(answers, machine)
 }
 
 // ---- a standstill

@@ -1,22 +1,26 @@
 //! What `plan explore --words` prints where nothing stands still: whether each machine goes on for ever, on all words
 //! of the plant together.
-ghost use Rattle.std.specs.Prelude.{◌≡◌, ◌++◌, None, Some, IfOk, OnOk, find, flat_map, length, string_bytes};
-ghost use Rattle.std.specs.List.{range_with_len};
+ghost use Rattle.std.specs.Prelude.{◌≡◌, ◌++◌, ◌<◌, None, Some, IfOk, OnOk, find, flat_map, option_and_then};
+ghost use Rattle.std.specs.Prelude.{string_bytes};
 ghost use Rattle.plan_app.specs.Going.{told_if};
 ghost use Rattle.plan_app.specs.PlantGoing as spec;
 ghost use Rattle.plan_app.specs.PlantGoing.{IsOpened};
 ghost use Rattle.plan_app.specs.PlantScreens.{outlook_after};
 
-use crate::going::{AGAIN, FAIRNESS, push_answer, push_event, push_outlook};
+use crate::apart::{group_number, some_move_plates};
+use crate::going::{
+    AGAIN, FAIRNESS, push_answer, push_event, push_moving, push_outlook, push_plates_unknown,
+    push_rest,
+};
 use plan_document::ProgrammedPlan;
-use plan_explorer::{PlantPrograms, PlantWalk, RoutedEvent, take_plant_turns};
-use plan_liveness::{FairOrder, Liveness};
+use plan_explorer::{Groups, PlantPrograms, PlantWalk, RoutedEvent, take_plant_turns};
+use plan_liveness::{FairOrder, Liveness, Progress};
 use plan_rules::State;
 use plan_text::NamedPlan;
 use plan_types::Plan;
 use std::alloc::{AllocError, Global};
 
-/// A plant, and an opening for each of its words.
+/// A plant, and an opening for each of its words; and of which machines is told.
 #[derive(Clone, Copy)]
 pub struct OpenedPlant<'a> {
     /// What is said of each word, by the word's number.
@@ -27,6 +31,28 @@ pub struct OpenedPlant<'a> {
     pub programs: &'a PlantPrograms,
     /// Where each word begins.
     pub openings: &'a [State],
+    /// The group that is told of, or `None`: all machines.
+    pub group: Option<Group>,
+}
+
+/// A group of a plant's machines.
+#[derive(Clone, Copy)]
+pub struct Group {
+    /// The number of each machine's group.
+    pub groups: Groups,
+    /// The number of this one.
+    pub number: u8,
+}
+
+/// Whether it is told of a machine.
+pub(crate) fn is_told(plant: &OpenedPlant, machine: u8) -> bool
+    requires { machine < 30 }
+    ensures { result ≡ spec.machines_of plant.now.group machine }
+{
+    match plant.group {
+        Some(group) => group_number(&group.groups, machine) == group.number,
+        None => true,
+    }
 }
 
 // ---- what turns ask
@@ -72,6 +98,16 @@ fn outlook_of(
 {
     let walk = walk_of(alloc, plant, turns)?;
     Ok(walk.outlook)
+}
+
+/// The event of the machine that is named, if one is.
+fn event_if(events: &[RoutedEvent], who: Option<u8>) -> Option<RoutedEvent>
+    ensures { result ≡ option_and_then (λ machine. find (spec.is_of machine) events.now) who }
+{
+    match who {
+        Some(machine) => event_in(events, machine),
+        None => None,
+    }
 }
 
 /// The event of a machine.
@@ -199,19 +235,19 @@ fn push_stem(
     text.push_str(AGAIN)
 }
 
-/// Adds what comes again and again, after what came first, and what a machine that starves would be answered, as often
-/// as that changes.
+/// Adds what comes again and again, after what came first; and what the machine that starves would be answered, as often
+/// as that changes, if one is named.
 fn push_cycle(
     text: &mut String,
     alloc: Global,
     plant: &OpenedPlant,
-    machine: u8,
+    who: Option<u8>,
     stem: &[u8],
     cycle: &[u8],
 ) -> Result<(), AllocError>
     requires { IsOpened plant.now }
     ensures { OnOk result (string_bytes text.new ≡ string_bytes text.old
-        ++ spec.walk_text plant.now.plans.now plant.now.programs.now.programs (Some machine)
+        ++ spec.walk_text plant.now.plans.now plant.now.programs.now.programs who
         (spec.after_all plant.now.plans.now plant.now.programs.now.programs
         plant.now.openings.now stem.now) None cycle.now) }
 {
@@ -220,7 +256,7 @@ fn push_cycle(
     'turners: for turner in cycle {
         let events = outlook_of(alloc, plant, way.as_slice())?;
         let events = events.as_slice();
-        let outlook = event_in(events, machine);
+        let outlook = event_if(events, who);
         let asked = event_in(events, *turner);
         push_step(text, plant.plans, last, outlook, asked)?;
         last = outlook;
@@ -234,19 +270,19 @@ fn push_loop(
     text: &mut String,
     alloc: Global,
     plant: &OpenedPlant,
-    machine: u8,
+    who: Option<u8>,
     order: &FairOrder,
 ) -> Result<(), AllocError>
     requires { IsOpened plant.now }
     ensures { OnOk result (string_bytes text.new ≡ string_bytes text.old
         ++ spec.loop_text plant.now.plans.now plant.now.programs.now.programs
-        plant.now.openings.now (Some machine) order.now) }
+        plant.now.openings.now who order.now) }
 {
     push_cycle(
         text,
         alloc,
         plant,
-        machine,
+        who,
         order.stem.as_slice(),
         order.cycle.as_slice(),
     )
@@ -274,7 +310,7 @@ fn push_order(
 {
     text.push_str("  a fair order in which it starves: first\n")?;
     push_stem(text, alloc, plant, order)?;
-    push_loop(text, alloc, plant, machine, order)
+    push_loop(text, alloc, plant, Some(machine), order)
 }
 
 /// Adds the order in which a machine starves, if there is one.
@@ -340,7 +376,29 @@ fn push_machine(
     }
 }
 
-/// Adds whether each machine goes on for ever, by the machines' numbers and these names.
+/// Adds the same of a machine, if it is told of it.
+fn push_own(
+    text: &mut String,
+    alloc: Global,
+    plant: &OpenedPlant,
+    named: &NamedPlan,
+    machine: u8,
+    answers: &[Liveness],
+) -> Result<(), AllocError>
+    requires opened { IsOpened plant.now }
+    requires machine { machine < 30 }
+    ensures { OnOk result (string_bytes text.new ≡ string_bytes text.old
+        ++ spec.own_text (spec.machines_of plant.now.group) named.now plant.now.plans.now
+        plant.now.programs.now.programs plant.now.openings.now answers.now machine) }
+{
+    if is_told(plant, machine) {
+        push_machine(text, alloc, plant, named, machine, answers)
+    } else {
+        Ok(())
+    }
+}
+
+/// Adds whether each machine that is told of goes on for ever, by the machines' numbers and these names.
 fn push_each(
     text: &mut String,
     alloc: Global,
@@ -350,12 +408,11 @@ fn push_each(
 ) -> Result<(), AllocError>
     requires { IsOpened plant.now }
     ensures { OnOk result (string_bytes text.new ≡ string_bytes text.old
-        ++ flat_map (spec.machine_text named.now plant.now.plans.now
-        plant.now.programs.now.programs plant.now.openings.now answers.now)
-        (range_with_len 0 (length plant.now.programs.now.programs))) }
+        ++ spec.each_text (spec.machines_of plant.now.group) plant.now.plans.now
+        plant.now.programs.now.programs plant.now.openings.now answers.now named.now) }
 {
     'machines: for machine in 0..plant.programs.count() {
-        push_machine(text, alloc, plant, named, machine, answers)?;
+        push_own(text, alloc, plant, named, machine, answers)?;
     }
     Ok(())
 }
@@ -369,8 +426,8 @@ fn push_machines(
 ) -> Result<(), AllocError>
     requires { IsOpened plant.now }
     ensures { OnOk result (string_bytes text.new ≡ string_bytes text.old
-        ++ spec.machines_text plant.now.plans.now plant.now.programs.now.programs
-        plant.now.openings.now answers.now) }
+        ++ spec.machines_text (spec.machines_of plant.now.group) plant.now.plans.now
+        plant.now.programs.now.programs plant.now.openings.now answers.now) }
 {
     match plant.plans.get(0) {
         Some(first) => push_each(text, alloc, plant, &first.named, answers),
@@ -378,18 +435,61 @@ fn push_machines(
     }
 }
 
-/// Adds what is said of machines that go on.
+// ---- plates
+
+/// Adds an order in which no plate moves.
+fn push_resting(
+    text: &mut String,
+    alloc: Global,
+    plant: &OpenedPlant,
+    order: &FairOrder,
+) -> Result<(), AllocError>
+    requires { IsOpened plant.now }
+    ensures { OnOk result (string_bytes text.new ≡ string_bytes text.old
+        ++ spec.resting_text plant.now.plans.now plant.now.programs.now.programs
+        plant.now.openings.now order.now) }
+{
+    push_rest(text)?;
+    push_stem(text, alloc, plant, order)?;
+    push_loop(text, alloc, plant, None, order)
+}
+
+/// Adds whether plates move for ever, if some program moves any, and an order in which none moves.
+fn push_plates(
+    text: &mut String,
+    alloc: Global,
+    plant: &OpenedPlant,
+    found: &Progress,
+) -> Result<(), AllocError>
+    requires { IsOpened plant.now }
+    ensures { OnOk result (string_bytes text.new ≡ string_bytes text.old
+        ++ spec.plates_text plant.now.plans.now plant.now.programs.now.programs
+        plant.now.openings.now found.now) }
+{
+    if !some_move_plates(plant.programs.calls()) {
+        return Ok(());
+    }
+    match found {
+        Progress::Within(bound) => push_moving(text, *bound),
+        Progress::Starves(order) => push_resting(text, alloc, plant, order),
+        Progress::Unknown(_) => push_plates_unknown(text),
+    }
+}
+
+/// Adds what is said of those machines that are told of, and of plates, where nothing stands still.
 pub(crate) fn push_going(
     text: &mut String,
     alloc: Global,
     plant: &OpenedPlant,
     answers: &[Liveness],
+    plates: &Progress,
 ) -> Result<(), AllocError>
     requires { IsOpened plant.now }
     ensures { OnOk result (string_bytes text.new ≡ string_bytes text.old
-        ++ spec.going_text plant.now.plans.now plant.now.programs.now.programs
-        plant.now.openings.now answers.now) }
+        ++ spec.going_text (spec.machines_of plant.now.group) plant.now.plans.now
+        plant.now.programs.now.programs plant.now.openings.now answers.now plates.now) }
 {
     push_machines(text, alloc, plant, answers)?;
+    push_plates(text, alloc, plant, plates)?;
     text.push_str(FAIRNESS)
 }

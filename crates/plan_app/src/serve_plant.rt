@@ -11,7 +11,7 @@ ghost use Rattle.plan_app.specs.Served.{ExploresWordsIn, WritesPlantFree};
 
 use crate::apart::Exploration;
 use crate::input::{MAX_BYTES, plan_length};
-use crate::plant_explore::plant_exploration_of;
+use crate::plant_apart::plant_exploration_of;
 use crate::plant_start::openings_of_script;
 use crate::serve::{fail_to_read, print_warning, read_input, refuse_document, refuse_start};
 use plan_document::{ProgrammedPlant, plant_of};

@@ -38,6 +38,13 @@ pub(crate) fn plates_may_rest(named: &NamedPlan, found: &Progress) -> bool
     if named.places().len() == 0 {
         return false;
     }
+    may_rest(found)
+}
+
+/// Whether no plate moves in some fair order, which is printed.
+pub(crate) fn may_rest(found: &Progress) -> bool
+    ensures { result ≡ spec.may_rest found.now }
+{
     match found {
         Progress::Starves(_) => true,
         Progress::Within(_) | Progress::Unknown(_) => false,

@@ -154,20 +154,27 @@ in an order that is fair with bound k, each machine that could go on at k turns 
 a machine isn't passed over for ever if it goes on wherever it could at k turns, on end or not
 ";
 
-/// Of two presses, which share nothing, each of 15 situations goes with each: a digit for each place, three for each
-/// word. Without plates both stand still; and where one has none, its machines starve, though the others go on.
+/// Two presses share nothing, so each is told apart: a digit for each place, three for each word. Without a plate a
+/// press stands still, whatever the other one does.
 const OF_TWO: &str = "\
 0: ./plan explore --words
 =>
 start,100100
 =>
-no standstill in any order of turns before the last stamp: 225 situations
-loader1 goes on for ever in each fair order: within [..] turns
-press1 goes on for ever in each fair order: within [..] turns
-[..]
-loader2 goes on for ever in each fair order: within [..] turns
-press2 goes on for ever in each fair order: within [..] turns
-[..]
+apart from all others: loader1, press1, crane1
+no standstill in any order of turns before the last stamp: 15 situations
+loader1 goes on for ever in each fair order: within k * 7 turns
+press1 goes on for ever in each fair order: within k * 3 turns
+crane1 asks nothing
+in an order that is fair with bound k, each machine that could go on at k turns on end goes on;
+a machine isn't passed over for ever if it goes on wherever it could at k turns, on end or not
+apart from all others: loader2, press2, crane2
+no standstill in any order of turns before the last stamp: 15 situations
+loader2 goes on for ever in each fair order: within k * 7 turns
+press2 goes on for ever in each fair order: within k * 3 turns
+crane2 asks nothing
+in an order that is fair with bound k, each machine that could go on at k turns on end goes on;
+a machine isn't passed over for ever if it goes on wherever it could at k turns, on end or not
 --
 1: ./plan explore --words
 =>
@@ -179,45 +186,64 @@ fault badstart
 =>
 start,100000,12
 =>
-no standstill in any order of turns before the last stamp: [..]
-loader2 may starve though no machine is passed over for ever
-  a fair order in which it starves: first
-[..]
+apart from all others: loader1, press1, crane1
+no standstill in any order of turns before the last stamp: 15 situations
+loader1 goes on for ever in each fair order: within k * 7 turns
+press1 goes on for ever in each fair order: within k * 3 turns
+crane1 asks nothing
+in an order that is fair with bound k, each machine that could go on at k turns on end goes on;
+a machine isn't passed over for ever if it goes on wherever it could at k turns, on end or not
+apart from all others: loader2, press2, crane2
+a standstill after 4 turns, and no fewer
+loader2 waits: give interior2: noplate
+press2 waits: take interior2: notowner loader2
+turns:
+  press2 asks: claim interior2: done
+  press2 asks: pose travelling: done
+  press2 asks: pose load: done
+  press2 asks: yield interior2: done
 --
 1: ./plan explore --words
 =>
 start,000100
 =>
-no standstill in any order of turns before the last stamp: [..]
-press1 may starve though no machine is passed over for ever
+apart from all others: loader1, press1, crane1
+a standstill after 4 turns, and no fewer
+[..]
+apart from all others: loader2, press2, crane2
+no standstill in any order of turns before the last stamp: 15 situations
 [..]
 --
 1: ./plan explore --words
 =>
 start,000000
 =>
-a standstill after [..] turns, and no fewer
-loader1 waits: give interior1: [..]
-press1 waits: take interior1: [..]
-loader2 waits: give interior2: [..]
-press2 waits: take interior2: [..]
+apart from all others: loader1, press1, crane1
+a standstill after 4 turns, and no fewer
+loader1 waits: give interior1: noplate
+press1 waits: take interior1: notowner loader1
+turns:
+[..]
+apart from all others: loader2, press2, crane2
+a standstill after 4 turns, and no fewer
+loader2 waits: give interior2: noplate
+press2 waits: take interior2: notowner loader2
 turns:
 [..]
 ";
 
-/// Three have 3,375, which are more than one megabyte holds.
+/// Together three have 3,375, which are more than one megabyte holds; apart each has 15.
 const OF_THREE: &str = "\
-1: ./plan explore --memory 1 --words
+0: ./plan explore --memory 1 --words
 =>
 start,100100100
 =>
-fault large: more than 2000 situations; nothing stands still in fewer than [..] turns
---
-0: ./plan explore --memory 2 --words
-=>
-start,100100100
-=>
-no standstill in any order of turns before the last stamp: 3375 situations
+apart from all others: loader1, press1, crane1
+[..]
+apart from all others: loader2, press2, crane2
+[..]
+apart from all others: loader3, press3, crane3
+no standstill in any order of turns before the last stamp: 15 situations
 [..]
 ";
 
@@ -229,6 +255,45 @@ start,100
 =>
 no standstill in any order of turns before the last stamp: 15 situations
 [..]
+";
+
+/// Turners around a hub, which share nothing with the press: of their group there are more situations than one megabyte
+/// holds.
+const LARGE_GROUP: &str = "\
+1: ./plan explore --memory 1 --words
+=>
+[[machine]]
+name = \"hub\"
+@10 [[machine]]
+name = \"m#\"
+poses = [{ name = \"turn\", gives = { z# = \"moving\" } }, { name = \"rest\", gives = { z# = \"closed\" } }]
+program = [\"claim z#\", \"pose turn\", \"pose rest\", \"release z#\"]
+[[zone]]
+name = \"z#\"
+host = \"m#\"
+guest = \"hub\"
+@start,100
+=>
+fault large: hub, m1, [..], m9, m10: more than 2000 situations; nothing stands still in fewer than [..] turns
+";
+
+/// Without the press all machines are one group.
+const LARGE_PLANT: &str = "\
+1: ./plan explore --memory 1 --words
+=>
+[[machine]]
+name = \"hub\"
+@11 [[machine]]
+name = \"m#\"
+poses = [{ name = \"turn\", gives = { z# = \"moving\" } }, { name = \"rest\", gives = { z# = \"closed\" } }]
+program = [\"claim z#\", \"pose turn\", \"pose rest\", \"release z#\"]
+[[zone]]
+name = \"z#\"
+host = \"m#\"
+guest = \"hub\"
+@start,
+=>
+fault large: more than 2000 situations; nothing stands still in fewer than [..] turns
 ";
 
 #[test]
@@ -248,5 +313,13 @@ fn presses_go_on_together(rt: HostRuntime) -> Result<(), AllocError> {
     are_answered(&rt, rt.alloc(), three.as_str(), OF_THREE);
     let one = presses(rt.alloc(), 1)?;
     are_answered(&rt, rt.alloc(), one.as_str(), OF_ONE);
+    Ok(())
+}
+
+#[test]
+fn large_groups_are_named(rt: HostRuntime) -> Result<(), AllocError> {
+    let press = presses(rt.alloc(), 1)?;
+    are_answered(&rt, rt.alloc(), press.as_str(), LARGE_GROUP);
+    are_answered(&rt, rt.alloc(), "", LARGE_PLANT);
     Ok(())
 }

@@ -1,6 +1,6 @@
 use Rattle.std.proofs.Common.{◌+◌, ◌<◌, ◌∙◌, IfErr, IfOk, arith, length, string_bytes, subst, sym}
 use Rattle.plan_explorer.specs.Groups.{alone}
-use Rattle.plan_app.specs.Apart.{AddsPart, TellsParts, group_of}
+use Rattle.plan_app.specs.Apart.{AddsPart, TellsParts, group_of, told_of}
 use Rattle.plan_app.specs.Screens.{IsUnfinished}
 use Rattle.plan_app.proofs.GroupsTold.{large_is_told, next_part, no_part}
 use Rattle.plan_app.proofs.apart.parts_of.Goals.{then-is_first+in_ok-part+in-Ok, else-is_first}
@@ -8,25 +8,23 @@ use Rattle.plan_app.proofs.apart.parts_of.Goals as goal
 
 pub machines-preserved : goal.machines-preserved
 machines-preserved c =
-    let n = c.args.plan.now.named.now in
-    let ps = c.args.plan.now.programs.now in
-    let s = c.args.opening.now in
+    let v = told_of c.args.plan.now.named.now c.args.plan.now.programs.now c.args.opening.now in
     let groups = c.args.groups.now in
     let m = c.machines.machine in
     let before = string_bytes c.machines.text in
     elim c.if-is_first.branch [
       | then-is_first+in_ok-part+in-Ok w ↦
           (let after = string_bytes w.push_part.new.text in
-          let adds : AddsPart n ps s groups m w.in-Ok.part before after =
-          subst (λ found. IfOk found (λ well. AddsPart n ps s groups m well before after)) w.in-Ok.is w.in_ok-part.ensures.told in
-          subst (λ text. TellsParts n ps s groups (m + 1) c.if-is_first.well (string_bytes text)) (sym w.text-is)
-          (subst (λ well. TellsParts n ps s groups (m + 1) well after) (sym (w.well-is ∙ w.both-well.ensures))
-          (next_part n ps s groups m c.machines.well w.in-Ok.part before after (sym c.is_first.ensures ∙ w.if-is_first.true)
+          let adds : AddsPart v groups m w.in-Ok.part before after =
+          subst (λ found. IfOk found (λ well. AddsPart v groups m well before after)) w.in-Ok.is w.in_ok-part.ensures.told in
+          subst (λ text. TellsParts v groups (m + 1) c.if-is_first.well (string_bytes text)) (sym w.text-is)
+          (subst (λ well. TellsParts v groups (m + 1) well after) (sym (w.well-is ∙ w.both-well.ensures))
+          (next_part v groups m c.machines.well w.in-Ok.part before after (sym c.is_first.ensures ∙ w.if-is_first.true)
           c.machines.invariant adds)))
       | else-is_first w ↦
-          subst (λ text. TellsParts n ps s groups (m + 1) c.if-is_first.well (string_bytes text)) (sym w.text-is)
-          (subst (λ well. TellsParts n ps s groups (m + 1) well before) (sym w.well-is)
-          (no_part n ps s groups m c.machines.well before (sym c.is_first.ensures ∙ w.if-is_first.false) c.machines.invariant))
+          subst (λ text. TellsParts v groups (m + 1) c.if-is_first.well (string_bytes text)) (sym w.text-is)
+          (subst (λ well. TellsParts v groups (m + 1) well before) (sym w.well-is)
+          (no_part v groups m c.machines.well before (sym c.is_first.ensures ∙ w.if-is_first.false) c.machines.invariant))
     ]
 
 pub returns-in-Err : goal.returns-in-Err
@@ -39,4 +37,4 @@ returns-in-Err c =
     let is : IsUnfinished c.args.most n (alone (group_of groups m) ps) s c.in-Err.turns =
     subst (λ found. IfErr found (IsUnfinished c.args.most n (alone (group_of groups m) ps) s)) c.in-Err.is c.in_ok-part.ensures.large in
     let few : m < length ps = let h = c.machines-test.true in let e = c.count-machine-end.ensures.count in omega arith in
-    large_is_told c.args.most n ps s groups m c.in-Err.turns c.large_part.result few is c.large_part.ensures
+    large_is_told c.args.most (told_of n ps s) groups m c.in-Err.turns c.large_part.result few is c.large_part.ensures

@@ -6,4 +6,4 @@ use Rattle.plan_app.proofs.apart.push_others.Given as goal
 abbrev pub invariant-machines : goal.invariant-machines
 invariant-machines l =
     string_bytes l.text ≡ string_bytes l.initial.text
-    ++ flat_map (spec.next_name l.plan.named.now l.groups l.first) (range_with_len 0 l.machine)
+    ++ flat_map (spec.next_name l.named l.groups l.first) (range_with_len 0 l.machine)

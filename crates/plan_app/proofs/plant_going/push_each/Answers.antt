@@ -5,5 +5,6 @@ use Rattle.plan_app.proofs.plant_going.push_each.Goals as goal
 pub machines-preserved : goal.machines-preserved
 machines-preserved c =
     let plant = c.args.plant.now in
-    one_more (spec.machine_text c.args.named.now plant.plans.now plant.programs.now.programs plant.openings.now c.args.answers.now) _ _ _
-    c.machines.machine c.machines.invariant c.in_ok-push_machine.ensures
+    one_more
+    (spec.own_text (spec.machines_of plant.group) c.args.named.now plant.plans.now plant.programs.now.programs plant.openings.now
+    c.args.answers.now) _ _ _ c.machines.machine c.machines.invariant c.in_ok-push_own.ensures

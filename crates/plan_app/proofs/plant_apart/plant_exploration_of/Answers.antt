@@ -1,7 +1,7 @@
 use Rattle.std.proofs.Common.{◌≡◌, ◌≤◌, ◌∙◌, ap, length, map, sym, arith}
 use Rattle.plan_app.specs.PlantStarts.{tables_of}
 use Rattle.plan_app.proofs.PlantScreening.{table_count}
-use Rattle.plan_app.proofs.plant_explore.plant_exploration_of.Goals as goal
+use Rattle.plan_app.proofs.plant_apart.plant_exploration_of.Goals as goal
 
 pub exploration_of-requires : goal.exploration_of-requires
 exploration_of-requires c =

@@ -2,7 +2,7 @@ use Rattle.std.proofs.Common.{◌∙◌, ◌<◌, ◌++◌, ◌∷◌, [], ap, l
 use Rattle.std.proofs.lemmas.List.{map-append}
 use Rattle.plan_document.specs.declared.resolving.ProgrammedPlan.{ProgrammedPlan}
 use Rattle.plan_app.proofs.PlantScreening.{table_more}
-use Rattle.plan_app.proofs.plant_explore.tables_of.Goals as goal
+use Rattle.plan_app.proofs.plant_apart.tables_of.Goals as goal
 
 pub loop-word-preserved : goal.loop-word-preserved
 loop-word-preserved c =

@@ -3,7 +3,7 @@ use Rattle.std.specs.Prelude.{slice_get}
 use Rattle.plan_explorer.specs.Plants.{first_situation}
 use Rattle.plan_liveness.specs.declared.answer.Liveness.{Liveness}
 use Rattle.plan_liveness.specs.PlantAnswers.{IsPlantLiveness}
-use Rattle.plan_app.proofs.plant_explore.machines_of.Goals as goal
+use Rattle.plan_app.proofs.plant_explore.answers_of.Goals as goal
 
 pub returns-clause-each : goal.returns-clause-each
 returns-clause-each c =
