@@ -166,6 +166,7 @@ no standstill in any order of turns before the last stamp: 15 situations
 loader1 goes on for ever in each fair order: within k * 7 turns
 press1 goes on for ever in each fair order: within k * 3 turns
 crane1 asks nothing
+plates move for ever in each fair order: within k * 6 turns
 in an order that is fair with bound k, each machine that could go on at k turns on end goes on;
 a machine isn't passed over for ever if it goes on wherever it could at k turns, on end or not
 apart from all others: loader2, press2, crane2
@@ -173,6 +174,7 @@ no standstill in any order of turns before the last stamp: 15 situations
 loader2 goes on for ever in each fair order: within k * 7 turns
 press2 goes on for ever in each fair order: within k * 3 turns
 crane2 asks nothing
+plates move for ever in each fair order: within k * 6 turns
 in an order that is fair with bound k, each machine that could go on at k turns on end goes on;
 a machine isn't passed over for ever if it goes on wherever it could at k turns, on end or not
 --
@@ -191,6 +193,7 @@ no standstill in any order of turns before the last stamp: 15 situations
 loader1 goes on for ever in each fair order: within k * 7 turns
 press1 goes on for ever in each fair order: within k * 3 turns
 crane1 asks nothing
+plates move for ever in each fair order: within k * 6 turns
 in an order that is fair with bound k, each machine that could go on at k turns on end goes on;
 a machine isn't passed over for ever if it goes on wherever it could at k turns, on end or not
 apart from all others: loader2, press2, crane2
