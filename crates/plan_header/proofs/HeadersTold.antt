@@ -7,8 +7,7 @@ use Rattle.std.proofs.lemmas.Nat.{mod-mul-add}
 use Rattle.std.specs.Char.{to_ascii_uppercase}
 use Rattle.std.specs.Fmt.{decimal}
 use Rattle.plan_types.specs.Table.{joins, place_count, space_of, zone_count}
-use Rattle.plan_word.specs.Layout.{bits_of, counts_of, zones_end}
-use Rattle.plan_word.specs.declared.layout.Field.TheVariants.{Zone}
+use Rattle.plan_word.specs.Layout.{counts_of, zones_end}
 use Rattle.plan_text.specs.Named.{Named}
 use Rattle.plan_text.specs.Names.{Text, name_in}
 use Rattle.plan_header.specs.Headers as header

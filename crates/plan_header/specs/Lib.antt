@@ -4,8 +4,12 @@ pub mod Headers
 pub mod Turns
 pub mod Printed
 pub mod HeaderLaws
+pub mod Numbered
+pub mod PlantHeaders
+pub mod NumberLaws
 pub mod Modules
 pub mod HeaderExamples
 pub mod TurnLaws
 pub mod TurnExamples
+pub mod PlantHeaderExamples
 pub mod ModuleExamples

@@ -1,9 +1,13 @@
 //! Laws of what is printed, each the contract of a function that does nothing.
 
+ghost use Rattle.std.specs.Prelude.{ℕ};
 ghost use Rattle.plan_header.specs.HeaderExamples.{CapitalsAreMade, HeaderLines, MaskLines, PartyLines};
 ghost use Rattle.plan_header.specs.HeaderExamples.{ReadingLines, WholeHeaders};
 ghost use Rattle.plan_header.specs.HeaderLaws.{HeadersTell};
 ghost use Rattle.plan_header.specs.ModuleExamples.{ModuleLines, WholeModules};
+ghost use Rattle.plan_header.specs.NumberLaws.{LinesAreNumbered, NamesAreNumbered, NamesHaveNoBlank};
+ghost use Rattle.plan_header.specs.NumberLaws.{NoneIsLeft, WordsShareNoName};
+ghost use Rattle.plan_header.specs.PlantHeaderExamples.{PlantLines, PlantTexts};
 ghost use Rattle.plan_header.specs.TurnExamples.{TurnLines};
 ghost use Rattle.plan_header.specs.TurnLaws.{TurnsTell};
 
@@ -44,6 +48,22 @@ pub fn headers_are_whole()
 pub fn modules_are_met()
     ensures lines { ModuleLines }
     ensures whole { WholeModules }
+{}
+
+/// Examples: lines of the headers of words 0, 1 and 15 of a plant, and how the header of a plant of two words begins.
+pub fn plant_headers_are_met()
+    ensures lines { PlantLines }
+    ensures texts { PlantTexts }
+{}
+
+/// Which names have the number of their word in the header of a plant, for all texts and names: no two words define one
+/// name, and none is left without a number.
+pub fn names_are_numbered()
+    ensures each { (number : ℕ) → NamesAreNumbered number }
+    ensures names { NamesHaveNoBlank }
+    ensures lines { LinesAreNumbered }
+    ensures apart { WordsShareNoName }
+    ensures none_left { NoneIsLeft }
 {}
 
 /// Each line of a header for turns, for all names, sensors and steps: the names of each kind as texts, the bits of

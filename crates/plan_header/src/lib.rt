@@ -5,10 +5,13 @@ pub mod header;
 pub mod laws;
 mod lists;
 mod motors;
+mod numbered;
+pub mod plants;
 pub mod python;
 mod readings;
 mod turns;
 
 pub use header::header_of;
 pub use motors::motor_at;
+pub use plants::plant_header_of;
 pub use python::module_of;
