@@ -1,7 +1,7 @@
 -- The examples of `parts_are_met`.
 use Rattle.std.proofs.Common.{refl}
 use Rattle.std.specs.Fmt.{digits}
-use Rattle.plan_picture.specs.PictureExamples.{ElementsAreMet, PartsAreMet}
+use Rattle.plan_picture.specs.PictureExamples.{ElementsAreMet, PartsAreMet, WordsAreMet}
 
 pub elements-met : ElementsAreMet
 unfolding digits
@@ -32,4 +32,17 @@ parts-met = record {
   ends = refl;
   hazard = refl;
   head = refl;
+}
+
+pub words-met : WordsAreMet
+unfolding digits
+words-met = record {
+  place = refl;
+  title = refl;
+  word = refl;
+  ways = refl;
+  line = refl;
+  hazard = refl;
+  no_word = refl;
+  no_line = refl;
 }

@@ -98,7 +98,7 @@ silent-opening : (class of : Text) (x y size : ℕ) → Silent class of → Sile
 silent-opening class of x y size quiet =
     silent-append class of _ quiet (number class x _ (number class y _ (number class size _ (λ t. refl))))
 
-silent-slope : (class of : Text) (x y size : ℕ) → Silent class of → Silent class (slope of x y size)
+pub silent-slope : (class of : Text) (x y size : ℕ) → Silent class of → Silent class (slope of x y size)
 silent-slope class of x y size quiet =
     silent-append class of _ quiet (number class x _ (number class y _ (number class size _ (λ t. refl))))
 

@@ -1,41 +1,58 @@
 -- Elements and parts of pictures, whole: of a press and its loader.
-use Rattle.std.specs.Prelude.{◌≡◌, [], ◌∷◌, ◌++◌, codes}
+use Rattle.std.specs.Prelude.{◌≡◌, false, true, [], ◌∷◌, ◌++◌, codes}
 use Rattle.plan_types.specs.Examples.{open_press_table, press_table, through_table}
 use Rattle.plan_motors.specs.declared.exclusion.Cause.TheVariants.{Zone}
 use Rattle.plan_motors.specs.declared.verdict.Verdict.TheVariants.{Excluded}
 use Rattle.plan_motors.specs.Examples.{arm, hazard, ram}
-use Rattle.plan_text.specs.Named.{named}
+use Rattle.plan_text.specs.Named.{Named, named}
 use Rattle.plan_picture.specs.Elements.{circle, escaped, label, level, slanted, upright}
 use Rattle.plan_picture.specs.Pictures as picture
+use Rattle.plan_picture.specs.Pictures.{found_by}
 use Rattle.plan_picture.specs.Scenes as at
 use Rattle.plan_picture.specs.Scenes.{Scene}
 
+abbrev pub press_plan : Named
+press_plan =
+    named press_table (codes "loader" ∷ codes "press" ∷ []) (codes "interior" ∷ []) (codes "hand" ∷ codes "die" ∷ []) []
+
 abbrev pub press : Scene
 press = record {
-  named =
-      named press_table (codes "loader" ∷ codes "press" ∷ []) (codes "interior" ∷ []) (codes "hand" ∷ codes "die" ∷ [])
-      [];
+  named = press_plan;
   motors = ram ∷ arm ∷ [];
   motor_names = codes "ram" ∷ codes "arm_in_press" ∷ [];
   hazards = hazard 0 1 ∷ [];
   hazard_names = codes "arm & ram" ∷ [];
+  words = press_plan ∷ [];
+  word = 0;
+  says_word = false;
 }
 
--- the press again, whose loader fills its hand from outside and empties it there
-abbrev pub open_press : Scene
-open_press = record press { named = record press.named { plan = open_press_table } }
-
--- a loader that fills its hand from outside, and empties its tray there
-abbrev pub through : Scene
-through = record {
-  named =
-      named through_table (codes "loader" ∷ codes "press" ∷ []) (codes "interior" ∷ [])
-      (codes "hand" ∷ codes "tray" ∷ codes "die" ∷ []) [];
+-- of a plan without motors
+abbrev pub only_word : Named → Scene
+only_word plan = record {
+  named = plan;
   motors = [];
   motor_names = [];
   hazards = [];
   hazard_names = [];
+  words = plan ∷ [];
+  word = 0;
+  says_word = false;
 }
+
+-- the press again, whose loader fills its hand from outside and empties it there
+abbrev pub open_press : Scene
+open_press = only_word (record press_plan { plan = open_press_table })
+
+-- a loader that fills its hand from outside, and empties its tray there
+abbrev pub through : Scene
+through =
+    only_word (named through_table (codes "loader" ∷ codes "press" ∷ []) (codes "interior" ∷ [])
+    (codes "hand" ∷ codes "tray" ∷ codes "die" ∷ []) [])
+
+-- a plant on two words: the press, with its motors and its hazard, on each
+abbrev pub two_words : Scene
+two_words = record press { words = press_plan ∷ press_plan ∷ []; says_word = true }
 
 pub record ElementsAreMet : Type 0 where
   pub entities : escaped (codes "a<b>&\"c' ~") ≡ codes "a&lt;b&gt;&amp;&quot;c&#39; ~"
@@ -95,7 +112,7 @@ pub record PartsAreMet : Type 0 where
   pub ends : picture.ends_part press 0
       ≡ codes "<text class=\"end\" x=\"352\" y=\"278\" font-size=\"13\">hand</text>\n"
       ++ codes "<text class=\"end\" x=\"352\" y=\"374\" font-size=\"13\">die</text>\n"
-  pub hazard : picture.hazard_part press (Excluded (Zone 0) ∷ []) 0
+  pub hazard : picture.hazard_part press (found_by press_plan (Excluded (Zone 0)) ∷ []) 0
       ≡ codes "<text class=\"hazard\" transform=\"translate(450 220) rotate(-45)\" font-size=\"15\">arm &amp; ram"
       ++ (codes "</text>\n<text class=\"kept\" transform=\"translate(474 220) rotate(-45)\" font-size=\"13\">kept apart"
       ++ (codes " by interior</text>\n<line class=\"hazard\" x1=\"450\" y1=\"390\" x2=\"450\" y2=\"294\"/>\n"
@@ -104,3 +121,25 @@ pub record PartsAreMet : Type 0 where
   pub head : picture.head (at.width press) (at.height press)
       ≡ codes "<svg xmlns=\"http://www.w3.org/2000/svg\" width=\"810\" height=\"492\" viewBox=\"0 0 810 492\" "
       ++ codes "font-family=\"monospace\">\n"
+
+-- of the second word: a place, the zone's name and its word, and a way; the line before its columns; and where the
+-- hazards begin
+pub record WordsAreMet : Type 0 where
+  pub place : picture.place_part (at.on_word two_words 1) 1
+      ≡ codes "<circle class=\"place\" cx=\"38\" cy=\"410\" r=\"5\"/>\n"
+      ++ codes "<text class=\"place\" x=\"52\" y=\"414\" font-size=\"13\">die</text>\n"
+  pub title : picture.zone_title (at.on_word two_words 1) 0
+      ≡ codes "<text class=\"zone\" transform=\"translate(450 220) rotate(-45)\" font-size=\"15\">interior</text>\n"
+  pub word : picture.word_title (at.on_word two_words 1) 0
+      ≡ codes "<text class=\"word\" transform=\"translate(498 220) rotate(-45)\" font-size=\"13\">word 1</text>\n"
+  pub ways : picture.ways_part (at.on_word two_words 1) 0
+      ≡ codes "<line class=\"way\" x1=\"468\" y1=\"294\" x2=\"468\" y2=\"410\"/>\n"
+      ++ codes "<line class=\"way\" x1=\"482\" y1=\"410\" x2=\"482\" y2=\"294\"/>\n"
+  pub line : picture.word_line (at.on_word two_words 1)
+      ≡ codes "<line class=\"word\" x1=\"432\" y1=\"226\" x2=\"432\" y2=\"452\"/>\n"
+  pub hazard : picture.hazard_title two_words 0
+      ≡ codes "<text class=\"hazard\" transform=\"translate(590 220) rotate(-45)\" font-size=\"15\">arm &amp; ram"
+      ++ codes "</text>\n"
+  -- the picture of a plan has none of these
+  pub no_word : picture.word_title press 0 ≡ []
+  pub no_line : picture.word_line press ≡ []

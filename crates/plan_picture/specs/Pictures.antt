@@ -1,5 +1,5 @@
 -- The picture of a plan, as SVG.
-use Rattle.std.specs.Prelude.{◌≡◌, ℕ, ◌+◌, ◌-◌, Bool, ◌||◌, nat_eq, List, [], ◌++◌, codes, flat_map, length}
+use Rattle.std.specs.Prelude.{◌≡◌, ℕ, ◌+◌, ◌-◌, Bool, ◌||◌, nat_eq, List, [], ◌∷◌, ◌++◌, codes, flat_map, length, map}
 use Rattle.std.specs.Prelude.{Option, Some, None, replicate, false, slice_get, IsTrue, if◌then◌else◌}
 use Rattle.std.specs.Fmt.{decimal}
 use Rattle.std.specs.List.{AllZip, range_with_len}
@@ -20,10 +20,10 @@ use Rattle.plan_text.specs.Named.{Named}
 use Rattle.plan_text.specs.Names.{Text, name_in}
 use Rattle.plan_document.specs.declared.resolving.ProgrammedPlan.{ProgrammedPlan}
 use Rattle.plan_header.specs.Words.{machine_name, zone_name}
-use Rattle.plan_picture.specs.Elements.{box, circle, label, level, slanted, upright}
+use Rattle.plan_picture.specs.Elements.{box, circle, label, level, slanted, slope, upright}
 use Rattle.plan_picture.specs.Scenes as at
-use Rattle.plan_picture.specs.Scenes.{Scene, scene}
-use Rattle.plan_picture.specs.declared.picture.TheConstants.{FIRST, SECOND, STYLE, THIRD}
+use Rattle.plan_picture.specs.Scenes.{Scene, plant_scene, scene}
+use Rattle.plan_picture.specs.declared.picture.TheConstants.{FIRST, FOURTH, SECOND, STYLE, THIRD, WORDS_STYLE}
 
 -- ---- machines: a lane, and at its left a box with the name
 
@@ -48,17 +48,17 @@ abbrev pub thing_part : Scene → Text → ℕ → Text → Text
 thing_part s class thing name = thing_at class (at.row s thing) name
 
 abbrev pub ring_part : Scene → ℕ → Text
-ring_part s p = thing_part s (codes "place") p (name_in s.named.places p)
+ring_part s p = thing_part s (codes "place") (at.place_thing s p) (name_in s.named.places p)
 
 -- an arrow across the left edge of the box: from outside to a source, from a sink to outside
 abbrev pub source_arrow : Scene → ℕ → Text
-source_arrow s p = level (codes "source") (at.source_line s p) 2 32
+source_arrow s p = level (codes "source") (at.source_line s (at.place_thing s p)) 2 32
 
 abbrev pub source_part : Scene → ℕ → Text
 source_part s p = if is_source s.named.plan p then source_arrow s p else []
 
 abbrev pub sink_arrow : Scene → ℕ → Text
-sink_arrow s p = level (codes "sink") (at.sink_line s p) 32 2
+sink_arrow s p = level (codes "sink") (at.sink_line s (at.place_thing s p)) 32 2
 
 abbrev pub sink_part : Scene → ℕ → Text
 sink_part s p = if is_sink s.named.plan p then sink_arrow s p else []
@@ -74,19 +74,19 @@ motor_part s m = thing_part s (codes "motor") (at.motor_thing s m) (name_in s.mo
 -- a machine by a mark of a zone
 abbrev pub party_label : Scene → ℕ → ℕ → Text
 party_label s zone machine =
-    label (codes "party") (at.zone_column zone + 52) (at.lane s machine + 22) 13 82 (machine_name s.named machine)
+    label (codes "party") (at.zone_column s zone + 52) (at.lane s machine + 22) 13 82 (machine_name s.named machine)
 
 abbrev pub host_part : Scene → ℕ → ℕ → Text
 host_part s zone host =
-    box (codes "host") (at.zone_column zone + 3) (at.lane s host + 11) 14 14 ++ party_label s zone host
+    box (codes "host") (at.zone_column s zone + 3) (at.lane s host + 11) 14 14 ++ party_label s zone host
 
 abbrev pub guest_part : Scene → ℕ → ℕ → Text
 guest_part s zone guest =
-    circle (codes "guest") (at.zone_column zone + 10) (at.lane s guest + 18) 7 ++ party_label s zone guest
+    circle (codes "guest") (at.zone_column s zone + 10) (at.lane s guest + 18) 7 ++ party_label s zone guest
 
 abbrev pub zone_line : Scene → ℕ → ℕ → ℕ → Text
 zone_line s zone host guest =
-    upright (codes "zone") (at.zone_column zone + 10) (at.lane s host + 18) (at.lane s guest + 18)
+    upright (codes "zone") (at.zone_column s zone + 10) (at.lane s host + 18) (at.lane s guest + 18)
 
 abbrev pub parties_by : Scene → ℕ → ℕ → ℕ → Text
 parties_by s zone host guest =
@@ -98,12 +98,13 @@ parties_part s zone = parties_by s zone (host_of s.named.plan zone) (guest_of s.
 -- an arrow from place to place
 abbrev pub way_part : Scene → ℕ → Option Way → Text
 way_part s x None = []
-way_part s x (Some way) = upright (codes "way") x (at.row s way.from) (at.row s way.to)
+way_part s x (Some way) =
+    upright (codes "way") x (at.row s (at.place_thing s way.from)) (at.row s (at.place_thing s way.to))
 
 abbrev pub ways_part : Scene → ℕ → Text
 ways_part s zone =
-    way_part s (at.zone_column zone + 28) (zone_row s.named.plan zone).inward
-    ++ way_part s (at.zone_column zone + 42) (zone_row s.named.plan zone).outward
+    way_part s (at.zone_column s zone + 28) (zone_row s.named.plan zone).inward
+    ++ way_part s (at.zone_column s zone + 42) (zone_row s.named.plan zone).outward
 
 abbrev pub is_end : Option Way → ℕ → Bool
 is_end None place = false
@@ -115,7 +116,8 @@ is_on_way s zone place =
 
 abbrev pub end_label : Scene → ℕ → ℕ → Text
 end_label s zone place =
-    label (codes "end") (at.zone_column zone + 52) (at.row s place + 4) 13 82 (name_in s.named.places place)
+    label (codes "end") (at.zone_column s zone + 52) (at.row s (at.place_thing s place) + 4) 13 82
+    (name_in s.named.places place)
 
 abbrev pub end_part : Scene → ℕ → ℕ → Text
 end_part s zone place = if is_on_way s zone place then end_label s zone place else []
@@ -124,31 +126,42 @@ abbrev pub ends_part : Scene → ℕ → Text
 ends_part s zone = flat_map (end_part s zone) (range_with_len 0 (length s.named.places))
 
 abbrev pub zone_title : Scene → ℕ → Text
-zone_title s zone = slanted (codes "zone") (at.zone_column zone + 10) 220 15 280 (zone_name s.named zone)
+zone_title s zone = slanted (codes "zone") (at.zone_column s zone + 10) 220 15 280 (zone_name s.named zone)
 
 -- the name of the zone's space, if that is another one; and a line to the host's mark from the one at the zone before,
 -- if both are of one space
-abbrev pub space_name_part : ℕ → Text → Text
-space_name_part zone space = slanted (codes "space") (at.zone_column zone + 34) 220 13 280 space
+abbrev pub space_name_part : Scene → ℕ → Text → Text
+space_name_part s zone space = slanted (codes "space") (at.zone_column s zone + 34) 220 13 280 space
 
 abbrev pub space_title : Scene → ℕ → Text
 space_title s zone =
     if bytes_eq (name_in s.named.spaces zone) (zone_name s.named zone) then []
-    else space_name_part zone (name_in s.named.spaces zone)
+    else space_name_part s zone (name_in s.named.spaces zone)
 
 abbrev pub space_line : Scene → ℕ → Text
 space_line s zone =
     if joins s.named.plan zone
-    then level (codes "zone") (at.lane s (host_of s.named.plan zone) + 11) (at.zone_column zone - 123)
-    (at.zone_column zone + 3)
+    then level (codes "zone") (at.lane s (host_of s.named.plan zone) + 11) (at.zone_column s zone - 123)
+    (at.zone_column s zone + 3)
     else []
 
 abbrev pub space_part : Scene → ℕ → Text
 space_part s zone = space_title s zone ++ space_line s zone
 
+-- in the picture of a plant, the number of the zone's word
+abbrev pub word_words : ℕ → Text
+word_words word = codes "word " ++ (decimal word ++ codes "</text>\n")
+
+abbrev pub word_number : Scene → ℕ → Text
+word_number s zone = slope (codes "word") (at.zone_column s zone + 58) 220 13 ++ word_words s.word
+
+abbrev pub word_title : Scene → ℕ → Text
+word_title s zone = if s.says_word then word_number s zone else []
+
 abbrev pub zone_part : Scene → ℕ → Text
 zone_part s zone =
-    (zone_title s zone ++ parties_part s zone) ++ ((ways_part s zone ++ ends_part s zone) ++ space_part s zone)
+    (zone_title s zone ++ parties_part s zone)
+    ++ ((ways_part s zone ++ ends_part s zone) ++ (space_part s zone ++ word_title s zone))
 
 -- ---- hazards: two motors, and what keeps them apart
 
@@ -167,16 +180,23 @@ verdict_words n (Excluded (Place place)) = codes "kept apart by place " ++ name_
 verdict_words n (ByPoses machine) = codes "kept apart by the poses of " ++ machine_name n machine
 verdict_words n (Possible s) = codes "NOT kept apart"
 
-abbrev pub verdict_class : Verdict → Text
-verdict_class v = if is_never v then codes "kept" else codes "unkept"
+-- what is said of a hazard: whether its motors are kept apart, and by what
+pub record Found : Type 0 where
+  pub kept : Bool
+  pub words : Text
 
-abbrev pub verdict_part : Scene → ℕ → Verdict → Text
-verdict_part s k v =
-    slanted (verdict_class v) (at.hazard_column s k + 34) 220 13 280 (verdict_words s.named v)
+abbrev pub found_by : Named → Verdict → Found
+found_by n v = record { kept = is_never v; words = verdict_words n v }
 
-abbrev pub verdict_if : Scene → ℕ → Option Verdict → Text
-verdict_if s k None = []
-verdict_if s k (Some v) = verdict_part s k v
+abbrev pub found_class : Bool → Text
+found_class kept = if kept then codes "kept" else codes "unkept"
+
+abbrev pub found_part : Scene → ℕ → Found → Text
+found_part s k found = slanted (found_class found.kept) (at.hazard_column s k + 34) 220 13 280 found.words
+
+abbrev pub found_if : Scene → ℕ → Option Found → Text
+found_if s k None = []
+found_if s k (Some found) = found_part s k found
 
 abbrev pub hazard_title : Scene → ℕ → Text
 hazard_title s k = slanted (codes "hazard") (at.hazard_column s k + 10) 220 15 280 (name_in s.hazard_names k)
@@ -198,9 +218,9 @@ danger_by s k h = danger_line s k h ++ (danger_label s k h.first ++ danger_label
 abbrev pub danger_part : Scene → ℕ → Text
 danger_part s k = danger_by s k (hazard_at s.hazards k)
 
-abbrev pub hazard_part : Scene → List Verdict → ℕ → Text
-hazard_part s verdicts k =
-    hazard_title s k ++ (verdict_if s k (slice_get verdicts k) ++ danger_part s k)
+abbrev pub hazard_part : Scene → List Found → ℕ → Text
+hazard_part s found k =
+    hazard_title s k ++ (found_if s k (slice_get found k) ++ danger_part s k)
 
 -- ---- the picture
 
@@ -213,8 +233,12 @@ head width height =
 abbrev pub begin_by : ℕ → ℕ → Text
 begin_by width height = head width height ++ (STYLE.now ++ box (codes "paper") 0 0 width height)
 
+-- in the picture of a plant, how its words look
+abbrev pub words_style : Scene → Text
+words_style s = if s.says_word then WORDS_STYLE.now else []
+
 abbrev pub begin : Scene → Text
-begin s = begin_by (at.width s) (at.height s)
+begin s = begin_by (at.width s) (at.height s) ++ words_style s
 
 -- what the marks mean, below the lanes
 abbrev pub legend_line : Scene → ℕ → Text → Text
@@ -223,8 +247,11 @@ legend_line s below text = label (codes "legend") 20 (at.lane s (length s.named.
 abbrev pub legend : Scene → Text
 legend s = legend_line s 14 FIRST.now ++ (legend_line s 30 SECOND.now ++ legend_line s 46 THIRD.now)
 
+abbrev pub words_legend : Scene → Text
+words_legend s = if s.says_word then legend_line s 62 FOURTH.now else []
+
 abbrev pub finish : Scene → Text
-finish s = legend s ++ codes "</svg>\n"
+finish s = legend s ++ (words_legend s ++ codes "</svg>\n")
 
 abbrev pub machines_part : Scene → Text
 machines_part s = flat_map (machine_part s) (range_with_len 0 (length s.named.machines))
@@ -238,20 +265,44 @@ motors_part s = flat_map (motor_part s) (range_with_len 0 (length s.motor_names)
 abbrev pub zones_part : Scene → Text
 zones_part s = flat_map (zone_part s) (range_with_len 0 (length s.named.zones))
 
-abbrev pub hazards_part : Scene → List Verdict → Text
-hazards_part s verdicts = flat_map (hazard_part s verdicts) (range_with_len 0 (length s.hazard_names))
+-- a line before the columns of a word, in the picture of a plant
+abbrev pub word_line : Scene → Text
+word_line s =
+    if s.says_word then upright (codes "word") (at.zone_column s 0 - 8) 226 (at.lane s (length s.named.machines) - 10)
+    else []
+
+abbrev pub word_part : Scene → Text
+word_part s = word_line s ++ zones_part s
+
+abbrev pub hazards_part : Scene → List Found → Text
+hazards_part s found = flat_map (hazard_part s found) (range_with_len 0 (length s.hazard_names))
+
+-- a part of each word, word by word
+abbrev pub each_word : (Scene → Text) → Scene → Text
+each_word part s = flat_map (λ word. part (at.on_word s word)) (range_with_len 0 (length s.words))
 
 abbrev pub lanes_part : Scene → Text
-lanes_part s = machines_part s ++ (places_part s ++ motors_part s)
+lanes_part s = machines_part s ++ (each_word places_part s ++ motors_part s)
 
-abbrev pub columns_part : Scene → List Verdict → Text
-columns_part s verdicts = zones_part s ++ hazards_part s verdicts
+abbrev pub columns_part : Scene → List Found → Text
+columns_part s found = each_word word_part s ++ hazards_part s found
 
-unfoldable pub picture_text : Scene → List Verdict → Text
-picture_text s verdicts = begin s ++ (lanes_part s ++ (columns_part s verdicts ++ finish s))
+unfoldable pub picture_text : Scene → List Found → Text
+picture_text s found = begin s ++ (lanes_part s ++ (columns_part s found ++ finish s))
 
--- a picture of a plan, with what is shown of each of its hazards
-pub record IsPicture (plan : ProgrammedPlan) (text : Text) : Type 0 where
+-- what is said of each hazard of a plan, by what is shown of it
+pub record AreFound (plan : ProgrammedPlan) (found : List Found) : Type 0 where
   pub verdicts : List Verdict
   pub are : AllZip (IsVerdictOf plan.named.plan plan.motors.motors.items) plan.motors.hazards.items verdicts
-  pub told : text ≡ picture_text (scene plan) verdicts
+  pub said : found ≡ map (found_by plan.named) verdicts
+
+-- a picture of a plan, with what is said of each of its hazards
+pub record IsPicture (plan : ProgrammedPlan) (text : Text) : Type 0 where
+  pub found : List Found
+  pub are : AreFound plan found
+  pub told : text ≡ picture_text (scene plan) found
+
+-- the picture of a plant, by the plans of its words, with what is said of each hazard; nothing of a plant without words
+abbrev pub plant_picture_text : List ProgrammedPlan → List Found → Text
+plant_picture_text [] found = []
+plant_picture_text (first ∷ later) found = picture_text (plant_scene first (first ∷ later)) found

@@ -173,7 +173,7 @@ fn push_slope(text: &mut String, class: &str, spot: Spot, count: usize) -> Resul
 }
 
 /// Adds how a text begins at a slant, with the size of its letters.
-fn push_sized_slope(
+pub(crate) fn push_sized_slope(
     text: &mut String,
     class: &str,
     x: usize,

@@ -1,158 +1,138 @@
-//! The hazards of a plan's picture: their names, what keeps their motors apart, and lines between the motors.
+//! The hazards of a picture: their names, what keeps their motors apart, and lines between the motors.
 ghost use Rattle.std.specs.Prelude.{◌≡◌, ◌++◌, OnOk, slice_get, string_bytes};
-ghost use Rattle.plan_motors.specs.OfPlan as of_plan;
 ghost use Rattle.plan_picture.specs.Pictures as spec;
-ghost use Rattle.plan_picture.specs.Scenes.{scene};
 
 use crate::elements::{Spot, push_label, push_slanted, push_upright};
+use crate::findings::{Finding, found_class};
 use crate::positions::{hazard_column, motor_thing, row};
-use crate::verdicts::{verdict_class, verdict_words};
-use plan_document::ProgrammedPlan;
-use plan_motors::{Hazard, Verdict};
-use std::alloc::{AllocError, Global};
+use crate::shown::Shown;
+use plan_motors::Hazard;
+use std::alloc::AllocError;
 
 /// Adds each hazard.
 pub(crate) fn push_hazards(
-    alloc: Global,
     text: &mut String,
-    plan: &ProgrammedPlan,
-    verdicts: &[Verdict],
+    shown: &Shown<'_>,
+    found: &[Finding],
 ) -> Result<(), AllocError>
     ensures { OnOk result (string_bytes text.new
-        ≡ string_bytes text.old ++ spec.hazards_part (scene plan.now) verdicts.now) }
+        ≡ string_bytes text.old ++ spec.hazards_part shown.now found.now) }
 {
-    'hazards: for hazard in 0..plan.motors.hazard_names.len() as u8 {
-        push_hazard(alloc, text, plan, verdicts, hazard)?;
+    'hazards: for hazard in 0..shown.hazard_names().len() as u8 {
+        push_hazard(text, shown, found, hazard)?;
     }
     Ok(())
 }
 
-/// Adds a hazard: its name, what keeps its motors apart, and a line from the one to the other.
+/// Adds a hazard: its name, what is said of it, and a line from the one to the other.
 fn push_hazard(
-    alloc: Global,
     text: &mut String,
-    plan: &ProgrammedPlan,
-    verdicts: &[Verdict],
+    shown: &Shown<'_>,
+    found: &[Finding],
     hazard: u8,
 ) -> Result<(), AllocError>
     ensures { OnOk result (string_bytes text.new
-        ≡ string_bytes text.old ++ spec.hazard_part (scene plan.now) verdicts.now hazard) }
+        ≡ string_bytes text.old ++ spec.hazard_part shown.now found.now hazard) }
 {
-    push_hazard_title(text, plan, hazard)?;
-    push_verdict_if(alloc, text, plan, verdicts, hazard)?;
-    push_danger(text, plan, hazard)
+    push_hazard_title(text, shown, hazard)?;
+    push_found_if(text, shown, found, hazard)?;
+    push_danger(text, shown, hazard)
 }
 
 /// Adds the name of a hazard.
-fn push_hazard_title(text: &mut String, plan: &ProgrammedPlan, hazard: u8) -> Result<(), AllocError>
+fn push_hazard_title(text: &mut String, shown: &Shown<'_>, hazard: u8) -> Result<(), AllocError>
     ensures { OnOk result
         (string_bytes text.new ≡ string_bytes text.old
-        ++ spec.hazard_title (scene plan.now) hazard) }
+        ++ spec.hazard_title shown.now hazard) }
 {
     let spot = Spot {
-        x: hazard_column(plan, hazard) + 10,
+        x: hazard_column(shown, hazard) + 10,
         y: 220,
         most: 15,
         width: 280,
     };
-    push_slanted(text, "hazard", spot, plan.motors.hazard_names.name(hazard))
+    push_slanted(text, "hazard", spot, shown.hazard_names().name(hazard))
 }
 
-/// Adds what keeps the motors of a hazard apart, if that is shown.
-fn push_verdict_if(
-    alloc: Global,
+/// Adds what is said of a hazard, if anything is.
+fn push_found_if(
     text: &mut String,
-    plan: &ProgrammedPlan,
-    verdicts: &[Verdict],
+    shown: &Shown<'_>,
+    found: &[Finding],
     hazard: u8,
 ) -> Result<(), AllocError>
     ensures { OnOk result (string_bytes text.new
-        ≡ string_bytes text.old ++ spec.verdict_if (scene plan.now) hazard
-        (slice_get verdicts.now hazard)) }
+        ≡ string_bytes text.old ++ spec.found_if shown.now hazard
+        (slice_get found.now hazard)) }
 {
-    match verdicts.get(usize::from(hazard)) {
-        Some(verdict) => push_verdict(alloc, text, plan, hazard, *verdict),
+    match found.get(usize::from(hazard)) {
+        Some(found) => push_found(text, shown, hazard, found),
         None => Ok(()),
     }
 }
 
-/// Adds what keeps the motors of a hazard apart.
-fn push_verdict(
-    alloc: Global,
+/// Adds what is said of a hazard.
+fn push_found(
     text: &mut String,
-    plan: &ProgrammedPlan,
+    shown: &Shown<'_>,
     hazard: u8,
-    verdict: Verdict,
+    found: &Finding,
 ) -> Result<(), AllocError>
     ensures { OnOk result
         (string_bytes text.new ≡ string_bytes text.old
-        ++ spec.verdict_part (scene plan.now) hazard verdict) }
+        ++ spec.found_part shown.now hazard found.now) }
 {
-    let words = verdict_words(alloc, &plan.named, verdict)?;
     let spot = Spot {
-        x: hazard_column(plan, hazard) + 34,
+        x: hazard_column(shown, hazard) + 34,
         y: 220,
         most: 13,
         width: 280,
     };
-    push_slanted(text, verdict_class(verdict), spot, words.as_str())
-}
-
-/// A hazard by its number; one of the first motor alone if there is no such hazard.
-fn hazard_at(plan: &ProgrammedPlan, hazard: u8) -> Hazard
-    ensures { result ≡ of_plan.hazard_at plan.now.motors.hazards.items hazard }
-{
-    match plan.motors.hazards.get(usize::from(hazard)) {
-        Some(hazard) => *hazard,
-        None => Hazard {
-            first: 0,
-            second: 0,
-        },
-    }
+    push_slanted(text, found_class(found.is_kept()), spot, found.words())
 }
 
 /// Adds a line from the one motor of a hazard to the other, and their names.
-fn push_danger(text: &mut String, plan: &ProgrammedPlan, hazard: u8) -> Result<(), AllocError>
+fn push_danger(text: &mut String, shown: &Shown<'_>, hazard: u8) -> Result<(), AllocError>
     ensures { OnOk result
         (string_bytes text.new ≡ string_bytes text.old
-        ++ spec.danger_part (scene plan.now) hazard) }
+        ++ spec.danger_part shown.now hazard) }
 {
-    push_danger_by(text, plan, hazard, hazard_at(plan, hazard))
+    push_danger_by(text, shown, hazard, shown.hazard(hazard))
 }
 
 /// Adds a line from the one of these motors to the other, and their names.
 fn push_danger_by(
     text: &mut String,
-    plan: &ProgrammedPlan,
+    shown: &Shown<'_>,
     hazard: u8,
     motors: Hazard,
 ) -> Result<(), AllocError>
     ensures { OnOk result
         (string_bytes text.new ≡ string_bytes text.old
-        ++ spec.danger_by (scene plan.now) hazard motors) }
+        ++ spec.danger_by shown.now hazard motors) }
 {
-    push_danger_line(text, plan, hazard, motors)?;
-    push_danger_label(text, plan, hazard, motors.first)?;
-    push_danger_label(text, plan, hazard, motors.second)
+    push_danger_line(text, shown, hazard, motors)?;
+    push_danger_label(text, shown, hazard, motors.first)?;
+    push_danger_label(text, shown, hazard, motors.second)
 }
 
 /// Adds a line from the one of these motors to the other.
 fn push_danger_line(
     text: &mut String,
-    plan: &ProgrammedPlan,
+    shown: &Shown<'_>,
     hazard: u8,
     motors: Hazard,
 ) -> Result<(), AllocError>
     ensures { OnOk result
         (string_bytes text.new ≡ string_bytes text.old
-        ++ spec.danger_line (scene plan.now) hazard motors) }
+        ++ spec.danger_line shown.now hazard motors) }
 {
-    let first = row(plan, motor_thing(plan, motors.first));
-    let second = row(plan, motor_thing(plan, motors.second));
+    let first = row(shown, motor_thing(shown, motors.first));
+    let second = row(shown, motor_thing(shown, motors.second));
     push_upright(
         text,
         "hazard",
-        hazard_column(plan, hazard) + 10,
+        hazard_column(shown, hazard) + 10,
         first,
         second,
     )
@@ -161,19 +141,19 @@ fn push_danger_line(
 /// Adds the name of a motor by its end of a hazard's line.
 fn push_danger_label(
     text: &mut String,
-    plan: &ProgrammedPlan,
+    shown: &Shown<'_>,
     hazard: u8,
     motor: u8,
 ) -> Result<(), AllocError>
     ensures { OnOk result
         (string_bytes text.new ≡ string_bytes text.old
-        ++ spec.danger_label (scene plan.now) hazard motor) }
+        ++ spec.danger_label shown.now hazard motor) }
 {
     let spot = Spot {
-        x: hazard_column(plan, hazard) + 22,
-        y: row(plan, motor_thing(plan, motor)) + 4,
+        x: hazard_column(shown, hazard) + 22,
+        y: row(shown, motor_thing(shown, motor)) + 4,
         most: 13,
         width: 112,
     };
-    push_label(text, "danger", spot, plan.motors.names.name(motor))
+    push_label(text, "danger", spot, shown.motor_names().name(motor))
 }

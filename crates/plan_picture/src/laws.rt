@@ -1,10 +1,11 @@
 //! Laws of pictures, each the contract of a function that does nothing.
 
-ghost use Rattle.plan_picture.specs.PictureExamples.{ElementsAreMet, PartsAreMet};
+ghost use Rattle.plan_picture.specs.PictureExamples.{ElementsAreMet, PartsAreMet, WordsAreMet};
 ghost use Rattle.plan_picture.specs.PictureLaws.{AllIsApart, AllIsDrawn, TextsFit};
 
-/// Each machine, place and motor of a plan stands with its name in its lane, each zone and each hazard with its name in
-/// its column; a zone's host, guest and ways and a hazard's motors are where their lanes and rows are.
+/// Each machine and motor, and each place of each word, stands with its name in its lane, each zone of each word and
+/// each hazard with its name in its column; a zone's host, guest and ways and a hazard's motors are where their lanes
+/// and rows are.
 pub fn all_is_drawn()
     ensures { AllIsDrawn }
 {}
@@ -19,8 +20,9 @@ pub fn texts_fit()
     ensures { TextsFit }
 {}
 
-/// Examples: elements, and the parts of the picture of a press, whole.
+/// Examples: elements, and the parts of the pictures of a press and of a plant on two words, whole.
 pub fn parts_are_met()
     ensures elements { ElementsAreMet }
     ensures parts { PartsAreMet }
+    ensures words { WordsAreMet }
 {}

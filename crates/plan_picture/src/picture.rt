@@ -1,23 +1,22 @@
-//! The picture of a plan, as SVG: machines, their places and motors, the zones between them, and the hazards.
-ghost use Rattle.std.specs.Prelude.{◌≡◌, ◌≤◌, ◌++◌, ◌||◌, IfOk, OnOk, flat_map, length, string_bytes};
+//! Pictures of plans and of plants, as SVG: machines, their places and motors, the zones between them, and the hazards.
+ghost use Rattle.std.specs.Prelude.{◌≡◌, ◌≤◌, ◌++◌, IfOk, OnOk, flat_map, length, string_bytes};
 ghost use Rattle.std.specs.List.{AllZip, range_with_len};
 ghost use Rattle.plan_picture.specs.Pictures as spec;
 ghost use Rattle.plan_picture.specs.Pictures.{IsPicture};
-ghost use Rattle.plan_picture.specs.Scenes.{scene};
+ghost use Rattle.plan_picture.specs.Scenes.{plant_scene, scene};
 
-use crate::elements::{
-    Spot, push_box, push_circle, push_label, push_level, push_slanted, push_upright,
-};
+use crate::elements::{Spot, push_box, push_circle, push_label, push_level};
+use crate::findings::{Finding, findings_of};
 use crate::hazards::push_hazards;
 use crate::positions::{
-    height, lane, lane_height, lanes_end, motor_thing, row, sink_line, source_line, width,
-    zone_column,
+    height, lane, lane_height, lanes_end, motor_thing, place_thing, row, sink_line, source_line,
+    width,
 };
-use crate::verdicts::verdicts_of;
+use crate::shown::{Shown, owners_of};
+use crate::zones::push_words;
 use plan_document::ProgrammedPlan;
-use plan_motors::Verdict;
-use plan_types::{PlanZone, Way};
 use std::alloc::{AllocError, Global};
+use std::slice;
 
 /// How each class looks, and the marks at the ends of lines.
 const STYLE: &str = "\
@@ -50,6 +49,14 @@ line.hazard { marker-start: url(#danger); marker-end: url(#danger); }
 </defs>
 ";
 
+/// How words look, in the picture of a plant.
+const WORDS_STYLE: &str = "\
+<style>
+line.word { stroke: #888888; stroke-width: 3; }
+text.word { fill: #666666; }
+</style>
+";
+
 /// What the marks of lanes mean.
 const FIRST: &str = "Box: machine. Rings: places, arrows from or to outside. Dots: motors.";
 
@@ -59,52 +66,108 @@ const SECOND: &str = "A column is a zone: host (square), guest (ring), ways of p
 /// What the marks of hazards mean.
 const THIRD: &str = "Dashed: motors that are never to run both, and what keeps them apart.";
 
+/// What the numbers of words mean, in the picture of a plant.
+const FOURTH: &str = "A grey line begins the columns of a word, whose number they have.";
+
 /// The picture of a plan. An error says that memory ran out.
 pub fn picture_of(alloc: Global, plan: &ProgrammedPlan) -> Result<String, AllocError>
     ensures { IfOk result (λ text. IsPicture plan.now (string_bytes text)) }
 {
-    let verdicts = verdicts_of(alloc, plan)?;
-    picture_by(alloc, plan, verdicts.as_slice())
+    let found = findings_of(alloc, plan)?;
+    picture_by(alloc, plan, found.as_slice())
 }
 
-/// The picture of a plan, by what keeps the motors of its hazards apart.
-fn picture_by(
-    alloc: Global,
-    plan: &ProgrammedPlan,
-    verdicts: &[Verdict],
-) -> Result<String, AllocError>
+/// The picture of a plan, by what is said of its hazards.
+fn picture_by(alloc: Global, plan: &ProgrammedPlan, found: &[Finding]) -> Result<String, AllocError>
     ensures { IfOk result (λ text. string_bytes text
-        ≡ spec.picture_text (scene plan.now) verdicts.now) }
+        ≡ spec.picture_text (scene plan.now) found.now) }
+{
+    let plans = slice::from_ref(plan);
+    let owners = owners_of(alloc, &plan.motors, plans)?;
+    picture_with(
+        alloc,
+        &Shown::of_plan(plan, plans, owners.as_slice()),
+        found,
+    )
+}
+
+/// The picture of a plant, by the plans of its words, with what is said of each hazard; nothing of a plant without
+/// words. An error says that memory ran out.
+pub fn plant_picture_of(
+    alloc: Global,
+    plans: &[ProgrammedPlan],
+    found: &[Finding],
+) -> Result<String, AllocError>
+    requires { length plans.now ≤ 16 }
+    ensures { IfOk result (λ text. string_bytes text
+        ≡ spec.plant_picture_text plans.now found.now) }
+{
+    match plans.get(0) {
+        Some(first) => plant_picture_by(alloc, first, plans, found),
+        None => Ok(String::new(alloc)),
+    }
+}
+
+/// The picture of a plant that has a first word.
+fn plant_picture_by(
+    alloc: Global,
+    first: &ProgrammedPlan,
+    plans: &[ProgrammedPlan],
+    found: &[Finding],
+) -> Result<String, AllocError>
+    requires { length plans.now ≤ 16 }
+    ensures { IfOk result (λ text. string_bytes text
+        ≡ spec.picture_text (plant_scene first.now plans.now) found.now) }
+{
+    let owners = owners_of(alloc, &first.motors, plans)?;
+    picture_with(
+        alloc,
+        &Shown::of_plant(first, plans, owners.as_slice()),
+        found,
+    )
+}
+
+/// The picture of what is shown.
+fn picture_with(alloc: Global, shown: &Shown<'_>, found: &[Finding]) -> Result<String, AllocError>
+    ensures { IfOk result (λ text. string_bytes text ≡ spec.picture_text shown.now found.now) }
 {
     let mut text = String::new(alloc);
-    match push_picture(alloc, &mut text, plan, verdicts) {
+    match push_picture(&mut text, shown, found) {
         Ok(()) => Ok(text),
         Err(error) => Err(error),
     }
 }
 
 #[tactic(auto, unfolding(crate::specs::Pictures::picture_text))]
-fn push_picture(
-    alloc: Global,
-    text: &mut String,
-    plan: &ProgrammedPlan,
-    verdicts: &[Verdict],
-) -> Result<(), AllocError>
+fn push_picture(text: &mut String, shown: &Shown<'_>, found: &[Finding]) -> Result<(), AllocError>
     ensures { OnOk result (string_bytes text.new
-        ≡ string_bytes text.old ++ spec.picture_text (scene plan.now) verdicts.now) }
+        ≡ string_bytes text.old ++ spec.picture_text shown.now found.now) }
 {
-    push_begin(text, plan)?;
-    push_lanes(text, plan)?;
-    push_columns(alloc, text, plan, verdicts)?;
-    push_finish(text, plan)
+    push_begin(text, shown)?;
+    push_lanes(text, shown)?;
+    push_columns(text, shown, found)?;
+    push_finish(text, shown)
 }
 
 /// Adds how the picture begins.
-fn push_begin(text: &mut String, plan: &ProgrammedPlan) -> Result<(), AllocError>
+fn push_begin(text: &mut String, shown: &Shown<'_>) -> Result<(), AllocError>
     ensures { OnOk result (string_bytes text.new
-        ≡ string_bytes text.old ++ spec.begin (scene plan.now)) }
+        ≡ string_bytes text.old ++ spec.begin shown.now) }
 {
-    push_begin_by(text, width(plan), height(plan))
+    push_begin_by(text, width(shown), height(shown))?;
+    push_words_style(text, shown)
+}
+
+/// Adds how words look, in the picture of a plant.
+fn push_words_style(text: &mut String, shown: &Shown<'_>) -> Result<(), AllocError>
+    ensures { OnOk result (string_bytes text.new
+        ≡ string_bytes text.old ++ spec.words_style shown.now) }
+{
+    if shown.says_word() {
+        text.push_str(WORDS_STYLE)
+    } else {
+        Ok(())
+    }
 }
 
 /// Adds how a picture of this size begins: how each class looks, and what is below all.
@@ -137,37 +200,50 @@ fn push_style(text: &mut String) -> Result<(), AllocError>
 }
 
 /// Adds how the picture ends.
-fn push_finish(text: &mut String, plan: &ProgrammedPlan) -> Result<(), AllocError>
+fn push_finish(text: &mut String, shown: &Shown<'_>) -> Result<(), AllocError>
     ensures { OnOk result (string_bytes text.new
-        ≡ string_bytes text.old ++ spec.finish (scene plan.now)) }
+        ≡ string_bytes text.old ++ spec.finish shown.now) }
 {
-    push_legend(text, plan)?;
+    push_legend(text, shown)?;
+    push_words_legend(text, shown)?;
     text.push_str("</svg>\n")
 }
 
-/// Adds what the marks mean.
-fn push_legend(text: &mut String, plan: &ProgrammedPlan) -> Result<(), AllocError>
+/// Adds what the numbers of words mean, in the picture of a plant.
+fn push_words_legend(text: &mut String, shown: &Shown<'_>) -> Result<(), AllocError>
     ensures { OnOk result (string_bytes text.new
-        ≡ string_bytes text.old ++ spec.legend (scene plan.now)) }
+        ≡ string_bytes text.old ++ spec.words_legend shown.now) }
 {
-    push_legend_line(text, plan, 14, FIRST)?;
-    push_legend_line(text, plan, 30, SECOND)?;
-    push_legend_line(text, plan, 46, THIRD)
+    if shown.says_word() {
+        push_legend_line(text, shown, 62, FOURTH)
+    } else {
+        Ok(())
+    }
+}
+
+/// Adds what the marks mean.
+fn push_legend(text: &mut String, shown: &Shown<'_>) -> Result<(), AllocError>
+    ensures { OnOk result (string_bytes text.new
+        ≡ string_bytes text.old ++ spec.legend shown.now) }
+{
+    push_legend_line(text, shown, 14, FIRST)?;
+    push_legend_line(text, shown, 30, SECOND)?;
+    push_legend_line(text, shown, 46, THIRD)
 }
 
 /// Adds what some marks mean, so far below the lanes.
 fn push_legend_line(
     text: &mut String,
-    plan: &ProgrammedPlan,
+    shown: &Shown<'_>,
     below: usize,
     line: &str,
 ) -> Result<(), AllocError>
     requires { below ≤ 100 }
     ensures { OnOk result
         (string_bytes text.new ≡ string_bytes text.old
-        ++ spec.legend_line (scene plan.now) below line.now) }
+        ++ spec.legend_line shown.now below line.now) }
 {
-    let y = lanes_end(plan) + below;
+    let y = lanes_end(shown) + below;
     let spot = Spot {
         x: 20,
         y,
@@ -180,167 +256,181 @@ fn push_legend_line(
 // ---- lanes
 
 /// Adds the machines, the places and the motors.
-fn push_lanes(text: &mut String, plan: &ProgrammedPlan) -> Result<(), AllocError>
+fn push_lanes(text: &mut String, shown: &Shown<'_>) -> Result<(), AllocError>
     ensures { OnOk result (string_bytes text.new
-        ≡ string_bytes text.old ++ spec.lanes_part (scene plan.now)) }
+        ≡ string_bytes text.old ++ spec.lanes_part shown.now) }
 {
-    push_machines(text, plan)?;
-    push_places(text, plan)?;
-    push_motors(text, plan)
+    push_machines(text, shown)?;
+    push_places_of_words(text, shown)?;
+    push_motors(text, shown)
 }
 
 /// Adds each machine.
-fn push_machines(text: &mut String, plan: &ProgrammedPlan) -> Result<(), AllocError>
+fn push_machines(text: &mut String, shown: &Shown<'_>) -> Result<(), AllocError>
     ensures { OnOk result (string_bytes text.new
-        ≡ string_bytes text.old ++ spec.machines_part (scene plan.now)) }
+        ≡ string_bytes text.old ++ spec.machines_part shown.now) }
 {
-    'machines: for machine in 0..plan.named.machines().len() as u8 {
-        push_machine(text, plan, machine)?;
+    'machines: for machine in 0..shown.named().machines().len() as u8 {
+        push_machine(text, shown, machine)?;
     }
     Ok(())
 }
 
 /// Adds a machine's lane, its box and its name.
-fn push_machine(text: &mut String, plan: &ProgrammedPlan, machine: u8) -> Result<(), AllocError>
+fn push_machine(text: &mut String, shown: &Shown<'_>, machine: u8) -> Result<(), AllocError>
     ensures { OnOk result
         (string_bytes text.new ≡ string_bytes text.old
-        ++ spec.machine_part (scene plan.now) machine) }
+        ++ spec.machine_part shown.now machine) }
 {
-    push_lane(text, plan, machine)?;
-    push_machine_box(text, plan, machine)?;
-    push_machine_title(text, plan, machine)
+    push_lane(text, shown, machine)?;
+    push_machine_box(text, shown, machine)?;
+    push_machine_title(text, shown, machine)
 }
 
 /// Adds a machine's lane.
-fn push_lane(text: &mut String, plan: &ProgrammedPlan, machine: u8) -> Result<(), AllocError>
+fn push_lane(text: &mut String, shown: &Shown<'_>, machine: u8) -> Result<(), AllocError>
     ensures { OnOk result
-        (string_bytes text.new ≡ string_bytes text.old ++ spec.lane_box (scene plan.now) machine) }
+        (string_bytes text.new ≡ string_bytes text.old ++ spec.lane_box shown.now machine) }
 {
-    let y = lane(plan, machine);
-    push_box(text, "lane", 20, y, width(plan), lane_height(plan, machine))
+    let y = lane(shown, machine);
+    push_box(
+        text,
+        "lane",
+        20,
+        y,
+        width(shown),
+        lane_height(shown, machine),
+    )
 }
 
 /// Adds a machine's box.
-fn push_machine_box(text: &mut String, plan: &ProgrammedPlan, machine: u8) -> Result<(), AllocError>
+fn push_machine_box(text: &mut String, shown: &Shown<'_>, machine: u8) -> Result<(), AllocError>
     ensures { OnOk result
         (string_bytes text.new ≡ string_bytes text.old
-        ++ spec.machine_box (scene plan.now) machine) }
+        ++ spec.machine_box shown.now machine) }
 {
-    let y = lane(plan, machine);
-    push_box(text, "machine", 20, y, 260, lane_height(plan, machine))
+    let y = lane(shown, machine);
+    push_box(text, "machine", 20, y, 260, lane_height(shown, machine))
 }
 
 /// Adds a machine's name.
-fn push_machine_title(
-    text: &mut String,
-    plan: &ProgrammedPlan,
-    machine: u8,
-) -> Result<(), AllocError>
+fn push_machine_title(text: &mut String, shown: &Shown<'_>, machine: u8) -> Result<(), AllocError>
     ensures { OnOk result
         (string_bytes text.new ≡ string_bytes text.old
-        ++ spec.machine_title (scene plan.now) machine) }
+        ++ spec.machine_title shown.now machine) }
 {
     let spot = Spot {
         x: 30,
-        y: lane(plan, machine) + 26,
+        y: lane(shown, machine) + 26,
         most: 22,
         width: 240,
     };
-    push_label(text, "name", spot, plan.named.machines().name(machine))
+    push_label(text, "name", spot, shown.named().machines().name(machine))
+}
+
+/// Adds the places of each word.
+fn push_places_of_words(text: &mut String, shown: &Shown<'_>) -> Result<(), AllocError>
+    ensures { OnOk result (string_bytes text.new
+        ≡ string_bytes text.old ++ spec.each_word spec.places_part shown.now) }
+{
+    'words: for word in 0..shown.word_count() {
+        push_places(text, &shown.on_word(word))?;
+    }
+    Ok(())
 }
 
 /// Adds each place.
-fn push_places(text: &mut String, plan: &ProgrammedPlan) -> Result<(), AllocError>
+fn push_places(text: &mut String, shown: &Shown<'_>) -> Result<(), AllocError>
     ensures { OnOk result (string_bytes text.new
-        ≡ string_bytes text.old ++ spec.places_part (scene plan.now)) }
+        ≡ string_bytes text.old ++ spec.places_part shown.now) }
 {
-    'places: for place in 0..plan.named.places().len() as u8 {
-        push_place(text, plan, place)?;
+    'places: for place in 0..shown.named().places().len() as u8 {
+        push_place(text, shown, place)?;
     }
     Ok(())
 }
 
 /// Adds a place, with an arrow if it is a source, and one if it is a sink.
-fn push_place(text: &mut String, plan: &ProgrammedPlan, place: u8) -> Result<(), AllocError>
+fn push_place(text: &mut String, shown: &Shown<'_>, place: u8) -> Result<(), AllocError>
     ensures { OnOk result
-        (string_bytes text.new ≡ string_bytes text.old ++ spec.place_part (scene plan.now) place) }
+        (string_bytes text.new ≡ string_bytes text.old ++ spec.place_part shown.now place) }
 {
-    push_ring(text, plan, place)?;
-    push_source(text, plan, place)?;
-    push_sink(text, plan, place)
+    push_ring(text, shown, place)?;
+    push_source(text, shown, place)?;
+    push_sink(text, shown, place)
 }
 
 /// Adds the ring of a place, and its name.
-fn push_ring(text: &mut String, plan: &ProgrammedPlan, place: u8) -> Result<(), AllocError>
+fn push_ring(text: &mut String, shown: &Shown<'_>, place: u8) -> Result<(), AllocError>
     ensures { OnOk result
-        (string_bytes text.new ≡ string_bytes text.old ++ spec.ring_part (scene plan.now) place) }
+        (string_bytes text.new ≡ string_bytes text.old ++ spec.ring_part shown.now place) }
 {
-    let name = plan.named.places().name(place);
-    push_thing(text, plan, "place", usize::from(place), name)
+    let name = shown.named().places().name(place);
+    push_thing(text, shown, "place", place_thing(shown, place), name)
 }
 
 /// Adds an arrow from outside to a place, if it is a source.
-fn push_source(text: &mut String, plan: &ProgrammedPlan, place: u8) -> Result<(), AllocError>
+fn push_source(text: &mut String, shown: &Shown<'_>, place: u8) -> Result<(), AllocError>
     ensures { OnOk result
-        (string_bytes text.new ≡ string_bytes text.old ++ spec.source_part (scene plan.now) place) }
+        (string_bytes text.new ≡ string_bytes text.old ++ spec.source_part shown.now place) }
 {
-    if plan.named.plan().place(place).source {
-        push_level(text, "source", source_line(plan, place), 2, 32)
+    if shown.named().plan().place(place).source {
+        push_level(text, "source", source_line(shown, place), 2, 32)
     } else {
         Ok(())
     }
 }
 
 /// Adds an arrow from a place to outside, if it is a sink.
-fn push_sink(text: &mut String, plan: &ProgrammedPlan, place: u8) -> Result<(), AllocError>
+fn push_sink(text: &mut String, shown: &Shown<'_>, place: u8) -> Result<(), AllocError>
     ensures { OnOk result
-        (string_bytes text.new ≡ string_bytes text.old ++ spec.sink_part (scene plan.now) place) }
+        (string_bytes text.new ≡ string_bytes text.old ++ spec.sink_part shown.now place) }
 {
-    if plan.named.plan().place(place).sink {
-        push_level(text, "sink", sink_line(plan, place), 32, 2)
+    if shown.named().plan().place(place).sink {
+        push_level(text, "sink", sink_line(shown, place), 32, 2)
     } else {
         Ok(())
     }
 }
 
 /// Adds each motor.
-fn push_motors(text: &mut String, plan: &ProgrammedPlan) -> Result<(), AllocError>
+fn push_motors(text: &mut String, shown: &Shown<'_>) -> Result<(), AllocError>
     ensures { OnOk result (string_bytes text.new
-        ≡ string_bytes text.old ++ spec.motors_part (scene plan.now)) }
+        ≡ string_bytes text.old ++ spec.motors_part shown.now) }
 {
-    'motors: for motor in 0..plan.motors.names.len() as u8 {
-        push_motor(text, plan, motor)?;
+    'motors: for motor in 0..shown.motor_names().len() as u8 {
+        push_motor(text, shown, motor)?;
     }
     Ok(())
 }
 
 /// Adds a motor.
-fn push_motor(text: &mut String, plan: &ProgrammedPlan, motor: u8) -> Result<(), AllocError>
+fn push_motor(text: &mut String, shown: &Shown<'_>, motor: u8) -> Result<(), AllocError>
     ensures { OnOk result
-        (string_bytes text.new ≡ string_bytes text.old ++ spec.motor_part (scene plan.now) motor) }
+        (string_bytes text.new ≡ string_bytes text.old ++ spec.motor_part shown.now motor) }
 {
-    let name = plan.motors.names.name(motor);
-    push_thing(text, plan, "motor", motor_thing(plan, motor), name)
+    let name = shown.motor_names().name(motor);
+    push_thing(text, shown, "motor", motor_thing(shown, motor), name)
 }
 
 /// Adds a place or a motor in the box of its machine.
 fn push_thing(
     text: &mut String,
-    plan: &ProgrammedPlan,
+    shown: &Shown<'_>,
     class: &str,
     thing: usize,
     name: &str,
 ) -> Result<(), AllocError>
-    requires { thing ≤ 271 }
+    requires { thing ≤ 511 }
     ensures { OnOk result (string_bytes text.new
-        ≡ string_bytes text.old ++ spec.thing_part (scene plan.now) class.now thing name.now) }
+        ≡ string_bytes text.old ++ spec.thing_part shown.now class.now thing name.now) }
 {
-    push_thing_at(text, class, row(plan, thing), name)
+    push_thing_at(text, class, row(shown, thing), name)
 }
 
 /// Adds a place or a motor at this height.
 fn push_thing_at(text: &mut String, class: &str, y: usize, name: &str) -> Result<(), AllocError>
-    requires { y ≤ 30000 }
+    requires { y ≤ 50000 }
     ensures { OnOk result
         (string_bytes text.new ≡ string_bytes text.old ++ spec.thing_at class.now y name.now) }
 {
@@ -357,298 +447,10 @@ fn push_thing_at(text: &mut String, class: &str, y: usize, name: &str) -> Result
 // ---- columns
 
 /// Adds the zones and the hazards.
-fn push_columns(
-    alloc: Global,
-    text: &mut String,
-    plan: &ProgrammedPlan,
-    verdicts: &[Verdict],
-) -> Result<(), AllocError>
+fn push_columns(text: &mut String, shown: &Shown<'_>, found: &[Finding]) -> Result<(), AllocError>
     ensures { OnOk result (string_bytes text.new
-        ≡ string_bytes text.old ++ spec.columns_part (scene plan.now) verdicts.now) }
+        ≡ string_bytes text.old ++ spec.columns_part shown.now found.now) }
 {
-    push_zones(text, plan)?;
-    push_hazards(alloc, text, plan, verdicts)
-}
-
-/// Adds each zone.
-fn push_zones(text: &mut String, plan: &ProgrammedPlan) -> Result<(), AllocError>
-    ensures { OnOk result (string_bytes text.new
-        ≡ string_bytes text.old ++ spec.zones_part (scene plan.now)) }
-{
-    'zones: for zone in 0..plan.named.zones().len() as u8 {
-        push_zone(text, plan, zone)?;
-    }
-    Ok(())
-}
-
-/// Adds a zone: its name, its host and its guest, the ways of plates, the places at their ends, and its space.
-fn push_zone(text: &mut String, plan: &ProgrammedPlan, zone: u8) -> Result<(), AllocError>
-    ensures { OnOk result
-        (string_bytes text.new ≡ string_bytes text.old ++ spec.zone_part (scene plan.now) zone) }
-{
-    push_zone_title(text, plan, zone)?;
-    push_parties(text, plan, zone)?;
-    push_ways(text, plan, zone)?;
-    push_ends(text, plan, zone)?;
-    push_space(text, plan, zone)
-}
-
-/// Adds a zone's name.
-fn push_zone_title(text: &mut String, plan: &ProgrammedPlan, zone: u8) -> Result<(), AllocError>
-    ensures { OnOk result
-        (string_bytes text.new ≡ string_bytes text.old ++ spec.zone_title (scene plan.now) zone) }
-{
-    let spot = Spot {
-        x: zone_column(zone) + 10,
-        y: 220,
-        most: 15,
-        width: 280,
-    };
-    push_slanted(text, "zone", spot, plan.named.zones().name(zone))
-}
-
-/// Adds the host and the guest of a zone, and a line between them.
-fn push_parties(text: &mut String, plan: &ProgrammedPlan, zone: u8) -> Result<(), AllocError>
-    ensures { OnOk result
-        (string_bytes text.new ≡ string_bytes text.old ++ spec.parties_part (scene plan.now) zone) }
-{
-    let host = plan.named.plan().host(zone);
-    push_parties_by(text, plan, zone, host, plan.named.plan().guest(zone))
-}
-
-/// Adds these as the host and the guest of a zone.
-fn push_parties_by(
-    text: &mut String,
-    plan: &ProgrammedPlan,
-    zone: u8,
-    host: u8,
-    guest: u8,
-) -> Result<(), AllocError>
-    ensures { OnOk result (string_bytes text.new
-        ≡ string_bytes text.old ++ spec.parties_by (scene plan.now) zone host guest) }
-{
-    push_zone_line(text, plan, zone, host, guest)?;
-    push_host(text, plan, zone, host)?;
-    push_guest(text, plan, zone, guest)
-}
-
-/// Adds a line from the lane of a host to that of a guest.
-fn push_zone_line(
-    text: &mut String,
-    plan: &ProgrammedPlan,
-    zone: u8,
-    host: u8,
-    guest: u8,
-) -> Result<(), AllocError>
-    ensures { OnOk result (string_bytes text.new
-        ≡ string_bytes text.old ++ spec.zone_line (scene plan.now) zone host guest) }
-{
-    let x = zone_column(zone) + 10;
-    push_upright(
-        text,
-        "zone",
-        x,
-        lane(plan, host) + 18,
-        lane(plan, guest) + 18,
-    )
-}
-
-/// Adds the mark of a zone's host.
-fn push_host(text: &mut String, plan: &ProgrammedPlan, zone: u8, host: u8) -> Result<(), AllocError>
-    ensures { OnOk result
-        (string_bytes text.new ≡ string_bytes text.old
-        ++ spec.host_part (scene plan.now) zone host) }
-{
-    push_box(
-        text,
-        "host",
-        zone_column(zone) + 3,
-        lane(plan, host) + 11,
-        14,
-        14,
-    )?;
-    push_party(text, plan, zone, host)
-}
-
-/// Adds the mark of a zone's guest.
-fn push_guest(
-    text: &mut String,
-    plan: &ProgrammedPlan,
-    zone: u8,
-    guest: u8,
-) -> Result<(), AllocError>
-    ensures { OnOk result
-        (string_bytes text.new ≡ string_bytes text.old
-        ++ spec.guest_part (scene plan.now) zone guest) }
-{
-    push_circle(
-        text,
-        "guest",
-        zone_column(zone) + 10,
-        lane(plan, guest) + 18,
-        7,
-    )?;
-    push_party(text, plan, zone, guest)
-}
-
-/// Adds the name of a machine by its mark.
-fn push_party(
-    text: &mut String,
-    plan: &ProgrammedPlan,
-    zone: u8,
-    machine: u8,
-) -> Result<(), AllocError>
-    ensures { OnOk result
-        (string_bytes text.new ≡ string_bytes text.old
-        ++ spec.party_label (scene plan.now) zone machine) }
-{
-    let spot = Spot {
-        x: zone_column(zone) + 52,
-        y: lane(plan, machine) + 22,
-        most: 13,
-        width: 82,
-    };
-    push_label(text, "party", spot, plan.named.machines().name(machine))
-}
-
-/// Adds the ways of plates through a zone.
-fn push_ways(text: &mut String, plan: &ProgrammedPlan, zone: u8) -> Result<(), AllocError>
-    ensures { OnOk result
-        (string_bytes text.new ≡ string_bytes text.old ++ spec.ways_part (scene plan.now) zone) }
-{
-    let row = plan.named.plan().zone(zone);
-    push_way(text, plan, zone_column(zone) + 28, row.inward)?;
-    push_way(text, plan, zone_column(zone) + 42, row.outward)
-}
-
-/// Adds an arrow from place to place.
-fn push_way(
-    text: &mut String,
-    plan: &ProgrammedPlan,
-    x: usize,
-    way: Option<Way>,
-) -> Result<(), AllocError>
-    ensures { OnOk result (string_bytes text.new
-        ≡ string_bytes text.old ++ spec.way_part (scene plan.now) x way) }
-{
-    match way {
-        None => Ok(()),
-        Some(Way { from, to }) => {
-            let from = row(plan, usize::from(from));
-            push_upright(text, "way", x, from, row(plan, usize::from(to)))
-        }
-    }
-}
-
-/// Adds the names of the places at the ends of a zone's ways.
-fn push_ends(text: &mut String, plan: &ProgrammedPlan, zone: u8) -> Result<(), AllocError>
-    ensures { OnOk result
-        (string_bytes text.new ≡ string_bytes text.old ++ spec.ends_part (scene plan.now) zone) }
-{
-    'places: for place in 0..plan.named.places().len() as u8 {
-        push_end(text, plan, zone, place)?;
-    }
-    Ok(())
-}
-
-/// Adds the name of a place, if a way of the zone begins or ends there.
-fn push_end(text: &mut String, plan: &ProgrammedPlan, zone: u8, place: u8) -> Result<(), AllocError>
-    ensures { OnOk result
-        (string_bytes text.new ≡ string_bytes text.old
-        ++ spec.end_part (scene plan.now) zone place) }
-{
-    if is_on_way(plan.named.plan().zone(zone), place) {
-        push_end_label(text, plan, zone, place)
-    } else {
-        Ok(())
-    }
-}
-
-/// Whether a way of a zone begins or ends at a place.
-fn is_on_way(zone: PlanZone, place: u8) -> bool
-    ensures { result ≡ (spec.is_end zone.inward place || spec.is_end zone.outward place) }
-{
-    is_end(zone.inward, place) || is_end(zone.outward, place)
-}
-
-/// Whether a way begins or ends at a place.
-fn is_end(way: Option<Way>, place: u8) -> bool
-    ensures { result ≡ spec.is_end way place }
-{
-    match way {
-        None => false,
-        Some(Way { from, to }) => from == place || to == place,
-    }
-}
-
-/// Adds the name of a place by its end of a way.
-fn push_end_label(
-    text: &mut String,
-    plan: &ProgrammedPlan,
-    zone: u8,
-    place: u8,
-) -> Result<(), AllocError>
-    ensures { OnOk result
-        (string_bytes text.new ≡ string_bytes text.old
-        ++ spec.end_label (scene plan.now) zone place) }
-{
-    let spot = Spot {
-        x: zone_column(zone) + 52,
-        y: row(plan, usize::from(place)) + 4,
-        most: 13,
-        width: 82,
-    };
-    push_label(text, "end", spot, plan.named.places().name(place))
-}
-
-/// Adds the space of a zone, if that has another name: the name, and a line from the host's mark at the zone before to
-/// the one here, if both are of one space.
-fn push_space(text: &mut String, plan: &ProgrammedPlan, zone: u8) -> Result<(), AllocError>
-    ensures { OnOk result
-        (string_bytes text.new ≡ string_bytes text.old ++ spec.space_part (scene plan.now) zone) }
-{
-    push_space_title(text, plan, zone)?;
-    push_space_line(text, plan, zone)
-}
-
-/// Adds the name of a zone's space, if that is another one than the zone's.
-fn push_space_title(text: &mut String, plan: &ProgrammedPlan, zone: u8) -> Result<(), AllocError>
-    ensures { OnOk result
-        (string_bytes text.new ≡ string_bytes text.old ++ spec.space_title (scene plan.now) zone) }
-{
-    let space = plan.named.spaces().name(zone);
-    if space == plan.named.zones().name(zone) {
-        Ok(())
-    } else {
-        push_space_name(text, zone, space)
-    }
-}
-
-/// Adds the name of the space of a zone.
-fn push_space_name(text: &mut String, zone: u8, space: &str) -> Result<(), AllocError>
-    ensures { OnOk result
-        (string_bytes text.new ≡ string_bytes text.old ++ spec.space_name_part zone space.now) }
-{
-    let spot = Spot {
-        x: zone_column(zone) + 34,
-        y: 220,
-        most: 13,
-        width: 280,
-    };
-    push_slanted(text, "space", spot, space)
-}
-
-/// Adds a line to the host's mark from the one at the zone before, if both zones are of one space.
-fn push_space_line(text: &mut String, plan: &ProgrammedPlan, zone: u8) -> Result<(), AllocError>
-    ensures { OnOk result
-        (string_bytes text.new ≡ string_bytes text.old ++ spec.space_line (scene plan.now) zone) }
-{
-    let row = plan.named.plan().zone(zone);
-    if row.joins {
-        let column = zone_column(zone);
-        let y = lane(plan, row.host) + 11;
-        push_level(text, "zone", y, column - 123, column + 3)
-    } else {
-        Ok(())
-    }
+    push_words(text, shown)?;
+    push_hazards(text, shown, found)
 }

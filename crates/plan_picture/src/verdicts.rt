@@ -56,19 +56,6 @@ pub fn verdict_of(plan: &ProgrammedPlan, hazard: Hazard) -> Verdict
     )
 }
 
-/// What keeps two motors apart, in the words of `plan check`.
-pub(crate) fn verdict_words(
-    alloc: Global,
-    named: &NamedPlan,
-    verdict: Verdict,
-) -> Result<String, AllocError>
-    ensures { IfOk result (λ words. string_bytes words ≡ spec.verdict_words named.now verdict) }
-{
-    let mut words = String::new(alloc);
-    push_verdict(&mut words, named, verdict)?;
-    Ok(words)
-}
-
 /// Adds what keeps two motors apart, in words, as `kept apart by interior`; or `NOT kept apart`. Out of memory, a part
 /// of it may have been added.
 pub fn push_verdict(
@@ -101,14 +88,4 @@ fn push_two(text: &mut String, first: &str, second: &str) -> Result<(), AllocErr
 {
     text.push_str(first)?;
     text.push_str(second)
-}
-
-/// The class of what is said of two motors.
-pub(crate) fn verdict_class(verdict: Verdict) -> &'static str
-    ensures { result.now ≡ spec.verdict_class verdict }
-{
-    match verdict {
-        Verdict::Excluded(_) | Verdict::ByPoses(_) => "kept",
-        Verdict::Possible(_) => "unkept",
-    }
 }

@@ -1,9 +1,8 @@
 use Rattle.std.proofs.Common.{◌≡◌, ◌++◌, flat_map, string_bytes}
 use Rattle.std.specs.List.{range_with_len}
 use Rattle.plan_picture.specs.Pictures as spec
-use Rattle.plan_picture.specs.Scenes.{scene}
 use Rattle.plan_picture.proofs.picture.push_motors.Given as goal
 
 abbrev pub invariant-motors : goal.invariant-motors
 invariant-motors l =
-    string_bytes l.text ≡ string_bytes l.initial.text ++ flat_map (spec.motor_part (scene l.plan)) (range_with_len 0 l.motor)
+    string_bytes l.text ≡ string_bytes l.initial.text ++ flat_map (spec.motor_part l.shown) (range_with_len 0 l.motor)

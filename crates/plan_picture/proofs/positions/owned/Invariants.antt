@@ -1,10 +1,9 @@
 use Rattle.std.proofs.Common.{◌≡◌, ◌≤◌}
 use Rattle.plan_picture.specs.Scenes as spec
-use Rattle.plan_picture.specs.Scenes.{scene}
 use Rattle.plan_picture.proofs.positions.owned.Given as goal
 
 abbrev pub invariant-things : goal.invariant-things
 invariant-things l = record {
-  count : l.count ≡ spec.owned (scene l.plan) l.machine l.thing;
+  count : l.count ≡ spec.owned l.shown l.machine l.thing;
   below : l.count ≤ l.thing;
 }

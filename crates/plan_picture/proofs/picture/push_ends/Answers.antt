@@ -1,8 +1,0 @@
-use Rattle.plan_header.proofs.lemmas.Lines.{one_more}
-use Rattle.plan_picture.specs.Pictures as spec
-use Rattle.plan_picture.specs.Scenes.{scene}
-use Rattle.plan_picture.proofs.picture.push_ends.Goals as goal
-
-pub places-preserved : goal.places-preserved
-places-preserved c =
-    one_more (spec.end_part (scene c.args.plan.now) c.args.zone) _ _ _ c.places.place c.places.invariant c.in_ok-push_end.ensures

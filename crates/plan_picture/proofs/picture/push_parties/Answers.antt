@@ -1,4 +1,0 @@
-use Rattle.plan_picture.proofs.picture.push_parties.Goals as goal
-
-pub returns : goal.returns
-returns c = rw (c.host-host.ensures, c.guest.ensures, c.plan.ensures, c.plan-2.ensures) at c.push_parties_by.ensures
