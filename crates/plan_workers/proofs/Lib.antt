@@ -19,3 +19,9 @@ mod RoundByRound
 mod RenewalLaws
 mod Room
 mod Explaining
+mod PlacesOnWords
+mod EachTurn
+mod TurnLeads
+mod PlantLaws
+mod PlantExplaining
+mod Written

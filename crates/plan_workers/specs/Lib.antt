@@ -12,3 +12,8 @@ pub mod Paces
 pub mod Renewing
 pub mod RenewalLaws
 pub mod RenewalExamples
+pub mod PlantSteps
+pub mod PlantTurns
+pub mod PlantWorks
+pub mod PlantStepLaws
+pub mod PlantAudits

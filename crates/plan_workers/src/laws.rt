@@ -5,6 +5,8 @@ ghost use Rattle.plan_rules.specs.Sound.{IsStart};
 ghost use Rattle.plan_rules.specs.State.{is_full};
 ghost use Rattle.plan_workers.specs.AuditExamples.{AuditExamples, JournalExamples, OrderExamples, PaceExamples};
 ghost use Rattle.plan_workers.specs.Closing.{ClosedJournalsAreExplained};
+ghost use Rattle.plan_workers.specs.PlantStepLaws.{PlantExamples, ProgramsAreSplit, WordsKeepPace};
+ghost use Rattle.plan_workers.specs.PlantTurns.{PlantControl};
 ghost use Rattle.plan_workers.specs.Renewing.{AreReadyAt, MayAllGoOn};
 ghost use Rattle.plan_workers.specs.RenewalLaws.{RoundsAreExplained, TurnsLeaveRoom};
 ghost use Rattle.plan_workers.specs.RenewalLaws.{UnwornEndsTell, WorkIsPermitted};
@@ -97,3 +99,19 @@ pub fn renewal_examples_are_right()
 {
     resumes_are_right();
 }
+
+/// A word has of a program the calls and waits that are on it, and all runs, in their order.
+pub fn programs_are_split()
+    ensures { (w : ℕ) → ProgramsAreSplit w }
+{}
+
+/// At each step of a program on several words the controllers of the words on which it stands are at that step, and the
+/// others rest.
+pub fn words_keep_pace()
+    ensures { (c : PlantControl) (w : ℕ) → WordsKeepPace c w }
+{}
+
+/// A literal program on two words: what each word has of it, who takes a turn, and what a refusal stops.
+pub fn plant_examples_are_right()
+    ensures { PlantExamples }
+{}
