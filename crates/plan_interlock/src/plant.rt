@@ -1,6 +1,6 @@
 //! The interlock of a plant on several words, and the passes of its machines.
-ghost use Rattle.std.specs.Prelude.{◌≡◌, ◌≤◌, ◌<◌, length, All};
-ghost use Rattle.plan_interlock.specs.Plant.{IsOfPlant, IsSamePlantPass, OnWord, OthersStay};
+ghost use Rattle.std.specs.Prelude.{◌≡◌, ◌≤◌, ◌<◌, length, slice_index_or, All};
+ghost use Rattle.plan_interlock.specs.Plant.{IsOfPlant, IsSamePlantPass, OnWord, OthersStay, WordView};
 ghost use Rattle.plan_interlock.specs.PlantCalls.{AskedBy};
 
 use crate::{PlanInterlock, PlanPass};
@@ -55,6 +55,24 @@ impl PlantPass {
     {
         self.actor
     }
+
+    /// Takes the pass apart: its right on each word, in the order of the words.
+    pub fn into_rights(self) -> Vec<PlanPass>
+        ensures rights { result.items ≡ self.rights }
+        ensures own { All (λ v. v.actor ≡ self.actor) result.items }
+    {
+        let PlantPass { actor: _, rights } = self;
+        rights
+    }
+
+    /// The pass of a machine that has these rights, each of this machine.
+    pub fn of_rights(actor: u8, rights: Vec<PlanPass>) -> PlantPass
+        requires own { All (λ v. v.actor ≡ actor) rights.items }
+        ensures machine { result.actor ≡ actor }
+        ensures rights { result.rights ≡ rights.items }
+    {
+        PlantPass { actor, rights }
+    }
 }
 
 impl PlantInterlock {
@@ -65,6 +83,15 @@ impl PlantInterlock {
         ensures few { result ≤ 16 }
     {
         self.words.len()
+    }
+
+    /// The interlock of a word. A line of a machine there has it, and the machine's right on that word
+    /// ([`PlantPass::into_rights`]).
+    pub fn word(&self, word: usize) -> &PlanInterlock
+        requires word { word < length self.now }
+        ensures { (i : WordView) → result.now ≡ slice_index_or self.now word i }
+    {
+        &self.words[word]
     }
 
     /// Makes a call on one word, by the plan of that word. It is a call as by `Interlock::ask` of that word's

@@ -28,8 +28,8 @@ step_on w (Run motors until) = Some (step.Run motors until)
 abbrev pub steps_on : ℕ → List RoutedStep → List Step
 steps_on w steps = filter_map (step_on w) steps
 
--- the place in a word's program while a machine is at a place in the whole one: that of the next step that stands there.
--- After the word's last step that is its first one
+-- the place in a word's program while a machine is at a place in the whole one: that of the next step that stands
+-- there. After the word's last step that is its first one
 abbrev pub place_on : ℕ → List RoutedStep → ℕ → ℕ
 place_on w steps place =
     let before = length (steps_on w (take place steps)) in

@@ -258,7 +258,7 @@ impl PlantController {
     /// With the sensors unread, and after it has stopped, it rests: no call, and all motors off.
     ///
     /// There is a line for each word. On each word the turn is one of a controller that goes through the word's steps
-    /// alone (`on_words`): it takes its turn where the step stands on the word, and else rests. So a refusal of one word
+    /// alone (`on_words`): it takes its turn where the step stands on the word, and else rests. A refusal of one word
     /// stops the machine on all.
     pub fn turn<L: PlanLine>(&mut self, lines: &mut [L], sensors: Option<u32>) -> PlantTurn
         requires each_word { length lines.old ≡ self.old.words }
