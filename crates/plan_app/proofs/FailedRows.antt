@@ -25,6 +25,7 @@ use Rattle.plan_app.specs.FailedExamples.{AreNoFault, FailedIsMeant, FaultLines,
 use Rattle.plan_app.specs.Input.{document_in, script_in}
 use Rattle.plan_app.specs.Screens.{ByAnswers, TellsScreenBy}
 use Rattle.plan_app.specs.Starving.{any_starves}
+use Rattle.plan_app.specs.declared.request.PlantRequest.{PlantRequest}
 use Rattle.plan_app.specs.declared.request.Request.{Request}
 use Rattle.plan_app.specs.declared.request.Request.TheVariants.{Explore}
 
@@ -50,12 +51,13 @@ asked word request bytes new none (inr (inr (inl (words, of, wrote)))) = absurd 
 asked word request bytes new none (inr (inr (inr (inl (number, count, is, has, wrote))))) = absurd (begins (no_word_text number count) new none wrote)
 asked word request bytes new none (inr (inr (inr (inr fails)))) = fails
 
-of_words : (bytes new : Text) → AreNoFault new → FailsWords (Some bytes) (Some []) (Some new) → WroteWords (document_in bytes) (Some []) (Some new)
-of_words bytes new none (inl wrote) = absurd (begins (codes "long") new none wrote.1)
-of_words bytes new none (inr (inl (inl wrote))) = absurd (begins (codes "read") new none wrote)
-of_words bytes new none (inr (inl (inr wrote))) = absurd (begins (codes "memory") new none wrote)
-of_words bytes new none (inr (inr (inl (words, of, wrote)))) = absurd (begins words new none wrote)
-of_words bytes new none (inr (inr (inr wrote))) = wrote
+of_words : (request : PlantRequest) (bytes new : Text) → AreNoFault new → FailsWords request (Some bytes) (Some []) (Some new)
+    → WroteWords request (document_in bytes) (Some []) (Some new)
+of_words request bytes new none (inl wrote) = absurd (begins (codes "long") new none wrote.1)
+of_words request bytes new none (inr (inl (inl wrote))) = absurd (begins (codes "read") new none wrote)
+of_words request bytes new none (inr (inl (inr wrote))) = absurd (begins (codes "memory") new none wrote)
+of_words request bytes new none (inr (inr (inl (words, of, wrote)))) = absurd (begins words new none wrote)
+of_words request bytes new none (inr (inr (inr wrote))) = wrote
 
 by_start : (most : ℕ) (plant : ProgrammedPlant) (script new : Text) → AreNoFault new → WrotePlant most plant script (Some []) (Some new)
     → (openings : List State) × (plant_start plant script ≡ Ok openings) × WrotePlantText plant openings (Some []) (Some new)

@@ -17,6 +17,7 @@ use Rattle.plan_app.specs.declared.asking.NoPlan.{NoPlan}
 use Rattle.plan_app.specs.declared.asking.NoPlan.TheVariants.{OfDocument, OfWord}
 use Rattle.plan_app.specs.Failed.{Fails, FailsBy, FailsExploreIn, FailsExploreWords, FailsIn, FailsWords, FailsWordsIn, WroteExploration, WroteFault, WroteNoPlan, WroteUnread}
 use Rattle.plan_app.specs.Input.{byte_limit, document_in, script_in}
+use Rattle.plan_app.specs.declared.request.PlantRequest.{PlantRequest}
 use Rattle.plan_app.specs.declared.request.Request.{Request}
 
 -- however a print ended, a prefix was written
@@ -59,16 +60,16 @@ pub unread_fails : (word : Option ℕ) (request : Request) (input old new : Opti
 unread_fails word request input old new unread = if_known (λ bytes. FailsIn word request bytes old new) input (λ bytes. inr (inl unread))
 
 -- the same of the words of a plant, and of their exploration
-pub words_whole : (read : List ℕ) (input old new : Option (List ℕ))
+pub words_whole : (request : PlantRequest) (read : List ℕ) (input old new : Option (List ℕ))
     → (length read ≤ byte_limit → IfSome input (λ bytes. read ≡ bytes))
     → (byte_limit < length read → IfSome input (λ bytes. byte_limit < length bytes))
     → (byte_limit < length read → WroteFault (codes "long") old new)
-    → FailsWordsIn read old new → FailsWords input old new
-words_whole read input old new same more long =
-    whole_input (λ bytes. FailsWordsIn bytes old new) read input same more (λ many bytes larger. inl (larger, long many))
+    → FailsWordsIn request read old new → FailsWords request input old new
+words_whole request read input old new same more long =
+    whole_input (λ bytes. FailsWordsIn request bytes old new) read input same more (λ many bytes larger. inl (larger, long many))
 
-pub unread_words : (input old new : Option (List ℕ)) → WroteUnread old new → FailsWords input old new
-unread_words input old new unread = if_known (λ bytes. FailsWordsIn bytes old new) input (λ bytes. inr (inl unread))
+pub unread_words : (request : PlantRequest) (input old new : Option (List ℕ)) → WroteUnread old new → FailsWords request input old new
+unread_words request input old new unread = if_known (λ bytes. FailsWordsIn request bytes old new) input (λ bytes. inr (inl unread))
 
 pub explored_whole : (most : ℕ) (read : List ℕ) (input old new : Option (List ℕ))
     → (length read ≤ byte_limit → IfSome input (λ bytes. read ≡ bytes))

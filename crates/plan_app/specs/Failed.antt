@@ -16,6 +16,7 @@ use Rattle.plan_document.specs.declared.plants.ProgrammedPlant.{ProgrammedPlant}
 use Rattle.plan_document.specs.declared.resolving.ProgrammedPlan.{ProgrammedPlan}
 use Rattle.plan_header.specs.Printed.{header_of}
 use Rattle.plan_header.specs.Modules.{module_text}
+use Rattle.plan_header.specs.PlantHeaders.{plant_header_text}
 use Rattle.plan_picture.specs.Pictures.{IsPicture}
 use Rattle.plan_app.specs.Apart.{TellsExploration, TellsLarge, told_of}
 use Rattle.plan_app.specs.Asked.{HasNoWord, IsAsked, no_word_text}
@@ -30,6 +31,8 @@ use Rattle.plan_app.specs.Runs.{HasForeignCall, IsTooLong, IsUnexplained, TellsR
 use Rattle.plan_app.specs.Screens.{TellsFree, TellsUnfinished}
 use Rattle.plan_app.specs.declared.asking.NoPlan.{NoPlan}
 use Rattle.plan_app.specs.declared.asking.NoPlan.TheVariants.{OfDocument, OfWord}
+use Rattle.plan_app.specs.declared.request.PlantRequest.{PlantRequest}
+use Rattle.plan_app.specs.declared.request.PlantRequest.TheVariants as plant_request
 use Rattle.plan_app.specs.declared.request.Request.{Request}
 use Rattle.plan_app.specs.declared.request.Request.TheVariants.{Check, Draw, Explore, Header, Module, Page}
 use Rattle.plan_app.specs.declared.request.Request.TheVariants.{Replay, Run, RunPage}
@@ -214,19 +217,24 @@ abbrev pub WroteListing : List ProgrammedPlan → Option Text → Option Text �
 WroteListing plans old new =
     (kept : Bool) × (text : Text) × TellsWords plans kept text × WrotePrefix old new text
 
-abbrev pub WroteWords : Text → Option Text → Option Text → Type 0
-WroteWords document old new =
-    (plant : ProgrammedPlant) × IsPlantIn document plant × WroteListing plant.plans.items old new
+-- or one header of all of them
+abbrev pub WroteAsked : PlantRequest → List ProgrammedPlan → Option Text → Option Text → Type 0
+WroteAsked plant_request.Listing plans old new = WroteListing plans old new
+WroteAsked plant_request.Header plans old new = WrotePrefix old new (plant_header_text plans)
+
+abbrev pub WroteWords : PlantRequest → Text → Option Text → Option Text → Type 0
+WroteWords request document old new =
+    (plant : ProgrammedPlant) × IsPlantIn document plant × WroteAsked request plant.plans.items old new
 
 -- there are too many bytes, or reading failed or memory ran out, or the document has a fault; or there is the plant
-abbrev pub FailsWordsIn : Text → Option Text → Option Text → Type 0
-FailsWordsIn bytes old new =
+abbrev pub FailsWordsIn : PlantRequest → Text → Option Text → Option Text → Type 0
+FailsWordsIn request bytes old new =
     WroteLong bytes old new ⊎ (WroteUnread old new ⊎ (WroteDocumentFault old new
-    ⊎ WroteWords (document_in bytes) old new))
+    ⊎ WroteWords request (document_in bytes) old new))
 
 -- in the input
-abbrev pub FailsWords : Option Text → Option Text → Option Text → Type 0
-FailsWords input old new = IfSome input (λ bytes. FailsWordsIn bytes old new)
+abbrev pub FailsWords : PlantRequest → Option Text → Option Text → Option Text → Type 0
+FailsWords request input old new = IfSome input (λ bytes. FailsWordsIn request bytes old new)
 
 -- ---- the same of an exploration of all its words together
 

@@ -13,6 +13,7 @@ use Rattle.plan_app.specs.Failed.{FailsExploreWords, FailsWords, WroteNoWord, Wr
 use Rattle.plan_app.specs.Failed.{WrotePlantText, WroteWords}
 use Rattle.plan_app.specs.Input.{document_in, script_in}
 use Rattle.plan_app.specs.PlantStarts.{plant_start}
+use Rattle.plan_app.specs.declared.request.PlantRequest.{PlantRequest}
 use Rattle.plan_app.specs.declared.request.Request.{Request}
 use Rattle.plan_app.specs.declared.request.Request.TheVariants.{Explore}
 
@@ -66,9 +67,10 @@ pub record FailedIsMeant : Type 0 where
       × (opening : State) × (script_start plan.named (script_in bytes) ≡ Ok opening)
       × (words : Text) × TellsLarge most (told_of plan.named plan.programs opening) words
       × WroteOf words (codes "fault large: " ++ rest)
-  -- of the words of a plant it is what is said of them
-  pub words : (bytes new : Text) → AreNoFault new → FailsWords (Some bytes) (Some []) (Some new)
-      → WroteWords (document_in bytes) (Some []) (Some new)
+  -- of the words of a plant it is what is said of them, or their header
+  pub words : (request : PlantRequest) (bytes new : Text) → AreNoFault new
+      → FailsWords request (Some bytes) (Some []) (Some new)
+      → WroteWords request (document_in bytes) (Some []) (Some new)
   -- of an exploration of all words together it is what was found, from the start of the script
   pub words_explored : (most : ℕ) (bytes new : Text) → AreNoFault new
       → FailsExploreWords most (Some bytes) (Some []) (Some new)

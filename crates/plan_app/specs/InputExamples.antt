@@ -4,6 +4,7 @@ use Rattle.plan_text.specs.Names.{Text}
 use Rattle.plan_app.specs.Input.{byte_limit, document_in, max_bytes_read, plan_length, script_in}
 use Rattle.plan_app.specs.Requests.{wanted_of}
 use Rattle.plan_app.specs.Words.{counted}
+use Rattle.plan_app.specs.declared.request.PlantRequest.TheVariants as plant
 use Rattle.plan_app.specs.declared.request.Request.{Request}
 use Rattle.plan_app.specs.declared.request.Request.TheVariants.{Check, Replay, Explore, Page, Header, Module, Draw}
 use Rattle.plan_app.specs.declared.request.Request.TheVariants.{Run, RunPage}
@@ -150,7 +151,7 @@ pub record RequestsAreRead : Type 0 where
   pub check_turns : wanted_of (codes "plan" ∷ codes "check" ∷ codes "--turns" ∷ codes "5" ∷ []) ≡ None
   pub python_twice : wanted_of (codes "plan" ∷ codes "header" ∷ codes "--python" ∷ codes "--python" ∷ []) ≡ None
   -- of all words of a plant, or of the plan of one, whose number comes directly after the word
-  pub words : asked (codes "words") ≡ Some Words
+  pub words : asked (codes "words") ≡ Some (Words plant.Listing)
   pub help_of_words : asked_with (codes "words") (codes "--help") ≡ Some Help
   pub words_on_word : on_word (codes "words") (codes "0") [] ≡ None
   pub words_with_page : asked_with (codes "words") (codes "--page") ≡ None
@@ -160,6 +161,14 @@ pub record RequestsAreRead : Type 0 where
   pub explore_words_with_memory
       : memory_with (codes "explore") (codes "64") (codes "--words") ≡ Some (ExploreWords 128000)
   pub explore_words_without_memory : memory_with (codes "explore") (codes "0") (codes "--words") ≡ None
+  pub header_words : asked_with (codes "header") (codes "--words") ≡ Some (Words plant.Header)
+  pub header_words_with_memory : memory_with (codes "header") (codes "64") (codes "--words") ≡ None
+  pub header_words_for_python
+      : wanted_of (codes "plan" ∷ codes "header" ∷ codes "--words" ∷ codes "--python" ∷ []) ≡ None
+  pub python_of_words
+      : wanted_of (codes "plan" ∷ codes "header" ∷ codes "--python" ∷ codes "--words" ∷ []) ≡ None
+  pub header_of_words_on_word : on_word (codes "header") (codes "1") (codes "--words" ∷ []) ≡ None
+  pub draw_words : asked_with (codes "draw") (codes "--words") ≡ None
   pub check_words : asked_with (codes "check") (codes "--words") ≡ None
   pub check_words_with_memory : memory_with (codes "check") (codes "64") (codes "--words") ≡ None
   pub run_words : wanted_of (codes "plan" ∷ codes "run" ∷ codes "--turns" ∷ codes "5" ∷ codes "--words" ∷ []) ≡ None

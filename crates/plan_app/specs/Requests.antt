@@ -8,6 +8,8 @@ use Rattle.csv_rows.specs.Numbers.{number_in}
 use Rattle.program_shell.specs.Asked.{asked_of}
 use Rattle.program_shell.specs.declared.asked.Asked.{Asked}
 use Rattle.program_shell.specs.declared.asked.Asked.TheVariants as asked
+use Rattle.plan_app.specs.declared.request.PlantRequest.{PlantRequest}
+use Rattle.plan_app.specs.declared.request.PlantRequest.TheVariants as plant
 use Rattle.plan_app.specs.declared.request.Request.{Request}
 use Rattle.plan_app.specs.declared.request.Request.TheVariants.{Check, Replay, Explore, Page, Header, Module, Draw}
 use Rattle.plan_app.specs.declared.request.Request.TheVariants.{Run, RunPage}
@@ -89,11 +91,12 @@ of_document request = option_map (Plan None) request
 abbrev pub wanted_on : List ℕ → Option Request → Option Wanted
 wanted_on number request = option_and_then (λ n. option_map (Plan (Some n)) request) (number_in number)
 
--- or, of an exploration, of all words together: `--words` comes last
+-- or of all words together, of an exploration or a header: `--words` comes last
 abbrev pub wanted_for : List ℕ → List ℕ → Option Wanted
 wanted_for word flag =
     if bytes_eq word (codes "explore") && bytes_eq flag (codes "--words") then Some (ExploreWords usual_most)
-    else of_document (request_for word flag)
+    else (if bytes_eq word (codes "header") && bytes_eq flag (codes "--words") then Some (Words plant.Header)
+    else of_document (request_for word flag))
 
 abbrev pub words_of_number : List ℕ → List ℕ → List ℕ → Option Wanted
 words_of_number word flag number =
@@ -116,7 +119,8 @@ wanted_with word flag number more =
     else wanted_by_number word flag number more
 
 abbrev pub wanted_alone : List ℕ → Option Wanted
-wanted_alone word = if bytes_eq word (codes "words") then Some Words else of_document (request_by word)
+wanted_alone word =
+    if bytes_eq word (codes "words") then Some (Words plant.Listing) else of_document (request_by word)
 
 abbrev pub wanted_after : List ℕ → List (List ℕ) → Option Wanted
 wanted_after word [] = wanted_alone word
@@ -140,3 +144,7 @@ wanted_of words = wanted_asked (asked_of own_words words) words
 -- words ask this of the plan of the document, or of that of one word
 abbrev pub Ask : List (List ℕ) → Option ℕ → Request → Type 0
 Ask words word request = wanted_of words ≡ Some (Plan word request)
+
+-- or this of all words of a plant
+abbrev pub AskWords : List (List ℕ) → PlantRequest → Type 0
+AskWords words request = wanted_of words ≡ Some (Words request)

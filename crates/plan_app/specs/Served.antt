@@ -11,6 +11,7 @@ use Rattle.csv_rows.specs.declared.script_end.Outcome.TheVariants.{Clean}
 use Rattle.plan_text.specs.Script.{script_answers, script_start}
 use Rattle.plan_header.specs.Printed.{header_of}
 use Rattle.plan_header.specs.Modules.{module_text}
+use Rattle.plan_header.specs.PlantHeaders.{plant_header_text}
 use Rattle.plan_picture.specs.Pictures.{IsPicture}
 use Rattle.plan_app.specs.Apart.{TellsExploration, told_of}
 use Rattle.plan_app.specs.Asked.{IsAsked}
@@ -22,6 +23,8 @@ use Rattle.plan_app.specs.PlantStarts.{plant_start}
 use Rattle.plan_app.specs.RunPages.{ShowsRun}
 use Rattle.plan_app.specs.Runs.{TellsRun}
 use Rattle.plan_app.specs.Screens.{TellsFree}
+use Rattle.plan_app.specs.declared.request.PlantRequest.{PlantRequest}
+use Rattle.plan_app.specs.declared.request.PlantRequest.TheVariants.{Header, Listing}
 
 -- ---- by a plan
 
@@ -135,12 +138,17 @@ WritesRunPageIn word turns bytes old new =
 abbrev pub WritesListing : List ProgrammedPlan → Option (List ℕ) → Option (List ℕ) → Type 0
 WritesListing plans old new = (text : List ℕ) × TellsWords plans true text × Appends old new text
 
-abbrev pub WritesPlant : List ℕ → Option (List ℕ) → Option (List ℕ) → Type 0
-WritesPlant document old new =
-    (plant : ProgrammedPlant) × IsPlantIn document plant × WritesListing plant.plans.items old new
+-- or one header of all of them
+abbrev pub WritesAsked : PlantRequest → List ProgrammedPlan → Option (List ℕ) → Option (List ℕ) → Type 0
+WritesAsked Listing plans old new = WritesListing plans old new
+WritesAsked Header plans old new = Appends old new (plant_header_text plans)
 
-abbrev pub WritesWordsIn : List ℕ → Option (List ℕ) → Option (List ℕ) → Type 0
-WritesWordsIn bytes old new = WritesPlant (document_in bytes) old new
+abbrev pub WritesPlant : PlantRequest → List ℕ → Option (List ℕ) → Option (List ℕ) → Type 0
+WritesPlant request document old new =
+    (plant : ProgrammedPlant) × IsPlantIn document plant × WritesAsked request plant.plans.items old new
+
+abbrev pub WritesWordsIn : PlantRequest → List ℕ → Option (List ℕ) → Option (List ℕ) → Type 0
+WritesWordsIn request bytes old new = WritesPlant request (document_in bytes) old new
 
 -- that its programs never stand still, of all words together, from these openings, and none starves, of each group or
 -- of all machines, was written, and nothing else
@@ -190,8 +198,8 @@ TellsInputRun word turns input old new = IfSome input (λ bytes. WritesRunIn wor
 abbrev pub ShowsInputRun : Option ℕ → ℕ → Option (List ℕ) → Option (List ℕ) → Option (List ℕ) → Type 0
 ShowsInputRun word turns input old new = IfSome input (λ bytes. WritesRunPageIn word turns bytes old new)
 
-abbrev pub WritesWords : Option (List ℕ) → Option (List ℕ) → Option (List ℕ) → Type 0
-WritesWords input old new = IfSome input (λ bytes. WritesWordsIn bytes old new)
+abbrev pub WritesWords : PlantRequest → Option (List ℕ) → Option (List ℕ) → Option (List ℕ) → Type 0
+WritesWords request input old new = IfSome input (λ bytes. WritesWordsIn request bytes old new)
 
 abbrev pub ExploresWords : Option (List ℕ) → Option (List ℕ) → Option (List ℕ) → Type 0
 ExploresWords input old new = IfSome input (λ bytes. ExploresWordsIn bytes old new)

@@ -44,6 +44,15 @@ pub enum Request {
     RunPage(u32),
 }
 
+/// What the program prints of the words of a plant.
+#[derive(Clone, Copy, PartialEq, Eq, Debug)]
+pub enum PlantRequest {
+    /// Says what they have, and which of them keeps the motors of each hazard apart.
+    Listing,
+    /// Prints one header for C of all of them.
+    Header,
+}
+
 /// What the program does.
 #[derive(Clone, Copy, PartialEq, Eq, Debug)]
 pub enum Wanted {
@@ -51,8 +60,8 @@ pub enum Wanted {
     Help,
     /// Prints the version.
     Version,
-    /// Says what the words of a plant have, and which of them keeps the motors of each hazard apart.
-    Words,
+    /// Prints this of all words of a plant.
+    Words(PlantRequest),
     /// Explores the programs of a plant's machines on all words together: for standstills. At most this many situations
     /// are explored.
     ExploreWords(usize),
@@ -108,7 +117,7 @@ fn wanted_alone(word: &str) -> Option<Wanted>
     ensures { result ≡ requests.wanted_alone word.now }
 {
     match word {
-        "words" => Some(Wanted::Words),
+        "words" => Some(Wanted::Words(PlantRequest::Listing)),
         _ => of_document(request_by(word)),
     }
 }
@@ -119,6 +128,7 @@ fn wanted_for(word: &str, flag: &str) -> Option<Wanted>
 {
     match (word, flag) {
         ("explore", "--words") => Some(Wanted::ExploreWords(USUAL_MOST)),
+        ("header", "--words") => Some(Wanted::Words(PlantRequest::Header)),
         _ => of_document(request_for(word, flag)),
     }
 }

@@ -28,14 +28,14 @@ ghost use Rattle.plan_app.specs.Served.{WritesHeader, WritesHeaderIn, WritesModu
 ghost use Rattle.plan_app.specs.Served.{WritesModuleIn, WritesPicture, WritesPictureIn};
 ghost use Rattle.plan_app.specs.Served.{ShowsInputRun, TellsInputRun, WritesReport, WritesRun, WritesRunFrom};
 ghost use Rattle.plan_app.specs.Served.{WritesRunIn, WritesRunPage, WritesRunPageIn, WritesWords};
-ghost use Rattle.plan_app.specs.Requests.{Ask, wanted_of};
+ghost use Rattle.plan_app.specs.Requests.{Ask, AskWords, wanted_of};
 
 use crate::apart::{Exploration, exploration_of};
 use crate::asking::{NoPlan, asked_plan, no_word_text};
 use crate::hazards::{Report, report_of};
 use crate::input::{MAX_BYTES, plan_length};
 use crate::request;
-use crate::request::{MAX_TURNS, Request, USUAL_MOST, Wanted};
+use crate::request::{MAX_TURNS, PlantRequest, Request, USUAL_MOST, Wanted};
 use crate::run::{RunFault, Told, run_and_tell};
 use crate::serve_page::{page_script, run_page_script};
 use crate::serve_plant::explore_words_input;
@@ -70,7 +70,7 @@ Reads a plan of a plant, in TOML, from standard input.
                   a digit for each of its places (whether plates move is said of one word, with
                   --word)
   plan header     prints its names and the layout of its word for C; with --python, a module
-                  for Python
+                  for Python; with --words one header for C of all words of a plant
   plan draw       draws it, as SVG: machines, their places and motors, zones, and hazards
   plan run --turns N
                   lets each machine take N turns, 1 to 1000000, in a thread of its own, from the
@@ -677,10 +677,21 @@ where
 
     // With `words`: status 0 says that what the words of the plant in the document have was written, and of each hazard
     // the first word that keeps its motors apart; status 1 says that, or that no word does; or the line of a fault.
-    ensures words { wanted_of (texts_of words.now) ≡ Some Wanted.Words → result ≡ 0 →
-        WritesWords (R.remaining reader.old) (W.contents writer.old) (W.contents writer.new) }
-    ensures words_fails { wanted_of (texts_of words.now) ≡ Some Wanted.Words → result ≡ 1 →
-        FailsWords (R.remaining reader.old) (W.contents writer.old) (W.contents writer.new) }
+    ensures words { AskWords (texts_of words.now) PlantRequest.Listing → result ≡ 0 →
+        WritesWords PlantRequest.Listing (R.remaining reader.old)
+        (W.contents writer.old) (W.contents writer.new) }
+    ensures words_fails { AskWords (texts_of words.now) PlantRequest.Listing → result ≡ 1 →
+        FailsWords PlantRequest.Listing (R.remaining reader.old)
+        (W.contents writer.old) (W.contents writer.new) }
+
+    // With `header --words`: status 0 says that one header of all words of the plant in the document was written;
+    // status 1 that a prefix of it was, or the line of a fault.
+    ensures header_words { AskWords (texts_of words.now) PlantRequest.Header → result ≡ 0 →
+        WritesWords PlantRequest.Header (R.remaining reader.old)
+        (W.contents writer.old) (W.contents writer.new) }
+    ensures header_words_fails { AskWords (texts_of words.now) PlantRequest.Header → result ≡ 1 →
+        FailsWords PlantRequest.Header (R.remaining reader.old)
+        (W.contents writer.old) (W.contents writer.new) }
 
     // With `explore --words`: status 0 says that no order of turns of the machines' programs, on all words of the plant
     // together, leads from the script's start to a standstill, that no machine starves by what an exploration answers,
@@ -706,7 +717,7 @@ where
     match request::wanted_of(words) {
         Some(Wanted::Help) => print(writer, HELP.as_bytes()).status(),
         Some(Wanted::Version) => print_version(writer, "plan").status(),
-        Some(Wanted::Words) => words_input(alloc, reader, writer).status(),
+        Some(Wanted::Words(request)) => words_input(alloc, request, reader, writer).status(),
         Some(Wanted::ExploreWords(most)) => {
             explore_words_input(alloc, most, reader, writer).status()
         }

@@ -1,19 +1,19 @@
 use Rattle.std.proofs.Common.{inl, inr, subst}
-use Rattle.plan_app.specs.Failed.{WroteListing}
-use Rattle.plan_app.specs.Served.{WritesListing}
+use Rattle.plan_app.specs.Failed.{WroteAsked}
+use Rattle.plan_app.specs.Served.{WritesAsked}
 use Rattle.plan_app.proofs.serve_words.words_document.Goals as goal
 
 pub returns-in-Ok-clause-words : goal.returns-in-Ok-clause-words
 returns-in-Ok-clause-words g c = λ well.
     let old = g.W.Write.contents c.args.writer.now in
-    let new = g.W.Write.contents c.print_listing.new.writer in
-    (c.in-Ok.plant, c.in-Ok.ensures.plant, subst (λ plans. WritesListing plans old new) c.deref.ensures.value (c.print_listing.ensures.words well))
+    let new = g.W.Write.contents c.print_words.new.writer in
+    (c.in-Ok.plant, c.in-Ok.ensures.plant, subst (λ plans. WritesAsked c.args.request plans old new) c.deref.ensures.value (c.print_words.ensures.words well))
 
 pub returns-in-Ok-clause-failed : goal.returns-in-Ok-clause-failed
 returns-in-Ok-clause-failed g c = λ failed.
     let old = g.W.Write.contents c.args.writer.now in
-    let new = g.W.Write.contents c.print_listing.new.writer in
-    elim (c.print_listing.ensures.failed failed) [
+    let new = g.W.Write.contents c.print_words.new.writer in
+    elim (c.print_words.ensures.failed failed) [
       | inl unread ↦ inl unread
-      | inr wrote ↦ inr (inr (c.in-Ok.plant, c.in-Ok.ensures.plant, subst (λ plans. WroteListing plans old new) c.deref.ensures.value wrote))
+      | inr wrote ↦ inr (inr (c.in-Ok.plant, c.in-Ok.ensures.plant, subst (λ plans. WroteAsked c.args.request plans old new) c.deref.ensures.value wrote))
     ]

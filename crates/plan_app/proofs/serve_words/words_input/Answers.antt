@@ -12,16 +12,16 @@ returns-in-Ok-clause-words g c = λ well.
     let new = g.W.Write.contents c.words_bytes.new.writer in
     let short : length c.in-Ok.bytes.items ≤ byte_limit = subst (λ bytes. length bytes ≤ byte_limit) c.as_slice.ensures.value (c.words_bytes.ensures.short well) in
     IfSome_then (g.R.Read.remaining c.args.reader.now) (c.in-Ok.ensures.whole short)
-    (λ read is. subst (λ bytes. WritesWordsIn bytes old new) is
-    (subst (λ bytes. WritesWordsIn bytes old new) c.as_slice.ensures.value (c.words_bytes.ensures.words well)))
+    (λ read is. subst (λ bytes. WritesWordsIn c.args.request bytes old new) is
+    (subst (λ bytes. WritesWordsIn c.args.request bytes old new) c.as_slice.ensures.value (c.words_bytes.ensures.words well)))
 
 pub returns-in-Ok-clause-failed : goal.returns-in-Ok-clause-failed
 returns-in-Ok-clause-failed g c = λ failed.
     let old = g.W.Write.contents c.args.writer.now in
     let new = g.W.Write.contents c.words_bytes.new.writer in
-    words_whole c.in-Ok.bytes.items (g.R.Read.remaining c.args.reader.now) old new c.in-Ok.ensures.whole c.in-Ok.ensures.long
+    words_whole c.args.request c.in-Ok.bytes.items (g.R.Read.remaining c.args.reader.now) old new c.in-Ok.ensures.whole c.in-Ok.ensures.long
     (λ many. c.words_bytes.ensures.long (subst (λ bytes. byte_limit < length bytes) (sym c.as_slice.ensures.value) many))
-    (subst (λ bytes. FailsWordsIn bytes old new) c.as_slice.ensures.value (c.words_bytes.ensures.failed failed))
+    (subst (λ bytes. FailsWordsIn c.args.request bytes old new) c.as_slice.ensures.value (c.words_bytes.ensures.failed failed))
 
 pub returns-in-Err-clause-failed : goal.returns-in-Err-clause-failed
-returns-in-Err-clause-failed g c = λ failed. unread_words _ _ _ c.fail_to_read.ensures.line
+returns-in-Err-clause-failed g c = λ failed. unread_words c.args.request _ _ _ c.fail_to_read.ensures.line
