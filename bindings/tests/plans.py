@@ -23,7 +23,11 @@ TESTS = "crates/plan_c/src/tests.rt"
 HEADER = "bindings/bagunjoki_plan.h"
 MODULE = "bindings/bagunjoki_plan.py"
 CRATE = "bindings/rust/src/plan.rs"
-LATHE_HEADER = "bindings/examples/plan_lathe.h"
+# Headers beside examples, each with the words and the document by which the program writes it.
+HEADERS = {
+    "plan_lathe.h": ("header", "examples/plans/lathe.toml"),
+    "plant_hall.h": ("header --words", "examples/plants/hall_in_order.toml"),
+}
 # Where it is said how many bytes an opened plan has, and where how many words of eight bytes stand after the first.
 BYTES = {TESTS: r"size_of::<Opened>\(\) == (\d+_\d+)", "crates/plan_c/README.md": r"(\d+,\d+) bytes", "docs/FROM_C.md": r"(\d+,\d+) bytes"}
 KEPT = {HEADER: r"uint64_t kept\[(\d+)\]", MODULE: r'"kept", WORD \* (\d+)', CRATE: r"kept: \[u64; (\d+)\]"}
@@ -53,6 +57,7 @@ faults 8192: answer 64, line 0, stopped by 0
 faults 4: answer 64, line 0, stopped by 0
 a line has 16 bytes
 """
+HALL = "north: 5000 calls done, stopped by 0\nsouth: 7000 calls done, stopped by 0\n"
 LATHE = "".join(f"{it}: 100 rounds, stopped by 0\n" for it in ("conveyor", "feeder", "lathe", "unloader"))
 LATHE += "no two motors of a hazard were on together\n"
 SIDES = "11 of 11 words are as by hand\n"
@@ -304,11 +309,19 @@ def lathe(trials, compiler, *flags):
     return ""
 
 
-def lathe_header(trials, program):
-    """The header beside plan_lathe.c is the one that the program writes."""
-    written = trials.run([program, "header"], text_of(f"{trials.root}/examples/plans/lathe.toml"))
-    there = written == text_of(f"{trials.root}/{LATHE_HEADER}")
-    return "" if there else trials.fail(f"it differs: ./plan header < examples/plans/lathe.toml > {LATHE_HEADER}")
+def hall(trials, compiler, *flags):
+    """Two cranes whose bays are on two words."""
+    program = trials.compile(compiler, "examples/plant_hall.c", *flags, library="bagunjoki_plan")
+    said = trials.run([program])
+    return "" if said == HALL else trials.fail(f"it writes\n{said}and not\n{HALL}")
+
+
+def stored_header(trials, program, header):
+    """The header beside an example is the one that the program writes."""
+    words, plan = HEADERS[header]
+    written = trials.run([program, *words.split()], text_of(f"{trials.root}/{plan}"))
+    there = written == text_of(f"{trials.root}/bindings/examples/{header}")
+    return "" if there else trials.fail(f"it differs: ./plan {words} < {plan} > bindings/examples/{header}")
 
 
 def header_of(trials, program, plan):

@@ -342,7 +342,8 @@ def in_all_languages(trials, compilers):
     trials.attempt("interior.py by a wheel", example_by_wheel, trials)
     program = f"{trials.root}/crates/plan/out/plan"
     if os.path.exists(program):
-        trials.attempt("plan_lathe.h", plans.lathe_header, trials, program)
+        for header in plans.HEADERS:
+            trials.attempt(header, plans.stored_header, trials, program, header)
         for compiler in compilers:
             trials.attempt(f"zones read by a header, {compiler}", plans.readings, trials, compiler, program)
             trials.attempt(f"sides read by a header, {compiler}", plans.sides, trials, compiler, program)
@@ -388,6 +389,7 @@ def at_other_plants(trials, compilers):
         trials.attempt(f"plan_turns.c by {compiler}", plans.turns, trials, compiler)
         trials.attempt(f"plan_lathe.c by {compiler}", plans.lathe, trials, compiler)
         trials.attempt(f"plan_log.c by {compiler}", plans.log, trials, compiler)
+        trials.attempt(f"plant_hall.c by {compiler}", plans.hall, trials, compiler)
         trials.attempt(f"records of a log by {compiler}", plans.records, trials, compiler)
         trials.attempt(f"settle.c at a press by {compiler}", settled, trials, compiler, "-DPLAN")
         trials.attempt(f"calls at a lift as by the rules, {compiler}", plans.walk, trials, compiler)
@@ -398,6 +400,7 @@ def at_other_plants(trials, compilers):
                 trials.attempt(f"plan_press.c, {which} sanitizer, {compiler}", plans.press, trials, compiler, *flags)
                 trials.attempt(f"plan_lathe.c, {which} sanitizer, {compiler}", plans.lathe, trials, compiler, *flags)
                 trials.attempt(f"plan_log.c, {which} sanitizer, {compiler}", plans.log, trials, compiler, *flags)
+                trials.attempt(f"plant_hall.c, {which} sanitizer, {compiler}", plans.hall, trials, compiler, *flags)
                 trials.attempt(f"records, {which} sanitizer, {compiler}", plans.records, trials, compiler, *flags)
                 trials.attempt(f"no memory, {which}, {compiler}", plans.memory, trials, compiler, *flags)
     for compiler in trials.there("g++", "clang++"):

@@ -36,7 +36,11 @@ mod pages;
 #[cfg(test)]
 mod pictures;
 #[cfg(test)]
+mod plant_headers;
+#[cfg(test)]
 mod plant_interlocks;
+#[cfg(test)]
+mod plant_workers;
 #[cfg(test)]
 mod plants;
 #[cfg(test)]
