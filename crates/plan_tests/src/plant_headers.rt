@@ -8,8 +8,8 @@ const OF_PRESS: &str = "\
 0: ./plan header --words
 =>
 =>
-/* A plant on several words, as `plan header --words` prints it: the header of each word's plan. All that the header of
-   word 0 defines begins with PLAN0_ or plan0_, all that the header of word 1 defines with PLAN1_ or plan1_, and so on. */
+/* A plant on several words, as `plan header --words` prints it: the header of each word's plan. What that of word 0
+   defines begins with PLAN0_ or plan0_, what that of word 1 defines with PLAN1_ or plan1_, and so on. */
 #define PLANT_WORDS 1
 
 /* A plan's names and the layout of its word, as `plan header` prints them. The word of a state has the fields below,
