@@ -36,6 +36,7 @@ mod PageRows
 mod PageLegal
 mod Keeping
 mod OnWordRows
+mod PlantPictureRows
 mod PlantStarting
 mod PlantStartRows
 mod PlantOrders

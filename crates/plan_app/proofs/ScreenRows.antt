@@ -69,6 +69,7 @@ served-meant = record {
   explored = λ word bytes old new (plan, is, (opening, at, (text, tells, wrote))). (plan, is, opening, at, text, tells, wrote);
   words = λ bytes old new (plant, is, (text, tells, wrote)). (plant, is, text, tells, wrote);
   header_words = λ bytes old new said. said;
+  draw_words = λ bytes old new said. said;
   of_document = λ document plan is. is;
   of_word = λ number document plan is. (is.plant, is.says, is.there);
   silent = λ n ps s (text, tells, all). let e = tells.told in absurd (cc);

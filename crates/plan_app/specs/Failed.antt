@@ -24,6 +24,7 @@ use Rattle.plan_app.specs.Hazards.{TellsReport, start_if}
 use Rattle.plan_app.specs.Input.{byte_limit, document_in, script_in}
 use Rattle.plan_app.specs.OnWords.{TellsWords}
 use Rattle.plan_app.specs.Pages.{IsLongPage, TellsPage}
+use Rattle.plan_app.specs.PlantPictures.{IsPlantPicture}
 use Rattle.plan_app.specs.PlantScreens.{told_of as of_plant}
 use Rattle.plan_app.specs.PlantStarts.{plant_start}
 use Rattle.plan_app.specs.RunPages.{ShowsRun}
@@ -217,10 +218,15 @@ abbrev pub WroteListing : List ProgrammedPlan → Option Text → Option Text �
 WroteListing plans old new =
     (kept : Bool) × (text : Text) × TellsWords plans kept text × WrotePrefix old new text
 
+-- or their picture
+abbrev pub WroteDrawing : List ProgrammedPlan → Option Text → Option Text → Type 0
+WroteDrawing plans old new = (text : Text) × IsPlantPicture plans text × WrotePrefix old new text
+
 -- or one header of all of them
 abbrev pub WroteAsked : PlantRequest → List ProgrammedPlan → Option Text → Option Text → Type 0
 WroteAsked plant_request.Listing plans old new = WroteListing plans old new
 WroteAsked plant_request.Header plans old new = WrotePrefix old new (plant_header_text plans)
+WroteAsked plant_request.Draw plans old new = WroteDrawing plans old new
 
 abbrev pub WroteWords : PlantRequest → Text → Option Text → Option Text → Type 0
 WroteWords request document old new =

@@ -67,7 +67,7 @@ pub record FailedIsMeant : Type 0 where
       × (opening : State) × (script_start plan.named (script_in bytes) ≡ Ok opening)
       × (words : Text) × TellsLarge most (told_of plan.named plan.programs opening) words
       × WroteOf words (codes "fault large: " ++ rest)
-  -- of the words of a plant it is what is said of them, or their header
+  -- of the words of a plant it is what is said of them, or their header, or their picture
   pub words : (request : PlantRequest) (bytes new : Text) → AreNoFault new
       → FailsWords request (Some bytes) (Some []) (Some new)
       → WroteWords request (document_in bytes) (Some []) (Some new)

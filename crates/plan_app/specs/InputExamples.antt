@@ -168,7 +168,10 @@ pub record RequestsAreRead : Type 0 where
   pub python_of_words
       : wanted_of (codes "plan" ∷ codes "header" ∷ codes "--python" ∷ codes "--words" ∷ []) ≡ None
   pub header_of_words_on_word : on_word (codes "header") (codes "1") (codes "--words" ∷ []) ≡ None
-  pub draw_words : asked_with (codes "draw") (codes "--words") ≡ None
+  pub draw_words : asked_with (codes "draw") (codes "--words") ≡ Some (Words plant.Draw)
+  pub draw_words_with_memory : memory_with (codes "draw") (codes "64") (codes "--words") ≡ None
+  pub draw_words_twice : wanted_of (codes "plan" ∷ codes "draw" ∷ codes "--words" ∷ codes "--words" ∷ []) ≡ None
+  pub draw_of_words_on_word : on_word (codes "draw") (codes "1") (codes "--words" ∷ []) ≡ None
   pub check_words : asked_with (codes "check") (codes "--words") ≡ None
   pub check_words_with_memory : memory_with (codes "check") (codes "64") (codes "--words") ≡ None
   pub run_words : wanted_of (codes "plan" ∷ codes "run" ∷ codes "--turns" ∷ codes "5" ∷ codes "--words" ∷ []) ≡ None

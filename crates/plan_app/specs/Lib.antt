@@ -17,6 +17,7 @@ pub mod Films
 pub mod Pages
 pub mod Asked
 pub mod OnWords
+pub mod PlantPictures
 pub mod PlantStarts
 pub mod PlantGoing
 pub mod PlantScreens
@@ -39,6 +40,7 @@ pub mod ScreenExamples
 pub mod PartExamples
 pub mod FailedExamples
 pub mod OnWordExamples
+pub mod PlantPictureExamples
 pub mod PlantStartExamples
 pub mod PlantScreenExamples
 pub mod Simulated

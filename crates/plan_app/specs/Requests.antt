@@ -91,12 +91,13 @@ of_document request = option_map (Plan None) request
 abbrev pub wanted_on : List ℕ → Option Request → Option Wanted
 wanted_on number request = option_and_then (λ n. option_map (Plan (Some n)) request) (number_in number)
 
--- or of all words together, of an exploration or a header: `--words` comes last
+-- or of all words together, of an exploration, a header or a picture: `--words` comes last
 abbrev pub wanted_for : List ℕ → List ℕ → Option Wanted
 wanted_for word flag =
     if bytes_eq word (codes "explore") && bytes_eq flag (codes "--words") then Some (ExploreWords usual_most)
     else (if bytes_eq word (codes "header") && bytes_eq flag (codes "--words") then Some (Words plant.Header)
-    else of_document (request_for word flag))
+    else (if bytes_eq word (codes "draw") && bytes_eq flag (codes "--words") then Some (Words plant.Draw)
+    else of_document (request_for word flag)))
 
 abbrev pub words_of_number : List ℕ → List ℕ → List ℕ → Option Wanted
 words_of_number word flag number =

@@ -18,13 +18,14 @@ use Rattle.plan_app.specs.Asked.{IsAsked}
 use Rattle.plan_app.specs.Input.{document_in, script_in}
 use Rattle.plan_app.specs.Hazards.{TellsReport, start_if}
 use Rattle.plan_app.specs.OnWords.{TellsWords}
+use Rattle.plan_app.specs.PlantPictures.{IsPlantPicture}
 use Rattle.plan_app.specs.PlantScreens.{told_of as of_plant}
 use Rattle.plan_app.specs.PlantStarts.{plant_start}
 use Rattle.plan_app.specs.RunPages.{ShowsRun}
 use Rattle.plan_app.specs.Runs.{TellsRun}
 use Rattle.plan_app.specs.Screens.{TellsFree}
 use Rattle.plan_app.specs.declared.request.PlantRequest.{PlantRequest}
-use Rattle.plan_app.specs.declared.request.PlantRequest.TheVariants.{Header, Listing}
+use Rattle.plan_app.specs.declared.request.PlantRequest.TheVariants.{Draw, Header, Listing}
 
 -- ---- by a plan
 
@@ -138,10 +139,15 @@ WritesRunPageIn word turns bytes old new =
 abbrev pub WritesListing : List ProgrammedPlan → Option (List ℕ) → Option (List ℕ) → Type 0
 WritesListing plans old new = (text : List ℕ) × TellsWords plans true text × Appends old new text
 
+-- or their picture
+abbrev pub WritesDrawing : List ProgrammedPlan → Option (List ℕ) → Option (List ℕ) → Type 0
+WritesDrawing plans old new = (text : List ℕ) × IsPlantPicture plans text × Appends old new text
+
 -- or one header of all of them
 abbrev pub WritesAsked : PlantRequest → List ProgrammedPlan → Option (List ℕ) → Option (List ℕ) → Type 0
 WritesAsked Listing plans old new = WritesListing plans old new
 WritesAsked Header plans old new = Appends old new (plant_header_text plans)
+WritesAsked Draw plans old new = WritesDrawing plans old new
 
 abbrev pub WritesPlant : PlantRequest → List ℕ → Option (List ℕ) → Option (List ℕ) → Type 0
 WritesPlant request document old new =

@@ -24,6 +24,7 @@ ghost use Rattle.plan_app.specs.PageLaws.{PagesTell};
 ghost use Rattle.plan_app.specs.PartExamples.{PartsAreTold};
 ghost use Rattle.plan_app.specs.PartLaws.{PartsSpeakOfAll};
 ghost use Rattle.plan_app.specs.PlantPartLaws.{AreOfScript, PlantPartsSpeakOfAll};
+ghost use Rattle.plan_app.specs.PlantPictureExamples.{PlantPicturesAreTold, PlantPicturesTell};
 ghost use Rattle.plan_app.specs.PlantScreenExamples.{CrossingsAreTold, LinesAreTold};
 ghost use Rattle.plan_app.specs.PlantScreenExamples.{PlantScreensAreMeant};
 ghost use Rattle.plan_app.specs.PlantStarts.{HasWords, tables_of};
@@ -44,6 +45,7 @@ use plan_liveness::laws::{
     groups_go_on, groups_starve, one_word_has_plans_groups, plant_groups_are_apart,
 };
 use plan_liveness::plant_laws::{plant_groups_go_on, plant_groups_starve};
+use plan_picture::laws::all_is_drawn;
 use plan_rules::State;
 use plan_rules::laws::starts_are_sound;
 use plan_text::laws::histories_are_answered;
@@ -232,6 +234,18 @@ pub fn word_lines_are_met()
 pub fn words_tell()
     ensures { WordsTell }
 {}
+
+/// Examples: what the picture of a plant says of hazards.
+pub fn plant_pictures_are_told()
+    ensures { PlantPicturesAreTold }
+{}
+
+/// At each hazard the picture of a plant says which word keeps its motors apart, and by what; or that none does.
+pub fn plant_pictures_tell()
+    ensures { PlantPicturesTell }
+{
+    all_is_drawn();
+}
 
 /// Examples: starts of a plant on two words. And each word begins with the digits of its places, in any plant.
 pub fn plant_starts_are_met()

@@ -22,6 +22,7 @@ mod page_tail;
 pub mod plant_apart;
 mod plant_explore;
 mod plant_going;
+mod plant_picture;
 pub mod plant_start;
 pub mod report;
 pub mod request;

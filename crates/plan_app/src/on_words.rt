@@ -64,7 +64,10 @@ fn listing_by(
 // ---- which word keeps motors apart
 
 /// The first word that keeps the motors of each hazard apart.
-fn keepers_of(alloc: Global, plans: &[ProgrammedPlan]) -> Result<Vec<Option<Keeper>>, AllocError>
+pub(crate) fn keepers_of(
+    alloc: Global,
+    plans: &[ProgrammedPlan],
+) -> Result<Vec<Option<Keeper>>, AllocError>
     ensures { IfOk result (λ keepers. spec.AreKeepers plans.now keepers.items) }
 {
     keepers_below(alloc, plans, hazard_count(plans))
@@ -285,7 +288,7 @@ fn push_line(
 }
 
 /// Adds which word keeps two motors apart, and by what; or that none does.
-fn push_keeper(
+pub(crate) fn push_keeper(
     text: &mut String,
     plans: &[ProgrammedPlan],
     keeper: Option<Keeper>,

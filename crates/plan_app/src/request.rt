@@ -51,6 +51,8 @@ pub enum PlantRequest {
     Listing,
     /// Prints one header for C of all of them.
     Header,
+    /// Prints one picture of all of them.
+    Draw,
 }
 
 /// What the program does.
@@ -129,6 +131,7 @@ fn wanted_for(word: &str, flag: &str) -> Option<Wanted>
     match (word, flag) {
         ("explore", "--words") => Some(Wanted::ExploreWords(USUAL_MOST)),
         ("header", "--words") => Some(Wanted::Words(PlantRequest::Header)),
+        ("draw", "--words") => Some(Wanted::Words(PlantRequest::Draw)),
         _ => of_document(request_for(word, flag)),
     }
 }

@@ -71,7 +71,8 @@ Reads a plan of a plant, in TOML, from standard input.
                   --word)
   plan header     prints its names and the layout of its word for C; with --python, a module
                   for Python; with --words one header for C of all words of a plant
-  plan draw       draws it, as SVG: machines, their places and motors, zones, and hazards
+  plan draw       draws it, as SVG: machines, their places and motors, zones, and hazards; with
+                  --words a plant on all its words
   plan run --turns N
                   lets each machine take N turns, 1 to 1000000, in a thread of its own, from the
                   start after it, with simulated sensors; says what they did, and prints their
@@ -691,6 +692,16 @@ where
         (W.contents writer.old) (W.contents writer.new) }
     ensures header_words_fails { AskWords (texts_of words.now) PlantRequest.Header → result ≡ 1 →
         FailsWords PlantRequest.Header (R.remaining reader.old)
+        (W.contents writer.old) (W.contents writer.new) }
+
+    // With `draw --words`: status 0 says that the picture of all words of the plant in the document was written, with the
+    // first word that keeps the motors of each hazard apart, or that none does; status 1 that a prefix of it was, or the
+    // line of a fault.
+    ensures draw_words { AskWords (texts_of words.now) PlantRequest.Draw → result ≡ 0 →
+        WritesWords PlantRequest.Draw (R.remaining reader.old)
+        (W.contents writer.old) (W.contents writer.new) }
+    ensures draw_words_fails { AskWords (texts_of words.now) PlantRequest.Draw → result ≡ 1 →
+        FailsWords PlantRequest.Draw (R.remaining reader.old)
         (W.contents writer.old) (W.contents writer.new) }
 
     // With `explore --words`: status 0 says that no order of turns of the machines' programs, on all words of the plant

@@ -5,13 +5,15 @@ ghost use Rattle.text_io.specs.Input.{TakesAtMost};
 ghost use Rattle.text_io.specs.Output.{WrotePrefix};
 ghost use Rattle.plan_header.specs.PlantHeaders.{plant_header_text};
 ghost use Rattle.plan_app.specs.Failed.{FailsWords, FailsWordsIn, WroteAsked, WroteDocumentFault};
-ghost use Rattle.plan_app.specs.Failed.{WroteFault, WroteListing, WroteUnread, WroteWords};
+ghost use Rattle.plan_app.specs.Failed.{WroteDrawing, WroteFault, WroteListing, WroteUnread};
+ghost use Rattle.plan_app.specs.Failed.{WroteWords};
 ghost use Rattle.plan_app.specs.Input.{byte_limit, max_bytes_read};
-ghost use Rattle.plan_app.specs.Served.{WritesAsked, WritesListing, WritesPlant, WritesWords};
-ghost use Rattle.plan_app.specs.Served.{WritesWordsIn};
+ghost use Rattle.plan_app.specs.Served.{WritesAsked, WritesDrawing, WritesListing, WritesPlant};
+ghost use Rattle.plan_app.specs.Served.{WritesWords, WritesWordsIn};
 
 use crate::input::{MAX_BYTES, plan_length};
 use crate::on_words::{Listing, listing_of};
+use crate::plant_picture::plant_drawing_of;
 use crate::request::PlantRequest;
 use crate::serve::{fail_to_read, print_warning, read_input, refuse_document};
 use plan_document::{ProgrammedPlan, plant_of};
@@ -85,6 +87,7 @@ fn print_words<W: Write>(
     plans: &[ProgrammedPlan],
     writer: &mut W,
 ) -> Exit
+    requires { length plans.now ≤ 16 }
     ensures status { result ≢ Exit.Refused }
     ensures words { result ≡ Exit.Well →
         WritesAsked request plans.now (W.contents writer.old) (W.contents writer.new) }
@@ -95,6 +98,7 @@ fn print_words<W: Write>(
     match request {
         PlantRequest::Listing => print_listing(alloc, plans, writer),
         PlantRequest::Header => print_header(alloc, plans, writer),
+        PlantRequest::Draw => print_drawing(alloc, plans, writer),
     }
 }
 
@@ -109,6 +113,22 @@ fn print_header<W: Write>(alloc: Global, plans: &[ProgrammedPlan], writer: &mut 
         (plant_header_text plans.now) }
 {
     match plant_header_of(alloc, plans) {
+        Ok(text) => print(writer, text.as_bytes()),
+        Err(AllocError) => fail(writer, "memory"),
+    }
+}
+
+/// Prints the picture of all words.
+fn print_drawing<W: Write>(alloc: Global, plans: &[ProgrammedPlan], writer: &mut W) -> Exit
+    requires { length plans.now ≤ 16 }
+    ensures status { result ≢ Exit.Refused }
+    ensures words { result ≡ Exit.Well →
+        WritesDrawing plans.now (W.contents writer.old) (W.contents writer.new) }
+    ensures failed { result ≡ Exit.Failed →
+        WroteUnread (W.contents writer.old) (W.contents writer.new)
+        ⊎ WroteDrawing plans.now (W.contents writer.old) (W.contents writer.new) }
+{
+    match plant_drawing_of(alloc, plans) {
         Ok(text) => print(writer, text.as_bytes()),
         Err(AllocError) => fail(writer, "memory"),
     }

@@ -1,7 +1,14 @@
-use Rattle.std.proofs.Common.{inl, inr, subst}
+use Rattle.std.proofs.Common.{◌≤◌, arith, inl, inr, length, subst, sym}
 use Rattle.plan_app.specs.Failed.{WroteAsked}
 use Rattle.plan_app.specs.Served.{WritesAsked}
 use Rattle.plan_app.proofs.serve_words.words_document.Goals as goal
+
+pub print_words-requires : goal.print_words-requires
+print_words-requires g c =
+    let plant = c.in-Ok.ensures.plant.says.says in
+    let each = plant.count in
+    let few = plant.laid_out.few in
+    subst (λ plans. length plans ≤ 16) (sym c.deref.ensures.value) (omega (arith, each, few))
 
 pub returns-in-Ok-clause-words : goal.returns-in-Ok-clause-words
 returns-in-Ok-clause-words g c = λ well.
