@@ -40,6 +40,8 @@ mod plant_headers;
 #[cfg(test)]
 mod plant_interlocks;
 #[cfg(test)]
+mod plant_pictures;
+#[cfg(test)]
 mod plant_workers;
 #[cfg(test)]
 mod plants;

@@ -179,6 +179,7 @@ const WRITTEN: &str = "\
     ./plan check --word 1 => [[machine]]\nname = \"a\"\n|\
     ./plan words => [[machine]]\nname = \"a\"\n|\
     ./plan words => [[machine]]\n|\
+    ./plan draw --words => [[machine]]\nname = \"a\"\n|\
     ./plan header => [[machine]]\nname = \"a\"\n|\
     ./plan replay => [[machine]]\nname = \"a\"\nstart,\n|\
     ./plan explore => [[machine]]\nname = \"a\"\nstart,\n|\
