@@ -36,6 +36,8 @@ mod pages;
 #[cfg(test)]
 mod pictures;
 #[cfg(test)]
+mod plant_at_work;
+#[cfg(test)]
 mod plant_headers;
 #[cfg(test)]
 mod plant_interlocks;

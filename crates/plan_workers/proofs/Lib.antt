@@ -25,3 +25,6 @@ mod TurnLeads
 mod PlantLaws
 mod PlantExplaining
 mod Written
+mod PlantTurning
+mod PlantRecording
+mod PlantClosing

@@ -16,17 +16,17 @@ use Rattle.plan_workers.proofs.Jobs.{at_work_is}
 use Rattle.plan_workers.proofs.Passing.{after_turn, same_again, same_on}
 
 -- a line keeps its pass, and what this had seen when it was made
-record Stays (l d : JournalLineView) : Type 0 where
-  same : IsSamePass l.line.pass d.line.pass
-  before : d.before ≡ l.before
+pub record Stays (l d : JournalLineView) : Type 0 where
+  pub same : IsSamePass l.line.pass d.line.pass
+  pub before : d.before ≡ l.before
 
-stays_again : (l : JournalLineView) → Stays l l
+pub stays_again : (l : JournalLineView) → Stays l l
 stays_again l = record { same = same_again l.line.pass; before = refl }
 
-stays_on : (l d e : JournalLineView) → Stays l d → Stays d e → Stays l e
+pub stays_on : (l d e : JournalLineView) → Stays l d → Stays d e → Stays l e
 stays_on l d e f g = record { same = same_on l.line.pass d.line.pass e.line.pass f.same g.same; before = g.before ∙ f.before }
 
-asked_stays : (l d : JournalLineView) (c : Call) (a : Option Answer) → JournalLineAsks l c a d → Stays l d
+pub asked_stays : (l d : JournalLineView) (c : Call) (a : Option Answer) → JournalLineAsks l c a d → Stays l d
 asked_stays l d c a (inl n) = record { same = n.line.call.pass; before = n.before }
 asked_stays l d c a (inr u) = subst (λ e. Stays l e) (sym u.same) (stays_again l)
 

@@ -15,5 +15,11 @@ pub mod RenewalExamples
 pub mod PlantSteps
 pub mod PlantTurns
 pub mod PlantWorks
+pub mod PlantTurning
+pub mod PlantJobs
+pub mod PlantRecording
+pub mod PlantStates
+pub mod PlantClosing
+pub mod TurningExamples
 pub mod PlantStepLaws
 pub mod PlantAudits

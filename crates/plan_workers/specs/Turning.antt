@@ -27,6 +27,25 @@ abbrev pub last_of : {A : Type 0} → A → List A → A
 last_of first [] = first
 last_of first (now ∷ later) = last_of now later
 
+module _ {M : Type 0} (turn : M → M → Type 0) where
+  -- turns of any kind, each from the end of the one before it: the moment after each
+  abbrev pub AreTakenBy : M → List M → Type 0
+  AreTakenBy before [] = ⊤
+  AreTakenBy before (now ∷ later) = turn before now × AreTakenBy now later
+
+  -- one has gone from one moment to another by `took` turns, and the gate has let it into each
+  pub record HasComeBy (gate : GateOf) (first last : M) (took : ℕ) : Type 0 where
+    pub turns : List M
+    pub taken : AreTakenBy first turns
+    pub is_last : last_of first turns ≡ last
+    pub many : length turns ≡ took
+    pub let_in : (k : ℕ) → k < took → gate k true
+
+  -- it ends after the last of its turns, or where its gate says no
+  pub record HasWorkedBy (gate : GateOf) (limit : ℕ) (first last : M) (took : ℕ) : Type 0 where
+    pub come : HasComeBy gate first last took
+    pub ends : (took ≡ limit) ⊎ ((took < limit) × gate took false)
+
 module _ {L D : Type 0} (w : Ways L D) where
   -- a turn of a machine at work: its sensors are read once, its controller takes a turn, and the motors of this turn
   -- are given once; each is permitted by all that its line has seen
@@ -44,20 +63,14 @@ module _ {L D : Type 0} (w : Ways L D) where
     pub permitted : ArePermitted (w.table now.line) (w.opening now.line) (w.seen now.line) now.control
         turn.taken.motors
 
-  -- turns, each from the end of the one before it: the machine after each
+  -- such turns, one after another
   abbrev pub AreTaken : AtWork L D → List (AtWork L D) → Type 0
-  AreTaken before [] = ⊤
-  AreTaken before (now ∷ later) = TakesTurn before now × AreTaken now later
+  AreTaken before turns = AreTakenBy TakesTurn before turns
 
-  -- a machine has gone from one moment to another by `took` turns, and its gate has let it into each
-  pub record HasCome (gate : GateOf) (first last : AtWork L D) (took : ℕ) : Type 0 where
-    pub turns : List (AtWork L D)
-    pub taken : AreTaken first turns
-    pub is_last : last_of first turns ≡ last
-    pub many : length turns ≡ took
-    pub let_in : (k : ℕ) → k < took → gate k true
+  -- a machine has gone from one moment to another by `took` of them
+  abbrev pub HasCome : GateOf → AtWork L D → AtWork L D → ℕ → Type 0
+  HasCome gate first last took = HasComeBy TakesTurn gate first last took
 
-  -- it ends after the last of its turns, or where its gate says no
-  pub record HasWorked (gate : GateOf) (limit : ℕ) (first last : AtWork L D) (took : ℕ) : Type 0 where
-    pub come : HasCome gate first last took
-    pub ends : (took ≡ limit) ⊎ ((took < limit) × gate took false)
+  -- and has ended after the last of its turns, or where its gate says no
+  abbrev pub HasWorked : GateOf → ℕ → AtWork L D → AtWork L D → ℕ → Type 0
+  HasWorked gate limit first last took = HasWorkedBy TakesTurn gate limit first last took

@@ -1,16 +1,22 @@
 //! Laws of journals, each the contract of a function that does nothing.
-ghost use Rattle.std.specs.Prelude.{◌≡◌, ◌≤◌, ℕ, false, length};
+ghost use Rattle.std.specs.Prelude.{◌≡◌, ◌≤◌, ℕ, List, false, length};
 ghost use Rattle.plan_types.specs.Table.{place_count};
 ghost use Rattle.plan_rules.specs.Sound.{IsStart};
 ghost use Rattle.plan_rules.specs.State.{is_full};
 ghost use Rattle.plan_workers.specs.AuditExamples.{AuditExamples, JournalExamples, OrderExamples, PaceExamples};
+ghost use Rattle.plan_interlock.specs.Plant.{WordView};
+ghost use Rattle.plan_interlock.specs.PlantMake.{new_pass};
 ghost use Rattle.plan_workers.specs.Closing.{ClosedJournalsAreExplained};
+ghost use Rattle.plan_workers.specs.PlantClosing.{EndedWordsAreAccepted, EndedWordsAreExplained};
+ghost use Rattle.plan_workers.specs.PlantClosing.{PlantJournalsAreKept};
+ghost use Rattle.plan_workers.specs.PlantJobs.{IsPlantJobOf};
 ghost use Rattle.plan_workers.specs.PlantStepLaws.{PlantExamples, ProgramsAreSplit, WordsKeepPace};
 ghost use Rattle.plan_workers.specs.PlantTurns.{PlantControl};
 ghost use Rattle.plan_workers.specs.Renewing.{AreReadyAt, MayAllGoOn};
 ghost use Rattle.plan_workers.specs.RenewalLaws.{RoundsAreExplained, TurnsLeaveRoom};
 ghost use Rattle.plan_workers.specs.RenewalLaws.{UnwornEndsTell, WorkIsPermitted};
 ghost use Rattle.plan_workers.specs.RenewalExamples.{RenewalExamples, RoundExamples};
+ghost use Rattle.plan_workers.specs.TurningExamples.{TurningExamples, WordJournalExamples};
 
 use crate::devices::PlanDevices;
 use crate::gate::PlanGate;
@@ -114,4 +120,28 @@ pub fn words_keep_pace()
 /// A literal program on two words: what each word has of it, who takes a turn, and what a refusal stops.
 pub fn plant_examples_are_right()
     ensures { PlantExamples }
+{}
+
+/// Turns one after another, by literal numbers and two gates; and the journals of two words.
+pub fn turning_examples_are_right()
+    ensures turns { TurningExamples }
+    ensures journals { WordJournalExamples }
+{}
+
+/// A machine may go to work by the pass of a new plant's interlock.
+pub fn new_passes_may_work()
+    ensures { (words : List WordView) (m : ℕ) → IsPlantJobOf words (new_pass words m) }
+{}
+
+/// The journals of a word that machines keep which work by new passes are of all that the rights which they give back
+/// have seen there.
+pub fn plant_journals_are_kept<D: PlanDevices, G: PlanGate>(_devices: &D, _gate: &G)
+    ensures { PlantJournalsAreKept D.reads D.drives (G.may_answer _gate.now) }
+{}
+
+/// Where the interlock of each word of a plant has ended, and all who called have come back, the history of each word
+/// explains its journals (`explained`). So an audit of the plant accepts them, unless memory runs out (`accepted`).
+pub fn ended_words_are_explained()
+    ensures explained { EndedWordsAreExplained }
+    ensures accepted { EndedWordsAreAccepted }
 {}

@@ -16,16 +16,18 @@ use thiserror::Error;
 
 /// What is known of one word of a plant: its plan, the state that it opened with, the journals that the machines kept
 /// of it, by their numbers, and the state that it ended with, if that is known.
+///
+/// Each part may be borrowed from elsewhere: from lists of plans, of starts, of journals and of ends.
 #[derive(Clone, Copy)]
-pub struct WordJournals<'a> {
+pub struct WordJournals<'p, 's, 'j, 'e> {
     /// Its plan.
-    pub plan: &'a Plan,
+    pub plan: &'p Plan,
     /// The state that it opened with.
-    pub start: &'a State,
+    pub start: &'s State,
     /// The journals.
-    pub journals: &'a [Vec<PlanEntry>],
+    pub journals: &'j [Vec<PlanEntry>],
     /// The state that it ended with.
-    pub end: Option<&'a State>,
+    pub end: Option<&'e State>,
 }
 
 /// Why an audit refuses the journals of a plant: the first word that it refuses, and why.
@@ -46,7 +48,7 @@ pub struct PlantAuditFault {
 /// After any fault but `Memory` the word has no such history, and each word before it has one.
 pub fn audit_plant(
     alloc: Global,
-    words: &[WordJournals<'_>],
+    words: &[WordJournals<'_, '_, '_, '_>],
 ) -> Result<Vec<Vec<Event>>, PlantAuditFault>
     ensures many { IfOk result (λ found. length found.items ≡ length words.now) }
     ensures ok { IfOk result (λ found.
@@ -67,7 +69,7 @@ pub fn audit_plant(
 // Finds the history of one more word.
 fn audit_into(
     alloc: Global,
-    word: WordJournals<'_>,
+    word: WordJournals<'_, '_, '_, '_>,
     histories: &mut Vec<Vec<Event>>,
 ) -> Result<(), PlanAuditFault>
     ensures found { OnOk result ((history : List Event)

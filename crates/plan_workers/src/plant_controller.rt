@@ -110,6 +110,13 @@ impl PlantController {
         }
     }
 
+    /// The machine that it controls.
+    pub fn machine(&self) -> u8
+        ensures { result ≡ self.now.machine }
+    {
+        self.machine
+    }
+
     /// How many words there are.
     pub fn words(&self) -> usize
         ensures { result ≡ self.now.words }

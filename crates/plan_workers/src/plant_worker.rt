@@ -3,10 +3,12 @@ ghost use Rattle.std.specs.Prelude.{◌≡◌, None, Some, All, length};
 ghost use Rattle.plan_controller.specs.Turns.{Turns, IsAtPlace, IsCareful, ArePermitted, AreRunning};
 ghost use Rattle.plan_workers.specs.PlantTurns.{AsksOneWord, IsSameProgram, OnEachLine, OnEachWord};
 ghost use Rattle.plan_workers.specs.PlantTurns.{asked_on, control_on, sensors_on, whole};
+ghost use Rattle.plan_workers.specs.PlantTurning.{HasWorkedOnWords};
 ghost use Rattle.plan_workers.specs.PlantWorks.{IsPlantWired};
 ghost use Rattle.plan_workers.specs.Works.{ReadsThenDrives};
 
 use crate::devices::PlanDevices;
+use crate::gate::PlanGate;
 use crate::plant_controller::{PlantController, PlantTurn};
 use plan_controller::PlanLine;
 use plan_controller::laws::rounds_begin_anywhere;
@@ -109,6 +111,37 @@ impl<L: PlanLine, D: PlanDevices> PlantWorker<L, D> {
         let taken = self.controller.turn(&mut self.lines, sensors);
         self.devices.drive(taken.motors);
         PlantWorkTurn { sensors, taken }
+    }
+
+    /// Takes at most `turns` turns, each once the gate lets it begin. Gives the number of turns that it took.
+    pub fn work<G: PlanGate>(&mut self, gate: &G, turns: u32) -> u32
+        ensures worked { HasWorkedOnWords (record {
+          table = L.table;
+          machine = L.machine;
+          opening = L.opening;
+          seen = L.seen;
+          asks = L.asks;
+          reads = D.reads;
+          drives = D.drives;
+        })
+            (G.may_answer gate.now self.old.control.machine) turns self.old self.new result }
+        ensures program { IsSameProgram self.old.control self.new.control }
+        ensures each_word { length self.new.lines ≡ length self.old.lines }
+        ensures own { OnEachWord self.old.lines self.new.lines (λ _ before now.
+            L.machine now ≡ L.machine before) }
+        ensures table { OnEachWord self.old.lines self.new.lines (λ _ before now.
+            L.table now ≡ L.table before) }
+        ensures opening { OnEachWord self.old.lines self.new.lines (λ _ before now.
+            L.opening now ≡ L.opening before) }
+    {
+        let machine = self.controller.machine();
+        for turn in 0..turns {
+            if !gate.pass(machine, turn) {
+                return turn;
+            }
+            let _ = self.work_turn();
+        }
+        turns
     }
 
     /// Its controller, to be read.
