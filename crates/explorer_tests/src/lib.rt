@@ -11,6 +11,8 @@ mod plans;
 #[cfg(test)]
 mod plant_liveness;
 #[cfg(test)]
+mod plant_seeking;
+#[cfg(test)]
 mod plant_turns;
 #[cfg(test)]
 mod plants;

@@ -35,4 +35,4 @@ module _ {M : Type 0} (step : M → M → Type 0) where
   ends_early gate first last n limit k less refused = record { come = k; ends = inr (less, refused) }
 
   pub ends_fully : (gate : GateOf) (first last : M) (n limit : ℕ) → HasComeBy step gate first last n → n ≡ limit → HasWorkedBy step gate limit first last limit
-  ends_fully gate first last n limit k all = record { come = subst (λ x. HasComeBy step gate first last x) all k; ends = inl refl }
+  ends_fully gate first last n limit k all = record { come = subst (λ x. HasComeBy step gate first last x) all k; ends = inl (omega arith) }

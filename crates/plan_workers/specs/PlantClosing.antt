@@ -38,8 +38,8 @@ module _ {D : Type 0} (reads : D → Option ℕ → D → Type 0) (drives : D �
 
 -- ---- what explains them
 
--- the interlock of a word has ended; these rights came back, each with its journal, and nobody else has called; the end,
--- if one is given, is the state that it left
+-- the interlock of a word has ended; these rights came back, each with its journal, and nobody else has called; the
+-- end, if one is given, is the state that it left
 pub record IsEndedWord (w : WordJournals) : Type 0 where
   pub rights : Passes
   pub left : State

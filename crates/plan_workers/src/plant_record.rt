@@ -48,8 +48,10 @@ fn take_lines_apart(
     rights: Vec<PlanPass>,
     journals: Vec<Vec<PlanEntry>>,
 ) -> (Vec<PlanPass>, Vec<Vec<PlanEntry>>)
-    requires none { (rights.items ≡ []) × (journals.items ≡ []) }
-    requires room { (vec_len lines ≤ vec_capacity rights) × (vec_len lines ≤ vec_capacity journals) }
+    requires no_rights { rights.items ≡ [] }
+    requires no_journals { journals.items ≡ [] }
+    requires room_for_rights { vec_len lines ≤ vec_capacity rights }
+    requires room_for_journals { vec_len lines ≤ vec_capacity journals }
     ensures rights { result.0.items ≡ map (λ l. l.line.pass) lines.entry.items }
     ensures journals { map (λ j. j.items) result.1.items ≡ map (λ l. l.journal) lines.entry.items }
     ensures kept { All IsKept lines.entry.items }

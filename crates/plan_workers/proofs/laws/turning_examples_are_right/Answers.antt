@@ -29,8 +29,8 @@ returns-clause-turns c = record {
   each_turn = (refl, (refl, (refl, tt)));
   not_skipping = λ k. let second : 8 ≡ 6 + 1 = k.1.0 in omega (arith, second);
   not_from_elsewhere = λ k. let first : 7 ≡ 5 + 1 = k.0 in omega (arith, first);
-  all_turns = record { come = record { turns = 6 ∷ 7 ∷ 8 ∷ []; taken = (refl, (refl, (refl, tt))); is_last = refl; many = refl; let_in = λ k low. refl }; ends = inl refl };
-  no_turn = record { come = record { turns = []; taken = tt; is_last = refl; many = refl; let_in = λ k low. refl }; ends = inl refl };
+  all_turns = record { come = record { turns = 6 ∷ 7 ∷ 8 ∷ []; taken = (refl, (refl, (refl, tt))); is_last = refl; many = refl; let_in = λ k low. refl }; ends = inl (omega arith) };
+  no_turn = record { come = record { turns = []; taken = tt; is_last = refl; many = refl; let_in = λ k low. refl }; ends = inl (omega arith) };
   shut_out = record { come = record { turns = 6 ∷ 7 ∷ []; taken = (refl, (refl, tt)); is_last = refl; many = refl; let_in = below_two }; ends = inr (omega arith, refl) };
   not_let_in = λ k. let third : true ≡ nat_lt 2 2 = k.come.let_in 2 (omega arith) in cc;
   not_too_early = λ k. elim k.ends [ inl full ↦ absurd (omega (arith, full)) | inr shut ↦ let no = shut.1 in cc ];
