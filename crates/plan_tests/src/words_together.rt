@@ -281,7 +281,7 @@ fault large: hub, m1, [..], m9, m10: more than 2000 situations; nothing stands s
 ";
 
 /// Without the press all machines are one group. Where the hub claims each zone too, the search for a standstill ends at
-/// the limit. A bar waits for all its units. Where it then claims a zone that it has, all wait.
+/// the limit. A bar waits for all its units; where it then claims a zone that it has, all wait for ever.
 const LARGE_PLANT: &str = "\
 1: ./plan explore --memory 1 --words
 =>
@@ -306,7 +306,7 @@ name = \"hub\"
 program = [@11 \"claim z#\", \"release z#\", @]
 @11 [[machine]]
 name = \"m#\"
-poses = [{ name = \"turn\", gives = { z# = \"moving\" } }, { name = \"rest\", gives = { z# = \"closed\" } }]
+poses = [{ name = \"turn\", gives = { z# = \"moving\" } }, { name = \"rest\", gives = { z# = \"openin\" } }]
 program = [\"claim z#\", \"pose turn\", \"pose rest\", \"release z#\"]
 [[zone]]
 name = \"z#\"
@@ -349,7 +349,7 @@ guest = \"bar\"
 @start,
 =>
 a standstill after 44 turns, and no fewer
-bar waits: claim z1: held bar
+bar waits: claim z1: already
 @11 unit# waits: claim z#: held bar
 @turns:
 [..]
