@@ -11,8 +11,8 @@ ghost use Rattle.plan_app.specs.Screens as screens;
 
 use crate::acting::Acting;
 use crate::explore::{
-    Extent, Screen, large_words, machines_of, plates_of, push_situations, push_unfinished, screen_of,
-    standstill_screen,
+    Extent, Screen, large_words, machines_of, plates_of, push_situations, push_unfinished,
+    screen_of, standstill_screen,
 };
 use crate::going::{FAIRNESS, push_machine, push_plates};
 use crate::starving::{may_starve, plates_may_rest};

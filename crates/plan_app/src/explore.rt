@@ -294,11 +294,7 @@ fn push_turns(
 }
 
 /// The words of the fault of more situations than are explored.
-pub(crate) fn large_words(
-    alloc: Global,
-    most: usize,
-    extent: Extent,
-) -> Result<String, AllocError>
+pub(crate) fn large_words(alloc: Global, most: usize, extent: Extent) -> Result<String, AllocError>
     ensures { IfOk result (λ words. string_bytes words ≡ spec.large_words most extent) }
 {
     let mut words = String::from_str(alloc, "large: ")?;

@@ -43,11 +43,7 @@ pub(crate) fn screen_of(
 }
 
 /// What is found where turns lead to more situations than `most`: a search for a standstill looks at fewer of them.
-fn screen_past_limit(
-    alloc: Global,
-    plant: &OpenedPlant,
-    most: usize,
-) -> Result<Screen, AllocError>
+fn screen_past_limit(alloc: Global, plant: &OpenedPlant, most: usize) -> Result<Screen, AllocError>
     requires opened { IsOpened plant.now }
     requires more { ComeToMore (tables_of plant.now.plans.now) plant.now.programs.now.programs
         plant.now.openings.now most }

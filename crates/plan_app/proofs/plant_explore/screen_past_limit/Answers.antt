@@ -7,7 +7,7 @@ use Rattle.plan_app.proofs.plant_explore.screen_past_limit.Goals as goal
 
 pub returns-in-Free : goal.returns-in-Free
 returns-in-Free c =
-    let e = c.in_ok-situations.ensures in
+    let e = c.in_ok-seek_plant_standstill.ensures in
     let plant = c.args.plant.now in
     let ts = map (λ table. table.now) plant.tables.now in
     none_is_sought c.args.most plant.plans.now plant.programs.now.programs plant.openings.now ts _ _
@@ -15,7 +15,7 @@ returns-in-Free c =
 
 pub returns-in-Standstill : goal.returns-in-Standstill
 returns-in-Standstill c =
-    let e = c.in_ok-situations.ensures in
+    let e = c.in_ok-seek_plant_standstill.ensures in
     let plant = c.args.plant.now in
     let ps = plant.programs.now.programs in
     let openings = plant.openings.now in
@@ -27,7 +27,7 @@ returns-in-Standstill c =
 
 pub returns-in-Unfinished : goal.returns-in-Unfinished
 returns-in-Unfinished c =
-    let e = c.in_ok-situations.ensures in
+    let e = c.in_ok-seek_plant_standstill.ensures in
     let plant = c.args.plant.now in
     let ts = map (λ table. table.now) plant.tables.now in
     unfinished_is_found c.args.most plant.plans.now plant.programs.now.programs plant.openings.now ts _
