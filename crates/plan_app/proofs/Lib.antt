@@ -34,6 +34,7 @@ mod RunLawProofs
 mod RunRows
 mod PlantRunLawProofs
 mod PlantRunRows
+mod PlantRunning
 mod PageRows
 mod PageLegal
 mod Keeping
