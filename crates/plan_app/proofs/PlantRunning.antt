@@ -1,13 +1,16 @@
 -- A run of a plant's machines: what its words open with, the jobs, and what is known at the end.
-use Rattle.std.proofs.Common.{◌≡◌, ◌≢◌, ◌<◌, ◌≤◌, ◌+◌, ◌∙◌, ◌⊎◌, ◌||◌, ℕ, zero, suc, Bool, true, false, List, [], ◌∷◌, ◌++◌, All, length, map, take, get_or, slice_get, option_map, Option, Some, None, inl, inr, ap, sym, subst, refl, nat_eq, nat_lt, arith}
+use Rattle.std.proofs.Common.{◌≡◌, ◌≢◌, ◌<◌, ◌≤◌, ◌+◌, ◌∙◌, ◌⊎◌, ◌||◌, ℕ, zero, suc, Bool, true, false, List, [], ◌∷◌, ◌++◌, length, map, get_or, slice_get, option_map, Option, Some, None, inl, inr, ap, sym, subst, refl, nat_eq, nat_lt, arith}
 use Rattle.std.specs.Prelude.{if◌then◌else◌, slice_index_or}
+use Rattle.std.specs.Option.{option_to_list}
+use Rattle.std.specs.Global.{Vec}
 use Rattle.std.specs.List.{list_all, range_with_len}
-use Rattle.std.proofs.lemmas.Bool.{eqb-false}
-use Rattle.std.proofs.lemmas.List.{get_or_append_left, get_or_push, length_push, map_more, map_push}
-use Rattle.std.proofs.lemmas.List.FromFn.{get_or-map-range_with_len}
+use Rattle.std.proofs.lemmas.Bool.{cases_lt, eqb-false}
+use Rattle.std.proofs.lemmas.List.{get_or_append_left, get_or_past, get_or_push, get_or-map, length_push, length-map, map_push, same_from_push}
+use Rattle.std.proofs.lemmas.List.FromFn.{get_or-map-range_with_len, length-map-range_with_len}
 use Rattle.std.proofs.lemmas.Option.{get_or_from_slice_get, same_Some, slice_get-map}
 use Rattle.std.proofs.lemmas.Simd.{map-map}
-use Rattle.plan_types.specs.Table.{PlanTable}
+use Rattle.csv_rows.specs.ScriptEnd.{max_records}
+use Rattle.plan_types.specs.Table.{PlanTable, watch}
 use Rattle.plan_types.specs.declared.answer.Event.{Event}
 use Rattle.plan_types.proofs.lemmas.Below.{below_next}
 use Rattle.plan_rules.specs.declared.state.State.{State}
@@ -15,7 +18,7 @@ use Rattle.plan_explorer.specs.Plants.{no_state, state_on}
 use Rattle.plan_text.specs.HistoryLaws.{IsStartOf}
 use Rattle.plan_interlock.specs.Book.{plan_of}
 use Rattle.plan_interlock.specs.Plant.{PlantPassView, WordView}
-use Rattle.plan_interlock.specs.PlantMake.{AreOpened, have_same_machines, machines_in, machines_of, new_pass, plant_fault}
+use Rattle.plan_interlock.specs.PlantMake.{AreOpened, callers, have_same_machines, machines_in, machines_of, new_pass, plant_fault}
 use Rattle.plan_interlock.specs.declared.plant_make.PlantFault.{PlantFault}
 use Rattle.plan_interlock.specs.declared.plant_make.PlantFault.TheVariants.{Tries, Words, Machines}
 use Rattle.plan_interlock.specs.declared.plant_make.WordOpening.{WordOpening}
@@ -23,7 +26,8 @@ use Rattle.plan_document.specs.declared.plants.ProgrammedPlant.{ProgrammedPlant}
 use Rattle.plan_document.specs.declared.resolving.ProgrammedPlan.{ProgrammedPlan}
 use Rattle.plan_workers.specs.PlantClosing.{journals_on}
 use Rattle.plan_workers.specs.declared.plant_record.PlantRecorded.{PlantRecorded}
-use Rattle.plan_app.specs.PlantRuns.{AreStartsOf, AreUnexplained, AreWordsOf, HasOtherMachines, HavePlantRun, IsExplained, IsPlantUntold, IsUnbegun, machine_count}
+use Rattle.plan_app.specs.PlantRunTexts.{history_on}
+use Rattle.plan_app.specs.PlantRuns.{AreFew, AreStartsOf, AreUnexplained, AreWordsOf, HasOtherMachines, HavePlantRun, IsExplained, IsPlantUntold, IsUnbegun, machine_count}
 use Rattle.plan_app.specs.PlantStarts.{tables_of}
 use Rattle.plan_app.specs.Simulated.{Simulation}
 use Rattle.plan_app.specs.declared.plant_run.PlantRunFault.{PlantRunFault}
@@ -133,7 +137,44 @@ numbered_more {A} P n xs more x all many one is =
         let own : P k x = subst (λ j. P j x) (sym many ∙ sym e) one in
         subst (P k) (sym (get_or_push xs x d k (sym e))) own
 
+-- ---- passes
+
+-- those of the machines, and the watch's
+pub record ArePasses (words : List WordView) (count : ℕ) (passes : List PlantPassView) (last : PlantPassView) : Type 0 where
+  pub machines : passes ≡ map (new_pass words) (range_with_len 0 count)
+  pub many : length passes ≡ count
+  pub own : last ≡ new_pass words watch
+
+pub passes_apart : (words : List WordView) (count : ℕ) (all rest : List PlantPassView) (popped : Option PlantPassView) (last : PlantPassView)
+    → all ≡ map (new_pass words) (callers count) → all ≡ rest ++ option_to_list popped → popped ≡ Some last → ArePasses words count rest last
+passes_apart words count all rest popped last made split is =
+    let both : rest ++ last ∷ [] ≡ map (new_pass words) (range_with_len 0 count) ++ new_pass words watch ∷ [] =
+    ap (λ o. rest ++ option_to_list o) (sym is) ∙ (sym split ∙ (made ∙ map_push (new_pass words) (range_with_len 0 count) watch)) in
+    let same = same_from_push rest (map (new_pass words) (range_with_len 0 count)) last (new_pass words watch) both in
+    record { machines = same.0; many = ap length same.0 ∙ length-map-range_with_len (new_pass words) 0 count; own = same.1 }
+
+pub some_passes : (words : List WordView) (count : ℕ) (all : List PlantPassView) → all ≡ map (new_pass words) (callers count) → 0 < length all
+some_passes words count all made =
+    let many : length all ≡ length (range_with_len 0 count) + 1 =
+    ap length made ∙ (length-map (callers count) (new_pass words) ∙ length_push (range_with_len 0 count) watch) in
+    omega (arith, many)
+
 -- ---- what is known at the end
+
+-- the history of a word that is there
+pub history_there : (histories : List (Vec Event)) (word : ℕ) (history : Vec Event) → word < length histories → history ≡ get_or histories word history
+    → history_on (map (λ h. h.items) histories) word ≡ history.items
+history_there histories word history few is =
+    get_or-map (λ (h : Vec Event). h.items) histories word history [] few ∙ ap (λ (h : Vec Event). h.items) (sym is)
+
+-- no other word has any
+pub all_few : (histories : List (List Event)) (n : ℕ) → length histories ≤ n → ((word : ℕ) → word < n → length (history_on histories word) ≤ max_records) → AreFew histories
+all_few histories n all few = λ word. elim (cases_lt word n) [
+  | inl low ↦ few word low
+  | inr past ↦
+      let none : history_on histories word ≡ [] = get_or_past histories word [] (omega (arith, all, past)) in
+      rw none (omega arith)
+]
 
 -- of each word below a number the history is as it should be
 pub HistoriesBelow : (ℕ → List Event → Type 0) → ℕ → List (List Event) → Type 0

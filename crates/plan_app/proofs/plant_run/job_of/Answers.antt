@@ -1,6 +1,5 @@
-use Rattle.std.proofs.Common.{IsNone, inr, refl, subst}
-use Rattle.plan_app.specs.WholePrograms.{HasNoProgram}
+use Rattle.std.proofs.Common.{inr, refl}
 use Rattle.plan_app.proofs.plant_run.job_of.Goals as goal
 
 pub returns-in-None-clause-fault : goal.returns-in-None-clause-fault
-returns-in-None-clause-fault c = ?
+returns-in-None-clause-fault c = inr (inr (c.args.machine, c.in_ok-plant_program.ensures.none refl))
