@@ -1,10 +1,12 @@
 -- A run of a plant's machines: what its words open with, the jobs, and what is known at the end.
-use Rattle.std.proofs.Common.{◌≡◌, ◌≢◌, ◌<◌, ◌≤◌, ◌+◌, ◌∙◌, ◌⊎◌, ◌||◌, ℕ, zero, suc, Bool, true, false, List, [], ◌∷◌, ◌++◌, length, map, get_or, slice_get, option_map, Option, Some, None, inl, inr, ap, sym, subst, refl, nat_eq, nat_lt, arith}
+use Rattle.std.proofs.Common.{◌≡◌, ◌≢◌, ◌<◌, ◌≤◌, ◌+◌, ◌∙◌, ◌⊎◌, ◌||◌, ℕ, zero, suc, Bool, true, false, List, [], ◌∷◌, ◌++◌, length, map, get_or, slice_get, option_map, Option, Some, None, Result, Ok, Err, IfErr, inl, inr, ap, sym, subst, refl, nat_eq, nat_lt, arith}
 use Rattle.std.specs.Prelude.{if◌then◌else◌, slice_index_or}
 use Rattle.std.specs.Option.{option_to_list}
+use Rattle.std.specs.Result.{IsErrAnd}
 use Rattle.std.specs.Global.{Vec}
 use Rattle.std.specs.List.{list_all, range_with_len}
 use Rattle.std.proofs.lemmas.Bool.{cases_lt, eqb-false}
+use Rattle.std.proofs.lemmas.Bool.Decides.{nat_tests}
 use Rattle.std.proofs.lemmas.List.{get_or_append_left, get_or_past, get_or_push, get_or-map, length_push, length-map, map_push, same_from_push}
 use Rattle.std.proofs.lemmas.List.FromFn.{get_or-map-range_with_len, length-map-range_with_len}
 use Rattle.std.proofs.lemmas.Option.{get_or_from_slice_get, same_Some, slice_get-map}
@@ -27,7 +29,7 @@ use Rattle.plan_document.specs.declared.resolving.ProgrammedPlan.{ProgrammedPlan
 use Rattle.plan_workers.specs.PlantClosing.{journals_on}
 use Rattle.plan_workers.specs.declared.plant_record.PlantRecorded.{PlantRecorded}
 use Rattle.plan_app.specs.PlantRunTexts.{history_on}
-use Rattle.plan_app.specs.PlantRuns.{AreFew, AreStartsOf, AreUnexplained, AreWordsOf, HasOtherMachines, HavePlantRun, IsExplained, IsPlantUntold, IsUnbegun, machine_count}
+use Rattle.plan_app.specs.PlantRuns.{AreFew, AreStartsOf, AreUnexplained, AreWordsOf, HasOtherMachines, HavePlantRun, IsExplained, IsPlantUntold, IsUnexplained, IsUnbegun, machine_count}
 use Rattle.plan_app.specs.PlantStarts.{tables_of}
 use Rattle.plan_app.specs.Simulated.{Simulation}
 use Rattle.plan_app.specs.declared.plant_run.PlantRunFault.{PlantRunFault}
@@ -69,13 +71,12 @@ words_opened plans starts openings tries words rules states opened = record {
 -- one doesn't pass
 failed : {A : Type 0} (p : A → Bool) (xs : List A) → list_all p xs ≡ false → (k : ℕ) × (x : A) × (slice_get xs k ≡ Some x) × (p x ≡ false)
 failed p [] none = absurd (cc)
-failed p (x ∷ xs) none = by (p x) refl
+failed {A} p (x ∷ xs) none = by (p x) refl (failed p xs)
   where
-    by : (b : Bool) → p x ≡ b → (k : ℕ) × (y : _) × (slice_get (x ∷ xs) k ≡ Some y) × (p y ≡ false)
-    by false is = (0, x, refl, is)
-    by true is =
-        let (k, y, there, not) = failed p xs (rw is at none) in
-        (suc k, y, there, not)
+    by : (b : Bool) → p x ≡ b → (list_all p xs ≡ false → (k : ℕ) × (y : A) × (slice_get xs k ≡ Some y) × (p y ≡ false))
+        → (k : ℕ) × (y : A) × (slice_get (x ∷ xs) k ≡ Some y) × (p y ≡ false)
+    by false is later = (0, x, refl, is)
+    by true is later = let (k, y, there, not) = later (rw is at none) in (suc k, y, there, not)
 
 mapped : {A B : Type 0} (f : A → B) (o : Option A) (y : B) → option_map f o ≡ Some y → (x : A) × (o ≡ Some x) × (f x ≡ y)
 mapped f None y is = absurd (cc)
@@ -124,7 +125,7 @@ pass_of_next words passes k pass are few is =
     is ∙ (ap (λ ps. get_or ps k pass) are ∙ get_or-map-range_with_len (new_pass words) 0 (length passes) k k pass few same)
 
 -- this holds of each, by its number
-pub Numbered : {A : Type 0} → (ℕ → A → Type 0) → List A → Type 0
+abbrev pub Numbered : {A : Type 0} → (ℕ → A → Type 0) → List A → Type 0
 Numbered {A} P xs = (k : ℕ) (d : A) → k < length xs → P k (slice_index_or xs k d)
 
 pub numbered_more : {A : Type 0} (P : ℕ → A → Type 0) (n : ℕ) (xs more : List A) (x : A) → Numbered P xs → length xs ≡ n → P n x → more ≡ xs ++ x ∷ [] → Numbered P more
@@ -177,13 +178,13 @@ all_few histories n all few = λ word. elim (cases_lt word n) [
 ]
 
 -- of each word below a number the history is as it should be
-pub HistoriesBelow : (ℕ → List Event → Type 0) → ℕ → List (List Event) → Type 0
+abbrev pub HistoriesBelow : (ℕ → List Event → Type 0) → ℕ → List (List Event) → Type 0
 HistoriesBelow P n histories = (word : ℕ) → word < n → P word (get_or histories word [])
 
 pub one_history_more : (P : ℕ → List Event → Type 0) (n : ℕ) (histories more : List (List Event)) (new : List Event) → HistoriesBelow P n histories → length histories ≡ n
     → P n new → more ≡ histories ++ new ∷ [] → HistoriesBelow P (n + 1) more
 one_history_more P n histories more new all many one is =
-    subst (HistoriesBelow P (n + 1)) (sym is) (λ word few. by word (below_next word n few))
+    subst (HistoriesBelow P (n + 1)) (sym is) (λ word few. by word (below_next word n (omega (arith, few))))
   where
     by : (word : ℕ) → (word < n) ⊎ (word ≡ n) → P word (get_or (histories ++ new ∷ []) word [])
     by word (inl low) =
@@ -194,7 +195,7 @@ one_history_more P n histories more new all many one is =
         subst (P word) (sym (get_or_push histories new [] word (many ∙ sym e))) own
 
 -- one legal history explains what was noted of a word, as of its plan
-pub IsExplainedOn : List ProgrammedPlan → List State → List (PlantRecorded Simulation) → ℕ → List Event → Type 0
+abbrev pub IsExplainedOn : List ProgrammedPlan → List State → List (PlantRecorded Simulation) → ℕ → List Event → Type 0
 IsExplainedOn plans starts backs word history =
     (plan : ProgrammedPlan) → slice_get plans word ≡ Some plan → IsExplained plan (state_on starts word) (journals_on word backs) history
 
@@ -203,6 +204,18 @@ pub explained_there : (plans : List ProgrammedPlan) (starts : List State) (backs
 explained_there plans starts backs word plan start history there own is = λ other at.
     subst (λ p. IsExplained p (state_on starts word) (journals_on word backs) history) (same_Some plan other (sym there ∙ at))
     (subst (λ s. IsExplained plan s (journals_on word backs) history) own is)
+
+-- no history explains what was noted of a word, or memory ran out
+pub unexplained_at : {X : Type 0} (plans : List ProgrammedPlan) (starts : List State) (backs : List (PlantRecorded Simulation)) (word : ℕ) (plan : ProgrammedPlan) (start : State) (fault : PlantRunFault) (found : Result X PlantRunFault)
+    → slice_get plans word ≡ Some plan → start ≡ state_on starts word → IsUnexplained plan start (journals_on word backs) fault → IsErrAnd found (λ e. e ≡ fault) → IfErr found (AreUnexplained plans starts backs)
+unexplained_at plans starts backs word plan start fault (Ok x) there own why is = tt
+unexplained_at plans starts backs word plan start fault (Err e) there own why is =
+    subst (AreUnexplained plans starts backs) (sym is) (record {
+      word = word;
+      plan = plan;
+      there = there;
+      is = subst (λ s. IsUnexplained plan s (journals_on word backs) fault) own why;
+    })
 
 -- why a run isn't told that hasn't begun, or that some word's history doesn't explain
 pub unbegun_untold : (plant : ProgrammedPlant) (turns : ℕ) (starts : List State) (fault : PlantRunFault) → IsUnbegun plant fault → IsPlantUntold plant turns starts fault

@@ -1,5 +1,5 @@
-use Rattle.std.proofs.Common.{inr, refl}
+use Rattle.std.proofs.Common.{inr}
 use Rattle.plan_app.proofs.plant_run.job_of.Goals as goal
 
 pub returns-in-None-clause-fault : goal.returns-in-None-clause-fault
-returns-in-None-clause-fault c = inr (inr (c.args.machine, c.in_ok-plant_program.ensures.none refl))
+returns-in-None-clause-fault c = inr (inr (c.args.machine, c.in_ok-steps.ensures.none c.in-None.is))
