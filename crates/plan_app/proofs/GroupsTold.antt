@@ -12,6 +12,7 @@ use Rattle.plan_app.specs.Apart.{TellsParts, group_of, is_first, large_of, some_
 use Rattle.plan_app.specs.PartLaws.{HasItsPart}
 use Rattle.plan_app.specs.declared.apart.Exploration.{Exploration}
 use Rattle.plan_app.specs.declared.apart.Exploration.TheVariants.{Well, Unwell, Large}
+use Rattle.plan_app.specs.declared.explore.Extent.{Extent}
 use Rattle.plan_app.specs.declared.explore.Screen.{Screen}
 use Rattle.plan_app.specs.declared.explore.Screen.TheVariants.{Free, Starving, Standstill, Unfinished}
 
@@ -49,22 +50,22 @@ pub part_told : (most : ℕ) (n : Named) (ps : PlanPrograms) (opening : State) (
 part_told most n ps opening ours (Free text) is = is
 part_told most n ps opening ours (Starving text) is = inr is
 part_told most n ps opening ours (Standstill text) is = inl is
-part_told most n ps opening ours (Unfinished turns) is = is
+part_told most n ps opening ours (Unfinished extent) is = is
 
 -- the words of a group that comes to more situations than are explored
-large_told : (most : ℕ) (v : Telling) (groups : List ℕ) (first turns : ℕ) (found : Exploration) → first < v.count
-    → v.unfinished most (group_of groups first) turns → IsLarge (large_of most (v.names groups first) turns) found
+large_told : (most : ℕ) (v : Telling) (groups : List ℕ) (first : ℕ) (extent : Extent) (found : Exploration) → first < v.count
+    → v.unfinished most (group_of groups first) extent → IsLarge (large_of most (v.names groups first) extent) found
     → IsExplorationBy most true v groups found
-large_told most v groups first turns (Well text) few is said = absurd said
-large_told most v groups first turns (Unwell text) few is said = absurd said
-large_told most v groups first turns (Large words) few is said = (first, few, (turns, is, said))
+large_told most v groups first extent (Well text) few is said = absurd said
+large_told most v groups first extent (Unwell text) few is said = absurd said
+large_told most v groups first extent (Large words) few is said = (first, few, (extent, is, said))
 
-pub large_is_told : {E : Type 0} (most : ℕ) (v : Telling) (groups : List ℕ) (first turns : ℕ) (r : Result Exploration E)
-    → first < v.count → v.unfinished most (group_of groups first) turns
-    → IfOk r (λ found. IsLarge (large_of most (v.names groups first) turns) found)
+pub large_is_told : {E : Type 0} (most : ℕ) (v : Telling) (groups : List ℕ) (first : ℕ) (extent : Extent) (r : Result Exploration E)
+    → first < v.count → v.unfinished most (group_of groups first) extent
+    → IfOk r (λ found. IsLarge (large_of most (v.names groups first) extent) found)
     → IfOk r (λ found. IsExplorationBy most true v groups found)
-large_is_told most v groups first turns (Ok found) few is said = large_told most v groups first turns found few is said
-large_is_told most v groups first turns (Err e) few is said = tt
+large_is_told most v groups first extent (Ok found) few is said = large_told most v groups first extent found few is said
+large_is_told most v groups first extent (Err e) few is said = tt
 
 -- one part more
 pub next_part : (v : Telling) (groups : List ℕ) (m : ℕ) (well part : Bool) (before all : Text) → is_first groups m ≡ true

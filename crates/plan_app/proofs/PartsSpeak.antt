@@ -23,6 +23,8 @@ use Rattle.plan_text.specs.Names.{Text}
 use Rattle.plan_app.specs.Apart.{group_of, part_starves, part_text, told_of}
 use Rattle.plan_app.specs.PartLaws.{GoingIsOfAll, HoldsAmongAll, IsUnfinishedAmongAll, PartsSpeakOfAll, StandstillIsOfAll, StarvesAmongAll}
 use Rattle.plan_app.specs.Screens.{IsUnfinished, MoveOn, TellsGoingBy, TellsStandstill}
+use Rattle.plan_app.specs.declared.explore.Extent.{Extent}
+use Rattle.plan_app.specs.declared.explore.Extent.TheVariants.{Fewer, Any}
 use Rattle.plan_app.proofs.GroupsTold.{has_its_part}
 
 -- the machines of a group share nothing with the others
@@ -96,8 +98,10 @@ module _ (n : Named) (ps : PlanPrograms) (s : State) (ours : ℕ → Bool) (a : 
         };
       }
 
-  unfinished : (most turns : ℕ) → IsUnfinished most n (alone ours ps) s turns → IsUnfinishedAmongAll most n.plan ps s ours turns
-  unfinished most turns is = record { more = a.more most is.more; before = a.standstills.before turns is.before }
+  unfinished : (most : ℕ) (extent : Extent) → IsUnfinished most n (alone ours ps) s extent
+      → IsUnfinishedAmongAll most n.plan ps s ours extent
+  unfinished most (Fewer turns) is = record { more = a.more most is.more; never = a.standstills.before turns is.none }
+  unfinished most Any is = record { more = a.more most is.more; never = a.standstills.never is.none }
 
 pub parts_speak : (n : Named) (ps : PlanPrograms) (s : State) → MachinesAreApart n.plan ps s → GroupsGoOn n.plan ps s
     → GroupsStarve n.plan ps s → IsSound n.plan s → PartsSpeakOfAll n ps s
@@ -110,9 +114,9 @@ parts_speak n ps s apart goes starve sound = record {
       let ours = group_of groups first in
       let nothing = share n groups first are in
       stands n ps s ours (apart ours nothing sound) (goes ours nothing sound) (starve ours nothing sound) text tells;
-  unfinished = λ most groups are first turns is.
+  unfinished = λ most groups are first extent is.
       let ours = group_of groups first in
       let nothing = share n groups first are in
-      unfinished n ps s ours (apart ours nothing sound) (goes ours nothing sound) (starve ours nothing sound) most turns is;
+      unfinished n ps s ours (apart ours nothing sound) (goes ours nothing sound) (starve ours nothing sound) most extent is;
   parts = λ groups count well text told first few is. has_its_part (told_of n ps s) groups count well text told first few is;
 }

@@ -29,6 +29,8 @@ use Rattle.plan_app.specs.Apart.{group_of}
 use Rattle.plan_app.specs.PlantPartLaws.{GoingIsOfAll, HoldsAmongAll, IsUnfinishedAmongAll, PlantPartsSpeakOfAll, StandstillIsOfAll, StarvesAmongAll}
 use Rattle.plan_app.specs.PlantScreens.{IsUnfinished, TellsGoing, TellsStandstill, told_of}
 use Rattle.plan_app.specs.PlantStarts.{tables_of}
+use Rattle.plan_app.specs.declared.explore.Extent.{Extent}
+use Rattle.plan_app.specs.declared.explore.Extent.TheVariants.{Fewer, Any}
 use Rattle.plan_app.proofs.GroupsTold.{has_its_part}
 
 -- the machines of a group share nothing with the others
@@ -104,8 +106,10 @@ module _ (plans : List ProgrammedPlan) (ps : RoutedPrograms) (ss : List State) (
         };
       }
 
-  unfinished : (most turns : ℕ) → IsUnfinished most plans (alone ours ps) ss turns → IsUnfinishedAmongAll most ts ps ss ours turns
-  unfinished most turns is = record { more = a.more most is.more; before = a.standstills.before turns is.before }
+  unfinished : (most : ℕ) (extent : Extent) → IsUnfinished most plans (alone ours ps) ss extent
+      → IsUnfinishedAmongAll most ts ps ss ours extent
+  unfinished most (Fewer turns) is = record { more = a.more most is.more; never = a.standstills.before turns is.none }
+  unfinished most Any is = record { more = a.more most is.more; never = a.standstills.never is.none }
 
 pub plant_parts_speak : (plans : List ProgrammedPlan) (ps : RoutedPrograms) (ss : List State) → CallsAreAlone ps
     → MachinesAreApart (tables_of plans) ps ss → PlantGroupsGoOn (tables_of plans) ps ss → PlantGroupsStarve (tables_of plans) ps ss
@@ -119,9 +123,9 @@ plant_parts_speak plans ps ss calls apart goes starve is = record {
       let ours = group_of groups first in
       let nothing = share (tables_of plans) groups first are in
       stands plans ps ss ours calls (apart ours is nothing) (goes ours is nothing) (starve ours is nothing) text tells;
-  unfinished = λ most groups are first turns found.
+  unfinished = λ most groups are first extent found.
       let ours = group_of groups first in
       let nothing = share (tables_of plans) groups first are in
-      unfinished plans ps ss ours calls (apart ours is nothing) (goes ours is nothing) (starve ours is nothing) most turns found;
+      unfinished plans ps ss ours calls (apart ours is nothing) (goes ours is nothing) (starve ours is nothing) most extent found;
   parts = λ groups count well text told first few at. has_its_part (told_of plans ps ss) groups count well text told first few at;
 }

@@ -1,22 +1,29 @@
 -- The examples of `plant_standstills_are_told`, and the law `plant_screens_are_meant`.
-use Rattle.std.proofs.Common.{◌≡◌, ◌∙◌, ◌<◌, ◌++◌, ◌∷◌, [], ◌&&◌, zero, suc, Bool, List, ap, ap₂, refl, subst, arith}
+use Rattle.std.proofs.Common.{◌≡◌, ◌∙◌, ◌<◌, ◌⊎◌, ◌++◌, ◌∷◌, [], ◌&&◌, ℕ, zero, suc, Bool, List, ap, ap₂, get_or, inl, inr, length, refl, subst, arith}
+use Rattle.std.proofs.lemmas.List.{append_cancel_left}
 use Rattle.std.specs.Fmt.{digits}
 use Rattle.std.specs.Prelude.{codes}
 use Rattle.plan_types.specs.Table.{zone_count}
 use Rattle.plan_rules.specs.declared.state.State.{State}
 use Rattle.plan_explorer.specs.Groups.{group_in}
-use Rattle.plan_liveness.specs.PlantGroups.{AreGroups}
+use Rattle.plan_explorer.specs.PlantExplored.{NoneStandsStill, NoneStandsStillBefore}
+use Rattle.plan_explorer.specs.PlantPrograms.{RoutedPrograms}
+use Rattle.plan_liveness.specs.PlantGroups.{AreGroups, alone}
 use Rattle.plan_text.specs.Named.{Named}
 use Rattle.plan_text.specs.Names.{Text}
 use Rattle.plan_document.specs.declared.resolving.ProgrammedPlan.{ProgrammedPlan}
-use Rattle.plan_app.specs.Apart.{TellsParts, head_of}
+use Rattle.plan_app.specs.Apart.{TellsParts, group_of, head_of, large_of}
 use Rattle.plan_app.specs.Going.{event_line, told_outlook}
 use Rattle.plan_app.specs.PlantGoing.{line_if}
 use Rattle.plan_app.specs.PlantScreenExamples.{CrossingsAreTold, IsTwoParts, LinesAreTold, PlantLinesTell, PlantScreensAreMeant}
 use Rattle.plan_app.specs.PlantScreenExamples.{lines, turner, turning}
-use Rattle.plan_app.specs.PlantScreens.{names_text, told_of}
+use Rattle.plan_app.specs.PlantScreens.{IsUnfinished, names_text, told_of}
 use Rattle.plan_app.specs.PlantStarts.{tables_of}
-use Rattle.plan_app.specs.Screens.{wait_line}
+use Rattle.plan_app.specs.Screens.{large_words, unfinished_words, wait_line}
+use Rattle.plan_app.specs.Words.{counted}
+use Rattle.plan_app.specs.declared.explore.Extent.{Extent}
+use Rattle.plan_app.specs.declared.explore.Extent.TheVariants.{Fewer, Any}
+use Rattle.plan_app.specs.declared.explore.TheConstants.{MORE}
 
 pub crossings_told : CrossingsAreTold
 unfolding digits
@@ -80,6 +87,7 @@ lines_told one other openings first second = record {
       two_parts (one ∷ other ∷ []) openings well text (rw first refl) (rw first refl) tells;
   goes_on = λ ps two none. rw (first, two, none) refl;
   large = rw first refl;
+  in_any_order = rw first refl;
   of_other = λ order. refl;
 }
 
@@ -90,6 +98,37 @@ lines_tell = record {
   outlook = λ plans plan e is. ap (λ o. line_if told_outlook o e.event) is;
   no_words = λ ours ps openings answers. refl;
 }
+
+-- past the limit nothing stands still in fewer turns than are told, or in any order
+past_limit : (most : ℕ) (plans : List ProgrammedPlan) (ps : RoutedPrograms) (openings : List State) (words : Text) (extent : Extent)
+    → IsUnfinished most plans ps openings extent → words ≡ large_words most extent
+    → ((turns : ℕ) × NoneStandsStillBefore (tables_of plans) ps openings turns × (words ≡ large_words most (Fewer turns)))
+    ⊎ (NoneStandsStill (tables_of plans) ps openings × (words ≡ large_words most Any))
+past_limit most plans ps openings words (Fewer turns) is told = inl (turns, is.none, told)
+past_limit most plans ps openings words Any is told = inr (is.none, told)
+
+-- the words for any order are no others
+other_words : (most turns : ℕ) → unfinished_words most Any ≡ unfinished_words most (Fewer turns) → ⊥
+other_words most turns same =
+    let many = append_cancel_left MORE.now _ _ same in
+    let ends = append_cancel_left (counted most (codes "situation")) _ _ many in
+    let e : 97 ≡ 102 = ap (λ l. get_or l 26 0) ends in omega (arith, e)
+
+if_never : (most : ℕ) (plans : List ProgrammedPlan) (ps : RoutedPrograms) (openings : List State) (extent : Extent)
+    → IsUnfinished most plans ps openings extent → unfinished_words most Any ≡ unfinished_words most extent
+    → NoneStandsStill (tables_of plans) ps openings
+if_never most plans ps openings (Fewer turns) is told = absurd (other_words most turns told)
+if_never most plans ps openings Any is told = is.none
+
+-- after the head, and after the names of a group
+all_words : (most : ℕ) (extent : Extent) → large_words most Any ≡ large_words most extent
+    → unfinished_words most Any ≡ unfinished_words most extent
+all_words most extent told = append_cancel_left (codes "large: ") _ _ told
+
+part_words : (most : ℕ) (names : Text) (extent : Extent) → large_of most names Any ≡ large_of most names extent
+    → unfinished_words most Any ≡ unfinished_words most extent
+part_words most names extent told =
+    append_cancel_left (codes ": ") _ _ (append_cancel_left names _ _ (append_cancel_left (codes "large: ") _ _ told))
 
 pub plant_screens_meant : PlantScreensAreMeant
 plant_screens_meant = record {
@@ -106,6 +145,12 @@ plant_screens_meant = record {
   count = λ plans ps openings answers are. are.count;
   each = λ plans ps openings answers are. are.each;
   stands = λ plans ps openings text is. (is.turns, is.lead, is.shortest, is.told);
-  unfinished = λ most plans ps openings groups words (turns, is, told). (turns, is.more, is.before, told);
+  more = λ most plans ps openings groups words (extent, is, told). is.more;
+  unfinished = λ most plans ps openings groups words (extent, is, told). past_limit most plans ps openings words extent is told;
+  in_any_order = λ most plans ps openings groups (extent, is, told).
+      if_never most plans ps openings extent is (all_words most extent told);
+  part_in_any_order = λ most plans ps openings groups first (extent, is, told).
+      if_never most plans (alone (group_of groups first) ps) openings extent is
+      (part_words most (names_text plans groups first (length ps)) extent told);
   served = λ bytes old new (plant, is, (openings, at, (text, tells, wrote))). (plant, is, openings, at, text, tells, wrote);
 }

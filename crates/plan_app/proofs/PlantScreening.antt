@@ -21,6 +21,7 @@ use Rattle.plan_app.specs.PlantScreens.{AreAnswers, IsPart, IsPlantScreen, IsUnf
 use Rattle.plan_app.specs.PlantScreens.{any_starves, plates_starve}
 use Rattle.plan_app.specs.PlantStarts.{tables_of}
 use Rattle.plan_app.specs.Screens.{ShowsFree}
+use Rattle.plan_app.specs.declared.explore.Extent.TheVariants.{Fewer, Any}
 use Rattle.plan_app.specs.declared.explore.Screen.{Screen}
 use Rattle.plan_app.specs.declared.explore.Screen.TheVariants.{Free, Starving, Standstill, Unfinished}
 
@@ -122,14 +123,23 @@ standstill_is_found most ours plans ps openings ts turns told r tables all lead 
 pub unfinished_is_found : (most : ℕ) (plans : List ProgrammedPlan) (ps : RoutedPrograms) (openings : List State)
     (ts : List PlanTable) (found : Explored) (turns : ℕ) → ts ≡ tables_of plans → found ≡ explored.Unfinished turns
     → IfUnfinished found (λ _. ComeToMore ts ps openings most) → IfUnfinished found (NoneStandsStillBefore ts ps openings)
-    → IsUnfinished most plans ps openings turns
+    → IsUnfinished most plans ps openings (Fewer turns)
 unfinished_is_found most plans ps openings ts found turns tables is more before =
     let many = subst (λ f. IfUnfinished f (λ _. ComeToMore ts ps openings most)) is more in
     let none = subst (λ f. IfUnfinished f (NoneStandsStillBefore ts ps openings)) is before in
     record {
       more = subst (λ t. ComeToMore t ps openings most) tables many;
-      before = subst (λ t. NoneStandsStillBefore t ps openings turns) tables none;
+      none = subst (λ t. NoneStandsStillBefore t ps openings turns) tables none;
     }
+
+-- where no turns at all lead to a standstill, of more situations than a limit
+pub none_is_sought : (most : ℕ) (plans : List ProgrammedPlan) (ps : RoutedPrograms) (openings : List State)
+    (ts : List PlanTable) (sought : Explored) (looked : ℕ) → ts ≡ tables_of plans → ComeToMore (tables_of plans) ps openings most
+    → sought ≡ explored.Free looked → IfFree sought (λ _. NoneStandsStill ts ps openings)
+    → IsUnfinished most plans ps openings Any
+none_is_sought most plans ps openings ts sought looked tables more is none =
+    let never = subst (λ f. IfFree f (λ _. NoneStandsStill ts ps openings)) is none in
+    record { more = more; none = subst (λ t. NoneStandsStill t ps openings) tables never }
 
 -- a screen has the facts of what it tells
 pub plant_told : (most : ℕ) (ours : ℕ → Bool) (plans : List ProgrammedPlan) (ps : RoutedPrograms) (openings : List State)
@@ -137,7 +147,7 @@ pub plant_told : (most : ℕ) (ours : ℕ → Bool) (plans : List ProgrammedPlan
 plant_told most ours plans ps openings (Free text) is = is
 plant_told most ours plans ps openings (Starving text) is = inr is
 plant_told most ours plans ps openings (Standstill text) is = inl is
-plant_told most ours plans ps openings (Unfinished turns) is = is
+plant_told most ours plans ps openings (Unfinished extent) is = is
 
 -- the tables of one word more
 pub table_more : (plans : List ProgrammedPlan) (word : ℕ) (plan : ProgrammedPlan) (before after : List PlanTable) → word < length plans

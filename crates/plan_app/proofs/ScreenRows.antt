@@ -12,6 +12,7 @@ standstill-lines = record {
   free = refl;
   large = refl;
   at_the_start = refl;
+  in_any_order = refl;
   waits = refl;
   outlook = refl;
   whole = refl;
@@ -27,7 +28,8 @@ screens-meant = record {
   starving_runs = λ most n ps s text is. is.runs;
   starving_none = λ most n ps s text is turns. is.free turns;
   stands = λ most n ps s text is. (is.turns, is.lead, is.shortest, is.told);
-  unfinished = λ most n ps s turns is. (is.more, is.before);
+  unfinished = λ most n ps s turns is. (is.more, is.none);
+  in_any_order = λ most n ps s is. (is.more, is.none);
 }
 
 pub kinds-of-screens : KindsOfScreens
@@ -38,7 +40,7 @@ kinds-of-screens = record {
   free_though_starving = λ text shows. let e = shows.0 in cc;
   starving_though_free = λ text shows. let e = shows.0 in cc;
   standstill = λ starve text shows. absurd shows;
-  unfinished = λ starve turns shows. absurd shows;
+  unfinished = λ starve extent shows. absurd shows;
   waits = λ text shows. shows;
   free_at_a_standstill = λ text shows. absurd shows;
   starving_at_a_standstill = λ text shows. absurd shows;

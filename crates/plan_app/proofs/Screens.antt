@@ -12,6 +12,7 @@ use Rattle.plan_text.specs.Names.{Text}
 use Rattle.plan_liveness.specs.declared.answer.Liveness.{Liveness}
 use Rattle.plan_liveness.specs.declared.answer.Progress.{Progress}
 use Rattle.plan_app.specs.Screens.{AreAnswers, ByAnswers, IsScreenBy, IsUnfinished, ShowsFree, ShowsGoingBy, ShowsStandstill, outlook_after}
+use Rattle.plan_app.specs.declared.explore.Extent.TheVariants.{Fewer}
 use Rattle.plan_app.specs.declared.explore.Screen.{Screen}
 use Rattle.plan_app.specs.declared.explore.Screen.TheVariants.{Free, Starving, Standstill, Unfinished}
 
@@ -112,11 +113,11 @@ standstill_is_found most n ps opening starves going t turns told r same all lead
 
 pub unfinished_is_found : (most : ℕ) (n : Named) (ps : PlanPrograms) (opening : State) (t : PlanTable) (found : Explored) (turns : ℕ)
     → t ≡ n.plan → found ≡ explored.Unfinished turns → IfUnfinished found (λ _. ComeToMore t ps opening most)
-    → IfUnfinished found (NoneStandsStillBefore t ps opening) → IsUnfinished most n ps opening turns
+    → IfUnfinished found (NoneStandsStillBefore t ps opening) → IsUnfinished most n ps opening (Fewer turns)
 unfinished_is_found most n ps opening t found turns same is more before =
     let many : ComeToMore t ps opening most = subst (λ f. IfUnfinished f (λ _. ComeToMore t ps opening most)) is more in
     let none : NoneStandsStillBefore t ps opening turns = subst (λ f. IfUnfinished f (NoneStandsStillBefore t ps opening)) is before in
     record {
       more = subst (λ p. ComeToMore p ps opening most) same many;
-      before = subst (λ p. NoneStandsStillBefore p ps opening turns) same none;
+      none = subst (λ p. NoneStandsStillBefore p ps opening turns) same none;
     }

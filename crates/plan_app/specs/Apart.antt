@@ -24,6 +24,7 @@ use Rattle.plan_app.specs.Screens.{unfinished_words}
 use Rattle.plan_app.specs.Starving.{may_starve, plates_may_rest}
 use Rattle.plan_app.specs.declared.apart.Exploration.{Exploration}
 use Rattle.plan_app.specs.declared.apart.Exploration.TheVariants.{Well, Unwell, Large}
+use Rattle.plan_app.specs.declared.explore.Extent.{Extent}
 use Rattle.plan_app.specs.declared.explore.Screen.{Screen}
 use Rattle.plan_app.specs.declared.explore.Screen.TheVariants.{Free, Starving, Standstill, Unfinished}
 use Rattle.plan_app.specs.declared.going.TheConstants.{FAIRNESS}
@@ -123,30 +124,30 @@ abbrev pub IsPartScreen : ℕ → Named → PlanPrograms → State → (ℕ → 
 IsPartScreen most n ps opening ours screen =
     IsScreenBy most n ps opening (part_starves ours n ps) (part_text ours n ps opening) screen
 
--- whether all is well by a screen, and its text; or how far the exploration came
-abbrev pub told_by : Screen → Result (Bool × String Global) ℕ
+-- whether all is well by a screen, and its text; or which turns lead to no standstill
+abbrev pub told_by : Screen → Result (Bool × String Global) Extent
 told_by (Free text) = Ok (true, text)
 told_by (Starving text) = Ok (false, text)
 told_by (Standstill text) = Ok (false, text)
-told_by (Unfinished turns) = Err turns
+told_by (Unfinished extent) = Err extent
 
 -- the text of a part without its head, and whether all is well in it
 abbrev pub TellsAlone : Named → PlanPrograms → State → (ℕ → Bool) → Bool → Text → Type 0
 TellsAlone n ps opening ours well text =
     TellsScreenBy n ps opening (part_starves ours n ps) (part_text ours n ps opening) well text
 
--- this is told; or how far the exploration came, where turns lead to more situations than are explored
-abbrev pub IsTold : (Bool → Text → Type 0) → (ℕ → Type 0) → Result (Bool × String Global) ℕ → Type 0
+-- this is told; or which turns lead to no standstill, where turns lead to more situations than are explored
+abbrev pub IsTold : (Bool → Text → Type 0) → (Extent → Type 0) → Result (Bool × String Global) Extent → Type 0
 IsTold tells unfinished (Ok told) = tells told.0 (string_bytes told.1)
-IsTold tells unfinished (Err turns) = unfinished turns
+IsTold tells unfinished (Err extent) = unfinished extent
 
-abbrev pub IsPart : ℕ → Named → PlanPrograms → State → (ℕ → Bool) → Result (Bool × String Global) ℕ → Type 0
+abbrev pub IsPart : ℕ → Named → PlanPrograms → State → (ℕ → Bool) → Result (Bool × String Global) Extent → Type 0
 IsPart most n ps opening ours told = IsTold (TellsAlone n ps opening ours) (IsUnfinished most n ps opening) told
 
 -- ---- what is said of all groups, of a plan or of a plant
 
 -- What there is to tell, from an opening: of all machines together, and of some alone, whether all is well, and a text;
--- or of how many turns it is known that no fewer lead to a standstill, where more situations than a number are found.
+-- or which turns are known to lead to no standstill, where more situations than a number are found.
 pub record Telling : Type 1 where
   -- what this number of machines asks
   pub count : ℕ
@@ -155,8 +156,8 @@ pub record Telling : Type 1 where
   pub names : List ℕ → ℕ → Text
   pub all : Bool → Text → Type 0
   pub alone : (ℕ → Bool) → Bool → Text → Type 0
-  pub all_unfinished : ℕ → ℕ → Type 0
-  pub unfinished : ℕ → (ℕ → Bool) → ℕ → Type 0
+  pub all_unfinished : ℕ → Extent → Type 0
+  pub unfinished : ℕ → (ℕ → Bool) → Extent → Type 0
   -- machines of two groups share nothing, and no groups could be smaller
   pub apart : (ℕ → ℕ) → Type 0
   pub smallest : (ℕ → ℕ) → Type 0
@@ -199,17 +200,19 @@ pub record TellsExploration (v : Telling) (well : Bool) (text : Text) : Type 0 w
   pub told : TellsBy (some_are_apart groups v.programs) v groups well text
 
 -- where turns of a group alone lead to more situations than are explored, its machines are named
-abbrev pub large_of : ℕ → Text → ℕ → Text
-large_of most names turns = codes "large: " ++ (names ++ (codes ": " ++ unfinished_words most turns))
+abbrev pub large_of : ℕ → Text → Extent → Text
+large_of most names extent = codes "large: " ++ (names ++ (codes ": " ++ unfinished_words most extent))
 
 abbrev pub TellsLargePart : ℕ → Telling → List ℕ → ℕ → Text → Type 0
 TellsLargePart most v groups first words =
-    (turns : ℕ) × v.unfinished most (group_of groups first) turns × (words ≡ large_of most (v.names groups first) turns)
+    (extent : Extent) × v.unfinished most (group_of groups first) extent
+    × (words ≡ large_of most (v.names groups first) extent)
 
 -- or turns of all machines together do
 abbrev pub TellsLargeBy : ℕ → Bool → Telling → List ℕ → Text → Type 0
 TellsLargeBy most true v groups words = (first : ℕ) × (first < v.count) × TellsLargePart most v groups first words
-TellsLargeBy most false v groups words = (turns : ℕ) × v.all_unfinished most turns × (words ≡ large_words most turns)
+TellsLargeBy most false v groups words =
+    (extent : Extent) × v.all_unfinished most extent × (words ≡ large_words most extent)
 
 pub record TellsLarge (most : ℕ) (v : Telling) (words : Text) : Type 0 where
   pub groups : List ℕ

@@ -13,6 +13,7 @@ use Rattle.plan_liveness.specs.declared.answer.Progress.TheVariants as progress
 use Rattle.plan_text.specs.Named.{Named, named}
 use Rattle.plan_app.specs.Apart.{group_of, hands_over, head_of, is_first, large_of, names_text, part_starves, part_text}
 use Rattle.plan_app.specs.Apart.{some_are_apart, some_move_plates}
+use Rattle.plan_app.specs.declared.explore.Extent.TheVariants.{Fewer}
 use Rattle.plan_app.specs.declared.going.TheConstants.{FAIRNESS}
 
 -- four machines, and a place
@@ -38,7 +39,7 @@ pub record PartsAreTold : Type 0 where
   pub head : head_of (names_text four pairs 0 4) ≡ codes "apart from all others: a, c\n"
   pub other : head_of (names_text four pairs 1 4) ≡ codes "apart from all others: b, d\n"
   pub alone : head_of (names_text four (0 ∷ 1 ∷ 2 ∷ 3 ∷ []) 2 4) ≡ codes "apart from all others: c\n"
-  pub large : large_of 1000000 (names_text four pairs 1 4) 12
+  pub large : large_of 1000000 (names_text four pairs 1 4) (Fewer 12)
       ≡ codes "large: b, d: more than 1000000 situations; " ++ codes "nothing stands still in fewer than 12 turns"
   -- they are told apart if two groups ask something
   pub two : some_are_apart pairs three_ask ≡ true

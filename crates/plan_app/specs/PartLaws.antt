@@ -19,8 +19,9 @@ use Rattle.plan_liveness.specs.Progress.{GoesOn}
 use Rattle.plan_text.specs.Named.{Named}
 use Rattle.plan_text.specs.Names.{Text}
 use Rattle.plan_app.specs.Apart.{TellsParts, TellsPart, Telling, group_of, is_first, part_starves, part_text, told_of}
-use Rattle.plan_app.specs.Screens.{IsUnfinished, TellsGoingBy, TellsStandstill, free_line, outlook_after}
+use Rattle.plan_app.specs.Screens.{IsUnfinished, OfTurns, TellsGoingBy, TellsStandstill, free_line, outlook_after}
 use Rattle.plan_app.specs.Screens.{standstill_text}
+use Rattle.plan_app.specs.declared.explore.Extent.{Extent}
 
 -- ---- of a plan or a plant
 
@@ -85,11 +86,11 @@ pub record GoOnAmongAll (t : PlanTable) (ps : PlanPrograms) (s : State) (ours : 
 
 -- ---- more situations than are explored
 
--- all come to more, too; and no turns of all that are fewer than these lead them to a standstill
-pub record IsUnfinishedAmongAll (most : ℕ) (t : PlanTable) (ps : PlanPrograms) (s : State) (ours : ℕ → Bool) (turns : ℕ)
-    : Type 0 where
+-- all come to more, too; and no turns of all that are fewer than these, or none at all, lead them to a standstill
+pub record IsUnfinishedAmongAll (most : ℕ) (t : PlanTable) (ps : PlanPrograms) (s : State) (ours : ℕ → Bool)
+    (extent : Extent) : Type 0 where
   pub more : ComeToMore t ps s most
-  pub before : NeverStandStillBefore t ps s ours turns
+  pub never : OfTurns (NeverStandStillBefore t ps s ours) (NeverStandStill t ps s ours) extent
 
 -- ---- what a part tells
 
@@ -115,8 +116,8 @@ pub record PartsSpeakOfAll (n : Named) (ps : PlanPrograms) (s : State) : Type 0 
   pub standstill : (groups : List ℕ) → AreGroups n.plan (group_in groups) → (first : ℕ) (text : Text)
       → TellsStandstill n (alone (group_of groups first) ps) s text
       → StandstillIsOfAll n ps s (group_of groups first) text
-  pub unfinished : (most : ℕ) (groups : List ℕ) → AreGroups n.plan (group_in groups) → (first turns : ℕ)
-      → IsUnfinished most n (alone (group_of groups first) ps) s turns
-      → IsUnfinishedAmongAll most n.plan ps s (group_of groups first) turns
+  pub unfinished : (most : ℕ) (groups : List ℕ) → AreGroups n.plan (group_in groups) → (first : ℕ) (extent : Extent)
+      → IsUnfinished most n (alone (group_of groups first) ps) s extent
+      → IsUnfinishedAmongAll most n.plan ps s (group_of groups first) extent
   -- each group has its part, and all is well only if it is in each
   pub parts : HaveTheirParts (told_of n ps s)

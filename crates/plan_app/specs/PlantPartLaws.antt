@@ -23,7 +23,8 @@ use Rattle.plan_app.specs.PartLaws.{HaveTheirParts, HoldsBy, StandAmongAll}
 use Rattle.plan_app.specs.PlantGoing.{going_text}
 use Rattle.plan_app.specs.PlantScreens.{IsUnfinished, TellsGoing, TellsStandstill, told_of, turns_told}
 use Rattle.plan_app.specs.PlantStarts.{plant_start, tables_of}
-use Rattle.plan_app.specs.Screens.{free_line}
+use Rattle.plan_app.specs.Screens.{OfTurns, free_line}
+use Rattle.plan_app.specs.declared.explore.Extent.{Extent}
 
 -- a script has the openings of a plant
 abbrev pub AreOfScript : ProgrammedPlant → List State → Type 0
@@ -55,11 +56,11 @@ pub record GoOnAmongAll (ts : List PlanTable) (ps : RoutedPrograms) (ss : List S
 
 -- ---- more situations than are explored
 
--- all come to more, too; and no turns of all that are fewer than these lead them to a standstill
+-- all come to more, too; and no turns of all that are fewer than these, or none at all, lead them to a standstill
 pub record IsUnfinishedAmongAll (most : ℕ) (ts : List PlanTable) (ps : RoutedPrograms) (ss : List State)
-    (ours : ℕ → Bool) (turns : ℕ) : Type 0 where
+    (ours : ℕ → Bool) (extent : Extent) : Type 0 where
   pub more : ComeToMore ts ps ss most
-  pub before : NeverStandStillBefore ts ps ss ours turns
+  pub never : OfTurns (NeverStandStillBefore ts ps ss ours) (NeverStandStill ts ps ss ours) extent
 
 -- ---- what a part tells
 
@@ -85,8 +86,8 @@ pub record PlantPartsSpeakOfAll (plans : List ProgrammedPlan) (ps : RoutedProgra
   pub standstill : (groups : List ℕ) → AreGroups (tables_of plans) (group_in groups) → (first : ℕ) (text : Text)
       → TellsStandstill plans (alone (group_of groups first) ps) ss text
       → StandstillIsOfAll plans ps ss (group_of groups first) text
-  pub unfinished : (most : ℕ) (groups : List ℕ) → AreGroups (tables_of plans) (group_in groups) → (first turns : ℕ)
-      → IsUnfinished most plans (alone (group_of groups first) ps) ss turns
-      → IsUnfinishedAmongAll most (tables_of plans) ps ss (group_of groups first) turns
+  pub unfinished : (most : ℕ) (groups : List ℕ) → AreGroups (tables_of plans) (group_in groups) → (first : ℕ)
+      (extent : Extent) → IsUnfinished most plans (alone (group_of groups first) ps) ss extent
+      → IsUnfinishedAmongAll most (tables_of plans) ps ss (group_of groups first) extent
   -- each group has its part, and all is well only if it is in each
   pub parts : HaveTheirParts (told_of plans ps ss)

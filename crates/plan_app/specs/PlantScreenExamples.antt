@@ -1,6 +1,6 @@
 -- What is said of two machines that pass two zones, each of them on a word of its own, and of two that share nothing;
 -- and what a text, or what was written, says for certain.
-use Rattle.std.specs.Prelude.{◌≡◌, ℕ, Bool, true, false, ◌&&◌, ◌||◌, List, [], ◌∷◌, ◌++◌, codes, length, slice_get}
+use Rattle.std.specs.Prelude.{◌≡◌, ◌⊎◌, ℕ, Bool, true, false, ◌&&◌, ◌||◌, List, [], ◌∷◌, ◌++◌, codes, length, slice_get}
 use Rattle.std.specs.Prelude.{Ok, Some, None}
 use Rattle.plan_types.specs.declared.answer.Answer.TheVariants.{Done, Refused}
 use Rattle.plan_types.specs.declared.answer.Refusal.TheVariants.{Held}
@@ -30,7 +30,8 @@ use Rattle.plan_text.specs.Named.{Named, named}
 use Rattle.plan_document.specs.Plants.{IsPlantIn}
 use Rattle.plan_document.specs.declared.plants.ProgrammedPlant.{ProgrammedPlant}
 use Rattle.plan_document.specs.declared.resolving.ProgrammedPlan.{ProgrammedPlan}
-use Rattle.plan_app.specs.Apart.{TellsBy, TellsExploration, TellsLargeBy, group_of, large_of, some_are_apart}
+use Rattle.plan_app.specs.Apart.{TellsBy, TellsExploration, TellsLargeBy, TellsLargePart, group_of, large_of}
+use Rattle.plan_app.specs.Apart.{some_are_apart}
 use Rattle.plan_app.specs.Going as of_plan
 use Rattle.plan_app.specs.GoingExamples.{ends}
 use Rattle.plan_app.specs.Input.{document_in, script_in}
@@ -45,6 +46,7 @@ use Rattle.plan_app.specs.Screens as of_screen
 use Rattle.plan_app.specs.Screens.{free_line, large_words}
 use Rattle.plan_app.specs.Served.{ExploresWords}
 use Rattle.plan_app.specs.WordExamples.{within}
+use Rattle.plan_app.specs.declared.explore.Extent.TheVariants.{Fewer, Any}
 
 -- the zone of one word is the north one, that of the other the south one
 abbrev pub on_word : Text → Named
@@ -165,8 +167,10 @@ pub record LinesApart (plans : List ProgrammedPlan) (openings : List State) : Ty
       → plates_text plans ps openings unknown ≡ []
       → going_text (group_of lines 1) plans ps openings (Silent ∷ Always (within 1 0) ∷ []) unknown
       ≡ codes "second goes on for ever in each fair order: within k * 1 turns\n" ++ ends
-  pub large : large_of 2000 (names_text plans lines 1 2) 5
+  pub large : large_of 2000 (names_text plans lines 1 2) (Fewer 5)
       ≡ codes "large: second: more than 2000 situations; nothing stands still in fewer than 5 turns"
+  pub in_any_order : large_of 2000 (names_text plans lines 1 2) Any
+      ≡ codes "large: second: more than 2000 situations; nothing stands still in any order of turns"
   pub of_other : (order : FairOrder) → any_starves (group_of lines 1) (Starves order ∷ Silent ∷ []) 2 ≡ false
 
 abbrev pub LinesAreTold : Type 0
@@ -225,10 +229,23 @@ pub record PlantScreensAreMeant : Type 0 where
       → TellsStandstill plans ps openings text
       → (turns : List ℕ) × LeadToStandstill (tables_of plans) ps openings turns
       × AreShortest (tables_of plans) ps openings turns × (text ≡ turns_told plans ps openings turns)
+  -- past the limit nothing stands still in fewer turns than are told, or in any order
+  pub more : (most : ℕ) (plans : List ProgrammedPlan) (ps : RoutedPrograms) (openings : List State)
+      (groups : List ℕ) (words : Text) → TellsLargeBy most false (told_of plans ps openings) groups words
+      → ComeToMore (tables_of plans) ps openings most
   pub unfinished : (most : ℕ) (plans : List ProgrammedPlan) (ps : RoutedPrograms) (openings : List State)
       (groups : List ℕ) (words : Text) → TellsLargeBy most false (told_of plans ps openings) groups words
-      → (turns : ℕ) × ComeToMore (tables_of plans) ps openings most
-      × NoneStandsStillBefore (tables_of plans) ps openings turns × (words ≡ large_words most turns)
+      → ((turns : ℕ) × NoneStandsStillBefore (tables_of plans) ps openings turns
+      × (words ≡ large_words most (Fewer turns)))
+      ⊎ (NoneStandsStill (tables_of plans) ps openings × (words ≡ large_words most Any))
+  -- "in any order" is said only where no turns at all lead to a standstill, of all machines or of a group alone
+  pub in_any_order : (most : ℕ) (plans : List ProgrammedPlan) (ps : RoutedPrograms) (openings : List State)
+      (groups : List ℕ) → TellsLargeBy most false (told_of plans ps openings) groups (large_words most Any)
+      → NoneStandsStill (tables_of plans) ps openings
+  pub part_in_any_order : (most : ℕ) (plans : List ProgrammedPlan) (ps : RoutedPrograms) (openings : List State)
+      (groups : List ℕ) (first : ℕ) → TellsLargePart most (told_of plans ps openings) groups first
+      (large_of most (names_text plans groups first (length ps)) Any)
+      → NoneStandsStill (tables_of plans) (alone (group_of groups first) ps) openings
   -- by the plant of the document in an input, and the start of the script after that
   pub served : (bytes old new : List ℕ) → ExploresWords (Some bytes) (Some old) (Some new)
       → (plant : ProgrammedPlant) × IsPlantIn (document_in bytes) plant × (openings : List State)

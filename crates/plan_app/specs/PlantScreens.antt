@@ -24,6 +24,7 @@ use Rattle.plan_app.specs.PlantStarts.{tables_of}
 use Rattle.plan_app.specs.Screens as screens
 use Rattle.plan_app.specs.Starving.{may_rest}
 use Rattle.plan_app.specs.declared.apart.Exploration.{Exploration}
+use Rattle.plan_app.specs.declared.explore.Extent.{Extent}
 use Rattle.plan_app.specs.declared.explore.Screen.{Screen}
 use Rattle.plan_app.specs.declared.explore.Screen.TheVariants.{Free, Starving, Standstill, Unfinished}
 
@@ -99,11 +100,12 @@ TellsStarving ours plans ps openings text = TellsGoing ours plans ps openings tr
 
 -- ---- more situations than are explored
 
--- turns lead to more situations than `most`, and no turns that are fewer than these to a standstill
+-- turns lead to more situations than `most`, and to a standstill none that are fewer than these, or none at all
 pub record IsUnfinished (most : ℕ) (plans : List ProgrammedPlan) (ps : RoutedPrograms) (openings : List State)
-    (turns : ℕ) : Type 0 where
+    (extent : Extent) : Type 0 where
   pub more : ComeToMore (tables_of plans) ps openings most
-  pub before : NoneStandsStillBefore (tables_of plans) ps openings turns
+  pub none : screens.OfTurns (NoneStandsStillBefore (tables_of plans) ps openings)
+      (NoneStandsStill (tables_of plans) ps openings) extent
 
 -- ---- what is found
 
@@ -111,7 +113,7 @@ abbrev pub IsPlantScreen : ℕ → (ℕ → Bool) → List ProgrammedPlan → Ro
 IsPlantScreen most ours plans ps openings (Free text) = TellsFree ours plans ps openings (string_bytes text)
 IsPlantScreen most ours plans ps openings (Starving text) = TellsStarving ours plans ps openings (string_bytes text)
 IsPlantScreen most ours plans ps openings (Standstill text) = TellsStandstill plans ps openings (string_bytes text)
-IsPlantScreen most ours plans ps openings (Unfinished turns) = IsUnfinished most plans ps openings turns
+IsPlantScreen most ours plans ps openings (Unfinished extent) = IsUnfinished most plans ps openings extent
 
 -- whether all is well by a text: nothing stands still, and none starves
 abbrev pub TellsPlant : (ℕ → Bool) → List ProgrammedPlan → RoutedPrograms → List State → Bool → Text → Type 0
@@ -119,9 +121,9 @@ TellsPlant ours plans ps openings true text = TellsFree ours plans ps openings t
 TellsPlant ours plans ps openings false text =
     TellsStandstill plans ps openings text ⊎ TellsStarving ours plans ps openings text
 
--- this is told; or how far the exploration came
+-- this is told; or which turns lead to no standstill
 abbrev pub IsPart : ℕ → (ℕ → Bool) → List ProgrammedPlan → RoutedPrograms → List State
-    → Result (Bool × String Global) ℕ → Type 0
+    → Result (Bool × String Global) Extent → Type 0
 IsPart most ours plans ps openings told =
     apart.IsTold (TellsPlant ours plans ps openings) (IsUnfinished most plans ps openings) told
 
@@ -138,7 +140,7 @@ abbrev pub ShowsStandstill : List ProgrammedPlan → RoutedPrograms → List Sta
 ShowsStandstill plans ps openings turns (Free text) = ⊥
 ShowsStandstill plans ps openings turns (Starving text) = ⊥
 ShowsStandstill plans ps openings turns (Standstill text) = string_bytes text ≡ turns_told plans ps openings turns
-ShowsStandstill plans ps openings turns (Unfinished fewer) = ⊥
+ShowsStandstill plans ps openings turns (Unfinished extent) = ⊥
 
 -- ---- what is printed: of each group if at least two have programs, else of all machines together
 

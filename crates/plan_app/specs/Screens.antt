@@ -18,7 +18,9 @@ use Rattle.plan_text.specs.Named.{Named}
 use Rattle.plan_app.specs.Going.{going_text, line_of, way_text}
 use Rattle.plan_app.specs.Starving.{any_starves}
 use Rattle.plan_app.specs.Words.{counted}
-use Rattle.plan_app.specs.declared.explore.TheConstants.{FREE, MORE, SHORTEST, STANDSTILL, UNFINISHED}
+use Rattle.plan_app.specs.declared.explore.TheConstants.{ANY_ORDER, FREE, MORE, SHORTEST, STANDSTILL, UNFINISHED}
+use Rattle.plan_app.specs.declared.explore.Extent.{Extent}
+use Rattle.plan_app.specs.declared.explore.Extent.TheVariants.{Fewer, Any}
 use Rattle.plan_app.specs.declared.explore.Screen.{Screen}
 use Rattle.plan_app.specs.declared.explore.Screen.TheVariants.{Free, Starving, Standstill, Unfinished}
 
@@ -104,22 +106,30 @@ TellsStarving n ps opening text = TellsGoing n ps opening true text
 
 -- ---- more situations than are explored
 
--- turns lead to more situations than `most`, and no turns that are fewer than these to a standstill
-pub record IsUnfinished (most : ℕ) (n : Named) (ps : PlanPrograms) (opening : State) (turns : ℕ) : Type 0 where
-  pub more : ComeToMore n.plan ps opening most
-  pub before : NoneStandsStillBefore n.plan ps opening turns
+-- one fact of turns that are fewer than these, another one of turns in any order
+abbrev pub OfTurns : (ℕ → Type 0) → Type 0 → Extent → Type 0
+OfTurns before always (Fewer turns) = before turns
+OfTurns before always Any = always
 
-abbrev pub unfinished_words : ℕ → ℕ → Text
-unfinished_words most turns =
-    MORE.now ++ (counted most (codes "situation") ++ (UNFINISHED.now ++ counted turns (codes "turn")))
+-- turns lead to more situations than `most`, and to a standstill none that are fewer than these, or none at all
+pub record IsUnfinished (most : ℕ) (n : Named) (ps : PlanPrograms) (opening : State) (extent : Extent) : Type 0 where
+  pub more : ComeToMore n.plan ps opening most
+  pub none : OfTurns (NoneStandsStillBefore n.plan ps opening) (NoneStandsStill n.plan ps opening) extent
+
+abbrev pub extent_words : Extent → Text
+extent_words (Fewer turns) = UNFINISHED.now ++ counted turns (codes "turn")
+extent_words Any = ANY_ORDER.now
+
+abbrev pub unfinished_words : ℕ → Extent → Text
+unfinished_words most extent = MORE.now ++ (counted most (codes "situation") ++ extent_words extent)
 
 -- what is said of all machines together
-abbrev pub large_words : ℕ → ℕ → Text
-large_words most turns = codes "large: " ++ unfinished_words most turns
+abbrev pub large_words : ℕ → Extent → Text
+large_words most extent = codes "large: " ++ unfinished_words most extent
 
 abbrev pub TellsUnfinished : ℕ → Named → PlanPrograms → State → Text → Type 0
 TellsUnfinished most n ps opening words =
-    (turns : ℕ) × IsUnfinished most n ps opening turns × (words ≡ large_words most turns)
+    (turns : ℕ) × IsUnfinished most n ps opening (Fewer turns) × (words ≡ large_words most (Fewer turns))
 
 -- ---- what is printed is what was found
 
@@ -129,7 +139,7 @@ IsScreenBy most n ps opening starves going (Free text) =
 IsScreenBy most n ps opening starves going (Starving text) =
     TellsGoingBy n ps opening starves going true (string_bytes text)
 IsScreenBy most n ps opening starves going (Standstill text) = TellsStandstill n ps opening (string_bytes text)
-IsScreenBy most n ps opening starves going (Unfinished turns) = IsUnfinished most n ps opening turns
+IsScreenBy most n ps opening starves going (Unfinished extent) = IsUnfinished most n ps opening extent
 
 abbrev pub IsScreen : ℕ → Named → PlanPrograms → State → Screen → Type 0
 IsScreen most n ps opening screen = IsScreenBy most n ps opening (any_starves n) (going_text n ps opening) screen
@@ -152,7 +162,7 @@ ShowsFree situations going starve (Free text) =
 ShowsFree situations going starve (Starving text) =
     (starve ≡ true) × (string_bytes text ≡ free_line situations ++ going)
 ShowsFree situations going starve (Standstill text) = ⊥
-ShowsFree situations going starve (Unfinished turns) = ⊥
+ShowsFree situations going starve (Unfinished extent) = ⊥
 
 abbrev pub ShowsGoingBy : Named → PlanPrograms → State → ByAnswers Bool → ByAnswers Text → ℕ → Screen → Type 0
 ShowsGoingBy n ps opening starves going situations screen =
@@ -168,4 +178,4 @@ ShowsStandstill n ps opening waiting turns (Free text) = ⊥
 ShowsStandstill n ps opening waiting turns (Starving text) = ⊥
 ShowsStandstill n ps opening waiting turns (Standstill text) =
     string_bytes text ≡ standstill_text n ps opening turns waiting
-ShowsStandstill n ps opening waiting turns (Unfinished fewer) = ⊥
+ShowsStandstill n ps opening waiting turns (Unfinished extent) = ⊥

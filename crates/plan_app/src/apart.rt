@@ -11,8 +11,8 @@ ghost use Rattle.plan_app.specs.Screens as screens;
 
 use crate::acting::Acting;
 use crate::explore::{
-    Screen, large_words, machines_of, plates_of, push_situations, push_unfinished, screen_of,
-    standstill_screen,
+    Extent, Screen, large_words, machines_of, plates_of, push_situations, push_unfinished,
+    screen_of, standstill_screen,
 };
 use crate::going::{FAIRNESS, push_machine, push_plates};
 use crate::starving::{may_starve, plates_may_rest};
@@ -157,7 +157,7 @@ fn all_of(
         Screen::Free(text) => Ok(Exploration::Well(text)),
         Screen::Starving(text) => Ok(Exploration::Unwell(text)),
         Screen::Standstill(text) => Ok(Exploration::Unwell(text)),
-        Screen::Unfinished(turns) => Ok(Exploration::Large(large_words(alloc, most, turns)?)),
+        Screen::Unfinished(extent) => Ok(Exploration::Large(large_words(alloc, most, extent)?)),
     }
 }
 
@@ -182,7 +182,7 @@ fn parts_of(
                 Ok(part) => {
                     well = both(well, part);
                 }
-                Err(turns) => return large_part(alloc, plan, groups, machine, most, turns),
+                Err(extent) => return large_part(alloc, plan, groups, machine, most, extent),
             }
         }
     }
@@ -207,15 +207,15 @@ fn large_part(
     groups: &Groups,
     first: u8,
     most: usize,
-    turns: usize,
+    extent: Extent,
 ) -> Result<Exploration, AllocError>
     requires { first < 30 }
     ensures { IfOk result (spec.IsLarge (spec.large_of most
         (spec.names_text plan.now.named.now groups.now first (length plan.now.programs.now))
-        turns)) }
+        extent)) }
 {
     let names = names_of(alloc, plan.named, groups, first, plan.programs.count())?;
-    large_of(alloc, names.as_str(), most, turns)
+    large_of(alloc, names.as_str(), most, extent)
 }
 
 /// The words of that fault, by the names of the group's machines.
@@ -223,19 +223,19 @@ pub(crate) fn large_of(
     alloc: Global,
     names: &str,
     most: usize,
-    turns: usize,
+    extent: Extent,
 ) -> Result<Exploration, AllocError>
-    ensures { IfOk result (spec.IsLarge (spec.large_of most names.now turns)) }
+    ensures { IfOk result (spec.IsLarge (spec.large_of most names.now extent)) }
 {
     let mut words = String::from_str(alloc, "large: ")?;
     words.push_str(names)?;
     words.push_str(": ")?;
-    push_unfinished(&mut words, most, turns)?;
+    push_unfinished(&mut words, most, extent)?;
     Ok(Exploration::Large(words))
 }
 
-/// Adds the part of the group of a machine. Says whether all is well in it; or how far the exploration came, if turns
-/// lead to more situations than are explored.
+/// Adds the part of the group of a machine. Says whether all is well in it; or which turns lead to no standstill, if
+/// turns lead to more situations than are explored.
 fn push_part(
     text: &mut String,
     alloc: Global,
@@ -244,7 +244,7 @@ fn push_part(
     groups: &Groups,
     first: u8,
     most: usize,
-) -> Result<Result<bool, usize>, AllocError>
+) -> Result<Result<bool, Extent>, AllocError>
     requires { first < 30 }
     ensures told { IfOk result (λ found. IfOk found (λ well. spec.AddsPart
         (spec.told_of plan.now.named.now plan.now.programs.now opening.now) groups.now first well
@@ -259,11 +259,11 @@ fn push_part(
             push_told(text, names.as_str(), found.as_str())?;
             Ok(Ok(well))
         }
-        Err(turns) => Ok(Err(turns)),
+        Err(extent) => Ok(Err(extent)),
     }
 }
 
-/// Whether all is well in the group of a machine alone, and what is told of it; or how far the exploration came,
+/// Whether all is well in the group of a machine alone, and what is told of it; or which turns lead to no standstill,
 /// if turns lead to more situations than are explored.
 fn part_of(
     alloc: Global,
@@ -272,7 +272,7 @@ fn part_of(
     groups: &Groups,
     first: u8,
     most: usize,
-) -> Result<Result<(bool, String), usize>, AllocError>
+) -> Result<Result<(bool, String), Extent>, AllocError>
     requires { first < 30 }
     ensures { IfOk result (spec.IsPart most plan.now.named.now
         (alone (spec.group_of groups.now first) plan.now.programs.now) opening.now
@@ -295,7 +295,7 @@ fn told_alone(
     groups: &Groups,
     first: u8,
     most: usize,
-) -> Result<Result<(bool, String), usize>, AllocError>
+) -> Result<Result<(bool, String), Extent>, AllocError>
     requires { first < 30 }
     ensures { IfOk result (spec.IsPart most plan.now.named.now plan.now.programs.now opening.now
         (spec.group_of groups.now first)) }
@@ -304,15 +304,15 @@ fn told_alone(
     Ok(told_by(screen))
 }
 
-/// Whether all is well by a screen, and its text; or how far the exploration came.
-pub(crate) fn told_by(screen: Screen) -> Result<(bool, String), usize>
+/// Whether all is well by a screen, and its text; or which turns lead to no standstill.
+pub(crate) fn told_by(screen: Screen) -> Result<(bool, String), Extent>
     ensures { result ≡ spec.told_by screen }
 {
     match screen {
         Screen::Free(text) => Ok((true, text)),
         Screen::Starving(text) => Ok((false, text)),
         Screen::Standstill(text) => Ok((false, text)),
-        Screen::Unfinished(turns) => Err(turns),
+        Screen::Unfinished(extent) => Err(extent),
     }
 }
 
@@ -404,7 +404,7 @@ fn part_screen(
     match explore(alloc, named, opening, plan.programs, most)? {
         Explored::Free(situations) => part_free(alloc, plan, opening, groups, first, situations),
         Explored::Standstill(turns) => standstill_screen(alloc, plan, opening, turns.as_slice()),
-        Explored::Unfinished(turns) => Ok(Screen::Unfinished(turns)),
+        Explored::Unfinished(turns) => Ok(Screen::Unfinished(Extent::Fewer(turns))),
     }
 }
 

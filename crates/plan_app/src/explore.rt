@@ -35,6 +35,18 @@ const MORE: &str = "more than ";
 /// What is said after it, before the number of turns.
 const UNFINISHED: &str = "; nothing stands still in fewer than ";
 
+/// What is said in its place where no turns at all lead to a standstill.
+const ANY_ORDER: &str = "; nothing stands still in any order of turns";
+
+/// Which turns are known to lead to no standstill, where turns lead to more situations than are explored.
+#[derive(Clone, Copy)]
+pub enum Extent {
+    /// Those that are fewer than these.
+    Fewer(usize),
+    /// All, in any order.
+    Any,
+}
+
 /// What `plan explore` prints.
 #[derive(Drop)]
 pub enum Screen {
@@ -44,8 +56,8 @@ pub enum Screen {
     Starving(String),
     /// Some order leads to a standstill.
     Standstill(String),
-    /// Turns lead to more situations than are explored, and none that are fewer than these to a standstill.
-    Unfinished(usize),
+    /// Turns lead to more situations than are explored, and none of these turns to a standstill.
+    Unfinished(Extent),
 }
 
 /// What `plan explore` prints of a plan and its programs, which begin at an opening, where at most `most` situations
@@ -63,7 +75,7 @@ pub fn screen_of(
     match explore(alloc, named, opening, plan.programs, most)? {
         Explored::Free(situations) => free_screen(alloc, plan, opening, situations),
         Explored::Standstill(turns) => standstill_screen(alloc, plan, opening, turns.as_slice()),
-        Explored::Unfinished(turns) => Ok(Screen::Unfinished(turns)),
+        Explored::Unfinished(turns) => Ok(Screen::Unfinished(Extent::Fewer(turns))),
     }
 }
 
@@ -282,25 +294,38 @@ fn push_turns(
 }
 
 /// The words of the fault of more situations than are explored.
-pub(crate) fn large_words(alloc: Global, most: usize, turns: usize) -> Result<String, AllocError>
-    ensures { IfOk result (λ words. string_bytes words ≡ spec.large_words most turns) }
+pub(crate) fn large_words(alloc: Global, most: usize, extent: Extent) -> Result<String, AllocError>
+    ensures { IfOk result (λ words. string_bytes words ≡ spec.large_words most extent) }
 {
     let mut words = String::from_str(alloc, "large: ")?;
-    push_unfinished(&mut words, most, turns)?;
+    push_unfinished(&mut words, most, extent)?;
     Ok(words)
 }
 
-/// Adds that there are more situations than are explored, and how far the exploration came.
+/// Adds that there are more situations than are explored, and which turns lead to no standstill.
 pub(crate) fn push_unfinished(
     text: &mut String,
     most: usize,
-    turns: usize,
+    extent: Extent,
 ) -> Result<(), AllocError>
     ensures { OnOk result (string_bytes text.new
-        ≡ string_bytes text.old ++ spec.unfinished_words most turns) }
+        ≡ string_bytes text.old ++ spec.unfinished_words most extent) }
 {
     text.push_str(MORE)?;
     push_counted(text, most, "situation")?;
-    text.push_str(UNFINISHED)?;
-    push_counted(text, turns, "turn")
+    push_extent(text, extent)
+}
+
+/// Adds which turns lead to no standstill.
+fn push_extent(text: &mut String, extent: Extent) -> Result<(), AllocError>
+    ensures { OnOk result (string_bytes text.new
+        ≡ string_bytes text.old ++ spec.extent_words extent) }
+{
+    match extent {
+        Extent::Fewer(turns) => {
+            text.push_str(UNFINISHED)?;
+            push_counted(text, turns, "turn")
+        }
+        Extent::Any => text.push_str(ANY_ORDER),
+    }
 }

@@ -13,7 +13,7 @@ ghost use Rattle.plan_app.specs.Pages as spec;
 ghost use Rattle.plan_app.specs.Screens as screens;
 
 use crate::acting::Acting;
-use crate::explore::{large_words, machines_of, plates_of, push_free};
+use crate::explore::{Extent, large_words, machines_of, plates_of, push_free};
 use crate::film::push_film;
 use crate::going::{event_of, outlook_of};
 use crate::page_data::push_data;
@@ -119,7 +119,10 @@ pub fn page_of(
     match explore(alloc, named, opening, &plan.programs, most)? {
         Explored::Free(situations) => going_page(alloc, plan, opening, situations),
         Explored::Standstill(turns) => still_page(alloc, plan, opening, turns.as_slice()),
-        Explored::Unfinished(turns) => Ok(Page::Large(large_words(alloc, most, turns)?)),
+        Explored::Unfinished(turns) => {
+            let words = large_words(alloc, most, Extent::Fewer(turns))?;
+            Ok(Page::Large(words))
+        }
     }
 }
 

@@ -12,7 +12,7 @@ use crate::apart::{
     Exploration, both, group_number, is_first, large_of, names_of, push_told, some_are_apart,
     told_by,
 };
-use crate::explore::{Screen, large_words};
+use crate::explore::{Extent, Screen, large_words};
 use crate::plant_explore::screen_of;
 use crate::plant_going::{Group, OpenedPlant};
 use plan_document::{ProgrammedPlan, ProgrammedPlant};
@@ -91,7 +91,7 @@ fn all_of(alloc: Global, plant: &OpenedPlant, most: usize) -> Result<Exploration
         Screen::Free(text) => Ok(Exploration::Well(text)),
         Screen::Starving(text) => Ok(Exploration::Unwell(text)),
         Screen::Standstill(text) => Ok(Exploration::Unwell(text)),
-        Screen::Unfinished(turns) => Ok(Exploration::Large(large_words(alloc, most, turns)?)),
+        Screen::Unfinished(extent) => Ok(Exploration::Large(large_words(alloc, most, extent)?)),
     }
 }
 
@@ -117,7 +117,7 @@ fn parts_of(
                 Ok(part) => {
                     well = both(well, part);
                 }
-                Err(turns) => return large_part(alloc, plant, groups, machine, most, turns),
+                Err(extent) => return large_part(alloc, plant, groups, machine, most, extent),
             }
         }
     }
@@ -135,19 +135,19 @@ fn large_part(
     groups: &Groups,
     first: u8,
     most: usize,
-    turns: usize,
+    extent: Extent,
 ) -> Result<Exploration, AllocError>
     requires { first < 30 }
     ensures { IfOk result (of_groups.IsLarge (of_groups.large_of most
         (spec.names_text plant.now.plans.now groups.now first
-        (length plant.now.programs.now.programs)) turns)) }
+        (length plant.now.programs.now.programs)) extent)) }
 {
     let names = names_on(alloc, plant.plans, groups, first, plant.programs.count())?;
-    large_of(alloc, names.as_str(), most, turns)
+    large_of(alloc, names.as_str(), most, extent)
 }
 
-/// Adds the part of the group of a machine. Says whether all is well in it; or how far the exploration came, if turns
-/// lead to more situations than are explored.
+/// Adds the part of the group of a machine. Says whether all is well in it; or which turns lead to no standstill, if
+/// turns lead to more situations than are explored.
 fn push_part(
     text: &mut String,
     alloc: Global,
@@ -155,7 +155,7 @@ fn push_part(
     groups: &Groups,
     first: u8,
     most: usize,
-) -> Result<Result<bool, usize>, AllocError>
+) -> Result<Result<bool, Extent>, AllocError>
     requires opened { IsOpened plant.now }
     requires first { first < 30 }
     ensures told { IfOk result (λ found. IfOk found (λ well. of_groups.AddsPart
@@ -171,7 +171,7 @@ fn push_part(
             push_told(text, names.as_str(), found.as_str())?;
             Ok(Ok(well))
         }
-        Err(turns) => Ok(Err(turns)),
+        Err(extent) => Ok(Err(extent)),
     }
 }
 
@@ -194,15 +194,15 @@ fn names_on(
     }
 }
 
-/// Whether all is well in the group of a machine alone, and what is told of it; or how far the exploration came, if
-/// turns lead to more situations than are explored.
+/// Whether all is well in the group of a machine alone, and what is told of it; or which turns lead to no standstill,
+/// if turns lead to more situations than are explored.
 fn part_of(
     alloc: Global,
     plant: &OpenedPlant,
     groups: &Groups,
     first: u8,
     most: usize,
-) -> Result<Result<(bool, String), usize>, AllocError>
+) -> Result<Result<(bool, String), Extent>, AllocError>
     requires opened { IsOpened plant.now }
     requires first { first < 30 }
     ensures { IfOk result (spec.IsPart most (group_of groups.now first) plant.now.plans.now
@@ -227,7 +227,7 @@ fn told_of(
     alloc: Global,
     plant: &OpenedPlant,
     most: usize,
-) -> Result<Result<(bool, String), usize>, AllocError>
+) -> Result<Result<(bool, String), Extent>, AllocError>
     requires { IsOpened plant.now }
     ensures { IfOk result (spec.IsPart most (machines_of plant.now.group) plant.now.plans.now
         plant.now.programs.now.programs plant.now.openings.now) }

@@ -1,7 +1,9 @@
 //! What `plan explore --words` prints of a plant's machines, or of those of a group alone: whether some order of their
 //! turns leads to a standstill of all words together, and else whether each of them goes on for ever, and plates move.
+//! Past the limit of situations a standstill alone is sought.
 ghost use Rattle.std.specs.Prelude.{◌≡◌, ◌++◌, ◌<◌, ◌||◌, ℕ, Some, IfOk, OnOk, flat_map, length, slice_get};
 ghost use Rattle.std.specs.Prelude.{string_bytes};
+ghost use Rattle.plan_explorer.specs.PlantExplored.{ComeToMore};
 ghost use Rattle.plan_explorer.specs.Plants.{first_situation};
 ghost use Rattle.plan_liveness.specs.declared.answer.Liveness.{Liveness};
 ghost use Rattle.plan_liveness.specs.PlantAnswers.{IsPlantLiveness};
@@ -13,11 +15,13 @@ ghost use Rattle.plan_app.specs.PlantStarts.{tables_of};
 ghost use Rattle.plan_app.specs.Screens.{ShowsFree, free_line};
 
 use crate::apart::{may_starve_at, some_move_plates};
-use crate::explore::{Screen, push_count, push_situations, push_wait};
+use crate::explore::{Extent, Screen, push_count, push_situations, push_wait};
 use crate::plant_going::{OpenedPlant, is_told, push_asked_by, push_going, walk_of};
 use crate::starving::may_rest;
 use plan_document::ProgrammedPlan;
-use plan_explorer::{Explored, PlantPrograms, PlantWalk, RoutedEvent, explore_plant};
+use plan_explorer::{
+    Explored, PlantPrograms, PlantWalk, RoutedEvent, explore_plant, seek_plant_standstill,
+};
 use plan_liveness::{Liveness, Progress, Reason, explore_plant_machines, explore_plant_plates};
 use std::alloc::{AllocError, Global};
 
@@ -34,7 +38,22 @@ pub(crate) fn screen_of(
     match explore_plant(alloc, plant.tables, plant.openings, plant.programs, most)? {
         Explored::Free(situations) => free_screen(alloc, plant, situations),
         Explored::Standstill(turns) => standstill_screen(alloc, plant, turns.as_slice()),
-        Explored::Unfinished(turns) => Ok(Screen::Unfinished(turns)),
+        Explored::Unfinished(_) => screen_past_limit(alloc, plant, most),
+    }
+}
+
+/// What is found where turns lead to more situations than `most`: a search for a standstill looks at fewer of them.
+fn screen_past_limit(alloc: Global, plant: &OpenedPlant, most: usize) -> Result<Screen, AllocError>
+    requires opened { IsOpened plant.now }
+    requires more { ComeToMore (tables_of plant.now.plans.now) plant.now.programs.now.programs
+        plant.now.openings.now most }
+    ensures { IfOk result (spec.IsPlantScreen most (machines_of plant.now.group) plant.now.plans.now
+        plant.now.programs.now.programs plant.now.openings.now) }
+{
+    match seek_plant_standstill(alloc, plant.tables, plant.openings, plant.programs, most)? {
+        Explored::Free(_) => Ok(Screen::Unfinished(Extent::Any)),
+        Explored::Standstill(turns) => standstill_screen(alloc, plant, turns.as_slice()),
+        Explored::Unfinished(turns) => Ok(Screen::Unfinished(Extent::Fewer(turns))),
     }
 }
 

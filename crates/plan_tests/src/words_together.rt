@@ -261,7 +261,7 @@ no standstill in any order of turns before the last stamp: 15 situations
 ";
 
 /// Turners around a hub, which share nothing with the press: of their group there are more situations than one megabyte
-/// holds.
+/// holds. None of them waits, so none stands still.
 const LARGE_GROUP: &str = "\
 1: ./plan explore --memory 1 --words
 =>
@@ -277,10 +277,11 @@ host = \"m#\"
 guest = \"hub\"
 @start,100
 =>
-fault large: hub, m1, [..], m9, m10: more than 2000 situations; nothing stands still in fewer than [..] turns
+fault large: hub, m1, [..], m9, m10: more than 2000 situations; nothing stands still in any order of turns
 ";
 
-/// Without the press all machines are one group.
+/// Without the press all machines are one group. Where the hub claims each zone too, the search for a standstill ends at
+/// the limit. A bar waits for all its units; where it then claims a zone that it has, all wait for ever.
 const LARGE_PLANT: &str = "\
 1: ./plan explore --memory 1 --words
 =>
@@ -296,7 +297,62 @@ host = \"m#\"
 guest = \"hub\"
 @start,
 =>
+fault large: more than 2000 situations; nothing stands still in any order of turns
+--
+1: ./plan explore --memory 1 --words
+=>
+[[machine]]
+name = \"hub\"
+program = [@11 \"claim z#\", \"release z#\", @]
+@11 [[machine]]
+name = \"m#\"
+poses = [{ name = \"turn\", gives = { z# = \"moving\" } }, { name = \"rest\", gives = { z# = \"openin\" } }]
+program = [\"claim z#\", \"pose turn\", \"pose rest\", \"release z#\"]
+[[zone]]
+name = \"z#\"
+host = \"m#\"
+guest = \"hub\"
+@start,
+=>
 fault large: more than 2000 situations; nothing stands still in fewer than [..] turns
+--
+1: ./plan explore --memory 1 --words
+=>
+[[machine]]
+name = \"bar\"
+program = [@11 \"await z#\", @@11 \"release z#\", @]
+@11 [[machine]]
+name = \"unit#\"
+poses = [{ name = \"clear\", gives = { z# = \"openin\" } }]
+program = [\"claim z#\", \"pose clear\", \"yield z#\"]
+[[zone]]
+name = \"z#\"
+host = \"unit#\"
+guest = \"bar\"
+@start,
+=>
+fault large: more than 2000 situations; nothing stands still in any order of turns
+--
+1: ./plan explore --memory 1 --words
+=>
+[[machine]]
+name = \"bar\"
+program = [@11 \"await z#\", @\"claim z1\"]
+@11 [[machine]]
+name = \"unit#\"
+poses = [{ name = \"clear\", gives = { z# = \"openin\" } }]
+program = [\"claim z#\", \"pose clear\", \"yield z#\"]
+[[zone]]
+name = \"z#\"
+host = \"unit#\"
+guest = \"bar\"
+@start,
+=>
+a standstill after 44 turns, and no fewer
+bar waits: claim z1: already
+@11 unit# waits: claim z#: held bar
+@turns:
+[..]
 ";
 
 #[test]

@@ -47,9 +47,9 @@ returns-in-Free c = c.going_page.ensures c.args.most
 pub returns-in-Standstill : goal.returns-in-Standstill
 returns-in-Standstill c = c.still_page.ensures c.args.most
 
-pub returns-in_ok-large_words-in-Unfinished : goal.returns-in_ok-large_words-in-Unfinished
-returns-in_ok-large_words-in-Unfinished c =
+pub returns-in_ok-words-in-Unfinished : goal.returns-in_ok-words-in-Unfinished
+returns-in_ok-words-in-Unfinished c =
     let e = c.in_ok-situations.ensures in
     let is = unfinished_is_found c.args.most c.args.plan.now.named c.args.plan.now.programs c.args.opening.now c.plan-named.result.now _
     c.in-Unfinished.turns c.plan-named.ensures c.in-Unfinished.is e.more e.unfinished in
-    (c.in-Unfinished.turns, is, c.in_ok-large_words-in-Unfinished.ensures)
+    (c.in-Unfinished.turns, is, c.in_ok-words-in-Unfinished.ensures)

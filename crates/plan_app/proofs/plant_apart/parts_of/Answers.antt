@@ -35,7 +35,7 @@ returns-in-Err c =
     let ss = c.args.plant.now.openings.now in
     let groups = c.args.groups.now in
     let m = c.machines.machine in
-    let is : IsUnfinished c.args.most plans (alone (group_of groups m) ps) ss c.in-Err.turns =
+    let is : IsUnfinished c.args.most plans (alone (group_of groups m) ps) ss c.in-Err.extent =
     subst (λ found. IfErr found (IsUnfinished c.args.most plans (alone (group_of groups m) ps) ss)) c.in-Err.is c.in_ok-part.ensures.large in
     let few : m < length ps = let h = c.machines-test.true in let e = c.count-machine-end.ensures.count in omega arith in
-    large_is_told c.args.most (told_of plans ps ss) groups m c.in-Err.turns c.large_part.result few is c.large_part.ensures
+    large_is_told c.args.most (told_of plans ps ss) groups m c.in-Err.extent c.large_part.result few is c.large_part.ensures

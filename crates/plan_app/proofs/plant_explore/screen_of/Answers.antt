@@ -1,8 +1,8 @@
 use Rattle.std.proofs.Common.{map, subst}
-use Rattle.plan_explorer.specs.Explored.{IfStandstill}
-use Rattle.plan_explorer.specs.PlantExplored.{AreShortest, LeadToStandstill}
+use Rattle.plan_explorer.specs.Explored.{IfStandstill, IfUnfinished}
+use Rattle.plan_explorer.specs.PlantExplored.{AreShortest, ComeToMore, LeadToStandstill}
 use Rattle.plan_app.specs.PlantGoing.{machines_of}
-use Rattle.plan_app.proofs.PlantScreening.{free_is_found, standstill_is_found, unfinished_is_found}
+use Rattle.plan_app.proofs.PlantScreening.{free_is_found, standstill_is_found}
 use Rattle.plan_app.proofs.plant_explore.screen_of.Goals as goal
 
 pub returns-in-Free : goal.returns-in-Free
@@ -25,10 +25,12 @@ returns-in-Standstill c =
     standstill_is_found c.args.most (machines_of plant.group) plant.plans.now ps openings ts c.in-Standstill.turns.items c.as_slice.result.now
     c.standstill_screen.result c.requires.tables c.as_slice.ensures.value lead shortest c.standstill_screen.ensures
 
-pub returns-in-Unfinished : goal.returns-in-Unfinished
-returns-in-Unfinished c =
+pub screen_past_limit-requires-clause-more : goal.screen_past_limit-requires-clause-more
+screen_past_limit-requires-clause-more c =
     let e = c.in_ok-situations.ensures in
     let plant = c.args.plant.now in
+    let ps = plant.programs.now.programs in
+    let openings = plant.openings.now in
     let ts = map (λ table. table.now) plant.tables.now in
-    unfinished_is_found c.args.most plant.plans.now plant.programs.now.programs plant.openings.now ts _
-    c.in-Unfinished.turns c.requires.tables c.in-Unfinished.is e.more e.unfinished
+    subst (λ t. ComeToMore t ps openings c.args.most) c.requires.tables
+    (subst (λ f. IfUnfinished f (λ _. ComeToMore ts ps openings c.args.most)) c.in-Unfinished.is e.more)
