@@ -112,7 +112,7 @@ fn together_script<T, W: Write>(
 ) -> Exit
 where
     T: Threads + Wait + Clock + Sync,
-    requires { HasWords plant.now }
+    requires words { HasWords plant.now }
     ensures status { result ≢ Exit.Refused }
     ensures well { result ≡ Exit.Well → FromScript (writes_of task) plant.now script.now
         (W.contents writer.old) (W.contents writer.new) }

@@ -1,8 +1,8 @@
 use Rattle.std.proofs.Common.{inl, inr}
 use Rattle.plan_app.proofs.serve_plant.together_document.Goals as goal
 
-pub together_script-requires : goal.together_script-requires
-together_script-requires g c =
+pub together_script-requires-clause-words : goal.together_script-requires-clause-words
+together_script-requires-clause-words g c κs within =
     let plant = c.in-Ok.ensures.plant.says.says in
     record { laid_out = plant.laid_out; plans = plant.count; programs = plant.programs.count }
 
