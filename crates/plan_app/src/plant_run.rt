@@ -235,14 +235,7 @@ fn histories_of(
 {
     let mut histories = Vec::new(alloc);
     for word in 0..plans.len() {
-        let history = history_of(
-            alloc,
-            &plans[word],
-            &starts[word],
-            &ends[word],
-            backs,
-            word,
-        )?;
+        let history = history_of(alloc, &plans[word], &starts[word], &ends[word], backs, word)?;
         histories.push(history)?;
     }
     Ok(histories)

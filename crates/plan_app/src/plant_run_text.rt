@@ -266,7 +266,15 @@ pub(crate) fn plant_text_of(
 {
     let events = all_of(alloc, &run.histories)?;
     let mut text = String::new(alloc);
-    push_text(&mut text, alloc, plans, starts, turns, run, events.as_slice())?;
+    push_text(
+        &mut text,
+        alloc,
+        plans,
+        starts,
+        turns,
+        run,
+        events.as_slice(),
+    )?;
     Ok(text)
 }
 

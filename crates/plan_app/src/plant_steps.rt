@@ -59,12 +59,7 @@ fn count_calls(steps: &[RoutedStep]) -> usize
 }
 
 /// The next step of a machine on a word, after these.
-fn next_on(
-    plans: &[ProgrammedPlan],
-    machine: u8,
-    word: usize,
-    done: &[RoutedStep],
-) -> Option<Step>
+fn next_on(plans: &[ProgrammedPlan], machine: u8, word: usize, done: &[RoutedStep]) -> Option<Step>
     ensures { result ≡ slice_get (spec.program_on plans.now machine word)
         (length (steps_on word done.now)) }
 {
@@ -128,10 +123,12 @@ fn is_run(found: Option<Step>, motors: u64, until: u8) -> bool
     ensures { IsTrue result ↔ found ≡ Some (step.Run motors until) }
 {
     match found {
-        Some(Step::Run {
-            motors: own,
-            until: sensor,
-        }) => own == motors && sensor == until,
+        Some(
+            Step::Run {
+                motors: own,
+                until: sensor,
+            },
+        ) => own == motors && sensor == until,
         _ => false,
     }
 }
@@ -248,11 +245,7 @@ fn are_ended(plans: &[ProgrammedPlan], machine: u8, done: &[RoutedStep]) -> bool
 }
 
 /// The steps of a machine, if no step and no call is left after them.
-fn if_ended(
-    plant: &ProgrammedPlant,
-    machine: u8,
-    done: Vec<RoutedStep>,
-) -> Option<Vec<RoutedStep>>
+fn if_ended(plant: &ProgrammedPlant, machine: u8, done: Vec<RoutedStep>) -> Option<Vec<RoutedStep>>
     requires { AreFirst plant.now.plans.items (routed_of plant.now.programs.programs machine)
         machine done.items }
     ensures program { IfSome result (λ steps. IsProgramOf plant.now machine steps.items) }
