@@ -15,7 +15,7 @@ use Rattle.plan_text.specs.Answers.{owner_word, posture_word, refusal_text}
 use Rattle.plan_text.specs.HistoryLaws.{AreToldApart}
 use Rattle.plan_text.specs.Named.{Named}
 use Rattle.plan_text.specs.Names.{Text, is_name, is_name_byte, name_in}
-use Rattle.plan_app.specs.RunTexts.{comments_of, head_line, history_line, is_done_by, is_refused_to, machine_line, machine_lines, stop_line}
+use Rattle.plan_app.specs.RunTexts.{comments_of, head_line, history_line, is_done_by, is_refused_to, machine_line, machine_lines, stop_line, word_words}
 use Rattle.plan_app.specs.Words.{counted, ending}
 
 -- ---- texts without line feeds
@@ -241,11 +241,18 @@ stop_comment n (Some r) m k =
     one_comment (after (joins (word (codes " ") refl) (joins (machine_feedless n m k) (word (codes ": stopped by ") refl)))
     (after (refusal_feedless n r k) (last (codes "\n") refl)))
 
-calls_line : (calls : ℕ) → Line (codes " journals: one legal history of " ++ (counted calls (codes "call") ++ codes "\n"))
-calls_line calls = after (word (codes " journals: one legal history of ") refl) (after (counted_feedless calls (codes "call") (word (codes "call") refl)) (last (codes "\n") refl))
+on_feedless : (on : Option ℕ) → Feedless (word_words on)
+on_feedless None = word [] refl
+on_feedless (Some k) = joins (word (codes "word ") refl) (joins (number k) (word (codes ": ") refl))
 
-count_comment : (calls : ℕ) → AreComments (history_line calls)
-count_comment calls = one_comment (calls_line calls)
+calls_line : (on : Option ℕ) (calls : ℕ)
+    → Line (codes " " ++ (word_words on ++ (codes "journals: one legal history of " ++ (counted calls (codes "call") ++ codes "\n"))))
+calls_line on calls =
+    after (word (codes " ") refl) (after (on_feedless on) (after (word (codes "journals: one legal history of ") refl)
+    (after (counted_feedless calls (codes "call") (word (codes "call") refl)) (last (codes "\n") refl))))
+
+pub history_comment : (on : Option ℕ) (calls : ℕ) → AreComments (history_line on calls)
+history_comment on calls = one_comment (calls_line on calls)
 
 each_comment : (f : ℕ → Text) (first count : ℕ) → ((m : ℕ) → AreComments (f m)) → AreComments (flat_map f (range_with_len first count))
 each_comment f first zero all = no_comments
@@ -257,7 +264,7 @@ all_comments n turns history stops k =
     (more_comments
     (each_comment (machine_lines n history stops) 0 n.plan.machines
     (λ m. more_comments (machine_comment n history m k) (stop_comment n (get_or stops m None) m k)))
-    (count_comment (length history)))
+    (history_comment None (length history)))
 
 -- they end a line
 last_of : (a b : Text) → 0 < length b → get_or b (length b - 1) 0 ≡ 10 → get_or (a ++ b) (length (a ++ b) - 1) 0 ≡ 10
@@ -265,17 +272,20 @@ last_of a b some e =
     let at : length (a ++ b) - 1 ≡ length a + (length b - 1) = omega (arith, some, length-append a b) in
     ap (λ k. get_or (a ++ b) k 0) at ∙ get_or-append-add a b (length b - 1) 0 ∙ e
 
-count_ends : (calls : ℕ) → get_or (history_line calls) (length (history_line calls) - 1) 0 ≡ 10
-count_ends calls = ends_so (history_line calls) (calls_line calls).is
+count_ends : (on : Option ℕ) (calls : ℕ) → get_or (history_line on calls) (length (history_line on calls) - 1) 0 ≡ 10
+count_ends on calls = ends_so (history_line on calls) (calls_line on calls).is
 
 pub record End (text : Text) : Type 0 where
   pub some : 0 < length text
   pub feed : get_or text (length text - 1) 0 ≡ 10
 
+pub history_end : (on : Option ℕ) (calls : ℕ) → End (history_line on calls)
+history_end on calls = record { some = omega arith; feed = count_ends on calls }
+
 pub comments_end : (n : Named) (turns : ℕ) (history : List Event) (stops : List (Option Refusal)) → End (comments_of n turns history stops)
 comments_end n turns history stops =
     let a = head_line turns n.plan.machines in
     let b = flat_map (machine_lines n history stops) (range_with_len 0 n.plan.machines) in
-    let l = history_line (length history) in
+    let l = history_line None (length history) in
     let some : 0 < length l = omega arith in
-    record { some = omega arith; feed = last_of a (b ++ l) (omega (arith, some, length-append b l)) (last_of b l some (count_ends (length history))) }
+    record { some = omega arith; feed = last_of a (b ++ l) (omega (arith, some, length-append b l)) (last_of b l some (count_ends None (length history))) }

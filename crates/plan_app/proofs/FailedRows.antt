@@ -18,7 +18,7 @@ use Rattle.plan_document.specs.declared.plants.ProgrammedPlant.{ProgrammedPlant}
 use Rattle.plan_document.specs.declared.resolving.ProgrammedPlan.{ProgrammedPlan}
 use Rattle.plan_app.specs.Asked.{IsAsked, no_word_text}
 use Rattle.plan_app.specs.Apart.{TellsBy, TellsLarge, TellsNext, TellsPart, TellsParts, Telling, is_first, some_are_apart, told_of}
-use Rattle.plan_app.specs.Failed.{Fails, FailsBy, FailsExploreWords, FailsWords, IsOfDocument, WroteEnd, WroteExploration, WroteFault, WroteNoWord, WrotePage, WrotePageText, WrotePlant, WrotePlantText, WroteWords}
+use Rattle.plan_app.specs.Failed.{Fails, FailsBy, FailsExploreWords, FailsRunWords, FailsWords, IsOfDocument, WroteEnd, WroteExploration, WroteFault, WroteNoWord, WrotePage, WrotePageText, WroteFromScript, WrotePlantFrom, WrotePlantRun, WrotePlantRunText, WrotePlantText, WroteWords}
 use Rattle.plan_app.specs.PlantStarts.{plant_start}
 use Rattle.plan_app.specs.Going.{going_text}
 use Rattle.plan_app.specs.FailedExamples.{AreNoFault, FailedIsMeant, FaultLines, NumbersAreRefused}
@@ -59,7 +59,7 @@ of_words request bytes new none (inr (inl (inr wrote))) = absurd (begins (codes 
 of_words request bytes new none (inr (inr (inl (words, of, wrote)))) = absurd (begins words new none wrote)
 of_words request bytes new none (inr (inr (inr wrote))) = wrote
 
-by_start : (most : ℕ) (plant : ProgrammedPlant) (script new : Text) → AreNoFault new → WrotePlant most plant script (Some []) (Some new)
+by_start : (most : ℕ) (plant : ProgrammedPlant) (script new : Text) → AreNoFault new → WroteFromScript (WrotePlantFrom most) plant script (Some []) (Some new)
     → (openings : List State) × (plant_start plant script ≡ Ok openings) × WrotePlantText plant openings (Some []) (Some new)
 by_start most plant script new none (inl (fault, is, wrote)) = absurd (begins (fault_text fault) new none wrote)
 by_start most plant script new none (inr (openings, is, inl (words, tells, wrote))) = absurd (begins words new none wrote)
@@ -74,6 +74,25 @@ words_explored most bytes new none (inr (inl (inr wrote))) = absurd (begins (cod
 words_explored most bytes new none (inr (inr (inl (words, of, wrote)))) = absurd (begins words new none wrote)
 words_explored most bytes new none (inr (inr (inr (plant, is, wrote)))) =
     let (openings, begun, told) = by_start most plant (script_in bytes) new none wrote in
+    (plant, is, openings, begun, told)
+
+by_run : (turns : ℕ) (plant : ProgrammedPlant) (script new : Text) → AreNoFault new → WroteFromScript (WrotePlantRun turns) plant script (Some []) (Some new)
+    → (openings : List State) × (plant_start plant script ≡ Ok openings) × WrotePlantRunText turns plant openings (Some []) (Some new)
+by_run turns plant script new none (inl (fault, is, wrote)) = absurd (begins (fault_text fault) new none wrote)
+by_run turns plant script new none (inr (openings, is, inl (inl (long, wrote)))) = absurd (begins (codes "long") new none wrote)
+by_run turns plant script new none (inr (openings, is, inl (inr (inl (audit, wrote))))) = absurd (begins (codes "audit") new none wrote)
+by_run turns plant script new none (inr (openings, is, inl (inr (inr (no_plant, wrote))))) = absurd (begins (codes "words") new none wrote)
+by_run turns plant script new none (inr (openings, is, inr wrote)) = (openings, is, wrote)
+
+words_run : (turns : ℕ) (bytes new : Text) → AreNoFault new → FailsRunWords turns (Some bytes) (Some []) (Some new)
+    → (plant : ProgrammedPlant) × IsPlantIn (document_in bytes) plant × (openings : List State)
+    × (plant_start plant (script_in bytes) ≡ Ok openings) × WrotePlantRunText turns plant openings (Some []) (Some new)
+words_run turns bytes new none (inl wrote) = absurd (begins (codes "long") new none wrote.1)
+words_run turns bytes new none (inr (inl (inl wrote))) = absurd (begins (codes "read") new none wrote)
+words_run turns bytes new none (inr (inl (inr wrote))) = absurd (begins (codes "memory") new none wrote)
+words_run turns bytes new none (inr (inr (inl (words, of, wrote)))) = absurd (begins words new none wrote)
+words_run turns bytes new none (inr (inr (inr (plant, is, wrote)))) =
+    let (openings, begun, told) = by_run turns plant (script_in bytes) new none wrote in
     (plant, is, openings, begun, told)
 
 no_number : (document old new : Text) → ¬ WroteNoWord None document (Some old) (Some new)
@@ -197,6 +216,7 @@ failed-meant = record {
   large = is_large;
   words = of_words;
   words_explored = words_explored;
+  words_run = words_run;
   no_number = no_number;
 }
 

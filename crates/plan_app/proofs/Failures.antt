@@ -15,10 +15,11 @@ use Rattle.plan_app.specs.Apart.{TellsExploration, told_of}
 use Rattle.plan_app.specs.Asked.{IsAsked, IsNoPlan}
 use Rattle.plan_app.specs.declared.asking.NoPlan.{NoPlan}
 use Rattle.plan_app.specs.declared.asking.NoPlan.TheVariants.{OfDocument, OfWord}
-use Rattle.plan_app.specs.Failed.{Fails, FailsBy, FailsExploreIn, FailsExploreWords, FailsIn, FailsWords, FailsWordsIn, WroteExploration, WroteFault, WroteNoPlan, WroteUnread}
+use Rattle.plan_app.specs.Failed.{Fails, FailsBy, FailsIn, FailsOfBytes, FailsTogether, FailsWords, FailsWordsIn, WroteExploration, WroteFault, WroteNoPlan, WroteUnread, wrote_of}
 use Rattle.plan_app.specs.Input.{byte_limit, document_in, script_in}
 use Rattle.plan_app.specs.declared.request.PlantRequest.{PlantRequest}
 use Rattle.plan_app.specs.declared.request.Request.{Request}
+use Rattle.plan_app.specs.declared.request.Together.{Together}
 
 -- however a print ended, a prefix was written
 pub printed_prefix : (e : Exit) (old new : Option (List ℕ)) (text : List ℕ) → e ≢ Refused → Prints (exit_status e) old new text → WrotePrefix old new text
@@ -59,7 +60,7 @@ fails_whole word request read input old new same more long =
 pub unread_fails : (word : Option ℕ) (request : Request) (input old new : Option (List ℕ)) → WroteUnread old new → Fails word request input old new
 unread_fails word request input old new unread = if_known (λ bytes. FailsIn word request bytes old new) input (λ bytes. inr (inl unread))
 
--- the same of the words of a plant, and of their exploration
+-- the same of the words of a plant, and of all of them together
 pub words_whole : (request : PlantRequest) (read : List ℕ) (input old new : Option (List ℕ))
     → (length read ≤ byte_limit → IfSome input (λ bytes. read ≡ bytes))
     → (byte_limit < length read → IfSome input (λ bytes. byte_limit < length bytes))
@@ -71,16 +72,16 @@ words_whole request read input old new same more long =
 pub unread_words : (request : PlantRequest) (input old new : Option (List ℕ)) → WroteUnread old new → FailsWords request input old new
 unread_words request input old new unread = if_known (λ bytes. FailsWordsIn request bytes old new) input (λ bytes. inr (inl unread))
 
-pub explored_whole : (most : ℕ) (read : List ℕ) (input old new : Option (List ℕ))
+pub together_whole : (task : Together) (read : List ℕ) (input old new : Option (List ℕ))
     → (length read ≤ byte_limit → IfSome input (λ bytes. read ≡ bytes))
     → (byte_limit < length read → IfSome input (λ bytes. byte_limit < length bytes))
     → (byte_limit < length read → WroteFault (codes "long") old new)
-    → FailsExploreIn most read old new → FailsExploreWords most input old new
-explored_whole most read input old new same more long =
-    whole_input (λ bytes. FailsExploreIn most bytes old new) read input same more (λ many bytes larger. inl (larger, long many))
+    → FailsOfBytes (wrote_of task) read old new → FailsTogether task input old new
+together_whole task read input old new same more long =
+    whole_input (λ bytes. FailsOfBytes (wrote_of task) bytes old new) read input same more (λ many bytes larger. inl (larger, long many))
 
-pub unread_explored : (most : ℕ) (input old new : Option (List ℕ)) → WroteUnread old new → FailsExploreWords most input old new
-unread_explored most input old new unread = if_known (λ bytes. FailsExploreIn most bytes old new) input (λ bytes. inr (inl unread))
+pub unread_together : (task : Together) (input old new : Option (List ℕ)) → WroteUnread old new → FailsTogether task input old new
+unread_together task input old new unread = if_known (λ bytes. FailsOfBytes (wrote_of task) bytes old new) input (λ bytes. inr (inl unread))
 
 -- there is the plan that is asked for
 pub by_plan : (word : Option ℕ) (request : Request) (bytes : List ℕ) (plan : ProgrammedPlan) (old new : Option (List ℕ)) → IsAsked word (document_in bytes) plan

@@ -32,9 +32,13 @@ mod Comments
 mod Replaying
 mod RunLawProofs
 mod RunRows
+mod PlantRunLawProofs
+mod PlantRunRows
+mod PlantRunning
 mod PageRows
 mod PageLegal
 mod Keeping
+mod Merging
 mod OnWordRows
 mod PlantPictureRows
 mod PlantStarting

@@ -5,12 +5,12 @@ use Rattle.std.specs.Option.{ok_or, option_and_then}
 use Rattle.std.specs.Str.{bytes_eq}
 use Rattle.std.specs.Prelude.{if◌then◌else◌, is_some, nat_le, set, drop, take, codes, replicate, IfSome, IsNone}
 use Rattle.std.proofs.Common.{inl, inr, drop-cons}
-use Rattle.std.specs.Prelude.{unwrap_or}
+use Rattle.std.specs.Prelude.{unwrap_or, option_map}
 use Rattle.std.proofs.lemmas.List.{length-map, map-append, take-append-drop}
 use Rattle.std.proofs.lemmas.Bool.{and_parts, cases_lt, eqb-true, le-ltb, leb-true, lt-ltb}
 use Rattle.std.proofs.lemmas.List.{get_or-map, get_or_default, get_or_past}
 use Rattle.std.proofs.lemmas.List.FromFn.{map-range_with_len_more, take-map-range_with_len}
-use Rattle.std.proofs.lemmas.Option.{get_or_from_slice_get, same_Some, slice_get-get_or, slice_get_within}
+use Rattle.std.proofs.lemmas.Option.{get_or_from_slice_get, same_Some, slice_get-get_or, slice_get-map, slice_get_within}
 use Rattle.csv.specs.Reading.{default_config, records, strip_bom}
 use Rattle.csv.specs.Records.{field_at}
 use Rattle.std.proofs.lemmas.List.FromFn.{get_or-map-range_with_len, length-map-range_with_len}
@@ -33,6 +33,7 @@ use Rattle.plan_words.specs.PlantRoutes.{HasNoPlace, IsPlace}
 use Rattle.plan_words.specs.declared.routing.OnWord.{OnWord}
 use Rattle.plan_document.specs.declared.plants.ProgrammedPlant.{ProgrammedPlant}
 use Rattle.plan_document.specs.declared.resolving.ProgrammedPlan.{ProgrammedPlan}
+use Rattle.plan_app.specs.PlantRuns.{AreStartsOf}
 use Rattle.plan_app.specs.PlantStarts.{all_starts, digits_at, has_digits, if_counted, openings_in, plant_start, row_on, rows_openings, start_on, tables_of, with_start}
 
 -- ---- all starts
@@ -115,52 +116,100 @@ plant_count plant script openings is =
 
 -- ---- they are starts
 
+table_there : (plans : List ProgrammedPlan) (w : ℕ) (plan : ProgrammedPlan) → slice_get plans w ≡ Some plan → table_on (tables_of plans) w ≡ plan.named.plan
+table_there plans w plan there =
+    get_or_from_slice_get (tables_of plans) w plan.named.plan _
+    (slice_get-map (λ (p : ProgrammedPlan). p.named.plan) plans w ∙ ap (option_map (λ (p : ProgrammedPlan). p.named.plan)) there)
+
 given : {A E : Type 0} (o : Option A) (fault : E) (x : A) → ok_or o fault ≡ Ok x → o ≡ Some x
 given None fault x e = absurd (cc)
 given (Some y) fault x e = let same : y ≡ x = cc in ap Some same
 
-start_of_digits : (count : ℕ) (digits : Text) (stamp : Option ℕ) (s : State) → start_of count digits stamp ≡ Some s → IsStart s
+full_at : (digits : Text) (k : ℕ) → k < 16 → get_or (full_places digits) k false ≡ is_one digits k
+full_at digits k few = let same : 0 + k ≡ k = omega arith in get_or-map-range_with_len (is_one digits) 0 16 k k false few same
+
+-- no place is full that has no digit
+past_digits : (digits : Text) (count place : ℕ) → length digits ≡ count → count ≤ place → get_or (full_places digits) place false ≡ false
+past_digits digits count place e more = elim (cases_lt place 16) [
+  | inl few ↦ full_at digits place few ∙ rw (le-ltb place (length digits) (subst (λ n. n ≤ place) (sym e) more)) refl
+  | inr sixteen ↦
+      let all : length (full_places digits) ≤ place = subst (λ n. n ≤ place) (sym (length-map-range_with_len (is_one digits) 0 16)) sixteen in
+      get_or_past (full_places digits) place false all
+]
+
+-- a start by a plan with this number of places
+record IsStartWith (count : ℕ) (s : State) : Type 0 where
+  pub start : IsStart s
+  pub places : (place : ℕ) → count ≤ place → is_full s place ≡ false
+
+start_of_digits : (count : ℕ) (digits : Text) (stamp : Option ℕ) (s : State) → start_of count digits stamp ≡ Some s → IsStartWith count s
 start_of_digits count digits None s e = absurd (cc)
 start_of_digits count digits (Some stamp) s e = by (are_places count digits && nat_le stamp last_stamp) refl e
   where
     by : (b : Bool) → (are_places count digits && nat_le stamp last_stamp) ≡ b
-        → (if b then Some (start_state (full_places digits) stamp) else None) ≡ Some s → IsStart s
+        → (if b then Some (start_state (full_places digits) stamp) else None) ≡ Some s → IsStartWith count s
     by false is same = absurd (cc)
-    by true is same = subst IsStart (same_Some (start_state (full_places digits) stamp) s same) (record {
-      stamp_in_range = leb-true stamp last_stamp (and_parts (are_places count digits) (nat_le stamp last_stamp) is).1;
-      has_sixteen_places = length-map-range_with_len (is_one digits) 0 16;
-      same = refl;
-    })
+    by true is same =
+        let parts = and_parts (are_places count digits) (nat_le stamp last_stamp) is in
+        let digit_count : length digits ≡ count = eqb-true (length digits) count (and_parts (nat_eq (length digits) count) _ parts.0).0 in
+        subst (IsStartWith count) (same_Some (start_state (full_places digits) stamp) s same) (record {
+          start = record {
+            stamp_in_range = leb-true stamp last_stamp parts.1;
+            has_sixteen_places = length-map-range_with_len (is_one digits) 0 16;
+            same = refl;
+          };
+          places = λ place more. past_digits digits count place digit_count more;
+        })
 
-start_of_row : (count : ℕ) (row : Row) (s : State) → start_in count row ≡ Ok s → IsStart s
+start_of_row : (count : ℕ) (row : Row) (s : State) → start_in count row ≡ Ok s → IsStartWith count s
 start_of_row count row s e = by (field_at row 0) e
   where
     fields : (b : Bool) (o : Option Text)
-        → (if b then None else option_and_then (λ digits. start_of count digits (stamp_in (field_at row 2))) o) ≡ Some s → IsStart s
+        → (if b then None else option_and_then (λ digits. start_of count digits (stamp_in (field_at row 2))) o) ≡ Some s → IsStartWith count s
     fields true o is = absurd (cc)
     fields false None is = absurd (cc)
     fields false (Some digits) is = start_of_digits count digits (stamp_in (field_at row 2)) s is
 
-    whether : (b : Bool) → (if b then ok_or (start_fields count row) BadStart else Err NoStart) ≡ Ok s → IsStart s
+    whether : (b : Bool) → (if b then ok_or (start_fields count row) BadStart else Err NoStart) ≡ Ok s → IsStartWith count s
     whether true k = fields (nat_lt 3 (length row)) (field_at row 1) (given (start_fields count row) BadStart s k)
     whether false k = absurd (cc)
 
-    by : (o : Option Text) → start_by count o row ≡ Ok s → IsStart s
+    by : (o : Option Text) → start_by count o row ≡ Ok s → IsStartWith count s
     by None is = absurd (cc)
     by (Some word) is = whether (bytes_eq word (codes "start")) is
 
 -- so is what a script opens each word with
-pub openings_are_starts : (plant : ProgrammedPlant) (script : List ℕ) (openings : List State) → plant_start plant script ≡ Ok openings
-    → (w : ℕ) → w < length openings → IsStart (state_on openings w)
-openings_are_starts plant script openings is w few = by (records default_config (strip_bom script)) is
+openings_are_with : (plant : ProgrammedPlant) (script : List ℕ) (openings : List State) → plant_start plant script ≡ Ok openings
+    → (w : ℕ) → w < length openings → IsStartWith (place_count (table_on (tables_of plant.plans.items) w)) (state_on openings w)
+openings_are_with plant script openings is w few = by (records default_config (strip_bom script)) is
   where
-    by : (rows : List Row) → rows_openings plant.words (tables_of plant.plans.items) rows ≡ Ok openings → IsStart (state_on openings w)
+    by : (rows : List Row) → rows_openings plant.words (tables_of plant.plans.items) rows ≡ Ok openings
+        → IsStartWith (place_count (table_on (tables_of plant.plans.items) w)) (state_on openings w)
     by [] none = absurd (cc)
     by (row ∷ rows) some =
         let ts = tables_of plant.plans.items in
         let there : w < length ts = subst (λ n. w < n) (opening_count plant.words ts row openings some) few in
         start_of_row (place_count (table_on ts w)) (row_on row (word_at plant.words w).group.places) (state_on openings w)
         (opening_on plant.words ts row openings w some there)
+
+pub openings_are_starts : (plant : ProgrammedPlant) (script : List ℕ) (openings : List State) → plant_start plant script ≡ Ok openings
+    → (w : ℕ) → w < length openings → IsStart (state_on openings w)
+openings_are_starts plant script openings is w few = (openings_are_with plant script openings is w few).start
+
+-- each by the plan of its word
+pub openings_of_plans : (plant : ProgrammedPlant) (script : List ℕ) (openings : List State) → plant_start plant script ≡ Ok openings
+    → AreStartsOf plant.plans.items openings
+openings_of_plans plant script openings is =
+    let plans = plant.plans.items in
+    let count : length openings ≡ length plans = plant_count plant script openings is in
+    record {
+      count = count;
+      each = λ w plan there.
+          let few : w < length openings = subst (λ n. w < n) (sym count) (slice_get_within plans w plan there) in
+          let own = openings_are_with plant script openings is w few in
+          let table : table_on (tables_of plans) w ≡ plan.named.plan = table_there plans w plan there in
+          record { start = own.start; places = λ place more. own.places place (subst (λ t. place_count t ≤ place) (sym table) more) };
+    }
 
 -- ---- as the code finds them
 
@@ -271,9 +320,6 @@ one_at digits places k place is =
     let there : get_or (digits_at digits places) k 0 ≡ get_or digits place 0 =
     get_or-map (λ p. get_or digits p 0) places k 0 0 few ∙ ap (λ p. get_or digits p 0) (get_or_from_slice_get places k place 0 is) in
     one_there (digits_at digits places) k ∙ ap (λ digit. nat_eq digit 49) there ∙ sym (one_there digits place)
-
-full_at : (digits : Text) (k : ℕ) → k < 16 → get_or (full_places digits) k false ≡ is_one digits k
-full_at digits k few = let same : 0 + k ≡ k = omega arith in get_or-map-range_with_len (is_one digits) 0 16 k k false few same
 
 pub place_is_full : (v : PlantWords) (ts : List PlanTable) (row : Row) (openings : List State) (w k place : ℕ)
     → openings_in v ts row ≡ Ok openings → w < length ts → slice_get (word_at v w).group.places k ≡ Some place → k < 16

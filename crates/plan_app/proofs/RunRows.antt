@@ -11,6 +11,7 @@ run_rows = record {
   nothing = refl;
   one = refl;
   one_call = refl;
+  on_word = refl;
   of_lift = refl;
   stopped = refl;
   fine = refl;

@@ -72,6 +72,7 @@ served-meant = record {
   words = λ bytes old new (plant, is, (text, tells, wrote)). (plant, is, text, tells, wrote);
   header_words = λ bytes old new said. said;
   draw_words = λ bytes old new said. said;
+  run_words = λ turns bytes old new (plant, is, (openings, begun, (text, tells, wrote))). (plant, is, openings, begun, text, tells, wrote);
   of_document = λ document plan is. is;
   of_word = λ number document plan is. (is.plant, is.says, is.there);
   silent = λ n ps s (text, tells, all). let e = tells.told in absurd (cc);

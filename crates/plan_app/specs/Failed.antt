@@ -25,11 +25,13 @@ use Rattle.plan_app.specs.Input.{byte_limit, document_in, script_in}
 use Rattle.plan_app.specs.OnWords.{TellsWords}
 use Rattle.plan_app.specs.Pages.{IsLongPage, TellsPage}
 use Rattle.plan_app.specs.PlantPictures.{IsPlantPicture}
+use Rattle.plan_app.specs.PlantRuns.{AreNoPlant, HasForeignPlantCall, IsPlantTooLong, IsPlantUnexplained, TellsPlantRun}
 use Rattle.plan_app.specs.PlantScreens.{told_of as of_plant}
 use Rattle.plan_app.specs.PlantStarts.{plant_start}
 use Rattle.plan_app.specs.RunPages.{ShowsRun}
 use Rattle.plan_app.specs.Runs.{HasForeignCall, IsTooLong, IsUnexplained, TellsRun}
 use Rattle.plan_app.specs.Screens.{TellsFree, TellsUnfinished}
+use Rattle.plan_app.specs.Served.{Writing}
 use Rattle.plan_app.specs.declared.asking.NoPlan.{NoPlan}
 use Rattle.plan_app.specs.declared.asking.NoPlan.TheVariants.{OfDocument, OfWord}
 use Rattle.plan_app.specs.declared.request.PlantRequest.{PlantRequest}
@@ -37,6 +39,8 @@ use Rattle.plan_app.specs.declared.request.PlantRequest.TheVariants as plant_req
 use Rattle.plan_app.specs.declared.request.Request.{Request}
 use Rattle.plan_app.specs.declared.request.Request.TheVariants.{Check, Draw, Explore, Header, Module, Page}
 use Rattle.plan_app.specs.declared.request.Request.TheVariants.{Replay, Run, RunPage}
+use Rattle.plan_app.specs.declared.request.Together.{Together}
+use Rattle.plan_app.specs.declared.request.Together.TheVariants as together
 
 -- ---- lines of faults
 
@@ -242,7 +246,7 @@ FailsWordsIn request bytes old new =
 abbrev pub FailsWords : PlantRequest → Option Text → Option Text → Option Text → Type 0
 FailsWords request input old new = IfSome input (λ bytes. FailsWordsIn request bytes old new)
 
--- ---- the same of an exploration of all its words together
+-- ---- the same of all its words together: of an exploration, and of a run
 
 -- the script has no start of the plant, and why
 abbrev pub WroteNoOpenings : ProgrammedPlant → Text → Option Text → Option Text → Type 0
@@ -267,20 +271,47 @@ abbrev pub WrotePlantFrom : ℕ → ProgrammedPlant → List State → Option Te
 WrotePlantFrom most plant openings old new =
     WroteLargePlant most plant openings old new ⊎ WrotePlantText plant openings old new
 
+-- a run has more calls on some word than a script may have, or no history explains what was noted of a word; or the words
+-- aren't those of one plant
+abbrev pub WrotePlantRunFault : ℕ → ProgrammedPlant → List State → Option Text → Option Text → Type 0
+WrotePlantRunFault turns plant openings old new =
+    (IsPlantTooLong plant turns openings × WroteFault (codes "long") old new)
+    ⊎ (((IsPlantUnexplained plant turns openings ⊎ HasForeignPlantCall plant turns openings)
+    × WroteFault (codes "audit") old new) ⊎ (AreNoPlant plant × WroteFault (codes "words") old new))
+
+-- what machines did in a run, and of each word the script of its history
+abbrev pub WrotePlantRunText : ℕ → ProgrammedPlant → List State → Option Text → Option Text → Type 0
+WrotePlantRunText turns plant openings old new =
+    (fine : Bool) × (text : Text) × TellsPlantRun plant turns openings fine text × WrotePrefix old new text
+
+abbrev pub WrotePlantRun : ℕ → ProgrammedPlant → List State → Option Text → Option Text → Type 0
+WrotePlantRun turns plant openings old new =
+    WrotePlantRunFault turns plant openings old new ⊎ WrotePlantRunText turns plant openings old new
+
+abbrev pub wrote_of : Together → Writing
+wrote_of (together.Explore most) = WrotePlantFrom most
+wrote_of (together.Run turns) = WrotePlantRun turns
+
 -- the openings are the script's, if it has them
-abbrev pub WrotePlant : ℕ → ProgrammedPlant → Text → Option Text → Option Text → Type 0
-WrotePlant most plant script old new =
+abbrev pub WroteFromScript : Writing → ProgrammedPlant → Text → Option Text → Option Text → Type 0
+WroteFromScript wrote plant script old new =
     WroteNoOpenings plant script old new
-    ⊎ ((openings : List State) × (plant_start plant script ≡ Ok openings) × WrotePlantFrom most plant openings old new)
+    ⊎ ((openings : List State) × (plant_start plant script ≡ Ok openings) × wrote plant openings old new)
 
-abbrev pub WrotePlantOf : ℕ → Text → Text → Option Text → Option Text → Type 0
-WrotePlantOf most document script old new =
-    (plant : ProgrammedPlant) × IsPlantIn document plant × WrotePlant most plant script old new
+abbrev pub WroteOfDocument : Writing → Text → Text → Option Text → Option Text → Type 0
+WroteOfDocument wrote document script old new =
+    (plant : ProgrammedPlant) × IsPlantIn document plant × WroteFromScript wrote plant script old new
 
-abbrev pub FailsExploreIn : ℕ → Text → Option Text → Option Text → Type 0
-FailsExploreIn most bytes old new =
+abbrev pub FailsOfBytes : Writing → Text → Option Text → Option Text → Type 0
+FailsOfBytes wrote bytes old new =
     WroteLong bytes old new ⊎ (WroteUnread old new ⊎ (WroteDocumentFault old new
-    ⊎ WrotePlantOf most (document_in bytes) (script_in bytes) old new))
+    ⊎ WroteOfDocument wrote (document_in bytes) (script_in bytes) old new))
 
 abbrev pub FailsExploreWords : ℕ → Option Text → Option Text → Option Text → Type 0
-FailsExploreWords most input old new = IfSome input (λ bytes. FailsExploreIn most bytes old new)
+FailsExploreWords most input old new = IfSome input (λ bytes. FailsOfBytes (WrotePlantFrom most) bytes old new)
+
+abbrev pub FailsRunWords : ℕ → Option Text → Option Text → Option Text → Type 0
+FailsRunWords turns input old new = IfSome input (λ bytes. FailsOfBytes (WrotePlantRun turns) bytes old new)
+
+abbrev pub FailsTogether : Together → Option Text → Option Text → Option Text → Type 0
+FailsTogether task input old new = IfSome input (λ bytes. FailsOfBytes (wrote_of task) bytes old new)

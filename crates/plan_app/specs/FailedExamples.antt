@@ -9,8 +9,8 @@ use Rattle.plan_document.specs.declared.resolving.ProgrammedPlan.{ProgrammedPlan
 use Rattle.plan_app.specs.Apart.{TellsLarge, told_of}
 use Rattle.plan_app.specs.Asked.{IsAsked, no_word_text}
 use Rattle.plan_app.specs.Failed.{Fails, FailsBy, IsOfDocument, WroteEnd, WroteExploration, WroteFault}
-use Rattle.plan_app.specs.Failed.{FailsExploreWords, FailsWords, WroteNoWord, WrotePage, WrotePageText}
-use Rattle.plan_app.specs.Failed.{WrotePlantText, WroteWords}
+use Rattle.plan_app.specs.Failed.{FailsExploreWords, FailsRunWords, FailsWords, WroteNoWord, WrotePage, WrotePageText}
+use Rattle.plan_app.specs.Failed.{WrotePlantRunText, WrotePlantText, WroteWords}
 use Rattle.plan_app.specs.Input.{document_in, script_in}
 use Rattle.plan_app.specs.PlantStarts.{plant_start}
 use Rattle.plan_app.specs.declared.request.PlantRequest.{PlantRequest}
@@ -77,6 +77,12 @@ pub record FailedIsMeant : Type 0 where
       → (plant : ProgrammedPlant) × IsPlantIn (document_in bytes) plant
       × (openings : List State) × (plant_start plant (script_in bytes) ≡ Ok openings)
       × WrotePlantText plant openings (Some []) (Some new)
+  -- and of a run on all words it is what machines did
+  pub words_run : (turns : ℕ) (bytes new : Text) → AreNoFault new
+      → FailsRunWords turns (Some bytes) (Some []) (Some new)
+      → (plant : ProgrammedPlant) × IsPlantIn (document_in bytes) plant
+      × (openings : List State) × (plant_start plant (script_in bytes) ≡ Ok openings)
+      × WrotePlantRunText turns plant openings (Some []) (Some new)
   -- a plan that is asked for of no word is never refused for its number
   pub no_number : (document old new : Text) → ¬ WroteNoWord None document (Some old) (Some new)
 

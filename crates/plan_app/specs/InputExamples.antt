@@ -9,7 +9,8 @@ use Rattle.plan_app.specs.declared.request.Request.{Request}
 use Rattle.plan_app.specs.declared.request.Request.TheVariants.{Check, Replay, Explore, Page, Header, Module, Draw}
 use Rattle.plan_app.specs.declared.request.Request.TheVariants.{Run, RunPage}
 use Rattle.plan_app.specs.declared.request.Wanted.{Wanted}
-use Rattle.plan_app.specs.declared.request.Wanted.TheVariants.{Help, Version, Words, ExploreWords, Plan}
+use Rattle.plan_app.specs.declared.request.Wanted.TheVariants.{Help, Version, Words, ExploreWords, RunWords}
+use Rattle.plan_app.specs.declared.request.Wanted.TheVariants.{Plan}
 
 -- a document of one line, and a script of one
 abbrev pub both : List ℕ
@@ -60,6 +61,9 @@ memory_with word number last = wanted_of (codes "plan" ∷ word ∷ codes "--mem
 
 abbrev pub on_word : Text → Text → List Text → Option Wanted
 on_word word number more = wanted_of (codes "plan" ∷ word ∷ codes "--word" ∷ number ∷ more)
+
+abbrev pub run_all_with : Text → List Text → Option Wanted
+run_all_with flag rest = wanted_of (codes "plan" ∷ codes "run" ∷ codes "--words" ∷ flag ∷ rest)
 
 pub record RequestsAreRead : Type 0 where
   pub check : asked (codes "check") ≡ whole (Check 1000000)
@@ -175,6 +179,18 @@ pub record RequestsAreRead : Type 0 where
   pub check_words : asked_with (codes "check") (codes "--words") ≡ None
   pub check_words_with_memory : memory_with (codes "check") (codes "64") (codes "--words") ≡ None
   pub run_words : wanted_of (codes "plan" ∷ codes "run" ∷ codes "--turns" ∷ codes "5" ∷ codes "--words" ∷ []) ≡ None
+  pub run_all : run_all_with (codes "--turns") (codes "5" ∷ []) ≡ Some (RunWords 5)
+  pub run_all_most : run_all_with (codes "--turns") (codes "1000000" ∷ []) ≡ Some (RunWords 1000000)
+  pub run_all_more : run_all_with (codes "--turns") (codes "1000001" ∷ []) ≡ None
+  pub run_all_none : run_all_with (codes "--turns") (codes "0" ∷ []) ≡ None
+  pub run_all_page : run_all_with (codes "--turns") (codes "5" ∷ codes "--page" ∷ []) ≡ None
+  pub run_all_without_number : run_all_with (codes "--turns") [] ≡ None
+  pub run_all_memory : run_all_with (codes "--memory") (codes "5" ∷ []) ≡ None
+  pub run_all_alone : asked_with (codes "run") (codes "--words") ≡ None
+  pub run_all_on_word
+      : on_word (codes "run") (codes "1") (codes "--words" ∷ codes "--turns" ∷ codes "5" ∷ []) ≡ None
+  pub explore_turns
+      : wanted_of (codes "plan" ∷ codes "explore" ∷ codes "--words" ∷ codes "--turns" ∷ codes "5" ∷ []) ≡ None
   pub words_words : asked_with (codes "words") (codes "--words") ≡ None
   pub words_flag_alone : asked (codes "--words") ≡ None
   pub words_flag_longer : asked_with (codes "explore") (codes "--words=1") ≡ None

@@ -14,7 +14,8 @@ use Rattle.plan_app.specs.declared.request.Request.{Request}
 use Rattle.plan_app.specs.declared.request.Request.TheVariants.{Check, Replay, Explore, Page, Header, Module, Draw}
 use Rattle.plan_app.specs.declared.request.Request.TheVariants.{Run, RunPage}
 use Rattle.plan_app.specs.declared.request.Wanted.{Wanted}
-use Rattle.plan_app.specs.declared.request.Wanted.TheVariants.{Help, Version, Words, ExploreWords, Plan}
+use Rattle.plan_app.specs.declared.request.Wanted.TheVariants.{Help, Version, Words, ExploreWords, RunWords}
+use Rattle.plan_app.specs.declared.request.Wanted.TheVariants.{Plan}
 
 -- the words of this program alone
 abbrev pub own_words : List (List ℕ)
@@ -91,13 +92,17 @@ of_document request = option_map (Plan None) request
 abbrev pub wanted_on : List ℕ → Option Request → Option Wanted
 wanted_on number request = option_and_then (λ n. option_map (Plan (Some n)) request) (number_in number)
 
--- or of all words together, of an exploration, a header or a picture: `--words` comes last
+-- or of all words together, of an exploration, a header or a picture: `--words` comes last; of a run, before the turns
 abbrev pub wanted_for : List ℕ → List ℕ → Option Wanted
 wanted_for word flag =
     if bytes_eq word (codes "explore") && bytes_eq flag (codes "--words") then Some (ExploreWords usual_most)
     else (if bytes_eq word (codes "header") && bytes_eq flag (codes "--words") then Some (Words plant.Header)
     else (if bytes_eq word (codes "draw") && bytes_eq flag (codes "--words") then Some (Words plant.Draw)
     else of_document (request_for word flag)))
+
+abbrev pub words_with : List ℕ → List ℕ → List (List ℕ) → Option Wanted
+words_with word flag (number ∷ []) = option_map RunWords (turns_of_run word flag number)
+words_with word flag _ = None
 
 abbrev pub words_of_number : List ℕ → List ℕ → List ℕ → Option Wanted
 words_of_number word flag number =
@@ -117,7 +122,8 @@ wanted_by_number word flag number _ = None
 abbrev pub wanted_with : List ℕ → List ℕ → List ℕ → List (List ℕ) → Option Wanted
 wanted_with word flag number more =
     if bytes_eq flag (codes "--word") then wanted_on number (request_after word more)
-    else wanted_by_number word flag number more
+    else (if bytes_eq flag (codes "--words") then words_with word number more
+    else wanted_by_number word flag number more)
 
 abbrev pub wanted_alone : List ℕ → Option Wanted
 wanted_alone word =

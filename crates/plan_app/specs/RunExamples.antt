@@ -45,7 +45,8 @@ pub record RunTextsAreTold : Type 0 where
       ++ codes "# high: 0 calls done, 0 refused\n"
       ++ codes "# journals: one legal history of 0 calls\n"
   pub one : head_line 1 1 ≡ codes "# 1 machine took 1 turn each, in threads of their own, at one pace\n"
-  pub one_call : history_line 1 ≡ codes "# journals: one legal history of 1 call\n"
+  pub one_call : history_line None 1 ≡ codes "# journals: one legal history of 1 call\n"
+  pub on_word : history_line (Some 12) 64 ≡ codes "# word 12: journals: one legal history of 64 calls\n"
   pub of_lift : machine_line floors session 0 ≡ codes "# lift: 1 call done, 0 refused\n"
   pub stopped : map (λ stop. stop_line floors stop 1) (None ∷ Some (Held 2) ∷ [])
       ≡ [] ∷ codes "# low: stopped by held high\n" ∷ []

@@ -17,6 +17,7 @@ use Rattle.plan_text.specs.Answers.{answer_text}
 use Rattle.plan_text.specs.Histories.{script_of}
 use Rattle.plan_text.specs.Named.{Named}
 use Rattle.plan_text.specs.Names.{Text, name_in}
+use Rattle.plan_app.specs.OnWords.{number_words}
 use Rattle.plan_app.specs.Words.{counted}
 use Rattle.plan_app.specs.declared.run_text.TheConstants.{JOURNALS, STOPPED}
 
@@ -59,14 +60,20 @@ stop_line n (Some refusal) m = stopped_line n refusal m
 abbrev pub machine_lines : Named → List Event → List (Option Refusal) → ℕ → Text
 machine_lines n history stops m = machine_line n history m ++ stop_line n (get_or stops m None) m
 
-abbrev pub history_line : ℕ → Text
-history_line calls = JOURNALS.now ++ (counted calls (codes "call") ++ codes "\n")
+-- how many calls a history has; in a plant on several words, of which of them it is
+abbrev pub word_words : Option ℕ → Text
+word_words None = []
+word_words (Some word) = number_words word
+
+abbrev pub history_line : Option ℕ → ℕ → Text
+history_line word calls =
+    codes "# " ++ (word_words word ++ (JOURNALS.now ++ (counted calls (codes "call") ++ codes "\n")))
 
 -- comments of TOML
 abbrev pub comments_of : Named → ℕ → List Event → List (Option Refusal) → Text
 comments_of n turns history stops =
     head_line turns n.plan.machines
-    ++ (flat_map (machine_lines n history stops) (range_with_len 0 n.plan.machines) ++ history_line (length history))
+    ++ (flat_map (machine_lines n history stops) (range_with_len 0 n.plan.machines) ++ history_line None (length history))
 
 -- and then the script of the history
 abbrev pub run_text : Named → ℕ → State → List Event → List (Option Refusal) → Text

@@ -19,6 +19,7 @@ use Rattle.plan_app.specs.Input.{document_in, script_in}
 use Rattle.plan_app.specs.Hazards.{TellsReport, start_if}
 use Rattle.plan_app.specs.OnWords.{TellsWords}
 use Rattle.plan_app.specs.PlantPictures.{IsPlantPicture}
+use Rattle.plan_app.specs.PlantRuns.{TellsPlantRun}
 use Rattle.plan_app.specs.PlantScreens.{told_of as of_plant}
 use Rattle.plan_app.specs.PlantStarts.{plant_start}
 use Rattle.plan_app.specs.RunPages.{ShowsRun}
@@ -26,6 +27,8 @@ use Rattle.plan_app.specs.Runs.{TellsRun}
 use Rattle.plan_app.specs.Screens.{TellsFree}
 use Rattle.plan_app.specs.declared.request.PlantRequest.{PlantRequest}
 use Rattle.plan_app.specs.declared.request.PlantRequest.TheVariants.{Draw, Header, Listing}
+use Rattle.plan_app.specs.declared.request.Together.{Together}
+use Rattle.plan_app.specs.declared.request.Together.TheVariants as together
 
 -- ---- by a plan
 
@@ -163,17 +166,32 @@ WritesPlantFree plant openings old new =
     (text : List ℕ) × TellsExploration (of_plant plant.plans.items plant.programs.programs openings) true text
     × Appends old new text
 
--- the openings are the script's
-abbrev pub ExploresPlant : ProgrammedPlant → List ℕ → Option (List ℕ) → Option (List ℕ) → Type 0
-ExploresPlant plant script old new =
-    (openings : List State) × (plant_start plant script ≡ Ok openings) × WritesPlantFree plant openings old new
+-- what machines did in a run on all words from these openings, none of them stopped, and of each word the script of its
+-- history, were written, and nothing else
+abbrev pub WritesPlantRun : ℕ → ProgrammedPlant → List State → Option (List ℕ) → Option (List ℕ) → Type 0
+WritesPlantRun turns plant openings old new =
+    (text : List ℕ) × TellsPlantRun plant turns openings true text × Appends old new text
 
-abbrev pub ExploresPlantIn : List ℕ → List ℕ → Option (List ℕ) → Option (List ℕ) → Type 0
-ExploresPlantIn document script old new =
-    (plant : ProgrammedPlant) × IsPlantIn document plant × ExploresPlant plant script old new
+-- what is written of a plant on all words together, from openings
+abbrev pub Writing : Type 1
+Writing = ProgrammedPlant → List State → Option (List ℕ) → Option (List ℕ) → Type 0
 
-abbrev pub ExploresWordsIn : List ℕ → Option (List ℕ) → Option (List ℕ) → Type 0
-ExploresWordsIn bytes old new = ExploresPlantIn (document_in bytes) (script_in bytes) old new
+abbrev pub writes_of : Together → Writing
+writes_of (together.Explore most) = WritesPlantFree
+writes_of (together.Run turns) = WritesPlantRun turns
+
+-- from those of a script
+abbrev pub FromScript : Writing → ProgrammedPlant → List ℕ → Option (List ℕ) → Option (List ℕ) → Type 0
+FromScript writes plant script old new =
+    (openings : List State) × (plant_start plant script ≡ Ok openings) × writes plant openings old new
+
+-- of the plant in a document
+abbrev pub OfDocument : Writing → List ℕ → List ℕ → Option (List ℕ) → Option (List ℕ) → Type 0
+OfDocument writes document script old new =
+    (plant : ProgrammedPlant) × IsPlantIn document plant × FromScript writes plant script old new
+
+abbrev pub OfBytes : Writing → List ℕ → Option (List ℕ) → Option (List ℕ) → Type 0
+OfBytes writes bytes old new = OfDocument writes (document_in bytes) (script_in bytes) old new
 
 -- ---- of the document in the input
 
@@ -208,4 +226,11 @@ abbrev pub WritesWords : PlantRequest → Option (List ℕ) → Option (List ℕ
 WritesWords request input old new = IfSome input (λ bytes. WritesWordsIn request bytes old new)
 
 abbrev pub ExploresWords : Option (List ℕ) → Option (List ℕ) → Option (List ℕ) → Type 0
-ExploresWords input old new = IfSome input (λ bytes. ExploresWordsIn bytes old new)
+ExploresWords input old new = IfSome input (λ bytes. OfBytes WritesPlantFree bytes old new)
+
+abbrev pub RunsWords : ℕ → Option (List ℕ) → Option (List ℕ) → Option (List ℕ) → Type 0
+RunsWords turns input old new = IfSome input (λ bytes. OfBytes (WritesPlantRun turns) bytes old new)
+
+-- of all words together, from the script's start
+abbrev pub WritesTogether : Together → Option (List ℕ) → Option (List ℕ) → Option (List ℕ) → Type 0
+WritesTogether task input old new = IfSome input (λ bytes. OfBytes (writes_of task) bytes old new)

@@ -25,6 +25,8 @@ ghost use Rattle.plan_app.specs.PartExamples.{PartsAreTold};
 ghost use Rattle.plan_app.specs.PartLaws.{PartsSpeakOfAll};
 ghost use Rattle.plan_app.specs.PlantPartLaws.{AreOfScript, PlantPartsSpeakOfAll};
 ghost use Rattle.plan_app.specs.PlantPictureExamples.{PlantPicturesAreTold, PlantPicturesTell};
+ghost use Rattle.plan_app.specs.PlantRunExamples.{OneWordRunsAsPlan, PlantRunTextsAreTold};
+ghost use Rattle.plan_app.specs.PlantRunLaws.{PlantRunsAreReplayed, PlantWritingsAreReplayed};
 ghost use Rattle.plan_app.specs.PlantScreenExamples.{CrossingsAreTold, LinesAreTold};
 ghost use Rattle.plan_app.specs.PlantScreenExamples.{PlantScreensAreMeant};
 ghost use Rattle.plan_app.specs.PlantStarts.{HasWords, tables_of};
@@ -325,6 +327,25 @@ pub fn runs_are_replayed()
 pub fn run_texts_are_told()
     ensures { RunTextsAreTold }
 {}
+
+/// Examples: the whole text of a run of a plant, and which calls are a machine's own on each word.
+pub fn plant_run_texts_are_told()
+    ensures { PlantRunTextsAreTold }
+{}
+
+/// A run of a plant on one word is told as one of its plan, but for the number of the word.
+pub fn one_word_runs_as_plan()
+    ensures { OneWordRunsAsPlan }
+{}
+
+/// In what a run of a plant has printed each word has a script, and a replay of this by the word's plan answers it as the
+/// machines were answered.
+pub fn plant_runs_are_replayed()
+    ensures runs { PlantRunsAreReplayed }
+    ensures writings { PlantWritingsAreReplayed }
+{
+    histories_are_answered();
+}
 
 /// Examples: the data and the lines of pages, what is shown of a standstill and of an order in which a machine starves,
 /// and which order is shown.

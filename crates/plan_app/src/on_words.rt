@@ -197,7 +197,7 @@ fn push_word(text: &mut String, named: &NamedPlan, word: usize) -> Result<(), Al
 }
 
 /// Adds the number of a word.
-fn push_number(text: &mut String, word: usize) -> Result<(), AllocError>
+pub(crate) fn push_number(text: &mut String, word: usize) -> Result<(), AllocError>
     ensures { OnOk result (string_bytes text.new
         ≡ string_bytes text.old ++ spec.number_words word) }
 {

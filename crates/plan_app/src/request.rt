@@ -55,6 +55,16 @@ pub enum PlantRequest {
     Draw,
 }
 
+/// What the program does with all words of a plant together, from the start of a script.
+#[derive(Clone, Copy, PartialEq, Eq, Debug)]
+pub enum Together {
+    /// Explores the machines' programs: for standstills, and whether each machine goes on for ever. At most this many
+    /// situations are explored.
+    Explore(usize),
+    /// Lets the machines take this many turns each, in threads, and prints what they did.
+    Run(u32),
+}
+
 /// What the program does.
 #[derive(Clone, Copy, PartialEq, Eq, Debug)]
 pub enum Wanted {
@@ -67,6 +77,8 @@ pub enum Wanted {
     /// Explores the programs of a plant's machines on all words together: for standstills. At most this many situations
     /// are explored.
     ExploreWords(usize),
+    /// Lets a plant's machines take this many turns each, in threads, on all words together, and prints what they did.
+    RunWords(u32),
     /// Takes a plan.
     Plan {
         /// The word of the plant whose plan it is; `None` for the plan of the whole document.
@@ -136,13 +148,25 @@ fn wanted_for(word: &str, flag: &str) -> Option<Wanted>
     }
 }
 
-/// What it asks for with at least two words after it, of which the first may say that it is of one word of a plant.
+/// What it asks for with at least two words after it, of which the first may say that it is of one word of a plant, or
+/// of all.
 fn wanted_with(word: &str, flag: &str, number: &str, more: &[&str]) -> Option<Wanted>
     ensures { result ≡ requests.wanted_with word.now flag.now number.now (texts_of more.now) }
 {
     match flag {
         "--word" => wanted_on(number, request_after(word, more)),
+        "--words" => words_with(word, number, more),
         _ => wanted_by_number(word, flag, number, more),
+    }
+}
+
+/// What it asks for of all words, with another flag after that, and a number.
+fn words_with(word: &str, flag: &str, more: &[&str]) -> Option<Wanted>
+    ensures { result ≡ requests.words_with word.now flag.now (texts_of more.now) }
+{
+    match more {
+        [number] => Some(Wanted::RunWords(turns_of_run(word, flag, number)?)),
+        _ => None,
     }
 }
 

@@ -31,10 +31,10 @@ use std::time::{Clock, Duration};
 use word_interlock::{Interlock, Passes};
 
 /// How many exchanges a call may lose.
-const TRIES: u8 = 64;
+pub(crate) const TRIES: u8 = 64;
 
 /// How many seconds a machine waits for the others before its turn.
-const PATIENCE: u64 = 60;
+pub(crate) const PATIENCE: u64 = 60;
 
 /// The most calls that are told.
 pub(crate) const MAX_CALLS: usize = MAX_RECORDS as usize;
@@ -82,7 +82,7 @@ impl<T: Drop> From<AllocFailed<T>> for RunFault {
 }
 
 /// The steps of a machine's program.
-fn steps_of(plan: &ProgrammedPlan, machine: u8) -> &[Step]
+pub(crate) fn steps_of(plan: &ProgrammedPlan, machine: u8) -> &[Step]
     ensures { result.now ≡ spec.program_of plan.now machine }
 {
     match plan.steps.get(usize::from(machine)) {
@@ -92,7 +92,7 @@ fn steps_of(plan: &ProgrammedPlan, machine: u8) -> &[Step]
 }
 
 /// A copy of a program.
-fn copy_of(alloc: Global, steps: &[Step]) -> Result<Vec<Step>, AllocError>
+pub(crate) fn copy_of(alloc: Global, steps: &[Step]) -> Result<Vec<Step>, AllocError>
     ensures { IfOk result (λ copy. copy.items ≡ steps.now) }
 {
     steps.iter().copied().collect(alloc)

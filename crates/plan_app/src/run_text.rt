@@ -4,6 +4,7 @@ ghost use Rattle.std.specs.Prelude.{string_bytes};
 ghost use Rattle.std.specs.List.{range_with_len};
 ghost use Rattle.plan_app.specs.RunTexts as spec;
 
+use crate::on_words::push_number;
 use crate::words::push_counted;
 use plan_rules::State;
 use plan_text::{NamedPlan, script_of};
@@ -14,7 +15,7 @@ use std::alloc::{AllocError, Global};
 const STOPPED: &str = ": stopped by ";
 
 /// What is said before the number of calls.
-const JOURNALS: &str = "# journals: one legal history of ";
+const JOURNALS: &str = "journals: one legal history of ";
 
 /// What machines have done.
 #[derive(Drop)]
@@ -92,7 +93,7 @@ fn refused_calls(history: &[Event], machine: u8) -> usize
 }
 
 /// Adds how many turns the machines took.
-fn push_head(text: &mut String, turns: u32, machines: usize) -> Result<(), AllocError>
+pub(crate) fn push_head(text: &mut String, turns: u32, machines: usize) -> Result<(), AllocError>
     ensures { OnOk result
         (string_bytes text.new ≡ string_bytes text.old ++ spec.head_line turns machines) }
 {
@@ -104,7 +105,7 @@ fn push_head(text: &mut String, turns: u32, machines: usize) -> Result<(), Alloc
 }
 
 /// Adds how many calls of a machine were done and refused.
-fn push_calls(
+pub(crate) fn push_calls(
     text: &mut String,
     named: &NamedPlan,
     history: &[Event],
@@ -122,7 +123,7 @@ fn push_calls(
 }
 
 /// Adds what has stopped a machine, if something has.
-fn push_stop(
+pub(crate) fn push_stop(
     text: &mut String,
     named: &NamedPlan,
     stop: Option<Refusal>,
@@ -195,11 +196,28 @@ fn push_machines(text: &mut String, named: &NamedPlan, run: &PlanRun) -> Result<
     Ok(())
 }
 
-/// Adds how many calls there were.
-fn push_count(text: &mut String, calls: usize) -> Result<(), AllocError>
+/// Adds of which word a history is, if it is of one.
+fn push_word(text: &mut String, word: Option<usize>) -> Result<(), AllocError>
     ensures { OnOk result
-        (string_bytes text.new ≡ string_bytes text.old ++ spec.history_line calls) }
+        (string_bytes text.new ≡ string_bytes text.old ++ spec.word_words word) }
 {
+    match word {
+        Some(word) => push_number(text, word),
+        None => Ok(()),
+    }
+}
+
+/// Adds how many calls a history has, and of which word it is, if it is of one.
+pub(crate) fn push_history(
+    text: &mut String,
+    word: Option<usize>,
+    calls: usize,
+) -> Result<(), AllocError>
+    ensures { OnOk result
+        (string_bytes text.new ≡ string_bytes text.old ++ spec.history_line word calls) }
+{
+    text.push_str("# ")?;
+    push_word(text, word)?;
     text.push_str(JOURNALS)?;
     push_counted(text, calls, "call")?;
     text.push_str("\n")
@@ -217,7 +235,7 @@ fn push_comments(
 {
     push_head(text, turns, usize::from(named.plan().machines()))?;
     push_machines(text, named, run)?;
-    push_count(text, run.history.len())
+    push_history(text, None, run.history.len())
 }
 
 /// What machines did, and the script of their history.

@@ -13,7 +13,8 @@ ghost use Rattle.plan_text.specs.HistoryLaws.{IsStartOf};
 ghost use Rattle.plan_header.specs.Printed.{header_of as header_text};
 ghost use Rattle.plan_header.specs.Modules.{module_text};
 ghost use Rattle.plan_app.specs.Asked.{no_word_text as no_word_words};
-ghost use Rattle.plan_app.specs.Failed.{Fails, FailsBy, FailsExploreWords, FailsIn, FailsWords};
+ghost use Rattle.plan_app.specs.Failed.{Fails, FailsBy, FailsExploreWords, FailsIn, FailsRunWords};
+ghost use Rattle.plan_app.specs.Failed.{FailsWords};
 ghost use Rattle.plan_app.specs.Failed.{WroteAnswers};
 ghost use Rattle.plan_app.specs.Failed.{WroteDocumentFault, WroteNoPlan};
 ghost use Rattle.plan_app.specs.Failed.{WroteEnd, WroteEndFrom, WroteFault, WroteHeader};
@@ -23,7 +24,8 @@ ghost use Rattle.plan_app.specs.Failed.{WroteUnread};
 ghost use Rattle.plan_app.specs.Input.{byte_limit, max_bytes_read};
 ghost use Rattle.plan_app.specs.Served.{AnswersIn, AnswersInput, AnswersScript, Draws, Explores};
 ghost use Rattle.plan_app.specs.Served.{ExploresIn, ExploresInput, ExploresWords, FindsFree, FindsFreeIn};
-ghost use Rattle.plan_app.specs.Served.{FindsInputFree, Reports, ReportsIn, WritesExploration};
+ghost use Rattle.plan_app.specs.Served.{FindsInputFree, Reports, ReportsIn, RunsWords};
+ghost use Rattle.plan_app.specs.Served.{WritesExploration};
 ghost use Rattle.plan_app.specs.Served.{WritesHeader, WritesHeaderIn, WritesModule};
 ghost use Rattle.plan_app.specs.Served.{WritesModuleIn, WritesPicture, WritesPictureIn};
 ghost use Rattle.plan_app.specs.Served.{ShowsInputRun, TellsInputRun, WritesReport, WritesRun, WritesRunFrom};
@@ -35,10 +37,10 @@ use crate::asking::{NoPlan, asked_plan, no_word_text};
 use crate::hazards::{Report, report_of};
 use crate::input::{MAX_BYTES, plan_length};
 use crate::request;
-use crate::request::{MAX_TURNS, PlantRequest, Request, USUAL_MOST, Wanted};
+use crate::request::{MAX_TURNS, PlantRequest, Request, Together, USUAL_MOST, Wanted};
 use crate::run::{RunFault, Told, run_and_tell};
 use crate::serve_page::{page_script, run_page_script};
-use crate::serve_plant::explore_words_input;
+use crate::serve_plant::together_input;
 use crate::serve_words::words_input;
 use plan_document::{PlanTextFault, ProgrammedPlan};
 use plan_header::{header_of, module_of};
@@ -77,7 +79,8 @@ Reads a plan of a plant, in TOML, from standard input.
                   lets each machine take N turns, 1 to 1000000, in a thread of its own, from the
                   start after it, with simulated sensors; says what they did, and prints their
                   history as a script, which plan replay answers as they were answered; with
-                  --page after N a page on which that history is played
+                  --page after N a page on which that history is played; with --words before
+                  --turns the same of a plant on all its words together, with a script of each
   plan words      reads it as a plant on several words: says what each word has, and which
                   word keeps the motors of each hazard apart, or that none does
   plan --version  prints the version
@@ -716,6 +719,18 @@ where
         FailsExploreWords most (R.remaining reader.old)
         (W.contents writer.old) (W.contents writer.new) }
 
+    // With `run --words --turns N`: status 0 says that each machine took these turns, through its program on all words of
+    // the plant, from the script's start, none was stopped, and of each word one legal history explains what each has
+    // noted; and that how many calls of each were done and refused, and the scripts of these histories, were written;
+    // status 1 that the same was, also where one was stopped; or the line of a fault.
+    ensures run_words { (turns : ℕ) →
+        wanted_of (texts_of words.now) ≡ Some (Wanted.RunWords turns) → result ≡ 0 →
+        RunsWords turns (R.remaining reader.old) (W.contents writer.old) (W.contents writer.new) }
+    ensures run_words_fails { (turns : ℕ) →
+        wanted_of (texts_of words.now) ≡ Some (Wanted.RunWords turns) → result ≡ 1 →
+        FailsRunWords turns (R.remaining reader.old)
+        (W.contents writer.old) (W.contents writer.new) }
+
     // Status 2 comes exactly for other words, of which a line was printed, or a prefix of it.
     ensures refused { result ≡ 2 → wanted_of (texts_of words.now) ≡ None }
     ensures other { wanted_of (texts_of words.now) ≡ None → result ≡ 2 }
@@ -730,7 +745,10 @@ where
         Some(Wanted::Version) => print_version(writer, "plan").status(),
         Some(Wanted::Words(request)) => words_input(alloc, request, reader, writer).status(),
         Some(Wanted::ExploreWords(most)) => {
-            explore_words_input(alloc, most, reader, writer).status()
+            together_input(rt, alloc, Together::Explore(most), reader, writer).status()
+        }
+        Some(Wanted::RunWords(turns)) => {
+            together_input(rt, alloc, Together::Run(turns), reader, writer).status()
         }
         Some(Wanted::Plan { word, request }) => {
             serve_input(rt, alloc, word, request, reader, writer).status()

@@ -44,6 +44,8 @@ mod plant_interlocks;
 #[cfg(test)]
 mod plant_pictures;
 #[cfg(test)]
+mod plant_runs;
+#[cfg(test)]
 mod plant_workers;
 #[cfg(test)]
 mod plants;

@@ -1,0 +1,9 @@
+use Rattle.std.proofs.Common.{rules, Some, subst}
+use Rattle.plan_workers.specs.Audited.{HasNoHistory, journals_in}
+use Rattle.plan_app.proofs.plant_run.audit_word.Goals as goal
+
+pub returns-in-Err : goal.returns-in-Err
+returns-in-Err c =
+    let end = c.args.end.now in
+    let none = c.in-Err.ensures.refused (search rules) in
+    record { history = tt; fault = (end, subst (λ t. HasNoHistory t c.args.start.now (journals_in c.args.journals.now) (Some end)) c.plan.ensures none) }
