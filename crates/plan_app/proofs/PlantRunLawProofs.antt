@@ -1,18 +1,20 @@
 -- The laws of runs of plants.
-use Rattle.std.proofs.Common.{◌≡◌, ◌∙◌, ◌+◌, ◌<◌, ◌≤◌, ◌++◌, ℕ, zero, suc, Bool, true, List, Some, length, slice_get, inl, inr, ap, sym, subst, arith}
+use Rattle.std.proofs.Common.{◌≡◌, ◌∙◌, ◌+◌, ◌<◌, ◌≤◌, ℕ, zero, suc, Bool, true, List, Some, length, slice_get, inl, inr, ap, sym, subst, arith}
 use Rattle.std.specs.List.{list_all, range_with_len}
 use Rattle.std.proofs.lemmas.Bool.{and_parts, cases_lt}
 use Rattle.std.proofs.lemmas.Option.{slice_get_within}
 use Rattle.plan_types.specs.declared.answer.Event.{Event}
 use Rattle.plan_rules.specs.declared.state.State.{State}
 use Rattle.plan_explorer.specs.Plants.{state_on}
+use Rattle.plan_text.specs.Histories.{script_of}
 use Rattle.plan_text.specs.HistoryLaws.{AreToldApart, HistoriesAreAnswered, IsAnswered}
 use Rattle.plan_document.specs.Plants.{IsPlantIn}
 use Rattle.plan_document.specs.declared.plants.ProgrammedPlant.{ProgrammedPlant}
 use Rattle.plan_document.specs.declared.resolving.ProgrammedPlan.{ProgrammedPlan}
 use Rattle.plan_picture.proofs.lemmas.Having.{in_each, in_second, whole}
 use Rattle.plan_picture.specs.PictureLaws.{Has}
-use Rattle.plan_app.specs.PlantRunLaws.{HasPart, PlantRunsAreReplayed, PlantWritingsAreReplayed}
+use Rattle.plan_app.specs.Input.{script_in}
+use Rattle.plan_app.specs.PlantRunLaws.{PlantRunsAreReplayed, PlantWritingsAreReplayed}
 use Rattle.plan_app.specs.PlantRunTexts.{all_of, are_own_if, are_own_on, comments_of, history_on, part_by, part_if, part_on, plant_run_text}
 use Rattle.plan_app.specs.PlantRuns.{TellsPlantRun}
 use Rattle.plan_app.specs.RunLaws.{IsReplayedAs}
@@ -53,7 +55,8 @@ part_there plans turns starts histories stops word plan there =
     (subst (λ t. Has t part) is (whole part)))
 
 -- its script comes after a comment
-script_there : (plan : ProgrammedPlan) (word : ℕ) (start : State) (history : List Event) → _
+script_there : (plan : ProgrammedPlan) (word : ℕ) (start : State) (history : List Event)
+    → script_in (part_by plan.named word start history) ≡ script_of plan.named start history
 script_there plan word start history =
     let ends = history_end (Some word) (length history) in
     script_after (history_line (Some word) (length history)) _ (history_comment (Some word) (length history)) ends.feed ends.some

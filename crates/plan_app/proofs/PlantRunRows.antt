@@ -1,9 +1,8 @@
 -- The examples of `plant_run_texts_are_told`, and the law `one_word_runs_as_plan`.
-use Rattle.std.proofs.Common.{◌≡◌, ◌∙◌, ◌++◌, ◌∷◌, [], ℕ, zero, suc, List, flat_map, get_or, length, map, option_map, Option, Some, None, ap, refl}
+use Rattle.std.proofs.Common.{◌≡◌, ◌∙◌, ◌++◌, ◌∷◌, [], ℕ, zero, suc, List, flat_map, get_or, length, option_map, Option, Some, None, ap, refl}
 use Rattle.std.proofs.lemmas.List.{append-nil}
 use Rattle.std.specs.Fmt.{digits}
 use Rattle.std.specs.List.{range_with_len}
-use Rattle.plan_types.specs.declared.answer.Event.{Event}
 use Rattle.plan_types.specs.declared.answer.Refusal.{Refusal}
 use Rattle.plan_text.specs.Histories.{script_of}
 use Rattle.plan_text.specs.Names.{Text}
@@ -18,7 +17,7 @@ pub plant_run_rows : PlantRunTextsAreTold
 unfolding digits plant_run_text
 plant_run_rows = λ first second one two. record {
   whole = rw (one, two) refl;
-  on_first = rw (one, two) refl;
+  on_first = rw one refl;
   fine = refl;
   own = rw (one, two) refl;
   foreign = rw (one, two) refl;
@@ -30,7 +29,7 @@ same_lines : (f g : ℕ → Text) → ((m : ℕ) → f m ≡ g m) → (ms : List
 same_lines f g same [] = refl
 same_lines f g same (m ∷ ms) = ap (λ l. l ++ flat_map f ms) (same m) ∙ ap (λ l. g m ++ l) (same_lines f g same ms)
 
-on_0 : Refusal → PlantStop
+abbrev on_0 : Refusal → PlantStop
 on_0 refusal = record { word = 0; refusal = refusal }
 
 stop_at : (stops : List (Option Refusal)) (m : ℕ) → get_or (on_word_0 stops) m None ≡ option_map on_0 (get_or stops m None)

@@ -1,5 +1,5 @@
 -- What `plan run --words` prints of a run: what machines did on all words, and of each word the script of its history.
-use Rattle.std.specs.Prelude.{ℕ, Bool, true, List, [], ◌++◌, codes, flat_map, get_or, length, slice_get}
+use Rattle.std.specs.Prelude.{ℕ, Bool, true, List, [], ◌++◌, flat_map, get_or, length, slice_get}
 use Rattle.std.specs.Prelude.{Option, Some, None, is_none}
 use Rattle.std.specs.List.{list_all, range_with_len}
 use Rattle.plan_types.specs.declared.answer.Event.{Event}

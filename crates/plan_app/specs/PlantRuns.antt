@@ -20,7 +20,6 @@ use Rattle.plan_workers.specs.PlantSteps.{word_of}
 use Rattle.plan_workers.specs.PlantTurns.{PlantControl, plant_control}
 use Rattle.plan_workers.specs.declared.plant_record.PlantRecorded.{PlantRecorded}
 use Rattle.plan_workers.specs.declared.plant_run.PlantJob.{PlantJob}
-use Rattle.plan_workers.specs.declared.plant_run.PlantWorked.{PlantWorked}
 use Rattle.plan_workers.specs.declared.routed_step.RoutedStep.{RoutedStep}
 use Rattle.plan_app.specs.PlantStarts.{tables_of}
 use Rattle.plan_app.specs.PlantRunTexts.{are_fine, are_own_on_each, history_on, plant_run_text}

@@ -6,4 +6,6 @@ pub returns-in-Err : goal.returns-in-Err
 returns-in-Err c =
     let end = c.args.end.now in
     let none = c.in-Err.ensures.refused (search rules) in
-    record { history = tt; fault = (end, subst (λ t. HasNoHistory t c.args.start.now (journals_in c.args.journals.now) (Some end)) c.plan.ensures none) }
+    let all = journals_in c.args.journals.now in
+    let of_plan = subst (λ t. HasNoHistory t c.args.start.now all (Some end)) c.plan.ensures none in
+    record { history = tt; fault = (end, of_plan) }

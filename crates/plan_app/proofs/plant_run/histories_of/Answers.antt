@@ -1,4 +1,4 @@
-use Rattle.std.proofs.Common.{◌≡◌, ◌<◌, ◌+◌, ◌∙◌, [], ap, length, map, refl, subst, sym, arith}
+use Rattle.std.proofs.Common.{◌<◌, ◌+◌, ◌∙◌, ap, length, map, refl, subst, sym, arith}
 use Rattle.std.proofs.lemmas.List.{get_or_default, length-map, length_push, map_push}
 use Rattle.std.proofs.lemmas.Option.{slice_get_read, slice_get_within}
 use Rattle.std.specs.Global.{Vec}
@@ -24,14 +24,18 @@ loop-word-preserved c =
     let count = c.loop-word.invariant.count in
     record {
       count = ap length pushed ∙ length_push old new ∙ ap (λ n. n + 1) count;
-      explained = one_history_more (IsExplainedOn plans starts backs) word (map (λ (h : Vec Event). h.items) old) _ new.items c.loop-word.invariant.explained (length-map old (λ (h : Vec Event). h.items) ∙ count)
-          (explained_there plans starts backs word plan _ new.items there (get_or_default starts word _ no_state within) c.in_ok-history.ensures.history)
+      explained = one_history_more (IsExplainedOn plans starts backs) word
+          (map (λ (h : Vec Event). h.items) old) _ new.items c.loop-word.invariant.explained
+          (length-map old (λ (h : Vec Event). h.items) ∙ count)
+          (explained_there plans starts backs word plan _ new.items there
+          (get_or_default starts word _ no_state within) c.in_ok-history.ensures.history)
           (ap (map (λ (h : Vec Event). h.items)) pushed ∙ map_push (λ (h : Vec Event). h.items) old new);
     }
 
 pub returns-clause-explained : goal.returns-clause-explained
 returns-clause-explained c = λ word plan there.
-    c.loop-word.invariant.explained word (omega (arith, c.loop-word-test.false, slice_get_within c.args.plans.now word plan there)) plan there
+    c.loop-word.invariant.explained word
+    (omega (arith, c.loop-word-test.false, slice_get_within c.args.plans.now word plan there)) plan there
 
 pub returns-in_err-history-clause-fault : goal.returns-in_err-history-clause-fault
 returns-in_err-history-clause-fault c =
@@ -41,7 +45,8 @@ returns-in_err-history-clause-fault c =
     let plan = c.index-plans-word.result in
     let few : word < length plans = c.loop-word-test.true in
     let within : word < length starts = subst (λ n. word < n) (sym c.requires.starts) few in
-    unexplained_at plans starts c.args.backs.now word plan _ c.in_err-history.field-0.0 c.from_residual.result (slice_get_read plans (length plans) word plan refl few c.index-plans-word.is)
+    unexplained_at plans starts c.args.backs.now word plan _ c.in_err-history.field-0.0 c.from_residual.result
+    (slice_get_read plans (length plans) word plan refl few c.index-plans-word.is)
     (get_or_default starts word _ no_state within) c.in_err-history.ensures.fault c.from_residual.ensures.1
 
 pub returns-in_err-push-clause-fault : goal.returns-in_err-push-clause-fault
@@ -51,5 +56,7 @@ returns-in_err-push-clause-fault c =
     let word = c.loop-word.word in
     let plan = c.index-plans-word.result in
     let few : word < length plans = c.loop-word-test.true in
-    unexplained_at plans starts c.args.backs.now word plan (state_on starts word) Memory c.from_residual-in_err-push.result (slice_get_read plans (length plans) word plan refl few c.index-plans-word.is)
+    unexplained_at plans starts c.args.backs.now word plan
+    (state_on starts word) Memory c.from_residual-in_err-push.result
+    (slice_get_read plans (length plans) word plan refl few c.index-plans-word.is)
     refl tt c.from_residual-in_err-push.ensures.1

@@ -11,6 +11,7 @@ returns c =
     let own : journals_in c.deref.result.now ≡ journals_on c.args.word c.args.backs.now =
     ap journals_in c.deref.ensures.value ∙ ap (λ xs m. get_or xs m []) c.in_ok-journals.ensures in
     record {
-      history = subst (λ js. IfOk c.audit_word.result (λ history. IsExplained plan start js history.items)) own c.audit_word.ensures.history;
+      history = subst (λ js. IfOk c.audit_word.result (λ history. IsExplained plan start js history.items)) own
+          c.audit_word.ensures.history;
       fault = subst (λ js. IfErr c.audit_word.result (IsUnexplained plan start js)) own c.audit_word.ensures.fault;
     }

@@ -13,9 +13,12 @@ loop-word-preserved c = λ word few.
     let all = map (λ (h : Vec Event). h.items) histories in
     let here = c.loop-word.word in
     let found = c.index-histories-word.result in
-    let own : history_on all here ≡ found.items = history_there histories here found c.loop-word-test.true c.index-histories-word.is in
-    let small : length found.items ≤ max_records = omega (arith, c.len.ensures, c.if-len-gt-MAX_CALLS.false, found.ok.0) in
+    let own : history_on all here ≡ found.items =
+    history_there histories here found c.loop-word-test.true c.index-histories-word.is in
+    let small : length found.items ≤ max_records =
+    omega (arith, c.len.ensures, c.if-len-gt-MAX_CALLS.false, found.ok.0) in
     elim (below_next word here (omega (arith, few))) [
       | inl low ↦ c.loop-word.invariant word low
-      | inr same ↦ subst (λ w. length (history_on all w) ≤ max_records) (sym same) (subst (λ h. length h ≤ max_records) (sym own) small)
+      | inr same ↦ subst (λ w. length (history_on all w) ≤ max_records) (sym same)
+          (subst (λ h. length h ≤ max_records) (sym own) small)
     ]

@@ -1,4 +1,4 @@
-use Rattle.std.proofs.Common.{◌≡◌, ◌<◌, ◌+◌, ◌++◌, ◌∷◌, ◌∙◌, [], ap, length, refl, subst, sym, take}
+use Rattle.std.proofs.Common.{◌<◌, ◌+◌, ◌++◌, ◌∷◌, ◌∙◌, [], ap, length, refl, subst, sym, take}
 use Rattle.std.proofs.lemmas.List.{get_or_default, map_more, take_more}
 use Rattle.std.proofs.lemmas.List.Elements.{All-push, All-same}
 use Rattle.std.proofs.lemmas.Option.{slice_get_read}
@@ -39,7 +39,10 @@ loop-word-preserved c =
     let before = c.loop-word.invariant in
     record {
       sound = All-same OpensSoundly more _ pushed (All-push OpensSoundly old opening before.sound made.sound);
-      rules = one_more_of (λ (o : WordOpening). plan_of o.rules) old more opening (tables_of (take word plans)) (tables_of (take (word + 1) plans)) plan.named.plan before.rules pushed made.rules
-          (map_more (λ (p : ProgrammedPlan). p.named.plan) plans word plan few ∙ ap (λ (p : ProgrammedPlan). tables_of (take word plans) ++ p.named.plan ∷ []) (sym c.index-plans-word.is));
-      states = one_more_of (λ (o : WordOpening). o.state) old more opening (take word starts) (take (word + 1) starts) _ before.states pushed made.state (take_more starts word _ within);
+      rules = one_more_of (λ (o : WordOpening). plan_of o.rules) old more opening (tables_of (take word plans))
+          (tables_of (take (word + 1) plans)) plan.named.plan before.rules pushed made.rules
+          (map_more (λ (p : ProgrammedPlan). p.named.plan) plans word plan few
+          ∙ ap (λ (p : ProgrammedPlan). tables_of (take word plans) ++ p.named.plan ∷ []) (sym c.index-plans-word.is));
+      states = one_more_of (λ (o : WordOpening). o.state) old more opening (take word starts)
+          (take (word + 1) starts) _ before.states pushed made.state (take_more starts word _ within);
     }

@@ -9,13 +9,17 @@ pub jobs_of-requires-clause-passes : goal.jobs_of-requires-clause-passes
 jobs_of-requires-clause-passes g c =
     let words = c.args.interlock.now in
     let rest = c.pop.new.self.items in
-    let apart = passes_apart words (machine_count c.args.plant.now.plans.items) c.args.passes.items rest c.pop.result c.in-Some.watch c.requires.passes c.pop.ensures.items c.in-Some.is in
+    let apart =
+    passes_apart words (machine_count c.args.plant.now.plans.items) c.args.passes.items rest c.pop.result
+    c.in-Some.watch c.requires.passes c.pop.ensures.items c.in-Some.is in
     subst (λ n. rest ≡ map (new_pass words) (range_with_len 0 n)) (sym apart.many) apart.machines
 
 pub end_run-requires-clause-run : goal.end_run-requires-clause-run
 end_run-requires-clause-run g c =
     let words = c.args.interlock.now in
-    let apart = passes_apart words (machine_count c.args.plant.now.plans.items) c.args.passes.items c.pop.new.self.items c.pop.result c.in-Some.watch c.requires.passes c.pop.ensures.items c.in-Some.is in
+    let apart =
+    passes_apart words (machine_count c.args.plant.now.plans.items) c.args.passes.items c.pop.new.self.items
+    c.pop.result c.in-Some.watch c.requires.passes c.pop.ensures.items c.in-Some.is in
     let jobs = c.in_ok-jobs.jobs in
     let backs = c.in_ok-backs.backs in
     subst (HavePlantRun c.args.plant.now c.args.turns c.args.starts.now) (sym c.deref-3.ensures.value) (record {

@@ -12,25 +12,32 @@ pub run_by_passes-requires-clause-opened : goal.run_by_passes-requires-clause-op
 run_by_passes-requires-clause-opened g c κs within =
     let plans = c.args.plant.now.plans.items in
     let openings = c.in_ok-openings.openings.items in
-    let own : map (λ (o : WordOpening). plan_of o.rules) openings ≡ tables_of plans = c.in_ok-openings.ensures.rules ∙ ap tables_of c.deref.ensures.value in
-    words_opened plans c.args.starts.now openings _ c.in-Ok.interlock own c.in_ok-openings.ensures.states c.in-Ok.ensures.opened
+    let own : map (λ (o : WordOpening). plan_of o.rules) openings ≡ tables_of plans =
+    c.in_ok-openings.ensures.rules ∙ ap tables_of c.deref.ensures.value in
+    words_opened plans c.args.starts.now openings _ c.in-Ok.interlock own c.in_ok-openings.ensures.states
+    c.in-Ok.ensures.opened
 
 pub run_by_passes-requires-clause-passes : goal.run_by_passes-requires-clause-passes
 run_by_passes-requires-clause-passes g c κs within =
     let plans = c.args.plant.now.plans.items in
     let openings = c.in_ok-openings.openings.items in
-    let own : map (λ (o : WordOpening). plan_of o.rules) openings ≡ tables_of plans = c.in_ok-openings.ensures.rules ∙ ap tables_of c.deref.ensures.value in
+    let own : map (λ (o : WordOpening). plan_of o.rules) openings ≡ tables_of plans =
+    c.in_ok-openings.ensures.rules ∙ ap tables_of c.deref.ensures.value in
     c.in-Ok.ensures.passes ∙ ap (λ n. map (new_pass c.in-Ok.interlock) (callers n)) (same_count plans openings own)
 
 pub returns-in-Err : goal.returns-in-Err
 returns-in-Err g c =
     let plans = c.args.plant.now.plans.items in
     let openings = c.in_ok-openings.openings.items in
-    let own : map (λ (o : WordOpening). plan_of o.rules) openings ≡ tables_of plans = c.in_ok-openings.ensures.rules ∙ ap tables_of c.deref.ensures.value in
+    let own : map (λ (o : WordOpening). plan_of o.rules) openings ≡ tables_of plans =
+    c.in_ok-openings.ensures.rules ∙ ap tables_of c.deref.ensures.value in
     let many : length openings ≡ length plans =
-    sym (length-map openings (λ (o : WordOpening). plan_of o.rules)) ∙ (ap length own ∙ length-map plans (λ (p : ProgrammedPlan). p.named.plan)) in
+    sym (length-map openings (λ (o : WordOpening). plan_of o.rules))
+    ∙ (ap length own ∙ length-map plans (λ (p : ProgrammedPlan). p.named.plan)) in
     let some : 0 < length plans = search rules in
     let few = c.requires.words.laid_out.few in
     let all = c.requires.words.plans in
     let found = (c.in-Err.ensures.fault c.in-Err.field-0 (search rules)).0 refl in
-    record { run = tt; fault = inr (inl (none_made plans openings c.in-Err.field-0 own (omega (arith, many, some)) (omega (arith, many, all, few)) found)) }
+    let others =
+    none_made plans openings c.in-Err.field-0 own (omega (arith, many, some)) (omega (arith, many, all, few)) found in
+    record { run = tt; fault = inr (inl others) }

@@ -1,4 +1,4 @@
-use Rattle.std.proofs.Common.{◌≡◌, ◌∙◌, ◌+◌, ap, arith, length, refl, subst}
+use Rattle.std.proofs.Common.{◌∙◌, ◌+◌, ap, arith, length, refl, subst}
 use Rattle.std.proofs.lemmas.List.{length_push}
 use Rattle.plan_explorer.specs.PlantPrograms.{routed_of}
 use Rattle.plan_app.specs.WholePrograms.{HasNoNext, IsNext}
