@@ -346,7 +346,7 @@ fn run_by_passes<T: Threads + Wait + Clock + Sync>(
 }
 
 /// Lets the machines of a plant take turns, each in a thread of its own, at one pace, through its program on all words,
-/// which open with these starts. `Audit` and `Words` don't come.
+/// which open with these starts. No run is known to come to `Audit` or `Words`, but no clause says that none does.
 pub fn run_plant_machines<T: Threads + Wait + Clock + Sync>(
     rt: &T,
     alloc: Global,

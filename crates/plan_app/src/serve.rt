@@ -66,11 +66,10 @@ Reads a plan of a plant, in TOML, from standard input.
   plan replay     answers the script after it, which begins with the line start,..
   plan explore    says whether some order of turns of its programs leads from the start
                   after it, a line start,.., to a standstill; and else whether each machine
-                  goes on for ever, or in which order it starves; with --page a page on which
-                  such a standstill, or the first such order, is played, to open in a browser;
-                  with --words the same of a plant on all its words together, after a start with
-                  a digit for each of its places (whether plates move is said of one word, with
-                  --word)
+                  goes on for ever, or in which order it starves, and whether plates move; with
+                  --page a page on which such a standstill, or the first such order, is played,
+                  to open in a browser; with --words the same of a plant on all its words
+                  together, after a start with a digit for each of its places
   plan header     prints its names and the layout of its word for C; with --python, a module
                   for Python; with --words one header for C of all words of a plant
   plan draw       draws it, as SVG: machines, their places and motors, zones, and hazards; with
