@@ -34,6 +34,7 @@ mod RunLawProofs
 mod RunRows
 mod PlantRunLawProofs
 mod PlantRunRows
+mod JobLawProofs
 mod PlantRunning
 mod PageRows
 mod PageLegal

@@ -53,6 +53,7 @@ pub mod SimulatedExamples
 pub mod RunPages
 pub mod RunLaws
 pub mod PlantRunLaws
+pub mod JobLaws
 pub mod RunExamples
 pub mod PlantRunExamples
 pub mod PageExamples

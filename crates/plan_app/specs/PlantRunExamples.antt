@@ -1,5 +1,5 @@
--- Literal examples of what `plan run --words` prints, by a lift between two floors whose zones are on two words; what a
--- machine's program on both is; and a plant on one word.
+-- Literal examples of what `plan run --words` prints, by a lift between two floors whose zones are on two words; on which
+-- word a machine stops; and a plant on one word.
 use Rattle.std.specs.Prelude.{◌≡◌, ℕ, ◌++◌, true, false, List, [], ◌∷◌, codes, flat_map, length, map, option_map}
 use Rattle.std.specs.Prelude.{Option, Some, None}
 use Rattle.std.specs.List.{range_with_len}
@@ -14,6 +14,9 @@ use Rattle.plan_text.specs.Histories.{script_of}
 use Rattle.plan_text.specs.ScriptExamples.{middle}
 use Rattle.plan_text.specs.WordExamples.{floors}
 use Rattle.plan_document.specs.declared.resolving.ProgrammedPlan.{ProgrammedPlan}
+use Rattle.plan_workers.specs.PlantTurns.{PlantControl, plant_control}
+use Rattle.plan_workers.specs.declared.routed_step.RoutedStep.TheVariants.{Await, Run}
+use Rattle.plan_app.specs.PlantRuns.{word_at}
 use Rattle.plan_app.specs.PlantRunTexts.{are_fine, are_own_on_each, plant_run_text, stop_on}
 use Rattle.plan_app.specs.RunExamples.{event, session}
 use Rattle.plan_app.specs.RunTexts.{head_line, history_line, machine_lines}
@@ -55,6 +58,13 @@ pub record PlantRunsAreTold (first second : ProgrammedPlan) : Type 0 where
 abbrev pub PlantRunTextsAreTold : Type 0
 PlantRunTextsAreTold =
     (first second : ProgrammedPlan) → first.named ≡ floors → second.named ≡ lift → PlantRunsAreTold first second
+
+-- a machine stops on the word of the step at which it is
+abbrev pub at : ℕ → PlantControl
+at place = plant_control 2 2 (Await 1 0 ∷ Await 0 3 ∷ Run 1 0 ∷ []) place None
+
+abbrev pub StopsAreOfSteps : Type 0
+StopsAreOfSteps = map (λ place. word_at (at place)) (0 ∷ 1 ∷ 2 ∷ []) ≡ 1 ∷ 0 ∷ 0 ∷ []
 
 -- a plant on one word is told as its plan, but for the word's number
 abbrev pub on_word_0 : List (Option Refusal) → List (Option PlantStop)

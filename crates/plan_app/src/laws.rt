@@ -17,6 +17,7 @@ ghost use Rattle.plan_app.specs.HazardExamples.{AreKept, HazardLines, KeptMotors
 ghost use Rattle.plan_app.specs.HazardLaws.{HazardsTell};
 ghost use Rattle.plan_app.specs.InputExamples.{InputsAreSplit, RequestsAreRead, WordsAreMade};
 ghost use Rattle.plan_app.specs.InputLaws.{ScriptsAreFound};
+ghost use Rattle.plan_app.specs.JobLaws.{PlantRunsAreByPrograms, RunsAreByPrograms};
 ghost use Rattle.plan_app.specs.LineExamples.{ReportLines, RowsAreTold, WholeReports};
 ghost use Rattle.plan_app.specs.OnWordExamples.{WordLines, WordsTell};
 ghost use Rattle.plan_app.specs.PageExamples.{DataIsTold, LinesAreShown, OrdersAreChosen, OrdersAreShown};
@@ -25,7 +26,7 @@ ghost use Rattle.plan_app.specs.PartExamples.{PartsAreTold};
 ghost use Rattle.plan_app.specs.PartLaws.{PartsSpeakOfAll};
 ghost use Rattle.plan_app.specs.PlantPartLaws.{AreOfScript, PlantPartsSpeakOfAll};
 ghost use Rattle.plan_app.specs.PlantPictureExamples.{PlantPicturesAreTold, PlantPicturesTell};
-ghost use Rattle.plan_app.specs.PlantRunExamples.{OneWordRunsAsPlan, PlantRunTextsAreTold};
+ghost use Rattle.plan_app.specs.PlantRunExamples.{OneWordRunsAsPlan, PlantRunTextsAreTold, StopsAreOfSteps};
 ghost use Rattle.plan_app.specs.PlantRunLaws.{PlantRunsAreReplayed, PlantWritingsAreReplayed};
 ghost use Rattle.plan_app.specs.PlantScreenExamples.{CrossingsAreTold, LinesAreTold};
 ghost use Rattle.plan_app.specs.PlantScreenExamples.{PlantScreensAreMeant};
@@ -328,14 +329,23 @@ pub fn run_texts_are_told()
     ensures { RunTextsAreTold }
 {}
 
-/// Examples: the whole text of a run of a plant, and which calls are a machine's own on each word.
+/// Examples: the whole text of a run of a plant, which calls are a machine's own on each word, and on which word a machine
+/// stops.
 pub fn plant_run_texts_are_told()
-    ensures { PlantRunTextsAreTold }
+    ensures texts { PlantRunTextsAreTold }
+    ensures stops { StopsAreOfSteps }
 {}
 
 /// A run of a plant on one word is told as one of its plan, but for the number of the word.
 pub fn one_word_runs_as_plan()
     ensures { OneWordRunsAsPlan }
+{}
+
+/// In a run there is a job for each machine: it goes through its own program, from the beginning, by its own pass. In a
+/// run of a plant that is its program on each word.
+pub fn machines_run_their_programs()
+    ensures runs { RunsAreByPrograms }
+    ensures plant_runs { PlantRunsAreByPrograms }
 {}
 
 /// In what a run of a plant has printed each word has a script, and a replay of this by the word's plan answers it as the
