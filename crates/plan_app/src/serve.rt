@@ -61,8 +61,9 @@ use text_io::{InputFault, read_up_to};
 const HELP: &str = "\
 Reads a plan of a plant, in TOML, from standard input.
   plan check      says what it is, the layout of its word, whether each call that is done has a
-                  row of masks, and what keeps the motors of each hazard apart, or which calls of
-                  its programs permit both; or its first fault
+                  row of masks, what keeps the motors of each hazard apart, or which calls of its
+                  programs permit both, and whether each line that runs motors may; or its first
+                  fault
   plan replay     answers the script after it, which begins with the line start,..
   plan explore    says whether some order of turns of its programs leads from the start
                   after it, a line start,.., to a standstill; and else whether each machine
@@ -87,8 +88,8 @@ With --word K directly after another word than words, the plan is that of word K
 --memory N after check or explore, and before --page or --words, 2,000 situations are explored
 for each of N megabytes, 1 to 1000000; else 1,000,000. More are fault large. A script may follow
 the plan in each case. Exit status: 0 on success, and for help; 2 for bad arguments; otherwise
-1: a fault, motors that aren't kept apart, a standstill, an order in which a machine starves or
-plates rest, a machine stopped in a run, or a failed write.
+1: a fault, motors that aren't kept apart or may not run at their line, a standstill, an order
+in which a machine starves or plates rest, a machine stopped in a run, or a failed write.
 
 Example:
   cat examples/plans/press.toml examples/plans/press.csv | plan replay
@@ -346,7 +347,7 @@ fn start_if(start: &Result<State, ScriptFault>) -> Option<State>
     }
 }
 
-/// Prints the report of a plan. It isn't well where the motors of a hazard aren't kept apart.
+/// Prints the report of a plan. It isn't well where the motors of a hazard aren't kept apart, or may not run at a line.
 fn print_report<W: Write>(
     alloc: Global,
     plan: &ProgrammedPlan,
@@ -523,8 +524,8 @@ where
     }
 }
 
-/// Prints what was found of a standstill, of who starves, of motors that aren't kept apart, or of a machine that was
-/// stopped. That isn't well, whatever was written.
+/// Prints what was found of a standstill, of who starves, of motors that aren't kept apart or may not run, or of a
+/// machine that was stopped. That isn't well, whatever was written.
 pub(crate) fn print_warning<W: Write>(writer: &mut W, text: &str) -> Exit
     ensures status { result ≡ Exit.Failed }
     ensures line { WrotePrefix (W.contents writer.old) (W.contents writer.new) text.now }
@@ -550,9 +551,9 @@ fn print_answers<W: Write>(writer: &mut W, answered: &ScriptAnswers) -> Exit
 }
 
 /// Does what the words ask for, and returns the exit status: 0 on success, and for help; 1 for a refused plan or
-/// script, a hazard whose motors aren't kept apart, a standstill, a machine that may starve, plates that may rest, a
-/// machine that was stopped in a run, a failed read or write, and if memory ran out; 2 for other words. A run waits
-/// until all its threads have ended.
+/// script, motors that aren't kept apart or may not run at their line, a standstill, a machine that may starve, plates
+/// that may rest, a machine that was stopped in a run, a failed read or write, and if memory ran out; 2 for other words.
+/// A run waits until all its threads have ended.
 pub fn serve<T, R: Read, W: Write>(
     rt: &T,
     alloc: Global,
