@@ -80,8 +80,8 @@ pub extern "C" fn bagunjoki_plan_step(
     }
 }
 
-/// The word of a start: a digit 0 or 1 for each place of the plan, and a stamp. All bits are set
-/// if no plan was opened, or there is no such start.
+/// The word of a start: a digit 0 or 1 for each place of the plan, and a stamp. It is `NO_WORD`,
+/// which no state has, if no plan was opened, or there is no such start.
 #[unsafe(no_mangle)]
 pub extern "C" fn bagunjoki_plan_start(plan: &Opened, digits: &[u8], stamp: u32) -> u64
     ensures start { (t : PlanTable) → IsOpened t plan.now → IsStartText t digits.now stamp
@@ -97,8 +97,8 @@ pub extern "C" fn bagunjoki_plan_start(plan: &Opened, digits: &[u8], stamp: u32)
     }
 }
 
-/// The word of the same state with another stamp, for an exchange before the stamps end. All bits
-/// are set if no plan was opened, the word is no state's, or the stamp is past the last.
+/// The word of the same state with another stamp, for an exchange before the stamps end. It is
+/// `NO_WORD` if no plan was opened, the word is no state's, or the stamp is past the last.
 #[unsafe(no_mangle)]
 pub extern "C" fn bagunjoki_plan_restamp(plan: &Opened, word: u64, stamp: u32) -> u64
     ensures restamped { (t : PlanTable) (state : PlanState)
