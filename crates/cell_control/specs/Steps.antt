@@ -30,7 +30,7 @@ pub record Steps (S Sense Reading Act : Type 0) : Type 1 where
   -- what must hold of the history while a step has set the actuators so
   pub motor_demands : S → Act → ModelState → List Event → Type 0
 
--- in a stopped cell a step that asks stays, whatever else it waits for
+-- a step whose call a stopped cell refuses stays, whatever else it waits for
 abbrev pub is_while_stopped : Refusal → Bool
 is_while_stopped Stopped = true
 is_while_stopped _ = false

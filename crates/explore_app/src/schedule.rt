@@ -67,7 +67,7 @@ impl AskSeeker {
     }
 
     // Its turns, which a cell has played, with the last frame.
-    fn played(self) -> Result<Played, ScheduleFault>
+    fn into_played(self) -> Result<Played, ScheduleFault>
         ensures turns { IfOk result (λ played. played.turns ≡ self.turns) }
         ensures last { IfOk result (λ played. self.last ≡ Some played.last) }
     {
@@ -231,7 +231,7 @@ fn play_until_asked(
     };
     match simulate_configured_observed(alloc, config, trial, &mut seeker) {
         Ok(_) => Err(ScheduleFault::Apart),
-        Err(SeenFault::Observer(SeekEnd::Asked)) => seeker.played(),
+        Err(SeenFault::Observer(SeekEnd::Asked)) => seeker.into_played(),
         Err(SeenFault::Observer(SeekEnd::Memory)) => Err(ScheduleFault::Memory),
         Err(SeenFault::Memory) => Err(ScheduleFault::Memory),
     }

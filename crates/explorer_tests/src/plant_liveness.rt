@@ -8,7 +8,7 @@ use std::alloc::Global;
 use std::test::Fail;
 
 // A state in which the first zone is open, with plates at all places or at none.
-fn opened(is_full: bool) -> State {
+fn open_state(is_full: bool) -> State {
     let mut opening = State::start([is_full; 16], 7);
     opening.zones[0].posture = Posture::OpenIn;
     opening
@@ -33,7 +33,7 @@ fn round(alloc: Global, word: usize, zone: u8) -> Result<Vec<RoutedCall>, Fail> 
 }
 
 // What is answered of each machine on two words.
-fn answered(
+fn explore_two(
     alloc: Global,
     first: (&Plan, State),
     second: (&Plan, State),
@@ -65,8 +65,8 @@ fn at_crossings(
     lists: Vec<Vec<RoutedCall>>,
 ) -> Result<Vec<Liveness>, Fail> {
     let plan = crossing(alloc)?;
-    let opening = opened(is_full);
-    answered(alloc, (&plan, opening), (&plan, opening), lists)
+    let opening = open_state(is_full);
+    explore_two(alloc, (&plan, opening), (&plan, opening), lists)
 }
 
 // The kinds of these answers.
@@ -196,9 +196,14 @@ fn two_machines_may_have_to_be_strong(rt: HostRuntime) -> Result<(), Fail> {
         round(alloc, 1, 1)?,
     ]?;
     let (first, second) = (crossing(alloc)?, two_crossings(alloc)?);
-    let mut opening = opened(false);
+    let mut opening = open_state(false);
     opening.zones[1].posture = Posture::OpenIn;
-    let answers = answered(alloc, (&first, opened(false)), (&second, opening), lists)?;
+    let answers = explore_two(
+        alloc,
+        (&first, open_state(false)),
+        (&second, opening),
+        lists,
+    )?;
     match answers.first() {
         Some(Liveness::IfAll { .. }) => {}
         _ => assert!(rt; false),

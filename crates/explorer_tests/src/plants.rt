@@ -49,7 +49,7 @@ pub(crate) fn through(alloc: Global, first: usize, second: usize) -> Result<Vec<
 }
 
 // What an exploration finds of machine 0, which claims word 0 first, and machine 1, which claims this word first.
-fn explored(alloc: Global, first: usize, second: usize, most: usize) -> Result<Explored, Fail> {
+fn explore_two(alloc: Global, first: usize, second: usize, most: usize) -> Result<Explored, Fail> {
     let mut opening = State::start([false; 16], 7);
     opening.zones[0].posture = Posture::OpenIn;
     explored_from(alloc, opening, first, second, most)
@@ -73,7 +73,7 @@ fn explored_from(
 
 #[test]
 fn crossing_machines_stand_still(rt: HostRuntime) -> Result<(), Fail> {
-    match explored(rt.alloc(), 1, 0, 100)? {
+    match explore_two(rt.alloc(), 1, 0, 100)? {
         Explored::Standstill(turns) => assert_eq!(rt; turns.as_slice(), [0, 1].as_slice()),
         Explored::Free(_) | Explored::Unfinished(_) => assert!(rt; false),
     }
@@ -82,7 +82,7 @@ fn crossing_machines_stand_still(rt: HostRuntime) -> Result<(), Fail> {
 
 #[test]
 fn machines_in_one_order_come_to_seven_situations(rt: HostRuntime) -> Result<(), Fail> {
-    match explored(rt.alloc(), 0, 1, 100)? {
+    match explore_two(rt.alloc(), 0, 1, 100)? {
         Explored::Free(situations) => assert_eq!(rt; situations, 7),
         Explored::Standstill(_) | Explored::Unfinished(_) => assert!(rt; false),
     }
@@ -91,7 +91,7 @@ fn machines_in_one_order_come_to_seven_situations(rt: HostRuntime) -> Result<(),
 
 #[test]
 fn limit_ends_an_exploration(rt: HostRuntime) -> Result<(), Fail> {
-    match explored(rt.alloc(), 0, 1, 6)? {
+    match explore_two(rt.alloc(), 0, 1, 6)? {
         Explored::Unfinished(turns) => assert!(rt; turns <= 3),
         Explored::Free(_) | Explored::Standstill(_) => assert!(rt; false),
     }
@@ -124,7 +124,7 @@ fn openings_that_no_word_tells_are_explored(rt: HostRuntime) -> Result<(), Fail>
 }
 
 // What a machine asks of a word, and the answer.
-fn claimed(machine: u8, word: usize, answer: Answer) -> RoutedEvent {
+fn claim_event(machine: u8, word: usize, answer: Answer) -> RoutedEvent {
     RoutedEvent {
         word,
         event: Event {
@@ -147,11 +147,11 @@ fn turns_into_a_standstill_are_told(rt: HostRuntime) -> Result<(), Fail> {
     let openings = [opening, opening];
     let turns = [0, 2, 1, 0];
     let walk = take_plant_turns(alloc, &plans, &openings, &programs, &turns)?;
-    let first_waits = claimed(0, 1, Answer::Refused(Refusal::Held(1)));
-    let second_waits = claimed(1, 0, Answer::Refused(Refusal::Held(0)));
+    let first_waits = claim_event(0, 1, Answer::Refused(Refusal::Held(1)));
+    let second_waits = claim_event(1, 0, Answer::Refused(Refusal::Held(0)));
     let asked = [
-        claimed(0, 0, Answer::Done),
-        claimed(1, 1, Answer::Done),
+        claim_event(0, 0, Answer::Done),
+        claim_event(1, 1, Answer::Done),
         first_waits,
     ];
     assert!(rt; walk.events.as_slice() == asked.as_slice());

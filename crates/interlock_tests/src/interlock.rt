@@ -27,7 +27,7 @@ fn opened_at(rt: &impl Abort, alloc: Global, first: u32, tries: u8) -> (Interloc
 }
 
 /// One with the stamp 0.
-fn opened(rt: &impl Abort, alloc: Global, tries: u8) -> (Interlock, Passes)
+fn open_interlock(rt: &impl Abort, alloc: Global, tries: u8) -> (Interlock, Passes)
     ensures { ArePassesOf result.0 result.1 }
 {
     opened_at(rt, alloc, 0, tries)

@@ -102,7 +102,7 @@ const _: () = prove!(MAX_TURNS == 1_000_000);
 
 /// What is printed for other words.
 const OTHER_WORDS: &str =
-    "error: the only argument is check, replay, explore, header, draw, run, words, --help or --version\n";
+    "error: the first argument is check, replay, explore, header, draw, run, words, --help or --version\n";
 
 /// Reads a plan and a script after it: all bytes, unless there are too many.
 pub(crate) fn read_input<R: Read>(alloc: Global, reader: &mut R) -> Result<Vec<u8>, InputFault>

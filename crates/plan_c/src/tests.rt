@@ -22,7 +22,7 @@ const PRESS: [u8; 62] = [
     0, 0, 0, 0, 1, 1, 1, 0, 0, 0, 0, 0, 0, 0, 0, 0, 1, 0, 2, 0, 0, 0, 0, 0, 0, 0, 0, 0, 0, 1,
 ];
 
-fn opened(bytes: &[u8]) -> Opened {
+fn open_bytes(bytes: &[u8]) -> Opened {
     bagunjoki_plan_open(bytes)
 }
 
@@ -49,7 +49,7 @@ fn stamp_of(plan: &Opened, word: u64) -> u32 {
     bagunjoki_plan_stamp(plan, word)
 }
 
-fn restamped(plan: &Opened, word: u64, stamp: u32) -> u64 {
+fn restamp_word(plan: &Opened, word: u64, stamp: u32) -> u64 {
     bagunjoki_plan_restamp(plan, word, stamp)
 }
 
@@ -134,16 +134,16 @@ fn is_row(plan: &Opened, word: &mut u64, row: &([u8; 3], [u8; 4], u32, [bool; 2]
 
 // Whether the word after the rows, which has stamp 10, has others, and wears.
 fn takes_stamps(plan: &Opened, word: u64) -> bool {
-    let worn = restamped(plan, word, LAST_STAMP);
+    let worn = restamp_word(plan, word, LAST_STAMP);
     stamp_of(plan, worn) == LAST_STAMP
         && step(plan, worn, [30, 9, 0]).answer == 13
-        && restamped(plan, worn, 10) == word
-        && restamped(plan, word, 1_048_576) == NO_WORD
+        && restamp_word(plan, worn, 10) == word
+        && restamp_word(plan, word, 1_048_576) == NO_WORD
 }
 
 #[test]
 fn is_answered_in_numbers(rt: HostRuntime) {
-    let plan = opened(&PRESS);
+    let plan = open_bytes(&PRESS);
     let mut word = start_of(&plan, b"10");
     assert!(rt; word == 0x20);
     for row in ROWS {
@@ -177,7 +177,7 @@ const ADVANCES: &[([u8; 3], u8, u32)] = &[
 
 #[test]
 fn plates_come_and_go(rt: HostRuntime) {
-    let plan = opened(&THROUGH);
+    let plan = open_bytes(&THROUGH);
     let mut word = start_of(&plan, b"010");
     for (call, answer, stamp) in ADVANCES {
         let reply = step(&plan, word, *call);
@@ -187,7 +187,7 @@ fn plates_come_and_go(rt: HostRuntime) {
             "after {word:x}"
         );
     }
-    assert!(rt; word == restamped(&plan, start_of(&plan, b"100"), 4));
+    assert!(rt; word == restamp_word(&plan, start_of(&plan, b"100"), 4));
 }
 
 // ---- turns
@@ -268,7 +268,7 @@ fn leads_to(
 // owns, and stops for good. Each place and word is taken back.
 #[test]
 fn the_press_takes_turns(rt: HostRuntime) {
-    let plan = opened(&PRESS);
+    let plan = open_bytes(&PRESS);
     let mut word = start_of(&plan, b"10");
     let mut place = place_at(0, 0);
     for row in TURNS {
@@ -295,12 +295,12 @@ const PLACES: &[(u8, u8, bool)] = &[
 ];
 
 // The words after the press's claim, and after its first move.
-fn claimed(plan: &Opened) -> u64 {
+fn word_after_claim(plan: &Opened) -> u64 {
     word_after(plan, start_of(plan, b"10"), [1, 1, 0], 0)
 }
 
 fn moving(plan: &Opened) -> u64 {
-    word_after(plan, claimed(plan), [1, 6, 3], 0)
+    word_after(plan, word_after_claim(plan), [1, 6, 3], 0)
 }
 
 fn runs_on(plan: &Opened, word: u64, lines: &[ProgramLine]) -> bool {
@@ -309,14 +309,14 @@ fn runs_on(plan: &Opened, word: u64, lines: &[ProgramLine]) -> bool {
 
 #[test]
 fn places_are_taken_back(rt: HostRuntime) {
-    let plan = opened(&PRESS);
+    let plan = open_bytes(&PRESS);
     for (line, stopped, wanted) in PLACES {
         let place = place_at(*line, *stopped);
         assert!(rt; may_go_on(&plan, moving(&plan), &program(), place) == *wanted);
     }
-    let words = [claimed(&plan), u64::MAX];
+    let words = [word_after_claim(&plan), u64::MAX];
     assert!(rt; !runs_on(&plan, words[0], &program()) && !runs_on(&plan, words[1], &program()));
-    let none = opened(&[]);
+    let none = open_bytes(&[]);
     let word = moving(&plan);
     assert!(rt; !runs_on(&plan, word, &no_steps()) && !runs_on(&none, word, &program()));
 }
@@ -332,7 +332,7 @@ const FAULTS: &[(u16, u8)] = &[
 ];
 
 // The word after the press has yielded its zone.
-fn yielded(plan: &Opened) -> u64 {
+fn word_after_yield(plan: &Opened) -> u64 {
     let open = word_after(plan, moving(plan), [1, 6, 0], 0);
     word_after(plan, open, [1, 3, 0], 0)
 }
@@ -354,8 +354,8 @@ fn is_stopped(plan: &Opened, word: u64, row: &(u16, u8)) -> bool {
 
 #[test]
 fn faults_stop_the_press(rt: HostRuntime) {
-    let plan = opened(&PRESS);
-    let word = yielded(&plan);
+    let plan = open_bytes(&PRESS);
+    let word = word_after_yield(&plan);
     for row in FAULTS {
         assert!(rt; is_stopped(&plan, word, row));
     }
@@ -401,13 +401,13 @@ const INQUIRIES: [ProgramLine; 256] = [ProgramLine {
 
 #[test]
 fn turns_tell_why_they_rest(rt: HostRuntime) {
-    let plan = opened(&PRESS);
+    let plan = open_bytes(&PRESS);
     let word = start_of(&plan, b"10");
     for line in 0..13 {
         assert!(rt; rests(&plan, word, &no_steps(), line, 64), "{line}");
     }
     assert!(rt; rests(&plan, u64::MAX, &program(), 0, 65));
-    assert!(rt; rests(&opened(&[]), word, &program(), 0, 67));
+    assert!(rt; rests(&open_bytes(&[]), word, &program(), 0, 67));
     assert!(rt; rests(&plan, word, &INQUIRIES, 0, 64));
     assert!(rt; rests(&plan, word, &INQUIRIES[..255], 0, 32));
 }
@@ -424,14 +424,14 @@ fn is_no_plan(plan: &Opened) -> bool {
     !plan.is_plan
         && step(plan, 0, [0, 1, 0]).answer == 67
         && start_of(plan, b"") == NO_WORD
-        && restamped(plan, 0, 0) == NO_WORD
+        && restamp_word(plan, 0, 0) == NO_WORD
         && stamp_of(plan, 0) == u32::MAX
 }
 
 // A guest that is its own host makes no plan.
 #[test]
 fn tells_what_is_no_plan(rt: HostRuntime) {
-    assert!(rt; is_no_plan(&opened(&bare_zone(0))));
+    assert!(rt; is_no_plan(&open_bytes(&bare_zone(0))));
 }
 
 // Two machines at a zone, which the first pose moves, and the second one opens inward.
@@ -444,7 +444,7 @@ const MOVED_AND_OPENED: [u8; 36] = [
 // same.
 #[test]
 fn an_open_free_zone_is_a_state(rt: HostRuntime) {
-    let plan = opened(&MOVED_AND_OPENED);
+    let plan = open_bytes(&MOVED_AND_OPENED);
     assert!(rt; start_of(&plan, b"") == 0 && step(&plan, 0, [1, 1, 0]).answer == 4);
     assert!(rt; word_after(&plan, 12, [1, 1, 0], 0) == 30);
 }
@@ -463,7 +463,7 @@ fn largest_counts() -> [u8; 780] {
 #[test]
 fn the_largest_counts_are_a_plan(rt: HostRuntime) {
     assert!(rt; size_of::<Opened>() == 32_824);
-    let plan = opened(&largest_counts());
+    let plan = open_bytes(&largest_counts());
     assert!(rt; start_of(&plan, b"") == 0 && step(&plan, 0, [0, 6, 64]).answer == 12);
     assert!(rt; step(&plan, 0, [29, 1, 0]).answer == 4 && step(&plan, 0, [28, 1, 0]).answer == 1);
     assert!(rt; stamp_of(&plan, word_after(&plan, 0, [0, 6, 63], 0)) == 1);
@@ -505,19 +505,19 @@ fn is_word_row(plan: &Opened, row: &(u64, [u8; 3], u8, u64)) -> bool {
 fn has_stamps(plan: &Opened) -> bool {
     let start = bagunjoki_plan_start(plan, b"101", 1_048_574);
     let stopped = 0xFFFF_FD00_0000_0000;
-    let early = restamped(plan, stopped, 7);
+    let early = restamp_word(plan, stopped, 7);
     start == 0x7FFF_F500_0000_0000
         && stamp_of(plan, start) == 1_048_574
         && stamp_of(plan, stopped) == LAST_STAMP
         && early == 0x8000_3D00_0000_0000
-        && restamped(plan, early, LAST_STAMP) == stopped
+        && restamp_word(plan, early, LAST_STAMP) == stopped
         && stamp_of(plan, 0xFFFF_FD18_0000_0000) == u32::MAX
 }
 
 // Whatever the highest bits, each function answers by the plan.
 #[test]
 fn words_of_all_bits_are_answered(rt: HostRuntime) {
-    let plan = opened(&ALL_BITS);
+    let plan = open_bytes(&ALL_BITS);
     for row in WORDS {
         assert!(rt; is_word_row(&plan, row));
     }
@@ -539,10 +539,10 @@ const FIVE_SPACES: [u8; 133] = [
 // So the word with all bits is a state's, and that which stands for none isn't.
 #[test]
 fn all_bits_may_be_set(rt: HostRuntime) {
-    let plan = opened(&FIVE_SPACES);
+    let plan = open_bytes(&FIVE_SPACES);
     assert!(rt; plan.is_plan && stamp_of(&plan, u64::MAX) == LAST_STAMP);
-    assert!(rt; restamped(&plan, u64::MAX, 0) == 0x8000_07FF_FFFF_FFFF);
-    assert!(rt; restamped(&plan, 0x8000_07FF_FFFF_FFFF, LAST_STAMP) == u64::MAX);
+    assert!(rt; restamp_word(&plan, u64::MAX, 0) == 0x8000_07FF_FFFF_FFFF);
+    assert!(rt; restamp_word(&plan, 0x8000_07FF_FFFF_FFFF, LAST_STAMP) == u64::MAX);
     assert!(rt; stamp_of(&plan, NO_WORD) == u32::MAX);
 }
 
@@ -582,7 +582,7 @@ fn drawn_reply(plan: &Plan, state: &mut State, drawn: u64) -> Option<Reply> {
 }
 
 // The sum over the replies to 100,000 calls.
-fn walked(plan: &Plan) -> Option<u64> {
+fn word_after_walk(plan: &Plan) -> Option<u64> {
     let mut full = [false; 16];
     full[1] = true;
     let mut state = State::start(full, 0);
@@ -602,5 +602,5 @@ fn walked(plan: &Plan) -> Option<u64> {
 fn walks_as_c_does(rt: HostRuntime) {
     let tables = examples::lift(rt.alloc()).expect(&rt, "memory");
     let plan = Plan::new(tables).expect(&rt, "a plan");
-    assert!(rt; walked(&plan) == Some(WALKED));
+    assert!(rt; word_after_walk(&plan) == Some(WALKED));
 }

@@ -164,7 +164,7 @@ fn split_of(plan: &Plan, layout: &Layout, asked: Asked, zone: u8) -> u64
     0
 }
 
-fn shifted(value: u64, bit: u8) -> u64 {
+fn shift(value: u64, bit: u8) -> u64 {
     if bit < 64 { value << bit } else { 0 }
 }
 
@@ -174,12 +174,12 @@ impl Part {
         let Some(bit) = bit else {
             return self;
         };
-        let others = self.keep & !shifted(bits, bit);
+        let others = self.keep & !shift(bits, bit);
         Part {
-            mask: self.mask | shifted(field.mask, bit),
-            wanted: self.wanted | shifted(field.wanted, bit),
-            keep: others | shifted(field.keep, bit),
-            set: self.set | shifted(field.set, bit),
+            mask: self.mask | shift(field.mask, bit),
+            wanted: self.wanted | shift(field.wanted, bit),
+            keep: others | shift(field.keep, bit),
+            set: self.set | shift(field.set, bit),
         }
     }
 }

@@ -197,13 +197,13 @@ fn held_need(word: &str) -> Option<ZoneNeed>
     ensures { result ≡ spec.held_need word.now }
 {
     if word == ANY {
-        return Some(held(None));
+        return Some(need_in_posture(None));
     }
     let posture = posture_in(word)?;
-    Some(held(Some(posture)))
+    Some(need_in_posture(Some(posture)))
 }
 
-fn held(posture: Option<Posture>) -> ZoneNeed
+fn need_in_posture(posture: Option<Posture>) -> ZoneNeed
     ensures { result ≡ spec.held posture }
 {
     ZoneNeed {

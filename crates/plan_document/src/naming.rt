@@ -26,7 +26,7 @@ fn is_name_of(names: &Names, name: &[u8]) -> bool
 }
 
 /// Copies of the names with these numbers.
-fn picked(alloc: Global, names: &Names, numbers: &[usize]) -> Result<Names, DocumentFault>
+fn pick_names(alloc: Global, names: &Names, numbers: &[usize]) -> Result<Names, DocumentFault>
     ensures { IfOk result (λ copies. copies ≡ spec.picked names.now numbers.now) }
 {
     let mut copies = Names::new(alloc);
@@ -70,7 +70,7 @@ impl KindNames {
     pub fn new(alloc: Global, all: &Names, numbers: &[usize]) -> Result<KindNames, DocumentFault>
         ensures { IfOk result (λ names. names ≡ spec.names_on all.now numbers.now) }
     {
-        let own = picked(alloc, all, numbers)?;
+        let own = pick_names(alloc, all, numbers)?;
         let all = copy_names(alloc, all)?;
         Ok(KindNames { all, own })
     }

@@ -12,7 +12,7 @@ use crate::document::{Document, MachineRow};
 use crate::fault::{DocumentFault, Key, Location, RowOf, Wrong};
 use crate::lines::step_in;
 use crate::plants::WordPlans;
-use crate::programs::{asked, calls_fault};
+use crate::programs::{call_of_step, calls_fault};
 use crate::resolving::ProgrammedPlan;
 use crate::tables::number_of;
 use plan_explorer::{PlantProgramFault, PlantPrograms, RoutedCall};
@@ -94,14 +94,14 @@ impl PlantLines<'_> {
         let mut answers = Vec::new(alloc);
         for item in 0..lines.len() {
             let at = RowOf::Machine(machine).item(Key::Program, item);
-            let answer = self.routed(alloc, machine, lines[item].as_str(), at)?;
+            let answer = self.route(alloc, machine, lines[item].as_str(), at)?;
             answers.push(answer)?;
         }
         Ok(answers)
     }
 
     /// What a line asks on the first word on which it asks anything.
-    fn routed(
+    fn route(
         &self,
         alloc: Global,
         machine: usize,
@@ -184,7 +184,7 @@ fn asked_in(
             at,
         )?,
     };
-    Ok(asked(step))
+    Ok(call_of_step(step))
 }
 
 /// The calls among answers.

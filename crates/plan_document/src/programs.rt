@@ -130,11 +130,14 @@ fn all_calls_of(alloc: Global, programs: &[Vec<Step>]) -> Result<Vec<Vec<Call>>,
 fn calls_of(alloc: Global, steps: &[Step]) -> Result<Vec<Call>, AllocError>
     ensures { IfOk result (λ calls. calls.items ≡ saying.calls_of steps.now) }
 {
-    steps.iter().filter_map(|step| asked(*step)).collect(alloc)
+    steps
+        .iter()
+        .filter_map(|step| call_of_step(*step))
+        .collect(alloc)
 }
 
 /// What a step asks: an inquiry if it waits for a zone, and nothing if it runs motors or waits for a sensor.
-pub(crate) fn asked(step: Step) -> Option<Call>
+pub(crate) fn call_of_step(step: Step) -> Option<Call>
     ensures { result ≡ saying.asked step }
 {
     match step {

@@ -51,7 +51,7 @@ pub fn plan_of(alloc: Global, bytes: &[u8]) -> Result<ProgrammedPlan, PlanTextFa
     let table = toml_in(alloc, bytes)?;
     match plan_in(alloc, &table) {
         Ok(plan) => Ok(plan),
-        Err(fault) => Err(placed(alloc, bytes, &table, fault)),
+        Err(fault) => Err(place_fault(alloc, bytes, &table, fault)),
     }
 }
 
@@ -64,7 +64,7 @@ pub fn plant_of(alloc: Global, bytes: &[u8]) -> Result<ProgrammedPlant, PlanText
     let table = toml_in(alloc, bytes)?;
     match plant_in(alloc, &table) {
         Ok(plant) => Ok(plant),
-        Err(fault) => Err(placed(alloc, bytes, &table, fault)),
+        Err(fault) => Err(place_fault(alloc, bytes, &table, fault)),
     }
 }
 
@@ -104,7 +104,7 @@ fn plan_in(alloc: Global, table: &Table) -> Result<ProgrammedPlan, PlanTextFault
 }
 
 /// A fault with its line and the names of its rows, if it is one of a row.
-fn placed(alloc: Global, bytes: &[u8], table: &Table, fault: PlanTextFault) -> PlanTextFault {
+fn place_fault(alloc: Global, bytes: &[u8], table: &Table, fault: PlanTextFault) -> PlanTextFault {
     match fault {
         PlanTextFault::Row { fault, .. } => match places_of(alloc, bytes, table, &fault) {
             Ok((line, first, names)) => PlanTextFault::Row {

@@ -11,7 +11,7 @@ ghost use Rattle.plan_document.specs.Saying as saying;
 
 use crate::document::MachineRow;
 use crate::fault::{DocumentFault, Key, Location, RowOf, Wrong, WrongText};
-use crate::tables::{add_name, joined};
+use crate::tables::{add_name, join_names};
 use plan_text::Names;
 use std::alloc::Global;
 
@@ -102,7 +102,7 @@ fn add_identifiers(
         → AreDistinct (map string_bytes taken.new.items)) }
 {
     for item in 0..row.sensors.len() {
-        let name = joined(alloc, row.name.as_str(), row.sensors[item].as_str())?;
+        let name = join_names(alloc, row.name.as_str(), row.sensors[item].as_str())?;
         add_identifier(
             taken,
             name,

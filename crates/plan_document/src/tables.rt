@@ -582,14 +582,14 @@ fn add_identifiers(
     for pose in 0..row.poses.len() {
         let at = RowOf::Pose { machine, pose };
         let said = &row.poses[pose];
-        let name = joined(alloc, row.name.as_str(), said.name.as_str())?;
+        let name = join_names(alloc, row.name.as_str(), said.name.as_str())?;
         add_identifier(names, name, at.key(Key::Name))?;
     }
     Ok(())
 }
 
 /// The name of a pose or a sensor for C: its machine's, an underline and its own.
-pub fn joined(alloc: Global, machine: &str, own: &str) -> Result<String, AllocError>
+pub fn join_names(alloc: Global, machine: &str, own: &str) -> Result<String, AllocError>
     ensures { IfOk result (λ name. string_bytes name ≡ identifier machine.now own.now) }
 {
     let mut name = String::new(alloc);

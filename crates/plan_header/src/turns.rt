@@ -606,11 +606,11 @@ fn defined_word(alloc: Global, name: &str) -> Result<String, AllocError>
     ensures { IfOk result (λ word. string_bytes word ≡ spec.defined_word name.now) }
 {
     let capitals = capitals_of(alloc, name)?;
-    prefixed(alloc, capitals.as_str())
+    with_prefix(alloc, capitals.as_str())
 }
 
 /// A word that the header defines, by its name in capitals.
-fn prefixed(alloc: Global, capitals: &str) -> Result<String, AllocError>
+fn with_prefix(alloc: Global, capitals: &str) -> Result<String, AllocError>
     ensures { IfOk result (λ word. string_bytes word ≡ spec.prefixed capitals.now) }
 {
     format!(in alloc; "PLAN_{capitals}")

@@ -270,7 +270,7 @@ fn push_machines(text: &mut String, shown: &Shown<'_>) -> Result<(), AllocError>
     ensures { OnOk result (string_bytes text.new
         ≡ string_bytes text.old ++ spec.machines_part shown.now) }
 {
-    'machines: for machine in 0..shown.named().machines().len() as u8 {
+    'machines: for machine in 0..shown.named_plan().machines().len() as u8 {
         push_machine(text, shown, machine)?;
     }
     Ok(())
@@ -325,7 +325,12 @@ fn push_machine_title(text: &mut String, shown: &Shown<'_>, machine: u8) -> Resu
         most: 22,
         width: 240,
     };
-    push_label(text, "name", spot, shown.named().machines().name(machine))
+    push_label(
+        text,
+        "name",
+        spot,
+        shown.named_plan().machines().name(machine),
+    )
 }
 
 /// Adds the places of each word.
@@ -344,7 +349,7 @@ fn push_places(text: &mut String, shown: &Shown<'_>) -> Result<(), AllocError>
     ensures { OnOk result (string_bytes text.new
         ≡ string_bytes text.old ++ spec.places_part shown.now) }
 {
-    'places: for place in 0..shown.named().places().len() as u8 {
+    'places: for place in 0..shown.named_plan().places().len() as u8 {
         push_place(text, shown, place)?;
     }
     Ok(())
@@ -365,7 +370,7 @@ fn push_ring(text: &mut String, shown: &Shown<'_>, place: u8) -> Result<(), Allo
     ensures { OnOk result
         (string_bytes text.new ≡ string_bytes text.old ++ spec.ring_part shown.now place) }
 {
-    let name = shown.named().places().name(place);
+    let name = shown.named_plan().places().name(place);
     push_thing(text, shown, "place", place_thing(shown, place), name)
 }
 
@@ -374,7 +379,7 @@ fn push_source(text: &mut String, shown: &Shown<'_>, place: u8) -> Result<(), Al
     ensures { OnOk result
         (string_bytes text.new ≡ string_bytes text.old ++ spec.source_part shown.now place) }
 {
-    if shown.named().plan().place(place).source {
+    if shown.named_plan().plan().place(place).source {
         push_level(text, "source", source_line(shown, place), 2, 32)
     } else {
         Ok(())
@@ -386,7 +391,7 @@ fn push_sink(text: &mut String, shown: &Shown<'_>, place: u8) -> Result<(), Allo
     ensures { OnOk result
         (string_bytes text.new ≡ string_bytes text.old ++ spec.sink_part shown.now place) }
 {
-    if shown.named().plan().place(place).sink {
+    if shown.named_plan().plan().place(place).sink {
         push_level(text, "sink", sink_line(shown, place), 32, 2)
     } else {
         Ok(())

@@ -62,7 +62,7 @@ pub(crate) fn motor_thing(shown: &Shown<'_>, motor: u8) -> usize
 
 /// How many of the first things are of a machine.
 #[tactic(auto, using(plan_rules::proofs::lemmas::Below::sum_below_more))]
-fn owned(shown: &Shown<'_>, machine: u8, limit: usize) -> usize
+fn owned_among_first(shown: &Shown<'_>, machine: u8, limit: usize) -> usize
     requires { limit ≤ 511 }
     ensures count { result ≡ spec.owned shown.now machine limit }
     ensures few { result ≤ 511 }
@@ -102,7 +102,7 @@ pub(crate) fn lane(shown: &Shown<'_>, machine: u8) -> usize
 pub(crate) fn lane_height(shown: &Shown<'_>, machine: u8) -> usize
     ensures { result ≡ spec.lane_height shown.now machine }
 {
-    42 + 20 * owned(shown, machine, thing_count(shown))
+    42 + 20 * owned_among_first(shown, machine, thing_count(shown))
 }
 
 /// The middle of the row of a place or a motor.
@@ -112,7 +112,7 @@ pub(crate) fn row(shown: &Shown<'_>, thing: usize) -> usize
     ensures few { result ≤ 50000 }
 {
     let owner = shown.owner_of(thing);
-    lane(shown, owner) + 44 + 20 * owned(shown, owner, thing)
+    lane(shown, owner) + 44 + 20 * owned_among_first(shown, owner, thing)
 }
 
 /// The middle of the row of a place of this word.
@@ -169,7 +169,7 @@ pub(crate) fn lanes_end(shown: &Shown<'_>) -> usize
     ensures low { 230 ≤ result }
     ensures few { result ≤ 30000 }
 {
-    lane(shown, shown.named().machines().len() as u8)
+    lane(shown, shown.named_plan().machines().len() as u8)
 }
 
 /// How high the picture is: below the lanes stands what the marks mean.

@@ -79,7 +79,7 @@ impl<'a> Shown<'a> {
     }
 
     /// The plan of the word.
-    pub(crate) fn named(&self) -> &'a NamedPlan
+    pub(crate) fn named_plan(&self) -> &'a NamedPlan
         ensures { result.now ≡ self.now.named }
     {
         self.named

@@ -50,7 +50,7 @@ fn push_zones(text: &mut String, shown: &Shown<'_>) -> Result<(), AllocError>
     ensures { OnOk result (string_bytes text.new
         ≡ string_bytes text.old ++ spec.zones_part shown.now) }
 {
-    'zones: for zone in 0..shown.named().zones().len() as u8 {
+    'zones: for zone in 0..shown.named_plan().zones().len() as u8 {
         push_zone(text, shown, zone)?;
     }
     Ok(())
@@ -118,7 +118,7 @@ fn push_zone_title(text: &mut String, shown: &Shown<'_>, zone: u8) -> Result<(),
         most: 15,
         width: 280,
     };
-    push_slanted(text, "zone", spot, shown.named().zones().name(zone))
+    push_slanted(text, "zone", spot, shown.named_plan().zones().name(zone))
 }
 
 /// Adds the host and the guest of a zone, and a line between them.
@@ -126,8 +126,14 @@ fn push_parties(text: &mut String, shown: &Shown<'_>, zone: u8) -> Result<(), Al
     ensures { OnOk result
         (string_bytes text.new ≡ string_bytes text.old ++ spec.parties_part shown.now zone) }
 {
-    let host = shown.named().plan().host(zone);
-    push_parties_by(text, shown, zone, host, shown.named().plan().guest(zone))
+    let host = shown.named_plan().plan().host(zone);
+    push_parties_by(
+        text,
+        shown,
+        zone,
+        host,
+        shown.named_plan().plan().guest(zone),
+    )
 }
 
 /// Adds these as the host and the guest of a zone.
@@ -212,7 +218,12 @@ fn push_party(text: &mut String, shown: &Shown<'_>, zone: u8, machine: u8) -> Re
         most: 13,
         width: 82,
     };
-    push_label(text, "party", spot, shown.named().machines().name(machine))
+    push_label(
+        text,
+        "party",
+        spot,
+        shown.named_plan().machines().name(machine),
+    )
 }
 
 /// Adds the ways of plates through a zone.
@@ -220,7 +231,7 @@ fn push_ways(text: &mut String, shown: &Shown<'_>, zone: u8) -> Result<(), Alloc
     ensures { OnOk result
         (string_bytes text.new ≡ string_bytes text.old ++ spec.ways_part shown.now zone) }
 {
-    let row = shown.named().plan().zone(zone);
+    let row = shown.named_plan().plan().zone(zone);
     push_way(text, shown, zone_column(shown, zone) + 28, row.inward)?;
     push_way(text, shown, zone_column(shown, zone) + 42, row.outward)
 }
@@ -249,7 +260,7 @@ fn push_ends(text: &mut String, shown: &Shown<'_>, zone: u8) -> Result<(), Alloc
     ensures { OnOk result
         (string_bytes text.new ≡ string_bytes text.old ++ spec.ends_part shown.now zone) }
 {
-    'places: for place in 0..shown.named().places().len() as u8 {
+    'places: for place in 0..shown.named_plan().places().len() as u8 {
         push_end(text, shown, zone, place)?;
     }
     Ok(())
@@ -261,7 +272,7 @@ fn push_end(text: &mut String, shown: &Shown<'_>, zone: u8, place: u8) -> Result
         (string_bytes text.new ≡ string_bytes text.old
         ++ spec.end_part shown.now zone place) }
 {
-    if is_on_way(shown.named().plan().zone(zone), place) {
+    if is_on_way(shown.named_plan().plan().zone(zone), place) {
         push_end_label(text, shown, zone, place)
     } else {
         Ok(())
@@ -302,7 +313,7 @@ fn push_end_label(
         most: 13,
         width: 82,
     };
-    push_label(text, "end", spot, shown.named().places().name(place))
+    push_label(text, "end", spot, shown.named_plan().places().name(place))
 }
 
 /// Adds the space of a zone, if that has another name: the name, and a line from the host's mark at the zone before to
@@ -320,8 +331,8 @@ fn push_space_title(text: &mut String, shown: &Shown<'_>, zone: u8) -> Result<()
     ensures { OnOk result
         (string_bytes text.new ≡ string_bytes text.old ++ spec.space_title shown.now zone) }
 {
-    let space = shown.named().spaces().name(zone);
-    if space == shown.named().zones().name(zone) {
+    let space = shown.named_plan().spaces().name(zone);
+    if space == shown.named_plan().zones().name(zone) {
         Ok(())
     } else {
         push_space_name(text, shown, zone, space)
@@ -353,7 +364,7 @@ fn push_space_line(text: &mut String, shown: &Shown<'_>, zone: u8) -> Result<(),
     ensures { OnOk result
         (string_bytes text.new ≡ string_bytes text.old ++ spec.space_line shown.now zone) }
 {
-    let row = shown.named().plan().zone(zone);
+    let row = shown.named_plan().plan().zone(zone);
     if row.joins {
         let column = zone_column(shown, zone);
         let y = lane(shown, row.host) + 11;

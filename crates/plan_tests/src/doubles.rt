@@ -30,7 +30,7 @@ pub fn run<T: Threads + Wait + Clock + Sync, R: Read, W: Write>(
 }
 
 /// The status and the text of a line of words and an input.
-pub fn printed<T: Threads + Wait + Clock + Sync>(
+pub fn print_run<T: Threads + Wait + Clock + Sync>(
     rt: &T,
     alloc: Global,
     line: &str,
@@ -72,7 +72,7 @@ fn is_line<T: Threads + Wait + Clock + Sync>(
     input: &str,
     wanted: &str,
 ) -> bool {
-    let Ok((status, written)) = printed(rt, alloc, part(line, ": ", 1), input) else {
+    let Ok((status, written)) = print_run(rt, alloc, part(line, ": ", 1), input) else {
         return false;
     };
     match str::from_utf8(written.as_slice()) {

@@ -159,7 +159,7 @@ impl Noted {
     }
 
     /// What an audit says of both words.
-    fn audited(&self, alloc: Global) -> Result<Vec<Vec<Event>>, PlantAuditFault> {
+    fn audit_words(&self, alloc: Global) -> Result<Vec<Vec<Event>>, PlantAuditFault> {
         audit_plant(alloc, &[self.of_word(0), self.of_word(1)])
     }
 }
@@ -219,7 +219,7 @@ fn three_machines_work_on_two_words(rt: HostRuntime) {
         panic!(rt; "no memory");
     };
     assert!(rt; have_worked(&backs));
-    let found = noted.audited(rt.alloc()).expect(&rt, "histories");
+    let found = noted.audit_words(rt.alloc()).expect(&rt, "histories");
     assert!(rt; found.len() == 2 && found[0].len() + found[1].len() == 17);
 }
 
@@ -235,7 +235,7 @@ fn the_second_word_is_refused(rt: HostRuntime) {
         let Some((_backs, noted)) = run(&rt, rt.alloc()) else {
             panic!(rt; "no memory");
         };
-        let refused = noted.without_last(machine).audited(rt.alloc()).err();
+        let refused = noted.without_last(machine).audit_words(rt.alloc()).err();
         assert!(rt; refused == Some(PlantAuditFault { word: 1, fault }));
     }
 }

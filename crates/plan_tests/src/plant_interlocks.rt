@@ -100,7 +100,7 @@ fn plans(alloc: Global) -> Option<(Plan, Plan)> {
 }
 
 /// What an audit says of what the machines noted on one word: how many events its legal history has.
-fn audited(
+fn audit_word(
     alloc: Global,
     plan: &Plan,
     full: bool,
@@ -130,8 +130,8 @@ fn each_word_has_one_legal_history(rt: HostRuntime) {
         panic!(rt; "no memory");
     };
     // what changes nothing is never Busy: on each word an inquiry in each third round, and all calls of a stranger
-    let on_press = audited(rt.alloc(), &press, true, &noted, 0);
-    let on_shelf = audited(rt.alloc(), &shelf, false, &noted, 1);
+    let on_press = audit_word(rt.alloc(), &press, true, &noted, 0);
+    let on_shelf = audit_word(rt.alloc(), &shelf, false, &noted, 1);
     assert!(rt; on_press.is_ok_and(|events| events > 300));
     assert!(rt; on_shelf.is_ok_and(|events| events > 300));
 }
@@ -208,7 +208,7 @@ fn part(holds: bool, full: Option<bool>) -> Motor {
 
 /// Which of two motors may run. Both need the shelf, on word 1. On word 0 the first one needs a plate in the loader's
 /// hand, the second one none.
-fn permitted(alloc: Global, interlock: &PlantInterlock, pass: &mut PlantPass) -> Option<u64>
+fn permission(alloc: Global, interlock: &PlantInterlock, pass: &mut PlantPass) -> Option<u64>
     requires of_plant { IsOfPlant interlock.now pass.old }
     ensures of_plant { IsOfPlant interlock.now pass.new }
 {
@@ -250,9 +250,9 @@ fn a_motor_needs_both_words(rt: HostRuntime) {
     assert!(rt; is_done_there(&interlock, &mut shelf, Call::Claim(0)));
     assert!(rt; is_done_there(&interlock, &mut shelf, Call::SetPose(0)));
     assert!(rt; is_done_there(&interlock, &mut shelf, Call::Release(0)));
-    assert!(rt; permitted(rt.alloc(), &interlock, &mut loader) == Some(0b00));
+    assert!(rt; permission(rt.alloc(), &interlock, &mut loader) == Some(0b00));
     assert!(rt; is_done_there(&interlock, &mut loader, Call::Claim(0)));
-    assert!(rt; permitted(rt.alloc(), &interlock, &mut loader) == Some(0b01));
+    assert!(rt; permission(rt.alloc(), &interlock, &mut loader) == Some(0b01));
 }
 
 /// Why no interlock is made of a press, with two machines, and of a lift, with three.

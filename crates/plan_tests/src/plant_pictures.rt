@@ -196,7 +196,7 @@ fault plan line [..]: zone 2: [..]
 2: ./plan draw --memory 5 --words
 =>
 =>
-error: the only argument is [..]
+error: the first argument is [..]
 ";
 
 #[test]

@@ -123,7 +123,7 @@ fault plan line [..]: zone 12: [..]
 =>
 start,00
 =>
-error: the only argument is [..]
+error: the first argument is [..]
 ";
 
 /// A run, between a cell of one word and one of the other, is of both.

@@ -8,7 +8,7 @@ use std::test::Fail;
 
 /// A document of a host and a guest, who share this many zones. Each has a pose that opens it, and two lines of the
 /// guest's program, on a line of the document.
-fn shared(alloc: Global, count: usize) -> Result<String, AllocError> {
+fn sharing_pair(alloc: Global, count: usize) -> Result<String, AllocError> {
     let mut text = String::new(alloc);
     text.push_str("[[machine]]\nname = \"guest\"\nplaces = [\"hand\"]\nprogram = [\n")?;
     for zone in 0..count {
@@ -34,7 +34,7 @@ fn shared(alloc: Global, count: usize) -> Result<String, AllocError> {
 /// Forty zones: no word has more than ten of them, and each program has the lines of its word.
 #[test]
 fn forty_zones_are_read(rt: HostRuntime) -> Result<(), Fail> {
-    let text = shared(rt.alloc(), 40)?;
+    let text = sharing_pair(rt.alloc(), 40)?;
     let Ok(plant) = plant_of(rt.alloc(), text.as_str().as_bytes()) else {
         assert!(rt; false, "no plant");
         return Ok(());
@@ -54,7 +54,7 @@ fn forty_zones_are_read(rt: HostRuntime) -> Result<(), Fail> {
 /// Of twelve zones the last two are on a second word, and so are the last four calls of the guest.
 #[test]
 fn programs_go_from_word_to_word(rt: HostRuntime) -> Result<(), Fail> {
-    let text = shared(rt.alloc(), 12)?;
+    let text = sharing_pair(rt.alloc(), 12)?;
     let Ok(plant) = plant_of(rt.alloc(), text.as_str().as_bytes()) else {
         assert!(rt; false, "no plant");
         return Ok(());
@@ -78,7 +78,7 @@ fn programs_go_from_word_to_word(rt: HostRuntime) -> Result<(), Fail> {
 
 /// The fault of a plant's document with this many zones, in words, with a text of it instead of another one.
 fn fault_with(alloc: Global, zones: usize, old: &str, new: &str) -> Result<String, AllocError> {
-    let text = shared(alloc, zones)?;
+    let text = sharing_pair(alloc, zones)?;
     let text = text.as_str().replace(alloc, old, new)?;
     match plant_of(alloc, text.as_str().as_bytes()) {
         Ok(_) => String::from_str(alloc, "no fault"),

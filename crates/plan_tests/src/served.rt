@@ -1,7 +1,7 @@
 //! What the program answers to its words: exit statuses and texts; and where reading or writing fails.
 
 use super::answered_examples::PRESS;
-use super::doubles::{are_answered, printed, run};
+use super::doubles::{are_answered, print_run, run};
 use std::alloc::{AllocError, Global};
 use std::sync::Wait;
 use std::thread::Threads;
@@ -57,7 +57,7 @@ const WORDS: &str = "\
 2: ./plan 
 =>
 =>
-error: the only argument is check, replay, explore, header, draw, run, words, --help or --version
+error: the first argument is check, replay, explore, header, draw, run, words, --help or --version
 --
 0: ./plan --help
 0: ./plan -h checks
@@ -101,7 +101,7 @@ fn are_refused<T: Threads + Wait + Clock + Sync>(
 fn serves(rt: HostRuntime) {
     are_answered(&rt, rt.alloc(), "", WORDS);
     let other =
-        "error: the only argument is check, replay, explore, header, draw, run, words, --help or --version\n";
+        "error: the first argument is check, replay, explore, header, draw, run, words, --help or --version\n";
     let no_text = "error: a word isn't UTF-8\n";
     assert!(rt;
         are_refused(&rt, rt.alloc(), &[], other)
@@ -209,7 +209,7 @@ fn are_cut<T: Threads + Wait + Clock + Sync>(
     let line = part(row, " => ", 0);
     let input = part(row, " => ", 1);
     let arguments = arguments_in(alloc, line)?;
-    let (_, whole) = printed(rt, alloc, line, input)?;
+    let (_, whole) = print_run(rt, alloc, line, input)?;
     let mut are_cut = true;
     for left in 0..=whole.len() {
         are_cut = are_cut && is_cut(rt, alloc, &arguments, input, &whole, left);

@@ -51,7 +51,7 @@ fn on_one_word(alloc: Global) -> Option<(PlantInterlock, Vec<PlantPass>)>
 }
 
 /// What a machine is answered that claims a zone.
-fn claimed(interlock: &PlantInterlock, mut pass: PlantPass) -> Option<PlanEntry>
+fn claim_zone(interlock: &PlantInterlock, mut pass: PlantPass) -> Option<PlanEntry>
     requires of_plant { IsOfPlant interlock.now pass }
 {
     let _ = interlock.words();
@@ -79,7 +79,7 @@ fn claimed_in_threads<R: Threads + Sync>(
         passes,
         &|pass: PlantPass| -> Option<PlanEntry>
             requires { IsOfPlant interlock.now pass }
-        { claimed(interlock, pass) },
+        { claim_zone(interlock, pass) },
     )
 }
 
@@ -125,7 +125,7 @@ fn journals_of(
 }
 
 /// How many events their one legal history has. `None` if there is none, or no memory.
-fn audited(alloc: Global, entries: &[Option<PlanEntry>]) -> Option<usize> {
+fn audit_entries(alloc: Global, entries: &[Option<PlanEntry>]) -> Option<usize> {
     let journals = journals_of(alloc, entries).ok()?;
     let plan = Plan::new(tables(alloc).ok()?).ok()?;
     let start = State::start([false; 16], 0);
@@ -144,5 +144,5 @@ fn thirty_machines_call_in_threads(rt: HostRuntime) {
     assert!(rt; watch.is_some_and(|watch| watch.actor() == 30));
     let entries = claimed_in_threads(&rt, &interlock, passes).expect(&rt, "memory");
     assert!(rt; are_right(&entries));
-    assert!(rt; audited(rt.alloc(), &entries) == Some(30));
+    assert!(rt; audit_entries(rt.alloc(), &entries) == Some(30));
 }

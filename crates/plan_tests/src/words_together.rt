@@ -123,7 +123,7 @@ fault plan line [..]: zone 12: [..]
 =>
 start,00
 =>
-error: the only argument is [..]
+error: the first argument is [..]
 ";
 
 /// In one order there is none: 31 situations, counted by hand. But each crane may be passed over where the other one

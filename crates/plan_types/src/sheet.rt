@@ -285,7 +285,7 @@ impl Sheet {
 
     /// How many zones join a space after its first zone.
     #[tactic(auto, using(crate::proofs::lemmas::Below::sum_below_more))]
-    fn joined(&self, first: u8) -> u8
+    fn joiner_count(&self, first: u8) -> u8
         ensures count { let all = table.zone_count self.now in
             result ≡ sum_below (λ y. bool_byte (table.joined_to self.now first y)) all }
         ensures few { result ≤ 10 }
@@ -302,7 +302,7 @@ impl Sheet {
         ensures { result ≡ (table.zone_shape self.now zone).guests }
     {
         if self.space(zone) == zone {
-            1 + self.joined(zone)
+            1 + self.joiner_count(zone)
         } else {
             0
         }

@@ -35,7 +35,7 @@ fn refusal(plan: &Plan, layout: &Layout, word: u64, machine: u8, call: Call) -> 
 }
 
 /// What a call is answered if nothing refuses it.
-fn accepted(plan: &Plan, layout: &Layout, word: u64, call: Call) -> Answer
+fn accepted_answer(plan: &Plan, layout: &Layout, word: u64, call: Call) -> Answer
     requires { layout.now ≡ counts_of plan.now }
     ensures { result ≡ replies.accepted (state_told plan.now word) call }
 {
@@ -58,7 +58,7 @@ fn answer_told(plan: &Plan, layout: &Layout, word: u64, machine: u8, call: Call)
 {
     match refusal(plan, layout, word, machine, call) {
         Some(refusal) => Answer::Refused(refusal),
-        None => accepted(plan, layout, word, call),
+        None => accepted_answer(plan, layout, word, call),
     }
 }
 

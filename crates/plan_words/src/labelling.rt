@@ -31,7 +31,7 @@ fn is_among(labels: &[usize], zones: &[usize], label: usize) -> bool
 }
 
 /// The label that a zone's label becomes, where some zones are joined.
-fn renamed(labels: &[usize], zones: &[usize], first: usize, label: usize) -> usize
+fn joined_label(labels: &[usize], zones: &[usize], first: usize, label: usize) -> usize
     ensures { let any = list_any (λ y. nat_eq (label_of labels.now y) label) zones.now in
         result ≡ (if any then first else label) }
 {
@@ -44,7 +44,7 @@ fn renamed(labels: &[usize], zones: &[usize], first: usize, label: usize) -> usi
 
 #[tactic(auto, using(crate::proofs::Loops::merged_by, crate::proofs::Loops::merged_none))]
 /// The labels after some zones are joined: all labels among them become that of the first one.
-pub(crate) fn merged(
+pub(crate) fn merge_labels(
     labels: &[usize],
     zones: &[usize],
     alloc: Global,
@@ -57,7 +57,7 @@ pub(crate) fn merged(
             let first = label_of(labels, *zone);
             labels
                 .iter()
-                .map(|label| renamed(labels, zones, first, *label))
+                .map(|label| joined_label(labels, zones, first, *label))
                 .collect(alloc)
         }
     }
@@ -87,7 +87,7 @@ impl PlantTables {
     {
         for pose in 0..self.pose_count() {
             let zones = self.zones_by_pose(pose, alloc)?;
-            labels = merged(&labels, &zones, alloc)?;
+            labels = merge_labels(&labels, &zones, alloc)?;
         }
         Ok(labels)
     }
@@ -102,7 +102,7 @@ impl PlantTables {
     {
         for place in 0..self.place_count() {
             let zones = self.zones_by_place(place, alloc)?;
-            labels = merged(&labels, &zones, alloc)?;
+            labels = merge_labels(&labels, &zones, alloc)?;
         }
         Ok(labels)
     }
@@ -118,7 +118,7 @@ impl PlantTables {
     {
         for zone in 0..self.zone_count().saturating_sub(1) {
             let zones = self.with_space(zone, alloc)?;
-            labels = merged(&labels, &zones, alloc)?;
+            labels = merge_labels(&labels, &zones, alloc)?;
         }
         Ok(labels)
     }

@@ -26,7 +26,7 @@ pub struct Routed {
 }
 
 /// A call, with this number instead of its own.
-fn renumbered(call: Call, number: u8) -> Call
+fn with_number(call: Call, number: u8) -> Call
     ensures { result ≡ routes.renumbered call number }
 {
     match call {
@@ -129,7 +129,7 @@ impl Words {
         let on = self.row(call)?;
         Some(Routed {
             word: on.word,
-            call: renumbered(call, on.number),
+            call: with_number(call, on.number),
         })
     }
 }

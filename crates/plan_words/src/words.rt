@@ -271,7 +271,7 @@ impl PlantTables {
 impl PlantTables {
     /// The words of these groups, or the first group that doesn't fit one.
     #[tactic(auto, using(crate::proofs::WordFaults::says_some))]
-    fn shared(
+    fn share_words(
         &self,
         labels: &[usize],
         groups: &[usize],
@@ -305,7 +305,7 @@ impl PlantTables {
     {
         let labels = self.labels(alloc)?;
         let groups = self.group_labels(&labels, alloc)?;
-        self.shared(&labels, &groups, alloc)
+        self.share_words(&labels, &groups, alloc)
     }
 }
 

@@ -59,7 +59,7 @@ pub fn run<T: Threads + Wait + Sync, R: Read, W: Write>(
 }
 
 /// The status and the text of a line of words and an input.
-pub fn printed<T: Threads + Wait + Sync>(
+pub fn print_run<T: Threads + Wait + Sync>(
     rt: &T,
     alloc: Global,
     line: &str,

@@ -1,6 +1,6 @@
 //! Input and output that fail, are interrupted, or come in small parts.
 
-use super::doubles::{RUN, UnflushedWriter, input_of, is_answered, printed, run};
+use super::doubles::{RUN, UnflushedWriter, input_of, is_answered, print_run, run};
 use program_shell::{Exit, refuse_bytes};
 use std::alloc::Global;
 use std::sync::Wait;
@@ -59,7 +59,7 @@ fn is_written<T: Threads + Wait + Sync>(
     way: Way,
 ) -> bool {
     let (left, at_once, times, failure) = way;
-    let (status, whole) = printed(rt, alloc, line, input);
+    let (status, whole) = print_run(rt, alloc, line, input);
     let mut reader = InterruptedReader::new(input.as_bytes(), usize::MAX, at_once);
     let mut writer = InterruptedWriter::new(alloc, left, at_once, failure);
     reader.times = times;
@@ -99,7 +99,7 @@ fn is_lost<T: Threads + Wait + Sync>(rt: &T, alloc: Global, line: &str, input: &
         taken: Vec::new(alloc),
         flushed: 0,
     };
-    let (_, whole) = printed(rt, alloc, line, input);
+    let (_, whole) = print_run(rt, alloc, line, input);
     let status = run(rt, alloc, line, &mut input.as_bytes(), &mut writer);
     let taken = writer.taken.as_slice();
     let is_prefix = whole.as_slice().starts_with(taken) && taken.ends_with(b"\n");

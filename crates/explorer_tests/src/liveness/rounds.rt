@@ -45,7 +45,7 @@ const AGAINST: [Machine; 6] = [
 const ROBOT: [Machine; 6] = [Machine::Robot; 6];
 
 // What rounds in an order are answered from a start.
-fn answered(rt: HostRuntime, plates: [bool; 10], order: [Machine; 6]) -> Option<Rounds> {
+fn rounds_of(rt: HostRuntime, plates: [bool; 10], order: [Machine; 6]) -> Option<Rounds> {
     let start = State::start(plates, 0).ok()?;
     explore_round(rt.alloc(), &start, order).ok()
 }
@@ -81,17 +81,17 @@ fn longest_wait(rt: HostRuntime, plates: [bool; 10], order: [Machine; 6]) -> Opt
 
 #[test]
 fn one_plate_moves_again_and_again(rt: HostRuntime) {
-    let found = answered(rt, ONE, ALONG);
+    let found = rounds_of(rt, ONE, ALONG);
     assert!(rt; found == Some(Rounds::Within(8)));
-    let back = answered(rt, ONE, AGAINST);
+    let back = rounds_of(rt, ONE, AGAINST);
     assert!(rt; back == Some(Rounds::Within(8)));
 }
 
 #[test]
 fn four_plates_move_again_and_again(rt: HostRuntime) {
-    let found = answered(rt, FOUR, ALONG);
+    let found = rounds_of(rt, FOUR, ALONG);
     assert!(rt; found == Some(Rounds::Within(9)));
-    let back = answered(rt, FOUR, AGAINST);
+    let back = rounds_of(rt, FOUR, AGAINST);
     assert!(rt; back == Some(Rounds::Within(8)));
 }
 
@@ -104,13 +104,13 @@ fn a_walk_waits_as_long(rt: HostRuntime) {
 
 #[test]
 fn at_a_standstill_rounds_starve(rt: HostRuntime) {
-    let found = answered(rt, SIX, ALONG);
+    let found = rounds_of(rt, SIX, ALONG);
     assert!(rt; matches!(found, Some(Rounds::Starves { cycle: 1, .. })));
 }
 
 #[test]
 fn rounds_of_the_robot_alone_starve(rt: HostRuntime) {
-    let found = answered(rt, ONE, ROBOT);
+    let found = rounds_of(rt, ONE, ROBOT);
     assert!(rt; found == Some(Rounds::Starves { stem: 1, cycle: 1 }));
 }
 

@@ -184,7 +184,11 @@ fn motor_of(machine: u8, zone: u8, posture: Posture) -> Motor
 }
 
 /// To how many situations a search for a hazard comes, if nothing leads there.
-fn sought(alloc: Global, first: &Motor, second: &Motor) -> Result<Option<usize>, Fail> {
+fn situations_to_hazard(
+    alloc: Global,
+    first: &Motor,
+    second: &Motor,
+) -> Result<Option<usize>, Fail> {
     let (plan, programs, opening) = plant(alloc, 3)?;
     match seek_hazard(alloc, &plan, &opening, &programs, first, second, 225)? {
         Witness::Never(situations) => Ok(Some(situations)),
@@ -200,8 +204,8 @@ fn hazards_are_sought_apart(rt: HostRuntime) -> Result<(), Fail> {
     let arm = motor_of(0, 0, Posture::OpenIn);
     let other_ram = motor_of(3, 1, Posture::Moving);
     let other_arm = motor_of(2, 1, Posture::Closed);
-    assert!(rt; sought(alloc, &ram, &arm)? == Some(15));
-    assert!(rt; sought(alloc, &ram, &other_arm)? == Some(225));
-    assert!(rt; sought(alloc, &ram, &other_ram)? == None);
+    assert!(rt; situations_to_hazard(alloc, &ram, &arm)? == Some(15));
+    assert!(rt; situations_to_hazard(alloc, &ram, &other_arm)? == Some(225));
+    assert!(rt; situations_to_hazard(alloc, &ram, &other_ram)? == None);
     Ok(())
 }

@@ -2,7 +2,7 @@
 
 use super::letters::two_threads;
 use super::ring::three_threads;
-use super::{opened, stations_of};
+use super::{open_interlock, stations_of};
 use cell_interlock::Pass;
 use cell_types::{Answer, Call, Reply, Zone};
 use std::marker::Brand;
@@ -19,7 +19,7 @@ fn is_heard(told: Reply, heard: Option<(Reply, Pass)>) -> bool {
 
 #[test]
 fn a_letter_is_heard(rt: HostRuntime) {
-    let (interlock, passes) = opened(&rt, rt.alloc(), 2);
+    let (interlock, passes) = open_interlock(&rt, rt.alloc(), 2);
     let (_feed, table, _robot, press) = stations_of(&interlock, passes);
     let first = (press, Call::Claim(Zone::Z3));
     let second = (table, Call::Claim(Zone::Z1));
@@ -36,7 +36,7 @@ fn a_letter_is_heard(rt: HostRuntime) {
 // Each caller gets higher stamps than its letters'.
 #[test]
 fn letters_go_round(rt: HostRuntime) {
-    let (interlock, passes) = opened(&rt, rt.alloc(), 64);
+    let (interlock, passes) = open_interlock(&rt, rt.alloc(), 64);
     let (feed, table, _robot, press) = stations_of(&interlock, passes);
     let callers = (table, press, feed);
     let are_done = three_threads::<Brand, HostRuntime>(&rt, rt.alloc(), &interlock, callers);

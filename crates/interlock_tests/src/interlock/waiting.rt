@@ -5,7 +5,7 @@ ghost use Rattle.cell_types.specs.declared.machine.Machine.TheVariants.{Press, R
 
 use super::callers::{StepOutcome, own_in, pass_in};
 use super::closing::{Owned, PRESS_3, state_of};
-use super::{opened, stations_of};
+use super::{open_interlock, stations_of};
 use cell_interlock::{Interlock, Pass, Passes};
 use cell_types::{Answer, Call, Machine, Posture, Refusal, Reply, Zone};
 
@@ -77,13 +77,13 @@ fn are_met(interlock: &Interlock, mut press: Pass, robot: Pass) -> bool
 
 #[test]
 fn callers_do_not_wait(rt: HostRuntime) {
-    let (interlock, passes) = opened(&rt, rt.alloc(), 1);
+    let (interlock, passes) = open_interlock(&rt, rt.alloc(), 1);
     assert!(rt; are_answered(interlock, passes));
 }
 
 #[test]
 fn callers_who_meet_do_not_wait(rt: HostRuntime) {
-    let (interlock, passes) = opened(&rt, rt.alloc(), 1);
+    let (interlock, passes) = open_interlock(&rt, rt.alloc(), 1);
     let (_feed, _table, robot, press) = stations_of(&interlock, passes);
     assert!(rt; are_met(&interlock, press, robot));
 }

@@ -12,7 +12,7 @@ const TWO: &str = "start,0000000000\nwatch,inquire,z1\nwatch,inquire,z2\n";
 const LONG: Outcome = Outcome::Refused(ScriptFault::Long);
 
 /// These records, which blank lines fill to a length.
-fn filled(rt: &impl Abort, alloc: Global, records: &str, length: usize) -> Vec<u8> {
+fn fill_with_blanks(rt: &impl Abort, alloc: Global, records: &str, length: usize) -> Vec<u8> {
     let mut script = Vec::new(alloc);
     script
         .extend_from_slice(records.as_bytes())
@@ -49,7 +49,7 @@ fn has_most_lines(text: &[u8]) -> bool {
 /// Whether the largest script has this text, if it is read and written a byte at a time, with
 /// interruptions before each.
 fn is_told_bytewise(rt: &impl Abort, alloc: Global, text: &[u8]) -> bool {
-    let script = filled(
+    let script = fill_with_blanks(
         rt,
         alloc,
         inquiries(rt, alloc, 65_536, "").as_str(),
@@ -135,7 +135,7 @@ fn is_read(
 
 #[test]
 fn fails_at_limits(rt: HostRuntime) {
-    let script = filled(&rt, rt.alloc(), TWO, 4_194_310);
+    let script = fill_with_blanks(&rt, rt.alloc(), TWO, 4_194_310);
     for (left, text, wanted) in FAILS_AT_LIMIT {
         let is_right = is_read(rt.alloc(), script.as_slice(), *left, text, *wanted);
         assert!(rt; is_right, "{left}");

@@ -11,5 +11,5 @@ returns-in-Err-Observer-Asked c =
     let outer = here.field-0-is in
     let inner = here.field-0-0-is in
     let is : here.field-0 ≡ Observer Asked = cc in
-    if_played (shown c.args.config.now) c.args.trial.now (record { skip = c.args.skip; turns = c.new.result; last = None }) c.simulate_configured_observed.new.observer here.field-0 c.played.result is c.new.ensures.items
-    c.played.ensures.turns c.played.ensures.last here.ensures.ended
+    if_played (shown c.args.config.now) c.args.trial.now (record { skip = c.args.skip; turns = c.new.result; last = None }) c.simulate_configured_observed.new.observer here.field-0 c.into_played.result is c.new.ensures.items
+    c.into_played.ensures.turns c.into_played.ensures.last here.ensures.ended

@@ -1,6 +1,6 @@
 use Rattle.std.proofs.Common.{◌≡◌, ◌≤◌}
 use Rattle.plan_picture.specs.Scenes as spec
-use Rattle.plan_picture.proofs.positions.owned.Given as goal
+use Rattle.plan_picture.proofs.positions.owned_among_first.Given as goal
 
 abbrev pub invariant-things : goal.invariant-things
 invariant-things l = record {

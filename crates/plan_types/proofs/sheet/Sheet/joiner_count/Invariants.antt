@@ -2,7 +2,7 @@ use Rattle.std.proofs.Common.{◌≡◌, ◌≤◌}
 use mir.Val.{bool_byte}
 use Rattle.plan_types.specs.Below.{sum_below}
 use Rattle.plan_types.specs.Table.{joined_to}
-use Rattle.plan_types.proofs.sheet.Sheet.joined.Given as goal
+use Rattle.plan_types.proofs.sheet.Sheet.joiner_count.Given as goal
 
 abbrev pub invariant-loop-zone : goal.invariant-loop-zone
 invariant-loop-zone l = record {

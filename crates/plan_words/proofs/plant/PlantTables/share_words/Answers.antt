@@ -4,7 +4,7 @@ use Rattle.std.proofs.lemmas.Result.{IfOk-weaker}
 use Rattle.plan_words.specs.Run.{Word}
 use Rattle.plan_words.specs.Plant.{ArePlans, shared_word}
 use Rattle.plan_words.proofs.WordOrder.{made_plans}
-use Rattle.plan_words.proofs.plant.PlantTables.shared.Goals as goal
+use Rattle.plan_words.proofs.plant.PlantTables.share_words.Goals as goal
 
 pub words-requires-clause-plans : goal.words-requires-clause-plans
 words-requires-clause-plans c =

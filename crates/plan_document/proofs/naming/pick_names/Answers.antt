@@ -1,6 +1,6 @@
 use Rattle.std.proofs.Common.{◌∙◌, ◌++◌, ap, sym, arith, get_or, option_to_list, slice_get}
 use Rattle.plan_document.proofs.Parted.{picked_more}
-use Rattle.plan_document.proofs.naming.picked.Goals as goal
+use Rattle.plan_document.proofs.naming.pick_names.Goals as goal
 
 pub numbers-preserved : goal.numbers-preserved
 numbers-preserved c =
