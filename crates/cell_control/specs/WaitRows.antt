@@ -8,7 +8,7 @@ use Rattle.cell_control.specs.Steps.{is_while_stopped}
 use Rattle.cell_control.specs.Rows.{Wait, is_waited_out, is_among}
 use Rattle.cell_control.specs.Rows.{UntilFree, UntilOwner, UntilRoom, UntilOpen, UntilResumed}
 
--- it stays on exactly these refusals, and in a stopped cell
+-- by its row it stays on exactly these refusals; on `Stopped` each step that asks stays (`until_resumed`)
 abbrev pub StaysOn : Waits → List Wait → Type 0
 StaysOn w waits = (r : Refusal) → waits_on w r ≡ is_among waits r
 

@@ -12,8 +12,8 @@ use cell_types::{Machine, Posture};
 ///
 /// - A step with a call asks it once and sets the actuators to `rest`. When the call is done, it
 ///   leads to the row's next step; an inquiry leads to `after_inquiry`, by what it showed. On a
-///   refusal the step stays if it waits for that, and always while the cell is stopped. Otherwise
-///   the controller stops.
+///   refusal the step stays if it waits for that, or if the refusal is `Stopped`. Otherwise the
+///   controller stops.
 /// - A step without a call drives: it sets the actuators to `drive` and leads to `after_drive`.
 ///   That is the step itself until its motors are off. A step that only switches a magnet drives
 ///   too: its motors are off, so it leads on at once.
@@ -46,7 +46,7 @@ pub trait Program: Drop {
         ensures { result ≡ (steps self.now).start state.now };
 
     /// The row of a step: what it asks, or `None` if it drives; what it waits for; and the next step
-    /// once the call or the drive is done. Each step waits while the cell is stopped, so no row says so.
+    /// once the call or the drive is done. Each step also stays on `Stopped`, so no row says so.
     fn row(&self, progress: Self::Progress) -> Row<Self::Progress>
         ensures { result ≡ (steps self.now).row progress };
 

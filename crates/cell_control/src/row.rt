@@ -5,10 +5,10 @@ ghost use Rattle.cell_control.specs.Row.{waits_on, row_that_asks, row_that_drive
 
 use cell_types::{Call, Refusal};
 
-/// What a step waits for: the refusals on which it stays, besides that the cell is stopped.
+/// What a step waits for: the refusals on which it stays, besides `Stopped`.
 #[derive(Clone, Copy)]
 pub enum Waits {
-    /// For nothing: each refusal stops the controller, except while the cell is stopped.
+    /// For nothing: each refusal but `Stopped` stops the controller.
     Never,
     /// Until its zone is free.
     UntilFree,

@@ -13,16 +13,16 @@ pub fn outcomes_are_known()
     ensures { OutcomeExamples }
 {}
 
-/// A call that is made after a receipt was accepted comes after each call that was answered before
-/// the receipt was taken, whatever else happens between these steps (`order`). It gets no lower
-/// stamp, and a higher one if it is Done (`stamps`).
+/// A call that is made after a receipt was accepted comes after each answered call that the receipt
+/// tells, whatever else happens between these steps (`order`): its caller, or one who knew of it, took
+/// the receipt. It gets no lower stamp, and a higher one if it is Done (`stamps`).
 pub fn receipts_order_calls()
     ensures order { ReceiptsOrderCalls }
     ensures stamps { ReceiptsRaiseStamps }
 {}
 
-/// A call that is asked after a receipt (`Interlock::ask_after`) begins after the event of each call
-/// that was answered before the receipt was taken.
+/// A call that is asked after a receipt (`Interlock::ask_after`) begins after the event of each
+/// answered call that the receipt tells.
 pub fn calls_follow_receipts()
     ensures { CallsFollowReceipts CellRules cell_book }
 {}

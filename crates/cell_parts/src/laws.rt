@@ -21,9 +21,9 @@ pub fn nothing_collides()
         TravelsHigh p.crane → RotatesRetracted p.robot → NothingCollides p }
 {}
 
-/// Motors that have what they demand keep the machines apart. A machine rests while a zone that it
-/// hosts is open, a machine that drives in a zone holds it, and two machines never drive in the
-/// same zone.
+/// Motors that have what they demand keep the machines apart, where plates are at the belts' ends
+/// exactly if those places are full. A machine rests while a zone that it hosts is open, a machine
+/// that drives in a zone holds it, and two machines never drive in the same zone.
 pub fn machines_keep_apart()
     ensures law { MotorDemandsKeepApart }
     ensures by_demands { (errand : GripperErrand) (s : ModelState) (p : PlantState) →

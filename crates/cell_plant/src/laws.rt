@@ -108,7 +108,7 @@ pub fn wrong_films_are_refused()
 {}
 
 /// The rows of the watch's program, by examples: it begins with a stop, resumes after it, and stops
-/// again. No refusal makes it wait, except while the cell is stopped.
+/// again. No refusal but `Stopped` makes it wait.
 #[tactic(auto, using(crate::proofs::WatchRows::watch_rows))]
 pub fn watch_rows_are_met()
     ensures { WatchRowsAreMet }

@@ -97,10 +97,11 @@ pub record RoundMoment (W1 W2 W3 W4 W5 W6 H S : Type 0) : Type 0 where
   pub opening : ModelState
   pub sink : S
 
--- what a round of six workers and a watch left, without its journals
+-- what a round of six workers and a watch noted, without what its workers left
 abbrev pub round_in : {A B C D E F : Type 0} → SixRecord A B C D E F → Round
 round_in r = record { start = r.start; journals = r.journals; end = r.end }
 
+-- what it left, without its journals
 abbrev pub leave_of : {A B C D E F H : Type 0} → SixRecord A B C D E F → H → Leave A B C D E F H
 leave_of r watch = record { end = r.end; outputs = r.outputs; watch = watch }
 

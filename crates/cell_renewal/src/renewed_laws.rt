@@ -19,8 +19,9 @@ use cell_table_press::{PressProgram, TableProgram};
 use cell_threads::{Gate, SixOf, Watching};
 
 /// What `run_renewed` says of six `GoingWorker`s by the six programs, whatever else it says. From a
-/// start none ends as refused, in any round. None ends as worn, if the mark leaves room: for one
-/// change in each of the six machines' turns of a round, and for the calls of the watch.
+/// start none ends as refused, in any round. None ends as worn, if all six run at first, the first
+/// interlock opens with a stamp up to the mark, and the mark leaves room: for one change in each of
+/// the six machines' turns of a round, and for the calls of the watch.
 pub fn renewed_records_tell<F1, F2, F3, F4, F5, D1, D2, D3, D4, D5, D6, H, G, S>(
     _workers: &SixOf<
         GoingWorker<FeedProgram, D1>,

@@ -142,8 +142,8 @@ pub fn first_version_stays()
     ensures { FirstVersionStays }
 {}
 
-/// A call that isn't barred is answered as if the cell weren't stopped. So what moves may stop: a
-/// standing pose, a take, a release, a yield and an advance are never refused as stopped.
+/// A call that isn't barred, stop and resume apart, is answered as if the cell weren't stopped. So what
+/// moves may stop: a standing pose, a take, a release, a yield and an advance are never refused as stopped.
 pub fn what_moves_may_stop()
     ensures { WhatMovesMayStop }
 {}

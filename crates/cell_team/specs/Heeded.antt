@@ -1,4 +1,4 @@
--- No machine is refused but for what its step waits for, so none is ever stopped by a refusal.
+-- No machine is refused but as worn, or for what its step waits for: so no refusal but a worn one stops one.
 use Rattle.std.specs.Prelude.{◌≡◌, Bool, true, false, ◌||◌, List, ◌∷◌, ◌++◌, Some, Err, IsTrue}
 use Rattle.cell_rules.specs.Types.{Call, Refusal, Worn, Refused, Event}
 use Rattle.cell_rules.specs.Names.{ModelState, reply, after, IsLegal, event, IsStartState}

@@ -1,5 +1,5 @@
 //! The six programs together: over one interlock no machine is refused but for what its step waits
-//! for, so none stops another.
+//! for, or as worn, so none stops another.
 #![tactic(auto)]
 
 pub mod laws;

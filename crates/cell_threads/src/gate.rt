@@ -15,8 +15,8 @@ pub trait Gate {
     fn pass(&self, machine: Machine, turn: u32) -> bool
         ensures { may_answer self.now machine turn result };
 
-    /// Told that six workers begin, before any has begun. It is told so again before each round of
-    /// `run_renewed` of `cell_renewal`.
+    /// Told by `run_renewed` of `cell_renewal` that a round begins, before any of its six workers has
+    /// begun. `run_workers` and `run_watched` don't tell it.
     fn begin(&self) {}
 
     /// Told that the machine takes no more turns: its worker has ended, or couldn't be started.

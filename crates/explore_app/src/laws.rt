@@ -14,7 +14,7 @@ ghost use Rattle.explore_app.specs.TalliesByNumber.{LivenessByNumber, TalliesByN
 ghost use Rattle.explore_app.specs.Tellings.{TellingsAreWhole};
 ghost use Rattle.explore_app.specs.Starts.{StartsAreAll, StartsAreCounted};
 
-/// Each start is among those that are explored with its number of plates.
+/// Each start with the stamp 0 is among those that are explored with its number of plates.
 pub fn starts_are_all()
     ensures { StartsAreAll }
 {}

@@ -68,7 +68,7 @@ pub fn names_are_numbered()
 
 /// Each line of a header for turns, for all names, sensors and steps: the names of each kind as texts, the bits of
 /// motors and sensors, the kind, the motors, the object and the sensor of each line of a program, and how many lines it
-/// has. Each word in a line is one that the header defines.
+/// has. Each zone, place, pose and sensor in a line is a word that the header defines.
 pub fn turns_tell()
     ensures { TurnsTell }
 {}

@@ -64,8 +64,8 @@ pub fn work_is_permitted<D: PlanDevices, G: PlanGate>(_devices: &D, _gate: &G)
     ensures { WorkIsPermitted D.reads D.drives (G.may_answer _gate.now) }
 {}
 
-/// A round in which nobody but its machines has called leaves a stamp of at most as many as all their turns. So with
-/// fewer turns in all than the last stamp no interlock is worn. That nobody else has called is its premise.
+/// A round from which the run goes on, and in which nobody but its machines has called, leaves a stamp of at most as
+/// many as all their turns.
 pub fn turns_leave_room<D: PlanDevices, G: PlanGate, S: PlanRoundSink>(
     _devices: &D,
     _gate: &G,

@@ -15,9 +15,9 @@ ghost use Rattle.word_interlock.specs.Settling.{BusyIsPaid};
 use crate::pass::Pass;
 use crate::rules::Rules;
 
-/// A call that is made after a receipt was accepted comes after each call that was answered before
-/// the receipt was taken, whatever else happens between these steps (`order`). It gets no lower
-/// stamp, and a higher one if it is done (`stamps`).
+/// A call that is made after a receipt was accepted comes after each answered call that the receipt
+/// tells, whatever else happens between these steps (`order`): its caller, or one who knew of it, took
+/// the receipt. It gets no lower stamp, and a higher one if it is done (`stamps`).
 pub fn receipts_order_calls<R: Rules>(rules: &R)
     ensures order { ReceiptsOrderCalls (R.book rules.now) }
     ensures stamps { ReceiptsRaiseStamps (R.book rules.now) }
@@ -33,8 +33,8 @@ pub fn passes_see_lawful_histories<R: Rules>(pass: &Pass<R>)
     let _ = &pass.seat;
 }
 
-/// A call that is asked after a receipt (`Interlock::ask_after`) begins after the event of each call
-/// that was answered before the receipt was taken. So does one whose caller had accepted the receipt.
+/// A call that is asked after a receipt (`Interlock::ask_after`) begins after the event of each
+/// answered call that the receipt tells. So does one whose caller had accepted the receipt.
 pub fn calls_follow_receipts<R: Rules>(rules: &R)
     ensures { CallsFollowReceipts R (R.book rules.now) }
 {

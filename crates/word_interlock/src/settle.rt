@@ -18,9 +18,9 @@ impl<R: Rules> Interlock<R> {
     /// The pass was made with this interlock. Whatever other threads do with the other passes
     /// meanwhile:
     /// - the call was answered once, and all holds that holds of such a call of `ask` (`settled`);
-    /// - each ask that was Busy took one load and `tries` exchanges, left a beginning, and was paid for
-    ///   by changes of other actors, which have raised the stamp by `tries`; the last one began after
-    ///   all that its pass had seen, and its event came with its last step (`asked`).
+    /// - each ask took one load, and all together at most `tries` exchanges for each; each that was Busy
+    ///   left a beginning, and the stamp has risen by at least `tries` for each of these; the last one
+    ///   began after all that its pass had seen, and its event came with its last step (`asked`).
     pub fn settle(&self, pass: &mut Pass<R>, call: R::Call) -> (R::Answer, u32)
         requires same_interlock { pass.old.table ≡ self.now.table }
         ensures settled { IsSettled (R.book self.now.rules)
