@@ -102,7 +102,7 @@ enum bagunjoki_verb {
 /* Answers. Only DONE changes the word. 1 to 16 are refusals. */
 enum bagunjoki_answer {
     BAGUNJOKI_DONE = 0,
-    BAGUNJOKI_NOT_PARTY = 1,     /* the caller is no party of the zone */
+    BAGUNJOKI_NOT_PARTY = 1,     /* the caller is no party of the zone; STOP, RESUME: it isn't the watch */
     BAGUNJOKI_HELD = 2,          /* by the reply's owner */
     BAGUNJOKI_ALREADY_MINE = 3,
     BAGUNJOKI_SHUT = 4,          /* the zone has the reply's posture */
@@ -156,7 +156,8 @@ uint64_t bagunjoki_restamp(uint64_t word, uint32_t stamp);
 /* Whether the word is a state's. */
 bool bagunjoki_is_state(uint64_t word);
 
-/* The stamp of a state's word: how many calls were DONE, after the first stamp or that of the last renewal. */
+/* The stamp of a state's word: the first one, or that of the last renewal, and one more for each call DONE since. Of
+   another word its bits 40 to 59. */
 uint32_t bagunjoki_stamp(uint64_t word);
 
 /* Whether the cell is stopped. False if the word is no state's. */
@@ -222,7 +223,8 @@ static inline bagunjoki_reply bagunjoki_settle(bagunjoki_word *shared, uint8_t m
 /* Keeps a shared word from wearing out: if its stamp is `from` or later, gives it the stamp `to`, and changes nothing
    else of the state. One load, and at most `tries` exchanges. Any thread may do this at any moment, also while others
    call: to a call that is under way it is a change by others. Do it in each turn: bagunjoki_renew(&word, 1000000, 0, 8).
-   False if it is still to be done: all exchanges were lost, or the word is no state's, or `to` is past LAST_STAMP. */
+   False if the word's stamp is `from` or later and it isn't done: all exchanges were lost, the word is no state's, or
+   `to` is past LAST_STAMP. True doesn't say that the word is a state's. */
 static inline bool bagunjoki_renew(bagunjoki_word *shared, uint32_t from, uint32_t to, unsigned tries) {
     uint64_t word = BAGUNJOKI_ATOMIC(load)(shared);
     while (bagunjoki_stamp(word) >= from) {

@@ -11,8 +11,8 @@ A script, line by line:
     python3 -m bagunjoki [--show] [--answers] [SCRIPT]
 
 --show prints the state after each line, --answers the answers alone, as `cell replay` does. The library is the file
-that the variable BAGUNJOKI names, or else libbagunjoki.so beside this file, one folder above, or where the system
-finds it. Where there is none, Word() raises NoLibrary. The status is 1 for a script that is refused, 2 where nothing
+that the variable BAGUNJOKI names, or else libbagunjoki.so beside this file, one folder above, in out/lib of a
+checkout, or where the system finds it. Where there is none, Word() raises NoLibrary. The status is 1 for a script that is refused, 2 where nothing
 can be played: bad arguments, no script, no library.
 """
 
@@ -270,7 +270,7 @@ class Word:
 
     def __init__(self, places="0000000000", stamp=0, library=None, renews=False):
         """A start: ten digits, 1 where there is a plate, and the first stamp. If it renews, a call after the last stamp
-        first gives it the stamp 0; if not, such a call is worn."""
+        first gives it the stamp 0; if not, a call that would be done is worn."""
         self.library, self.renews = library or load_library(), renews
         digits = places.encode()
         self.value = self.library.bagunjoki_start(digits, len(digits), stamp) if 0 <= stamp <= LAST_STAMP else self.no_word
@@ -316,7 +316,7 @@ class Word:
 
     @property
     def stamp(self):
-        """How many calls were done, after the first stamp or that of the last renewal."""
+        """The first stamp, or that of the last renewal, and one more for each call done since."""
         return self.library.bagunjoki_stamp(self.value)
 
     @property

@@ -76,7 +76,8 @@ enum bagunjoki_plan_kind {
 /* Answers. Only DONE changes the word. 1 to 15 are refusals. */
 enum bagunjoki_plan_answer {
     BAGUNJOKI_PLAN_DONE = 0,
-    BAGUNJOKI_PLAN_NOT_PARTY = 1, /* the caller is no party of such a zone, or has no such source or sink */
+    BAGUNJOKI_PLAN_NOT_PARTY = 1, /* the caller is no party of such a zone, has no such source or sink, or isn't
+                                     the watch (STOP, RESUME) */
     BAGUNJOKI_PLAN_HELD = 2,      /* by the reply's owner */
     BAGUNJOKI_PLAN_ALREADY_MINE = 3,
     BAGUNJOKI_PLAN_SHUT = 4,          /* the zone has the reply's posture */
@@ -171,8 +172,8 @@ uint64_t bagunjoki_plan_start(const bagunjoki_plan_opened *plan, const uint8_t *
    past the last. */
 uint64_t bagunjoki_plan_restamp(const bagunjoki_plan_opened *plan, uint64_t word, uint32_t stamp);
 
-/* The stamp of a state's word: how many calls were DONE, after the first stamp or that of the last renewal. NO_STAMP if
-   there is no plan, or the word is no state's. */
+/* The stamp of a state's word: the first one, or that of the last renewal, and one more for each call DONE since.
+   NO_STAMP if there is no plan, or the word is no state's. */
 uint32_t bagunjoki_plan_stamp(const bagunjoki_plan_opened *plan, uint64_t word);
 
 /* Whether the state of a word permits a motor, or a part to stand somewhere: by the motor's mask and pattern, which
@@ -201,9 +202,10 @@ bagunjoki_plan_turned bagunjoki_plan_turn(const bagunjoki_plan_opened *plan, uin
                                           bool read, uint32_t sensors);
 
 /* Whether a machine may go on at a place that was stored, by the word that was stored with it: the place is at a line
-   of its program, and what the calls of the lines before it tell (zones that it holds, postures) is so in the word's
-   state. Of a place and a word of one moment it always is, if the word came from a start by calls and the machine to
-   its place by turns. False if there is no plan, the word is no state's, or a line is no step.
+   of its program, `stopped` is 0 or a refusal's number, zones are open as poses give, and what the calls and waits of
+   the lines before it tell (zones that it holds, postures, its places) is so in the word's state. Of a place and a word
+   of one moment it always is, if the word came from a start by calls and the machine to its place by turns. False if
+   there is no plan, the word is no state's, a line is no step, or there are more than 255.
    If the program runs only what it may, each motor that is on in the turns that go on there is permitted, as in those
    from the first line, whatever led to the word. A machine that has stopped stays so. */
 bool bagunjoki_plan_is_in_step(const bagunjoki_plan_opened *plan, uint64_t word, uint8_t machine,

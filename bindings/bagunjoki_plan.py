@@ -12,8 +12,8 @@ A script, line by line, answered as `./plan replay` does:
 
     python3 press.py [--show] [--answers] [SCRIPT]
 
-The library is the file that the variable BAGUNJOKI_PLAN names, or else libbagunjoki_plan.so beside this file, one folder above, or
-where the system finds it. The status is as that of `python3 -m bagunjoki`.
+The library is the file that the variable BAGUNJOKI_PLAN names, or else libbagunjoki_plan.so beside the module
+bagunjoki, one folder above, in out/lib of a checkout, or where the system finds it. The status is as that of `python3 -m bagunjoki`.
 """
 
 import ctypes

@@ -130,7 +130,7 @@ unsafe extern "C" {
     safe fn bagunjoki_restamp(word: u64, stamp: u32) -> u64;
 }
 
-/// The stamp of a state's word: how many calls were done, after the first stamp or that of the last renewal.
+/// The stamp of a state's word: the first one, or that of the last renewal, and one more for each call done since.
 pub fn stamp_of(word: u64) -> u32 {
     bagunjoki_stamp(word)
 }

@@ -194,7 +194,7 @@ pub fn parts_are_told()
 
 /// What is found of a group alone, from the start of a script, is so among all machines: the group never stands still,
 /// or comes to a standstill by these turns, and by no fewer, and then stands still for ever; and each bound holds, and
-/// each machine that may starve may starve. Each group has its part.
+/// each machine that may starve may starve, if all come to some number of situations. Each group has its part.
 pub fn parts_speak_of_all(plan: &ProgrammedPlan, opening: &State)
     requires { IsStartOf plan.now.named opening.now }
     ensures { PartsSpeakOfAll plan.now.named plan.now.programs opening.now }
@@ -271,7 +271,8 @@ pub fn plant_screens_are_meant()
 
 /// What is found of a group of a plant's machines alone, from the start of a script, is so among all machines on all
 /// words together: the group never stands still, or comes to a standstill by these turns, and by no fewer, and then
-/// stands still for ever; and each bound holds, and each machine that may starve may starve. Each group has its part.
+/// stands still for ever; and each bound holds, and each machine that may starve may starve, if all come to some number
+/// of situations. Each group has its part.
 pub fn plant_parts_speak_of_all(plant: &ProgrammedPlant, openings: &[State])
     requires words { HasWords plant.now }
     requires script { AreOfScript plant.now openings.now }

@@ -40,13 +40,13 @@ use std::time::{Clock, Duration};
 pub enum PlantRunFault {
     /// Memory ran out.
     Memory,
-    /// No legal history of some word explains the journals, or one has a call that isn't its machine's own. This doesn't
-    /// come.
+    /// No legal history of some word explains the journals, or one has a call that isn't its machine's own. No run is
+    /// known to come to it, but no clause says that none does.
     Audit,
     /// A word has more calls than a script may have.
     Long,
     /// The words aren't those of one plant: what a machine does on them isn't one program, or they don't have the same
-    /// machines. This doesn't come of a plant that was read.
+    /// machines. No plant that was read is known to come to it, but no clause says that none does.
     Words,
 }
 

@@ -44,7 +44,8 @@ pub(crate) const MAX_CALLS: usize = MAX_RECORDS as usize;
 pub enum RunFault {
     /// Memory ran out.
     Memory,
-    /// No legal history explains the journals, or it has a call that isn't its machine's own. This doesn't come.
+    /// No legal history explains the journals, or it has a call that isn't its machine's own. No run is known to come
+    /// to it, but no clause says that none does.
     Audit,
     /// There are more calls than a script may have.
     Long,
@@ -55,7 +56,7 @@ pub enum RunFault {
 pub enum Told {
     /// No machine was stopped.
     Fine(String),
-    /// Some machine was stopped by a refusal that no other machine's call mends.
+    /// Some machine was stopped by a refusal: one that nobody's call mends, or that its line has as a fault.
     Stopped(String),
 }
 
@@ -141,7 +142,7 @@ fn jobs_of(
 }
 
 /// Lets the machines of a plan take turns, each in a thread of its own, at one pace, over one interlock that opens with
-/// this start. `Audit` doesn't come.
+/// this start. No run is known to come to `Audit`, but no clause says that none does.
 pub fn run_machines<T: Threads + Wait + Clock + Sync>(
     rt: &T,
     alloc: Global,

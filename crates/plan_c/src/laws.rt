@@ -51,7 +51,8 @@ pub fn given_is_met()
 
 /// A turn on a word that a legal history leads to, by which the machine is at its place, makes one call of that history
 /// at most. So it leads to a word, a history and a place of which the same is so. Where the program runs only what it
-/// may, each motor that is on is permitted, whatever others do, until the machine's next call is done.
+/// may, and the history began with zones open as poses give, each motor that is on is permitted, whatever others do,
+/// until the machine's next call is done.
 pub fn turns_go_on()
     ensures { TurnsGoOn }
 {

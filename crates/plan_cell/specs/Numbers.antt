@@ -79,7 +79,7 @@ plan_posture Moving = IsMoving
 plan_posture OpenIn = IsOpenIn
 plan_posture OpenOut = IsOpenOut
 
--- the same call by the plan; Advance is a call of the cell alone
+-- the same call by the plan; the cell's Advance, of a belt, is none by it
 abbrev pub plan_call : Machine → Call → Option PlanCall
 plan_call m (Claim z) = Some (DoClaim (zone_number z))
 plan_call m (Give z) = Some (DoGive (zone_number z))

@@ -17,8 +17,8 @@ pub fn cell_is_plan()
     ensures { IsPlan cell_table }
 {}
 
-/// Whatever the cell answers Done its plan answers Done too, and both leave the same state: the cell only refuses more.
-/// `Advance` is a call that plans don't have.
+/// Whatever call by its plan the cell answers Done the plan answers Done too, and both leave the same state: the cell
+/// only refuses more. The cell's `Advance`, of a belt, is no call by its plan.
 pub fn cell_refuses_more()
     ensures { CellRefusesMore }
 {}

@@ -56,7 +56,7 @@ pub fn lines_are_of_steps()
     ensures { LinesAreOfSteps }
 {}
 
-/// A run has exactly its motors on until its sensor shows, and then none.
+/// While sensors are read, a run has exactly its motors on until its sensor shows, and then none.
 pub fn runs_are_driven()
     ensures { RunsAreDriven }
 {}

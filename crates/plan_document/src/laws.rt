@@ -37,7 +37,7 @@ pub fn accepted_lines_are_theirs()
 }
 
 /// A line is accepted where the plan has a reason: a zone of the machine, a plate that it gives or takes, a pose of its
-/// own; and nowhere else.
+/// own, or an own place that is a source or a sink; and nowhere else.
 pub fn accepted_lines_have_reasons()
     ensures { laws.AcceptedLinesHaveReasons }
 {}

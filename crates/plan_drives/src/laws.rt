@@ -24,8 +24,8 @@ use plan_rules::State;
 use plan_rules::laws::lawful_histories;
 use plan_types::{Event, Plan, Posture};
 
-/// A machine that is at a line of its program is permitted each motor that the line runs, whatever the others have
-/// done.
+/// A machine at a line of an accepted program is permitted each motor that the line runs, whatever the others have
+/// done, from a sound opening whose open zones are open as poses give.
 pub fn drives_are_permitted(
     plan: &MotorPlan,
     machine: u8,
@@ -181,7 +181,7 @@ pub fn who_is_shown_owns(
     ensures { IsTrue (owns (after plan.now opening.now before.now) machine zone) }
 {}
 
-/// Two machines never both run motors that exclude each other.
+/// Two machines never both run motors that exclude each other, by accepted programs and from such an opening.
 pub fn hazards_are_never_driven(
     plan: &MotorPlan,
     machine: u8,

@@ -58,8 +58,8 @@ pub fn rights_last(rules: &PlanRules)
     let _ = rules;
 }
 
-/// At the point of its call a machine may still run each motor that it has found permitted since its last one, by a
-/// load or by a survey.
+/// At the point of its call a machine may still run each motor of the plan that it has found permitted since its last
+/// one, by a load or by a survey.
 pub fn permissions_last(rules: &PlanRules)
     ensures { PermissionsLast (plan_of rules.now) }
 {

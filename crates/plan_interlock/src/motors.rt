@@ -24,8 +24,8 @@ use plan_word::laws::words_are_laid_out;
 /// - at the moment of the load the history is what the pass has now seen: it begins with all that the pass had seen,
 ///   and has no new event of its own machine (`more`);
 /// - a motor's bit is set exactly if the state after that history permits the motor (`permitted`);
-/// - the motor then stays permitted, whatever events follow, until a call of its own machine loses the permission
-///   (`lasts`).
+/// - a motor that fits the plan then stays permitted, whatever events follow, until a call of its own machine loses
+///   the permission (`lasts`).
 ///
 /// So by one load a machine may run its motors until its own next call that is done. Two machines whose motors exclude
 /// each other never both do: `plan_motors::laws::hazards_never_run`.

@@ -34,8 +34,8 @@ impl PlantInterlock {
     /// - on each word this is one load, at whose moment the word's history is what the pass has now seen there
     ///   (`looks`);
     /// - a motor's bit is set exactly if each word permits its part after that history (`permitted`);
-    /// - each word then goes on permitting the part, whatever events follow there, until a call of the motor's machine
-    ///   loses the permission (`lasts`).
+    /// - each word then goes on permitting a part that fits its plan, whatever events follow there, until a call of the
+    ///   motor's machine loses the permission (`lasts`).
     ///
     /// The words are loaded one after another: there is no one moment of all words. Yet two machines whose motors a
     /// zone, a place or one word's plan keeps apart never both run them by such loads: the law

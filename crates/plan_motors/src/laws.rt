@@ -22,7 +22,7 @@ use plan_rules::laws::{lawful_histories, plain_plans_stay};
 use plan_types::{Call, Event, Plan};
 use plan_word::laws::words_are_laid_out;
 
-/// What a machine may run, no other machine's call takes away.
+/// What a machine may run in a sound state, no other machine's call takes away, if the motor fits the plan.
 pub fn others_keep_permissions(plan: &Plan, motor: &Motor, state: &State, machine: u8, call: Call)
     requires motor { IsMotorOf plan.now motor.now }
     requires sound { IsSound plan.now state.now }
@@ -116,7 +116,7 @@ pub fn loads_permit(plan: &Plan, motor: &Motor, mask: &MotorMask, loaded: &State
     words_are_laid_out();
 }
 
-/// After no legal history are two motors permitted that exclude each other.
+/// After no legal history from a sound opening are two motors permitted that exclude each other.
 pub fn hazards_are_never_permitted(
     plan: &Plan,
     first: &Motor,

@@ -15,7 +15,8 @@ use plan_types::Plan;
 pub enum Verdict {
     /// No sound state permits both.
     Excluded(Cause),
-    /// By the poses of this machine, no state after a legal history from an opening with these postures permits both.
+    /// By the poses of this machine, no state after a legal history from a sound opening with these postures permits
+    /// both.
     ByPoses(u8),
     /// This sound state permits both, and the poses of each machine lead from the opening's postures to such as both
     /// need.

@@ -133,7 +133,7 @@ pub record LiftLaws (s : State) (before rest : List Event) (m : ℕ) : Type 0 wh
   pub replies : LiftReplies s m
   pub histories : LiftHistories s before rest
 
--- which calls a stop bars: claims, gives and poses that move
+-- which calls a stop bars: of a lift, which has no advance, claims, gives and poses that move
 pub record CallsAreBarred : Type 0 where
   pub claim : is_barred lift_table (Claim 1) ≡ true
   pub give : is_barred lift_table (Give 1) ≡ true

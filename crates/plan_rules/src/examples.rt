@@ -10,9 +10,9 @@ ghost use Rattle.plan_rules.specs.AdvanceExamples.{AdvancesAreMet};
 ghost use Rattle.plan_rules.specs.SpaceExamples.{RobotsAreMet};
 
 /// Histories of a press, of a lift, of two doors, of two presses and of two gates, written out, are legal: each refusal
-/// stands in one of them, and each call is done in one. The pose that moves one door leaves the other alone, and wants
-/// it all the same; one that opens a door, or a press, wants no other zone. A pose that wants both gates is refused by
-/// the first.
+/// stands in one of them, and each call but `Advance` is done in one. The pose that moves one door leaves the other
+/// alone, and wants it all the same; one that opens a door, or a press, wants no other zone. A pose that wants both
+/// gates is refused by the first.
 pub fn examples_are_legal()
     ensures { ExamplesAreLegal }
 {}

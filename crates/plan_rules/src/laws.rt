@@ -111,8 +111,8 @@ pub fn stays_sound(plan: &Plan, opening: &State, history: &[Event])
 }
 
 /// After each prefix of a history the plant is stopped, in the state, exactly if it was stopped at first or by a Done
-/// stop, with no Done resume since. While it is stopped, no claim, no handover of a plate and no movement is Done, so
-/// no pose that gives any zone Moving. The watch alone stops and resumes, in turn.
+/// stop, with no Done resume since. While it is stopped, no claim, no handover of a plate, no advance and no movement
+/// is Done, so no pose that gives any zone Moving. The watch alone stops and resumes, in turn.
 pub fn stopped_until_resumed(plan: &Plan, opening: &State, history: &[Event])
     requires { IsLegal plan.now opening.now history.now }
     ensures { Throughout (law.StoppedUntilResumed plan.now opening.now) history.now }

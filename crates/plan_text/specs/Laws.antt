@@ -49,7 +49,7 @@ pub record CallsAreToldAsRead : Type 0 where
   pub same : (n : Named) (machine : ℕ) (verb : Verb) (name : Text) (c : Call)
       → call_of n machine verb name ≡ Some c → call_text n c ≡ words verb name
 
--- the words of scripts and of answers, which name no machine; others do
+-- `watch`, `free`, `start` and the words of calls, which name no machine; others do
 pub record WordsAreTaken : Type 0 where
   pub watch : is_reserved (codes "watch") ≡ true
   pub free : is_reserved (codes "free") ≡ true

@@ -30,7 +30,7 @@ abbrev pub is_name : Text → Bool
 is_name text =
     is_ascii_lowercase (slice_index text 0) && nat_le (length text) 32 && list_all is_name_byte text
 
--- the words that mean something in a script or in an answer
+-- `watch`, `free`, `start` and the words of calls
 abbrev pub script_words : List Text
 script_words =
     codes "watch" ∷ codes "free" ∷ codes "start" ∷ codes "claim" ∷ codes "give" ∷ codes "yield" ∷ codes "take"

@@ -34,7 +34,7 @@ pub fn calls_are_told_as_read()
     ensures { laws.CallsAreToldAsRead }
 {}
 
-/// Each word of scripts and of answers is taken: no machine may have it as its name.
+/// The words `watch`, `free` and `start` and those of calls are taken: no machine may have one of them as its name.
 pub fn words_are_taken()
     ensures { laws.WordsAreTaken }
 {}

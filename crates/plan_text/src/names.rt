@@ -115,13 +115,13 @@ fn is_name_byte(byte: u8) -> bool
     byte.is_ascii_lowercase() || byte.is_ascii_digit() || byte == b'_'
 }
 
-/// The words that mean something in a script or in an answer, and name no machine.
+/// `watch`, `free`, `start` and the words of calls, which name no machine.
 const RESERVED: [&str; 13] = [
     "watch", "free", "start", "claim", "give", "yield", "take", "release", "inquire", "pose",
     "advance", "stop", "resume",
 ];
 
-/// Whether a word means something in a script or in an answer. Such a word names no machine.
+/// Whether a word is `watch`, `free`, `start` or that of a call. Such a word names no machine.
 pub fn is_reserved(text: &str) -> bool
     ensures { result ≡ spec.is_reserved text.now }
 {

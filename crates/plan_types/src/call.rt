@@ -17,7 +17,7 @@ pub enum Call {
     SetPose(u8),
     /// To be shown a zone.
     Inquire(u8),
-    /// To bar new claims, handovers of plates and movements.
+    /// To bar new claims, handovers of plates, movements and advances.
     Stop,
     /// To let them go on.
     Resume,

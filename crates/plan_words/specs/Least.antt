@@ -1,4 +1,4 @@
--- No zones share a word without need; and the groups of literal plants.
+-- No zones are of one group without need; and the groups of literal plants.
 use Rattle.std.specs.Prelude.{◌≡◌, ℕ, ◌+◌, ◌*◌, ◌<◌, Bool, true, List, [], ◌∷◌, map, None}
 use Rattle.std.specs.List.{range_with_len}
 use Rattle.plan_types.specs.declared.posture.Posture.TheVariants.{OpenIn}
@@ -57,7 +57,7 @@ aisle_and_gate =
     plan_table 3
     (zone 0 1 None None ∷ zone 1 0 None None ∷ joined (zone 1 2 None None) ∷ zone 2 0 None None ∷ []) [] []
 
--- the label of each zone: zones of one label share a word
+-- the label of each zone: zones of one label are a group
 pub record GroupsAreRight : Type 0 where
   pub press : labels_of press_table ≡ 0 ∷ []
   -- by a pose that moves both

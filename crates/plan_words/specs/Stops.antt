@@ -9,7 +9,8 @@ use Rattle.plan_words.specs.Run.{Word, WordEvent, events_of, IsWhole}
 use Rattle.plan_words.specs.Motors.{AreLegal}
 
 -- while the stop goes round, the words below one are stopped, the others aren't yet: there claims are done still. On a
--- word that is stopped no claim, no handover of a plate and no pose that moves is done, whatever the other words are
+-- word that is stopped no claim, no handover of a plate, no advance and no pose that moves is done, whatever the
+-- other words are
 abbrev pub StoppedWordsBar : PlanTable → ℕ → (ℕ → Word) → Type 0
 StoppedWordsBar t count words =
     (states : ℕ → State) (whole : State) (h : List WordEvent) (x : WordEvent) → IsWhole t count words states whole

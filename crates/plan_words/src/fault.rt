@@ -14,7 +14,7 @@ pub enum Limit {
     Zones,
     /// More than 255 poses.
     Poses,
-    /// More than 255 places.
+    /// More than 255 places; of `PlantTables::cut_at`: more than 64, or more than 144 with the exits.
     Places,
     /// More than 16 words.
     Words,

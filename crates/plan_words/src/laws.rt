@@ -52,14 +52,14 @@ pub fn permitted_by_words()
 {}
 
 /// A machine may read its permission word by word, at different moments: while no call of its own has lost it on a
-/// word, the whole plant permits the motor, whatever others have done on any word.
+/// word, the whole plant permits the motor, whatever others have done on any word; if its parts fit their words.
 pub fn permissions_last_between_words()
     ensures { (t : PlanTable) (count : ℕ) (words : ℕ → Word) → IsLaidOut t count words
         → PermissionsLastByWords t count words }
 {}
 
-/// Two motors that one zone or one place keeps apart never both run by such permissions, whatever is done on other
-/// words.
+/// Two motors whose parts fit their words, and which one zone or one place keeps apart, never both run by such
+/// permissions, whatever is done on other words.
 pub fn hazards_never_run_between_words()
     ensures { (t : PlanTable) (count : ℕ) (words : ℕ → Word) → IsLaidOut t count words
         → HazardsNeverRunByWords t count words }
@@ -101,8 +101,8 @@ pub fn steps_tell_one_history()
     ensures { (count : ℕ) (words : ℕ → Word) → StepsTellOneHistory count words }
 {}
 
-/// No zones share a word without need: two zones of a group are joined by poses and places, so each split in two that
-/// leaves these whole has both on one side.
+/// No zones are of one group without need: two zones of a group are joined by poses, places and spaces, so each split
+/// in two that leaves these whole has both on one side. (Groups that nothing joins share a word where they fit it.)
 pub fn groups_are_least()
     ensures least { GroupsAreLeast }
     ensures literal { GroupsAreRight }
@@ -131,7 +131,8 @@ pub fn one_word_keeps_motors_apart()
         → OneWordKeepsApart t count words }
 {}
 
-/// Each call of the plan goes to one group, that of its zone or pose, and is this call there, by the group's numbers.
+/// Each call of the plan that names a row goes to one group, that of its zone, pose or place, and is this call there,
+/// by the group's numbers.
 pub fn calls_are_routed()
     ensures { CallsAreRouted }
 {}
@@ -241,12 +242,12 @@ pub fn words_dont_tell_turns()
     ensures { WordsDontTell }
 {}
 
-/// With all places cut, zones share a word by poses alone, in literal plants.
+/// With all places cut, zones are of one group by poses alone, in literal plants.
 pub fn groups_when_cut()
     ensures { GroupsWhenCut }
 {}
 
-/// Forty zones are one group; with all places cut they are laid out on forty words.
+/// Forty zones are one group; with all places cut they are laid out on 41 words, the last of which has none.
 pub fn forty_zones_are_laid_out()
     ensures { FortyZones }
 {}

@@ -310,7 +310,7 @@ impl PlantTables {
 }
 
 impl Words {
-    /// The plant on its words, or its first fault.
+    /// The plant on its words, or a fault of it.
     pub fn new(plant: PlantTables, alloc: Global) -> Result<Words, PlantFault>
         ensures plant { IfOk result (λ words. words.plant ≡ plant) }
         ensures words { IfOk result (λ words. words.words ≡ words_of plant) }

@@ -58,8 +58,9 @@ pub fn unworn_ends_tell()
     refusals_are_true();
 }
 
-/// A machine that has worked by an accepted program was given only motors that were permitted, by the state after all
-/// that its line had seen; so also in each round of [`crate::work_renewed`].
+/// A machine that has worked by an accepted program, over an interlock that opened with its open zones as poses give,
+/// was given only motors that were permitted, by the state after all that its line had seen; so also in each round of
+/// [`crate::work_renewed`].
 pub fn work_is_permitted<D: PlanDevices, G: PlanGate>(_devices: &D, _gate: &G)
     ensures { WorkIsPermitted D.reads D.drives (G.may_answer _gate.now) }
 {}
@@ -128,7 +129,8 @@ pub fn turning_examples_are_right()
     ensures journals { WordJournalExamples }
 {}
 
-/// A machine may go to work by the pass of a new plant's interlock.
+/// A new pass of a plant's interlock was made with it: it has a right on each word, by the word's plan. So by it a
+/// machine at the beginning of its program may go to work (`PlantJob::new`: `ready`).
 pub fn new_passes_may_work()
     ensures { (words : List WordView) (m : ℕ) → IsPlantJobOf words (new_pass words m) }
 {}
