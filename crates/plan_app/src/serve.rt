@@ -552,8 +552,8 @@ fn print_answers<W: Write>(writer: &mut W, answered: &ScriptAnswers) -> Exit
 
 /// Does what the words ask for, and returns the exit status: 0 on success, and for help; 1 for a refused plan or
 /// script, motors that aren't kept apart or may not run at their line, a standstill, a machine that may starve, plates
-/// that may rest, a machine that was stopped in a run, a failed read or write, and if memory ran out; 2 for other words.
-/// A run waits until all its threads have ended.
+/// that may rest, a machine that was stopped in a run, a failed read or write, and if memory ran out; 2 for other
+/// words. A run waits until all its threads have ended.
 pub fn serve<T, R: Read, W: Write>(
     rt: &T,
     alloc: Global,
