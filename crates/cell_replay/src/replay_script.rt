@@ -8,6 +8,7 @@ ghost use Rattle.cell_replay.specs.FirstVersion as first;
 ghost use Rattle.cell_replay.specs.FirstVersion.{IsOfFirstVersion};
 ghost use Rattle.cell_replay.specs.Held.{contents_of, note_of, output_of, taken_by};
 ghost use Rattle.cell_replay.specs.Script.{max_bytes_read, script_outcome, script_text};
+ghost use Rattle.cell_replay.specs.ScriptRecords.{ArePlain, HasRecords, records_used};
 ghost use Rattle.cell_replay.specs.Writing.{WritesEnd, WritesScript};
 
 use crate::answers::answer_rows;
@@ -125,8 +126,22 @@ fn answer_script<L: LentReader, K: Origin, W: Write>(
         WritesScript bytes (W.contents writer.old) (W.contents writer.new) result }
 {
     let mut records = Records::new(alloc, input);
+    answer_records(alloc, &mut records, writer)
+}
+
+/// Writes the text of the records that a reader has.
+fn answer_records<L: LentReader, K: Origin, W: Write>(
+    alloc: Global,
+    records: &mut Records<'_, L, K>,
+    writer: &mut W,
+) -> Result<Outcome, ReplayFault>
+    requires plain { ArePlain records.old }
+    ensures written { (bytes : List ℕ) → K.bytes ≡ Some bytes →
+        HasRecords L.left records.old (records_used bytes) →
+        WritesScript bytes (W.contents writer.old) (W.contents writer.new) result }
+{
     records.begin()?;
-    match answer_rows(alloc, &mut records, writer) {
+    match answer_rows(alloc, records, writer) {
         Ok(outcome) => write_end(alloc, outcome, writer),
         Err(fault) => Err(fault),
     }
