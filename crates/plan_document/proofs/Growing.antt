@@ -96,6 +96,28 @@ free_more free names name all one = list_all-append free names (name ∷ []) ∙
 pub names_more : (names : List Text) (name : Text) (more : List Text) → AreNames names → is_name name ≡ true → more ≡ names ++ name ∷ [] → AreNames more
 names_more names name more all one pushed = ap (list_all is_name) pushed ∙ free_more is_name names name all one
 
+-- names of all rows, once none is left
+pub names_all : {X A : Type 0} (f : X → A) (rows : List X) (i : ℕ) (names : List A) → length rows ≤ i → names ≡ map f (take i rows) → names ≡ map f rows
+names_all f rows i names l before = before ∙ ap (map f) (take_all i rows l)
+
+-- one more name
+pub name_more : {X A : Type 0} (f : X → A) (rows : List X) (i : ℕ) (row : X) (old new : List A) (name : A) → i < length rows → row ≡ get_or rows i row → name ≡ f row → new ≡ old ++ name ∷ [] → old ≡ map f (take i rows) → new ≡ map f (take (i + 1) rows)
+name_more f rows i row old new name l is same pushed before =
+    pushed ∙ ap (λ a. old ++ a ∷ []) same ∙ ap (λ ns. ns ++ f row ∷ []) before ∙ sym (map_row_more f rows i row l is)
+
+-- one more name after those at the start, and all of them
+pub listed_more : {X A : Type 0} (f : X → A) (start : List A) (rows : List X) (i : ℕ) (row : X) (old new : List A) (name : A) → i < length rows → row ≡ get_or rows i row → name ≡ f row → new ≡ old ++ name ∷ [] → old ≡ start ++ map f (take i rows)
+    → new ≡ start ++ map f (take (i + 1) rows)
+listed_more f start rows i row old new name l is same pushed before =
+    pushed
+    ∙ ap (λ a. old ++ a ∷ []) same
+    ∙ ap (λ ns. ns ++ f row ∷ []) before
+    ∙ append_assoc start (map f (take i rows)) (f row ∷ [])
+    ∙ ap (λ ns. start ++ ns) (sym (map_row_more f rows i row l is))
+
+pub listed_all : {X A : Type 0} (f : X → A) (start : List A) (rows : List X) (i : ℕ) (names : List A) → length rows ≤ i → names ≡ start ++ map f (take i rows) → names ≡ start ++ map f rows
+listed_all f start rows i names l before = before ∙ ap (λ xs. start ++ map f xs) (take_all i rows l)
+
 -- ---- numbered rows
 
 pub number_push : {X : Type 0} (n : ℕ) (xs : List X) (x : X) → enumerate_from n (xs ++ x ∷ []) ≡ enumerate_from n xs ++ (n + length xs, x) ∷ []
@@ -127,6 +149,9 @@ numbered_poses_more machine rows i row h is = map_row_more (λ (r : PoseRow). (m
 pub mapped_more : {X A B : Type 0} (f : X → A) (R : A → B → Type 0) (xs : List X) (i : ℕ) (x : X) (ys zs : List B) (y : B) → i < length xs → x ≡ get_or xs i x → AllZip R (map f (take i xs)) ys → R (f x) y → zs ≡ ys ++ y ∷ [] → AllZip R (map f (take (i + 1) xs)) zs
 mapped_more f R xs i x ys zs y h is all one pushed =
     subst (λ rows. AllZip R rows zs) (sym (map_row_more f xs i x h is)) (subst (AllZip R (map f (take i xs) ++ f x ∷ [])) (sym pushed) (zip_push R (map f (take i xs)) ys (f x) y all one))
+
+pub mapped_all : {X A B : Type 0} (f : X → A) (R : A → B → Type 0) (xs : List X) (i : ℕ) (ys : List B) → length xs ≤ i → AllZip R (map f (take i xs)) ys → AllZip R (map f xs) ys
+mapped_all f R xs i ys h all = subst (λ rows. AllZip R (map f rows) ys) (take_all i xs h) all
 
 pub numbered_zip_more : {X B : Type 0} (R : ℕ × MachineRow → B → Type 0) (f : X → B) (rows : List MachineRow) (i : ℕ) (row : MachineRow) (ys zs : List X) (y : X) → i < length rows → row ≡ get_or rows i row → AllZip R (numbered (take i rows)) (map f ys) → R (i, row) (f y) → zs ≡ ys ++ y ∷ [] → AllZip R (numbered (take (i + 1) rows)) (map f zs)
 numbered_zip_more R f rows i row ys zs y h is all one pushed =

@@ -4,7 +4,7 @@ use Rattle.std.proofs.Common.{string_bytes}
 use Rattle.std.specs.List.{range_with_len, flat_map}
 use Rattle.std.proofs.lemmas.List.Elements.{filter-append, filter_map-append}
 use Rattle.plan_words.specs.Group.{Group}
-use Rattle.plan_document.specs.OnWord.{picked, zones_named, texts_here, lines_here, poses_here, poses_on, machine_with, names_on, zones_on, places_on, machines_from, motor_with, texts_on}
+use Rattle.plan_document.specs.OnWord.{numbers_of, picked, zones_named, texts_here, lines_here, poses_here, poses_on, machine_with, names_on, zones_on, places_on, machines_from, motor_with, names_of_poses, texts_on}
 use Rattle.plan_document.specs.declared.document.Document.{Document}
 use Rattle.plan_document.specs.declared.naming.KindNames.{KindNames}
 use Rattle.plan_document.specs.Names.{place_names, zone_names}
@@ -14,11 +14,13 @@ use Rattle.plan_document.specs.declared.document.ZoneRow.{ZoneRow}
 use Rattle.std.specs.Prelude.{String}
 use Rattle.std.specs.declared.alloc.Global.{Global}
 use Rattle.plan_text.specs.Names.{Text, name_in}
+use Rattle.plan_document.specs.declared.document.PoseRow.{PoseRow}
 use Rattle.plan_document.specs.declared.document.PostureRow.{PostureRow}
-use Rattle.std.proofs.Common.{append_assoc, subst}
+use Rattle.std.proofs.Common.{append_assoc, subst, take_all}
 use Rattle.std.proofs.lemmas.List.{take_more, map-append, get_or-map, length-map, at_drop_more, at_drop_all}
 use Rattle.std.proofs.lemmas.Option.{slice_get-get_or, slice_get_past}
 use Rattle.std.proofs.Common.{append-nil}
+use Rattle.plan_document.proofs.Growing.{map_row_more}
 
 pub range_more : (a n : ℕ) → range_with_len a (suc n) ≡ range_with_len a n ++ (a + n) ∷ []
 range_more a zero = ap (λ x. x ∷ []) (sym (add-zero a))
@@ -29,6 +31,13 @@ pub filter_more : (test : ℕ → Bool) (n : ℕ) → filter test (range_with_le
 filter_more test n =
     ap (filter test) (ap (range_with_len 0) (add-one n) ∙ (range_more 0 n ∙ ap (λ x. range_with_len 0 n ++ x ∷ []) (omega arith)))
     ∙ filter-append test (range_with_len 0 n) (n ∷ [])
+
+pub passed_more : (test : ℕ → Bool) (n : ℕ) (old new : List ℕ) (there : Bool) → there ≡ test n → old ≡ filter test (range_with_len 0 n) → new ≡ old ++ (if there then n ∷ [] else []) → new ≡ filter test (range_with_len 0 (n + 1))
+passed_more test n old new there same before pushed =
+    pushed
+    ∙ ap (λ b. old ++ (if b then n ∷ [] else [])) same
+    ∙ ap (λ xs. xs ++ (if test n then n ∷ [] else [])) before
+    ∙ sym (filter_more test n)
 
 -- ---- texts of rows
 
@@ -63,6 +72,27 @@ copy_more f old new rows n x y l is same pushed =
 pub copy_past : {X T : Type 0} (f : X → T) (old rows : List X) (n : ℕ) → length rows ≤ n → map f old ≡ map f old ++ option_to_list (slice_get (map f rows) n)
 copy_past f old rows n l = sym (ap (λ o. map f old ++ option_to_list o) (slice_get-map f rows n ∙ ap (option_map f) (slice_get_past rows n l)) ∙ append-nil (map f old))
 
+-- what is made of one more row, and of all rows
+pub made_more : {X Y T : Type 0} (f : X → T) (g : Y → T) (rows : List X) (i : ℕ) (x : X) (made new : List Y) (y : Y) → i < length rows → x ≡ get_or rows i x → g y ≡ f x → new ≡ made ++ y ∷ [] → map g made ≡ map f (take i rows) → map g new ≡ map f (take (i + 1) rows)
+made_more f g rows i x made new y l is same pushed before =
+    ap (map g) pushed
+    ∙ map-append g made (y ∷ [])
+    ∙ ap (λ t. map g made ++ t ∷ []) same
+    ∙ ap (λ ts. ts ++ f x ∷ []) before
+    ∙ sym (map_row_more f rows i x l is)
+
+pub made_all : {X Y T : Type 0} (f : X → T) (g : Y → T) (rows : List X) (i : ℕ) (made : List Y) → length rows ≤ i → map g made ≡ map f (take i rows) → map g made ≡ map f rows
+made_all f g rows i made l before = before ∙ ap (map f) (take_all i rows l)
+
+pub changed_more : {X Y T A : Type 0} (f : X → T) (h : T → A) (g : Y → A) (rows : List X) (i : ℕ) (x : X) (made new : List Y) (y : Y) → i < length rows → x ≡ get_or rows i x → g y ≡ h (f x) → new ≡ made ++ y ∷ [] → map g made ≡ map h (map f (take i rows))
+    → map g new ≡ map h (map f (take (i + 1) rows))
+changed_more f h g rows i x made new y l is same pushed before =
+    ap (map g) pushed
+    ∙ map-append g made (y ∷ [])
+    ∙ ap (λ a. map g made ++ a ∷ []) same
+    ∙ ap (λ rs. rs ++ h (f x) ∷ []) before
+    ∙ sym (ap (map h) (map_row_more f rows i x l is) ∙ map-append h (map f (take i rows)) (f x ∷ []))
+
 -- the texts of a word's document, part by part
 pub texts_by : (d part : Document) (g : Group) (zones places : KindNames)
     → zones ≡ names_on (zone_names d.zones.items) g.zones → places ≡ names_on (place_names d.machines.items) g.places
@@ -90,11 +120,11 @@ texts_by d part g zones places z p machines rows motors hazards =
 pub numbers_more : (test : Text → Bool) (names : List Text) (n : ℕ) (name : Text) (old new : List ℕ) (there : Bool) → name_in names n ≡ name → there ≡ test name → old ≡ filter (λ k. test (name_in names k)) (range_with_len 0 n)
     → new ≡ old ++ (if there then n ∷ [] else []) → new ≡ filter (λ k. test (name_in names k)) (range_with_len 0 (n + 1))
 numbers_more test names n name old new there named passes before pushed =
-    let same : there ≡ test (name_in names n) = passes ∙ ap test (sym named) in
-    pushed
-    ∙ ap (λ b. old ++ (if b then n ∷ [] else [])) same
-    ∙ ap (λ xs. xs ++ (if test (name_in names n) then n ∷ [] else [])) before
-    ∙ sym (filter_more (λ k. test (name_in names k)) n)
+    passed_more (λ k. test (name_in names k)) n old new there (passes ∙ ap test (sym named)) before pushed
+
+-- all the numbers, once no text is left
+pub numbers_all : (test : Text → Bool) (names : List Text) (n : ℕ) (numbers : List ℕ) → n ≡ length names → numbers ≡ filter (λ k. test (name_in names k)) (range_with_len 0 n) → numbers ≡ numbers_of test names
+numbers_all test names n numbers all is = is ∙ ap (λ k. filter (λ i. test (name_in names i)) (range_with_len 0 k)) all
 
 pub text_at : (texts : List (String Global)) (n : ℕ) (text : String Global) → n < length texts → text ≡ get_or texts n text → name_in (map string_bytes texts) n ≡ string_bytes text
 text_at texts n text l is = get_or-map string_bytes texts n text [] l ∙ ap string_bytes (sym is)
@@ -103,6 +133,18 @@ pub zone_at : (rows : List PostureRow) (n : ℕ) (row : PostureRow) → n < leng
 zone_at [] n row l is = absurd (omega (arith, l))
 zone_at (r ∷ rows) zero row l is = ap (λ (x : PostureRow). string_bytes x.zone) (sym is)
 zone_at (r ∷ rows) (suc n) row l is = zone_at rows n row (omega (arith, l)) is
+
+pub pose_name_more : (rows : List PoseRow) (i : ℕ) (row : PoseRow) (old new : List Text) (name : Text) → i < length rows → row ≡ get_or rows i row → name ≡ string_bytes row.name → new ≡ old ++ name ∷ [] → old ≡ names_of_poses (map pose_texts (take i rows))
+    → new ≡ names_of_poses (map pose_texts (take (i + 1) rows))
+pose_name_more rows i row old new name l is same pushed before =
+    let own = λ (pose : PoseTexts). pose.name in
+    pushed
+    ∙ ap (λ a. old ++ a ∷ []) same
+    ∙ ap (λ ns. ns ++ string_bytes row.name ∷ []) before
+    ∙ sym (ap (map own) (map_row_more pose_texts rows i row l is) ∙ map-append own (map pose_texts (take i rows)) (pose_texts row ∷ []))
+
+pub pose_names_all : (rows : List PoseRow) (i : ℕ) (names : List Text) → length rows ≤ i → names ≡ names_of_poses (map pose_texts (take i rows)) → names ≡ names_of_poses (map pose_texts rows)
+pose_names_all rows i names l before = before ∙ ap (λ ps. names_of_poses (map pose_texts ps)) (take_all i rows l)
 
 -- ---- machines
 

@@ -28,7 +28,6 @@ fn push_if(numbers: &mut Vec<usize>, number: usize, there: bool) -> Result<(), A
 
 // ---- texts that name the word's own
 
-#[tactic(auto, using(crate::proofs::Parted::filter_more))]
 /// The numbers of the texts that name something of the word, or nothing of any word.
 pub(crate) fn numbers_here(
     alloc: Global,
@@ -136,7 +135,6 @@ fn is_among(numbers: &[usize], first: usize, nth: usize) -> bool
     numbers.iter().any(|number| is_nth(*number, first, nth))
 }
 
-#[tactic(auto, using(crate::proofs::Parted::filter_more))]
 /// Which of a machine's poses are on the word. The plant numbers its poses from `first`.
 pub(crate) fn pose_numbers(
     alloc: Global,

@@ -78,14 +78,22 @@ fn toml_in(alloc: Global, bytes: &[u8]) -> Result<Table, PlanTextFault>
     }
     match toml::table_from_slice(alloc, bytes) {
         Ok(table) => Ok(table),
-        Err(error) if error.is_memory() => Err(PlanTextFault::Memory),
-        Err(error) => {
-            let before = error.span().map_or(0, |span| span.start);
-            Err(PlanTextFault::NoToml {
-                line: line_number(bytes, before),
-                message: String::from_str(alloc, error.message())?,
-            })
-        }
+        Err(error) => Err(no_toml(alloc, bytes, &error)),
+    }
+}
+
+/// The fault of bytes that can't be read as TOML.
+fn no_toml(alloc: Global, bytes: &[u8], error: &toml::de::Error) -> PlanTextFault {
+    if error.is_memory() {
+        return PlanTextFault::Memory;
+    }
+    let before = error.span().map_or(0, |span| span.start);
+    match String::from_str(alloc, error.message()) {
+        Ok(message) => PlanTextFault::NoToml {
+            line: line_number(bytes, before),
+            message,
+        },
+        Err(AllocError) => PlanTextFault::Memory,
     }
 }
 

@@ -1,4 +1,4 @@
-use Rattle.std.proofs.Common.{◌≡◌, ◌++◌, subst, sym, arith, take}
+use Rattle.std.proofs.Common.{◌≡◌, ◌++◌, subst, sym, arith, take, take_all}
 use Rattle.std.specs.List.{AllZip}
 use Rattle.plan_document.specs.Names.{all_poses, numbered_poses}
 use Rattle.plan_document.specs.Plants.{IsPlantPoseOf}
@@ -15,3 +15,6 @@ loop-i-preserved c =
     subst (λ ps. AllZip (IsPlantPoseOf c.args.zones.now) ps c.add_plant_poses.new.rows.items)
     (sym (all_poses_more c.args.machines.now c.loop-i.i row (omega arith) c.index-machines-i.is))
     (subst (λ ps. AllZip (IsPlantPoseOf c.args.zones.now) (before ++ numbered_poses c.loop-i.i ps) c.add_plant_poses.new.rows.items) same rows)
+
+pub returns : goal.returns
+returns c = subst (λ rows. AllZip (IsPlantPoseOf c.args.zones.now) (all_poses rows) c.loop-i.rows.items) (take_all c.loop-i.i c.args.machines.now c.loop-i-test.false) c.loop-i.invariant

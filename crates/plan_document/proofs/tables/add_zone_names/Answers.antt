@@ -1,5 +1,5 @@
-use Rattle.std.proofs.Common.{◌∙◌, ◌++◌, ◌∷◌, [], ap, sym, arith, string_bytes}
-use Rattle.plan_document.specs.Names.{space_before}
+use Rattle.std.proofs.Common.{◌∙◌, ◌++◌, ◌∷◌, [], ap, sym, arith, string_bytes, take_all}
+use Rattle.plan_document.specs.Names.{space_before, taken_names, zone_names}
 use Rattle.plan_document.proofs.Growing.{names_more, taken_names_more, zone_names_more}
 use Rattle.plan_document.proofs.tables.add_zone_names.Goals as goal
 
@@ -23,4 +23,16 @@ loop-i-preserved c =
       taken_spelled =
           names_more c.add_space_before.new.taken _ _ (c.in_ok-add_space_before.ensures.spelled c.loop-i.invariant.taken_spelled) c.in_ok-add_name-2.ensures.spelled c.in_ok-add_name-2.ensures.name;
       taken_distinct = c.in_ok-add_name-2.ensures.distinct (c.in_ok-add_space_before.ensures.distinct c.loop-i.invariant.taken_distinct);
+    }
+
+pub returns : goal.returns
+returns c =
+    let all = take_all c.loop-i.i c.args.zones.now c.loop-i-test.false in
+    record {
+      names = c.loop-i.invariant.names ∙ ap zone_names all;
+      spelled = c.loop-i.invariant.spelled;
+      distinct = c.loop-i.invariant.distinct;
+      taken = c.loop-i.invariant.taken ∙ ap taken_names all;
+      taken_spelled = c.loop-i.invariant.taken_spelled;
+      taken_distinct = c.loop-i.invariant.taken_distinct;
     }

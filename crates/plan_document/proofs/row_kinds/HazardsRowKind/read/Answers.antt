@@ -1,0 +1,11 @@
+use Rattle.toml.specs.View.{table_view}
+use Rattle.plan_document.proofs.row_kinds.HazardsRowKind.read.Goals as goal
+
+pub returns : goal.returns
+returns c = record {
+  members = table_view c.in_ok-table.table.now;
+  is_table = c.in_ok-table.ensures;
+  keys = c.in_ok-check_keys.ensures.known;
+  name = c.in_ok-name.ensures;
+  motors = c.in_ok-first.ensures;
+}
